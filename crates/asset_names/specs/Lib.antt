@@ -1,1 +1,9 @@
 pub mod Arrows
+pub mod Sets
+pub mod Kept
+pub mod InSet
+pub mod SetFaults
+pub mod Steps
+pub mod Endings
+pub mod Operations
+pub mod Answers

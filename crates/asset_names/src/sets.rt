@@ -1,16 +1,51 @@
 //! Sets of objects.
 
+ghost use Rattle.std.specs.Prelude.{◌≡◌, ◌≤◌, ◌-◌, ◌==◌, length, take, drop, replicate, IfSome, IfNone, IsPermutation, count_by};
+ghost use Rattle.std.specs.List.{list_any};
+ghost use Rattle.std.specs.List.Sorted.{IsNonDecreasingBy};
+ghost use Rattle.asset_names.specs.Sets.{numbers, IsLeastDouble, HasNoDouble, lesser, no_object_name};
+
 use crate::names::Ob;
+use std::marker::Model;
 use thiserror::Error;
 
-/// The most objects that a list holds.
+/// The most objects that a list has.
 const MOST: usize = 16;
 
-/// A list of 1 to 16 different objects, kept rising.
+/// A list of 1 to 16 different objects, kept rising. Contracts see the list.
 #[derive(Clone, Copy, Debug, PartialEq, Eq)]
 pub struct ObList {
     objects: [Ob; 16],
     count: usize,
+}
+
+impl Model for ObList {
+    ghost use Rattle.std.specs.Prelude.{List, ◌-◌, ◌++◌, length, take, replicate};
+    ghost use Rattle.asset_names.specs.declared.names.Ob.{Ob};
+
+    ghost Value = { List Ob };
+
+    ghost use Rattle.asset_names.specs.Sets.{no_object_name};
+    ghost use Rattle.asset_names.specs.Kept.{IsKept};
+
+    ghost view = { λ list. take list.count list.objects };
+
+    ghost invariant = { λ list. IsKept list.objects list.count };
+
+    ghost inverse = { λ list. record { objects = list ++ replicate (16 - length list) no_object_name; count = length list } };
+
+    ghost use Rattle.asset_names.specs.Kept.{objects_back, count_back};
+
+    ghost inverse_ok = { λ list kept. λ i. record { objects = objects_back list.objects list.count kept i; count = count_back list.objects list.count kept i } };
+}
+
+/// A set of objects.
+#[derive(Clone, Copy, Debug, PartialEq, Eq)]
+pub enum ObSet {
+    /// Every object.
+    All,
+    /// The objects of the list.
+    Listed(ObList),
 }
 
 /// Why a list of objects is no [`ObList`].
@@ -27,11 +62,130 @@ pub enum SetFault {
     Double(Ob),
 }
 
-/// A set of objects.
-#[derive(Clone, Copy, Debug, PartialEq, Eq)]
-pub enum ObSet {
-    /// Every object.
-    All,
-    /// The objects of the list.
-    Listed(ObList),
+/// Puts the objects into rising order.
+fn sort(objects: &mut [Ob])
+    ensures permutation { IsPermutation objects.old objects.new }
+    ensures len { length objects.new ≡ length objects.old }
+    ensures sorted { IsNonDecreasingBy (λ x. x.0) objects.new }
+{
+    objects.sort_unstable_by_key(|x| x.0);
+}
+
+/// The objects in rising order, and empty places after them.
+fn sorted(objects: &[Ob]) -> [Ob; 16]
+    requires { length objects.now ≤ 16 }
+    ensures permutation { IsPermutation objects.now (take (length objects.now) result) }
+    ensures sorted { IsNonDecreasingBy (λ x. x.0) (take (length objects.now) result) }
+    ensures rest { drop (length objects.now) result ≡ replicate (16 - length objects.now) no_object_name }
+{
+    let mut all = [Ob(0); MOST];
+    let front = &mut all[..objects.len()];
+    front.copy_from_slice(objects);
+    sort(front);
+    all
+}
+
+/// Whether the object is listed.
+fn is_listed(objects: &[Ob], x: Ob) -> bool
+    ensures { result ≡ list_any (λ o. o.0 == x.0) objects.now }
+{
+    objects.iter().any(|o| o.0 == x.0)
+}
+
+impl ObList {
+    ghost use Rattle.std.specs.Prelude.{◌≡◌, ◌<◌, ◌≤◌, length, IfOk, OnOk, IfErr, IsPermutation};
+    ghost use Rattle.std.specs.List.Sorted.{IsStrictlyIncreasing};
+    ghost use Rattle.asset_names.specs.Arrows.{lists};
+    ghost use Rattle.asset_names.specs.Sets.{numbers, HasNoDouble};
+    ghost use Rattle.asset_names.specs.SetFaults.{IsSetFault};
+
+    /// The list of these objects. It is refused where there is none; else where there are more than
+    /// 16; else where one occurs twice, with the least such object.
+    pub fn of(objects: &[Ob]) -> Result<ObList, SetFault>
+        ensures kept { IfOk result (λ list. IsPermutation objects.now list) }
+        ensures some { OnOk result (0 < length objects.now) }
+        ensures few { OnOk result (length objects.now ≤ 16) }
+        ensures different { OnOk result (HasNoDouble (numbers objects.now)) }
+        ensures fault { IfErr result (IsSetFault objects.now) }
+    {
+        if objects.is_empty() {
+            return Err(SetFault::Empty);
+        }
+        if objects.len() > MOST {
+            return Err(SetFault::TooMany);
+        }
+        if let Some(x) = least_double(objects) {
+            return Err(SetFault::Double(x));
+        }
+        Ok(ObList {
+            objects: sorted(objects),
+            count: objects.len(),
+        })
+    }
+
+    /// The objects of the list, of which there are 1 to 16, in rising order.
+    pub fn objects(&self) -> &[Ob]
+        ensures listed { result.now ≡ self.now }
+        ensures some { 0 < length self.now }
+        ensures few { length self.now ≤ 16 }
+        ensures rising { IsStrictlyIncreasing (numbers self.now) }
+    {
+        &self.objects[..self.count]
+    }
+
+    /// Whether the object is in the list.
+    #[tactic(auto, using(crate::proofs::Doubles::lists_numbers))]
+    pub fn has(&self, x: Ob) -> bool
+        ensures { result ≡ lists (numbers self.now) x.0 }
+    {
+        is_listed(self.objects(), x)
+    }
+}
+
+impl ObSet {
+    ghost use Rattle.std.specs.Prelude.{◌≡◌};
+    ghost use Rattle.asset_names.specs.InSet.{in_set};
+
+    /// Whether the object is in the set.
+    #[tactic(auto, unfolding(crate::specs::InSet::in_set))]
+    pub fn has(&self, x: Ob) -> bool
+        ensures { result ≡ in_set self.now x.0 }
+    {
+        match self {
+            ObSet::All => true,
+            ObSet::Listed(list) => list.has(x),
+        }
+    }
+}
+
+/// How often the object is listed.
+fn occurrences(objects: &[Ob], x: Ob) -> usize
+    ensures { result ≡ count_by (λ o. o.0 == x.0) objects.now }
+{
+    objects.iter().filter(|o| o.0 == x.0).count()
+}
+
+/// The least object that is listed at least twice.
+fn least_double(objects: &[Ob]) -> Option<Ob>
+    ensures found { IfSome result (λ x. IsLeastDouble (numbers objects.now) x.0) }
+    ensures none { IfNone result (HasNoDouble (numbers objects.now)) }
+{
+    let mut found: Option<Ob> = None;
+    'objects: for object in objects {
+        let x = *object;
+        if occurrences(objects, x) >= 2 {
+            found = Some(lesser(x, found));
+        }
+    }
+    found
+}
+
+/// The lesser of an object and of one that may be there.
+fn lesser(x: Ob, other: Option<Ob>) -> Ob
+    ensures { result ≡ lesser x other }
+{
+    match other {
+        Some(y) if y.0 < x.0 => y,
+        _ => x,
+    }
 }

@@ -1,0 +1,106 @@
+-- Looking for the least number that is listed twice.
+use Rattle.std.proofs.Common.{◌≡◌, ℕ, ◌+◌, ◌≤◌, ◌<◌, Bool, true, false, cond, eqb, ltb, leb, ◌||◌, List, [], ◌∷◌, ◌++◌, length, get_or, take, map, refl, sym, ◌∙◌, ap, subst, arith, ◌⊎◌, inl, inr, Some, None, IfSome, IfNone}
+use Rattle.std.specs.Prelude.{Option}
+use Rattle.std.specs.List.{list_any, count_by, sum_by}
+use Rattle.std.proofs.lemmas.List.Sums.{sum_by-cons}
+use Rattle.std.proofs.lemmas.Bool.{or_cases, or_parts, eqb-true, leb-true, ltb-true, ltb-false, false≢true}
+use Rattle.std.proofs.lemmas.Bool.Decides.{nat_tests}
+use Rattle.std.proofs.lemmas.List.{take_more, map-append}
+use Rattle.asset_names.specs.declared.names.Ob.{Ob}
+use Rattle.asset_names.specs.Arrows.{lists}
+use Rattle.asset_names.specs.Sets.{numbers, twice, IsLeastDouble, HasNoDouble, lesser}
+
+-- the least number that is listed twice, of those that were seen
+abbrev pub LeastAmong : List ℕ → List ℕ → Option Ob → Type 0
+LeastAmong listed seen None = (m : ℕ) → lists seen m ≡ true → twice listed m ≡ false
+LeastAmong listed seen (Some x) = (twice listed x.0 ≡ true) × ((m : ℕ) → lists seen m ≡ true → twice listed m ≡ true → x.0 ≤ m)
+
+-- a list with one more at its end lists that one too
+pub lists-push : (seen : List ℕ) (n m : ℕ) → lists (seen ++ n ∷ []) m ≡ (lists seen m || eqb n m)
+unfolding lists
+lists-push [] n m = grind arith
+lists-push (k ∷ seen) n m = rw (lists-push seen n m) (grind arith)
+
+-- the number of a name among the objects
+pub count_by-numbers : (objects : List Ob) (n : ℕ) → count_by (λ m. eqb m n) (numbers objects) ≡ count_by (λ (o : Ob). eqb o.0 n) objects
+unfolding numbers
+count_by-numbers [] n = refl
+count_by-numbers (o ∷ objects) n =
+    sum_by-cons (λ m. cond (eqb m n) 1 0) o.0 (numbers objects)
+    ∙ ap (λ k. cond (eqb o.0 n) 1 0 + k) (count_by-numbers objects n)
+    ∙ sym (sum_by-cons (λ (o : Ob). cond (eqb o.0 n) 1 0) o objects)
+
+-- what is not listed is counted 0 times
+count_by-unlisted : (listed : List ℕ) (n : ℕ) → lists listed n ≡ false → count_by (λ m. eqb m n) listed ≡ 0
+unfolding lists
+count_by-unlisted [] n h = refl
+count_by-unlisted (m ∷ listed) n h =
+    let parts = or_parts (eqb m n) (lists listed n) h in
+    sum_by-cons (λ k. cond (eqb k n) 1 0) m listed ∙ rw (parts.0, count_by-unlisted listed n parts.1) (omega arith)
+
+-- what is listed twice is listed
+pub twice_listed : (listed : List ℕ) (n : ℕ) → twice listed n ≡ true → lists listed n ≡ true
+unfolding twice
+twice_listed listed n h = go (lists listed n) refl where
+  go : (b : Bool) → lists listed n ≡ b → b ≡ true
+  go true e = refl
+  go false e = absurd (omega (arith, leb-true 2 (count_by (λ m. eqb m n) listed) h, count_by-unlisted listed n e))
+
+-- the lesser of two that are listed twice
+least_of_two : (listed seen : List ℕ) (x y : Ob) (below : Bool) → ltb y.0 x.0 ≡ below → LeastAmong listed seen (Some y) → twice listed x.0 ≡ true → LeastAmong listed (seen ++ x.0 ∷ []) (Some (cond below y x))
+least_of_two listed seen x y true e h t =
+    (h.0, λ m l d. elim (or_cases (lists seen m) (eqb x.0 m) (sym (lists-push seen x.0 m) ∙ l)) [
+      inl before ↦ h.1 m before d
+    | inr here ↦ omega (arith, eqb-true x.0 m here, ltb-true y.0 x.0 e) ])
+least_of_two listed seen x y false e h t =
+    (t, λ m l d. elim (or_cases (lists seen m) (eqb x.0 m) (sym (lists-push seen x.0 m) ∙ l)) [
+      inl before ↦ omega (arith, h.1 m before d, ltb-false y.0 x.0 e)
+    | inr here ↦ omega (arith, eqb-true x.0 m here) ])
+
+-- one more is seen, and it is listed twice
+pub least_twice : (listed seen : List ℕ) (x : Ob) (found : Option Ob) → LeastAmong listed seen found → twice listed x.0 ≡ true → LeastAmong listed (seen ++ x.0 ∷ []) (Some (lesser x found))
+least_twice listed seen x None h t =
+    (t, λ m l d. elim (or_cases (lists seen m) (eqb x.0 m) (sym (lists-push seen x.0 m) ∙ l)) [
+      inl before ↦ absurd (false≢true (sym (h m before) ∙ d))
+    | inr here ↦ omega (arith, eqb-true x.0 m here) ])
+least_twice listed seen x (Some y) h t = least_of_two listed seen x y (ltb y.0 x.0) refl h t
+
+-- one more is seen, and it is not listed twice
+pub least_once : (listed seen : List ℕ) (x : Ob) (found : Option Ob) → LeastAmong listed seen found → twice listed x.0 ≡ false → LeastAmong listed (seen ++ x.0 ∷ []) found
+least_once listed seen x None h t = λ m l. elim (or_cases (lists seen m) (eqb x.0 m) (sym (lists-push seen x.0 m) ∙ l)) [
+    inl before ↦ h m before
+  | inr here ↦ subst (λ n. twice listed n ≡ false) (eqb-true x.0 m here) t ]
+least_once listed seen x (Some y) h t = (h.0, λ m l d. elim (or_cases (lists seen m) (eqb x.0 m) (sym (lists-push seen x.0 m) ∙ l)) [
+    inl before ↦ h.1 m before d
+  | inr here ↦ absurd (false≢true (sym (subst (λ n. twice listed n ≡ false) (eqb-true x.0 m here) t) ∙ d)) ])
+
+-- all are seen
+pub least_found : (listed : List ℕ) (found : Option Ob) → LeastAmong listed listed found → IfSome found (λ x. IsLeastDouble listed x.0)
+unfolding IsLeastDouble
+least_found listed None h = tt
+least_found listed (Some x) h = (h.0, λ m d. h.1 m (twice_listed listed m d) d)
+
+pub least_none : (listed : List ℕ) (found : Option Ob) → LeastAmong listed listed found → IfNone found (HasNoDouble listed)
+unfolding HasNoDouble
+least_none listed (Some x) h = tt
+least_none listed None h = λ m. go m (twice listed m) refl where
+  go : (m : ℕ) (b : Bool) → twice listed m ≡ b → b ≡ false
+  go m false e = refl
+  go m true e = absurd (false≢true (sym (h m (twice_listed listed m e)) ∙ e))
+
+-- the numbers of one more object
+pub numbers-take : (objects : List Ob) (i : ℕ) (d : Ob) → i < length objects → numbers (take (i + 1) objects) ≡ numbers (take i objects) ++ (get_or objects i d).0 ∷ []
+unfolding numbers
+numbers-take objects i d below =
+    ap (map (λ (x : Ob). x.0)) (take_more objects i d below) ∙ map-append (λ (x : Ob). x.0) (take i objects) (get_or objects i d ∷ [])
+
+-- whether an object is listed twice, by how often it is
+pub twice-numbers : (objects : List Ob) (x : Ob) (n : ℕ) → n ≡ count_by (λ (o : Ob). eqb o.0 x.0) objects → twice (numbers objects) x.0 ≡ leb 2 n
+unfolding twice
+twice-numbers objects x n e = ap (leb 2) (count_by-numbers objects x.0 ∙ sym e)
+
+-- what the numbers of objects list, the objects do
+pub lists_numbers : (objects : List Ob) (n : ℕ) → lists (numbers objects) n ≡ list_any (λ (o : Ob). eqb o.0 n) objects
+unfolding lists numbers
+lists_numbers [] n = refl
+lists_numbers (o ∷ objects) n = ap (λ b. eqb o.0 n || b) (lists_numbers objects n)

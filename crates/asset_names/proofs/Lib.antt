@@ -1,0 +1,4 @@
+pub mod Arrows
+pub mod Doubles
+pub mod Rows
+pub mod Sorting

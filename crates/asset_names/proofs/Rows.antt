@@ -1,0 +1,85 @@
+-- Worked rows, computed on the definitions.
+use Rattle.std.specs.Prelude.{◌≡◌, ℕ, ℤ, pos, List, [], ◌∷◌, Some, None, refl}
+use Rattle.asset_names.specs.declared.names.Txn.{Txn}
+use Rattle.asset_names.specs.declared.names.Ob.{Ob}
+use Rattle.asset_names.specs.declared.steps.Step.{Step}
+use Rattle.asset_names.specs.declared.steps.Step.TheVariants.{Initiate, Begin, Read, Write, Complete, Commit}
+use Rattle.asset_names.specs.declared.replies.Refusal.{Refusal}
+use Rattle.asset_names.specs.declared.replies.Refusal.TheVariants.{Unknown, Ended, NotRunning, Taken, Begun, NoObject}
+use Rattle.asset_names.specs.declared.replies.Reply.TheVariants.{Done, Value, Committed, Refused}
+use Rattle.asset_names.specs.declared.replies.Outcome.{Outcome}
+use Rattle.asset_names.specs.declared.replies.Outcome.TheVariants.{Answer, Wait}
+use Rattle.asset_names.specs.Arrows.{lists, linked, among}
+use Rattle.asset_names.specs.Steps.{Opening, Entry, carries_out, deeds, initiated_by, initiated, begun_by, begun, completed_by, completed}
+use Rattle.asset_names.specs.Endings.{class_arrows, ended_by, end_of, live, status_of, status, same_class}
+use Rattle.asset_names.specs.Operations.{op_of, conflict, operated, operations, permits, reach, hinders, free, stands, exists, opening_at, opening_value, after_use, value_after, value}
+use Rattle.asset_names.specs.Answers.{is_unknown, has_ended, is_running, is_completed, is_committed, has_begun, unknown, ended, not_running, taken, begun_before, no_object, rules_for, first_refusal, class_completed, commit_outcome, unrefused, outcome_unless, answer}
+
+abbrev t : ℕ → Txn
+t n = record { 0 = n }
+
+abbrev x : ℕ → Ob
+x n = record { 0 = n }
+
+-- the entry that an outcome adds
+abbrev with_outcome : Step → Outcome → List Entry → List Entry
+with_outcome step (Answer reply) past = (step, reply) ∷ past
+with_outcome step Wait past = past
+
+-- the outcomes of steps that are asked one after another
+abbrev outcomes : Opening → List Entry → List Step → List Outcome
+outcomes opening past [] = []
+outcomes opening past (step ∷ steps) = answer opening (deeds past) step ∷ outcomes opening (with_outcome step (answer opening (deeds past) step) past) steps
+
+abbrev refused : Refusal → Outcome
+refused refusal = Answer (Refused refusal)
+
+abbrev three : Opening
+three = (x 1, pos 100) ∷ (x 2, pos 200) ∷ (x 3, pos 300) ∷ []
+
+abbrev ok : Outcome
+ok = Answer Done
+
+-- over three objects with 100, 200 and 300, these steps have these outcomes
+abbrev Row : List Step → List Outcome → Type 0
+Row steps told = outcomes three [] steps ≡ told
+
+-- one transaction reads, writes, completes and commits
+abbrev OneTransaction : Type 0
+OneTransaction = Row
+    (Initiate (t 7) None ∷ Begin (t 7) ∷ Read (t 7) (x 1) ∷ Write (t 7) (x 1) (pos 50) ∷ Read (t 7) (x 1) ∷ Complete (t 7) ∷ Commit (t 7) ∷ [])
+    (ok ∷ ok ∷ Answer (Value (pos 100)) ∷ ok ∷ Answer (Value (pos 50)) ∷ ok ∷ Answer Committed ∷ [])
+
+-- a writer holds off a reader and another writer until it commits
+abbrev WriterHoldsOff : Type 0
+WriterHoldsOff = Row
+    (Initiate (t 7) None ∷ Begin (t 7) ∷ Initiate (t 8) None ∷ Begin (t 8) ∷ Write (t 7) (x 1) (pos 50) ∷ Read (t 8) (x 1) ∷ Write (t 8) (x 1) (pos 60) ∷ Read (t 8) (x 2) ∷ Complete (t 7) ∷ Read (t 8) (x 1) ∷ Commit (t 7) ∷ Read (t 8) (x 1) ∷ [])
+    (ok ∷ ok ∷ ok ∷ ok ∷ ok ∷ Wait ∷ Wait ∷ Answer (Value (pos 200)) ∷ ok ∷ Wait ∷ Answer Committed ∷ Answer (Value (pos 50)) ∷ [])
+
+-- two readers share an object, and neither may write it
+abbrev ReadersShare : Type 0
+ReadersShare = Row
+    (Initiate (t 7) None ∷ Begin (t 7) ∷ Initiate (t 8) None ∷ Begin (t 8) ∷ Read (t 7) (x 3) ∷ Read (t 8) (x 3) ∷ Write (t 7) (x 3) (pos 1) ∷ Write (t 8) (x 3) (pos 2) ∷ [])
+    (ok ∷ ok ∷ ok ∷ ok ∷ Answer (Value (pos 300)) ∷ Answer (Value (pos 300)) ∷ Wait ∷ Wait ∷ [])
+
+-- which refusal comes first
+abbrev RefusalsInOrder : Type 0
+RefusalsInOrder = Row
+    (Begin (t 5) ∷ Initiate (t 7) None ∷ Read (t 7) (x 9) ∷ Begin (t 7) ∷ Begin (t 7) ∷ Initiate (t 7) None ∷ Read (t 5) (x 9) ∷ Read (t 7) (x 9) ∷ Complete (t 7) ∷ Write (t 7) (x 9) (pos 1) ∷ Complete (t 7) ∷ Commit (t 7) ∷ Begin (t 7) ∷ Complete (t 7) ∷ Commit (t 7) ∷ Commit (t 5) ∷ [])
+    (refused (Unknown (t 5)) ∷ ok ∷ refused (NotRunning (t 7)) ∷ ok ∷ refused (Begun (t 7)) ∷ refused (Taken (t 7)) ∷ refused (Unknown (t 5)) ∷ refused (NoObject (x 9)) ∷ ok ∷ refused (NotRunning (t 7)) ∷ refused (NotRunning (t 7)) ∷ Answer Committed ∷ refused (Ended (t 7)) ∷ refused (Ended (t 7)) ∷ Answer Committed ∷ refused (Unknown (t 5)) ∷ [])
+
+-- a commit waits until the transaction has completed
+abbrev CommitWaits : Type 0
+CommitWaits = Row
+    (Initiate (t 6) None ∷ Commit (t 6) ∷ Begin (t 6) ∷ Commit (t 6) ∷ Complete (t 6) ∷ Commit (t 6) ∷ [])
+    (ok ∷ Wait ∷ ok ∷ Wait ∷ ok ∷ Answer Committed ∷ [])
+
+-- a parent's name is not looked up, and its transaction may end first
+abbrev ParentIsRecorded : Type 0
+ParentIsRecorded = Row
+    (Initiate (t 7) None ∷ Begin (t 7) ∷ Initiate (t 8) (Some (t 7)) ∷ Begin (t 8) ∷ Complete (t 8) ∷ Commit (t 8) ∷ Initiate (t 9) (Some (t 3)) ∷ [])
+    (ok ∷ ok ∷ ok ∷ ok ∷ ok ∷ Answer Committed ∷ ok ∷ [])
+
+rows : OneTransaction × WriterHoldsOff × ReadersShare × RefusalsInOrder × CommitWaits × ParentIsRecorded
+unfolding answer rules_for unrefused first_refusal outcome_unless unknown ended not_running taken begun_before no_object is_unknown has_ended is_running is_completed is_committed has_begun class_completed commit_outcome free hinders reach permits conflict op_of operations operated value value_after after_use stands opening_value opening_at exists status status_of end_of ended_by live same_class class_arrows initiated begun completed initiated_by begun_by completed_by deeds carries_out among linked lists
+rows = (refl, refl, refl, refl, refl, refl)

@@ -1,0 +1,7 @@
+use Rattle.std.proofs.Common.{rules}
+use Rattle.std.proofs.lemmas.List.Sorted.{IsNonDecreasingBy-from_sort_by_key}
+use Rattle.asset_names.specs.declared.names.Ob.{Ob}
+use Rattle.asset_names.proofs.sets.sort.Goals as goal
+
+pub returns-clause-sorted : goal.returns-clause-sorted
+returns-clause-sorted c = IsNonDecreasingBy-from_sort_by_key (λ (x : Ob). x.0) _ c.sort_unstable_by_key.ensures.sorted (λ a r q k. search rules)

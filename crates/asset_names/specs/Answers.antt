@@ -1,0 +1,127 @@
+-- The refusals of a step, its one answer, and legal histories.
+use Rattle.std.specs.Prelude.{◌≡◌, ℕ, Bool, true, false, cond, not, ◌||◌, List, [], ◌∷◌, Option, Some, None}
+use Rattle.std.specs.List.{list_all}
+use Rattle.asset_names.specs.declared.names.Txn.{Txn}
+use Rattle.asset_names.specs.declared.names.Ob.{Ob}
+use Rattle.asset_names.specs.declared.operations.Op.TheVariants as Op'
+use Rattle.asset_names.specs.declared.steps.Step.{Step}
+use Rattle.asset_names.specs.declared.steps.Step.TheVariants.{Initiate, Begin, Read, Write, Complete, Commit}
+use Rattle.asset_names.specs.declared.statuses.Status.{Status}
+use Rattle.asset_names.specs.declared.statuses.Status.TheVariants as Status'
+use Rattle.asset_names.specs.declared.replies.Refusal.{Refusal}
+use Rattle.asset_names.specs.declared.replies.Refusal.TheVariants as Refusal'
+use Rattle.asset_names.specs.declared.replies.Reply.TheVariants as Reply'
+use Rattle.asset_names.specs.declared.replies.Outcome.{Outcome}
+use Rattle.asset_names.specs.declared.replies.Outcome.TheVariants.{Answer, Wait}
+use Rattle.asset_names.specs.Steps.{Opening, Entry, carries_out, deeds, initiated}
+use Rattle.asset_names.specs.Endings.{status, same_class}
+use Rattle.asset_names.specs.Operations.{free, value, exists}
+
+unfoldable pub is_unknown : Status → Bool
+is_unknown Status'.Unknown = true
+is_unknown status = false
+
+unfoldable pub has_ended : Status → Bool
+has_ended Status'.Committed = true
+has_ended status = false
+
+unfoldable pub is_running : Status → Bool
+is_running Status'.Running = true
+is_running status = false
+
+unfoldable pub is_completed : Status → Bool
+is_completed Status'.Completed = true
+is_completed status = false
+
+unfoldable pub is_committed : Status → Bool
+is_committed Status'.Committed = true
+is_committed status = false
+
+-- a live name that has begun
+unfoldable pub has_begun : Status → Bool
+has_begun Status'.Running = true
+has_begun Status'.Completed = true
+has_begun status = false
+
+-- a refusal, and whether it applies
+abbrev pub Rule : Type 0
+Rule = Bool × Refusal
+
+-- a step that acts on t is refused where t was never initiated, and where t has ended
+unfoldable pub unknown : List Step → Txn → Rule
+unknown past t = (is_unknown (status past t.0), Refusal'.Unknown t)
+
+unfoldable pub ended : List Step → Txn → Rule
+ended past t = (has_ended (status past t.0), Refusal'.Ended t)
+
+-- a step of a transaction's own work is refused where it is not running
+unfoldable pub not_running : List Step → Txn → Rule
+not_running past t = (not (is_running (status past t.0)), Refusal'.NotRunning t)
+
+-- a name is initiated once, and a transaction begun once
+unfoldable pub taken : List Step → Txn → Rule
+taken past t = (not (is_unknown (status past t.0)), Refusal'.Taken t)
+
+unfoldable pub begun_before : List Step → Txn → Rule
+begun_before past t = (has_begun (status past t.0), Refusal'.Begun t)
+
+-- an operation is refused on an object that does not exist
+unfoldable pub no_object : Opening → Ob → Rule
+no_object opening x = (not (exists opening x.0), Refusal'.NoObject x)
+
+-- the refusals of a step, in the order in which they are looked at
+unfoldable pub rules_for : Opening → List Step → Step → List Rule
+rules_for opening past (Initiate t parent) = taken past t ∷ []
+rules_for opening past (Begin t) = unknown past t ∷ ended past t ∷ begun_before past t ∷ []
+rules_for opening past (Read t x) = unknown past t ∷ ended past t ∷ not_running past t ∷ no_object opening x ∷ []
+rules_for opening past (Write t x v) = unknown past t ∷ ended past t ∷ not_running past t ∷ no_object opening x ∷ []
+rules_for opening past (Complete t) = unknown past t ∷ ended past t ∷ not_running past t ∷ []
+rules_for opening past (Commit t) = unknown past t ∷ []
+
+-- the first refusal that applies
+unfoldable pub first_refusal : List Rule → Option Refusal
+first_refusal [] = None
+first_refusal (rule ∷ rules) = cond rule.0 (Some rule.1) (first_refusal rules)
+
+-- whether each member of t's class has completed
+unfoldable pub class_completed : List Step → ℕ → Bool
+class_completed past t = list_all (λ n. not (same_class past t n) || is_completed (status past n)) (initiated past)
+
+-- A commit of a committed name is Committed again. Else the whole class commits at once when each
+-- member has completed, and waits until then.
+unfoldable pub commit_outcome : Bool → Bool → Outcome
+commit_outcome committed ready = cond (committed || ready) (Answer Reply'.Committed) Wait
+
+-- the outcome of a step that is not refused
+unfoldable pub unrefused : Opening → List Step → Step → Outcome
+unrefused opening past (Initiate t parent) = Answer Reply'.Done
+unrefused opening past (Begin t) = Answer Reply'.Done
+unrefused opening past (Read t x) = cond (free past t.0 x.0 Op'.Read) (Answer (Reply'.Value (value opening past x.0))) Wait
+unrefused opening past (Write t x v) = cond (free past t.0 x.0 Op'.Write) (Answer Reply'.Done) Wait
+unrefused opening past (Complete t) = Answer Reply'.Done
+unrefused opening past (Commit t) = commit_outcome (is_committed (status past t.0)) (class_completed past t.0)
+
+unfoldable pub outcome_unless : Option Refusal → Outcome → Outcome
+outcome_unless None outcome = outcome
+outcome_unless (Some refusal) outcome = Answer (Reply'.Refused refusal)
+
+-- the one answer to a step after the steps that were carried out
+unfoldable pub answer : Opening → List Step → Step → Outcome
+answer opening past step = outcome_unless (first_refusal (rules_for opening past step)) (unrefused opening past step)
+
+-- whether a step may need memory where it is carried out
+unfoldable pub takes_memory : Step → Bool
+takes_memory (Initiate t parent) = true
+takes_memory (Read t x) = true
+takes_memory (Write t x v) = true
+takes_memory step = false
+
+-- whether the outcome is a reply by which the step is carried out
+unfoldable pub carried_out : Step → Outcome → Bool
+carried_out step (Answer reply) = carries_out step reply
+carried_out step Wait = false
+
+-- a history, newest entry first, is legal where each reply is the answer at its place
+unfoldable pub IsLegal : Opening → List Entry → Type 0
+IsLegal opening [] = Unit {0}
+IsLegal opening (entry ∷ older) = (answer opening (deeds older) entry.0 ≡ Answer entry.1) × IsLegal opening older

@@ -1,0 +1,44 @@
+-- Classes, how transactions end, and their status.
+use Rattle.std.specs.Prelude.{ℕ, Bool, true, false, cond, ◌&&◌, List, [], ◌∷◌, Option, Some, None, is_none}
+use Rattle.std.specs.Option.{option_or}
+use Rattle.asset_names.specs.declared.steps.Step.{Step}
+use Rattle.asset_names.specs.declared.steps.Step.TheVariants.{Initiate, Begin, Read, Write, Complete, Commit}
+use Rattle.asset_names.specs.declared.statuses.End.{End}
+use Rattle.asset_names.specs.declared.statuses.End.TheVariants as End'
+use Rattle.asset_names.specs.declared.statuses.Status.{Status}
+use Rattle.asset_names.specs.declared.statuses.Status.TheVariants as Status'
+use Rattle.asset_names.specs.Arrows.{Arrow, lists, linked, among}
+use Rattle.asset_names.specs.Steps.{initiated, begun, completed}
+
+-- the arrows that make classes: no step joins two names yet
+unfoldable pub class_arrows : List Step → List Arrow
+class_arrows past = []
+
+-- How a step ends t. A commit ends the whole class of a live name; `live` says who was live before it.
+unfoldable pub ended_by : Step → (ℕ → Bool) → List Step → ℕ → Option End
+ended_by (Commit u) live older t = cond (live u.0 && linked (among live (class_arrows older)) u.0 t) (Some End'.Committed) None
+ended_by step live older t = None
+
+-- how t ended, if it did: the first end counts
+unfoldable pub end_of : List Step → ℕ → Option End
+end_of [] t = None
+end_of (step ∷ older) t = option_or (end_of older t) (ended_by step (λ n. lists (initiated older) n && is_none (end_of older n)) older t)
+
+-- t was initiated and has not ended
+unfoldable pub live : List Step → ℕ → Bool
+live past t = lists (initiated past) t && is_none (end_of past t)
+
+-- the status of a name by whether it was initiated, begun and completed, and how it ended
+unfoldable pub status_of : Bool → Bool → Bool → Option End → Status
+status_of false begun completed end = Status'.Unknown
+status_of true begun completed (Some End'.Committed) = Status'.Committed
+status_of true begun true None = Status'.Completed
+status_of true true false None = Status'.Running
+status_of true false false None = Status'.Initiated
+
+unfoldable pub status : List Step → ℕ → Status
+status past t = status_of (lists (initiated past) t) (lists (begun past) t) (lists (completed past) t) (end_of past t)
+
+-- two live names of one class, and each name with itself
+unfoldable pub same_class : List Step → ℕ → ℕ → Bool
+same_class past a b = linked (among (live past) (class_arrows past)) a b

@@ -1,0 +1,113 @@
+-- Operations, who is responsible for them, who holds what, and the value of an object.
+use Rattle.std.specs.Prelude.{ℕ, ℤ, pos, Bool, true, false, cond, not, ◌==◌, ◌&&◌, List, [], ◌∷◌, Option, Some, None, is_some, unwrap_or}
+use Rattle.std.specs.List.{list_any}
+use Rattle.asset_names.specs.declared.names.Ob.{Ob}
+use Rattle.asset_names.specs.declared.operations.Op.{Op}
+use Rattle.asset_names.specs.declared.operations.Op.TheVariants as Op'
+use Rattle.asset_names.specs.declared.steps.Step.{Step}
+use Rattle.asset_names.specs.declared.steps.Step.TheVariants.{Initiate, Begin, Read, Write, Complete, Commit}
+use Rattle.asset_names.specs.Arrows.{Arrow, linked, among}
+use Rattle.asset_names.specs.Steps.{Opening}
+use Rattle.asset_names.specs.Endings.{live}
+
+-- what an operation does to its object
+pub data Use : Type 0 where
+  reads : Use
+  writes : ℤ → Use
+
+-- an operation: who is responsible for it, on which object, and what it does
+pub record Operation : Type 0 where
+  pub owner : ℕ
+  pub object : ℕ
+  pub use_of : Use
+
+-- the kind of operation that a use is
+unfoldable pub op_of : Use → Op
+op_of reads = Op'.Read
+op_of (writes v) = Op'.Write
+
+unfoldable pub same_op : Op → Op → Bool
+same_op Op'.Read Op'.Read = true
+same_op Op'.Write Op'.Write = true
+same_op Op'.Read Op'.Write = false
+same_op Op'.Write Op'.Read = false
+
+-- two operations conflict unless both are reads
+unfoldable pub conflict : Op → Op → Bool
+conflict Op'.Read Op'.Read = false
+conflict Op'.Read Op'.Write = true
+conflict Op'.Write Op'.Read = true
+conflict Op'.Write Op'.Write = true
+
+-- whether a set of operations, as whether it has Read and whether it has Write, has the operation
+abbrev pub has_op : Bool × Bool → Op → Bool
+has_op pair Op'.Read = pair.0
+has_op pair Op'.Write = pair.1
+
+-- the operations after a step that was carried out, newest first: a read or a write adds one, for
+-- which its transaction is responsible
+unfoldable pub operated : Step → List Operation → List Operation
+operated (Read t x) older = record { owner = t.0; object = x.0; use_of = reads } ∷ older
+operated (Write t x v) older = record { owner = t.0; object = x.0; use_of = writes v } ∷ older
+operated step older = older
+
+unfoldable pub operations : List Step → List Operation
+operations [] = []
+operations (step ∷ older) = operated step (operations older)
+
+-- t holds x by op where t is live and responsible for such an operation on x
+unfoldable pub holds : List Step → ℕ → ℕ → Op → Bool
+holds past t x op = live past t && list_any (λ (o : Operation). o.owner == t && o.object == x && same_op (op_of o.use_of) op) (operations past)
+
+-- the arrows from a giver to a taker who may do op on x: no step permits anything yet
+unfoldable pub permits : List Step → ℕ → Op → List Arrow
+permits past x op = []
+
+-- u allows t to do op on x: they are one name, or a chain of live names leads from u to t, each of
+-- which permits it to the next
+unfoldable pub reach : List Step → ℕ → ℕ → ℕ → Op → Bool
+reach past u t x op = linked (among (live past) (permits past x op)) u t
+
+-- the operation keeps t from doing op on x: it is another live name's, conflicts with op, and its
+-- owner does not allow t to do op on x
+unfoldable pub hinders : List Step → ℕ → ℕ → Op → Operation → Bool
+hinders past t x op o = o.object == x && conflict (op_of o.use_of) op && not (o.owner == t) && live past o.owner && not (reach past o.owner t x op)
+
+-- x is free for t to do op: each other holder by an operation in conflict with op allows it
+unfoldable pub free : List Step → ℕ → ℕ → Op → Bool
+free past t x op = not (list_any (hinders past t x op) (operations past))
+
+-- an operation stands unless its owner has aborted, which no name has yet
+unfoldable pub stands : List Step → Operation → Bool
+stands past o = true
+
+-- the opening value of an object, if the opening has it
+unfoldable pub opening_at : Opening → ℕ → Option ℤ
+opening_at [] x = None
+opening_at (pair ∷ more) x = cond (pair.0.0 == x) (Some pair.1) (opening_at more x)
+
+-- whether the object exists
+unfoldable pub exists : Opening → ℕ → Bool
+exists opening x = is_some (opening_at opening x)
+
+-- the opening value of x, and 0 where there is no such object
+unfoldable pub opening_value : Opening → ℕ → ℤ
+opening_value opening x = unwrap_or (opening_at opening x) (pos 0)
+
+-- the value that a use leaves, over the value before it
+unfoldable pub after_use : Use → ℤ → ℤ
+after_use reads before = before
+after_use (writes v) before = v
+
+-- the value of x after the operations that count, newest first, over the first value
+unfoldable pub value_after : (Operation → Bool) → ℕ → ℤ → List Operation → ℤ
+value_after counts x first [] = first
+value_after counts x first (o ∷ older) = cond (o.object == x && counts o) (after_use o.use_of (value_after counts x first older)) (value_after counts x first older)
+
+-- the value of an object: its last write that stands, else its opening value
+unfoldable pub value : Opening → List Step → ℕ → ℤ
+value opening past x = value_after (stands past) x (opening_value opening x) (operations past)
+
+-- the value of an object, if it exists
+unfoldable pub value_if_any : Opening → List Step → ℕ → Option ℤ
+value_if_any opening past x = cond (exists opening x) (Some (value opening past x)) None

@@ -1,0 +1,28 @@
+-- Lists of objects, and objects that are listed twice.
+use Rattle.std.specs.Prelude.{◌≡◌, ℕ, ◌≤◌, Bool, true, false, cond, ◌==◌, nat_le, nat_lt, List, map, count_by, Option, Some, None}
+use Rattle.asset_names.specs.declared.names.Ob.{Ob}
+
+-- the numbers of the objects
+unfoldable pub numbers : List Ob → List ℕ
+numbers objects = map (λ (x : Ob). x.0) objects
+
+-- whether the number is listed at least twice
+unfoldable pub twice : List ℕ → ℕ → Bool
+twice listed n = nat_le 2 (count_by (λ m. m == n) listed)
+
+-- the number is listed twice, and no lesser one is
+unfoldable pub IsLeastDouble : List ℕ → ℕ → Type 0
+IsLeastDouble listed n = (twice listed n ≡ true) × ((m : ℕ) → twice listed m ≡ true → n ≤ m)
+
+-- no number is listed twice
+unfoldable pub HasNoDouble : List ℕ → Type 0
+HasNoDouble listed = (m : ℕ) → twice listed m ≡ false
+
+-- the lesser of an object and of one that may be there
+abbrev pub lesser : Ob → Option Ob → Ob
+lesser x None = x
+lesser x (Some y) = cond (nat_lt y.0 x.0) y x
+
+-- what stands in the places of a list that no object fills
+abbrev pub no_object_name : Ob
+no_object_name = record { 0 = 0 }

@@ -1,0 +1,53 @@
+-- Entries of a history, and which of their steps were carried out.
+use Rattle.std.specs.Prelude.{ℕ, ℤ, Bool, true, false, cond, List, [], ◌∷◌, ◌++◌, Option, Some, None, flat_map}
+use Rattle.asset_names.specs.declared.names.Ob.{Ob}
+use Rattle.asset_names.specs.declared.steps.Step.{Step}
+use Rattle.asset_names.specs.declared.steps.Step.TheVariants.{Initiate, Begin, Read, Write, Complete, Commit}
+use Rattle.asset_names.specs.declared.replies.Reply.{Reply}
+use Rattle.asset_names.specs.declared.replies.Reply.TheVariants as Reply'
+
+-- the objects that exist, each with its opening value
+abbrev pub Opening : Type 0
+Opening = List (Ob × ℤ)
+
+-- a step and the reply that it got
+abbrev pub Entry : Type 0
+Entry = Step × Reply
+
+-- whether a step that got this reply was carried out
+unfoldable pub carries_out : Step → Reply → Bool
+carries_out (Initiate t parent) Reply'.Done = true
+carries_out (Begin t) Reply'.Done = true
+carries_out (Read t x) (Reply'.Value v) = true
+carries_out (Write t x v) Reply'.Done = true
+carries_out (Complete t) Reply'.Done = true
+carries_out (Commit t) Reply'.Committed = true
+carries_out step reply = false
+
+-- the steps that were carried out, newest first as the entries are
+unfoldable pub deeds : List Entry → List Step
+deeds [] = []
+deeds (entry ∷ older) = cond (carries_out entry.0 entry.1) (entry.0 ∷ deeds older) (deeds older)
+
+-- the name that the step initiates, begins or completes
+unfoldable pub initiated_by : Step → List ℕ
+initiated_by (Initiate t parent) = t.0 ∷ []
+initiated_by step = []
+
+unfoldable pub begun_by : Step → List ℕ
+begun_by (Begin t) = t.0 ∷ []
+begun_by step = []
+
+unfoldable pub completed_by : Step → List ℕ
+completed_by (Complete t) = t.0 ∷ []
+completed_by step = []
+
+-- the names that were initiated, begun or completed
+unfoldable pub initiated : List Step → List ℕ
+initiated past = flat_map initiated_by past
+
+unfoldable pub begun : List Step → List ℕ
+begun past = flat_map begun_by past
+
+unfoldable pub completed : List Step → List ℕ
+completed past = flat_map completed_by past
