@@ -1,4 +1,4 @@
 pub mod Arrows
-pub mod Doubles
+pub mod DoubleLemmas
 pub mod Rows
 pub mod Sorting

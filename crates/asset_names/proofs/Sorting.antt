@@ -10,7 +10,7 @@ use Rattle.std.proofs.lemmas.List.{take-append-drop, length-append, length-repli
 use Rattle.std.proofs.lemmas.Bool.{eq-eqb, le-leb, lt-leb, leb-false, false≢true, cases_lt}
 use Rattle.asset_names.specs.declared.names.Ob.{Ob}
 use Rattle.asset_names.specs.Sets.{numbers, twice, HasNoDouble, no_object_name}
-use Rattle.asset_names.proofs.Doubles.{count_by-numbers}
+use Rattle.asset_names.proofs.DoubleLemmas.{count_by_map}
 
 -- the front of some places rises as the list that was put there
 pub front_rises : (n : ℕ) (front rest : List Ob) → length front ≡ n → IsNonDecreasingBy (λ (x : Ob). x.0) front → IsNonDecreasingBy (λ (x : Ob). x.0) (take n (front ++ rest))
@@ -44,10 +44,10 @@ neighbours_twice (a ∷ b ∷ ns) (suc k) n below p q =
 
 -- another order has the same doubles
 no_double-permutation : (xs ys : List Ob) → IsPermutation xs ys → HasNoDouble (numbers xs) → HasNoDouble (numbers ys)
-unfolding HasNoDouble twice
+unfolding HasNoDouble twice numbers
 no_double-permutation xs ys same none = λ m.
     let counts = sum_by-IsPermutation (λ (x : Ob). cond (eqb x.0 m) 1 0) xs ys same in
-    rw (count_by-numbers ys m, counts, ← count_by-numbers xs m) (none m)
+    rw (count_by_map (λ (x : Ob). x.0) ys m, counts, ← count_by_map (λ (x : Ob). x.0) xs m) (none m)
 
 -- what does not fall and has no number twice rises
 rises : (objects : List Ob) → IsNonDecreasingBy (λ (x : Ob). x.0) objects → HasNoDouble (numbers objects) → IsStrictlyIncreasing (numbers objects)

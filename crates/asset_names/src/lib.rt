@@ -3,6 +3,7 @@
 //! steps means. Nothing in this crate takes memory.
 #![tactic(auto)]
 
+mod doubles;
 mod laws;
 mod names;
 mod operations;
@@ -11,6 +12,7 @@ mod sets;
 mod statuses;
 mod steps;
 
+pub use doubles::{NamesObject, least_double};
 pub use laws::linked_is_chain;
 pub use names::{Ob, Txn};
 pub use operations::{Op, Ops};

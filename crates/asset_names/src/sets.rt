@@ -1,10 +1,11 @@
 //! Sets of objects.
 
-ghost use Rattle.std.specs.Prelude.{◌≡◌, ◌≤◌, ◌-◌, ◌==◌, length, take, drop, replicate, IfSome, IfNone, IsPermutation, count_by};
+ghost use Rattle.std.specs.Prelude.{◌≡◌, ◌≤◌, ◌-◌, ◌==◌, length, take, drop, replicate, IsPermutation};
 ghost use Rattle.std.specs.List.{list_any};
 ghost use Rattle.std.specs.List.Sorted.{IsNonDecreasingBy};
-ghost use Rattle.asset_names.specs.Sets.{numbers, IsLeastDouble, HasNoDouble, lesser, no_object_name};
+ghost use Rattle.asset_names.specs.Sets.{no_object_name};
 
+use crate::doubles::least_double;
 use crate::names::Ob;
 use std::marker::Model;
 use thiserror::Error;
@@ -101,6 +102,7 @@ impl ObList {
 
     /// The list of these objects. It is refused where there is none; else where there are more than
     /// 16; else where one occurs twice, with the least such object.
+    #[tactic(auto, unfolding(crate::specs::Sets::numbers))]
     pub fn of(objects: &[Ob]) -> Result<ObList, SetFault>
         ensures kept { IfOk result (λ list. IsPermutation objects.now list) }
         ensures some { OnOk result (0 < length objects.now) }
@@ -134,7 +136,7 @@ impl ObList {
     }
 
     /// Whether the object is in the list.
-    #[tactic(auto, using(crate::proofs::Doubles::lists_numbers))]
+    #[tactic(auto, using(crate::proofs::DoubleLemmas::lists_numbers))]
     pub fn has(&self, x: Ob) -> bool
         ensures { result ≡ lists (numbers self.now) x.0 }
     {
@@ -155,37 +157,5 @@ impl ObSet {
             ObSet::All => true,
             ObSet::Listed(list) => list.has(x),
         }
-    }
-}
-
-/// How often the object is listed.
-fn occurrences(objects: &[Ob], x: Ob) -> usize
-    ensures { result ≡ count_by (λ o. o.0 == x.0) objects.now }
-{
-    objects.iter().filter(|o| o.0 == x.0).count()
-}
-
-/// The least object that is listed at least twice.
-fn least_double(objects: &[Ob]) -> Option<Ob>
-    ensures found { IfSome result (λ x. IsLeastDouble (numbers objects.now) x.0) }
-    ensures none { IfNone result (HasNoDouble (numbers objects.now)) }
-{
-    let mut found: Option<Ob> = None;
-    'objects: for object in objects {
-        let x = *object;
-        if occurrences(objects, x) >= 2 {
-            found = Some(lesser(x, found));
-        }
-    }
-    found
-}
-
-/// The lesser of an object and of one that may be there.
-fn lesser(x: Ob, other: Option<Ob>) -> Ob
-    ensures { result ≡ lesser x other }
-{
-    match other {
-        Some(y) if y.0 < x.0 => y,
-        _ => x,
     }
 }

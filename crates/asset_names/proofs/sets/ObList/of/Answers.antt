@@ -1,9 +1,11 @@
 use Rattle.std.proofs.Common.{◌<◌, ◌≤◌, length, arith}
 use Rattle.std.proofs.lemmas.Grind.{common_steps}
+use Rattle.asset_names.specs.Sets.{numbers}
 use Rattle.asset_names.proofs.Sorting.{sorted_rises, places_all}
 use Rattle.asset_names.proofs.sets.ObList.of.Goals as goal
 
 pub invariant_of-result : goal.invariant_of-result
+unfolding numbers
 invariant_of-result c =
     let few : length c.args.objects.now ≤ 16 = omega arith in
     record {

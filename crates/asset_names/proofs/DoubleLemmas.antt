@@ -21,14 +21,13 @@ unfolding lists
 lists-push [] n m = grind arith
 lists-push (k ∷ seen) n m = rw (lists-push seen n m) (grind arith)
 
--- the number of a name among the objects
-pub count_by-numbers : (objects : List Ob) (n : ℕ) → count_by (λ m. eqb m n) (numbers objects) ≡ count_by (λ (o : Ob). eqb o.0 n) objects
-unfolding numbers
-count_by-numbers [] n = refl
-count_by-numbers (o ∷ objects) n =
-    sum_by-cons (λ m. cond (eqb m n) 1 0) o.0 (numbers objects)
-    ∙ ap (λ k. cond (eqb o.0 n) 1 0 + k) (count_by-numbers objects n)
-    ∙ sym (sum_by-cons (λ (o : Ob). cond (eqb o.0 n) 1 0) o objects)
+-- how often the items name a number
+pub count_by_map : {X : Type 0} (f : X → ℕ) (items : List X) (n : ℕ) → count_by (λ m. eqb m n) (map f items) ≡ count_by (λ x. eqb (f x) n) items
+count_by_map f [] n = refl
+count_by_map f (x ∷ items) n =
+    sum_by-cons (λ m. cond (eqb m n) 1 0) (f x) (map f items)
+    ∙ ap (λ k. cond (eqb (f x) n) 1 0 + k) (count_by_map f items n)
+    ∙ sym (sum_by-cons (λ x. cond (eqb (f x) n) 1 0) x items)
 
 -- what is not listed is counted 0 times
 count_by-unlisted : (listed : List ℕ) (n : ℕ) → lists listed n ≡ false → count_by (λ m. eqb m n) listed ≡ 0
@@ -88,16 +87,14 @@ least_none listed None h = λ m. go m (twice listed m) refl where
   go m false e = refl
   go m true e = absurd (false≢true (sym (h m (twice_listed listed m e)) ∙ e))
 
--- the numbers of one more object
-pub numbers-take : (objects : List Ob) (i : ℕ) (d : Ob) → i < length objects → numbers (take (i + 1) objects) ≡ numbers (take i objects) ++ (get_or objects i d).0 ∷ []
-unfolding numbers
-numbers-take objects i d below =
-    ap (map (λ (x : Ob). x.0)) (take_more objects i d below) ∙ map-append (λ (x : Ob). x.0) (take i objects) (get_or objects i d ∷ [])
+-- the numbers of one more item
+pub map_take : {X : Type 0} (f : X → ℕ) (items : List X) (i : ℕ) (d : X) → i < length items → map f (take (i + 1) items) ≡ map f (take i items) ++ f (get_or items i d) ∷ []
+map_take f items i d below = ap (map f) (take_more items i d below) ∙ map-append f (take i items) (get_or items i d ∷ [])
 
--- whether an object is listed twice, by how often it is
-pub twice-numbers : (objects : List Ob) (x : Ob) (n : ℕ) → n ≡ count_by (λ (o : Ob). eqb o.0 x.0) objects → twice (numbers objects) x.0 ≡ leb 2 n
+-- whether an item is named twice, by how often it is
+pub twice_map : {X : Type 0} (f : X → ℕ) (items : List X) (x n : ℕ) → n ≡ count_by (λ y. eqb (f y) x) items → twice (map f items) x ≡ leb 2 n
 unfolding twice
-twice-numbers objects x n e = ap (leb 2) (count_by-numbers objects x.0 ∙ sym e)
+twice_map f items x n e = ap (leb 2) (count_by_map f items x ∙ sym e)
 
 -- what the numbers of objects list, the objects do
 pub lists_numbers : (objects : List Ob) (n : ℕ) → lists (numbers objects) n ≡ list_any (λ (o : Ob). eqb o.0 n) objects

@@ -1,0 +1,47 @@
+-- A history as callers see it, and what a step makes of it.
+use Rattle.std.specs.Prelude.{◌≡◌, ℕ, ◌≤◌, ◌<◌, ◌+◌, ℤ, nat_lt, Bool, true, false, List, [], ◌∷◌, length, map, reverse}
+use Rattle.asset_names.specs.declared.names.Ob.{Ob}
+use Rattle.asset_names.specs.declared.steps.Step.{Step}
+use Rattle.asset_names.specs.declared.replies.Reply.{Reply}
+use Rattle.asset_names.specs.declared.replies.Outcome.{Outcome}
+use Rattle.asset_names.specs.declared.replies.Outcome.TheVariants.{Answer, Wait}
+use Rattle.asset_names.specs.Steps.{Opening, Entry, deeds}
+use Rattle.asset_names.specs.Answers.{answer, IsLegal}
+
+-- the opening, the entries with the newest first, and how many entries there is room for in all
+pub record Recorded : Type 0 where
+  pub opening : Opening
+  pub past : List Entry
+  pub room : ℕ
+
+-- the history of an opening, before the first entry
+unfoldable pub opened : Opening → ℕ → Recorded
+opened opening room = record { opening = opening; past = []; room = room }
+
+-- the history with one more entry
+unfoldable pub with_entry : Recorded → Step → Reply → Recorded
+with_entry history step reply = record history { past = (step, reply) ∷ history.past }
+
+-- the answer to a step at the end of the history
+unfoldable pub answer_to : Recorded → Step → Outcome
+answer_to history step = answer history.opening (deeds history.past) step
+
+-- the history after a step with this outcome: a reply is an entry, and a wait is not
+unfoldable pub after : Recorded → Step → Outcome → Recorded
+after history step (Answer reply) = with_entry history step reply
+after history step Wait = history
+
+-- whether there is room for what the outcome adds: a wait adds nothing
+unfoldable pub has_room : Recorded → Outcome → Bool
+has_room history (Answer reply) = nat_lt (length history.past) history.room
+has_room history Wait = true
+
+-- how a history is kept: its entries, oldest first, are legal and within the room that was taken
+pub record IsKept (opening : Opening) (entries : List Entry) (room reserved : ℕ) : Type 0 where
+  pub legal : IsLegal opening (reverse entries)
+  pub within : length entries ≤ room
+  pub taken : room ≤ reserved
+
+-- the objects of an opening
+unfoldable pub objects_of : Opening → List ℕ
+objects_of opening = map (λ (pair : Ob × ℤ). pair.0.0) opening
