@@ -1,2 +1,4 @@
+pub mod ClassLemmas
 pub mod PastLemmas
 pub mod TrackLemmas
+pub mod ScanLemmas

@@ -1,9 +1,7 @@
 -- The entries as a loop over them meets them, oldest first.
-use Rattle.std.proofs.Common.{◌≡◌, ℕ, ◌+◌, ◌<◌, true, false, List, [], ◌∷◌, ◌++◌, None, length, get_or, take, reverse, refl, sym, ◌∙◌, ap, arith}
+use Rattle.std.proofs.Common.{◌≡◌, ℕ, ◌+◌, ◌<◌, true, false, List, [], ◌∷◌, None, length, get_or, take, reverse, ◌∙◌, ap}
 use Rattle.std.proofs.lemmas.List.{take_more, reverse-append}
-use Rattle.asset_names.specs.declared.steps.Step.{Step}
 use Rattle.asset_names.specs.declared.steps.Step.TheVariants.{Initiate}
-use Rattle.asset_names.specs.declared.replies.Reply.{Reply}
 use Rattle.asset_names.specs.declared.replies.Reply.TheVariants.{Done}
 use Rattle.asset_names.specs.Steps.{Entry, carries_out, deeds}
 

@@ -1,2 +1,4 @@
 pub mod Recorded
 pub mod Tracks
+pub mod Scans
+pub mod OpenFaults

@@ -1,5 +1,5 @@
 -- A history as callers see it, and what a step makes of it.
-use Rattle.std.specs.Prelude.{◌≡◌, ℕ, ◌≤◌, ◌<◌, ◌+◌, ℤ, nat_lt, Bool, true, false, List, [], ◌∷◌, length, map, reverse}
+use Rattle.std.specs.Prelude.{ℕ, ◌≤◌, ℤ, nat_lt, Bool, true, List, [], ◌∷◌, length, map, reverse}
 use Rattle.asset_names.specs.declared.names.Ob.{Ob}
 use Rattle.asset_names.specs.declared.steps.Step.{Step}
 use Rattle.asset_names.specs.declared.replies.Reply.{Reply}

@@ -2,4 +2,14 @@
 //! adds the one answer to it.
 #![tactic(auto)]
 
+mod answers;
+mod facility;
+mod freedom;
+mod history;
+mod openings;
+mod refusals;
 mod tracks;
+mod values;
+
+pub use facility::Core;
+pub use history::{History, OpenFault};

@@ -1,11 +1,11 @@
 -- Operations, who is responsible for them, who holds what, and the value of an object.
-use Rattle.std.specs.Prelude.{ℕ, ℤ, pos, Bool, true, false, cond, not, ◌==◌, ◌&&◌, List, [], ◌∷◌, Option, Some, None, is_some, unwrap_or}
+use Rattle.std.specs.Prelude.{ℕ, ℤ, pos, Bool, true, false, cond, not, ◌==◌, ◌&&◌, List, [], ◌∷◌, Option, Some, None, is_some, unwrap_or, option_map, find}
 use Rattle.std.specs.List.{list_any}
 use Rattle.asset_names.specs.declared.names.Ob.{Ob}
 use Rattle.asset_names.specs.declared.operations.Op.{Op}
 use Rattle.asset_names.specs.declared.operations.Op.TheVariants as Op'
 use Rattle.asset_names.specs.declared.steps.Step.{Step}
-use Rattle.asset_names.specs.declared.steps.Step.TheVariants.{Initiate, Begin, Read, Write, Complete, Commit}
+use Rattle.asset_names.specs.declared.steps.Step.TheVariants.{Read, Write}
 use Rattle.asset_names.specs.Arrows.{Arrow, linked, among}
 use Rattle.asset_names.specs.Steps.{Opening}
 use Rattle.asset_names.specs.Endings.{live}
@@ -83,8 +83,7 @@ stands past o = true
 
 -- the opening value of an object, if the opening has it
 unfoldable pub opening_at : Opening → ℕ → Option ℤ
-opening_at [] x = None
-opening_at (pair ∷ more) x = cond (pair.0.0 == x) (Some pair.1) (opening_at more x)
+opening_at opening x = option_map (λ (pair : Ob × ℤ). pair.1) (find (λ (pair : Ob × ℤ). pair.0.0 == x) opening)
 
 -- whether the object exists
 unfoldable pub exists : Opening → ℕ → Bool

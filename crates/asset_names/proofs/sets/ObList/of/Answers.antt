@@ -1,4 +1,4 @@
-use Rattle.std.proofs.Common.{◌<◌, ◌≤◌, length, arith}
+use Rattle.std.proofs.Common.{◌≤◌, length, arith}
 use Rattle.std.proofs.lemmas.Grind.{common_steps}
 use Rattle.asset_names.specs.Sets.{numbers}
 use Rattle.asset_names.proofs.Sorting.{sorted_rises, places_all}

@@ -1,0 +1,18 @@
+-- What one step says of an object.
+use Rattle.std.specs.Prelude.{ℕ, ℤ, Bool, true, false, cond, ◌==◌, Option, Some, None}
+use Rattle.asset_names.specs.declared.statuses.Status.{Status}
+use Rattle.asset_names.specs.declared.statuses.Status.TheVariants as Status'
+use Rattle.asset_names.specs.declared.steps.Step.{Step}
+use Rattle.asset_names.specs.declared.steps.Step.TheVariants.{Write}
+
+-- what the step writes to the object
+unfoldable pub written_by : Step → ℕ → Option ℤ
+written_by (Write t y v) x = cond (y.0 == x) (Some v) None
+written_by step x = None
+
+-- whether a transaction of this status is live
+unfoldable pub is_live_status : Status → Bool
+is_live_status Status'.Initiated = true
+is_live_status Status'.Running = true
+is_live_status Status'.Completed = true
+is_live_status status = false

@@ -1,0 +1,131 @@
+//! A history: what was opened, and the entries in order.
+
+use crate::answers::{answer, value_if_any};
+use crate::tracks::status_after;
+use asset_names::{Ob, Outcome, Reply, Status, Step, Txn};
+use std::alloc::{AllocError, Global};
+use std::marker::Model;
+use thiserror::Error;
+
+/// The opening values of the objects and the entries, each a step with the reply that it got. It is
+/// always legal: each reply is the answer at its place. Contracts see the opening, the entries with
+/// the newest first, and how many entries there is room for in all.
+#[derive(Drop)]
+pub struct History {
+    opening: Vec<(Ob, i64)>,
+    entries: Vec<(Step, Reply)>,
+    room: usize,
+}
+
+impl Model for History {
+    ghost use Rattle.std.specs.Prelude.{reverse, vec_capacity};
+    ghost use Rattle.asset_core.specs.Recorded.{Recorded, IsKept};
+
+    ghost Value = { Recorded };
+
+    ghost view = { λ h. record { opening = h.opening.items; past = reverse h.entries.items; room = h.room } };
+
+    ghost invariant = { λ h. IsKept h.opening.items h.entries.items h.room (vec_capacity h.entries) };
+}
+
+impl History {
+    ghost use Rattle.std.specs.Prelude.{◌≡◌, ◌<◌, ◌≤◌, ◌↔◌, nat_lt, [], length, reverse, slice_get, IfOk, IsTrue};
+    ghost use Rattle.asset_names.specs.Steps.{deeds};
+    ghost use Rattle.asset_names.specs.Endings.{status};
+    ghost use Rattle.asset_names.specs.Operations.{value_if_any};
+    ghost use Rattle.asset_names.specs.declared.replies.Outcome.TheVariants.{Answer};
+    ghost use Rattle.asset_core.specs.Recorded.{opened, answer_to, with_entry};
+
+    /// A history of these opening values with room for so many entries, and none yet.
+    #[tactic(auto, unfolding(crate::specs::Recorded::opened))]
+    pub(crate) fn open(alloc: Global, opening: &[(Ob, i64)], room: usize) -> Result<History, AllocError>
+        ensures { IfOk result (λ history. history ≡ opened opening.now room) }
+    {
+        Ok(History {
+            opening: opening.to_vec(alloc)?,
+            entries: Vec::with_capacity(alloc, room)?,
+            room,
+        })
+    }
+
+    /// The objects with their opening values, in the order in which they were given.
+    pub fn opening(&self) -> &[(Ob, i64)]
+        ensures { result.now ≡ self.now.opening }
+    {
+        self.opening.as_slice()
+    }
+
+    /// The number of entries.
+    pub fn len(&self) -> usize
+        ensures { result ≡ length self.now.past }
+    {
+        self.entries.len()
+    }
+
+    /// Whether there is no entry yet.
+    pub fn is_empty(&self) -> bool
+        ensures { IsTrue result ↔ (self.now.past ≡ []) }
+    {
+        self.entries.is_empty()
+    }
+
+    /// The entry of this number. Entries count from 0, oldest first.
+    pub fn entry(&self, number: usize) -> Option<(Step, Reply)>
+        ensures { result ≡ slice_get (reverse self.now.past) number }
+    {
+        self.entries.get(number).copied()
+    }
+
+    /// The status of a name.
+    pub(crate) fn status(&self, t: Txn) -> Status
+        ensures { result ≡ status (deeds self.now.past) t.0 }
+    {
+        status_after(&self.entries, t)
+    }
+
+    /// The value of an object, if it exists.
+    pub(crate) fn value(&self, x: Ob) -> Option<i64>
+        ensures { result ≡ value_if_any self.now.opening (deeds self.now.past) x.0 }
+    {
+        value_if_any(&self.opening, &self.entries, x)
+    }
+
+    /// The answer to a step at the end.
+    #[tactic(auto, unfolding(crate::specs::Recorded::answer_to))]
+    pub(crate) fn answer(&self, step: Step) -> Outcome
+        ensures { result ≡ answer_to self.now step }
+    {
+        answer(&self.opening, &self.entries, step)
+    }
+
+    /// Whether there is room for a further entry.
+    pub(crate) fn has_room(&self) -> bool
+        ensures { result ≡ nat_lt (length self.now.past) self.now.room }
+    {
+        self.entries.len() < self.room
+    }
+
+    /// Adds the step with its answer. The room was taken when the history was opened, so this takes
+    /// no memory.
+    pub(crate) fn append(&mut self, step: Step, reply: Reply)
+        requires answer { answer_to self.old step ≡ Answer reply }
+        requires room { length self.old.past < self.old.room }
+        ensures { self.new ≡ with_entry self.old step reply }
+    {
+        self.entries.push((step, reply)).unwrap()
+    }
+}
+
+/// Why nothing was opened.
+#[derive(Clone, Copy, Debug, PartialEq, Eq, Error)]
+pub enum OpenFault {
+    /// The capacity is not from 1 to 1,000,000.
+    #[error("the capacity has to be from 1 to 1,000,000")]
+    BadCapacity,
+    /// The least object that was given twice.
+    #[error("object {} was given twice", .0.0)]
+    DoubleObject(Ob),
+    /// Memory ran out.
+    #[error("no memory")]
+    NoMemory,
+}
