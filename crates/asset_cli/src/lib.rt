@@ -1,0 +1,13 @@
+//! Scripts: lines of text that ask the facility for steps, and the lines of text that answer them.
+//! Bytes come and go through devices, which remember whether a call of theirs failed.
+#![tactic(auto)]
+
+mod device;
+mod faults;
+mod reading;
+mod writing;
+
+pub use device::Device;
+pub use faults::ScriptFault;
+pub use reading::read_all;
+pub use writing::write_all;
