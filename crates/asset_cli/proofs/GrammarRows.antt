@@ -1,10 +1,9 @@
 -- What single lines say.
-use Rattle.std.specs.Prelude.{◌≡◌, ℕ, ◌^◌, ◌-◌, ◌++◌, List, [], ◌∷◌, Option, None, Some, ℤ, pos, negsuc, codes, refl, replicate}
+use Rattle.std.specs.Prelude.{◌≡◌, ◌++◌, [], ◌∷◌, None, Some, pos, negsuc, codes, refl, replicate}
 use Rattle.asset_names.specs.declared.steps.Step.TheVariants as Step'
 use Rattle.asset_cli.specs.declared.grammar.Command.TheVariants.{Ask, Object}
-use Rattle.asset_cli.specs.declared.grammar.Line.{Line}
 use Rattle.asset_cli.specs.declared.grammar.Line.TheVariants as Line'
-use Rattle.asset_cli.specs.Arguments.{both, all_three, one_number, one_or_two_numbers, two_numbers, number_and_value, two_numbers_and_value}
+use Rattle.asset_cli.specs.Arguments.{both, all_three, one_number, one_or_two_numbers, number_and_value, two_numbers_and_value}
 use Rattle.asset_cli.specs.Grammar.{txn, ob, command_by, command_from, command_of, is_blank, line_by, line_of}
 use Rattle.asset_cli.specs.Keywords.{keyword_text, all_keywords, keyword_of}
 use Rattle.asset_cli.specs.Lines.{lines}

@@ -1,10 +1,10 @@
 -- How a read fault and a front of a text come about.
-use Rattle.std.proofs.Common.{◌≡◌, ℕ, ◌+◌, ◌-◌, ◌<◌, ◌≤◌, true, List, [], ◌++◌, length, take, drop, Option, None, Some, IfSome, inl, inr, refl, sym, ap, ◌∙◌, subst, append_assoc, append-nil, take-append-drop, length-append, arith}
+use Rattle.std.proofs.Common.{◌≡◌, ℕ, ◌-◌, ◌<◌, true, List, ◌++◌, length, take, drop, Option, None, Some, IfSome, inl, inr, sym, ap, ◌∙◌, append_assoc, take-append-drop, length-append, arith}
 use Rattle.std.proofs.lemmas.List.{take_rest}
 use Rattle.std.specs.Io.KnownBytes.{Appends, Consumes, Keeps}
 use Rattle.std.proofs.KnownBytes.{Appends-kept}
 use Rattle.asset_cli.specs.Device.{DeviceState}
-use Rattle.asset_cli.specs.Transfers.{GaveTooMuch, IsReadFault, TookFront, input_limit, request_limit}
+use Rattle.asset_cli.specs.Transfers.{IsReadFault, TookFront, input_limit, request_limit}
 
 -- bytes that a reader gave were left before
 given_was_left : (before after : Option (List ℕ)) (bytes : List ℕ) (n : ℕ) → Consumes before after bytes → n < length bytes → IfSome before (λ left. n < length left)

@@ -6,3 +6,4 @@ pub mod Numbers
 pub mod Keywords
 pub mod Arguments
 pub mod Grammar
+pub mod Texts

@@ -58,8 +58,7 @@ pub(crate) fn parse_number_and_value(mut words: Words<'_>) -> Option<(u64, i64)>
 pub(crate) fn parse_two_numbers_and_value(mut words: Words<'_>) -> Option<(u64, u64, i64)>
     ensures { result ≡ two_numbers_and_value words.entry }
 {
-    let (Some(a), Some(b), Some(v), None) =
-        (words.next(), words.next(), words.next(), words.next())
+    let (Some(a), Some(b), Some(v), None) = (words.next(), words.next(), words.next(), words.next())
     else {
         return None;
     };

@@ -46,11 +46,18 @@ impl Command {
             },
             Keyword::Read => {
                 let (t, x) = parse_two_numbers(arguments)?;
-                Step::Read { t: Txn(t), x: Ob(x) }
+                Step::Read {
+                    t: Txn(t),
+                    x: Ob(x),
+                }
             }
             Keyword::Write => {
                 let (t, x, v) = parse_two_numbers_and_value(arguments)?;
-                Step::Write { t: Txn(t), x: Ob(x), v }
+                Step::Write {
+                    t: Txn(t),
+                    x: Ob(x),
+                    v,
+                }
             }
             Keyword::Complete => Step::Complete {
                 t: Txn(parse_one_number(arguments)?),

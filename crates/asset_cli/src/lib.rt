@@ -10,6 +10,7 @@ mod keywords;
 mod lines;
 mod numbers;
 mod reading;
+mod texts;
 mod words;
 mod writing;
 
@@ -18,6 +19,7 @@ pub use faults::ScriptFault;
 pub use grammar::{Command, Line};
 pub use lines::split_line;
 pub use reading::read_all;
+pub use texts::{push_bad_line, push_full, push_outcome};
 pub use writing::write_all;
 
 #[cfg(test)]

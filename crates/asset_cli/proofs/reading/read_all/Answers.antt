@@ -1,8 +1,7 @@
 -- Why the reader is given up: it failed, it gave too much, or it was asked as often as is allowed.
-use Rattle.std.proofs.Common.{◌≡◌, ℕ, ◌<◌, ◌++◌, true, vec_len, length, take, length-append, arith, rules}
+use Rattle.std.proofs.Common.{◌≡◌, ◌++◌, vec_len, length, take, length-append, arith}
 use Rattle.std.proofs.lemmas.List.{length-take-le}
 use Rattle.std.proofs.KnownBytes.{Consumes-trans}
-use Rattle.asset_cli.specs.Transfers.{input_limit}
 use Rattle.asset_cli.proofs.TransferLemmas.{fault_of_failure, fault_of_requests, fault_of_excess}
 use Rattle.asset_cli.proofs.reading.read_all.Goals as goal
 

@@ -1,5 +1,5 @@
 -- What was read so far is what the reader gave, and the device has counted it.
-use Rattle.std.proofs.Common.{◌≡◌, ◌<◌, ◌≤◌, false, vec_len}
+use Rattle.std.proofs.Common.{◌≡◌, ◌≤◌, false, vec_len}
 use Rattle.std.specs.Io.KnownBytes.{Consumes}
 use Rattle.asset_cli.specs.Transfers.{input_limit}
 use Rattle.asset_cli.proofs.reading.read_all.Given as goal
