@@ -1,0 +1,121 @@
+-- What single lines say.
+use Rattle.std.specs.Prelude.{◌≡◌, ◌++◌, [], ◌∷◌, None, Some, pos, negsuc, codes, refl, replicate}
+use Rattle.asset_names.specs.declared.steps.Step.TheVariants as Step'
+use Rattle.asset_cli.specs.declared.grammar.Command.TheVariants.{Ask, Object}
+use Rattle.asset_cli.specs.declared.grammar.Line.TheVariants as Line'
+use Rattle.asset_cli.specs.Arguments.{both, all_three, one_number, one_or_two_numbers, number_and_value, two_numbers_and_value}
+use Rattle.asset_cli.specs.Grammar.{txn, ob, command_by, command_from, command_of, is_blank, line_by, line_of}
+use Rattle.asset_cli.specs.Keywords.{keyword_text, all_keywords, keyword_of}
+use Rattle.asset_cli.specs.Lines.{lines}
+use Rattle.asset_cli.specs.Numbers.{is_numeral, number_of, positive_value, negative_value, value_of}
+use Rattle.asset_cli.specs.Words.{words}
+
+-- a line feed ends a line, and a rest is a line too; an empty line is one
+cut_lines : lines (97 ∷ 10 ∷ 10 ∷ 98 ∷ []) ≡ (97 ∷ []) ∷ [] ∷ (98 ∷ []) ∷ []
+unfolding lines
+cut_lines = refl
+
+-- after the last line feed stands no line
+no_line_after_the_last : lines (97 ∷ 10 ∷ []) ≡ (97 ∷ []) ∷ []
+unfolding lines
+no_line_after_the_last = refl
+
+zero : number_of (codes "0") ≡ Some 0
+unfolding number_of is_numeral
+zero = refl
+
+leading_zero : number_of (codes "07") ≡ None
+unfolding number_of is_numeral
+leading_zero = refl
+
+plus_sign : number_of (codes "+7") ≡ None
+unfolding number_of is_numeral
+plus_sign = refl
+
+nothing : number_of [] ≡ None
+unfolding number_of is_numeral
+nothing = refl
+
+greatest_number : number_of (codes "18446744073709551615") ≡ Some 18446744073709551615
+unfolding number_of is_numeral
+greatest_number = refl
+
+past_the_greatest_number : number_of (codes "18446744073709551616") ≡ None
+unfolding number_of is_numeral
+past_the_greatest_number = refl
+
+greatest_value : value_of (codes "9223372036854775807") ≡ Some (pos 9223372036854775807)
+unfolding value_of positive_value number_of is_numeral
+greatest_value = refl
+
+past_the_greatest_value : value_of (codes "9223372036854775808") ≡ None
+unfolding value_of positive_value number_of is_numeral
+past_the_greatest_value = refl
+
+least_value : value_of (codes "-9223372036854775808") ≡ Some (negsuc 9223372036854775807)
+unfolding value_of negative_value number_of is_numeral
+least_value = refl
+
+past_the_least_value : value_of (codes "-9223372036854775809") ≡ None
+unfolding value_of negative_value number_of is_numeral
+past_the_least_value = refl
+
+minus_zero : value_of (codes "-0") ≡ None
+unfolding value_of negative_value number_of is_numeral
+minus_zero = refl
+
+minus_alone : value_of (codes "-") ≡ None
+unfolding value_of number_of is_numeral
+minus_alone = refl
+
+leading_zero_after_the_sign : value_of (codes "-01") ≡ None
+unfolding value_of number_of is_numeral
+leading_zero_after_the_sign = refl
+
+object_line : line_of (codes "object 1 -5") ≡ Line'.Command (Object (ob 1) (negsuc 4))
+unfolding line_of line_by is_blank command_of command_from command_by words keyword_of keyword_text all_keywords number_and_value both value_of negative_value number_of is_numeral
+object_line = refl
+
+child_line : line_of (codes "initiate 8 7") ≡ Line'.Command (Ask (Step'.Initiate (txn 8) (Some (txn 7))))
+unfolding line_of line_by is_blank command_of command_from command_by words keyword_of keyword_text all_keywords one_or_two_numbers both number_of is_numeral
+child_line = refl
+
+write_line : line_of (codes "write 7 1 50") ≡ Line'.Command (Ask (Step'.Write (txn 7) (ob 1) (pos 50)))
+unfolding line_of line_by is_blank command_of command_from command_by words keyword_of keyword_text all_keywords two_numbers_and_value all_three value_of positive_value number_of is_numeral
+write_line = refl
+
+two_spaces : line_of (codes "begin  7") ≡ Line'.Bad
+unfolding line_of line_by is_blank command_of command_from command_by words keyword_of keyword_text all_keywords one_number number_of is_numeral
+two_spaces = refl
+
+space_at_the_end : line_of (codes "begin 7 ") ≡ Line'.Bad
+unfolding line_of line_by is_blank command_of command_from command_by words keyword_of keyword_text all_keywords one_number number_of is_numeral
+space_at_the_end = refl
+
+space_at_the_start : line_of (codes " begin 7") ≡ Line'.Bad
+unfolding line_of line_by is_blank command_of command_from words keyword_of keyword_text all_keywords
+space_at_the_start = refl
+
+carriage_return : line_of (codes "begin 7" ++ 13 ∷ []) ≡ Line'.Bad
+unfolding line_of line_by is_blank command_of command_from command_by words keyword_of keyword_text all_keywords one_number number_of is_numeral
+carriage_return = refl
+
+upper_case : line_of (codes "Begin 7") ≡ Line'.Bad
+unfolding line_of line_by is_blank command_of command_from words keyword_of keyword_text all_keywords
+upper_case = refl
+
+empty_line : line_of [] ≡ Line'.Blank
+unfolding line_of is_blank
+empty_line = refl
+
+remark : line_of (codes "#  begin") ≡ Line'.Blank
+unfolding line_of is_blank
+remark = refl
+
+longest_remark : line_of (replicate 4096 35) ≡ Line'.Blank
+unfolding line_of is_blank
+longest_remark = refl
+
+remark_that_is_too_long : line_of (replicate 4097 35) ≡ Line'.Bad
+unfolding line_of is_blank
+remark_that_is_too_long = refl

@@ -1,0 +1,4 @@
+pub mod TransferLemmas
+pub mod LineLemmas
+pub mod NumberLemmas
+mod GrammarRows

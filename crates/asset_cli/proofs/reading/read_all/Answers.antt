@@ -1,0 +1,20 @@
+-- Why the reader is given up: it failed, it gave too much, or it was asked as often as is allowed.
+use Rattle.std.proofs.Common.{◌≡◌, ◌++◌, vec_len, length, take, length-append, arith}
+use Rattle.std.proofs.lemmas.List.{length-take-le}
+use Rattle.std.proofs.KnownBytes.{Consumes-trans}
+use Rattle.asset_cli.proofs.TransferLemmas.{fault_of_failure, fault_of_requests, fault_of_excess}
+use Rattle.asset_cli.proofs.reading.read_all.Goals as goal
+
+pub returns-in_default-clause-fault : goal.returns-in_default-clause-fault
+returns-in_default-clause-fault g c _ = fault_of_failure _ _ _ (rw c.requests.invariant.failed at c.in_default.ensures.failed)
+
+pub returns-then-len-count-gt-MOST_BYTES-clause-fault : goal.returns-then-len-count-gt-MOST_BYTES-clause-fault
+returns-then-len-count-gt-MOST_BYTES-clause-fault g c _ =
+    let piece = take c.in-Some.count c.read.new.buf in
+    let given : length piece ≡ c.in-Some.count = length-take-le _ _ c.in-Some.ensures.bound in
+    let before : vec_len c.requests.bytes ≡ length c.requests.bytes.items = c.requests.bytes.ok.0 in
+    fault_of_excess _ _ _ (c.requests.bytes.items ++ piece) (Consumes-trans _ _ _ _ _ c.requests.invariant.gave c.in-Some.ensures.gave)
+    (omega (arith, length-append c.requests.bytes.items piece, given, before)) (omega (arith, c.in-Some.ensures.moved, c.in-Some.ensures.bound))
+
+pub returns-clause-fault : goal.returns-clause-fault
+returns-clause-fault g c _ = fault_of_requests _ _ _ (omega arith)

@@ -1,0 +1,26 @@
+//! Scripts: lines of text that ask the facility for steps, and the lines of text that answer them.
+//! Bytes come and go through devices, which remember whether a call of theirs failed.
+#![tactic(auto)]
+
+mod arguments;
+mod device;
+mod faults;
+mod grammar;
+mod keywords;
+mod lines;
+mod numbers;
+mod reading;
+mod texts;
+mod words;
+mod writing;
+
+pub use device::Device;
+pub use faults::ScriptFault;
+pub use grammar::{Command, Line};
+pub use lines::split_line;
+pub use reading::read_all;
+pub use texts::{push_bad_line, push_full, push_outcome};
+pub use writing::write_all;
+
+#[cfg(test)]
+mod tests;

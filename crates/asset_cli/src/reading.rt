@@ -1,0 +1,54 @@
+//! Reads a whole input.
+ghost use Rattle.std.specs.Prelude.{◌≡◌, ◌≢◌, ◌≤◌, false, IfOk, OnOk, Err, vec_len};
+ghost use Rattle.std.specs.Io.KnownBytes.{Consumes, IsAtEnd};
+ghost use Rattle.asset_cli.specs.Device.{IsFresh};
+ghost use Rattle.asset_cli.specs.Transfers.{IsReadFault, input_limit};
+
+use crate::device::Device;
+use crate::faults::ScriptFault;
+use std::alloc::{AllocError, Global};
+use std::io::Read;
+
+// The most bytes that an input may have.
+const MOST_BYTES: usize = 67_108_864;
+
+// The most requests in which an input is read.
+const MOST_REQUESTS: u32 = 134_217_728;
+
+// How many bytes are asked for at once.
+const PIECE: usize = 65_536;
+
+// A vector of `len` zeros.
+fn zeros(alloc: Global, len: usize) -> Result<Vec<u8>, AllocError>
+    ensures { IfOk result (λ piece. vec_len piece ≡ len) }
+{
+    vec![in alloc; 0u8; len]
+}
+
+/// All that the reader gives, up to its end. A reader that gives more than 67,108,864 bytes, or has
+/// no end within 134,217,728 requests, is given up.
+pub fn read_all<R: Read>(alloc: Global, input: &mut Device<R>) -> Result<Vec<u8>, ScriptFault>
+    requires { IsFresh input.old }
+    ensures gave { IfOk result (λ bytes. Consumes (R.remaining input.old.inner) (R.remaining input.new.inner) bytes.items) }
+    ensures end { OnOk result (IsAtEnd (R.remaining input.new.inner)) }
+    ensures limit { IfOk result (λ bytes. vec_len bytes ≤ input_limit) }
+    ensures sound { OnOk result (input.new.failed ≡ false) }
+    ensures fault { result ≡ Err ScriptFault.Read → IsReadFault R.remaining input.old input.new }
+    ensures reads_only { result ≢ Err ScriptFault.Write }
+{
+    let mut bytes = Vec::new(alloc);
+    let mut piece = zeros(alloc, PIECE)?;
+    'requests: for _ in 0..MOST_REQUESTS {
+        let Some(count) = input.read(piece.as_mut_slice()) else {
+            return Err(ScriptFault::Read);
+        };
+        if count == 0 {
+            return Ok(bytes);
+        }
+        if bytes.len() + count > MOST_BYTES {
+            return Err(ScriptFault::Read);
+        }
+        bytes.extend_from_slice(&piece[..count])?;
+    }
+    Err(ScriptFault::Read)
+}

@@ -1,0 +1,75 @@
+//! What the lines of a script say.
+use crate::{Command, Line, split_line};
+use asset_names::{Ob, Step, Txn};
+
+#[test]
+fn lines_that_ask(rt: HostRuntime) {
+    let t = Txn(7);
+    let x = Ob(1);
+    let child = Step::Initiate {
+        t: Txn(8),
+        parent: Some(t),
+    };
+    let cases: [(&str, Command); 8] = [
+        ("object 1 -100", Command::Object { x, v: -100 }),
+        (
+            "initiate 7",
+            Command::Ask(Step::Initiate { t, parent: None }),
+        ),
+        ("initiate 8 7", Command::Ask(child)),
+        ("begin 7", Command::Ask(Step::Begin { t })),
+        ("read 7 1", Command::Ask(Step::Read { t, x })),
+        ("write 7 1 50", Command::Ask(Step::Write { t, x, v: 50 })),
+        ("complete 7", Command::Ask(Step::Complete { t })),
+        ("commit 7", Command::Ask(Step::Commit { t })),
+    ];
+    for (text, command) in cases {
+        assert_eq!(rt;
+            Line::parse(text.as_bytes()),
+            Line::Command(command),
+            "{text}"
+        );
+    }
+}
+
+#[test]
+fn lines_that_are_bad(rt: HostRuntime) {
+    let cases = [
+        "begin",
+        "begin 7 8",
+        "begin 07",
+        "begin +7",
+        "begin -7",
+        "begin 18446744073709551616",
+        "object 1 -0",
+        "object 1 9223372036854775808",
+        "object 1 -9223372036854775809",
+        "begin  7",
+        "begin 7 ",
+        "begin 7\r",
+        " begin 7",
+        " ",
+        "abort 7",
+    ];
+    for text in cases {
+        assert_eq!(rt; Line::parse(text.as_bytes()), Line::Bad, "{text}");
+    }
+}
+
+#[test]
+fn lines_that_say_nothing(rt: HostRuntime) {
+    for text in ["", "#", "# begin 7"] {
+        assert_eq!(rt; Line::parse(text.as_bytes()), Line::Blank, "{text}");
+    }
+}
+
+#[test]
+fn script_is_cut_at_line_feeds(rt: HostRuntime) {
+    let mut rest = &b"begin 7\n\ncommit 7"[..];
+    for line in [&b"begin 7"[..], &b""[..], &b"commit 7"[..]] {
+        let cut = split_line(rest);
+        assert_eq!(rt; cut.map(|parts| parts.0), Some(line));
+        rest = cut.map_or(&[], |parts| parts.1);
+    }
+    assert_eq!(rt; split_line(rest), None);
+}

@@ -1,0 +1,66 @@
+//! The lines that a script's run prints. Where memory runs out, a part of a line may have been added
+//! to a text.
+ghost use Rattle.std.specs.Prelude.{◌≡◌, ◌++◌, OnOk, string_bytes};
+ghost use Rattle.asset_cli.specs.Texts.{bad_line, full_line, outcome_line, refusal_line, reply_line};
+
+use asset_names::{Outcome, Refusal, Reply};
+use std::alloc::AllocError;
+
+// Appends the line of a refusal.
+#[tactic(auto, unfolding(crate::specs::Texts::refusal_line, crate::specs::Texts::line_end))]
+fn push_refusal(text: &mut String, refusal: Refusal) -> Result<(), AllocError>
+    ensures { OnOk result (string_bytes text.new ≡ string_bytes text.old ++ refusal_line refusal) }
+{
+    match refusal {
+        Refusal::Unknown(t) => writeln!(text, "refused unknown {}", t.0),
+        Refusal::Ended(t) => writeln!(text, "refused ended {}", t.0),
+        Refusal::NotRunning(t) => writeln!(text, "refused not running {}", t.0),
+        Refusal::Taken(t) => writeln!(text, "refused taken {}", t.0),
+        Refusal::Begun(t) => writeln!(text, "refused begun {}", t.0),
+        Refusal::NoObject(x) => writeln!(text, "refused no object {}", x.0),
+        Refusal::Same => writeln!(text, "refused same"),
+        Refusal::Cycle => writeln!(text, "refused cycle"),
+        Refusal::TooLate(t) => writeln!(text, "refused too late {}", t.0),
+    }
+}
+
+// Appends the line of a reply.
+#[tactic(auto, unfolding(crate::specs::Texts::reply_line, crate::specs::Texts::line_end))]
+fn push_reply(text: &mut String, reply: Reply) -> Result<(), AllocError>
+    ensures { OnOk result (string_bytes text.new ≡ string_bytes text.old ++ reply_line reply) }
+{
+    match reply {
+        Reply::Done => writeln!(text, "ok"),
+        Reply::Value(v) => writeln!(text, "{v}"),
+        Reply::Committed => writeln!(text, "committed"),
+        Reply::Aborted => writeln!(text, "aborted"),
+        Reply::Refused(refusal) => push_refusal(text, refusal),
+    }
+}
+
+/// Appends the line of what became of a step.
+#[tactic(auto, unfolding(crate::specs::Texts::outcome_line, crate::specs::Texts::line_end))]
+pub fn push_outcome(text: &mut String, outcome: Outcome) -> Result<(), AllocError>
+    ensures { OnOk result (string_bytes text.new ≡ string_bytes text.old ++ outcome_line outcome) }
+{
+    match outcome {
+        Outcome::Answer(reply) => push_reply(text, reply),
+        Outcome::Wait => writeln!(text, "wait"),
+    }
+}
+
+/// Appends the line of a step for which the history has no room.
+#[tactic(auto, unfolding(crate::specs::Texts::full_line, crate::specs::Texts::line_end))]
+pub fn push_full(text: &mut String) -> Result<(), AllocError>
+    ensures { OnOk result (string_bytes text.new ≡ string_bytes text.old ++ full_line) }
+{
+    writeln!(text, "full")
+}
+
+/// Appends the line that a bad line is answered with, which gives its number.
+#[tactic(auto, unfolding(crate::specs::Texts::bad_line, crate::specs::Texts::line_end))]
+pub fn push_bad_line(text: &mut String, number: u64) -> Result<(), AllocError>
+    ensures { OnOk result (string_bytes text.new ≡ string_bytes text.old ++ bad_line number) }
+{
+    writeln!(text, "line {number}: bad command")
+}
