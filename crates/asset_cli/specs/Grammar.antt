@@ -23,7 +23,7 @@ ob n = record { 0 = n }
 
 -- What a keyword asks with these arguments.
 unfoldable pub command_by : Keyword → List (List ℕ) → Option Command
-command_by Keyword'.Object arguments = option_map (λ (a : ℕ × ℤ). Command'.Object (ob a.0) a.1) (number_and_value arguments)
+command_by Keyword'.Object arguments = option_map Command'.Object (object_and_value arguments)
 command_by Keyword'.Initiate arguments =
     option_map (λ (n : ℕ × Option ℕ). Command'.Ask (Step'.Initiate (txn n.0) (option_map txn n.1))) (one_or_two_numbers arguments)
 command_by Keyword'.Begin arguments = option_map (λ n. Command'.Ask (Step'.Begin (txn n))) (one_number arguments)

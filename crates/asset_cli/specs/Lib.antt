@@ -7,3 +7,7 @@ pub mod Keywords
 pub mod Arguments
 pub mod Grammar
 pub mod Texts
+pub mod Transcript
+pub mod Telling
+pub mod Preamble
+pub mod Runs

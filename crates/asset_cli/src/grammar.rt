@@ -16,7 +16,7 @@ const LONGEST_LINE: usize = 4096;
 #[derive(Clone, Copy, Debug, PartialEq, Eq)]
 pub enum Command {
     /// Adds an object with this value to the opening.
-    Object { x: Ob, v: i64 },
+    Object((Ob, i64)),
     /// Asks for a step.
     Ask(Step),
 }

@@ -4,17 +4,21 @@
 
 mod arguments;
 mod device;
+mod ends;
 mod faults;
 mod grammar;
 mod keywords;
 mod lines;
 mod numbers;
+mod preamble;
 mod reading;
+mod telling;
 mod texts;
 mod words;
 mod writing;
 
 pub use device::Device;
+pub use ends::RunEnd;
 pub use faults::ScriptFault;
 pub use grammar::{Command, Line};
 pub use lines::split_line;

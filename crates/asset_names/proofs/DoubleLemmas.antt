@@ -2,8 +2,8 @@
 use Rattle.std.proofs.Common.{◌≡◌, ℕ, ◌+◌, ◌≤◌, ◌<◌, Bool, true, false, cond, eqb, ltb, leb, ◌||◌, List, [], ◌∷◌, ◌++◌, length, get_or, take, map, refl, sym, ◌∙◌, ap, subst, arith, inl, inr, Some, None, IfSome, IfNone}
 use Rattle.std.specs.Prelude.{Option}
 use Rattle.std.specs.List.{list_any, count_by}
-use Rattle.std.proofs.lemmas.List.Sums.{sum_by-cons}
-use Rattle.std.proofs.lemmas.Bool.{or_cases, or_parts, eqb-true, leb-true, ltb-true, ltb-false, false≢true}
+use Rattle.std.proofs.lemmas.List.Sums.{sum_by-cons, sum_by_push}
+use Rattle.std.proofs.lemmas.Bool.{or_cases, or_parts, eqb-true, leb-true, leb-false, lt-leb, ltb-true, ltb-false, false≢true}
 use Rattle.std.proofs.lemmas.List.{take_more, map-append}
 use Rattle.asset_names.specs.declared.names.Ob.{Ob}
 use Rattle.asset_names.specs.Arrows.{lists}
@@ -100,3 +100,13 @@ pub lists_numbers : (objects : List Ob) (n : ℕ) → lists (numbers objects) n 
 unfolding lists numbers
 lists_numbers [] n = refl
 lists_numbers (o ∷ objects) n = ap (λ b. eqb o.0 n || b) (lists_numbers objects n)
+
+-- one more number that was not listed makes no double
+pub no_double_push : (listed : List ℕ) (n : ℕ) → lists listed n ≡ false → HasNoDouble listed → HasNoDouble (listed ++ n ∷ [])
+unfolding HasNoDouble twice
+no_double_push listed n new none = λ m. rw (sum_by_push (λ k. cond (eqb k m) 1 0) listed n) (go m (eqb n m) refl) where
+  go : (m : ℕ) (same : Bool) → eqb n m ≡ same → leb 2 (count_by (λ k. eqb k m) listed + cond same 1 0) ≡ false
+  go m true e =
+      let zero_of : count_by (λ k. eqb k m) listed ≡ 0 = count_by-unlisted listed m (subst (λ k. lists listed k ≡ false) (eqb-true n m e) new) in
+      rw zero_of refl
+  go m false e = lt-leb 2 _ (omega (arith, leb-false 2 (count_by (λ k. eqb k m) listed) (none m)))

@@ -11,7 +11,7 @@ fn lines_that_ask(rt: HostRuntime) {
         parent: Some(t),
     };
     let cases: [(&str, Command); 8] = [
-        ("object 1 -100", Command::Object { x, v: -100 }),
+        ("object 1 -100", Command::Object((x, -100))),
         (
             "initiate 7",
             Command::Ask(Step::Initiate { t, parent: None }),

@@ -1,0 +1,85 @@
+//! What a script says, and what the facility answers: the text, and how the run ends. No input and
+//! no output is made here.
+ghost use Rattle.std.specs.Bool.{OnTrue, OnFalse};
+ghost use Rattle.std.specs.Prelude.{◌≡◌, ℕ, ◌+◌, ◌^◌, ◌<◌, false, List, ◌∷◌, ◌++◌, length, IfOk, OnOk, IfErr, string_bytes};
+ghost use Rattle.asset_core.specs.Recorded.{answer_to};
+ghost use Rattle.asset_core.specs.OpenFaults.{IsCapacity};
+ghost use Rattle.asset_cli.specs.Lines.{lines};
+ghost use Rattle.asset_cli.specs.Transcript.{told_outcome, joined_by, steps_told, transcript};
+ghost use Rattle.asset_cli.specs.Telling.{GoesOn, Ends};
+
+use crate::ends::RunEnd;
+use crate::faults::ScriptFault;
+use crate::grammar::{Command, Line};
+use crate::lines::split_line;
+use crate::texts::{push_bad_line, push_full, push_outcome};
+use asset_core::Core;
+use asset_names::{Fault, Step};
+
+/// Asks one step, and adds the line of its outcome to the text.
+#[tactic(auto, unfolding(crate::specs::Transcript::told_outcome, crate::specs::Transcript::joined_by))]
+fn ask(core: &mut Core, text: &mut String, step: Step) -> Result<(), ScriptFault>
+    ensures text { OnOk result (string_bytes text.new ≡ string_bytes text.old ++ told_outcome core.old (answer_to core.old step)) }
+    ensures history { OnOk result (core.new ≡ joined_by core.old step (answer_to core.old step)) }
+    ensures memory { IfErr result (λ fault. fault ≡ ScriptFault.NoMemory) }
+{
+    match core.step(step) {
+        Ok(outcome) => push_outcome(text, outcome)?,
+        Err(Fault::Full) => push_full(text)?,
+        Err(Fault::NoMemory) => return Err(ScriptFault::NoMemory),
+    }
+    Ok(())
+}
+
+/// Tells what one line among the steps prints, and whether the run goes on.
+fn tell_line(
+    core: &mut Core,
+    text: &mut String,
+    line: &[u8],
+    number: u64,
+) -> Result<bool, ScriptFault>
+    ensures goes_on { IfOk result (λ goes_on. OnTrue goes_on ((more : List (List ℕ)) →
+        GoesOn (string_bytes text.old) (steps_told (line.now ∷ more) number core.old) (string_bytes text.new) (steps_told more (number + 1) core.new))) }
+    ensures stops { IfOk result (λ goes_on. OnFalse goes_on ((more : List (List ℕ)) →
+        Ends (string_bytes text.old) (steps_told (line.now ∷ more) number core.old) (string_bytes text.new) (RunEnd.BadLine number))) }
+    ensures memory { IfErr result (λ fault. fault ≡ ScriptFault.NoMemory) }
+{
+    match Line::parse(line) {
+        Line::Blank => Ok(true),
+        Line::Command(Command::Ask(step)) => {
+            ask(core, text, step)?;
+            Ok(true)
+        }
+        Line::Command(Command::Object(_)) => {
+            push_bad_line(text, number)?;
+            Ok(false)
+        }
+        Line::Bad => {
+            push_bad_line(text, number)?;
+            Ok(false)
+        }
+    }
+}
+
+/// Tells what the lines print from the first step on, where `first` is the number of the first line.
+fn tell_steps(
+    core: &mut Core,
+    text: &mut String,
+    bytes: &[u8],
+    first: u64,
+) -> Result<RunEnd, ScriptFault>
+    requires { first + length (lines bytes.now) < 2 ^ 64 }
+    ensures told { IfOk result (λ end. Ends (string_bytes text.old) (steps_told (lines bytes.now) first core.old) (string_bytes text.new) end) }
+    ensures memory { IfErr result (λ fault. fault ≡ ScriptFault.NoMemory) }
+{
+    let mut left = bytes;
+    let mut number = first;
+    'lines: while let Some((line, rest)) = split_line(left) {
+        if !tell_line(core, text, line, number)? {
+            return Ok(RunEnd::BadLine(number));
+        }
+        left = rest;
+        number += 1;
+    }
+    Ok(RunEnd::Finished)
+}
