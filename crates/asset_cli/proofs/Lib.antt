@@ -2,3 +2,4 @@ pub mod TransferLemmas
 pub mod LineLemmas
 pub mod NumberLemmas
 mod GrammarRows
+mod NumberLaws
