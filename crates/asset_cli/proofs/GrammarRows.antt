@@ -3,8 +3,8 @@ use Rattle.std.specs.Prelude.{◌≡◌, ◌++◌, [], ◌∷◌, None, Some, po
 use Rattle.asset_names.specs.declared.steps.Step.TheVariants as Step'
 use Rattle.asset_cli.specs.declared.grammar.Command.TheVariants.{Ask, Object}
 use Rattle.asset_cli.specs.declared.grammar.Line.TheVariants as Line'
-use Rattle.asset_cli.specs.Arguments.{both, all_three, one_number, one_or_two_numbers, number_and_value, two_numbers_and_value}
-use Rattle.asset_cli.specs.Grammar.{txn, ob, command_by, command_from, command_of, is_blank, line_by, line_of}
+use Rattle.asset_cli.specs.Arguments.{txn, ob, txn_of, ob_of, both, all_three, one_txn, txn_and_parent, object_and_value, txn_object_and_value}
+use Rattle.asset_cli.specs.Grammar.{step_by, object_command, step_command, command_from, command_of, is_blank, line_by, line_of}
 use Rattle.asset_cli.specs.Keywords.{keyword_text, all_keywords, keyword_of}
 use Rattle.asset_cli.specs.Lines.{lines}
 use Rattle.asset_cli.specs.Numbers.{is_numeral, number_of, positive_value, negative_value, value_of}
@@ -72,36 +72,36 @@ leading_zero_after_the_sign : value_of (codes "-01") ≡ None
 unfolding value_of number_of is_numeral
 leading_zero_after_the_sign = refl
 
-object_line : line_of (codes "object 1 -5") ≡ Line'.Command (Object (ob 1, negsuc 4))
-unfolding line_of line_by is_blank command_of command_from command_by words keyword_of keyword_text all_keywords number_and_value both value_of negative_value number_of is_numeral
+object_line : line_of (codes "object 1 -5") ≡ Line'.Command (Object (ob 1) (negsuc 4))
+unfolding line_of line_by is_blank command_of command_from object_command words object_and_value both ob_of value_of negative_value number_of is_numeral
 object_line = refl
 
 child_line : line_of (codes "initiate 8 7") ≡ Line'.Command (Ask (Step'.Initiate (txn 8) (Some (txn 7))))
-unfolding line_of line_by is_blank command_of command_from command_by words keyword_of keyword_text all_keywords one_or_two_numbers both number_of is_numeral
+unfolding line_of line_by is_blank command_of command_from step_command step_by words keyword_of keyword_text all_keywords txn_and_parent both txn_of number_of is_numeral
 child_line = refl
 
 write_line : line_of (codes "write 7 1 50") ≡ Line'.Command (Ask (Step'.Write (txn 7) (ob 1) (pos 50)))
-unfolding line_of line_by is_blank command_of command_from command_by words keyword_of keyword_text all_keywords two_numbers_and_value all_three value_of positive_value number_of is_numeral
+unfolding line_of line_by is_blank command_of command_from step_command step_by words keyword_of keyword_text all_keywords txn_object_and_value all_three txn_of ob_of value_of positive_value number_of is_numeral
 write_line = refl
 
 two_spaces : line_of (codes "begin  7") ≡ Line'.Bad
-unfolding line_of line_by is_blank command_of command_from command_by words keyword_of keyword_text all_keywords one_number number_of is_numeral
+unfolding line_of line_by is_blank command_of command_from step_command step_by words keyword_of keyword_text all_keywords one_txn txn_of number_of is_numeral
 two_spaces = refl
 
 space_at_the_end : line_of (codes "begin 7 ") ≡ Line'.Bad
-unfolding line_of line_by is_blank command_of command_from command_by words keyword_of keyword_text all_keywords one_number number_of is_numeral
+unfolding line_of line_by is_blank command_of command_from step_command step_by words keyword_of keyword_text all_keywords one_txn txn_of number_of is_numeral
 space_at_the_end = refl
 
 space_at_the_start : line_of (codes " begin 7") ≡ Line'.Bad
-unfolding line_of line_by is_blank command_of command_from words keyword_of keyword_text all_keywords
+unfolding line_of line_by is_blank command_of command_from step_command words keyword_of keyword_text all_keywords
 space_at_the_start = refl
 
 carriage_return : line_of (codes "begin 7" ++ 13 ∷ []) ≡ Line'.Bad
-unfolding line_of line_by is_blank command_of command_from command_by words keyword_of keyword_text all_keywords one_number number_of is_numeral
+unfolding line_of line_by is_blank command_of command_from step_command step_by words keyword_of keyword_text all_keywords one_txn txn_of number_of is_numeral
 carriage_return = refl
 
 upper_case : line_of (codes "Begin 7") ≡ Line'.Bad
-unfolding line_of line_by is_blank command_of command_from words keyword_of keyword_text all_keywords
+unfolding line_of line_by is_blank command_of command_from step_command words keyword_of keyword_text all_keywords
 upper_case = refl
 
 empty_line : line_of [] ≡ Line'.Blank

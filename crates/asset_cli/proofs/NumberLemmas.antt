@@ -15,15 +15,15 @@ use Rattle.asset_cli.specs.Numbers.{is_numeral, number_of}
 digits_test : IsDigitsTest (λ ds. list_all is_ascii_digit ds ≡ true)
 digits_test = search rules
 
-own : IsNumeralModel (λ ds. list_all is_ascii_digit ds ≡ true) (digits_value 10)
+pub own : IsNumeralModel (λ ds. list_all is_ascii_digit ds ≡ true) (digits_value 10)
 own = numerals_by_value _ digits_test
 
-left_of : (a b : Bool) → (a && b) ≡ true → a ≡ true
+pub left_of : (a b : Bool) → (a && b) ≡ true → a ≡ true
 left_of true b h = refl
 left_of false b h = h
 
 -- a numeral has digits alone, at least one
-numeral_parts : (text : List ℕ) → is_numeral text ≡ true → (list_all is_ascii_digit text ≡ true) × (0 < length text)
+pub numeral_parts : (text : List ℕ) → is_numeral text ≡ true → (list_all is_ascii_digit text ≡ true) × (0 < length text)
 unfolding is_numeral
 numeral_parts [] h = absurd (cc)
 numeral_parts (first ∷ rest) h = (left_of _ _ h, omega arith)

@@ -1,42 +1,41 @@
 -- What a line of a script says.
-use Rattle.std.specs.Prelude.{ℕ, ◌==◌, Bool, true, cond, nat_lt, List, [], ◌∷◌, length, Option, None, Some, option_and_then, option_map, ℤ}
+use Rattle.std.specs.Prelude.{ℕ, ◌==◌, Bool, true, cond, nat_lt, List, [], ◌∷◌, length, Option, None, Some, option_and_then, option_map, ℤ, codes}
+use Rattle.std.specs.Str.{bytes_eq}
 use Rattle.asset_names.specs.declared.names.Txn.{Txn}
 use Rattle.asset_names.specs.declared.names.Ob.{Ob}
+use Rattle.asset_names.specs.declared.steps.Step.{Step}
 use Rattle.asset_names.specs.declared.steps.Step.TheVariants as Step'
 use Rattle.asset_cli.specs.declared.keywords.Keyword.{Keyword}
-use Rattle.asset_cli.specs.declared.keywords.Keyword.TheVariants as Keyword'
+use Rattle.asset_cli.specs.declared.keywords.Keyword.TheVariants.{Initiate, Begin, Read, Write, Complete, Commit}
 use Rattle.asset_cli.specs.declared.grammar.Command.{Command}
-use Rattle.asset_cli.specs.declared.grammar.Command.TheVariants as Command'
+use Rattle.asset_cli.specs.declared.grammar.Command.TheVariants.{Object, Ask}
 use Rattle.asset_cli.specs.declared.grammar.Line.{Line}
 use Rattle.asset_cli.specs.declared.grammar.Line.TheVariants as Line'
 use Rattle.asset_cli.specs.Words.{words}
 use Rattle.asset_cli.specs.Keywords.{keyword_of}
-use Rattle.asset_cli.specs.Arguments.{one_number, one_or_two_numbers, two_numbers, number_and_value, two_numbers_and_value}
+use Rattle.asset_cli.specs.Arguments.{object_and_value, one_txn, txn_and_object, txn_and_parent, txn_object_and_value}
 
--- the transaction of a number
-abbrev pub txn : ℕ → Txn
-txn n = record { 0 = n }
+-- The step that a keyword asks for with these arguments.
+unfoldable pub step_by : Keyword → List (List ℕ) → Option Step
+step_by Initiate arguments = option_map (λ (a : Txn × Option Txn). Step'.Initiate a.0 a.1) (txn_and_parent arguments)
+step_by Begin arguments = option_map Step'.Begin (one_txn arguments)
+step_by Read arguments = option_map (λ (a : Txn × Ob). Step'.Read a.0 a.1) (txn_and_object arguments)
+step_by Write arguments = option_map (λ (a : Txn × Ob × ℤ). Step'.Write a.0 a.1 a.2) (txn_object_and_value arguments)
+step_by Complete arguments = option_map Step'.Complete (one_txn arguments)
+step_by Commit arguments = option_map Step'.Commit (one_txn arguments)
 
--- the object of a number
-abbrev pub ob : ℕ → Ob
-ob n = record { 0 = n }
+-- What the words of an object line say after the first one: the object and its value.
+unfoldable pub object_command : List (List ℕ) → Option Command
+object_command arguments = option_map (λ (a : Ob × ℤ). Object a.0 a.1) (object_and_value arguments)
 
--- What a keyword asks with these arguments.
-unfoldable pub command_by : Keyword → List (List ℕ) → Option Command
-command_by Keyword'.Object arguments = option_map Command'.Object (object_and_value arguments)
-command_by Keyword'.Initiate arguments =
-    option_map (λ (n : ℕ × Option ℕ). Command'.Ask (Step'.Initiate (txn n.0) (option_map txn n.1))) (one_or_two_numbers arguments)
-command_by Keyword'.Begin arguments = option_map (λ n. Command'.Ask (Step'.Begin (txn n))) (one_number arguments)
-command_by Keyword'.Read arguments = option_map (λ (n : ℕ × ℕ). Command'.Ask (Step'.Read (txn n.0) (ob n.1))) (two_numbers arguments)
-command_by Keyword'.Write arguments =
-    option_map (λ (a : ℕ × ℕ × ℤ). Command'.Ask (Step'.Write (txn a.0) (ob a.1) a.2)) (two_numbers_and_value arguments)
-command_by Keyword'.Complete arguments = option_map (λ n. Command'.Ask (Step'.Complete (txn n))) (one_number arguments)
-command_by Keyword'.Commit arguments = option_map (λ n. Command'.Ask (Step'.Commit (txn n))) (one_number arguments)
+-- What the words of a step line say: a keyword and its arguments.
+unfoldable pub step_command : List ℕ → List (List ℕ) → Option Command
+step_command word arguments = option_and_then (λ keyword. option_map Ask (step_by keyword arguments)) (keyword_of word)
 
--- What words ask: the first one is a keyword, and the others are its arguments.
+-- What the words of a line say. The first one tells object lines from step lines.
 unfoldable pub command_from : List (List ℕ) → Option Command
 command_from [] = None
-command_from (word ∷ arguments) = option_and_then (λ keyword. command_by keyword arguments) (keyword_of word)
+command_from (word ∷ arguments) = cond (bytes_eq word (codes "object")) (object_command arguments) (step_command word arguments)
 
 -- What a line asks.
 unfoldable pub command_of : List ℕ → Option Command

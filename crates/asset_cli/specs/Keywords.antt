@@ -1,12 +1,11 @@
--- The first words of commands.
+-- The first words of step lines.
 use Rattle.std.specs.Prelude.{ℕ, List, [], ◌∷◌, Option, find, codes}
 use Rattle.std.specs.Str.{bytes_eq}
 use Rattle.asset_cli.specs.declared.keywords.Keyword.{Keyword}
-use Rattle.asset_cli.specs.declared.keywords.Keyword.TheVariants.{Object, Initiate, Begin, Read, Write, Complete, Commit}
+use Rattle.asset_cli.specs.declared.keywords.Keyword.TheVariants.{Initiate, Begin, Read, Write, Complete, Commit}
 
 -- How a keyword is written.
 unfoldable pub keyword_text : Keyword → List ℕ
-keyword_text Object = codes "object"
 keyword_text Initiate = codes "initiate"
 keyword_text Begin = codes "begin"
 keyword_text Read = codes "read"
@@ -16,7 +15,7 @@ keyword_text Commit = codes "commit"
 
 -- Every keyword.
 unfoldable pub all_keywords : List Keyword
-all_keywords = Object ∷ Initiate ∷ Begin ∷ Read ∷ Write ∷ Complete ∷ Commit ∷ []
+all_keywords = Initiate ∷ Begin ∷ Read ∷ Write ∷ Complete ∷ Commit ∷ []
 
 -- The keyword that a word writes.
 unfoldable pub keyword_of : List ℕ → Option Keyword

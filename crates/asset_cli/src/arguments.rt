@@ -1,66 +1,85 @@
-//! The shapes of a command's arguments.
+//! The shapes of arguments: how the words after a keyword are read, all of them.
 ghost use Rattle.std.specs.Prelude.{◌≡◌};
-ghost use Rattle.asset_cli.specs.Arguments.{number_and_value, one_number, one_or_two_numbers, two_numbers, two_numbers_and_value};
+ghost use Rattle.asset_cli.specs.Arguments.{ob_of, object_and_value, one_txn, txn_and_object, txn_and_parent, txn_object_and_value, txn_of};
 
 use crate::numbers::{parse_number, parse_value};
 use crate::words::Words;
+use asset_names::{Ob, Txn};
 
-/// One number.
-#[tactic(auto, unfolding(crate::specs::Arguments::one_number))]
-pub(crate) fn parse_one_number(mut words: Words<'_>) -> Option<u64>
-    ensures { result ≡ one_number words.entry }
+// The transaction that a word names.
+#[tactic(auto, unfolding(crate::specs::Arguments::txn_of))]
+fn parse_txn(word: &[u8]) -> Option<Txn>
+    ensures { result ≡ txn_of word.now }
 {
-    let (Some(a), None) = (words.next(), words.next()) else {
-        return None;
-    };
-    parse_number(a)
+    parse_number(word).map(Txn)
 }
 
-/// One number, and perhaps another.
-#[tactic(auto, unfolding(crate::specs::Arguments::both, crate::specs::Arguments::one_or_two_numbers))]
-pub(crate) fn parse_one_or_two_numbers(mut words: Words<'_>) -> Option<(u64, Option<u64>)>
-    ensures { result ≡ one_or_two_numbers words.entry }
+// The object that a word names.
+#[tactic(auto, unfolding(crate::specs::Arguments::ob_of))]
+fn parse_ob(word: &[u8]) -> Option<Ob>
+    ensures { result ≡ ob_of word.now }
 {
-    let (Some(a), b, None) = (words.next(), words.next(), words.next()) else {
-        return None;
-    };
-    let first = parse_number(a)?;
-    match b {
-        None => Some((first, None)),
-        Some(b) => Some((first, Some(parse_number(b)?))),
+    parse_number(word).map(Ob)
+}
+
+impl Words<'_> {
+    /// One transaction.
+    #[tactic(auto, unfolding(crate::specs::Arguments::one_txn))]
+    pub(crate) fn one_txn(mut self) -> Option<Txn>
+        ensures { result ≡ one_txn self.entry }
+    {
+        let (Some(t), None) = (self.next(), self.next()) else {
+            return None;
+        };
+        parse_txn(t)
     }
-}
 
-/// Two numbers.
-#[tactic(auto, unfolding(crate::specs::Arguments::both, crate::specs::Arguments::two_numbers))]
-pub(crate) fn parse_two_numbers(mut words: Words<'_>) -> Option<(u64, u64)>
-    ensures { result ≡ two_numbers words.entry }
-{
-    let (Some(a), Some(b), None) = (words.next(), words.next(), words.next()) else {
-        return None;
-    };
-    Some((parse_number(a)?, parse_number(b)?))
-}
+    /// A transaction, and perhaps its parent.
+    #[tactic(auto, unfolding(crate::specs::Arguments::both, crate::specs::Arguments::txn_and_parent))]
+    pub(crate) fn txn_and_parent(mut self) -> Option<(Txn, Option<Txn>)>
+        ensures { result ≡ txn_and_parent self.entry }
+    {
+        let (Some(t), parent, None) = (self.next(), self.next(), self.next()) else {
+            return None;
+        };
+        let t = parse_txn(t)?;
+        match parent {
+            None => Some((t, None)),
+            Some(parent) => Some((t, Some(parse_txn(parent)?))),
+        }
+    }
 
-/// A number and a value.
-#[tactic(auto, unfolding(crate::specs::Arguments::both, crate::specs::Arguments::number_and_value))]
-pub(crate) fn parse_number_and_value(mut words: Words<'_>) -> Option<(u64, i64)>
-    ensures { result ≡ number_and_value words.entry }
-{
-    let (Some(a), Some(v), None) = (words.next(), words.next(), words.next()) else {
-        return None;
-    };
-    Some((parse_number(a)?, parse_value(v)?))
-}
+    /// A transaction and an object.
+    #[tactic(auto, unfolding(crate::specs::Arguments::both, crate::specs::Arguments::txn_and_object))]
+    pub(crate) fn txn_and_object(mut self) -> Option<(Txn, Ob)>
+        ensures { result ≡ txn_and_object self.entry }
+    {
+        let (Some(t), Some(x), None) = (self.next(), self.next(), self.next()) else {
+            return None;
+        };
+        Some((parse_txn(t)?, parse_ob(x)?))
+    }
 
-/// Two numbers and a value.
-#[tactic(auto, unfolding(crate::specs::Arguments::all_three, crate::specs::Arguments::two_numbers_and_value))]
-pub(crate) fn parse_two_numbers_and_value(mut words: Words<'_>) -> Option<(u64, u64, i64)>
-    ensures { result ≡ two_numbers_and_value words.entry }
-{
-    let (Some(a), Some(b), Some(v), None) = (words.next(), words.next(), words.next(), words.next())
-    else {
-        return None;
-    };
-    Some((parse_number(a)?, parse_number(b)?, parse_value(v)?))
+    /// An object and a value.
+    #[tactic(auto, unfolding(crate::specs::Arguments::both, crate::specs::Arguments::object_and_value))]
+    pub(crate) fn object_and_value(mut self) -> Option<(Ob, i64)>
+        ensures { result ≡ object_and_value self.entry }
+    {
+        let (Some(x), Some(v), None) = (self.next(), self.next(), self.next()) else {
+            return None;
+        };
+        Some((parse_ob(x)?, parse_value(v)?))
+    }
+
+    /// A transaction, an object and a value.
+    #[tactic(auto, unfolding(crate::specs::Arguments::all_three, crate::specs::Arguments::txn_object_and_value))]
+    pub(crate) fn txn_object_and_value(mut self) -> Option<(Txn, Ob, i64)>
+        ensures { result ≡ txn_object_and_value self.entry }
+    {
+        let (Some(t), Some(x), Some(v), None) = (self.next(), self.next(), self.next(), self.next())
+        else {
+            return None;
+        };
+        Some((parse_txn(t)?, parse_ob(x)?, parse_value(v)?))
+    }
 }

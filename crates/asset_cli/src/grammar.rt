@@ -1,13 +1,12 @@
 //! What the lines of a script say.
 ghost use Rattle.std.specs.Prelude.{◌≡◌};
 
-use crate::arguments::{
-    parse_number_and_value, parse_one_number, parse_one_or_two_numbers, parse_two_numbers,
-    parse_two_numbers_and_value,
-};
 use crate::keywords::Keyword;
 use crate::words::Words;
-use asset_names::{Ob, Step, Txn};
+use asset_names::{Ob, Step};
+
+// The first word of an object line.
+const OBJECT: &[u8] = b"object";
 
 // The most bytes that a line may have.
 const LONGEST_LINE: usize = 4096;
@@ -22,51 +21,25 @@ pub enum Command {
 }
 
 impl Command {
-    ghost use Rattle.asset_cli.specs.Grammar.{command_by, command_of};
+    ghost use Rattle.asset_cli.specs.Grammar.{command_of, object_command, step_command};
 
-    // What a keyword asks with these arguments.
-    #[tactic(auto, unfolding(crate::specs::Grammar::command_by))]
-    fn with_arguments(keyword: Keyword, arguments: Words<'_>) -> Option<Command>
-        ensures { result ≡ command_by keyword arguments.entry }
+    // What the words of an object line say after the first one.
+    #[tactic(auto, unfolding(crate::specs::Grammar::object_command))]
+    fn object(arguments: Words<'_>) -> Option<Command>
+        ensures { result ≡ object_command arguments.entry }
     {
-        let step = match keyword {
-            Keyword::Object => {
-                let (x, v) = parse_number_and_value(arguments)?;
-                return Some(Command::Object { x: Ob(x), v });
-            }
-            Keyword::Initiate => {
-                let (t, parent) = parse_one_or_two_numbers(arguments)?;
-                Step::Initiate {
-                    t: Txn(t),
-                    parent: parent.map(Txn),
-                }
-            }
-            Keyword::Begin => Step::Begin {
-                t: Txn(parse_one_number(arguments)?),
-            },
-            Keyword::Read => {
-                let (t, x) = parse_two_numbers(arguments)?;
-                Step::Read {
-                    t: Txn(t),
-                    x: Ob(x),
-                }
-            }
-            Keyword::Write => {
-                let (t, x, v) = parse_two_numbers_and_value(arguments)?;
-                Step::Write {
-                    t: Txn(t),
-                    x: Ob(x),
-                    v,
-                }
-            }
-            Keyword::Complete => Step::Complete {
-                t: Txn(parse_one_number(arguments)?),
-            },
-            Keyword::Commit => Step::Commit {
-                t: Txn(parse_one_number(arguments)?),
-            },
-        };
-        Some(Command::Ask(step))
+        arguments
+            .object_and_value()
+            .map(|(x, v)| Command::Object { x, v })
+    }
+
+    // What the words of a step line say.
+    #[tactic(auto, unfolding(crate::specs::Grammar::step_command))]
+    fn ask(word: &[u8], arguments: Words<'_>) -> Option<Command>
+        ensures { result ≡ step_command word.now arguments.entry }
+    {
+        let keyword = Keyword::of(word)?;
+        keyword.step(arguments).map(Command::Ask)
     }
 
     // What a line asks.
@@ -75,8 +48,12 @@ impl Command {
         ensures { result ≡ command_of line.now }
     {
         let mut words = Words::new(line);
-        let keyword = Keyword::of(words.next()?)?;
-        Command::with_arguments(keyword, words)
+        let first = words.next()?;
+        if first == OBJECT {
+            Command::object(words)
+        } else {
+            Command::ask(first, words)
+        }
     }
 }
 

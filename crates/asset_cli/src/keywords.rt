@@ -1,10 +1,12 @@
-//! The first words of commands.
+//! The first words of step lines.
 ghost use Rattle.std.specs.Prelude.{◌≡◌};
 
-/// The first word of a command.
+use crate::words::Words;
+use asset_names::Step;
+
+/// The first word of a step line.
 #[derive(Clone, Copy, Debug, PartialEq, Eq)]
 pub(crate) enum Keyword {
-    Object,
     Initiate,
     Begin,
     Read,
@@ -14,10 +16,10 @@ pub(crate) enum Keyword {
 }
 
 impl Keyword {
+    ghost use Rattle.asset_cli.specs.Grammar.{step_by};
     ghost use Rattle.asset_cli.specs.Keywords.{keyword_of, keyword_text};
 
-    const ALL: [Keyword; 7] = [
-        Keyword::Object,
+    const ALL: [Keyword; 6] = [
         Keyword::Initiate,
         Keyword::Begin,
         Keyword::Read,
@@ -32,7 +34,6 @@ impl Keyword {
         ensures { result.now ≡ keyword_text self }
     {
         match self {
-            Keyword::Object => b"object",
             Keyword::Initiate => b"initiate",
             Keyword::Begin => b"begin",
             Keyword::Read => b"read",
@@ -51,5 +52,24 @@ impl Keyword {
             .iter()
             .copied()
             .find(|keyword| keyword.text() == word)
+    }
+
+    /// The step that the keyword asks for with these arguments.
+    #[tactic(auto, unfolding(crate::specs::Grammar::step_by))]
+    pub(crate) fn step(self, arguments: Words<'_>) -> Option<Step>
+        ensures { result ≡ step_by self arguments.entry }
+    {
+        match self {
+            Keyword::Initiate => arguments
+                .txn_and_parent()
+                .map(|(t, parent)| Step::Initiate { t, parent }),
+            Keyword::Begin => arguments.one_txn().map(|t| Step::Begin { t }),
+            Keyword::Read => arguments.txn_and_object().map(|(t, x)| Step::Read { t, x }),
+            Keyword::Write => arguments
+                .txn_object_and_value()
+                .map(|(t, x, v)| Step::Write { t, x, v }),
+            Keyword::Complete => arguments.one_txn().map(|t| Step::Complete { t }),
+            Keyword::Commit => arguments.one_txn().map(|t| Step::Commit { t }),
+        }
     }
 }
