@@ -72,7 +72,7 @@ leading_zero_after_the_sign : value_of (codes "-01") ≡ None
 unfolding value_of number_of is_numeral
 leading_zero_after_the_sign = refl
 
-object_line : line_of (codes "object 1 -5") ≡ Line'.Command (Object (ob 1) (negsuc 4))
+object_line : line_of (codes "object 1 -5") ≡ Line'.Command (Object (ob 1, negsuc 4))
 unfolding line_of line_by is_blank command_of command_from object_command words object_and_value both ob_of value_of negative_value number_of is_numeral
 object_line = refl
 

@@ -3,3 +3,6 @@ pub mod LineLemmas
 pub mod NumberLemmas
 mod GrammarRows
 mod NumberLaws
+pub mod ToldLemmas
+pub mod PreambleLemmas
+pub mod RunLemmas

@@ -72,3 +72,17 @@ words_cut line before after h = ap (slice_split (λ b. b == 32)) h.whole ∙ sli
 pub words_last : (line : List ℕ) → Lacks 32 line → words line ≡ line ∷ []
 unfolding words Lacks
 words_last line h = slice_split_none (λ b. b == 32) line h
+
+-- a byte on the first line makes at most one line more
+length-onto_first : (b n : ℕ) (parts : List (List ℕ)) → length parts ≤ n → length (onto_first b parts) ≤ n + 1
+length-onto_first b n [] short = omega arith
+length-onto_first b n (part ∷ parts) short = omega arith
+
+-- each line has a byte of its own: its line feed, or its first byte where it is the last
+pub length-lines : (bytes : List ℕ) → length (lines bytes) ≤ length bytes
+unfolding lines
+length-lines [] = omega arith
+length-lines (b ∷ bytes) = one_more (b == 10) (length-lines bytes) where
+  one_more : (feed : Bool) → length (lines bytes) ≤ length bytes → length (cond feed ([] ∷ lines bytes) (onto_first b (lines bytes))) ≤ length (b ∷ bytes)
+  one_more true short = omega arith
+  one_more false short = omega (arith, length-onto_first b (length bytes) (lines bytes) short)

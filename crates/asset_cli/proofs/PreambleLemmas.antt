@@ -1,18 +1,16 @@
 -- What one object line does.
-use Rattle.std.proofs.Common.{◌≡◌, ℕ, ◌+◌, ◌<◌, ◌≤◌, Bool, true, false, not, cond, eqb, leb, ◌||◌, List, [], ◌∷◌, ◌++◌, map, refl, sym, ◌∙◌, ap, arith}
-use Rattle.std.specs.Prelude.{ℤ, Option, Some, None, is_some, option_map, find}
-use Rattle.std.specs.List.{list_any, count_by}
+use Rattle.std.proofs.Common.{◌≡◌, ℕ, Bool, true, false, cond, eqb, ◌||◌, List, [], ◌∷◌, ◌++◌, refl, ◌∙◌, ap}
+use Rattle.std.specs.Prelude.{ℤ, Some, is_some, option_map, find}
+use Rattle.std.specs.List.{list_any}
 use Rattle.std.proofs.lemmas.List.{map-append}
-use Rattle.std.proofs.lemmas.List.Sums.{sum_by_push}
-use Rattle.std.proofs.lemmas.Bool.{eqb-true, eq-eqb, leb-false, lt-leb}
 use Rattle.asset_names.specs.declared.names.Ob.{Ob}
 use Rattle.asset_names.specs.declared.steps.Step.{Step}
 use Rattle.asset_names.specs.Steps.{Opening}
 use Rattle.asset_names.specs.Arrows.{lists}
-use Rattle.asset_names.specs.Sets.{twice, HasNoDouble}
+use Rattle.asset_names.specs.Sets.{HasNoDouble}
 use Rattle.asset_names.specs.Operations.{exists, opening_at}
 use Rattle.asset_names.proofs.DoubleLemmas.{no_double_push}
-use Rattle.asset_core.specs.Recorded.{objects_of, opened}
+use Rattle.asset_core.specs.Recorded.{objects_of}
 use Rattle.asset_cli.specs.declared.grammar.Command.TheVariants.{Object, Ask}
 use Rattle.asset_cli.specs.declared.grammar.Line.TheVariants.{Blank, Command}
 use Rattle.asset_cli.specs.declared.grammar.Line.TheVariants as Line'

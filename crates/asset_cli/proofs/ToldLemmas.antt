@@ -1,11 +1,10 @@
 -- What one line adds to what is told.
-use Rattle.std.proofs.Common.{◌≡◌, ℕ, ◌+◌, List, [], ◌∷◌, ◌++◌, refl, sym, ◌∙◌, ap, append_assoc, append-nil}
+use Rattle.std.proofs.Common.{◌≡◌, ℕ, ◌+◌, List, [], ◌∷◌, ◌++◌, refl, sym, ◌∙◌, append_assoc, append-nil}
 use Rattle.std.specs.Prelude.{ℤ}
 use Rattle.asset_names.specs.declared.names.Ob.{Ob}
 use Rattle.asset_names.specs.declared.steps.Step.{Step}
 use Rattle.asset_core.specs.Recorded.{Recorded, answer_to}
 use Rattle.asset_cli.specs.declared.grammar.Command.TheVariants.{Object, Ask}
-use Rattle.asset_cli.specs.declared.grammar.Line.{Line}
 use Rattle.asset_cli.specs.declared.grammar.Line.TheVariants.{Blank, Command, Bad}
 use Rattle.asset_cli.specs.declared.ends.RunEnd.TheVariants.{Finished, BadLine}
 use Rattle.asset_cli.specs.declared.ends.RunEnd.{RunEnd}

@@ -26,7 +26,7 @@ step_by Commit arguments = option_map Step'.Commit (one_txn arguments)
 
 -- What the words of an object line say after the first one: the object and its value.
 unfoldable pub object_command : List (List ℕ) → Option Command
-object_command arguments = option_map (λ (a : Ob × ℤ). Object a.0 a.1) (object_and_value arguments)
+object_command arguments = option_map Object (object_and_value arguments)
 
 -- What the words of a step line say: a keyword and its arguments.
 unfoldable pub step_command : List ℕ → List (List ℕ) → Option Command

@@ -6,7 +6,7 @@ use Rattle.asset_cli.specs.declared.faults.ScriptFault.TheVariants.{Read, Write,
 use Rattle.asset_cli.specs.declared.ends.RunEnd.{RunEnd}
 use Rattle.asset_cli.specs.Device.{DeviceState}
 use Rattle.asset_cli.specs.Transfers.{IsReadFault, TookFront, input_limit}
-use Rattle.asset_cli.specs.Transcript.{Told, transcript}
+use Rattle.asset_cli.specs.Transcript.{Told}
 
 -- these are all the bytes that the reader gave, up to its end
 pub record GaveAll {R : Type 0} (remaining : R → Option (List ℕ)) (old new : DeviceState R) (bytes : List ℕ) : Type 0 where

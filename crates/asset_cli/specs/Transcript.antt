@@ -1,6 +1,5 @@
 -- The transcript of a script: the text that its bytes give.
-use Rattle.std.specs.Prelude.{ℕ, ℤ, ◌+◌, cond, List, [], ◌∷◌, ◌++◌}
-use Rattle.asset_names.specs.declared.names.Ob.{Ob}
+use Rattle.std.specs.Prelude.{ℕ, ◌+◌, cond, List, [], ◌∷◌, ◌++◌}
 use Rattle.asset_names.specs.declared.steps.Step.{Step}
 use Rattle.asset_names.specs.declared.replies.Outcome.{Outcome}
 use Rattle.asset_names.specs.Steps.{Opening}

@@ -28,9 +28,7 @@ impl Command {
     fn object(arguments: Words<'_>) -> Option<Command>
         ensures { result ≡ object_command arguments.entry }
     {
-        arguments
-            .object_and_value()
-            .map(|(x, v)| Command::Object { x, v })
+        arguments.object_and_value().map(Command::Object)
     }
 
     // What the words of a step line say.

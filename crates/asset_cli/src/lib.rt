@@ -12,6 +12,7 @@ mod lines;
 mod numbers;
 mod preamble;
 mod reading;
+mod running;
 mod telling;
 mod texts;
 mod words;
@@ -23,6 +24,8 @@ pub use faults::ScriptFault;
 pub use grammar::{Command, Line};
 pub use lines::split_line;
 pub use reading::read_all;
+pub use running::run_script;
+pub use telling::tell;
 pub use texts::{push_bad_line, push_full, push_outcome};
 pub use writing::write_all;
 

@@ -26,6 +26,7 @@ pub(crate) enum Taken {
 }
 
 /// Where the object lines end.
+#[derive(Drop)]
 pub(crate) struct Preamble<'a> {
     /// The number of the line at which they end.
     pub number: u64,
@@ -97,11 +98,23 @@ pub(crate) fn take_objects<'a>(
     'lines: while let Some((line, rest)) = split_line(left) {
         match take_line(opening, line)? {
             Taken::More => {}
-            Taken::First => return Ok(Preamble { number, rest: left, is_bad: false }),
-            Taken::Bad => return Ok(Preamble { number, rest: left, is_bad: true }),
+            Taken::First => return Ok(Preamble {
+                number,
+                rest: left,
+                is_bad: false,
+            }),
+            Taken::Bad => return Ok(Preamble {
+                number,
+                rest: left,
+                is_bad: true,
+            }),
         }
         left = rest;
         number += 1;
     }
-    Ok(Preamble { number, rest: left, is_bad: false })
+    Ok(Preamble {
+        number,
+        rest: left,
+        is_bad: false,
+    })
 }

@@ -1,9 +1,11 @@
 //! What a script says, and what the facility answers: the text, and how the run ends. No input and
 //! no output is made here.
 ghost use Rattle.std.specs.Bool.{OnTrue, OnFalse};
-ghost use Rattle.std.specs.Prelude.{◌≡◌, ℕ, ◌+◌, ◌^◌, ◌<◌, false, List, ◌∷◌, ◌++◌, length, IfOk, OnOk, IfErr, string_bytes};
-ghost use Rattle.asset_core.specs.Recorded.{answer_to};
+ghost use Rattle.std.specs.Prelude.{◌≡◌, ℕ, ◌+◌, ◌^◌, ◌<◌, ◌≤◌, List, ◌∷◌, ◌++◌, length, IfOk, OnOk, IfErr, string_bytes};
+ghost use Rattle.asset_names.specs.Sets.{HasNoDouble};
+ghost use Rattle.asset_core.specs.Recorded.{answer_to, opened, objects_of};
 ghost use Rattle.asset_core.specs.OpenFaults.{IsCapacity};
+ghost use Rattle.asset_cli.specs.Transfers.{input_limit};
 ghost use Rattle.asset_cli.specs.Lines.{lines};
 ghost use Rattle.asset_cli.specs.Transcript.{told_outcome, joined_by, steps_told, transcript};
 ghost use Rattle.asset_cli.specs.Telling.{GoesOn, Ends};
@@ -12,9 +14,11 @@ use crate::ends::RunEnd;
 use crate::faults::ScriptFault;
 use crate::grammar::{Command, Line};
 use crate::lines::split_line;
+use crate::preamble::take_objects;
 use crate::texts::{push_bad_line, push_full, push_outcome};
-use asset_core::Core;
-use asset_names::{Fault, Step};
+use asset_core::{Core, OpenFault};
+use asset_names::{Fault, Ob, Step};
+use std::alloc::Global;
 
 /// Asks one step, and adds the line of its outcome to the text.
 #[tactic(auto, unfolding(crate::specs::Transcript::told_outcome, crate::specs::Transcript::joined_by))]
@@ -82,4 +86,39 @@ fn tell_steps(
         number += 1;
     }
     Ok(RunEnd::Finished)
+}
+
+/// The facility over objects of which none was given twice.
+fn open_over(alloc: Global, opening: &[(Ob, i64)], capacity: usize) -> Result<Core, ScriptFault>
+    requires capacity { IsCapacity capacity }
+    requires different { HasNoDouble (objects_of opening.now) }
+    ensures opened { IfOk result (λ core. core ≡ opened opening.now capacity) }
+    ensures memory { IfErr result (λ fault. fault ≡ ScriptFault.NoMemory) }
+{
+    match Core::open(alloc, opening, capacity) {
+        Ok(core) => Ok(core),
+        Err(OpenFault::NoMemory) => Err(ScriptFault::NoMemory),
+        Err(OpenFault::BadCapacity) => unreachable!(),
+        Err(OpenFault::DoubleObject(_)) => unreachable!(),
+    }
+}
+
+/// The transcript of a script: its text, and how its run ends.
+pub fn tell(alloc: Global, bytes: &[u8], capacity: usize) -> Result<(String, RunEnd), ScriptFault>
+    requires capacity { IsCapacity capacity }
+    requires limit { length bytes.now ≤ input_limit }
+    ensures text { IfOk result (λ told. string_bytes told.0 ≡ (transcript bytes.now capacity).text) }
+    ensures end { IfOk result (λ told. told.1 ≡ (transcript bytes.now capacity).end) }
+    ensures memory { IfErr result (λ fault. fault ≡ ScriptFault.NoMemory) }
+{
+    let mut opening = Vec::new(alloc);
+    let preamble = take_objects(&mut opening, bytes)?;
+    let mut text = String::new(alloc);
+    if preamble.is_bad {
+        push_bad_line(&mut text, preamble.number)?;
+        return Ok((text, RunEnd::BadLine(preamble.number)));
+    }
+    let mut core = open_over(alloc, &opening, capacity)?;
+    let end = tell_steps(&mut core, &mut text, preamble.rest, preamble.number)?;
+    Ok((text, end))
 }

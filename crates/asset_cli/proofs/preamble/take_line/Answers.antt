@@ -1,4 +1,4 @@
-use Rattle.std.proofs.Common.{◌≡◌, sym, ◌∙◌}
+use Rattle.std.proofs.Common.{sym, ◌∙◌}
 use Rattle.std.proofs.lemmas.Bool.{not-true, not-false}
 use Rattle.asset_cli.proofs.PreambleLemmas.{takes_blank, takes_object, takes_double, takes_step, takes_bad}
 use Rattle.asset_cli.proofs.preamble.take_line.Goals as goal

@@ -1,4 +1,4 @@
-use Rattle.std.proofs.Common.{◌≡◌, length, refl, sym, ◌∙◌, ap, arith}
+use Rattle.std.proofs.Common.{length, refl, ◌∙◌, ap, arith}
 use Rattle.asset_names.specs.Sets.{twice, HasNoDouble}
 use Rattle.asset_core.specs.Recorded.{objects_of}
 use Rattle.asset_cli.specs.Lines.{lines}
@@ -11,7 +11,7 @@ unfolding HasNoDouble twice objects_of
 lines-init c = record {
   told = λ capacity. rw c.requires.empty;
   count = refl;
-  different = rw c.requires.empty (λ m. refl)
+  different = rw c.requires.empty (λ m. refl);
 }
 
 pub returns-in-First-clause-told : goal.returns-in-First-clause-told
@@ -31,9 +31,9 @@ unfolding Takes
 lines-preserved c =
     let takes = rw c.in-More.is at c.in_ok-take_line.ensures.takes in
     record {
-    told = λ capacity. rw c.in-Some.ensures at (c.lines.invariant.told capacity) ∙ takes _ _ capacity;
-    count = omega (arith, c.lines.invariant.count, ap length c.in-Some.ensures);
-    different = c.in_ok-take_line.ensures.different c.lines.invariant.different
+      told = λ capacity. rw c.in-Some.ensures at (c.lines.invariant.told capacity) ∙ takes _ _ capacity;
+      count = omega (arith, c.lines.invariant.count, ap length c.in-Some.ensures);
+      different = c.in_ok-take_line.ensures.different c.lines.invariant.different;
     }
 
 pub returns-clause-told : goal.returns-clause-told

@@ -1,4 +1,4 @@
-use Rattle.std.proofs.Common.{◌≡◌, sym}
+use Rattle.std.proofs.Common.{sym}
 use Rattle.asset_cli.proofs.ToldLemmas.{blank_goes_on, ask_goes_on, object_ends, bad_ends}
 use Rattle.asset_cli.proofs.telling.tell_line.Goals as goal
 

@@ -1,4 +1,3 @@
-use Rattle.std.proofs.Common.{◌≡◌, sym}
 use Rattle.asset_cli.specs.Lines.{lines}
 use Rattle.asset_cli.proofs.ToldLemmas.{none_ends, ends_later}
 use Rattle.asset_cli.proofs.telling.tell_steps.Goals as goal
