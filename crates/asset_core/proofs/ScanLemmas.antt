@@ -6,11 +6,12 @@ use Rattle.asset_names.specs.declared.operations.Op.{Op}
 use Rattle.asset_names.specs.declared.statuses.End.{End}
 use Rattle.asset_names.specs.declared.statuses.End.TheVariants as End'
 use Rattle.asset_names.specs.declared.steps.Step.{Step}
-use Rattle.asset_names.specs.declared.steps.Step.TheVariants.{Initiate, Begin, Read, Write, Complete, Commit}
+use Rattle.asset_names.specs.declared.steps.Step.TheVariants.{Initiate, Begin, Read, Write, Complete, Commit, Abort, WaitFor}
 use Rattle.asset_names.specs.Arrows.{lists, linked, among}
 use Rattle.asset_names.specs.Steps.{Entry, carries_out, deeds, initiated, begun, completed}
 use Rattle.asset_names.specs.Endings.{live, status, status_of, end_of}
 use Rattle.asset_names.specs.Operations.{Operation, operations, operated, permits, reach, stands, value_after, after_use}
+use Rattle.asset_names.specs.Operations.Use.{reads, writes}
 use Rattle.asset_core.specs.Scans.{written_by, is_live_status}
 use Rattle.asset_core.proofs.PastLemmas.{deeds_carried, deeds_not_carried}
 
@@ -31,27 +32,29 @@ pub or_none : (p q : Bool) → q ≡ false → (p || q) ≡ p
 or_none p q h = grind arith
 
 -- the value after one more step
-value_at_step : (full : List Step) (x : ℕ) (first : ℤ) (step : Step) (past : List Step) →
-    value_after (stands full) x first (operations (step ∷ past)) ≡ unwrap_or (written_by step x) (value_after (stands full) x first (operations past))
-unfolding value_after stands operations operated after_use written_by
-value_at_step full x first (Initiate u parent) past = refl
-value_at_step full x first (Begin u) past = refl
-value_at_step full x first (Read u y) past = cond_same (eqb y.0 x && true) (value_after (stands full) x first (operations past))
-value_at_step full x first (Write u y v) past = go (eqb y.0 x) where
-  go : (same : Bool) → cond (same && true) v (value_after (stands full) x first (operations past)) ≡ unwrap_or (cond same (Some v) None) (value_after (stands full) x first (operations past))
+value_at_step : (counts : Operation → Bool) (x : ℕ) (first : ℤ) (step : Step) (past : List Step) →
+    value_after counts x first (operations (step ∷ past)) ≡ unwrap_or (written_by counts step x) (value_after counts x first (operations past))
+unfolding value_after operations operated after_use written_by
+value_at_step counts x first (Initiate u parent) past = refl
+value_at_step counts x first (Begin u) past = refl
+value_at_step counts x first (Read u y) past = cond_same (eqb y.0 x && counts (record { owner = u.0; object = y.0; use_of = reads })) (value_after counts x first (operations past))
+value_at_step counts x first (Write u y v) past = go (eqb y.0 x && counts (record { owner = u.0; object = y.0; use_of = writes v })) where
+  go : (same : Bool) → cond same v (value_after counts x first (operations past)) ≡ unwrap_or (cond same (Some v) None) (value_after counts x first (operations past))
   go true = refl
   go false = refl
-value_at_step full x first (Complete u) past = refl
-value_at_step full x first (Commit u) past = refl
+value_at_step counts x first (Complete u) past = refl
+value_at_step counts x first (Commit u) past = refl
+value_at_step counts x first (Abort u) past = refl
+value_at_step counts x first (WaitFor u) past = refl
 
-pub value_at_entry : (full : List Step) (x : ℕ) (first : ℤ) (entry : Entry) (older : List Entry) →
-    value_after (stands full) x first (operations (deeds (entry ∷ older)))
-    ≡ unwrap_or (cond (carries_out entry.0 entry.1) (written_by entry.0 x) None) (value_after (stands full) x first (operations (deeds older)))
-value_at_entry full x first entry older =
-    at_deeds (λ past. value_after (stands full) x first (operations past)) entry older ∙ go (carries_out entry.0 entry.1) where
-  go : (carried : Bool) → cond carried (value_after (stands full) x first (operations (entry.0 ∷ deeds older))) (value_after (stands full) x first (operations (deeds older)))
-      ≡ unwrap_or (cond carried (written_by entry.0 x) None) (value_after (stands full) x first (operations (deeds older)))
-  go true = value_at_step full x first entry.0 (deeds older)
+pub value_at_entry : (counts : Operation → Bool) (x : ℕ) (first : ℤ) (entry : Entry) (older : List Entry) →
+    value_after counts x first (operations (deeds (entry ∷ older)))
+    ≡ unwrap_or (cond (carries_out entry.0 entry.1) (written_by counts entry.0 x) None) (value_after counts x first (operations (deeds older)))
+value_at_entry counts x first entry older =
+    at_deeds (λ past. value_after counts x first (operations past)) entry older ∙ go (carries_out entry.0 entry.1) where
+  go : (carried : Bool) → cond carried (value_after counts x first (operations (entry.0 ∷ deeds older))) (value_after counts x first (operations (deeds older)))
+      ≡ unwrap_or (cond carried (written_by counts entry.0 x) None) (value_after counts x first (operations (deeds older)))
+  go true = value_at_step counts x first entry.0 (deeds older)
   go false = refl
 
 -- who is live, by the status
@@ -61,6 +64,7 @@ live_by_status past t = go (lists (initiated past) t) (lists (begun past) t) (li
   go : (i b c : Bool) (e : Option End) → (i && is_none e) ≡ is_live_status (status_of i b c e)
   go false b c e = refl
   go true b c (Some End'.Committed) = refl
+  go true b c (Some End'.Aborted) = refl
   go true b true None = refl
   go true true false None = refl
   go true false false None = refl
@@ -79,6 +83,8 @@ hindered_at_step test (Read u y) past = grind arith
 hindered_at_step test (Write u y v) past = grind arith
 hindered_at_step test (Complete u) past = refl
 hindered_at_step test (Commit u) past = refl
+hindered_at_step test (Abort u) past = refl
+hindered_at_step test (WaitFor u) past = refl
 
 pub hindered_at_entry : (test : Operation → Bool) (entry : Entry) (older : List Entry) →
     list_any test (operations (deeds (entry ∷ older))) ≡ ((carries_out entry.0 entry.1 && list_any test (operated entry.0 [])) || list_any test (operations (deeds older)))

@@ -6,36 +6,24 @@ use Rattle.std.proofs.lemmas.Bool.{eqb-true}
 use Rattle.asset_names.specs.declared.statuses.End.{End}
 use Rattle.asset_names.specs.declared.statuses.End.TheVariants as End'
 use Rattle.asset_names.specs.declared.steps.Step.{Step}
-use Rattle.asset_names.specs.declared.steps.Step.TheVariants.{Initiate, Begin, Read, Write, Complete, Commit}
+use Rattle.asset_names.specs.declared.steps.Step.TheVariants.{Initiate, Begin, Read, Write, Complete, Commit, Abort, WaitFor}
 use Rattle.asset_names.specs.Arrows.{lists, linked, among}
 use Rattle.asset_names.specs.Steps.{Entry, carries_out, deeds, initiated, initiated_by, begun, begun_by, completed, completed_by}
-use Rattle.asset_names.specs.Endings.{class_arrows, end_of, ended_by}
+use Rattle.asset_names.specs.Endings.{class_arrows, doom_arrows, end_of, ended_by, live}
+use Rattle.asset_names.proofs.LegalLemmas.{option_or_none, end_alone}
 use Rattle.asset_core.proofs.PastLemmas.{deeds_carried, deeds_not_carried}
 use Rattle.asset_core.specs.Tracks.{track_of, track_after}
 
--- a commit of u ends t where they are one live name
-commit_ends : (u t : ℕ) (past : List Step) → option_or (end_of past t) (cond ((lists (initiated past) u && is_none (end_of past u)) && eqb u t) (Some End'.Committed) None)
-    ≡ option_or (end_of past t) (cond (eqb u t && lists (initiated past) t) (Some End'.Committed) None)
-commit_ends u t past = go (eqb u t) refl (end_of past t) refl where
-  go : (same : Bool) → eqb u t ≡ same → (end : Option End) → end_of past t ≡ end
-      → option_or end (cond ((lists (initiated past) u && is_none (end_of past u)) && same) (Some End'.Committed) None) ≡ option_or end (cond (same && lists (initiated past) t) (Some End'.Committed) None)
-  go same e (Some end) q = refl
-  go false e None q = grind arith
-  go true e None q = rw (eqb-true u t e, q) (grind arith)
-
--- no end is added
-option_or_none : (end : Option End) → option_or end None ≡ end
-option_or_none None = refl
-option_or_none (Some end) = refl
-
 pub track_of_more : (step : Step) (past : List Step) (t : ℕ) → track_of (step ∷ past) t ≡ track_after (track_of past t) step t
-unfolding track_of track_after lists initiated initiated_by begun begun_by completed completed_by end_of ended_by class_arrows linked among
+unfolding track_of track_after lists initiated initiated_by begun begun_by completed completed_by end_of ended_by live class_arrows doom_arrows linked among
 track_of_more (Initiate u parent) past t = rw (option_or_none (end_of past t))
 track_of_more (Begin u) past t = rw (option_or_none (end_of past t))
 track_of_more (Read u x) past t = rw (option_or_none (end_of past t))
 track_of_more (Write u x v) past t = rw (option_or_none (end_of past t))
 track_of_more (Complete u) past t = rw (option_or_none (end_of past t))
-track_of_more (Commit u) past t = rw (commit_ends u.0 t past)
+track_of_more (Commit u) past t = rw (end_alone End'.Committed u.0 t past)
+track_of_more (Abort u) past t = rw (end_alone End'.Aborted u.0 t past)
+track_of_more (WaitFor u) past t = rw (option_or_none (end_of past t))
 
 -- one more entry: its step changes the track where it was carried out
 pub track_of_entry : (entry : Entry) (older : List Entry) (t : ℕ) → track_of (deeds (entry ∷ older)) t ≡ cond (carries_out entry.0 entry.1) (track_after (track_of (deeds older) t) entry.0 t) (track_of (deeds older) t)

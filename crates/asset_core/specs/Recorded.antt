@@ -1,5 +1,5 @@
 -- A history as callers see it, and what a step makes of it.
-use Rattle.std.specs.Prelude.{ℕ, ◌≤◌, ℤ, nat_lt, Bool, true, List, [], ◌∷◌, length, map, reverse}
+use Rattle.std.specs.Prelude.{◌≡◌, ℕ, ℤ, ◌+◌, ◌≤◌, Bool, true, false, List, [], ◌∷◌, length, map, reverse}
 use Rattle.asset_names.specs.declared.names.Ob.{Ob}
 use Rattle.asset_names.specs.declared.steps.Step.{Step}
 use Rattle.asset_names.specs.declared.replies.Reply.{Reply}
@@ -7,6 +7,7 @@ use Rattle.asset_names.specs.declared.replies.Outcome.{Outcome}
 use Rattle.asset_names.specs.declared.replies.Outcome.TheVariants.{Answer, Wait}
 use Rattle.asset_names.specs.Steps.{Opening, Entry, deeds}
 use Rattle.asset_names.specs.Answers.{answer, IsLegal}
+use Rattle.asset_names.specs.Room.{owed, fits, changes_status}
 
 -- the opening, the entries with the newest first, and how many entries there is room for in all
 pub record Recorded : Type 0 where
@@ -31,10 +32,22 @@ unfoldable pub after : Recorded → Step → Outcome → Recorded
 after history step (Answer reply) = with_entry history step reply
 after history step Wait = history
 
--- whether there is room for what the outcome adds: a wait adds nothing
-unfoldable pub has_room : Recorded → Outcome → Bool
-has_room history (Answer reply) = nat_lt (length history.past) history.room
-has_room history Wait = true
+-- Whether there is room for what the outcome adds: its entry, and what is owed to the live names after it. A
+-- wait adds nothing.
+unfoldable pub has_room : Recorded → Step → Outcome → Bool
+has_room history step (Answer reply) = fits (deeds ((step, reply) ∷ history.past)) (length history.past + 1) history.room
+has_room history step Wait = true
+
+-- whether the outcome is that of a complete, a commit or an abort that changes a status
+unfoldable pub is_ending : Recorded → Step → Outcome → Bool
+is_ending history step (Answer reply) = changes_status (deeds history.past) step reply
+is_ending history step Wait = false
+
+-- How the room of a history is kept: the entries that are owed are counted, and fit with those that are there.
+pub record IsRoomy (history : Recorded) (counted : ℕ) : Type 0 where
+  pub counts : counted ≡ owed (deeds history.past)
+  pub fitting : length history.past + counted ≤ history.room
+  pub capacity : history.room ≤ 1000000
 
 -- how a history is kept: its entries, oldest first, are legal and within the room that was taken
 pub record IsKept (opening : Opening) (entries : List Entry) (room reserved : ℕ) : Type 0 where

@@ -2,7 +2,7 @@
 use Rattle.std.specs.Prelude.{ℕ, cond, ◌==◌, ◌&&◌, ◌||◌, Some, None, List}
 use Rattle.std.specs.Option.{option_or}
 use Rattle.asset_names.specs.declared.steps.Step.{Step}
-use Rattle.asset_names.specs.declared.steps.Step.TheVariants.{Initiate, Begin, Complete, Commit}
+use Rattle.asset_names.specs.declared.steps.Step.TheVariants.{Initiate, Begin, Read, Write, Complete, Commit, Abort, WaitFor}
 use Rattle.asset_names.specs.declared.statuses.End.TheVariants as End'
 use Rattle.asset_names.specs.Arrows.{lists}
 use Rattle.asset_names.specs.Steps.{initiated, begun, completed}
@@ -19,4 +19,5 @@ track_after track (Initiate u parent) t = record track { initiated = u.0 == t ||
 track_after track (Begin u) t = record track { begun = u.0 == t || track.begun }
 track_after track (Complete u) t = record track { completed = u.0 == t || track.completed }
 track_after track (Commit u) t = record track { end = option_or track.end (cond (u.0 == t && track.initiated) (Some End'.Committed) None) }
+track_after track (Abort u) t = record track { end = option_or track.end (cond (u.0 == t && track.initiated) (Some End'.Aborted) None) }
 track_after track step t = track

@@ -4,7 +4,7 @@ ghost use Rattle.std.specs.Prelude.{◌≡◌, false, None, reverse};
 ghost use Rattle.asset_names.specs.Steps.{deeds};
 ghost use Rattle.asset_names.specs.Operations.{value, value_if_any};
 ghost use Rattle.asset_names.specs.Endings.{status};
-ghost use Rattle.asset_names.specs.Answers.{is_unknown, is_committed, class_completed, commit_outcome, first_refusal, rules_for, unrefused, answer};
+ghost use Rattle.asset_names.specs.Answers.{is_unknown, class_completed, commit_outcome, wait_outcome, first_refusal, rules_for, unrefused, answer};
 
 use crate::freedom::is_free;
 use crate::openings::opening_at;
@@ -36,13 +36,27 @@ pub fn value_if_any(opening: &[(Ob, i64)], entries: &[(Step, Reply)], x: Ob) -> 
 }
 
 /// The outcome of a commit that is not refused.
-#[tactic(auto, unfolding(asset_names::specs::Answers::commit_outcome, asset_names::specs::Answers::is_committed, asset_names::specs::Answers::is_completed, asset_names::specs::Answers::is_unknown), using(crate::proofs::ClassLemmas::completed_alone))]
+#[tactic(auto, unfolding(asset_names::specs::Answers::commit_outcome, asset_names::specs::Answers::is_completed, asset_names::specs::Answers::is_unknown), using(crate::proofs::ClassLemmas::completed_alone))]
 fn commit_outcome(entries: &[(Step, Reply)], t: Txn) -> Outcome
     requires { is_unknown (status (deeds (reverse entries.now)) t.0) ≡ false }
-    ensures { result ≡ commit_outcome (is_committed (status (deeds (reverse entries.now)) t.0)) (class_completed (deeds (reverse entries.now)) t.0) }
+    ensures { result ≡ commit_outcome (status (deeds (reverse entries.now)) t.0) (class_completed (deeds (reverse entries.now)) t.0) }
 {
     match status_after(entries, t) {
         Status::Committed | Status::Completed => Outcome::Answer(Reply::Committed),
+        Status::Aborted => Outcome::Answer(Reply::Aborted),
+        Status::Unknown | Status::Initiated | Status::Running => Outcome::Wait,
+    }
+}
+
+/// The outcome of a wait for a name of this status.
+#[tactic(auto, unfolding(asset_names::specs::Answers::wait_outcome))]
+fn wait_outcome(status: Status) -> Outcome
+    ensures { result ≡ wait_outcome status }
+{
+    match status {
+        Status::Completed => Outcome::Answer(Reply::Done),
+        Status::Committed => Outcome::Answer(Reply::Committed),
+        Status::Aborted => Outcome::Answer(Reply::Aborted),
         Status::Unknown | Status::Initiated | Status::Running => Outcome::Wait,
     }
 }
@@ -63,6 +77,8 @@ fn unrefused(opening: &[(Ob, i64)], entries: &[(Step, Reply)], step: Step) -> Ou
         Step::Write { t, x, .. } if is_free(entries, t, x, Op::Write) => Outcome::Answer(Reply::Done),
         Step::Read { .. } | Step::Write { .. } => Outcome::Wait,
         Step::Commit { t } => commit_outcome(entries, t),
+        Step::Abort { .. } => Outcome::Answer(Reply::Aborted),
+        Step::WaitFor { t } => wait_outcome(status_after(entries, t)),
     }
 }
 

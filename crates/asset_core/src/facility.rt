@@ -1,7 +1,8 @@
 //! The facility for one caller.
 
 use crate::history::{History, OpenFault};
-use asset_names::{Fault, Ob, Outcome, Status, Step, Txn, least_double};
+use crate::room::owed_after;
+use asset_names::{Fault, Ob, Outcome, Reply, Status, Step, Txn, least_double};
 use std::alloc::Global;
 use std::marker::Model;
 
@@ -13,23 +14,27 @@ const MOST: usize = 1_000_000;
 #[derive(Drop)]
 pub struct Core {
     history: History,
+    owed: usize,
 }
 
 impl Model for Core {
-    ghost use Rattle.asset_core.specs.Recorded.{Recorded};
+    ghost use Rattle.asset_core.specs.Recorded.{Recorded, IsRoomy};
 
     ghost Value = { Recorded };
 
     ghost view = { λ core. core.history };
+
+    ghost invariant = { λ core. IsRoomy core.history core.owed };
 }
 
 impl Core {
-    ghost use Rattle.std.specs.Prelude.{◌≡◌, ◌≢◌, ◌<◌, ◌≤◌, ◌↔◌, ◌⊎◌, true, false, map, length, IfOk, IfErr, OnOk, OnErr, IsErrOf, MatchResult};
+    ghost use Rattle.std.specs.Prelude.{◌≡◌, ◌≢◌, ◌<◌, ◌≤◌, ◌↔◌, ◌⊎◌, true, false, map, length, IfOk, IfErr, OnOk, OnErr, IsOk, Err, IsErrOf};
     ghost use Rattle.asset_names.specs.Steps.{deeds};
     ghost use Rattle.asset_names.specs.Endings.{status};
     ghost use Rattle.asset_names.specs.Operations.{value_if_any};
-    ghost use Rattle.asset_names.specs.Answers.{takes_memory, carried_out};
-    ghost use Rattle.asset_core.specs.Recorded.{opened, answer_to, after, has_room};
+    ghost use Rattle.asset_names.specs.declared.replies.Outcome.TheVariants.{Answer};
+    ghost use Rattle.asset_names.specs.Answers.{takes_memory, carried_out, IsLegal};
+    ghost use Rattle.asset_core.specs.Recorded.{opened, answer_to, after, with_entry, has_room, is_ending};
     ghost use Rattle.asset_core.specs.OpenFaults.{MayOpen, IsOpenFault};
 
     /// Opens the facility over these objects with their values, with room for so many entries. It is
@@ -48,31 +53,49 @@ impl Core {
             return Err(OpenFault::DoubleObject(x));
         }
         match History::open(alloc, opening, capacity) {
-            Ok(history) => Ok(Core { history }),
+            Ok(history) => Ok(Core { history, owed: 0 }),
             Err(_) => Err(OpenFault::NoMemory),
         }
     }
 
     /// Asks one step. A step that waits changes nothing, and may be asked again. An answered step is
-    /// one more entry, refused or not. Full comes exactly where there is no room for the entry, and
-    /// then, as after NoMemory, nothing has changed. NoMemory may come only where a step that keeps
-    /// something new would be carried out.
-    #[tactic(auto, unfolding(crate::specs::Recorded::after, crate::specs::Recorded::has_room))]
+    /// one more entry, refused or not. Full comes exactly where the entries with this one, and those
+    /// that live names are owed after it, exceed the capacity; a complete, a commit or an abort that
+    /// changes a status always finds room. NoMemory may come only where a step that keeps something
+    /// new would be carried out. After Full and NoMemory nothing has changed.
+    #[tactic(auto, unfolding(crate::specs::Recorded::after, crate::specs::Recorded::has_room, crate::specs::Recorded::is_ending))]
     pub fn step(&mut self, step: Step) -> Result<Outcome, Fault>
         ensures answered { IfOk result (λ outcome. outcome ≡ answer_to self.old step) }
         ensures grown { IfOk result (λ outcome. self.new ≡ after self.old step outcome) }
-        ensures full { IsErrOf result Fault.Full ↔ (has_room self.old (answer_to self.old step) ≡ false) }
+        ensures full { IsErrOf result Fault.Full ↔ (has_room self.old step (answer_to self.old step) ≡ false) }
         ensures memory { IsErrOf result Fault.NoMemory → (takes_memory step ≡ true) × (carried_out step (answer_to self.old step) ≡ true) }
+        ensures ending { is_ending self.old step (answer_to self.old step) ≡ true → IsOk result }
         ensures fault { OnErr result (self.new ≡ self.old) }
     {
         match self.history.answer(step) {
             Outcome::Wait => Ok(Outcome::Wait),
-            Outcome::Answer(_) if !self.history.has_room() => Err(Fault::Full),
-            Outcome::Answer(reply) => {
-                self.history.append(step, reply);
-                Ok(Outcome::Answer(reply))
-            }
+            Outcome::Answer(reply) => self.record(step, reply),
         }
+    }
+
+    /// Records the answer to a step, if there is room for it.
+    fn record(&mut self, step: Step, reply: Reply) -> Result<Outcome, Fault>
+        requires legal { IsLegal self.old.opening self.old.past }
+        requires answer { answer_to self.old step ≡ Answer reply }
+        ensures answered { IfOk result (λ outcome. outcome ≡ Answer reply) }
+        ensures grown { OnOk result (self.new ≡ with_entry self.old step reply) }
+        ensures full { IsErrOf result Fault.Full ↔ (has_room self.old step (Answer reply) ≡ false) }
+        ensures memory { result ≢ Err Fault.NoMemory }
+        ensures ending { is_ending self.old step (Answer reply) ≡ true → IsOk result }
+        ensures fault { OnErr result (self.new ≡ self.old) }
+    {
+        let owed = owed_after(&self.history, self.owed, step, reply);
+        if self.history.len() + 1 + owed > self.history.room() {
+            return Err(Fault::Full);
+        }
+        self.history.append(step, reply);
+        self.owed = owed;
+        Ok(Outcome::Answer(reply))
     }
 
     /// The status of a name.

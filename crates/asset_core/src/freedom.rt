@@ -24,7 +24,7 @@ fn is_live(entries: &[(Step, Reply)], t: Txn) -> bool
 {
     match status_after(entries, t) {
         Status::Initiated | Status::Running | Status::Completed => true,
-        Status::Unknown | Status::Committed => false,
+        Status::Unknown | Status::Committed | Status::Aborted => false,
     }
 }
 

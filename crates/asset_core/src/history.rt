@@ -29,10 +29,11 @@ impl Model for History {
 }
 
 impl History {
-    ghost use Rattle.std.specs.Prelude.{◌≡◌, ◌<◌, ◌≤◌, ◌↔◌, nat_lt, [], length, reverse, slice_get, IfOk, IsTrue};
+    ghost use Rattle.std.specs.Prelude.{◌≡◌, ◌<◌, ◌≤◌, ◌↔◌, [], length, reverse, slice_get, IfOk, IsTrue};
     ghost use Rattle.asset_names.specs.Steps.{deeds};
     ghost use Rattle.asset_names.specs.Endings.{status};
     ghost use Rattle.asset_names.specs.Operations.{value_if_any};
+    ghost use Rattle.asset_names.specs.Answers.{IsLegal};
     ghost use Rattle.asset_names.specs.declared.replies.Outcome.TheVariants.{Answer};
     ghost use Rattle.asset_core.specs.Recorded.{opened, answer_to, with_entry};
 
@@ -93,16 +94,17 @@ impl History {
     /// The answer to a step at the end.
     #[tactic(auto, unfolding(crate::specs::Recorded::answer_to))]
     pub(crate) fn answer(&self, step: Step) -> Outcome
-        ensures { result ≡ answer_to self.now step }
+        ensures answer { result ≡ answer_to self.now step }
+        ensures legal { IsLegal self.now.opening self.now.past }
     {
         answer(&self.opening, &self.entries, step)
     }
 
-    /// Whether there is room for a further entry.
-    pub(crate) fn has_room(&self) -> bool
-        ensures { result ≡ nat_lt (length self.now.past) self.now.room }
+    /// How many entries there is room for in all.
+    pub(crate) fn room(&self) -> usize
+        ensures { result ≡ self.now.room }
     {
-        self.entries.len() < self.room
+        self.room
     }
 
     /// Adds the step with its answer. The room was taken when the history was opened, so this takes

@@ -8,6 +8,7 @@ mod freedom;
 mod history;
 mod openings;
 mod refusals;
+mod room;
 mod tracks;
 mod values;
 

@@ -2,7 +2,7 @@
 
 ghost use Rattle.std.specs.Prelude.{◌≡◌, not, [], ◌∷◌, reverse, is_some};
 ghost use Rattle.asset_names.specs.Steps.{deeds};
-ghost use Rattle.asset_names.specs.Answers.{is_unknown, has_ended, has_begun, is_running, first_refusal, rules_for};
+ghost use Rattle.asset_names.specs.Answers.{is_unknown, has_ended, has_begun, is_running, is_committed, first_refusal, rules_for};
 
 use crate::openings::opening_at;
 use crate::tracks::status_after;
@@ -26,7 +26,7 @@ fn to_begin(t: Txn, status: Status) -> Option<Refusal>
 {
     match status {
         Status::Unknown => Some(Refusal::Unknown(t)),
-        Status::Committed => Some(Refusal::Ended(t)),
+        Status::Committed | Status::Aborted => Some(Refusal::Ended(t)),
         Status::Running | Status::Completed => Some(Refusal::Begun(t)),
         Status::Initiated => None,
     }
@@ -39,7 +39,7 @@ fn to_work(t: Txn, status: Status) -> Option<Refusal>
 {
     match status {
         Status::Unknown => Some(Refusal::Unknown(t)),
-        Status::Committed => Some(Refusal::Ended(t)),
+        Status::Committed | Status::Aborted => Some(Refusal::Ended(t)),
         Status::Initiated | Status::Completed => Some(Refusal::NotRunning(t)),
         Status::Running => None,
     }
@@ -57,9 +57,9 @@ fn to_operate(t: Txn, status: Status, x: Ob, exists: bool) -> Option<Refusal>
     }
 }
 
-/// Why a transaction of this status may not be committed.
+/// Why a transaction of this status may not be committed or waited for.
 #[tactic(auto, unfolding(asset_names::specs::Answers::first_refusal, asset_names::specs::Answers::is_unknown))]
-fn to_end(t: Txn, status: Status) -> Option<Refusal>
+fn to_find(t: Txn, status: Status) -> Option<Refusal>
     ensures { result ≡ first_refusal ((is_unknown status, Refusal.Unknown t) ∷ []) }
 {
     match status {
@@ -68,8 +68,20 @@ fn to_end(t: Txn, status: Status) -> Option<Refusal>
     }
 }
 
+/// Why a transaction of this status may not be aborted.
+#[tactic(auto, unfolding(asset_names::specs::Answers::first_refusal, asset_names::specs::Answers::is_unknown, asset_names::specs::Answers::is_committed))]
+fn to_abort(t: Txn, status: Status) -> Option<Refusal>
+    ensures { result ≡ first_refusal ((is_unknown status, Refusal.Unknown t) ∷ (is_committed status, Refusal.TooLate t) ∷ []) }
+{
+    match status {
+        Status::Unknown => Some(Refusal::Unknown(t)),
+        Status::Committed => Some(Refusal::TooLate(t)),
+        _ => None,
+    }
+}
+
 /// The first refusal of the step that applies after these entries.
-#[tactic(auto, unfolding(asset_names::specs::Answers::rules_for, asset_names::specs::Answers::unknown, asset_names::specs::Answers::ended, asset_names::specs::Answers::not_running, asset_names::specs::Answers::taken, asset_names::specs::Answers::begun_before, asset_names::specs::Answers::no_object, asset_names::specs::Operations::exists))]
+#[tactic(auto, unfolding(asset_names::specs::Answers::rules_for, asset_names::specs::Answers::unknown, asset_names::specs::Answers::ended, asset_names::specs::Answers::not_running, asset_names::specs::Answers::taken, asset_names::specs::Answers::begun_before, asset_names::specs::Answers::too_late, asset_names::specs::Answers::no_object, asset_names::specs::Operations::exists))]
 pub fn refusal(opening: &[(Ob, i64)], entries: &[(Step, Reply)], step: Step) -> Option<Refusal>
     ensures { result ≡ first_refusal (rules_for opening.now (deeds (reverse entries.now)) step) }
 {
@@ -81,6 +93,7 @@ pub fn refusal(opening: &[(Ob, i64)], entries: &[(Step, Reply)], step: Step) -> 
             to_operate(t, status_after(entries, t), x, exists)
         }
         Step::Complete { t } => to_work(t, status_after(entries, t)),
-        Step::Commit { t } => to_end(t, status_after(entries, t)),
+        Step::Commit { t } | Step::WaitFor { t } => to_find(t, status_after(entries, t)),
+        Step::Abort { t } => to_abort(t, status_after(entries, t)),
     }
 }

@@ -3,7 +3,9 @@
 ghost use Rattle.std.specs.Prelude.{◌≡◌, List, ◌∷◌, [], reverse};
 ghost use Rattle.asset_names.specs.declared.steps.Step.{Step};
 ghost use Rattle.asset_names.specs.Steps.{carries_out, deeds};
-ghost use Rattle.asset_names.specs.Endings.{status, status_of};
+ghost use Rattle.asset_names.specs.Endings.{status, status_of, end_of};
+ghost use Rattle.asset_names.specs.Operations.{was_aborted};
+ghost use Rattle.asset_core.specs.Tracks.{track_of};
 
 use asset_names::{End, Reply, Status, Step, Txn};
 
@@ -24,6 +26,8 @@ pub fn is_carried_out(step: Step, reply: Reply) -> bool
     match step {
         Step::Read { .. } => matches!(reply, Reply::Value(_)),
         Step::Commit { .. } => matches!(reply, Reply::Committed),
+        Step::Abort { .. } => matches!(reply, Reply::Aborted),
+        Step::WaitFor { .. } => false,
         _ => matches!(reply, Reply::Done),
     }
 }
@@ -72,19 +76,20 @@ impl Track {
             Step::Initiate { t: named, .. } => next.initiated = named == t || self.initiated,
             Step::Begin { t: named } => next.begun = named == t || self.begun,
             Step::Complete { t: named } => next.completed = named == t || self.completed,
-            Step::Commit { t: named } => next.end = self.end_by_commit(named, t),
-            Step::Read { .. } | Step::Write { .. } => {}
+            Step::Commit { t: named } => next.end = self.ended(named, t, End::Committed),
+            Step::Abort { t: named } => next.end = self.ended(named, t, End::Aborted),
+            Step::Read { .. } | Step::Write { .. } | Step::WaitFor { .. } => {}
         }
         next
     }
 
-    /// How `t` has ended after a commit of `named`.
-    fn end_by_commit(self, named: Txn, t: Txn) -> Option<End>
-        ensures { result ≡ option_or self.end (cond (named.0 == t.0 && self.initiated) (Some End.Committed) None) }
+    /// How `t` has ended after `named` was ended in this way.
+    fn ended(self, named: Txn, t: Txn, how: End) -> Option<End>
+        ensures { result ≡ option_or self.end (cond (named.0 == t.0 && self.initiated) (Some how) None) }
     {
         match self.end {
             Some(end) => Some(end),
-            None if named == t && self.initiated => Some(End::Committed),
+            None if named == t && self.initiated => Some(how),
             None => None,
         }
     }
@@ -99,6 +104,7 @@ impl Track {
         }
         match self.end {
             Some(End::Committed) => Status::Committed,
+            Some(End::Aborted) => Status::Aborted,
             None if self.completed => Status::Completed,
             None if self.begun => Status::Running,
             None => Status::Initiated,
@@ -106,13 +112,29 @@ impl Track {
     }
 }
 
-/// The status of `t` after these entries.
-pub fn status_after(entries: &[(Step, Reply)], t: Txn) -> Status
-    ensures { result ≡ status (deeds (reverse entries.now)) t.0 }
+/// What the entries say of `t`.
+fn track_entries(entries: &[(Step, Reply)], t: Txn) -> Track
+    ensures { result ≡ track_of (deeds (reverse entries.now)) t.0 }
 {
     let mut track = Track::new();
     'entries: for entry in entries {
         track = track.after(entry, t);
     }
-    track.status()
+    track
+}
+
+/// The status of `t` after these entries.
+#[tactic(auto, unfolding(crate::specs::Tracks::track_of, asset_names::specs::Endings::status))]
+pub fn status_after(entries: &[(Step, Reply)], t: Txn) -> Status
+    ensures { result ≡ status (deeds (reverse entries.now)) t.0 }
+{
+    track_entries(entries, t).status()
+}
+
+/// Whether `t` ended by an abort.
+#[tactic(auto, unfolding(crate::specs::Tracks::track_of, asset_names::specs::Operations::was_aborted))]
+pub fn was_aborted(entries: &[(Step, Reply)], t: Txn) -> bool
+    ensures { result ≡ was_aborted (end_of (deeds (reverse entries.now)) t.0) }
+{
+    matches!(track_entries(entries, t).end, Some(End::Aborted))
 }

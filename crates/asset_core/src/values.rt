@@ -5,16 +5,16 @@ ghost use Rattle.asset_names.specs.Steps.{Entry, deeds};
 ghost use Rattle.asset_names.specs.Operations.{operations, stands, value_after};
 ghost use Rattle.asset_core.specs.Scans.{written_by};
 
-use crate::tracks::is_carried_out;
+use crate::tracks::{is_carried_out, was_aborted};
 use asset_names::{Ob, Reply, Step};
 
-/// What a step that was carried out wrote to the object.
-#[tactic(auto, unfolding(crate::specs::Scans::written_by))]
-fn written_by(step: Step, x: Ob) -> Option<i64>
-    ensures { result ≡ written_by step x.0 }
+/// What a step that was carried out wrote to the object, if the write stands.
+#[tactic(auto, unfolding(crate::specs::Scans::written_by, asset_names::specs::Operations::stands))]
+fn written_by(entries: &[(Step, Reply)], step: Step, x: Ob) -> Option<i64>
+    ensures { result ≡ written_by (stands (deeds (reverse entries.now))) step x.0 }
 {
     match step {
-        Step::Write { x: y, v, .. } if y == x => Some(v),
+        Step::Write { t, x: y, v } if y == x && !was_aborted(entries, t) => Some(v),
         _ => None,
     }
 }
@@ -28,7 +28,7 @@ fn standing_write(entries: &[(Step, Reply)], entry: &(Step, Reply), x: Ob) -> Op
 {
     let (step, reply) = *entry;
     if is_carried_out(step, reply) {
-        written_by(step, x)
+        written_by(entries, step, x)
     } else {
         None
     }

@@ -3,17 +3,17 @@ use Rattle.std.specs.Prelude.{◌≡◌, ℕ, pos, List, [], ◌∷◌, Some, No
 use Rattle.asset_names.specs.declared.names.Txn.{Txn}
 use Rattle.asset_names.specs.declared.names.Ob.{Ob}
 use Rattle.asset_names.specs.declared.steps.Step.{Step}
-use Rattle.asset_names.specs.declared.steps.Step.TheVariants.{Initiate, Begin, Read, Write, Complete, Commit}
+use Rattle.asset_names.specs.declared.steps.Step.TheVariants.{Initiate, Begin, Read, Write, Complete, Commit, Abort, WaitFor}
 use Rattle.asset_names.specs.declared.replies.Refusal.{Refusal}
-use Rattle.asset_names.specs.declared.replies.Refusal.TheVariants.{Unknown, Ended, NotRunning, Taken, Begun, NoObject}
-use Rattle.asset_names.specs.declared.replies.Reply.TheVariants.{Done, Value, Committed, Refused}
+use Rattle.asset_names.specs.declared.replies.Refusal.TheVariants.{Unknown, Ended, NotRunning, Taken, Begun, NoObject, TooLate}
+use Rattle.asset_names.specs.declared.replies.Reply.TheVariants.{Done, Value, Committed, Aborted, Refused}
 use Rattle.asset_names.specs.declared.replies.Outcome.{Outcome}
 use Rattle.asset_names.specs.declared.replies.Outcome.TheVariants.{Answer, Wait}
 use Rattle.asset_names.specs.Arrows.{lists, linked, among}
 use Rattle.asset_names.specs.Steps.{Opening, Entry, carries_out, deeds, initiated_by, initiated, begun_by, begun, completed_by, completed}
-use Rattle.asset_names.specs.Endings.{class_arrows, ended_by, end_of, live, status_of, status, same_class}
-use Rattle.asset_names.specs.Operations.{op_of, conflict, operated, operations, permits, reach, hinders, free, stands, exists, opening_at, opening_value, after_use, value_after, value}
-use Rattle.asset_names.specs.Answers.{is_unknown, has_ended, is_running, is_completed, is_committed, has_begun, unknown, ended, not_running, taken, begun_before, no_object, rules_for, first_refusal, class_completed, commit_outcome, unrefused, outcome_unless, answer}
+use Rattle.asset_names.specs.Endings.{class_arrows, doom_arrows, ended_by, end_of, live, status_of, status, same_class}
+use Rattle.asset_names.specs.Operations.{op_of, conflict, operated, operations, permits, reach, hinders, free, was_aborted, stands, exists, opening_at, opening_value, after_use, value_after, value}
+use Rattle.asset_names.specs.Answers.{is_unknown, has_ended, is_running, is_completed, is_committed, has_begun, unknown, ended, not_running, taken, begun_before, too_late, no_object, rules_for, first_refusal, class_completed, commit_outcome, wait_outcome, unrefused, outcome_unless, answer}
 
 abbrev t : ℕ → Txn
 t n = record { 0 = n }
@@ -80,6 +80,18 @@ ParentIsRecorded = Row
     (Initiate (t 7) None ∷ Begin (t 7) ∷ Initiate (t 8) (Some (t 7)) ∷ Begin (t 8) ∷ Complete (t 8) ∷ Commit (t 8) ∷ Initiate (t 9) (Some (t 3)) ∷ [])
     (ok ∷ ok ∷ ok ∷ ok ∷ ok ∷ Answer Committed ∷ ok ∷ [])
 
-rows : OneTransaction × WriterHoldsOff × ReadersShare × RefusalsInOrder × CommitWaits × ParentIsRecorded
-unfolding answer rules_for unrefused first_refusal outcome_unless unknown ended not_running taken begun_before no_object is_unknown has_ended is_running is_completed is_committed has_begun class_completed commit_outcome free hinders reach permits conflict op_of operations operated value value_after after_use stands opening_value opening_at exists status status_of end_of ended_by live same_class class_arrows initiated begun completed initiated_by begun_by completed_by deeds carries_out among linked lists
-rows = (refl, refl, refl, refl, refl, refl)
+-- a reader waits for a writer, and reads the opening value once the writer has aborted
+abbrev ReaderWaitsForAbort : Type 0
+ReaderWaitsForAbort = Row
+    (Initiate (t 7) None ∷ Begin (t 7) ∷ Initiate (t 8) None ∷ Begin (t 8) ∷ Write (t 7) (x 1) (pos 50) ∷ Read (t 8) (x 1) ∷ Abort (t 7) ∷ Read (t 8) (x 1) ∷ [])
+    (ok ∷ ok ∷ ok ∷ ok ∷ ok ∷ Wait ∷ Answer Aborted ∷ Answer (Value (pos 100)) ∷ [])
+
+-- what may be asked of a transaction that has ended
+abbrev AfterTheEnd : Type 0
+AfterTheEnd = Row
+    (Initiate (t 7) None ∷ WaitFor (t 7) ∷ Begin (t 7) ∷ Complete (t 7) ∷ WaitFor (t 7) ∷ Commit (t 7) ∷ Abort (t 7) ∷ WaitFor (t 7) ∷ Initiate (t 8) None ∷ Abort (t 8) ∷ Abort (t 8) ∷ Commit (t 8) ∷ WaitFor (t 8) ∷ Begin (t 8) ∷ WaitFor (t 9) ∷ Abort (t 9) ∷ [])
+    (ok ∷ Wait ∷ ok ∷ ok ∷ ok ∷ Answer Committed ∷ refused (TooLate (t 7)) ∷ Answer Committed ∷ ok ∷ Answer Aborted ∷ Answer Aborted ∷ Answer Aborted ∷ Answer Aborted ∷ refused (Ended (t 8)) ∷ refused (Unknown (t 9)) ∷ refused (Unknown (t 9)) ∷ [])
+
+rows : OneTransaction × WriterHoldsOff × ReadersShare × RefusalsInOrder × CommitWaits × ParentIsRecorded × ReaderWaitsForAbort × AfterTheEnd
+unfolding answer rules_for unrefused first_refusal outcome_unless unknown ended not_running taken begun_before too_late no_object is_unknown has_ended is_running is_completed is_committed has_begun class_completed commit_outcome wait_outcome free hinders reach permits conflict op_of operations operated value value_after after_use was_aborted stands opening_value opening_at exists status status_of end_of ended_by live same_class class_arrows doom_arrows initiated begun completed initiated_by begun_by completed_by deeds carries_out among linked lists
+rows = (refl, refl, refl, refl, refl, refl, refl, refl)

@@ -5,7 +5,7 @@ use Rattle.asset_names.specs.declared.names.Txn.{Txn}
 use Rattle.asset_names.specs.declared.names.Ob.{Ob}
 use Rattle.asset_names.specs.declared.operations.Op.TheVariants as Op'
 use Rattle.asset_names.specs.declared.steps.Step.{Step}
-use Rattle.asset_names.specs.declared.steps.Step.TheVariants.{Initiate, Begin, Read, Write, Complete, Commit}
+use Rattle.asset_names.specs.declared.steps.Step.TheVariants.{Initiate, Begin, Read, Write, Complete, Commit, Abort, WaitFor}
 use Rattle.asset_names.specs.declared.statuses.Status.{Status}
 use Rattle.asset_names.specs.declared.statuses.Status.TheVariants as Status'
 use Rattle.asset_names.specs.declared.replies.Refusal.{Refusal}
@@ -19,29 +19,30 @@ use Rattle.asset_names.specs.Operations.{free, value, exists}
 
 unfoldable pub is_unknown : Status → Bool
 is_unknown Status'.Unknown = true
-is_unknown status = false
+is_unknown other = false
 
 unfoldable pub has_ended : Status → Bool
 has_ended Status'.Committed = true
-has_ended status = false
+has_ended Status'.Aborted = true
+has_ended other = false
 
 unfoldable pub is_running : Status → Bool
 is_running Status'.Running = true
-is_running status = false
+is_running other = false
 
 unfoldable pub is_completed : Status → Bool
 is_completed Status'.Completed = true
-is_completed status = false
+is_completed other = false
 
 unfoldable pub is_committed : Status → Bool
 is_committed Status'.Committed = true
-is_committed status = false
+is_committed other = false
 
 -- a live name that has begun
 unfoldable pub has_begun : Status → Bool
 has_begun Status'.Running = true
 has_begun Status'.Completed = true
-has_begun status = false
+has_begun other = false
 
 -- a refusal, and whether it applies
 abbrev pub Rule : Type 0
@@ -65,6 +66,10 @@ taken past t = (not (is_unknown (status past t.0)), Refusal'.Taken t)
 unfoldable pub begun_before : List Step → Txn → Rule
 begun_before past t = (has_begun (status past t.0), Refusal'.Begun t)
 
+-- a committed transaction is not aborted
+unfoldable pub too_late : List Step → Txn → Rule
+too_late past t = (is_committed (status past t.0), Refusal'.TooLate t)
+
 -- an operation is refused on an object that does not exist
 unfoldable pub no_object : Opening → Ob → Rule
 no_object opening x = (not (exists opening x.0), Refusal'.NoObject x)
@@ -77,6 +82,8 @@ rules_for opening past (Read t x) = unknown past t ∷ ended past t ∷ not_runn
 rules_for opening past (Write t x v) = unknown past t ∷ ended past t ∷ not_running past t ∷ no_object opening x ∷ []
 rules_for opening past (Complete t) = unknown past t ∷ ended past t ∷ not_running past t ∷ []
 rules_for opening past (Commit t) = unknown past t ∷ []
+rules_for opening past (Abort t) = unknown past t ∷ too_late past t ∷ []
+rules_for opening past (WaitFor t) = unknown past t ∷ []
 
 -- the first refusal that applies
 unfoldable pub first_refusal : List Rule → Option Refusal
@@ -87,10 +94,19 @@ first_refusal (rule ∷ rules) = cond rule.0 (Some rule.1) (first_refusal rules)
 unfoldable pub class_completed : List Step → ℕ → Bool
 class_completed past t = list_all (λ n. not (same_class past t n) || is_completed (status past n)) (initiated past)
 
--- A commit of a committed name is Committed again. Else the whole class commits at once when each
--- member has completed, and waits until then.
-unfoldable pub commit_outcome : Bool → Bool → Outcome
-commit_outcome committed ready = cond (committed || ready) (Answer Reply'.Committed) Wait
+-- A commit of a name that has ended answers how. Else the whole class commits at once when each member
+-- has completed, and waits until then.
+unfoldable pub commit_outcome : Status → Bool → Outcome
+commit_outcome Status'.Committed ready = Answer Reply'.Committed
+commit_outcome Status'.Aborted ready = Answer Reply'.Aborted
+commit_outcome other ready = cond ready (Answer Reply'.Committed) Wait
+
+-- a wait for a name ends when the name has completed or ended, and says which
+unfoldable pub wait_outcome : Status → Outcome
+wait_outcome Status'.Completed = Answer Reply'.Done
+wait_outcome Status'.Committed = Answer Reply'.Committed
+wait_outcome Status'.Aborted = Answer Reply'.Aborted
+wait_outcome other = Wait
 
 -- the outcome of a step that is not refused
 unfoldable pub unrefused : Opening → List Step → Step → Outcome
@@ -99,7 +115,9 @@ unrefused opening past (Begin t) = Answer Reply'.Done
 unrefused opening past (Read t x) = cond (free past t.0 x.0 Op'.Read) (Answer (Reply'.Value (value opening past x.0))) Wait
 unrefused opening past (Write t x v) = cond (free past t.0 x.0 Op'.Write) (Answer Reply'.Done) Wait
 unrefused opening past (Complete t) = Answer Reply'.Done
-unrefused opening past (Commit t) = commit_outcome (is_committed (status past t.0)) (class_completed past t.0)
+unrefused opening past (Commit t) = commit_outcome (status past t.0) (class_completed past t.0)
+unrefused opening past (Abort t) = Answer Reply'.Aborted
+unrefused opening past (WaitFor t) = wait_outcome (status past t.0)
 
 unfoldable pub outcome_unless : Option Refusal → Outcome → Outcome
 outcome_unless None outcome = outcome

@@ -2,7 +2,7 @@
 use Rattle.std.specs.Prelude.{ℕ, Bool, true, false, cond, ◌&&◌, List, [], ◌∷◌, Option, Some, None, is_none}
 use Rattle.std.specs.Option.{option_or}
 use Rattle.asset_names.specs.declared.steps.Step.{Step}
-use Rattle.asset_names.specs.declared.steps.Step.TheVariants.{Commit}
+use Rattle.asset_names.specs.declared.steps.Step.TheVariants.{Initiate, Begin, Read, Write, Complete, Commit, Abort, WaitFor}
 use Rattle.asset_names.specs.declared.statuses.End.{End}
 use Rattle.asset_names.specs.declared.statuses.End.TheVariants as End'
 use Rattle.asset_names.specs.declared.statuses.Status.{Status}
@@ -14,9 +14,15 @@ use Rattle.asset_names.specs.Steps.{initiated, begun, completed}
 unfoldable pub class_arrows : List Step → List Arrow
 class_arrows past = []
 
--- How a step ends t. A commit ends the whole class of a live name; `live` says who was live before it.
+-- the arrows along which an abort spreads: over a class, both ways
+unfoldable pub doom_arrows : List Step → List Arrow
+doom_arrows past = class_arrows past
+
+-- How a step ends t. A commit ends the whole class of a live name, and an abort all that it spreads to;
+-- `live` says who was live before it.
 unfoldable pub ended_by : Step → (ℕ → Bool) → List Step → ℕ → Option End
 ended_by (Commit u) live older t = cond (live u.0 && linked (among live (class_arrows older)) u.0 t) (Some End'.Committed) None
+ended_by (Abort u) live older t = cond (live u.0 && linked (among live (doom_arrows older)) u.0 t) (Some End'.Aborted) None
 ended_by step live older t = None
 
 -- how t ended, if it did: the first end counts
@@ -32,6 +38,7 @@ live past t = lists (initiated past) t && is_none (end_of past t)
 unfoldable pub status_of : Bool → Bool → Bool → Option End → Status
 status_of false begun completed end = Status'.Unknown
 status_of true begun completed (Some End'.Committed) = Status'.Committed
+status_of true begun completed (Some End'.Aborted) = Status'.Aborted
 status_of true begun true None = Status'.Completed
 status_of true true false None = Status'.Running
 status_of true false false None = Status'.Initiated

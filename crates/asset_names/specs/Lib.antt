@@ -7,3 +7,4 @@ pub mod Steps
 pub mod Endings
 pub mod Operations
 pub mod Answers
+pub mod Room

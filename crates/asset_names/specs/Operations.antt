@@ -5,10 +5,12 @@ use Rattle.asset_names.specs.declared.names.Ob.{Ob}
 use Rattle.asset_names.specs.declared.operations.Op.{Op}
 use Rattle.asset_names.specs.declared.operations.Op.TheVariants as Op'
 use Rattle.asset_names.specs.declared.steps.Step.{Step}
-use Rattle.asset_names.specs.declared.steps.Step.TheVariants.{Read, Write}
+use Rattle.asset_names.specs.declared.steps.Step.TheVariants.{Initiate, Begin, Read, Write, Complete, Commit, Abort, WaitFor}
 use Rattle.asset_names.specs.Arrows.{Arrow, linked, among}
 use Rattle.asset_names.specs.Steps.{Opening}
-use Rattle.asset_names.specs.Endings.{live}
+use Rattle.asset_names.specs.declared.statuses.End.{End}
+use Rattle.asset_names.specs.declared.statuses.End.TheVariants as End'
+use Rattle.asset_names.specs.Endings.{live, end_of}
 
 -- what an operation does to its object
 pub data Use : Type 0 where
@@ -77,9 +79,14 @@ hinders past t x op o = o.object == x && conflict (op_of o.use_of) op && not (o.
 unfoldable pub free : List Step → ℕ → ℕ → Op → Bool
 free past t x op = not (list_any (hinders past t x op) (operations past))
 
--- an operation stands unless its owner has aborted, which no name has yet
+-- whether a transaction ended by an abort
+unfoldable pub was_aborted : Option End → Bool
+was_aborted (Some End'.Aborted) = true
+was_aborted end = false
+
+-- an operation stands unless its owner has aborted
 unfoldable pub stands : List Step → Operation → Bool
-stands past o = true
+stands past o = not (was_aborted (end_of past o.owner))
 
 -- the opening value of an object, if the opening has it
 unfoldable pub opening_at : Opening → ℕ → Option ℤ

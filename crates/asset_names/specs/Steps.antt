@@ -2,7 +2,7 @@
 use Rattle.std.specs.Prelude.{ℕ, ℤ, Bool, true, false, cond, List, [], ◌∷◌, flat_map}
 use Rattle.asset_names.specs.declared.names.Ob.{Ob}
 use Rattle.asset_names.specs.declared.steps.Step.{Step}
-use Rattle.asset_names.specs.declared.steps.Step.TheVariants.{Initiate, Begin, Read, Write, Complete, Commit}
+use Rattle.asset_names.specs.declared.steps.Step.TheVariants.{Initiate, Begin, Read, Write, Complete, Commit, Abort, WaitFor}
 use Rattle.asset_names.specs.declared.replies.Reply.{Reply}
 use Rattle.asset_names.specs.declared.replies.Reply.TheVariants as Reply'
 
@@ -14,7 +14,7 @@ Opening = List (Ob × ℤ)
 abbrev pub Entry : Type 0
 Entry = Step × Reply
 
--- whether a step that got this reply was carried out
+-- whether a step that got this reply was carried out; a wait for a name changes nothing, whatever it answers
 unfoldable pub carries_out : Step → Reply → Bool
 carries_out (Initiate t parent) Reply'.Done = true
 carries_out (Begin t) Reply'.Done = true
@@ -22,6 +22,7 @@ carries_out (Read t x) (Reply'.Value v) = true
 carries_out (Write t x v) Reply'.Done = true
 carries_out (Complete t) Reply'.Done = true
 carries_out (Commit t) Reply'.Committed = true
+carries_out (Abort t) Reply'.Aborted = true
 carries_out step reply = false
 
 -- the steps that were carried out, newest first as the entries are

@@ -1,10 +1,26 @@
 //! Laws of the definitions, each on the contract of a function that does nothing.
 
-ghost use Rattle.std.specs.Prelude.{◌≡◌, ℕ, ◌↔◌, true, List};
+ghost use Rattle.std.specs.Prelude.{◌≡◌, ℕ, ◌+◌, ◌↔◌, true, List, ◌∷◌, length};
+ghost use Rattle.asset_names.specs.declared.steps.Step.{Step};
+ghost use Rattle.asset_names.specs.declared.replies.Reply.{Reply};
+ghost use Rattle.asset_names.specs.declared.replies.Outcome.TheVariants.{Answer};
+ghost use Rattle.asset_names.specs.Steps.{Opening, Entry, deeds};
+ghost use Rattle.asset_names.specs.Answers.{IsLegal, answer};
+ghost use Rattle.asset_names.specs.Room.{fits, changes_status};
 ghost use Rattle.asset_names.specs.Arrows.{Arrow, linked, Chain};
 
 /// A name is linked to another exactly where a chain of arrows leads from the one to the other.
 pub fn linked_is_chain()
     ensures { (arrows : List Arrow) (a b : ℕ) → (linked arrows a b ≡ true) ↔ Chain arrows a b }
+{
+}
+
+/// A complete, a commit or an abort that changes a status finds room in each legal history whose
+/// entries and owed entries fit the capacity: with its own entry the history fits again.
+pub fn endings_find_room()
+    ensures { (opening : Opening) (entries : List Entry) (step : Step) (reply : Reply) (capacity : ℕ) →
+        IsLegal opening entries → fits (deeds entries) (length entries) capacity ≡ true →
+        answer opening (deeds entries) step ≡ Answer reply → changes_status (deeds entries) step reply ≡ true →
+        fits (deeds ((step, reply) ∷ entries)) (length entries + 1) capacity ≡ true }
 {
 }

@@ -13,10 +13,13 @@ pub enum Status {
     Completed,
     /// It ended by a commit.
     Committed,
+    /// It ended by an abort, and its writes are undone.
+    Aborted,
 }
 
 /// How a transaction ended.
 #[derive(Clone, Copy, Debug, PartialEq, Eq)]
 pub enum End {
     Committed,
+    Aborted,
 }

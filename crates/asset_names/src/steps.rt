@@ -28,4 +28,8 @@ pub enum Step {
     Complete { t: Txn },
     /// Commits `t`.
     Commit { t: Txn },
+    /// Aborts `t`.
+    Abort { t: Txn },
+    /// Asks whether `t` has completed or ended.
+    WaitFor { t: Txn },
 }

@@ -4,7 +4,7 @@ use Rattle.asset_names.specs.Steps.{deeds}
 use Rattle.asset_names.specs.Endings.{status}
 use Rattle.asset_core.specs.Tracks.{track_of}
 use Rattle.asset_core.proofs.PastLemmas.{reverse_take_more, no_entry}
-use Rattle.asset_core.proofs.tracks.status_after.Goals as goal
+use Rattle.asset_core.proofs.tracks.track_entries.Goals as goal
 
 pub entries-init : goal.entries-init
 unfolding deeds
@@ -16,7 +16,6 @@ entries-preserved c =
     rw (reverse_take_more c.args.entries.now c.entries.entry-index no_entry below) (c.after-track.ensures _ c.entries.invariant)
 
 pub returns : goal.returns
-unfolding status track_of
 returns c =
     let all : length c.args.entries.now ≤ c.entries.entry-index = omega arith in
-    rw (c.status.ensures, c.entries.invariant, take_all)
+    rw take_all at c.entries.invariant

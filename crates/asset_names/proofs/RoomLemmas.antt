@@ -1,0 +1,192 @@
+-- How the entries that are owed change with a step.
+use Rattle.std.proofs.Common.{◌≡◌, ℕ, ◌+◌, ◌≤◌, Bool, true, false, cond, not, eqb, ◌&&◌, ◌||◌, List, [], ◌∷◌, length, Some, None, refl, sym, ◌∙◌, ap, subst, arith, ◌⊎◌, inl, inr}
+use Rattle.std.specs.Prelude.{Option, is_none, is_some, sum_by}
+use Rattle.std.specs.Option.{option_or}
+use Rattle.std.proofs.lemmas.List.Sums.{sum_by-cons}
+use Rattle.std.proofs.lemmas.Bool.{or_cases, or_left, or_right, eqb-true, eq-eqb, eqb-false, ne_eqb, false≢true, and_parts, leb-true, le-leb}
+use Rattle.asset_names.specs.declared.statuses.End.{End}
+use Rattle.asset_names.specs.declared.statuses.End.TheVariants as End'
+use Rattle.asset_names.specs.declared.statuses.Status.{Status}
+use Rattle.asset_names.specs.declared.statuses.Status.TheVariants as Status'
+use Rattle.asset_names.specs.declared.names.Txn.{Txn}
+use Rattle.asset_names.specs.declared.steps.Step.{Step}
+use Rattle.asset_names.specs.declared.steps.Step.TheVariants.{Initiate, Begin, Read, Write, Complete, Commit, Abort, WaitFor}
+use Rattle.asset_names.specs.Arrows.{lists, linked, among}
+use Rattle.asset_names.specs.Steps.{Opening, Entry, carries_out, deeds, initiated, initiated_by, begun, begun_by, completed, completed_by}
+use Rattle.asset_names.specs.Endings.{class_arrows, doom_arrows, ended_by, end_of, live, status, status_of}
+use Rattle.asset_names.specs.declared.replies.Reply.{Reply}
+use Rattle.asset_names.specs.declared.replies.Outcome.TheVariants.{Answer}
+use Rattle.asset_names.specs.Answers.{is_running, answer, IsLegal}
+use Rattle.asset_names.specs.Room.{owed_to, owed, fits, changes_status}
+use Rattle.asset_names.proofs.LegalLemmas.{option_or_none, end_alone, running_parts, complete_runs, Distinct, IsOrderly, legal_orderly, ended_initiated}
+
+-- sums of what is the same for each listed name
+sum_same : (f g : ℕ → ℕ) (names : List ℕ) → ((n : ℕ) → lists names n ≡ true → g n ≡ f n) → sum_by g names ≡ sum_by f names
+unfolding lists
+sum_same f g [] same = refl
+sum_same f g (n ∷ names) same =
+    let first : g n ≡ f n = same n (or_left (eqb n n) _ (eq-eqb n n refl)) in
+    let later = sum_same f g names (λ m listed. same m (or_right (eqb n m) _ listed)) in
+    sum_by-cons g n names ∙ ap (λ k. k + sum_by g names) first ∙ ap (λ k. f n + k) later ∙ sym (sum_by-cons f n names)
+
+-- sums of what differs for one name of different ones
+sum_change : (f g : ℕ → ℕ) (names : List ℕ) (t : ℕ) → Distinct names → lists names t ≡ true → ((n : ℕ) → eqb n t ≡ false → g n ≡ f n) → sum_by g names + f t ≡ sum_by f names + g t
+unfolding lists
+sum_change f g [] t different listed same = absurd (false≢true listed)
+sum_change f g (n ∷ names) t different listed same = go (eqb n t) refl (or_cases (eqb n t) (lists names t) listed) (λ later. sum_change f g names t different.1 later same) where
+  other : (m : ℕ) → eqb n t ≡ true → lists names m ≡ true → eqb m t ≡ false
+  other m here listed = ne_eqb m t (λ e. false≢true (sym different.0 ∙ subst (λ k. lists names k ≡ true) (e ∙ sym (eqb-true n t here)) listed))
+  go : (here : Bool) → eqb n t ≡ here → (eqb n t ≡ true) ⊎ (lists names t ≡ true) → (lists names t ≡ true → sum_by g names + f t ≡ sum_by f names + g t) → sum_by g (n ∷ names) + f t ≡ sum_by f (n ∷ names) + g t
+  go true e w induction =
+      let rest = sum_same f g names (λ m listed. same m (other m e listed)) in
+      let is = eqb-true n t e in
+      omega (arith, sum_by-cons f n names, sum_by-cons g n names, rest, ap f is, ap g is)
+  go false e (inl here) induction = absurd (false≢true (sym e ∙ here))
+  go false e (inr later) induction =
+      omega (arith, sum_by-cons f n names, sum_by-cons g n names, induction later, same n e)
+
+-- what a name is owed, by whether it was initiated and has completed and how it ended
+owed_parts : Bool → Bool → Option End → ℕ
+owed_parts false completed end = 0
+owed_parts true completed (Some end) = 0
+owed_parts true true None = 1
+owed_parts true false None = 2
+
+owed_by_parts : (past : List Step) (n : ℕ) → owed_to (status past n) ≡ owed_parts (lists (initiated past) n) (lists (completed past) n) (end_of past n)
+unfolding owed_to owed_parts status status_of
+owed_by_parts past n = go (lists (initiated past) n) (lists (begun past) n) (lists (completed past) n) (end_of past n) where
+  go : (i b c : Bool) (e : Option End) → owed_to (status_of i b c e) ≡ owed_parts i c e
+  go false b c e = refl
+  go true b c (Some End'.Committed) = refl
+  go true b c (Some End'.Aborted) = refl
+  go true b true None = refl
+  go true true false None = refl
+  go true false false None = refl
+
+-- the same parts are owed the same
+same_parts : (past later : List Step) (n : ℕ) → lists (initiated later) n ≡ lists (initiated past) n → lists (completed later) n ≡ lists (completed past) n → end_of later n ≡ end_of past n
+    → owed_to (status later n) ≡ owed_to (status past n)
+same_parts past later n i c e = owed_by_parts later n ∙ rw (i, c, e) (sym (owed_by_parts past n))
+
+-- a step that initiates, completes and ends nobody
+pub owed_begin : (t : Txn) (past : List Step) → owed (Begin t ∷ past) ≡ owed past
+unfolding owed initiated initiated_by completed completed_by end_of ended_by
+owed_begin t past = sum_same _ _ (initiated past) (λ n listed. same_parts past (Begin t ∷ past) n refl refl (option_or_none (end_of past n)))
+
+pub owed_read : (t : Txn) (x : _) (past : List Step) → owed (Read t x ∷ past) ≡ owed past
+unfolding owed initiated initiated_by completed completed_by end_of ended_by
+owed_read t x past = sum_same _ _ (initiated past) (λ n listed. same_parts past (Read t x ∷ past) n refl refl (option_or_none (end_of past n)))
+
+pub owed_write : (t : Txn) (x : _) (v : _) (past : List Step) → owed (Write t x v ∷ past) ≡ owed past
+unfolding owed initiated initiated_by completed completed_by end_of ended_by
+owed_write t x v past = sum_same _ _ (initiated past) (λ n listed. same_parts past (Write t x v ∷ past) n refl refl (option_or_none (end_of past n)))
+
+pub owed_wait : (t : Txn) (past : List Step) → owed (WaitFor t ∷ past) ≡ owed past
+unfolding owed initiated initiated_by completed completed_by end_of ended_by
+owed_wait t past = sum_same _ _ (initiated past) (λ n listed. same_parts past (WaitFor t ∷ past) n refl refl (option_or_none (end_of past n)))
+
+-- what holds only of who was initiated does not hold of who was not
+not_known : (c i : Bool) → (c ≡ true → i ≡ true) → i ≡ false → c ≡ false
+not_known false i known new = refl
+not_known true i known new = absurd (false≢true (sym new ∙ known refl))
+
+not_ended : (e : Option End) (i : Bool) → (is_some e ≡ true → i ≡ true) → i ≡ false → e ≡ None
+not_ended None i known new = refl
+not_ended (Some end) i known new = absurd (false≢true (sym new ∙ known refl))
+
+-- a new name is owed two entries
+pub owed_initiate : (t : Txn) (parent : _) (past : List Step) → IsOrderly past → lists (initiated past) t.0 ≡ false → owed (Initiate t parent ∷ past) ≡ owed past + 2
+unfolding owed initiated initiated_by completed completed_by end_of ended_by lists owed_parts
+owed_initiate t parent past orderly new =
+    let later = Initiate t parent ∷ past in
+    let incomplete = not_known (lists (completed past) t.0) (lists (initiated past) t.0) (orderly.known t.0) new in
+    let alive = not_ended (end_of past t.0) (lists (initiated past) t.0) (ended_initiated past t.0) new in
+    let first : owed_to (status later t.0) ≡ 2 =
+      owed_by_parts later t.0 ∙ rw (or_left (eqb t.0 t.0) (lists (initiated past) t.0) (eq-eqb t.0 t.0 refl), incomplete, alive) refl in
+    let rest = sum_same (λ n. owed_to (status past n)) (λ n. owed_to (status later n)) (initiated past)
+      (λ n listed. same_parts past later n (or_right (eqb t.0 n) _ listed ∙ sym listed) refl (option_or_none (end_of past n))) in
+    omega (arith, sum_by-cons (λ n. owed_to (status later n)) t.0 (initiated past), first, rest)
+
+-- who completes is owed one entry less
+pub owed_complete : (t : Txn) (past : List Step) → IsOrderly past → is_running (status past t.0) ≡ true → owed (Complete t ∷ past) + 1 ≡ owed past
+unfolding owed initiated initiated_by completed completed_by end_of ended_by lists owed_parts
+owed_complete t past orderly runs =
+    let later = Complete t ∷ past in
+    let parts = running_parts past t.0 runs in
+    let before : owed_to (status past t.0) ≡ 2 = owed_by_parts past t.0 ∙ rw (parts.0, parts.1, parts.2) refl in
+    let after : owed_to (status later t.0) ≡ 1 =
+      owed_by_parts later t.0 ∙ rw (parts.0, or_left (eqb t.0 t.0) (lists (completed past) t.0) (eq-eqb t.0 t.0 refl), option_or_none (end_of past t.0), parts.2) refl in
+    let change = sum_change (λ n. owed_to (status past n)) (λ n. owed_to (status later n)) (initiated past) t.0 orderly.different parts.0
+      (λ n other. same_parts past later n refl (ap (λ b. b || lists (completed past) n) (ne_eqb t.0 n (λ e. eqb-false n t.0 other (sym e)))) (option_or_none (end_of past n))) in
+    omega (arith, before, after, change)
+
+-- who ends is owed nothing any more
+owed_end : (how : End) (t : ℕ) (past later : List Step) → IsOrderly past → initiated later ≡ initiated past → completed later ≡ completed past
+    → ((n : ℕ) → end_of later n ≡ option_or (end_of past n) (cond (eqb t n && lists (initiated past) n) (Some how) None)) → owed later + owed_to (status past t) ≡ owed past
+unfolding owed owed_parts
+owed_end how t past later orderly i c ends = go (lists (initiated past) t) refl where
+  same_initiated : (n : ℕ) → lists (initiated later) n ≡ lists (initiated past) n
+  same_initiated n = ap (λ names. lists names n) i
+  same_completed : (n : ℕ) → lists (completed later) n ≡ lists (completed past) n
+  same_completed n = ap (λ names. lists names n) c
+  no_end : (n : ℕ) → (eqb t n && lists (initiated past) n) ≡ false → end_of later n ≡ end_of past n
+  no_end n h = ends n ∙ rw h (option_or_none (end_of past n))
+  over : sum_by (λ n. owed_to (status later n)) (initiated later) ≡ sum_by (λ n. owed_to (status later n)) (initiated past)
+  over = ap (λ names. sum_by (λ n. owed_to (status later n)) names) i
+  some_end : (e : Option End) → owed_parts true (lists (completed past) t) (option_or e (Some how)) ≡ 0
+  some_end None = refl
+  some_end (Some e) = refl
+  go : (known : Bool) → lists (initiated past) t ≡ known → sum_by (λ n. owed_to (status later n)) (initiated later) + owed_to (status past t) ≡ sum_by (λ n. owed_to (status past n)) (initiated past)
+  go false new =
+      let nothing : owed_to (status past t) ≡ 0 = owed_by_parts past t ∙ rw new refl in
+      let rest = sum_same (λ n. owed_to (status past n)) (λ n. owed_to (status later n)) (initiated past)
+        (λ n listed. same_parts past later n (same_initiated n) (same_completed n) (no_end n (ap (λ b. b && lists (initiated past) n) (ne_eqb t n (λ e. false≢true (sym new ∙ ap (lists (initiated past)) e ∙ listed)))))) in
+      omega (arith, over, nothing, rest)
+  go true known =
+      let after : owed_to (status later t) ≡ 0 =
+        owed_by_parts later t ∙ rw (same_initiated t, known, same_completed t, ends t, eq-eqb t t refl, known) (some_end (end_of past t)) in
+      let change = sum_change (λ n. owed_to (status past n)) (λ n. owed_to (status later n)) (initiated past) t orderly.different known
+        (λ n other. same_parts past later n (same_initiated n) (same_completed n) (no_end n (ap (λ b. b && lists (initiated past) n) (ne_eqb t n (λ e. eqb-false n t other (sym e)))))) in
+      omega (arith, over, after, change)
+
+pub owed_commit : (t : Txn) (past : List Step) → IsOrderly past → owed (Commit t ∷ past) + owed_to (status past t.0) ≡ owed past
+unfolding initiated initiated_by completed completed_by end_of ended_by live class_arrows among linked
+owed_commit t past orderly = owed_end End'.Committed t.0 past (Commit t ∷ past) orderly refl refl (λ n. end_alone End'.Committed t.0 n past)
+
+pub owed_abort : (t : Txn) (past : List Step) → IsOrderly past → owed (Abort t ∷ past) + owed_to (status past t.0) ≡ owed past
+unfolding initiated initiated_by completed completed_by end_of ended_by live class_arrows doom_arrows among linked
+owed_abort t past orderly = owed_end End'.Aborted t.0 past (Abort t ∷ past) orderly refl refl (λ n. end_alone End'.Aborted t.0 n past)
+
+-- who is live is owed something
+pub owed_live : (past : List Step) (t : ℕ) → live past t ≡ true → 1 ≤ owed_to (status past t)
+unfolding live owed_parts
+owed_live past t alive = rw (owed_by_parts past t) (go (lists (initiated past) t) (lists (completed past) t) (end_of past t) alive) where
+  go : (i c : Bool) (e : Option End) → (i && is_none e) ≡ true → 1 ≤ owed_parts i c e
+  go false c e h = absurd (false≢true h)
+  go true c (Some e) h = absurd (false≢true h)
+  go true true None h = omega arith
+  go true false None h = omega arith
+
+-- a step that changes a status for good frees at least the entry that it takes
+owed_less : (opening : Opening) (past : List Step) (step : Step) (reply : Reply) → IsOrderly past → answer opening past step ≡ Answer reply → changes_status past step reply ≡ true → (carries_out step reply ≡ true) × (owed (step ∷ past) + 1 ≤ owed past)
+unfolding changes_status
+owed_less opening past (Complete t) reply orderly is changes = (changes, omega (arith, owed_complete t past orderly (complete_runs opening past t reply is changes)))
+owed_less opening past (Commit t) reply orderly is changes =
+    let parts = and_parts _ (live past t.0) changes in
+    (parts.0, omega (arith, owed_commit t past orderly, owed_live past t.0 parts.1))
+owed_less opening past (Abort t) reply orderly is changes =
+    let parts = and_parts _ (live past t.0) changes in
+    (parts.0, omega (arith, owed_abort t past orderly, owed_live past t.0 parts.1))
+owed_less opening past (Initiate t parent) reply orderly is changes = absurd (false≢true changes)
+owed_less opening past (Begin t) reply orderly is changes = absurd (false≢true changes)
+owed_less opening past (Read t x) reply orderly is changes = absurd (false≢true changes)
+owed_less opening past (Write t x v) reply orderly is changes = absurd (false≢true changes)
+owed_less opening past (WaitFor t) reply orderly is changes = absurd (false≢true changes)
+
+-- such a step finds room in each legal history that fits
+pub ending_fits : (opening : Opening) (entries : List Entry) (step : Step) (reply : Reply) (room : ℕ) → IsLegal opening entries → fits (deeds entries) (length entries) room ≡ true
+    → answer opening (deeds entries) step ≡ Answer reply → changes_status (deeds entries) step reply ≡ true → fits (deeds ((step, reply) ∷ entries)) (length entries + 1) room ≡ true
+unfolding fits deeds
+ending_fits opening entries step reply room legal fitted is changes =
+    let less = owed_less opening (deeds entries) step reply (legal_orderly opening entries legal) is changes in
+    rw less.0 (le-leb _ _ (omega (arith, leb-true _ _ fitted, less.1)))
