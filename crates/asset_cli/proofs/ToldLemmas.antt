@@ -18,7 +18,7 @@ unfolding steps_told step_line
 blank_goes_on before line more n h e = rw e (record { text = refl; end = refl })
 
 pub ask_goes_on : (before after line : List ℕ) (more : List (List ℕ)) (n : ℕ) (h h' : Recorded) (step : Step) → line_of line ≡ Command (Ask step)
-    → after ≡ before ++ told_outcome h (answer_to h step) → h' ≡ joined_by h step (answer_to h step) → GoesOn before (steps_told (line ∷ more) n h) after (steps_told more (n + 1) h')
+    → after ≡ before ++ told_outcome h step (answer_to h step) → h' ≡ joined_by h step (answer_to h step) → GoesOn before (steps_told (line ∷ more) n h) after (steps_told more (n + 1) h')
 unfolding steps_told step_line with_front
 ask_goes_on before after line more n h h' step e wrote joined = rw (e, wrote, joined) (record { text = sym (append_assoc before _ _); end = refl })
 

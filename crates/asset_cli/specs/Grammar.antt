@@ -6,7 +6,7 @@ use Rattle.asset_names.specs.declared.names.Ob.{Ob}
 use Rattle.asset_names.specs.declared.steps.Step.{Step}
 use Rattle.asset_names.specs.declared.steps.Step.TheVariants as Step'
 use Rattle.asset_cli.specs.declared.keywords.Keyword.{Keyword}
-use Rattle.asset_cli.specs.declared.keywords.Keyword.TheVariants.{Initiate, Begin, Read, Write, Complete, Commit}
+use Rattle.asset_cli.specs.declared.keywords.Keyword.TheVariants.{Initiate, Begin, Read, Write, Complete, Commit, Abort, Wait}
 use Rattle.asset_cli.specs.declared.grammar.Command.{Command}
 use Rattle.asset_cli.specs.declared.grammar.Command.TheVariants.{Object, Ask}
 use Rattle.asset_cli.specs.declared.grammar.Line.{Line}
@@ -23,6 +23,8 @@ step_by Read arguments = option_map (λ (a : Txn × Ob). Step'.Read a.0 a.1) (tx
 step_by Write arguments = option_map (λ (a : Txn × Ob × ℤ). Step'.Write a.0 a.1 a.2) (txn_object_and_value arguments)
 step_by Complete arguments = option_map Step'.Complete (one_txn arguments)
 step_by Commit arguments = option_map Step'.Commit (one_txn arguments)
+step_by Abort arguments = option_map Step'.Abort (one_txn arguments)
+step_by Wait arguments = option_map Step'.WaitFor (one_txn arguments)
 
 -- What the words of an object line say after the first one: the object and its value.
 unfoldable pub object_command : List (List ℕ) → Option Command

@@ -32,17 +32,17 @@ unfoldable pub with_front : List ℕ → Told → Told
 with_front text later = record { text = text ++ later.text; end = later.end }
 
 -- the line that is printed for a step with this outcome: where there is no room for it, the step is not answered
-unfoldable pub told_outcome : Recorded → Outcome → List ℕ
-told_outcome history outcome = cond (has_room history outcome) (outcome_line outcome) full_line
+unfoldable pub told_outcome : Recorded → Step → Outcome → List ℕ
+told_outcome history step outcome = cond (has_room history step outcome) (outcome_line outcome) full_line
 
 -- the history after a step with this outcome, which joins it where there is room
 unfoldable pub joined_by : Recorded → Step → Outcome → Recorded
-joined_by history step outcome = cond (has_room history outcome) (after history step outcome) history
+joined_by history step outcome = cond (has_room history step outcome) (after history step outcome) history
 
 -- what a line among the steps prints, before what the later lines do
 unfoldable pub step_line : Line → ℕ → Recorded → (Recorded → Told) → Told
 step_line Blank n history later = later history
-step_line (Command (Ask step)) n history later = with_front (told_outcome history (answer_to history step)) (later (joined_by history step (answer_to history step)))
+step_line (Command (Ask step)) n history later = with_front (told_outcome history step (answer_to history step)) (later (joined_by history step (answer_to history step)))
 step_line (Command (Object object)) n history later = stopped n
 step_line Bad n history later = stopped n
 

@@ -13,19 +13,23 @@ pub(crate) enum Keyword {
     Write,
     Complete,
     Commit,
+    Abort,
+    Wait,
 }
 
 impl Keyword {
     ghost use Rattle.asset_cli.specs.Grammar.{step_by};
     ghost use Rattle.asset_cli.specs.Keywords.{keyword_of, keyword_text};
 
-    const ALL: [Keyword; 6] = [
+    const ALL: [Keyword; 8] = [
         Keyword::Initiate,
         Keyword::Begin,
         Keyword::Read,
         Keyword::Write,
         Keyword::Complete,
         Keyword::Commit,
+        Keyword::Abort,
+        Keyword::Wait,
     ];
 
     // How the keyword is written.
@@ -40,6 +44,8 @@ impl Keyword {
             Keyword::Write => b"write",
             Keyword::Complete => b"complete",
             Keyword::Commit => b"commit",
+            Keyword::Abort => b"abort",
+            Keyword::Wait => b"wait",
         }
     }
 
@@ -70,6 +76,8 @@ impl Keyword {
                 .map(|(t, x, v)| Step::Write { t, x, v }),
             Keyword::Complete => arguments.one_txn().map(|t| Step::Complete { t }),
             Keyword::Commit => arguments.one_txn().map(|t| Step::Commit { t }),
+            Keyword::Abort => arguments.one_txn().map(|t| Step::Abort { t }),
+            Keyword::Wait => arguments.one_txn().map(|t| Step::WaitFor { t }),
         }
     }
 }

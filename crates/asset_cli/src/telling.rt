@@ -23,7 +23,7 @@ use std::alloc::Global;
 /// Asks one step, and adds the line of its outcome to the text.
 #[tactic(auto, unfolding(crate::specs::Transcript::told_outcome, crate::specs::Transcript::joined_by))]
 fn ask(core: &mut Core, text: &mut String, step: Step) -> Result<(), ScriptFault>
-    ensures text { OnOk result (string_bytes text.new ≡ string_bytes text.old ++ told_outcome core.old (answer_to core.old step)) }
+    ensures text { OnOk result (string_bytes text.new ≡ string_bytes text.old ++ told_outcome core.old step (answer_to core.old step)) }
     ensures history { OnOk result (core.new ≡ joined_by core.old step (answer_to core.old step)) }
     ensures memory { IfErr result (λ fault. fault ≡ ScriptFault.NoMemory) }
 {
