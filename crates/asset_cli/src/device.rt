@@ -1,5 +1,5 @@
 //! A reader or a writer that is watched: whether a call of it failed, and how much it did.
-ghost use Rattle.std.specs.Prelude.{◌≡◌, ◌<◌, ◌≤◌, ℕ, Bool, true, false, length, take, IfSome, IfNone, is_none, ◌||◌};
+ghost use Rattle.std.specs.Prelude.{◌≡◌, ◌<◌, ◌≤◌, ℕ, Bool, true, false, length, take, IfSome, IfNone, MatchOption, is_none, ◌||◌};
 ghost use Rattle.std.specs.Io.KnownBytes.{Appends, Consumes, IsAtEnd, Keeps};
 ghost use Rattle.asset_cli.specs.Device.{DeviceState, IsFresh, counted};
 
@@ -55,11 +55,12 @@ impl<D> Device<D> {
     }
 
     // Notes a call that moved `count` bytes, or failed at `None`.
+    #[tactic(auto, unfolding(crate::specs::Device::counted))]
     fn note(&mut self, count: Option<usize>)
         ensures inner { self.new.inner ≡ self.old.inner }
         ensures failed { self.new.failed ≡ (self.old.failed || is_none count) }
         ensures asked { self.new.asked ≡ counted self.old.asked 1 }
-        ensures moved { IfSome count (λ n. self.new.moved ≡ counted self.old.moved n) }
+        ensures moved { MatchOption count (self.new.moved ≡ self.old.moved) (λ n. self.new.moved ≡ counted self.old.moved n) }
     {
         self.asked = self.asked.saturating_add(1);
         match count {
@@ -78,7 +79,7 @@ impl<D: Read> Device<D> {
         ensures gave_nothing { IfNone result (Keeps (D.remaining self.old.inner) (D.remaining self.new.inner)) }
         ensures failed { self.new.failed ≡ (self.old.failed || is_none result) }
         ensures asked { self.new.asked ≡ counted self.old.asked 1 }
-        ensures moved { IfSome result (λ n. self.new.moved ≡ counted self.old.moved n) }
+        ensures moved { MatchOption result (self.new.moved ≡ self.old.moved) (λ n. self.new.moved ≡ counted self.old.moved n) }
     {
         let count = self.inner.read(buf).ok();
         self.note(count);
@@ -96,7 +97,7 @@ impl<D: Write> Device<D> {
         ensures took_nothing { IfNone result (Keeps (D.contents self.old.inner) (D.contents self.new.inner)) }
         ensures failed { self.new.failed ≡ (self.old.failed || is_none result) }
         ensures asked { self.new.asked ≡ counted self.old.asked 1 }
-        ensures moved { IfSome result (λ n. self.new.moved ≡ counted self.old.moved n) }
+        ensures moved { MatchOption result (self.new.moved ≡ self.old.moved) (λ n. self.new.moved ≡ counted self.old.moved n) }
     {
         let count = match self.inner.write(text) {
             Ok(0) if !text.is_empty() => None,
