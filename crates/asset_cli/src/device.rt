@@ -60,7 +60,8 @@ impl<D> Device<D> {
         ensures inner { self.new.inner ≡ self.old.inner }
         ensures failed { self.new.failed ≡ (self.old.failed || is_none count) }
         ensures asked { self.new.asked ≡ counted self.old.asked 1 }
-        ensures moved { MatchOption count (self.new.moved ≡ self.old.moved) (λ n. self.new.moved ≡ counted self.old.moved n) }
+        ensures moved { MatchOption count (self.new.moved ≡ self.old.moved)
+            (λ n. self.new.moved ≡ counted self.old.moved n) }
     {
         self.asked = self.asked.saturating_add(1);
         match count {
@@ -74,12 +75,16 @@ impl<D: Read> Device<D> {
     /// Asks the reader once. `None` says that it failed.
     pub(crate) fn read(&mut self, buf: &mut [u8]) -> Option<usize>
         ensures bound { IfSome result (λ n. n ≤ length buf.new) }
-        ensures gave { IfSome result (λ n. Consumes (D.remaining self.old.inner) (D.remaining self.new.inner) (take n buf.new)) }
-        ensures end { IfSome result (λ n. n ≡ 0 → 0 < length buf.new → IsAtEnd (D.remaining self.new.inner)) }
-        ensures gave_nothing { IfNone result (Keeps (D.remaining self.old.inner) (D.remaining self.new.inner)) }
+        ensures gave { IfSome result (λ n.
+            Consumes (D.remaining self.old.inner) (D.remaining self.new.inner) (take n buf.new)) }
+        ensures end { IfSome result (λ n.
+            n ≡ 0 → 0 < length buf.new → IsAtEnd (D.remaining self.new.inner)) }
+        ensures gave_nothing { IfNone result
+            (Keeps (D.remaining self.old.inner) (D.remaining self.new.inner)) }
         ensures failed { self.new.failed ≡ (self.old.failed || is_none result) }
         ensures asked { self.new.asked ≡ counted self.old.asked 1 }
-        ensures moved { MatchOption result (self.new.moved ≡ self.old.moved) (λ n. self.new.moved ≡ counted self.old.moved n) }
+        ensures moved { MatchOption result (self.new.moved ≡ self.old.moved)
+            (λ n. self.new.moved ≡ counted self.old.moved n) }
     {
         let count = self.inner.read(buf).ok();
         self.note(count);
@@ -93,11 +98,14 @@ impl<D: Write> Device<D> {
     pub(crate) fn write(&mut self, text: &[u8]) -> Option<usize>
         ensures bound { IfSome result (λ n. n ≤ length text.now) }
         ensures progress { IfSome result (λ n. 0 < length text.now → 0 < n) }
-        ensures took { IfSome result (λ n. Appends (D.contents self.old.inner) (D.contents self.new.inner) (take n text.now)) }
-        ensures took_nothing { IfNone result (Keeps (D.contents self.old.inner) (D.contents self.new.inner)) }
+        ensures took { IfSome result (λ n.
+            Appends (D.contents self.old.inner) (D.contents self.new.inner) (take n text.now)) }
+        ensures took_nothing { IfNone result
+            (Keeps (D.contents self.old.inner) (D.contents self.new.inner)) }
         ensures failed { self.new.failed ≡ (self.old.failed || is_none result) }
         ensures asked { self.new.asked ≡ counted self.old.asked 1 }
-        ensures moved { MatchOption result (self.new.moved ≡ self.old.moved) (λ n. self.new.moved ≡ counted self.old.moved n) }
+        ensures moved { MatchOption result (self.new.moved ≡ self.old.moved)
+            (λ n. self.new.moved ≡ counted self.old.moved n) }
     {
         let count = match self.inner.write(text) {
             Ok(0) if !text.is_empty() => None,

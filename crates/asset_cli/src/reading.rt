@@ -30,7 +30,8 @@ fn zeros(alloc: Global, len: usize) -> Result<Vec<u8>, AllocError>
 #[tactic(auto, unfolding(crate::specs::Device::counted))]
 pub fn read_all<R: Read>(alloc: Global, input: &mut Device<R>) -> Result<Vec<u8>, ScriptFault>
     requires { IsFresh input.old }
-    ensures gave { IfOk result (λ bytes. Consumes (R.remaining input.old.inner) (R.remaining input.new.inner) bytes.items) }
+    ensures gave { IfOk result (λ bytes.
+        Consumes (R.remaining input.old.inner) (R.remaining input.new.inner) bytes.items) }
     ensures end { OnOk result (IsAtEnd (R.remaining input.new.inner)) }
     ensures limit { IfOk result (λ bytes. vec_len bytes ≤ input_limit) }
     ensures sound { OnOk result (input.new.failed ≡ false) }
