@@ -1,13 +1,14 @@
 -- A text writes a number exactly where it is the number in decimal.
-use Rattle.std.proofs.Common.{◌≡◌, ℕ, zero, suc, ◌+◌, ◌<◌, ◌^◌, ◌==◌, ◌&&◌, ◌||◌, Bool, true, false, not, cond, List, [], ◌∷◌, length, get_or, None, Some, inl, inr, refl, sym, ap, ◌∙◌, arith}
-use Rattle.std.specs.Prelude.{nat_lt}
+use Rattle.std.proofs.Common.{◌≡◌, ℕ, zero, suc, ◌+◌, ◌-◌, ◌<◌, ◌^◌, ◌==◌, ◌&&◌, ◌||◌, Bool, true, false, not, cond, List, [], ◌∷◌, length, get_or, None, Some, inl, inr, refl, sym, ap, ◌∙◌, arith}
+use Rattle.std.specs.Prelude.{nat_lt, nat_le, ℤ, pos, negsuc}
+use Rattle.std.specs.Int.Signed.{mag}
 use Rattle.std.specs.Char.{is_ascii_digit}
-use Rattle.std.specs.Fmt.{decimal}
+use Rattle.std.specs.Fmt.{decimal, signed_decimal}
 use Rattle.std.specs.List.{list_all}
 use Rattle.std.specs.Str.Parse.{digits_value}
-use Rattle.std.proofs.lemmas.Bool.{cases_Bool, eq-eqb, eqb-true, lt-ltb, ltb-true}
+use Rattle.std.proofs.lemmas.Bool.{cases_Bool, eq-eqb, eqb-true, le-leb, lt-ltb, ltb-true}
 use Rattle.std.proofs.lemmas.Fmt.{decimal_digit, decimal_nonempty, first_decimal, digits_decimal, digits_value-decimal, decimal-digits_value}
-use Rattle.asset_cli.specs.Numbers.{is_numeral, number_of}
+use Rattle.asset_cli.specs.Numbers.{is_numeral, number_of, positive_value, negative_value, value_of}
 use Rattle.asset_cli.proofs.NumberLemmas.{left_of, own, numeral_parts}
 
 right_of : (a b : Bool) → (a && b) ≡ true → b ≡ true
@@ -66,3 +67,34 @@ decimal-number_of text n h =
     let small : digits_value 10 text < 2 ^ 64 = ltb-true _ _ (right_of (is_numeral text) _ found.0) in
     let parts = numeral_parts text numeral in
     ap decimal (sym found.1) ∙ decimal-digits_value own text parts.0 parts.1 (lone_zero text numeral) small
+
+nothing_written : (n : ℕ) → number_of [] ≡ Some n → ⊥
+unfolding number_of is_numeral
+nothing_written n h = cc
+
+no_minus : (b : ℕ) → b ≡ 45 → is_ascii_digit b ≡ true → ⊥
+no_minus b e h = let no : is_ascii_digit 45 ≡ true = rw e at h in cc
+
+-- a text of digits writes the value of its number
+value_of_number : (text : List ℕ) (n : ℕ) → number_of text ≡ Some n → list_all is_ascii_digit text ≡ true → value_of text ≡ positive_value n
+unfolding value_of
+value_of_number [] n h digits = absurd (nothing_written n h)
+value_of_number (first ∷ rest) n h digits =
+    elim (cases_Bool (first == 45)) [
+      | inl minus ↦ absurd (no_minus first (eqb-true first 45 minus) (left_of (is_ascii_digit first) (list_all is_ascii_digit rest) digits))
+      | inr other ↦ rw (other, h) refl
+    ]
+
+-- a value in decimal writes it
+pub value_of-signed_decimal : (z : ℤ) → mag z < 2 ^ 63 → value_of (signed_decimal z) ≡ Some z
+unfolding value_of positive_value negative_value
+value_of-signed_decimal (pos n) small =
+    let fits : n < 2 ^ 64 = omega arith in
+    let below : nat_lt n (2 ^ 63) ≡ true = lt-ltb n (2 ^ 63) small in
+    value_of_number (decimal n) n (number_of-decimal n fits) (digits_decimal own n fits) ∙ rw below refl
+value_of-signed_decimal (negsuc n) small =
+    let fits : suc n < 2 ^ 64 = omega arith in
+    let below : nat_le (suc n) (2 ^ 63) ≡ true = le-leb (suc n) (2 ^ 63) (omega arith) in
+    let above : nat_lt 0 (suc n) ≡ true = lt-ltb 0 (suc n) (omega arith) in
+    let less : suc n - 1 ≡ n = omega arith in
+    rw (number_of-decimal (suc n) fits, below, above) (ap (λ k. Some (negsuc k)) less)

@@ -24,5 +24,5 @@ pub record IsFresh {D : Type 0} (d : DeviceState D) : Type 0 where
   pub moved : d.moved ≡ 0
 
 -- a count after n more, which stays at the greatest value of a u64
-abbrev pub counted : ℕ → ℕ → ℕ
+unfoldable pub counted : ℕ → ℕ → ℕ
 counted count n = min (count + n) (2 ^ 64 - 1)

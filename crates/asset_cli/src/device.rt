@@ -1,5 +1,5 @@
 //! A reader or a writer that is watched: whether a call of it failed, and how much it did.
-ghost use Rattle.std.specs.Prelude.{◌≡◌, ◌<◌, ◌≤◌, ℕ, Bool, true, false, length, take, IfSome, IfNone, is_none, ◌||◌};
+ghost use Rattle.std.specs.Prelude.{◌≡◌, ◌<◌, ◌≤◌, ℕ, Bool, true, false, length, take, IfSome, IfNone, MatchOption, is_none, ◌||◌};
 ghost use Rattle.std.specs.Io.KnownBytes.{Appends, Consumes, IsAtEnd, Keeps};
 ghost use Rattle.asset_cli.specs.Device.{DeviceState, IsFresh, counted};
 
@@ -55,11 +55,13 @@ impl<D> Device<D> {
     }
 
     // Notes a call that moved `count` bytes, or failed at `None`.
+    #[tactic(auto, unfolding(crate::specs::Device::counted))]
     fn note(&mut self, count: Option<usize>)
         ensures inner { self.new.inner ≡ self.old.inner }
         ensures failed { self.new.failed ≡ (self.old.failed || is_none count) }
         ensures asked { self.new.asked ≡ counted self.old.asked 1 }
-        ensures moved { IfSome count (λ n. self.new.moved ≡ counted self.old.moved n) }
+        ensures moved { MatchOption count (self.new.moved ≡ self.old.moved)
+            (λ n. self.new.moved ≡ counted self.old.moved n) }
     {
         self.asked = self.asked.saturating_add(1);
         match count {
@@ -73,12 +75,16 @@ impl<D: Read> Device<D> {
     /// Asks the reader once. `None` says that it failed.
     pub(crate) fn read(&mut self, buf: &mut [u8]) -> Option<usize>
         ensures bound { IfSome result (λ n. n ≤ length buf.new) }
-        ensures gave { IfSome result (λ n. Consumes (D.remaining self.old.inner) (D.remaining self.new.inner) (take n buf.new)) }
-        ensures end { IfSome result (λ n. n ≡ 0 → 0 < length buf.new → IsAtEnd (D.remaining self.new.inner)) }
-        ensures gave_nothing { IfNone result (Keeps (D.remaining self.old.inner) (D.remaining self.new.inner)) }
+        ensures gave { IfSome result (λ n.
+            Consumes (D.remaining self.old.inner) (D.remaining self.new.inner) (take n buf.new)) }
+        ensures end { IfSome result (λ n.
+            n ≡ 0 → 0 < length buf.new → IsAtEnd (D.remaining self.new.inner)) }
+        ensures gave_nothing { IfNone result
+            (Keeps (D.remaining self.old.inner) (D.remaining self.new.inner)) }
         ensures failed { self.new.failed ≡ (self.old.failed || is_none result) }
         ensures asked { self.new.asked ≡ counted self.old.asked 1 }
-        ensures moved { IfSome result (λ n. self.new.moved ≡ counted self.old.moved n) }
+        ensures moved { MatchOption result (self.new.moved ≡ self.old.moved)
+            (λ n. self.new.moved ≡ counted self.old.moved n) }
     {
         let count = self.inner.read(buf).ok();
         self.note(count);
@@ -92,11 +98,14 @@ impl<D: Write> Device<D> {
     pub(crate) fn write(&mut self, text: &[u8]) -> Option<usize>
         ensures bound { IfSome result (λ n. n ≤ length text.now) }
         ensures progress { IfSome result (λ n. 0 < length text.now → 0 < n) }
-        ensures took { IfSome result (λ n. Appends (D.contents self.old.inner) (D.contents self.new.inner) (take n text.now)) }
-        ensures took_nothing { IfNone result (Keeps (D.contents self.old.inner) (D.contents self.new.inner)) }
+        ensures took { IfSome result (λ n.
+            Appends (D.contents self.old.inner) (D.contents self.new.inner) (take n text.now)) }
+        ensures took_nothing { IfNone result
+            (Keeps (D.contents self.old.inner) (D.contents self.new.inner)) }
         ensures failed { self.new.failed ≡ (self.old.failed || is_none result) }
         ensures asked { self.new.asked ≡ counted self.old.asked 1 }
-        ensures moved { IfSome result (λ n. self.new.moved ≡ counted self.old.moved n) }
+        ensures moved { MatchOption result (self.new.moved ≡ self.old.moved)
+            (λ n. self.new.moved ≡ counted self.old.moved n) }
     {
         let count = match self.inner.write(text) {
             Ok(0) if !text.is_empty() => None,

@@ -12,7 +12,8 @@ fn place(text: &[u8], byte: u8) -> Option<usize>
 /// What stands before the first `byte` and what stands after it, if it is there.
 #[tactic(auto, using(crate::proofs::LineLemmas::cut_at_position, crate::proofs::LineLemmas::lacks_without_position))]
 pub(crate) fn cut(text: &[u8], byte: u8) -> Option<(&[u8], &[u8])>
-    ensures { MatchOption result (Lacks byte text.now) (λ parts. IsCutAt byte text.now parts.0.now parts.1.now) }
+    ensures { MatchOption result (Lacks byte text.now)
+        (λ parts. IsCutAt byte text.now parts.0.now parts.1.now) }
 {
     match place(text, byte) {
         Some(at) => {

@@ -2,6 +2,7 @@
 use Rattle.std.proofs.Common.{◌≡◌, ◌++◌, vec_len, length, take, length-append, arith}
 use Rattle.std.proofs.lemmas.List.{length-take-le}
 use Rattle.std.proofs.KnownBytes.{Consumes-trans}
+use Rattle.asset_cli.specs.Device.{counted}
 use Rattle.asset_cli.proofs.TransferLemmas.{fault_of_failure, fault_of_requests, fault_of_excess}
 use Rattle.asset_cli.proofs.reading.read_all.Goals as goal
 
@@ -9,6 +10,7 @@ pub returns-in_default-clause-fault : goal.returns-in_default-clause-fault
 returns-in_default-clause-fault g c _ = fault_of_failure _ _ _ (rw c.requests.invariant.failed at c.in_default.ensures.failed)
 
 pub returns-then-len-count-gt-MOST_BYTES-clause-fault : goal.returns-then-len-count-gt-MOST_BYTES-clause-fault
+unfolding counted
 returns-then-len-count-gt-MOST_BYTES-clause-fault g c _ =
     let piece = take c.in-Some.count c.read.new.buf in
     let given : length piece ≡ c.in-Some.count = length-take-le _ _ c.in-Some.ensures.bound in
