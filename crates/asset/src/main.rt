@@ -3,31 +3,44 @@
 #![tactic(auto)]
 
 mod status;
+mod words;
 
-use crate::status::status_of;
+use crate::status::{status_of_error, status_of_run, status_of_words};
+use crate::words::{WordsFault, capacity_of, words_given};
 use asset_cli::{Device, run_script};
-use std::env::FillError;
+use clap::error::ErrorKind;
 use std::process::ExitCode;
-use std::rt::Env;
 
-/// The most entries that the history has room for.
-const CAPACITY: usize = 10_000;
+/// Tells why the words could not be read, and gives the exit status.
+fn refuse_words(rt: &impl Eprint, fault: WordsFault) -> u8 {
+    let _ = eprintln!(rt; "asset: {fault}");
+    status_of_words(fault)
+}
 
-/// Whether the command line has a word after the program's name. It may be no text.
-fn has_words(rt: &impl Env) -> bool {
-    !matches!(rt.arg(1, &mut []), Err(FillError::NotPresent))
+/// Shows the help that was asked for, or why the words were refused, and gives the exit status.
+fn refuse(rt: &(impl Print + Eprint), error: &clap::Error) -> u8 {
+    if error.kind() == ErrorKind::OutOfMemory {
+        let _ = eprintln!(rt; "asset: no memory");
+    } else {
+        let _ = error.print(rt);
+    }
+    status_of_error(error.kind())
 }
 
 fn main(rt: HostRuntime) -> ExitCode {
-    if has_words(&rt) {
-        let _ = eprintln!(rt; "asset: no words are taken; the script comes on standard input");
-        return ExitCode::from(2);
-    }
+    let words = match words_given(&rt) {
+        Ok(words) => words,
+        Err(fault) => return ExitCode::from(refuse_words(&rt, fault)),
+    };
+    let capacity = match capacity_of(rt.alloc(), words.as_slice()) {
+        Ok(capacity) => capacity,
+        Err(error) => return ExitCode::from(refuse(&rt, &error)),
+    };
     let mut input = Device::new(rt.stdin());
     let mut output = Device::new(rt.stdout());
-    let ended = run_script(rt.alloc(), &mut input, &mut output, CAPACITY);
+    let ended = run_script(rt.alloc(), &mut input, &mut output, capacity);
     if let Err(fault) = ended {
         let _ = eprintln!(rt; "asset: {fault}");
     }
-    ExitCode::from(status_of(ended))
+    ExitCode::from(status_of_run(ended))
 }
