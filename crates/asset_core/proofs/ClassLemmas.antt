@@ -33,8 +33,9 @@ one_fails : (test : ℕ → Bool) (names : List ℕ) (t : ℕ) → test t ≡ fa
 unfolding lists
 one_fails test [] t h listed = absurd (false≢true listed)
 one_fails test (n ∷ names) t h listed = rw (passes_as test t n, h) (elim (or_cases (eqb n t) (lists names t) listed) [
-    inl here ↦ rw (eq-eqb t n (sym (eqb-true n t here))) refl
-  | inr later ↦ rw (one_fails test names t h later) (grind arith) ])
+  | inl here ↦ rw (eq-eqb t n (sym (eqb-true n t here))) refl
+  | inr later ↦ rw (one_fails test names t h later) (grind arith)
+])
 
 -- each of the names passes where the one name that counts passes
 all_alone : (test : ℕ → Bool) (names : List ℕ) (t : ℕ) → lists names t ≡ true → list_all (λ n. not (eqb t n) || test n) names ≡ test t

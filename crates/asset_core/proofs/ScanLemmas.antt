@@ -52,10 +52,10 @@ pub value_at_entry : (counts : Operation → Bool) (x : ℕ) (first : ℤ) (entr
     ≡ unwrap_or (cond (carries_out entry.0 entry.1) (written_by counts entry.0 x) None) (value_after counts x first (operations (deeds older)))
 value_at_entry counts x first entry older =
     at_deeds (λ past. value_after counts x first (operations past)) entry older ∙ go (carries_out entry.0 entry.1) where
-  go : (carried : Bool) → cond carried (value_after counts x first (operations (entry.0 ∷ deeds older))) (value_after counts x first (operations (deeds older)))
-      ≡ unwrap_or (cond carried (written_by counts entry.0 x) None) (value_after counts x first (operations (deeds older)))
-  go true = value_at_step counts x first entry.0 (deeds older)
-  go false = refl
+      go : (carried : Bool) → cond carried (value_after counts x first (operations (entry.0 ∷ deeds older))) (value_after counts x first (operations (deeds older)))
+          ≡ unwrap_or (cond carried (written_by counts entry.0 x) None) (value_after counts x first (operations (deeds older)))
+      go true = value_at_step counts x first entry.0 (deeds older)
+      go false = refl
 
 -- who is live, by the status
 pub live_by_status : (past : List Step) (t : ℕ) → live past t ≡ is_live_status (status past t)

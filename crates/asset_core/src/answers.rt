@@ -74,7 +74,9 @@ fn unrefused(opening: &[(Ob, i64)], entries: &[(Step, Reply)], step: Step) -> Ou
         Step::Read { t, x } if is_free(entries, t, x, Op::Read) => {
             Outcome::Answer(Reply::Value(current_value(opening, entries, x)))
         }
-        Step::Write { t, x, .. } if is_free(entries, t, x, Op::Write) => Outcome::Answer(Reply::Done),
+        Step::Write { t, x, .. } if is_free(entries, t, x, Op::Write) => Outcome::Answer(
+            Reply::Done,
+        ),
         Step::Read { .. } | Step::Write { .. } => Outcome::Wait,
         Step::Commit { t } => commit_outcome(entries, t),
         Step::Abort { .. } => Outcome::Answer(Reply::Aborted),

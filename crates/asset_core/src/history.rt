@@ -39,7 +39,11 @@ impl History {
 
     /// A history of these opening values with room for so many entries, and none yet.
     #[tactic(auto, unfolding(crate::specs::Recorded::opened))]
-    pub(crate) fn open(alloc: Global, opening: &[(Ob, i64)], room: usize) -> Result<History, AllocError>
+    pub(crate) fn open(
+        alloc: Global,
+        opening: &[(Ob, i64)],
+        room: usize,
+    ) -> Result<History, AllocError>
         ensures { IfOk result (λ history. history ≡ opened opening.now room) }
     {
         Ok(History {

@@ -14,3 +14,6 @@ mod values;
 
 pub use facility::Core;
 pub use history::{History, OpenFault};
+
+#[cfg(test)]
+mod tests;

@@ -10,5 +10,8 @@ use asset_names::Ob;
 pub fn opening_at(opening: &[(Ob, i64)], x: Ob) -> Option<i64>
     ensures { result ≡ opening_at opening.now x.0 }
 {
-    opening.iter().find(|pair| pair.0.0 == x.0).map(|pair| pair.1)
+    opening
+        .iter()
+        .find(|pair| pair.0.0 == x.0)
+        .map(|pair| pair.1)
 }

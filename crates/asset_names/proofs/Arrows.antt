@@ -34,12 +34,15 @@ unfolding linked
 linked_trans [] a b c g h = subst (λ n. eqb n c ≡ true) (sym (eqb-true a b g)) h
 linked_trans (arrow ∷ arrows) a b c g h =
     elim (linked_ways arrow arrows a b g) [
-    inl p ↦ elim (linked_ways arrow arrows b c h) [
-      inl q ↦ linked_without arrow arrows a c (linked_trans arrows a b c p q)
-    | inr q ↦ linked_through arrow arrows a c (linked_trans arrows a b arrow.0 p q.0) q.1 ]
-  | inr p ↦ elim (linked_ways arrow arrows b c h) [
-      inl q ↦ linked_through arrow arrows a c p.0 (linked_trans arrows arrow.1 b c p.1 q)
-    | inr q ↦ linked_through arrow arrows a c p.0 q.1 ] ]
+      | inl p ↦ elim (linked_ways arrow arrows b c h) [
+        | inl q ↦ linked_without arrow arrows a c (linked_trans arrows a b c p q)
+        | inr q ↦ linked_through arrow arrows a c (linked_trans arrows a b arrow.0 p q.0) q.1
+      ]
+      | inr p ↦ elim (linked_ways arrow arrows b c h) [
+        | inl q ↦ linked_through arrow arrows a c p.0 (linked_trans arrows arrow.1 b c p.1 q)
+        | inr q ↦ linked_through arrow arrows a c p.0 q.1
+      ]
+    ]
 
 -- the arrow of a list of one
 first_is : (arrow : Arrow) (a b : ℕ) → Contains (arrow ∷ []) (a, b) → arrow ≡ (a, b)
@@ -56,8 +59,9 @@ pub linked_arrow : (arrows : List Arrow) (a b : ℕ) → Contains arrows (a, b) 
 linked_arrow [] a b h = absurd (omega (arith, h.1))
 linked_arrow (arrow ∷ arrows) a b h =
     elim (Contains-append_cases (arrow ∷ []) arrows (a, b) h) [
-    inl first ↦ first_links arrow arrows a b first
-  | inr later ↦ linked_without arrow arrows a b (linked_arrow arrows a b later) ]
+      | inl first ↦ first_links arrow arrows a b first
+      | inr later ↦ linked_without arrow arrows a b (linked_arrow arrows a b later)
+    ]
 
 -- chains of fewer arrows are chains of more, and two chains make one
 chain_more : (arrow : Arrow) (arrows : List Arrow) (a b : ℕ) → Chain arrows a b → Chain (arrow ∷ arrows) a b
@@ -74,11 +78,12 @@ unfolding linked
 chain_from_linked [] a b h = subst (λ n. Chain [] a n) (eqb-true a b h) (stay a)
 chain_from_linked (arrow ∷ arrows) a b h =
     elim (linked_ways arrow arrows a b h) [
-    inl p ↦ chain_more arrow arrows a b (chain_from_linked arrows a b p)
-  | inr q ↦
-    let to = chain_more arrow arrows a arrow.0 (chain_from_linked arrows a arrow.0 q.0) in
-    let on = chain_more arrow arrows arrow.1 b (chain_from_linked arrows arrow.1 b q.1) in
-    chain_trans (arrow ∷ arrows) a arrow.0 b to (along arrow.0 arrow.1 b (0, omega arith, refl) on) ]
+      | inl p ↦ chain_more arrow arrows a b (chain_from_linked arrows a b p)
+      | inr q ↦
+          let to = chain_more arrow arrows a arrow.0 (chain_from_linked arrows a arrow.0 q.0) in
+          let on = chain_more arrow arrows arrow.1 b (chain_from_linked arrows arrow.1 b q.1) in
+          chain_trans (arrow ∷ arrows) a arrow.0 b to (along arrow.0 arrow.1 b (0, omega arith, refl) on)
+    ]
 
 pub linked_from_chain : (arrows : List Arrow) (a b : ℕ) → Chain arrows a b → linked arrows a b ≡ true
 linked_from_chain arrows a b (stay n) = linked_refl arrows a

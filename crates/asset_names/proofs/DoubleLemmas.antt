@@ -46,31 +46,45 @@ twice_listed listed n h = go (lists listed n) refl where
 
 -- the lesser of two that are listed twice
 least_of_two : (listed seen : List ℕ) (x y : Ob) (below : Bool) → ltb y.0 x.0 ≡ below → LeastAmong listed seen (Some y) → twice listed x.0 ≡ true → LeastAmong listed (seen ++ x.0 ∷ []) (Some (cond below y x))
-least_of_two listed seen x y true e h t =
-    (h.0, λ m l d. elim (or_cases (lists seen m) (eqb x.0 m) (sym (lists-push seen x.0 m) ∙ l)) [
-      inl before ↦ h.1 m before d
-    | inr here ↦ omega (arith, eqb-true x.0 m here, ltb-true y.0 x.0 e) ])
-least_of_two listed seen x y false e h t =
-    (t, λ m l d. elim (or_cases (lists seen m) (eqb x.0 m) (sym (lists-push seen x.0 m) ∙ l)) [
-      inl before ↦ omega (arith, h.1 m before d, ltb-false y.0 x.0 e)
-    | inr here ↦ omega (arith, eqb-true x.0 m here) ])
+least_of_two listed seen x y true e h t = (
+  h.0,
+  λ m l d. elim (or_cases (lists seen m) (eqb x.0 m) (sym (lists-push seen x.0 m) ∙ l)) [
+    | inl before ↦ h.1 m before d
+    | inr here ↦ omega (arith, eqb-true x.0 m here, ltb-true y.0 x.0 e)
+  ],
+)
+least_of_two listed seen x y false e h t = (
+  t,
+  λ m l d. elim (or_cases (lists seen m) (eqb x.0 m) (sym (lists-push seen x.0 m) ∙ l)) [
+    | inl before ↦ omega (arith, h.1 m before d, ltb-false y.0 x.0 e)
+    | inr here ↦ omega (arith, eqb-true x.0 m here)
+  ],
+)
 
 -- one more is seen, and it is listed twice
 pub least_twice : (listed seen : List ℕ) (x : Ob) (found : Option Ob) → LeastAmong listed seen found → twice listed x.0 ≡ true → LeastAmong listed (seen ++ x.0 ∷ []) (Some (lesser x found))
-least_twice listed seen x None h t =
-    (t, λ m l d. elim (or_cases (lists seen m) (eqb x.0 m) (sym (lists-push seen x.0 m) ∙ l)) [
-      inl before ↦ absurd (false≢true (sym (h m before) ∙ d))
-    | inr here ↦ omega (arith, eqb-true x.0 m here) ])
+least_twice listed seen x None h t = (
+  t,
+  λ m l d. elim (or_cases (lists seen m) (eqb x.0 m) (sym (lists-push seen x.0 m) ∙ l)) [
+    | inl before ↦ absurd (false≢true (sym (h m before) ∙ d))
+    | inr here ↦ omega (arith, eqb-true x.0 m here)
+  ],
+)
 least_twice listed seen x (Some y) h t = least_of_two listed seen x y (ltb y.0 x.0) refl h t
 
 -- one more is seen, and it is not listed twice
 pub least_once : (listed seen : List ℕ) (x : Ob) (found : Option Ob) → LeastAmong listed seen found → twice listed x.0 ≡ false → LeastAmong listed (seen ++ x.0 ∷ []) found
 least_once listed seen x None h t = λ m l. elim (or_cases (lists seen m) (eqb x.0 m) (sym (lists-push seen x.0 m) ∙ l)) [
-    inl before ↦ h m before
-  | inr here ↦ subst (λ n. twice listed n ≡ false) (eqb-true x.0 m here) t ]
-least_once listed seen x (Some y) h t = (h.0, λ m l d. elim (or_cases (lists seen m) (eqb x.0 m) (sym (lists-push seen x.0 m) ∙ l)) [
-    inl before ↦ h.1 m before d
-  | inr here ↦ absurd (false≢true (sym (subst (λ n. twice listed n ≡ false) (eqb-true x.0 m here) t) ∙ d)) ])
+  | inl before ↦ h m before
+  | inr here ↦ subst (λ n. twice listed n ≡ false) (eqb-true x.0 m here) t
+]
+least_once listed seen x (Some y) h t = (
+  h.0,
+  λ m l d. elim (or_cases (lists seen m) (eqb x.0 m) (sym (lists-push seen x.0 m) ∙ l)) [
+    | inl before ↦ h.1 m before d
+    | inr here ↦ absurd (false≢true (sym (subst (λ n. twice listed n ≡ false) (eqb-true x.0 m here) t) ∙ d))
+  ],
+)
 
 -- all are seen
 pub least_found : (listed : List ℕ) (found : Option Ob) → LeastAmong listed listed found → IfSome found (λ x. IsLeastDouble listed x.0)

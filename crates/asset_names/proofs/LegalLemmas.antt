@@ -49,6 +49,7 @@ carried_unrefused opening past step reply is carried = go (first_refusal (rules_
   never (Commit t) refusal = refl
   never (Abort t) refusal = refl
   never (WaitFor t) refusal = refl
+
   go : (first : Option Refusal) → first_refusal (rules_for opening past step) ≡ first → outcome_unless first (unrefused opening past step) ≡ Answer reply → first ≡ None
   go None e is = refl
   go (Some refusal) e is =
@@ -117,7 +118,7 @@ orderly_more : (opening : Opening) (step : Step) (past : List Step) (reply : Rep
 unfolding initiated initiated_by completed completed_by lists
 orderly_more opening (Initiate t parent) past reply is carried orderly = record {
   different = (initiate_new opening past t parent reply is carried, orderly.different);
-  known = λ n done. or_right (eqb t.0 n) _ (orderly.known n done)
+  known = λ n done. or_right (eqb t.0 n) _ (orderly.known n done);
 }
 orderly_more opening (Begin t) past reply is carried orderly = record { different = orderly.different; known = orderly.known }
 orderly_more opening (Read t x) past reply is carried orderly = record { different = orderly.different; known = orderly.known }
@@ -125,8 +126,9 @@ orderly_more opening (Write t x v) past reply is carried orderly = record { diff
 orderly_more opening (Complete t) past reply is carried orderly = record {
   different = orderly.different;
   known = λ n done. elim (or_cases (eqb t.0 n) _ done) [
-    inl here ↦ subst (λ m. lists (initiated past) m ≡ true) (eqb-true t.0 n here) ((running_parts past t.0 (complete_runs opening past t reply is carried)).0)
-  | inr before ↦ orderly.known n before ]
+    | inl here ↦ subst (λ m. lists (initiated past) m ≡ true) (eqb-true t.0 n here) ((running_parts past t.0 (complete_runs opening past t reply is carried)).0)
+    | inr before ↦ orderly.known n before
+  ];
 }
 orderly_more opening (Commit t) past reply is carried orderly = record { different = orderly.different; known = orderly.known }
 orderly_more opening (Abort t) past reply is carried orderly = record { different = orderly.different; known = orderly.known }

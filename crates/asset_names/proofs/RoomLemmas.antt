@@ -36,6 +36,7 @@ sum_change f g [] t different listed same = absurd (false≢true listed)
 sum_change f g (n ∷ names) t different listed same = go (eqb n t) refl (or_cases (eqb n t) (lists names t) listed) (λ later. sum_change f g names t different.1 later same) where
   other : (m : ℕ) → eqb n t ≡ true → lists names m ≡ true → eqb m t ≡ false
   other m here listed = ne_eqb m t (λ e. false≢true (sym different.0 ∙ subst (λ k. lists names k ≡ true) (e ∙ sym (eqb-true n t here)) listed))
+
   go : (here : Bool) → eqb n t ≡ here → (eqb n t ≡ true) ⊎ (lists names t ≡ true) → (lists names t ≡ true → sum_by g names + f t ≡ sum_by f names + g t) → sum_by g (n ∷ names) + f t ≡ sum_by f (n ∷ names) + g t
   go true e w induction =
       let rest = sum_same f g names (λ m listed. same m (other m e listed)) in
@@ -102,9 +103,9 @@ owed_initiate t parent past orderly new =
     let incomplete = not_known (lists (completed past) t.0) (lists (initiated past) t.0) (orderly.known t.0) new in
     let alive = not_ended (end_of past t.0) (lists (initiated past) t.0) (ended_initiated past t.0) new in
     let first : owed_to (status later t.0) ≡ 2 =
-      owed_by_parts later t.0 ∙ rw (or_left (eqb t.0 t.0) (lists (initiated past) t.0) (eq-eqb t.0 t.0 refl), incomplete, alive) refl in
+    owed_by_parts later t.0 ∙ rw (or_left (eqb t.0 t.0) (lists (initiated past) t.0) (eq-eqb t.0 t.0 refl), incomplete, alive) refl in
     let rest = sum_same (λ n. owed_to (status past n)) (λ n. owed_to (status later n)) (initiated past)
-      (λ n listed. same_parts past later n (or_right (eqb t.0 n) _ listed ∙ sym listed) refl (option_or_none (end_of past n))) in
+    (λ n listed. same_parts past later n (or_right (eqb t.0 n) _ listed ∙ sym listed) refl (option_or_none (end_of past n))) in
     omega (arith, sum_by-cons (λ n. owed_to (status later n)) t.0 (initiated past), first, rest)
 
 -- who completes is owed one entry less
@@ -115,9 +116,9 @@ owed_complete t past orderly runs =
     let parts = running_parts past t.0 runs in
     let before : owed_to (status past t.0) ≡ 2 = owed_by_parts past t.0 ∙ rw (parts.0, parts.1, parts.2) refl in
     let after : owed_to (status later t.0) ≡ 1 =
-      owed_by_parts later t.0 ∙ rw (parts.0, or_left (eqb t.0 t.0) (lists (completed past) t.0) (eq-eqb t.0 t.0 refl), option_or_none (end_of past t.0), parts.2) refl in
+    owed_by_parts later t.0 ∙ rw (parts.0, or_left (eqb t.0 t.0) (lists (completed past) t.0) (eq-eqb t.0 t.0 refl), option_or_none (end_of past t.0), parts.2) refl in
     let change = sum_change (λ n. owed_to (status past n)) (λ n. owed_to (status later n)) (initiated past) t.0 orderly.different parts.0
-      (λ n other. same_parts past later n refl (ap (λ b. b || lists (completed past) n) (ne_eqb t.0 n (λ e. eqb-false n t.0 other (sym e)))) (option_or_none (end_of past n))) in
+    (λ n other. same_parts past later n refl (ap (λ b. b || lists (completed past) n) (ne_eqb t.0 n (λ e. eqb-false n t.0 other (sym e)))) (option_or_none (end_of past n))) in
     omega (arith, before, after, change)
 
 -- who ends is owed nothing any more
@@ -127,26 +128,31 @@ unfolding owed owed_parts
 owed_end how t past later orderly i c ends = go (lists (initiated past) t) refl where
   same_initiated : (n : ℕ) → lists (initiated later) n ≡ lists (initiated past) n
   same_initiated n = ap (λ names. lists names n) i
+
   same_completed : (n : ℕ) → lists (completed later) n ≡ lists (completed past) n
   same_completed n = ap (λ names. lists names n) c
+
   no_end : (n : ℕ) → (eqb t n && lists (initiated past) n) ≡ false → end_of later n ≡ end_of past n
   no_end n h = ends n ∙ rw h (option_or_none (end_of past n))
+
   over : sum_by (λ n. owed_to (status later n)) (initiated later) ≡ sum_by (λ n. owed_to (status later n)) (initiated past)
   over = ap (λ names. sum_by (λ n. owed_to (status later n)) names) i
+
   some_end : (e : Option End) → owed_parts true (lists (completed past) t) (option_or e (Some how)) ≡ 0
   some_end None = refl
   some_end (Some e) = refl
+
   go : (known : Bool) → lists (initiated past) t ≡ known → sum_by (λ n. owed_to (status later n)) (initiated later) + owed_to (status past t) ≡ sum_by (λ n. owed_to (status past n)) (initiated past)
   go false new =
       let nothing : owed_to (status past t) ≡ 0 = owed_by_parts past t ∙ rw new refl in
       let rest = sum_same (λ n. owed_to (status past n)) (λ n. owed_to (status later n)) (initiated past)
-        (λ n listed. same_parts past later n (same_initiated n) (same_completed n) (no_end n (ap (λ b. b && lists (initiated past) n) (ne_eqb t n (λ e. false≢true (sym new ∙ ap (lists (initiated past)) e ∙ listed)))))) in
+      (λ n listed. same_parts past later n (same_initiated n) (same_completed n) (no_end n (ap (λ b. b && lists (initiated past) n) (ne_eqb t n (λ e. false≢true (sym new ∙ ap (lists (initiated past)) e ∙ listed)))))) in
       omega (arith, over, nothing, rest)
   go true known =
       let after : owed_to (status later t) ≡ 0 =
-        owed_by_parts later t ∙ rw (same_initiated t, known, same_completed t, ends t, eq-eqb t t refl, known) (some_end (end_of past t)) in
+      owed_by_parts later t ∙ rw (same_initiated t, known, same_completed t, ends t, eq-eqb t t refl, known) (some_end (end_of past t)) in
       let change = sum_change (λ n. owed_to (status past n)) (λ n. owed_to (status later n)) (initiated past) t orderly.different known
-        (λ n other. same_parts past later n (same_initiated n) (same_completed n) (no_end n (ap (λ b. b && lists (initiated past) n) (ne_eqb t n (λ e. eqb-false n t other (sym e)))))) in
+      (λ n other. same_parts past later n (same_initiated n) (same_completed n) (no_end n (ap (λ b. b && lists (initiated past) n) (ne_eqb t n (λ e. eqb-false n t other (sym e)))))) in
       omega (arith, over, after, change)
 
 pub owed_commit : (t : Txn) (past : List Step) → IsOrderly past → owed (Commit t ∷ past) + owed_to (status past t.0) ≡ owed past

@@ -57,8 +57,8 @@ rises objects sorted none = λ k below. rw add-one (
     let there : suc k < length objects = omega (arith, length-numbers objects) in
     let order = sorted k (suc k) no_object_name (omega arith) there in
     let apart : get_or ns (suc k) 0 ≢ get_or ns k 0 = (λ same.
-      let two = neighbours_twice ns k (get_or ns k 0) (omega arith) refl same in
-      omega (arith, leb-false 2 _ (none (get_or ns k 0)))) in
+    let two = neighbours_twice ns k (get_or ns k 0) (omega arith) refl same in
+    omega (arith, leb-false 2 _ (none (get_or ns k 0)))) in
     omega (arith, numbers-at objects k, numbers-at objects (suc k), apart))
 
 -- sorted objects of which none occurs twice are in rising order

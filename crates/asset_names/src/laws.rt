@@ -12,8 +12,7 @@ ghost use Rattle.asset_names.specs.Arrows.{Arrow, linked, Chain};
 /// A name is linked to another exactly where a chain of arrows leads from the one to the other.
 pub fn linked_is_chain()
     ensures { (arrows : List Arrow) (a b : ℕ) → (linked arrows a b ≡ true) ↔ Chain arrows a b }
-{
-}
+{}
 
 /// A complete, a commit or an abort that changes a status finds room in each legal history whose
 /// entries and owed entries fit the capacity: with its own entry the history fits again.
@@ -22,5 +21,4 @@ pub fn endings_find_room()
         IsLegal opening entries → fits (deeds entries) (length entries) capacity ≡ true →
         answer opening (deeds entries) step ≡ Answer reply → changes_status (deeds entries) step reply ≡ true →
         fits (deeds ((step, reply) ∷ entries)) (length entries + 1) capacity ≡ true }
-{
-}
+{}

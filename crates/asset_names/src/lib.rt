@@ -20,3 +20,6 @@ pub use replies::{Fault, Outcome, Refusal, Reply};
 pub use sets::{ObList, ObSet, SetFault};
 pub use statuses::{End, Status};
 pub use steps::{Kind, Step};
+
+#[cfg(test)]
+mod tests;

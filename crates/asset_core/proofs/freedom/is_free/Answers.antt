@@ -16,8 +16,9 @@ pub entries-preserved : goal.entries-preserved
 entries-preserved c =
     let below : c.entries.entry-index < length c.args.entries.now = omega arith in
     rw (reverse_take_more c.args.entries.now c.entries.entry-index no_entry below) (elim c.if-hindered.branch [
-    then-hindered w ↦ w.hindered-is ∙ w.if-hindered.true ∙ sym (hindered_at_entry _ _ _ ∙ or_right _ _ (sym c.entries.invariant ∙ w.if-hindered.true))
-  | else-hindered w ↦ w.hindered-is ∙ sym (w.is_hindered_by-hindered.ensures _ ∙ or_none _ _ (sym c.entries.invariant ∙ w.if-hindered.false)) ])
+      | then-hindered w ↦ w.hindered-is ∙ w.if-hindered.true ∙ sym (hindered_at_entry _ _ _ ∙ or_right _ _ (sym c.entries.invariant ∙ w.if-hindered.true))
+      | else-hindered w ↦ w.hindered-is ∙ sym (w.is_hindered_by-hindered.ensures _ ∙ or_none _ _ (sym c.entries.invariant ∙ w.if-hindered.false))
+    ])
 
 pub returns : goal.returns
 unfolding free

@@ -21,8 +21,9 @@ items-preserved g c =
     let is_twice = twice_map f items x.0 c.occurrences.result c.occurrences.ensures in
     let more = map_take f items c.items.item-index item below in
     elim c.if-occurrences-ge2.branch [
-    then-occurrences-ge2 w ↦ rw (more, named, w.found-is, w.lesser.ensures) (least_twice _ _ x c.items.found c.items.invariant (is_twice ∙ le-leb _ _ (omega arith)))
-  | else-occurrences-ge2 w ↦ rw (more, named, w.found-is) (least_once _ _ x c.items.found c.items.invariant (is_twice ∙ lt-leb _ _ (omega arith))) ]
+      | then-occurrences-ge2 w ↦ rw (more, named, w.found-is, w.lesser.ensures) (least_twice _ _ x c.items.found c.items.invariant (is_twice ∙ le-leb _ _ (omega arith)))
+      | else-occurrences-ge2 w ↦ rw (more, named, w.found-is) (least_once _ _ x c.items.found c.items.invariant (is_twice ∙ lt-leb _ _ (omega arith)))
+    ]
 
 pub returns-clause-found : goal.returns-clause-found
 returns-clause-found g c =

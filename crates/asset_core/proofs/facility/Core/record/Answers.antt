@@ -14,7 +14,7 @@ unfolding has_room fits
 returns-then-len-owed-clause-full c =
     let history = c.self.inside.history in
     let over : history.room < length history.past + 1 + owed (deeds ((c.args.step, c.args.reply) ∷ history.past)) =
-      omega (arith, c.if-len-owed.true, c.len.ensures, c.room.ensures, c.owed_after-owed.ensures.owed) in
+    omega (arith, c.if-len-owed.true, c.len.ensures, c.room.ensures, c.owed_after-owed.ensures.owed) in
     rw (← c.self.view_is) ((λ e. lt-leb _ _ over), (λ full. refl))
 
 pub returns-then-len-owed-clause-ending : goal.returns-then-len-owed-clause-ending
@@ -22,10 +22,10 @@ unfolding is_ending answer_to fits
 returns-then-len-owed-clause-ending c = λ ends.
     let history = c.self.inside.history in
     let over : history.room < length history.past + 1 + owed (deeds ((c.args.step, c.args.reply) ∷ history.past)) =
-      omega (arith, c.if-len-owed.true, c.len.ensures, c.room.ensures, c.owed_after-owed.ensures.owed) in
+    omega (arith, c.if-len-owed.true, c.len.ensures, c.room.ensures, c.owed_after-owed.ensures.owed) in
     let fitted : fits (deeds history.past) (length history.past) history.room ≡ true = le-leb _ _ (omega (arith, c.self.invariant.fitting, c.self.invariant.counts)) in
     let found = ending_fits history.opening history.past c.args.step c.args.reply history.room (rw (← c.self.view_is) at c.requires.legal) fitted
-      (rw (← c.self.view_is) at c.requires.answer) (rw (← c.self.view_is) at ends) in
+    (rw (← c.self.view_is) at c.requires.answer) (rw (← c.self.view_is) at ends) in
     absurd (omega (arith, leb-true _ _ found, over))
 
 pub invariant_of-self : goal.invariant_of-self
@@ -33,7 +33,7 @@ unfolding with_entry
 invariant_of-self c = rw c.append.ensures (record {
   counts = c.owed_after-owed.ensures.owed;
   fitting = omega (arith, c.if-len-owed.false, c.len.ensures, c.room.ensures);
-  capacity = c.self.invariant.capacity
+  capacity = c.self.invariant.capacity;
 })
 
 pub returns-clause-full : goal.returns-clause-full
@@ -41,5 +41,5 @@ unfolding has_room fits
 returns-clause-full c =
     let history = c.self.inside.history in
     let within : length history.past + 1 + owed (deeds ((c.args.step, c.args.reply) ∷ history.past)) ≤ history.room =
-      omega (arith, c.if-len-owed.false, c.len.ensures, c.room.ensures, c.owed_after-owed.ensures.owed) in
+    omega (arith, c.if-len-owed.false, c.len.ensures, c.room.ensures, c.owed_after-owed.ensures.owed) in
     rw (← c.self.view_is) ((λ e. cc), (λ full. absurd (omega (arith, leb-false _ _ full, within))))

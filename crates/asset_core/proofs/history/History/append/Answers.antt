@@ -9,9 +9,9 @@ unfolding IsLegal answer_to
 invariant_of-self c =
     let pushed = rw c.unwrap.ensures at c.push.ensures.items in
     record {
-    legal = rw (pushed, reverse-append) (rw (← c.self.view_is) at c.requires.answer, c.self.invariant.legal);
-    within = rw (pushed, length-append) (omega (arith, rw (← c.self.view_is, length-reverse) at c.requires.room));
-    taken = omega (arith, c.self.invariant.taken, c.push.ensures.capacity)
+      legal = rw (pushed, reverse-append) (rw (← c.self.view_is) at c.requires.answer, c.self.invariant.legal);
+      within = rw (pushed, length-append) (omega (arith, rw (← c.self.view_is, length-reverse) at c.requires.room));
+      taken = omega (arith, c.self.invariant.taken, c.push.ensures.capacity);
     }
 
 pub returns : goal.returns

@@ -9,9 +9,9 @@ unfolding numbers
 invariant_of-result c =
     let few : length c.args.objects.now ≤ 16 = omega arith in
     record {
-    some = grind (arith, common_steps, c.is_empty.ensures, c.if-is_empty.false);
-    few = few;
-    places = places_all c.args.objects.now c.sorted.result few c.sorted.ensures.permutation c.sorted.ensures.rest;
-    rising = sorted_rises c.args.objects.now _ c.sorted.ensures.permutation c.sorted.ensures.sorted c.in_default.ensures.none;
-    rest = c.sorted.ensures.rest
+      some = grind (arith, common_steps, c.is_empty.ensures, c.if-is_empty.false);
+      few = few;
+      places = places_all c.args.objects.now c.sorted.result few c.sorted.ensures.permutation c.sorted.ensures.rest;
+      rising = sorted_rises c.args.objects.now _ c.sorted.ensures.permutation c.sorted.ensures.sorted c.in_default.ensures.none;
+      rest = c.sorted.ensures.rest;
     }
