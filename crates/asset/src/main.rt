@@ -3,6 +3,8 @@
 #![tactic(auto)]
 
 mod status;
+#[cfg(test)]
+mod tests;
 mod words;
 
 use crate::status::{status_of_error, status_of_run, status_of_words};

@@ -1,0 +1,101 @@
+//! The words of the command line: what they ask for, and the texts of help and of refusals.
+
+use crate::status::status_of_error;
+use crate::words::capacity_of;
+use clap::Error;
+use std::alloc::{AllocError, Global};
+use std::test::Fail;
+
+/// The words, after the program's name.
+fn words(alloc: Global, texts: &[&str]) -> Result<Vec<String>, AllocError> {
+    let mut words = Vec::new(alloc);
+    words.push(String::from_str(alloc, "asset")?)?;
+    for text in texts {
+        words.push(String::from_str(alloc, text)?)?;
+    }
+    Ok(words)
+}
+
+/// The capacity that the words ask for, or 0 where they are refused.
+fn capacity(rt: &HostRuntime, texts: &[&str]) -> Result<usize, AllocError> {
+    let words = words(rt.alloc(), texts)?;
+    Ok(capacity_of(rt.alloc(), words.as_slice()).unwrap_or(0))
+}
+
+/// The text that the words are answered with, and the exit status.
+fn refusal(rt: &HostRuntime, texts: &[&str]) -> Result<(String, u8), Fail> {
+    let words = words(rt.alloc(), texts)?;
+    match capacity_of(rt.alloc(), words.as_slice()) {
+        Ok(_) => Err(Fail::from("the words are taken")),
+        Err(error) => Ok((error.to_string(rt.alloc())?, status_of_error(error.kind()))),
+    }
+}
+
+#[test]
+fn words_give_the_capacity(rt: HostRuntime) -> Result<(), Fail> {
+    assert_eq!(rt; capacity(&rt, &[])?, 10_000);
+    assert_eq!(rt; capacity(&rt, &["run"])?, 10_000);
+    assert_eq!(rt; capacity(&rt, &["run", "--cap", "4"])?, 4);
+    assert_eq!(rt; capacity(&rt, &["run", "--cap", "1"])?, 1);
+    assert_eq!(rt; capacity(&rt, &["run", "--cap=1000000"])?, 1_000_000);
+    Ok(())
+}
+
+#[test]
+fn capacity_out_of_range_is_refused(rt: HostRuntime) -> Result<(), Fail> {
+    let (low, status) = refusal(&rt, &["run", "--cap", "0"])?;
+    assert_eq!(rt; status, 2);
+    assert_eq!(rt;
+        low.as_str(),
+        "error: invalid value '0' for '--cap <n>': 0 is not in 1..=1000000\n\nFor more information, try '--help'.\n"
+    );
+    let (high, status) = refusal(&rt, &["run", "--cap", "1000001"])?;
+    assert_eq!(rt; status, 2);
+    assert_eq!(rt;
+        high.as_str(),
+        "error: invalid value '1000001' for '--cap <n>': 1000001 is not in 1..=1000000\n\nFor more information, try '--help'.\n"
+    );
+    Ok(())
+}
+
+#[test]
+fn other_words_are_refused(rt: HostRuntime) -> Result<(), Fail> {
+    let (text, status) = refusal(&rt, &["--cap", "5"])?;
+    assert_eq!(rt; status, 2);
+    assert_eq!(rt;
+        text.as_str(),
+        "error: unexpected argument '--cap' found\n\nUsage: asset [COMMAND]\n\nFor more information, try '--help'.\n"
+    );
+    let (text, status) = refusal(&rt, &["run", "x"])?;
+    assert_eq!(rt; status, 2);
+    assert_eq!(rt;
+        text.as_str(),
+        "error: unexpected argument 'x' found\n\nUsage: asset run [OPTIONS]\n\nFor more information, try '--help'.\n"
+    );
+    for word in ["groups", "sources", "jobs"] {
+        let (text, status) = refusal(&rt, &[word])?;
+        let expected = format!(in rt.alloc();
+            "error: unrecognized subcommand '{word}'\n\nUsage: asset [COMMAND]\n\nFor more information, try '--help'.\n"
+        )?;
+        assert_eq!(rt; status, 2);
+        assert_eq!(rt; text.as_str(), expected.as_str());
+    }
+    Ok(())
+}
+
+#[test]
+fn help_is_shown(rt: HostRuntime) -> Result<(), Fail> {
+    let (text, status) = refusal(&rt, &["--help"])?;
+    assert_eq!(rt; status, 0);
+    assert_eq!(rt;
+        text.as_str(),
+        "ASSET, a facility of transactions that can share their work\n\nUsage: asset [COMMAND]\n\nCommands:\n  run   Runs the script on standard input and writes its transcript (the default)\n  help  Print this message or the help of the given subcommand(s)\n\nOptions:\n  -h, --help  Print help\n"
+    );
+    let (text, status) = refusal(&rt, &["run", "--help"])?;
+    assert_eq!(rt; status, 0);
+    assert_eq!(rt;
+        text.as_str(),
+        "Runs the script on standard input and writes its transcript (the default)\n\nUsage: asset run [OPTIONS]\n\nOptions:\n      --cap <n>  How many entries the history has room for, from 1 to 1000000 [default: 10000]\n  -h, --help     Print help\n"
+    );
+    Ok(())
+}
