@@ -1,6 +1,6 @@
 -- What a run of a script comes to.
-use Rattle.std.specs.Prelude.{◌≡◌, ℕ, ◌≤◌, true, List, length, Option}
-use Rattle.std.specs.Io.KnownBytes.{Consumes, IsAtEnd, Appends, Keeps}
+use Rattle.std.specs.Prelude.{◌≡◌, ℕ, ◌≤◌, true, false, List, length, Option}
+use Rattle.std.specs.Io.KnownBytes.{Consumes, IsAtEnd, Appends}
 use Rattle.asset_cli.specs.declared.faults.ScriptFault.{ScriptFault}
 use Rattle.asset_cli.specs.declared.faults.ScriptFault.TheVariants.{Read, Write, NoMemory}
 use Rattle.asset_cli.specs.declared.ends.RunEnd.{RunEnd}
@@ -8,18 +8,21 @@ use Rattle.asset_cli.specs.Device.{DeviceState}
 use Rattle.asset_cli.specs.Transfers.{IsReadFault, TookFront, input_limit}
 use Rattle.asset_cli.specs.Transcript.{Told}
 
--- these are all the bytes that the reader gave, up to its end
+-- these are all the bytes that the reader gave, up to its end, and no call of it failed
 pub record GaveAll {R : Type 0} (remaining : R → Option (List ℕ)) (old new : DeviceState R) (bytes : List ℕ) : Type 0 where
   pub gave : Consumes (remaining old.inner) (remaining new.inner) bytes
   pub end : IsAtEnd (remaining new.inner)
   pub limit : length bytes ≤ input_limit
+  pub sound : new.failed ≡ false
+  pub counted : new.moved ≡ length bytes
 
--- the writer took the text that the bytes give, and nothing else
+-- the writer took the text that the bytes give, and nothing else, and no call of it failed
 pub record WroteAll {R W : Type 0} (remaining : R → Option (List ℕ)) (contents : W → Option (List ℕ)) (tell : List ℕ → Told) (input input' : DeviceState R) (output output' : DeviceState W) (end : RunEnd) : Type 0 where
   pub bytes : List ℕ
   pub all : GaveAll remaining input input' bytes
   pub wrote : Appends (contents output.inner) (contents output'.inner) (tell bytes).text
   pub ends : end ≡ (tell bytes).end
+  pub sound : output'.failed ≡ false
 
 -- the writer took a front of the text that the bytes give, and failed
 pub record WroteFront {R W : Type 0} (remaining : R → Option (List ℕ)) (contents : W → Option (List ℕ)) (tell : List ℕ → Told) (input input' : DeviceState R) (output output' : DeviceState W) : Type 0 where
@@ -28,8 +31,8 @@ pub record WroteFront {R W : Type 0} (remaining : R → Option (List ℕ)) (cont
   pub front : TookFront contents output output' (tell bytes).text
   pub failed : output'.failed ≡ true
 
--- Why a run stopped: nothing was written where the reader is at fault or memory ran out.
+-- Why a run stopped: the writer was not asked where the reader is at fault or memory ran out.
 unfoldable pub Stops : {R W : Type 0} → (R → Option (List ℕ)) → (W → Option (List ℕ)) → (List ℕ → Told) → DeviceState R → DeviceState R → DeviceState W → DeviceState W → ScriptFault → Type 0
-Stops remaining contents tell input input' output output' Read = IsReadFault remaining input input' × Keeps (contents output.inner) (contents output'.inner)
+Stops remaining contents tell input input' output output' Read = IsReadFault remaining input input' × (output' ≡ output)
 Stops remaining contents tell input input' output output' Write = WroteFront remaining contents tell input input' output output'
-Stops remaining contents tell input input' output output' NoMemory = Keeps (contents output.inner) (contents output'.inner)
+Stops remaining contents tell input input' output output' NoMemory = output' ≡ output

@@ -23,7 +23,7 @@ pub record Told : Type 0 where
 unfoldable pub finished : Told
 finished = record { text = []; end = Finished }
 
--- line n is bad, and what stands after it is not looked at
+-- line n is bad, and the run ends there
 unfoldable pub stopped : ℕ → Told
 stopped n = record { text = bad_line n; end = BadLine n }
 
@@ -46,7 +46,7 @@ step_line (Command (Ask step)) n history later = with_front (told_outcome histor
 step_line (Command (Object object)) n history later = stopped n
 step_line Bad n history later = stopped n
 
--- what the lines from line n on print, where the first step was asked already
+-- what the lines from line n on print, from the line of the first step on
 unfoldable pub steps_told : List (List ℕ) → ℕ → Recorded → Told
 steps_told [] n history = finished
 steps_told (line ∷ more) n history = step_line (line_of line) n history (λ later. steps_told more (n + 1) later)

@@ -35,6 +35,7 @@ pub fn read_all<R: Read>(alloc: Global, input: &mut Device<R>) -> Result<Vec<u8>
     ensures end { OnOk result (IsAtEnd (R.remaining input.new.inner)) }
     ensures limit { IfOk result (λ bytes. vec_len bytes ≤ input_limit) }
     ensures sound { OnOk result (input.new.failed ≡ false) }
+    ensures counted { IfOk result (λ bytes. input.new.moved ≡ vec_len bytes) }
     ensures fault { result ≡ Err ScriptFault.Read → IsReadFault R.remaining input.old input.new }
     ensures reads_only { result ≢ Err ScriptFault.Write }
 {

@@ -33,6 +33,7 @@ impl Core {
     ghost use Rattle.asset_names.specs.Endings.{status};
     ghost use Rattle.asset_names.specs.Operations.{value_if_any};
     ghost use Rattle.asset_names.specs.declared.replies.Outcome.TheVariants.{Answer};
+    ghost use Rattle.asset_names.specs.Room.{fits};
     ghost use Rattle.asset_names.specs.Answers.{takes_memory, carried_out, IsLegal};
     ghost use Rattle.asset_core.specs.Recorded.{opened, answer_to, after, with_entry, has_room, is_ending};
     ghost use Rattle.asset_core.specs.OpenFaults.{MayOpen, IsOpenFault};
@@ -61,8 +62,8 @@ impl Core {
     /// Asks one step. A step that waits changes nothing, and may be asked again. An answered step is
     /// one more entry, refused or not. Full comes exactly where the entries with this one, and those
     /// that live names are owed after it, exceed the capacity; a complete, a commit or an abort that
-    /// changes a status always finds room. NoMemory may come only where a step that keeps something
-    /// new would be carried out. After Full and NoMemory nothing has changed.
+    /// changes a status always finds room. NoMemory may come only where an initiate, a read or a
+    /// write would be carried out. After Full and NoMemory nothing has changed.
     #[tactic(auto, unfolding(crate::specs::Recorded::after, crate::specs::Recorded::has_room, crate::specs::Recorded::is_ending))]
     pub fn step(&mut self, step: Step) -> Result<Outcome, Fault>
         ensures answered { IfOk result (λ outcome. outcome ≡ answer_to self.old step) }
@@ -114,7 +115,8 @@ impl Core {
 
     /// The history so far.
     pub fn history(&self) -> &History
-        ensures { result.now ≡ self.now }
+        ensures history { result.now ≡ self.now }
+        ensures fits { fits (deeds self.now.past) (length self.now.past) self.now.room ≡ true }
     {
         &self.history
     }

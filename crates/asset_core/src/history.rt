@@ -8,7 +8,7 @@ use std::marker::Model;
 use thiserror::Error;
 
 /// The opening values of the objects and the entries, each a step with the reply that it got. It is
-/// always legal: each reply is the answer at its place. Contracts see the opening, the entries with
+/// always legal: the facility would answer each step as it did, after the entries before it. Contracts see the opening, the entries with
 /// the newest first, and how many entries there is room for in all.
 #[derive(Drop)]
 pub struct History {
@@ -62,7 +62,8 @@ impl History {
 
     /// The number of entries.
     pub fn len(&self) -> usize
-        ensures { result ≡ length self.now.past }
+        ensures len { result ≡ length self.now.past }
+        ensures legal { IsLegal self.now.opening self.now.past }
     {
         self.entries.len()
     }
@@ -76,7 +77,8 @@ impl History {
 
     /// The entry of this number. Entries count from 0, oldest first.
     pub fn entry(&self, number: usize) -> Option<(Step, Reply)>
-        ensures { result ≡ slice_get (reverse self.now.past) number }
+        ensures entry { result ≡ slice_get (reverse self.now.past) number }
+        ensures legal { IsLegal self.now.opening self.now.past }
     {
         self.entries.get(number).copied()
     }

@@ -4,3 +4,4 @@ pub mod Rows
 pub mod Sorting
 pub mod LegalLemmas
 pub mod RoomLemmas
+pub mod HolderLemmas

@@ -1,5 +1,5 @@
 -- Worked rows, computed on the definitions.
-use Rattle.std.specs.Prelude.{◌≡◌, ℕ, pos, List, [], ◌∷◌, Some, None, refl}
+use Rattle.std.specs.Prelude.{◌≡◌, ℕ, pos, true, false, List, [], ◌∷◌, Some, None, refl}
 use Rattle.asset_names.specs.declared.names.Txn.{Txn}
 use Rattle.asset_names.specs.declared.names.Ob.{Ob}
 use Rattle.asset_names.specs.declared.steps.Step.{Step}
@@ -13,6 +13,7 @@ use Rattle.asset_names.specs.Arrows.{lists, linked, among}
 use Rattle.asset_names.specs.Steps.{Opening, Entry, carries_out, deeds, initiated_by, initiated, begun_by, begun, completed_by, completed}
 use Rattle.asset_names.specs.Endings.{class_arrows, doom_arrows, ended_by, end_of, live, status_of, status, same_class}
 use Rattle.asset_names.specs.Operations.{op_of, conflict, operated, operations, permits, reach, hinders, free, was_aborted, stands, exists, opening_at, opening_value, after_use, value_after, value}
+use Rattle.asset_names.specs.Room.{owed, owed_to, fits}
 use Rattle.asset_names.specs.Answers.{is_unknown, has_ended, is_running, is_completed, is_committed, has_begun, unknown, ended, not_running, taken, begun_before, too_late, no_object, rules_for, first_refusal, class_completed, commit_outcome, wait_outcome, unrefused, outcome_unless, answer}
 
 abbrev t : ℕ → Txn
@@ -92,6 +93,17 @@ AfterTheEnd = Row
     (Initiate (t 7) None ∷ WaitFor (t 7) ∷ Begin (t 7) ∷ Complete (t 7) ∷ WaitFor (t 7) ∷ Commit (t 7) ∷ Abort (t 7) ∷ WaitFor (t 7) ∷ Initiate (t 8) None ∷ Abort (t 8) ∷ Abort (t 8) ∷ Commit (t 8) ∷ WaitFor (t 8) ∷ Begin (t 8) ∷ WaitFor (t 9) ∷ Abort (t 9) ∷ [])
     (ok ∷ Wait ∷ ok ∷ ok ∷ ok ∷ Answer Committed ∷ refused (TooLate (t 7)) ∷ Answer Committed ∷ ok ∷ Answer Aborted ∷ Answer Aborted ∷ Answer Aborted ∷ Answer Aborted ∷ refused (Ended (t 8)) ∷ refused (Unknown (t 9)) ∷ refused (Unknown (t 9)) ∷ [])
 
-rows : OneTransaction × WriterHoldsOff × ReadersShare × RefusalsInOrder × CommitWaits × ParentIsRecorded × ReaderWaitsForAbort × AfterTheEnd
-unfolding answer rules_for unrefused first_refusal outcome_unless unknown ended not_running taken begun_before too_late no_object is_unknown has_ended is_running is_completed is_committed has_begun class_completed commit_outcome wait_outcome free hinders reach permits conflict op_of operations operated value value_after after_use was_aborted stands opening_value opening_at exists status status_of end_of ended_by live same_class class_arrows doom_arrows initiated begun completed initiated_by begun_by completed_by deeds carries_out among linked lists
-rows = (refl, refl, refl, refl, refl, refl, refl, refl)
+-- a write that was committed stands under one that was aborted
+abbrev CommittedUnderAborted : Type 0
+CommittedUnderAborted = Row
+    (Initiate (t 7) None ∷ Begin (t 7) ∷ Write (t 7) (x 1) (pos 50) ∷ Complete (t 7) ∷ Commit (t 7) ∷ Initiate (t 8) None ∷ Begin (t 8) ∷ Write (t 8) (x 1) (pos 60) ∷ Abort (t 8) ∷ Initiate (t 9) None ∷ Begin (t 9) ∷ Read (t 9) (x 1) ∷ [])
+    (ok ∷ ok ∷ ok ∷ ok ∷ Answer Committed ∷ ok ∷ ok ∷ ok ∷ Answer Aborted ∷ ok ∷ ok ∷ Answer (Value (pos 50)) ∷ [])
+
+-- a running name is owed two entries, a completed one is owed one, and one that has ended none
+abbrev RoomIsOwed : Type 0
+RoomIsOwed = (owed (Begin (t 7) ∷ Initiate (t 7) None ∷ []) ≡ 2) × (owed (Complete (t 7) ∷ Begin (t 7) ∷ Initiate (t 7) None ∷ []) ≡ 1)
+    × (owed (Abort (t 7) ∷ Initiate (t 8) None ∷ Begin (t 7) ∷ Initiate (t 7) None ∷ []) ≡ 2) × (fits (Initiate (t 7) None ∷ []) 1 3 ≡ true) × (fits (Initiate (t 7) None ∷ []) 1 2 ≡ false)
+
+rows : OneTransaction × WriterHoldsOff × ReadersShare × RefusalsInOrder × CommitWaits × ParentIsRecorded × ReaderWaitsForAbort × AfterTheEnd × CommittedUnderAborted × RoomIsOwed
+unfolding owed owed_to fits answer rules_for unrefused first_refusal outcome_unless unknown ended not_running taken begun_before too_late no_object is_unknown has_ended is_running is_completed is_committed has_begun class_completed commit_outcome wait_outcome free hinders reach permits conflict op_of operations operated value value_after after_use was_aborted stands opening_value opening_at exists status status_of end_of ended_by live same_class class_arrows doom_arrows initiated begun completed initiated_by begun_by completed_by deeds carries_out among linked lists
+rows = (refl, refl, refl, refl, refl, refl, refl, refl, refl, (refl, refl, refl, refl, refl))

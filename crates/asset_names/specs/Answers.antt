@@ -48,10 +48,11 @@ has_begun other = false
 abbrev pub Rule : Type 0
 Rule = Bool × Refusal
 
--- a step that acts on t is refused where t was never initiated, and where t has ended
+-- each step but an initiate is refused where t was never initiated
 unfoldable pub unknown : List Step → Txn → Rule
 unknown past t = (is_unknown (status past t.0), Refusal'.Unknown t)
 
+-- a begin and a transaction's own work are refused where it has ended
 unfoldable pub ended : List Step → Txn → Rule
 ended past t = (has_ended (status past t.0), Refusal'.Ended t)
 
@@ -139,7 +140,7 @@ unfoldable pub carried_out : Step → Outcome → Bool
 carried_out step (Answer reply) = carries_out step reply
 carried_out step Wait = false
 
--- a history, newest entry first, is legal where each reply is the answer at its place
+-- a history, newest entry first, is legal where each step was answered as it is after the older entries
 unfoldable pub IsLegal : Opening → List Entry → Type 0
 IsLegal opening [] = Unit {0}
 IsLegal opening (entry ∷ older) = (answer opening (deeds older) entry.0 ≡ Answer entry.1) × IsLegal opening older

@@ -34,7 +34,7 @@ same_op Op'.Write Op'.Write = true
 same_op Op'.Read Op'.Write = false
 same_op Op'.Write Op'.Read = false
 
--- two operations conflict unless both are reads
+-- whether two operations conflict: reads go together, and nothing else does
 unfoldable pub conflict : Op → Op → Bool
 conflict Op'.Read Op'.Read = false
 conflict Op'.Read Op'.Write = true
@@ -57,7 +57,7 @@ unfoldable pub operations : List Step → List Operation
 operations [] = []
 operations (step ∷ older) = operated step (operations older)
 
--- t holds x by op where t is live and responsible for such an operation on x
+-- a live name holds x by the operations on x for which it is responsible
 unfoldable pub holds : List Step → ℕ → ℕ → Op → Bool
 holds past t x op = live past t && list_any (λ (o : Operation). o.owner == t && o.object == x && same_op (op_of o.use_of) op) (operations past)
 
@@ -75,7 +75,7 @@ reach past u t x op = linked (among (live past) (permits past x op)) u t
 unfoldable pub hinders : List Step → ℕ → ℕ → Op → Operation → Bool
 hinders past t x op o = o.object == x && conflict (op_of o.use_of) op && not (o.owner == t) && live past o.owner && not (reach past o.owner t x op)
 
--- x is free for t to do op: each other holder by an operation in conflict with op allows it
+-- x is free for t to do op where no operation keeps t from it
 unfoldable pub free : List Step → ℕ → ℕ → Op → Bool
 free past t x op = not (list_any (hinders past t x op) (operations past))
 

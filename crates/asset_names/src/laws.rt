@@ -1,11 +1,13 @@
 //! Laws of the definitions, each on the contract of a function that does nothing.
 
-ghost use Rattle.std.specs.Prelude.{◌≡◌, ℕ, ◌+◌, ◌↔◌, true, List, ◌∷◌, length};
+ghost use Rattle.std.specs.Prelude.{◌≡◌, ◌≢◌, ℕ, ◌+◌, ◌↔◌, true, List, ◌∷◌, length};
 ghost use Rattle.asset_names.specs.declared.steps.Step.{Step};
 ghost use Rattle.asset_names.specs.declared.replies.Reply.{Reply};
 ghost use Rattle.asset_names.specs.declared.replies.Outcome.TheVariants.{Answer};
 ghost use Rattle.asset_names.specs.Steps.{Opening, Entry, deeds};
 ghost use Rattle.asset_names.specs.Answers.{IsLegal, answer};
+ghost use Rattle.asset_names.specs.declared.operations.Op.{Op};
+ghost use Rattle.asset_names.specs.Operations.{conflict, holds, reach, free};
 ghost use Rattle.asset_names.specs.Room.{fits, changes_status};
 ghost use Rattle.asset_names.specs.Arrows.{Arrow, linked, Chain};
 
@@ -21,4 +23,11 @@ pub fn endings_find_room()
         IsLegal opening entries → fits (deeds entries) (length entries) capacity ≡ true →
         answer opening (deeds entries) step ≡ Answer reply → changes_status (deeds entries) step reply ≡ true →
         fits (deeds ((step, reply) ∷ entries)) (length entries + 1) capacity ≡ true }
+{}
+
+/// An object is free for an operation exactly where each other name that holds it by an operation in
+/// conflict allows it.
+pub fn free_is_allowed_by_holders()
+    ensures { (past : List Step) (t x : ℕ) (op : Op) → (free past t x op ≡ true)
+        ↔ ((u : ℕ) (other : Op) → holds past u x other ≡ true → conflict other op ≡ true → u ≢ t → reach past u t x op ≡ true) }
 {}

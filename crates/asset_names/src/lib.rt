@@ -13,7 +13,7 @@ mod statuses;
 mod steps;
 
 pub use doubles::{NamesObject, least_double};
-pub use laws::{endings_find_room, linked_is_chain};
+pub use laws::{endings_find_room, free_is_allowed_by_holders, linked_is_chain};
 pub use names::{Ob, Txn};
 pub use operations::{Op, Ops};
 pub use replies::{Fault, Outcome, Refusal, Reply};

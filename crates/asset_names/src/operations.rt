@@ -4,8 +4,8 @@ ghost use Rattle.std.specs.Prelude.{◌≡◌, ◌||◌, ◌↔◌, false, true,
 
 use std::marker::Model;
 
-/// What a transaction does to an object: it reads or writes the whole value. Two operations
-/// conflict unless both are reads.
+/// What a transaction does to an object: it reads or writes the whole value. Reads go together;
+/// a write conflicts with reads and with other writes.
 #[derive(Clone, Copy, Debug, PartialEq, Eq)]
 pub enum Op {
     Read,

@@ -29,7 +29,7 @@ pub enum Refusal {
 /// A recorded reply to a step.
 #[derive(Clone, Copy, Debug, PartialEq, Eq)]
 pub enum Reply {
-    /// The step was carried out.
+    /// What was asked is done: the step was carried out, or the name that was waited for has completed.
     Done,
     /// The value that was read.
     Value(i64),
@@ -53,8 +53,8 @@ pub enum Outcome {
 /// Why a step got no answer. A fault is not recorded, and nothing has changed.
 #[derive(Clone, Copy, Debug, PartialEq, Eq, Error)]
 pub enum Fault {
-    /// The history has no room for the entry.
-    #[error("the history is full")]
+    /// The history has no room for the entry and for those that live names are owed after it.
+    #[error("the history has no room")]
     Full,
     /// Memory ran out.
     #[error("no memory")]

@@ -16,7 +16,7 @@ pub enum Kind {
 /// One step that a client asks of the facility.
 #[derive(Clone, Copy, Debug, PartialEq, Eq)]
 pub enum Step {
-    /// Registers the transaction `t`. The parent's name is recorded, and never looked up.
+    /// Registers the transaction `t`. A parent may be named, whatever it is: nothing depends on it.
     Initiate { t: Txn, parent: Option<Txn> },
     /// Starts `t`.
     Begin { t: Txn },

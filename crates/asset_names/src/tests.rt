@@ -1,7 +1,8 @@
 //! Each public call once, on values worked out by hand.
 
 use crate::{
-    Ob, ObList, ObSet, Op, Ops, SetFault, endings_find_room, least_double, linked_is_chain,
+    Ob, ObList, ObSet, Op, Ops, SetFault, endings_find_room, free_is_allowed_by_holders,
+    least_double, linked_is_chain,
 };
 use std::test::Fail;
 
@@ -70,4 +71,5 @@ fn least_double_is_named(rt: HostRuntime) {
 fn laws_can_be_called() {
     linked_is_chain();
     endings_find_room();
+    free_is_allowed_by_holders();
 }

@@ -20,4 +20,4 @@ returns-in_err-write_all-clause-stopped g c =
     let read = c.in_ok-bytes.ensures in
     let wrote = c.in_err-write_all.ensures in
     let front = rw (c.as_bytes.ensures.value, c.in_ok-text.ensures.text, c.deref.ensures.value) at wrote.front in
-    rw (p.1, p.2, wrote.writes_only) (stops_writing _ _ _ _ _ _ _ c.in_ok-bytes.bytes.items (record { gave = read.gave; end = read.end; limit = omega (arith, read.limit) }) front wrote.failed)
+    rw (p.1, p.2, wrote.writes_only) (stops_writing _ _ _ _ _ _ _ c.in_ok-bytes.bytes.items (record { gave = read.gave; end = read.end; limit = omega (arith, read.limit); sound = read.sound; counted = omega (arith, read.counted) }) front wrote.failed)

@@ -1,0 +1,8 @@
+use Rattle.std.proofs.Common.{◌≡◌, ◌≤◌, arith}
+use Rattle.std.proofs.lemmas.Bool.{le-leb}
+use Rattle.asset_names.specs.Room.{fits}
+use Rattle.asset_core.proofs.facility.Core.history.Goals as goal
+
+pub returns-clause-fits : goal.returns-clause-fits
+unfolding fits
+returns-clause-fits c = rw (← c.self.view_is) (le-leb _ _ (omega (arith, c.self.invariant.fitting, c.self.invariant.counts)))
