@@ -1,22 +1,24 @@
 //! What is answered when a reader or a writer fails in mid-stream.
-use crate::{Device, ScriptFault, read_all, write_all};
+use super::memory::{ITS_TEXT, ONE_TRANSACTION};
+use crate::{Device, RunEnd, ScriptFault, read_all, run_script, write_all};
 use std::io;
 use std::test::Fail;
 
-// Gives `#` for as long as `left` says, a few at a time, and then fails.
+// Gives the bytes that are left, three at a time, and then fails.
 #[derive(Drop)]
-struct FailingReader {
-    left: usize,
+struct FailingReader<'a> {
+    left: &'a [u8],
 }
 
-impl io::Read for FailingReader {
+impl io::Read for FailingReader<'_> {
     fn read(&mut self, buf: &mut [u8]) -> io::Result<usize> {
-        let count = self.left.min(buf.len()).min(3);
+        let count = self.left.len().min(buf.len()).min(3);
         if count == 0 {
             return Err(io::Error::from(io::ErrorKind::Other));
         }
-        self.left -= count;
-        buf[..count].fill(b'#');
+        let (front, rest) = self.left.split_at(count);
+        buf[..count].copy_from_slice(front);
+        self.left = rest;
         Ok(count)
     }
 }
@@ -34,17 +36,20 @@ impl io::Read for EndlessReader {
 
 // Takes three bytes at a time, and fails once it has been asked `left` times.
 #[derive(Drop)]
-struct FailingWriter {
+struct FailingWriter<'a> {
     left: u64,
+    taken: &'a mut Vec<u8>,
 }
 
-impl io::Write for FailingWriter {
+impl io::Write for FailingWriter<'_> {
     fn write(&mut self, buf: &[u8]) -> io::Result<usize> {
         if self.left == 0 {
             return Err(io::Error::from(io::ErrorKind::Other));
         }
         self.left -= 1;
-        Ok(buf.len().min(3))
+        let count = buf.len().min(3);
+        self.taken.extend_from_slice(&buf[..count])?;
+        Ok(count)
     }
 
     fn flush(&mut self) -> io::Result<()> {
@@ -73,48 +78,85 @@ fn reads_and_writes_everything(rt: HostRuntime) -> Result<(), Fail> {
     assert_eq!(rt; bytes.as_slice(), &b"begin 7\n"[..]);
     assert!(rt; !input.failed());
     assert_eq!(rt; input.asked(), 2);
-    let mut output = Device::new(FailingWriter { left: 3 });
+    let mut taken = Vec::new(rt.alloc());
+    let mut output = Device::new(FailingWriter {
+        left: 3,
+        taken: &mut taken,
+    });
     assert_eq!(rt; write_all(&mut output, &bytes), Ok(()));
     assert!(rt; !output.failed());
     assert_eq!(rt; output.asked(), 3);
+    assert_eq!(rt; taken.as_slice(), &b"begin 7\n"[..]);
     Ok(())
 }
 
 #[test]
-fn failing_reader_is_a_read_fault(rt: HostRuntime) {
-    for left in [0, 1, 7, 70_000] {
-        let mut input = Device::new(FailingReader { left });
-        let read = read_all(rt.alloc(), &mut input);
-        assert_eq!(rt; read.err(), Some(ScriptFault::Read), "after {left} bytes");
-        assert!(rt; input.failed());
+fn reader_fails_after_each_byte(rt: HostRuntime) {
+    for given in 0..=ONE_TRANSACTION.len() {
+        let mut written = Vec::new(rt.alloc());
+        let mut input = Device::new(FailingReader {
+            left: &ONE_TRANSACTION[..given],
+        });
+        let mut output = Device::new(&mut written);
+        let end = run_script(rt.alloc(), &mut input, &mut output, 10_000);
+        assert_eq!(rt; end, Err(ScriptFault::Read), "after {given} bytes");
+        assert!(rt; input.failed(), "after {given} bytes");
+        assert!(rt; written.is_empty(), "after {given} bytes");
     }
 }
 
 #[test]
-fn endless_reader_is_given_up(rt: HostRuntime) {
-    let mut input = Device::new(EndlessReader);
+fn reader_fails_past_one_piece(rt: HostRuntime) -> Result<(), Fail> {
+    let comment = vec![in rt.alloc(); b'#'; 70_000]?;
+    let mut input = Device::new(FailingReader { left: &comment });
     let read = read_all(rt.alloc(), &mut input);
     assert_eq!(rt; read.err(), Some(ScriptFault::Read));
-    assert!(rt; !input.failed());
-    assert_eq!(rt; input.asked(), 1025);
+    assert!(rt; input.failed());
+    Ok(())
 }
 
 #[test]
-fn failing_writer_is_a_write_fault(rt: HostRuntime) {
-    for left in [0, 1, 2] {
-        let mut output = Device::new(FailingWriter { left });
-        assert_eq!(rt;
-            write_all(&mut output, b"committed\n"),
+fn endless_reader_is_given_up(rt: HostRuntime) {
+    let mut written = Vec::new(rt.alloc());
+    let mut input = Device::new(EndlessReader);
+    let mut output = Device::new(&mut written);
+    let end = run_script(rt.alloc(), &mut input, &mut output, 10_000);
+    assert_eq!(rt; end, Err(ScriptFault::Read));
+    assert!(rt; !input.failed());
+    assert_eq!(rt; input.asked(), 1025);
+    assert!(rt; written.is_empty());
+}
+
+#[test]
+fn writer_fails_at_each_write(rt: HostRuntime) {
+    let text = ITS_TEXT.as_bytes();
+    for left in 0..=10u64 {
+        let mut taken = Vec::new(rt.alloc());
+        let mut input = Device::new(ONE_TRANSACTION);
+        let mut output = Device::new(FailingWriter {
+            left,
+            taken: &mut taken,
+        });
+        let end = run_script(rt.alloc(), &mut input, &mut output, 10_000);
+        let failed = output.failed();
+        let front = text.len().min(3 * left as usize);
+        assert_eq!(rt; taken.as_slice(), &text[..front], "after {left} writes");
+        assert_eq!(rt; failed, front < text.len(), "after {left} writes");
+        let wanted = if failed {
             Err(ScriptFault::Write)
-        );
-        assert!(rt; output.failed());
-        assert_eq!(rt; output.asked(), left + 1);
+        } else {
+            Ok(RunEnd::Finished)
+        };
+        assert_eq!(rt; end, wanted, "after {left} writes");
     }
 }
 
 #[test]
 fn writer_that_takes_nothing_has_failed(rt: HostRuntime) {
+    let mut input = Device::new(ONE_TRANSACTION);
     let mut output = Device::new(FullWriter);
-    assert_eq!(rt; write_all(&mut output, b"ok\n"), Err(ScriptFault::Write));
+    let end = run_script(rt.alloc(), &mut input, &mut output, 10_000);
+    assert_eq!(rt; end, Err(ScriptFault::Write));
     assert!(rt; output.failed());
+    assert_eq!(rt; output.asked(), 1);
 }
