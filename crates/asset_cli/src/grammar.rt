@@ -13,7 +13,7 @@ const LONGEST_LINE: usize = 4096;
 
 /// What a line of a script asks.
 #[derive(Clone, Copy, Debug, PartialEq, Eq)]
-pub enum Command {
+pub(crate) enum Command {
     /// Adds an object with this value to the opening.
     Object((Ob, i64)),
     /// Asks for a step.
@@ -57,7 +57,7 @@ impl Command {
 
 /// What a line of a script is.
 #[derive(Clone, Copy, Debug, PartialEq, Eq)]
-pub enum Line {
+pub(crate) enum Line {
     /// It says nothing.
     Blank,
     /// It asks something.
@@ -82,7 +82,7 @@ impl Line {
 
     /// What a line is, which is given without its line feed.
     #[tactic(auto, unfolding(crate::specs::Grammar::line_of, crate::specs::Grammar::line_by))]
-    pub fn parse(line: &[u8]) -> Line
+    pub(crate) fn parse(line: &[u8]) -> Line
         ensures { result ≡ line_of line.now }
     {
         if line.len() > LONGEST_LINE {

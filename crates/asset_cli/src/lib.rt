@@ -21,13 +21,7 @@ mod writing;
 pub use device::Device;
 pub use ends::RunEnd;
 pub use faults::ScriptFault;
-pub use grammar::{Command, Line};
-pub use lines::split_line;
-pub use reading::read_all;
 pub use running::run_script;
-pub use telling::tell;
-pub use texts::{push_bad_line, push_full, push_outcome};
-pub use writing::write_all;
 
 #[cfg(test)]
 mod tests;

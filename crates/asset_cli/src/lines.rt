@@ -27,7 +27,7 @@ pub(crate) fn cut(text: &[u8], byte: u8) -> Option<(&[u8], &[u8])>
 
 /// The first line and what comes after it, if anything is left.
 #[tactic(auto, using(crate::proofs::LineLemmas::lines_cut, crate::proofs::LineLemmas::lines_last))]
-pub fn split_line(bytes: &[u8]) -> Option<(&[u8], &[u8])>
+pub(crate) fn split_line(bytes: &[u8]) -> Option<(&[u8], &[u8])>
     ensures { MatchOption result (bytes.now ≡ [])
         (λ parts. lines bytes.now ≡ parts.0.now ∷ lines parts.1.now) }
 {

@@ -28,7 +28,10 @@ fn zeros(alloc: Global, len: usize) -> Result<Vec<u8>, AllocError>
 /// All that the reader gives, up to its end. A reader that gives more than 67,108,864 bytes, or has
 /// no end within 134,217,728 requests, is given up.
 #[tactic(auto, unfolding(crate::specs::Device::counted))]
-pub fn read_all<R: Read>(alloc: Global, input: &mut Device<R>) -> Result<Vec<u8>, ScriptFault>
+pub(crate) fn read_all<R: Read>(
+    alloc: Global,
+    input: &mut Device<R>,
+) -> Result<Vec<u8>, ScriptFault>
     requires { IsFresh input.old }
     ensures gave { IfOk result (λ bytes.
         Consumes (R.remaining input.old.inner) (R.remaining input.new.inner) bytes.items) }

@@ -104,7 +104,11 @@ fn open_over(alloc: Global, opening: &[(Ob, i64)], capacity: usize) -> Result<Co
 }
 
 /// The transcript of a script: its text, and how its run ends.
-pub fn tell(alloc: Global, bytes: &[u8], capacity: usize) -> Result<(String, RunEnd), ScriptFault>
+pub(crate) fn tell(
+    alloc: Global,
+    bytes: &[u8],
+    capacity: usize,
+) -> Result<(String, RunEnd), ScriptFault>
     requires capacity { IsCapacity capacity }
     requires limit { length bytes.now ≤ input_limit }
     ensures text { IfOk result (λ told. string_bytes told.0 ≡ (transcript bytes.now capacity).text) }

@@ -40,7 +40,7 @@ fn push_reply(text: &mut String, reply: Reply) -> Result<(), AllocError>
 
 /// Appends the line of what became of a step.
 #[tactic(auto, unfolding(crate::specs::Texts::outcome_line, crate::specs::Texts::line_end))]
-pub fn push_outcome(text: &mut String, outcome: Outcome) -> Result<(), AllocError>
+pub(crate) fn push_outcome(text: &mut String, outcome: Outcome) -> Result<(), AllocError>
     ensures { OnOk result (string_bytes text.new ≡ string_bytes text.old ++ outcome_line outcome) }
 {
     match outcome {
@@ -51,7 +51,7 @@ pub fn push_outcome(text: &mut String, outcome: Outcome) -> Result<(), AllocErro
 
 /// Appends the line of a step for which the history has no room.
 #[tactic(auto, unfolding(crate::specs::Texts::full_line, crate::specs::Texts::line_end))]
-pub fn push_full(text: &mut String) -> Result<(), AllocError>
+pub(crate) fn push_full(text: &mut String) -> Result<(), AllocError>
     ensures { OnOk result (string_bytes text.new ≡ string_bytes text.old ++ full_line) }
 {
     writeln!(text, "full")
@@ -59,7 +59,7 @@ pub fn push_full(text: &mut String) -> Result<(), AllocError>
 
 /// Appends the line that a bad line is answered with, which gives its number.
 #[tactic(auto, unfolding(crate::specs::Texts::bad_line, crate::specs::Texts::line_end))]
-pub fn push_bad_line(text: &mut String, number: u64) -> Result<(), AllocError>
+pub(crate) fn push_bad_line(text: &mut String, number: u64) -> Result<(), AllocError>
     ensures { OnOk result (string_bytes text.new ≡ string_bytes text.old ++ bad_line number) }
 {
     writeln!(text, "line {number}: bad command")

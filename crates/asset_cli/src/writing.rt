@@ -8,7 +8,7 @@ use crate::faults::ScriptFault;
 use std::io::Write;
 
 /// Writes all of the text, offering the writer what is left until it has taken everything.
-pub fn write_all<W: Write>(output: &mut Device<W>, text: &[u8]) -> Result<(), ScriptFault>
+pub(crate) fn write_all<W: Write>(output: &mut Device<W>, text: &[u8]) -> Result<(), ScriptFault>
     ensures took { OnOk result
         (Appends (W.contents output.old.inner) (W.contents output.new.inner) text.now) }
     ensures sound { OnOk result (output.new.failed ≡ output.old.failed) }

@@ -1,6 +1,8 @@
 //! What is answered when a reader or a writer fails in mid-stream.
 use super::memory::{ITS_TEXT, ONE_TRANSACTION};
-use crate::{Device, RunEnd, ScriptFault, read_all, run_script, write_all};
+use crate::reading::read_all;
+use crate::writing::write_all;
+use crate::{Device, RunEnd, ScriptFault, run_script};
 use std::io;
 use std::test::Fail;
 

@@ -1,5 +1,5 @@
 //! Whole scripts, with the text that answers each and how its run ends.
-use super::memory::{ITS_TEXT, ONE_TRANSACTION, expect};
+use super::memory::{ITS_TEXT, ONE_TRANSACTION, expect, run};
 use crate::RunEnd;
 use std::alloc::{AllocError, Global};
 use std::test::Fail;
@@ -88,5 +88,41 @@ fn pruned_runs_alike(rt: HostRuntime) -> Result<(), Fail> {
     let script = b"object 1 100\nobject 2 200\nobject 3 300\ninitiate 9\nbegin 9\nread 9 3\n\
         write 9 3 33\nread 9 1\ncomplete 9\ncommit 9\n";
     let text = "ok\nok\n300\nok\n100\nok\ncommitted\n";
+    expect(&rt, script, text, RunEnd::Finished)
+}
+
+#[test]
+fn reader_waits_for_abort(rt: HostRuntime) -> Result<(), Fail> {
+    let script = b"object 1 100\nobject 2 200\nobject 3 300\ninitiate 7\nbegin 7\ninitiate 8\n\
+        begin 8\nwrite 7 1 50\nread 8 1\nabort 7\nread 8 1\n";
+    let text = "ok\nok\nok\nok\nok\nwait\naborted\n100\n";
+    expect(&rt, script, text, RunEnd::Finished)
+}
+
+#[test]
+fn room_is_owed(rt: HostRuntime) -> Result<(), Fail> {
+    let script = b"object 1 100\nobject 2 200\nobject 3 300\ninitiate 7\nbegin 7\nread 7 1\n\
+        complete 7\nabort 7\ninitiate 8\ncommit 7\n";
+    let (end, text) = run(&rt, script, 4)?;
+    assert_eq!(rt; text.as_str(), "ok\nok\nfull\nok\naborted\nfull\nfull\n");
+    assert_eq!(rt; end, RunEnd::Finished);
+    Ok(())
+}
+
+#[test]
+fn no_room_to_begin(rt: HostRuntime) -> Result<(), Fail> {
+    let script = b"object 1 100\nobject 2 200\nobject 3 300\ninitiate 7\nbegin 7\nabort 7\n";
+    let (end, text) = run(&rt, script, 3)?;
+    assert_eq!(rt; text.as_str(), "ok\nfull\naborted\n");
+    assert_eq!(rt; end, RunEnd::Finished);
+    Ok(())
+}
+
+#[test]
+fn endings_are_told(rt: HostRuntime) -> Result<(), Fail> {
+    let script = b"initiate 7\nwait 7\nbegin 7\ncomplete 7\nwait 7\ncommit 7\nabort 7\nwait 7\n\
+        initiate 8\nabort 8\nwait 8\ncommit 8\nabort 8\nbegin 8\nwait 9\n";
+    let text = "ok\nwait\nok\nok\nok\ncommitted\nrefused too late 7\ncommitted\n\
+        ok\naborted\naborted\naborted\naborted\nrefused ended 8\nrefused unknown 9\n";
     expect(&rt, script, text, RunEnd::Finished)
 }

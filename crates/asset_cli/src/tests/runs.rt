@@ -156,11 +156,3 @@ fn least_and_greatest_numbers(rt: HostRuntime) -> Result<(), Fail> {
         ok\nok\nrefused unknown 18446744073709551614\n";
     expect(&rt, script, text, RunEnd::Finished)
 }
-
-#[test]
-fn full_history(rt: HostRuntime) -> Result<(), Fail> {
-    let (end, text) = run(&rt, b"initiate 7\nbegin 7\ncomplete 7\n", 2)?;
-    assert_eq!(rt; text.as_str(), "ok\nok\nfull\n");
-    assert_eq!(rt; end, RunEnd::Finished);
-    Ok(())
-}

@@ -1,5 +1,6 @@
 //! What the lines of a script say.
-use crate::{Command, Line, split_line};
+use crate::grammar::{Command, Line};
+use crate::lines::split_line;
 use asset_names::{Ob, Step, Txn};
 
 #[test]
@@ -10,7 +11,7 @@ fn lines_that_ask(rt: HostRuntime) {
         t: Txn(8),
         parent: Some(t),
     };
-    let cases: [(&str, Command); 8] = [
+    let cases: [(&str, Command); 10] = [
         ("object 1 -100", Command::Object((x, -100))),
         (
             "initiate 7",
@@ -22,6 +23,8 @@ fn lines_that_ask(rt: HostRuntime) {
         ("write 7 1 50", Command::Ask(Step::Write { t, x, v: 50 })),
         ("complete 7", Command::Ask(Step::Complete { t })),
         ("commit 7", Command::Ask(Step::Commit { t })),
+        ("abort 7", Command::Ask(Step::Abort { t })),
+        ("wait 7", Command::Ask(Step::WaitFor { t })),
     ];
     for (text, command) in cases {
         assert_eq!(rt;
@@ -49,7 +52,11 @@ fn lines_that_are_bad(rt: HostRuntime) {
         "begin 7\r",
         " begin 7",
         " ",
-        "abort 7",
+        "abort",
+        "wait 7 8",
+        "permit 7 8 r 1",
+        "delegate 7 8 all",
+        "depend cd 7 8",
     ];
     for text in cases {
         assert_eq!(rt; Line::parse(text.as_bytes()), Line::Bad, "{text}");

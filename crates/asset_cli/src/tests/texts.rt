@@ -1,5 +1,5 @@
 //! The texts of outcomes.
-use crate::{push_bad_line, push_full, push_outcome};
+use crate::texts::{push_bad_line, push_full, push_outcome};
 use asset_names::{Ob, Outcome, Refusal, Reply, Txn};
 use std::test::Fail;
 
