@@ -1,8 +1,8 @@
 //! The words of the command line: what they ask for, and the texts of help and of refusals.
 
-use crate::status::status_of_error;
-use crate::words::capacity_of;
-use clap::Error;
+use crate::status::{status_of_error, status_of_run, status_of_words};
+use crate::words::{WordsFault, capacity_of};
+use asset_cli::{RunEnd, ScriptFault};
 use std::alloc::{AllocError, Global};
 use std::test::Fail;
 
@@ -80,6 +80,45 @@ fn other_words_are_refused(rt: HostRuntime) -> Result<(), Fail> {
         assert_eq!(rt; status, 2);
         assert_eq!(rt; text.as_str(), expected.as_str());
     }
+    Ok(())
+}
+
+#[test]
+fn word_to_come_is_refused(rt: HostRuntime) -> Result<(), Fail> {
+    let (text, status) = refusal(&rt, &["prune"])?;
+    assert_eq!(rt; status, 2);
+    assert_eq!(rt;
+        text.as_str(),
+        "error: unrecognized subcommand 'prune'\n\n  tip: a similar subcommand exists: 'run'\n\nUsage: asset [COMMAND]\n\nFor more information, try '--help'.\n"
+    );
+    Ok(())
+}
+
+#[test]
+fn words_that_cannot_be_read(rt: HostRuntime) -> Result<(), Fail> {
+    let text = WordsFault::NotText.to_string(rt.alloc())?;
+    assert_eq!(rt; text.as_str(), "a word of the command line is no text");
+    assert_eq!(rt; status_of_words(WordsFault::NotText), 2);
+    let text = WordsFault::NoMemory.to_string(rt.alloc())?;
+    assert_eq!(rt; text.as_str(), "no memory");
+    assert_eq!(rt; status_of_words(WordsFault::NoMemory), 1);
+    Ok(())
+}
+
+#[test]
+fn faults_of_a_run_in_text(rt: HostRuntime) -> Result<(), Fail> {
+    let cases = [
+        (ScriptFault::Read, "read fault"),
+        (ScriptFault::Write, "write fault"),
+        (ScriptFault::NoMemory, "no memory"),
+    ];
+    for (fault, expected) in cases {
+        let text = fault.to_string(rt.alloc())?;
+        assert_eq!(rt; text.as_str(), expected);
+        assert_eq!(rt; status_of_run(Err(fault)), 1);
+    }
+    assert_eq!(rt; status_of_run(Ok(RunEnd::Finished)), 0);
+    assert_eq!(rt; status_of_run(Ok(RunEnd::BadLine(3))), 2);
     Ok(())
 }
 
