@@ -1,7 +1,6 @@
 -- Why a run stops, by where it does.
-use Rattle.std.proofs.Common.{◌≡◌, ℕ, true, List, Some, None, refl}
+use Rattle.std.proofs.Common.{◌≡◌, ℕ, true, List, refl}
 use Rattle.std.specs.Prelude.{Option}
-use Rattle.std.specs.Io.KnownBytes.{Keeps}
 use Rattle.asset_cli.specs.declared.faults.ScriptFault.{ScriptFault}
 use Rattle.asset_cli.specs.declared.faults.ScriptFault.TheVariants.{Read, Write, NoMemory}
 use Rattle.asset_cli.specs.Device.{DeviceState}

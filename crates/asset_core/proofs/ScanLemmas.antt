@@ -10,7 +10,7 @@ use Rattle.asset_names.specs.declared.steps.Step.TheVariants.{Initiate, Begin, R
 use Rattle.asset_names.specs.Arrows.{lists, linked, among}
 use Rattle.asset_names.specs.Steps.{Entry, carries_out, deeds, initiated, begun, completed}
 use Rattle.asset_names.specs.Endings.{live, status, status_of, end_of}
-use Rattle.asset_names.specs.Operations.{Operation, operations, operated, permits, reach, stands, value_after, after_use}
+use Rattle.asset_names.specs.Operations.{Operation, operations, operated, permits, reach, value_after, after_use}
 use Rattle.asset_names.specs.Operations.Use.{reads, writes}
 use Rattle.asset_core.specs.Scans.{written_by, is_live_status}
 use Rattle.asset_core.proofs.PastLemmas.{deeds_carried, deeds_not_carried}

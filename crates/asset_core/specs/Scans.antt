@@ -3,7 +3,7 @@ use Rattle.std.specs.Prelude.{ℕ, ℤ, Bool, true, false, cond, ◌==◌, ◌&&
 use Rattle.asset_names.specs.declared.statuses.Status.{Status}
 use Rattle.asset_names.specs.declared.statuses.Status.TheVariants as Status'
 use Rattle.asset_names.specs.declared.steps.Step.{Step}
-use Rattle.asset_names.specs.declared.steps.Step.TheVariants.{Initiate, Begin, Read, Write, Complete, Commit, Abort, WaitFor}
+use Rattle.asset_names.specs.declared.steps.Step.TheVariants.{Write}
 use Rattle.asset_names.specs.Operations.{Operation}
 use Rattle.asset_names.specs.Operations.Use.{writes}
 

@@ -2,7 +2,7 @@
 use Rattle.std.specs.Prelude.{ℕ, cond, ◌==◌, ◌&&◌, ◌||◌, Some, None, List}
 use Rattle.std.specs.Option.{option_or}
 use Rattle.asset_names.specs.declared.steps.Step.{Step}
-use Rattle.asset_names.specs.declared.steps.Step.TheVariants.{Initiate, Begin, Read, Write, Complete, Commit, Abort, WaitFor}
+use Rattle.asset_names.specs.declared.steps.Step.TheVariants.{Initiate, Begin, Complete, Commit, Abort}
 use Rattle.asset_names.specs.declared.statuses.End.TheVariants as End'
 use Rattle.asset_names.specs.Arrows.{lists}
 use Rattle.asset_names.specs.Steps.{initiated, begun, completed}

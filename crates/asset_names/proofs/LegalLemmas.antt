@@ -1,24 +1,21 @@
 -- What a legal history says of the steps that were carried out in it.
-use Rattle.std.proofs.Common.{◌≡◌, ℕ, Bool, true, false, cond, not, eqb, ◌&&◌, ◌||◌, List, [], ◌∷◌, Some, None, refl, sym, ◌∙◌, ap, subst, arith, ◌⊎◌, inl, inr}
-use Rattle.std.specs.Prelude.{Option, is_none, is_some, ℤ}
+use Rattle.std.proofs.Common.{◌≡◌, ℕ, Bool, true, false, cond, eqb, ◌&&◌, List, [], ◌∷◌, Some, None, refl, sym, ◌∙◌, ap, subst, arith, inl, inr}
+use Rattle.std.specs.Prelude.{Option, is_none, is_some}
 use Rattle.std.specs.Option.{option_or}
-use Rattle.std.proofs.lemmas.Bool.{or_cases, or_right, and_parts, eqb-true, eq-eqb, not-true, not-false, false≢true}
+use Rattle.std.proofs.lemmas.Bool.{or_cases, or_right, eqb-true, not-false, false≢true}
 use Rattle.asset_names.specs.declared.names.Txn.{Txn}
 use Rattle.asset_names.specs.declared.statuses.End.{End}
 use Rattle.asset_names.specs.declared.statuses.End.TheVariants as End'
-use Rattle.asset_names.specs.declared.statuses.Status.{Status}
-use Rattle.asset_names.specs.declared.statuses.Status.TheVariants as Status'
 use Rattle.asset_names.specs.declared.steps.Step.{Step}
 use Rattle.asset_names.specs.declared.steps.Step.TheVariants.{Initiate, Begin, Read, Write, Complete, Commit, Abort, WaitFor}
 use Rattle.asset_names.specs.declared.replies.Refusal.{Refusal}
 use Rattle.asset_names.specs.declared.replies.Reply.{Reply}
 use Rattle.asset_names.specs.declared.replies.Reply.TheVariants as Reply'
-use Rattle.asset_names.specs.declared.replies.Outcome.{Outcome}
-use Rattle.asset_names.specs.declared.replies.Outcome.TheVariants.{Answer, Wait}
+use Rattle.asset_names.specs.declared.replies.Outcome.TheVariants.{Answer}
 use Rattle.asset_names.specs.Arrows.{lists, linked, among}
 use Rattle.asset_names.specs.Steps.{Opening, Entry, carries_out, deeds, initiated, initiated_by, begun, completed, completed_by}
-use Rattle.asset_names.specs.Endings.{class_arrows, doom_arrows, ended_by, end_of, live, status, status_of}
-use Rattle.asset_names.specs.Answers.{Rule, is_unknown, has_ended, is_running, unknown, ended, not_running, taken, rules_for, first_refusal, unrefused, outcome_unless, answer, IsLegal}
+use Rattle.asset_names.specs.Endings.{class_arrows, doom_arrows, ended_by, end_of, status, status_of}
+use Rattle.asset_names.specs.Answers.{Rule, is_unknown, is_running, unknown, ended, not_running, taken, rules_for, first_refusal, unrefused, outcome_unless, answer, IsLegal}
 
 -- no end is added
 pub option_or_none : (end : Option End) → option_or end None ≡ end

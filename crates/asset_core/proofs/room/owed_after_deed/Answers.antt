@@ -1,6 +1,5 @@
-use Rattle.std.proofs.Common.{◌≡◌, ◌+◌, ◌≤◌, sym, ◌∙◌, ap, arith}
+use Rattle.std.proofs.Common.{sym, arith}
 use Rattle.asset_names.specs.Steps.{deeds}
-use Rattle.asset_names.specs.Room.{owed, owed_to}
 use Rattle.asset_names.proofs.LegalLemmas.{legal_orderly, initiate_new, complete_runs}
 use Rattle.asset_names.proofs.RoomLemmas.{owed_initiate, owed_complete, owed_commit, owed_abort, owed_begin, owed_read, owed_write, owed_wait}
 use Rattle.asset_core.specs.Recorded.{answer_to}

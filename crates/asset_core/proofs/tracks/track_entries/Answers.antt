@@ -1,8 +1,6 @@
 use Rattle.std.proofs.Common.{◌<◌, ◌≤◌, length, arith}
 use Rattle.std.proofs.lemmas.List.{take_all}
 use Rattle.asset_names.specs.Steps.{deeds}
-use Rattle.asset_names.specs.Endings.{status}
-use Rattle.asset_core.specs.Tracks.{track_of}
 use Rattle.asset_core.proofs.PastLemmas.{reverse_take_more, no_entry}
 use Rattle.asset_core.proofs.tracks.track_entries.Goals as goal
 

@@ -1,4 +1,4 @@
-use Rattle.std.proofs.Common.{◌≡◌, ◌≤◌, refl, arith}
+use Rattle.std.proofs.Common.{refl, arith}
 use Rattle.asset_names.specs.Steps.{deeds, initiated}
 use Rattle.asset_names.specs.Room.{owed}
 use Rattle.asset_core.specs.Recorded.{opened}
