@@ -8,7 +8,7 @@ mod tests;
 mod words;
 
 use crate::status::{status_of_error, status_of_run, status_of_words};
-use crate::words::{WordsFault, capacity_of, words_given};
+use crate::words::{WordsFault, capacity_given, capacity_or_default, words_given};
 use asset_cli::{Device, run_script};
 use clap::error::ErrorKind;
 use std::process::ExitCode;
@@ -34,13 +34,18 @@ fn main(rt: HostRuntime) -> ExitCode {
         Ok(words) => words,
         Err(fault) => return ExitCode::from(refuse_words(&rt, fault)),
     };
-    let capacity = match capacity_of(rt.alloc(), words.as_slice()) {
-        Ok(capacity) => capacity,
+    let given = match capacity_given(rt.alloc(), words.as_slice()) {
+        Ok(given) => given,
         Err(error) => return ExitCode::from(refuse(&rt, &error)),
     };
     let mut input = Device::new(rt.stdin());
     let mut output = Device::new(rt.stdout());
-    let ended = run_script(rt.alloc(), &mut input, &mut output, capacity);
+    let ended = run_script(
+        rt.alloc(),
+        &mut input,
+        &mut output,
+        capacity_or_default(given),
+    );
     if let Err(fault) = ended {
         let _ = eprintln!(rt; "asset: {fault}");
     }

@@ -1,7 +1,7 @@
 //! The words of the command line: what they ask for, and the texts of help and of refusals.
 
 use crate::status::{status_of_error, status_of_run, status_of_words};
-use crate::words::{WordsFault, capacity_of};
+use crate::words::{WordsFault, capacity_given, capacity_or_default};
 use asset_cli::{RunEnd, ScriptFault};
 use std::alloc::{AllocError, Global};
 use std::test::Fail;
@@ -19,13 +19,17 @@ fn words(alloc: Global, texts: &[&str]) -> Result<Vec<String>, AllocError> {
 /// The capacity that the words ask for, or 0 where they are refused.
 fn capacity(rt: &HostRuntime, texts: &[&str]) -> Result<usize, AllocError> {
     let words = words(rt.alloc(), texts)?;
-    Ok(capacity_of(rt.alloc(), words.as_slice()).unwrap_or(0))
+    Ok(
+        capacity_given(rt.alloc(), words.as_slice())
+            .map(capacity_or_default)
+            .unwrap_or(0),
+    )
 }
 
 /// The text that the words are answered with, and the exit status.
 fn refusal(rt: &HostRuntime, texts: &[&str]) -> Result<(String, u8), Fail> {
     let words = words(rt.alloc(), texts)?;
-    match capacity_of(rt.alloc(), words.as_slice()) {
+    match capacity_given(rt.alloc(), words.as_slice()) {
         Ok(_) => Err(Fail::from("the words are taken")),
         Err(error) => Ok((error.to_string(rt.alloc())?, status_of_error(error.kind()))),
     }

@@ -1,6 +1,6 @@
 //! The words of the command line.
 
-ghost use Rattle.std.specs.Prelude.{◌≡◌, IfOk, IfSome, IfNone};
+ghost use Rattle.std.specs.Prelude.{◌≡◌, IfSome, IfNone};
 ghost use Rattle.asset_core.specs.OpenFaults.{IsCapacity};
 
 use clap::{Arg, Command, Error, value_parser};
@@ -32,8 +32,8 @@ pub fn words_given<R: Env + AllocGlobal>(rt: &R) -> Result<Vec<String>, WordsFau
 /// The most entries that a history has room for where no word says how many.
 const DEFAULT_CAPACITY: usize = 10_000;
 
-/// The capacity that the words give, or else the default one.
-fn capacity_or_default(given: Option<u32>) -> usize
+/// The capacity that was given, or else the default one.
+pub fn capacity_or_default(given: Option<u32>) -> usize
     ensures capacity { IsCapacity result }
     ensures given { IfSome given (λ n. IsCapacity n → result ≡ n) }
     ensures default { IfNone given (result ≡ 10000) }
@@ -60,14 +60,12 @@ fn command<'a>(alloc: Global) -> Result<Command<'a>, AllocError> {
         .subcommand(run)
 }
 
-/// The capacity that the words ask for, of which the first is the program's name. An error may be
-/// the help that was asked for.
-pub fn capacity_of<'a>(alloc: Global, words: &'a [String]) -> Result<usize, Error>
-    ensures { IfOk result IsCapacity }
-{
+/// The capacity that the words give, if they give one; the program's name comes first among them. An
+/// error may be the help that was asked for.
+pub fn capacity_given<'a>(alloc: Global, words: &'a [String]) -> Result<Option<u32>, Error> {
     let matches = command(alloc)?.try_get_matches_from(words)?;
     match matches.subcommand() {
-        Some((_, run)) => Ok(capacity_or_default(run.get_one::<u32>("cap"))),
-        None => Ok(DEFAULT_CAPACITY),
+        Some((_, run)) => Ok(run.get_one::<u32>("cap")),
+        None => Ok(None),
     }
 }

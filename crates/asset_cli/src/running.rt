@@ -1,5 +1,5 @@
 //! Runs a script: reads all of it, tells its transcript, and writes that.
-ghost use Rattle.std.specs.Prelude.{◌≡◌, IfOk, IfErr};
+ghost use Rattle.std.specs.Prelude.{◌≡◌, false, OnOk, IfOk, IfErr};
 ghost use Rattle.asset_core.specs.OpenFaults.{IsCapacity};
 ghost use Rattle.asset_cli.specs.Device.{IsFresh};
 ghost use Rattle.asset_cli.specs.Transcript.{transcript};
@@ -29,6 +29,8 @@ pub fn run_script<R: Read, W: Write>(
     requires capacity { IsCapacity capacity }
     requires fresh_input { IsFresh input.old }
     requires fresh_output { IsFresh output.old }
+    ensures sound_input { OnOk result (input.new.failed ≡ false) }
+    ensures sound_output { OnOk result (output.new.failed ≡ false) }
     ensures wrote { IfOk result (WroteAll R.remaining W.contents (λ bytes. transcript bytes capacity) input.old input.new output.old output.new) }
     ensures stopped { IfErr result (Stops R.remaining W.contents (λ bytes. transcript bytes capacity) input.old input.new output.old output.new) }
 {
