@@ -33,13 +33,12 @@ exists_listed (pair ∷ opening) x = listed_first pair opening x (eqb pair.0.0 x
 
 -- objects that were listed are among the numbers of the opening
 lists_objects : (opening : Opening) (x : ℕ) → lists (objects_of opening) x ≡ list_any (λ (pair : Ob × ℤ). eqb pair.0.0 x) opening
-unfolding lists objects_of
+unfolding lists
 lists_objects [] x = refl
 lists_objects (pair ∷ opening) x = ap (λ b. eqb pair.0.0 x || b) (lists_objects opening x)
 
 -- one more object that was not listed makes no double
 pub no_double_more : (opening : Opening) (object : Ob × ℤ) → list_any (λ (pair : Ob × ℤ). eqb pair.0.0 object.0.0) opening ≡ false → HasNoDouble (objects_of opening) → HasNoDouble (objects_of (opening ++ object ∷ []))
-unfolding objects_of
 no_double_more opening object h none = rw map-append (no_double_push (objects_of opening) object.0.0 (lists_objects opening object.0.0 ∙ h) none)
 
 -- What each kind of line does before the first step.

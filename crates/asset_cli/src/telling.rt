@@ -23,8 +23,8 @@ use std::alloc::Global;
 /// Asks one step, and adds the line of its outcome to the text.
 #[tactic(auto, unfolding(crate::specs::Transcript::told_outcome, crate::specs::Transcript::joined_by))]
 fn ask(core: &mut Core, text: &mut String, step: Step) -> Result<(), ScriptFault>
-    ensures text { OnOk result (string_bytes text.new ≡ string_bytes text.old ++ told_outcome core.old step (answer_to core.old step)) }
-    ensures history { OnOk result (core.new ≡ joined_by core.old step (answer_to core.old step)) }
+    ensures text { OnOk result (string_bytes text.new ≡ string_bytes text.old ++ told_outcome core.old.history step (answer_to core.old.history step)) }
+    ensures history { OnOk result (core.new.history ≡ joined_by core.old.history step (answer_to core.old.history step)) }
     ensures memory { IfErr result (λ fault. fault ≡ ScriptFault.NoMemory) }
 {
     match core.step(step) {
@@ -43,9 +43,9 @@ fn tell_line(
     number: u64,
 ) -> Result<bool, ScriptFault>
     ensures goes_on { IfOk result (λ goes_on. OnTrue goes_on ((more : List (List ℕ)) →
-        GoesOn (string_bytes text.old) (steps_told (line.now ∷ more) number core.old) (string_bytes text.new) (steps_told more (number + 1) core.new))) }
+        GoesOn (string_bytes text.old) (steps_told (line.now ∷ more) number core.old.history) (string_bytes text.new) (steps_told more (number + 1) core.new.history))) }
     ensures stops { IfOk result (λ goes_on. OnFalse goes_on ((more : List (List ℕ)) →
-        Ends (string_bytes text.old) (steps_told (line.now ∷ more) number core.old) (string_bytes text.new) (RunEnd.BadLine number))) }
+        Ends (string_bytes text.old) (steps_told (line.now ∷ more) number core.old.history) (string_bytes text.new) (RunEnd.BadLine number))) }
     ensures memory { IfErr result (λ fault. fault ≡ ScriptFault.NoMemory) }
 {
     match Line::parse(line) {
@@ -73,7 +73,7 @@ fn tell_steps(
     first: u64,
 ) -> Result<RunEnd, ScriptFault>
     requires { first + length (lines bytes.now) < 2 ^ 64 }
-    ensures told { IfOk result (λ end. Ends (string_bytes text.old) (steps_told (lines bytes.now) first core.old) (string_bytes text.new) end) }
+    ensures told { IfOk result (λ end. Ends (string_bytes text.old) (steps_told (lines bytes.now) first core.old.history) (string_bytes text.new) end) }
     ensures memory { IfErr result (λ fault. fault ≡ ScriptFault.NoMemory) }
 {
     let mut left = bytes;
@@ -89,10 +89,11 @@ fn tell_steps(
 }
 
 /// The facility over objects of which none was given twice.
+#[tactic(auto, unfolding(asset_core::specs::Pending::facility_of))]
 fn open_over(alloc: Global, opening: &[(Ob, i64)], capacity: usize) -> Result<Core, ScriptFault>
     requires capacity { IsCapacity capacity }
     requires different { HasNoDouble (objects_of opening.now) }
-    ensures opened { IfOk result (λ core. core ≡ opened opening.now capacity) }
+    ensures opened { IfOk result (λ core. core.history ≡ opened opening.now capacity) }
     ensures memory { IfErr result (λ fault. fault ≡ ScriptFault.NoMemory) }
 {
     match Core::open(alloc, opening, capacity) {
@@ -101,6 +102,25 @@ fn open_over(alloc: Global, opening: &[(Ob, i64)], capacity: usize) -> Result<Co
         Err(OpenFault::BadCapacity) => unreachable!(),
         Err(OpenFault::DoubleObject(_)) => unreachable!(),
     }
+}
+
+/// Tells what the lines print from the first step on, over these objects.
+fn tell_over(
+    alloc: Global,
+    opening: &[(Ob, i64)],
+    capacity: usize,
+    text: &mut String,
+    bytes: &[u8],
+    first: u64,
+) -> Result<RunEnd, ScriptFault>
+    requires capacity { IsCapacity capacity }
+    requires different { HasNoDouble (objects_of opening.now) }
+    requires few { first + length (lines bytes.now) < 2 ^ 64 }
+    ensures told { IfOk result (λ end. Ends (string_bytes text.old) (steps_told (lines bytes.now) first (opened opening.now capacity)) (string_bytes text.new) end) }
+    ensures memory { IfErr result (λ fault. fault ≡ ScriptFault.NoMemory) }
+{
+    let mut core = open_over(alloc, opening, capacity)?;
+    tell_steps(&mut core, text, bytes, first)
 }
 
 /// The transcript of a script: its text, and how its run ends.
@@ -122,7 +142,13 @@ pub(crate) fn tell(
         push_bad_line(&mut text, preamble.number)?;
         return Ok((text, RunEnd::BadLine(preamble.number)));
     }
-    let mut core = open_over(alloc, &opening, capacity)?;
-    let end = tell_steps(&mut core, &mut text, preamble.rest, preamble.number)?;
+    let end = tell_over(
+        alloc,
+        &opening,
+        capacity,
+        &mut text,
+        preamble.rest,
+        preamble.number,
+    )?;
     Ok((text, end))
 }

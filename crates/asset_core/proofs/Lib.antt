@@ -1,4 +1,10 @@
-pub mod ClassLemmas
+pub mod CellLemmas
+pub mod RowLaws
+pub mod LockLaws
+pub mod HistoryLemmas
+pub mod ShowsLemmas
+pub mod TableLemmas
+pub mod ReadyLemmas
 pub mod PastLemmas
-pub mod TrackLemmas
-pub mod ScanLemmas
+pub mod PendingLemmas
+pub mod KeptLemmas

@@ -1,4 +1,5 @@
 pub mod Recorded
-pub mod Tracks
-pub mod Scans
 pub mod OpenFaults
+pub mod Pending
+pub mod Shows
+pub mod Tables

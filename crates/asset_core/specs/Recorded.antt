@@ -1,4 +1,5 @@
 -- A history as callers see it, and what a step makes of it.
+pub use Rattle.asset_objects.specs.Faults.{objects_of}
 use Rattle.std.specs.Prelude.{◌≡◌, ℕ, ℤ, ◌+◌, ◌≤◌, Bool, true, false, List, [], ◌∷◌, length, map, reverse}
 use Rattle.asset_names.specs.declared.names.Ob.{Ob}
 use Rattle.asset_names.specs.declared.steps.Step.{Step}
@@ -7,7 +8,7 @@ use Rattle.asset_names.specs.declared.replies.Outcome.{Outcome}
 use Rattle.asset_names.specs.declared.replies.Outcome.TheVariants.{Answer, Wait}
 use Rattle.asset_names.specs.Steps.{Opening, Entry, deeds}
 use Rattle.asset_names.specs.Answers.{answer, IsLegal}
-use Rattle.asset_names.specs.Room.{owed, fits, changes_status}
+use Rattle.asset_names.specs.Room.{fits, changes_status}
 
 -- the opening, the entries with the newest first, and how many entries there is room for in all
 pub record Recorded : Type 0 where
@@ -43,18 +44,8 @@ unfoldable pub is_ending : Recorded → Step → Outcome → Bool
 is_ending history step (Answer reply) = changes_status (deeds history.past) step reply
 is_ending history step Wait = false
 
--- How the room of a history is kept: the entries that are owed are counted, and fit with those that are there.
-pub record IsRoomy (history : Recorded) (counted : ℕ) : Type 0 where
-  pub counts : counted ≡ owed (deeds history.past)
-  pub fitting : length history.past + counted ≤ history.room
-  pub capacity : history.room ≤ 1000000
-
 -- how a history is kept: its entries, oldest first, are legal and within the room that was taken
 pub record IsKept (opening : Opening) (entries : List Entry) (room reserved : ℕ) : Type 0 where
   pub legal : IsLegal opening (reverse entries)
   pub within : length entries ≤ room
   pub taken : room ≤ reserved
-
--- the objects of an opening
-unfoldable pub objects_of : Opening → List ℕ
-objects_of opening = map (λ (pair : Ob × ℤ). pair.0.0) opening

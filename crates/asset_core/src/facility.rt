@@ -1,129 +1,208 @@
 //! The facility for one caller.
 
 use crate::history::{History, OpenFault};
-use crate::room::owed_after;
-use asset_names::{Fault, Ob, Outcome, Reply, Status, Step, Txn, least_double};
+use crate::tables::Tables;
+use asset_names::{Fault, Ob, Op, Outcome, Reply, Status, Step, Txn, is_carried_out};
+use asset_objects::ObjectsFault;
 use std::alloc::Global;
 use std::marker::Model;
 
 /// The most entries that a history has room for.
 const MOST: usize = 1_000_000;
 
-/// A history, and the calls that make it grow by one answered step at a time. Contracts see the
-/// history.
+/// A history, which grows by one answered step at a time, and the tables that stand for it. Contracts see
+/// the history, and the pending place of each live name.
 #[derive(Drop)]
 pub struct Core {
     history: History,
-    owed: usize,
+    tables: Tables,
 }
 
 impl Model for Core {
-    ghost use Rattle.asset_core.specs.Recorded.{Recorded, IsRoomy};
+    ghost use Rattle.asset_core.specs.Pending.{Facility};
+    ghost use Rattle.asset_core.specs.Tables.{IsKeptBy, places_of};
 
-    ghost Value = { Recorded };
+    ghost Value = { Facility };
 
-    ghost view = { λ core. core.history };
+    ghost view = { λ core. record { history = core.history; pending = places_of core.tables.locks } };
 
-    ghost invariant = { λ core. IsRoomy core.history core.owed };
+    ghost invariant = { λ core. IsKeptBy core.history core.tables };
 }
 
 impl Core {
-    ghost use Rattle.std.specs.Prelude.{◌≡◌, ◌≢◌, ◌<◌, ◌≤◌, ◌↔◌, ◌⊎◌, true, false, map, length, IfOk, IfErr, OnOk, OnErr, IsOk, Err, IsErrOf};
-    ghost use Rattle.asset_names.specs.Steps.{deeds};
+    ghost use Rattle.std.specs.Prelude.{◌≡◌, ◌≢◌, ◌+◌, ◌<◌, ◌≤◌, ◌↔◌, ◌⊎◌, ◌∷◌, true, false, map, length, slice_get, IfOk, IfErr, OnOk, OnErr, IsOk, Err, IsErrOf};
+    ghost use Rattle.asset_names.specs.Steps.{carries_out, deeds};
     ghost use Rattle.asset_names.specs.Endings.{status};
     ghost use Rattle.asset_names.specs.Operations.{value_if_any};
-    ghost use Rattle.asset_names.specs.declared.replies.Outcome.TheVariants.{Answer};
-    ghost use Rattle.asset_names.specs.Room.{fits};
-    ghost use Rattle.asset_names.specs.Answers.{takes_memory, carried_out, IsLegal};
-    ghost use Rattle.asset_core.specs.Recorded.{opened, answer_to, after, with_entry, has_room, is_ending};
+    ghost use Rattle.asset_names.specs.declared.replies.Outcome.TheVariants.{Answer, Wait as Waits};
+    ghost use Rattle.asset_names.specs.Room.{owed, fits};
+    ghost use Rattle.asset_names.specs.Answers.{takes_memory, carried_out};
+    ghost use Rattle.asset_core.specs.Recorded.{answer_to, after, with_entry, has_room, is_ending};
+    ghost use Rattle.asset_core.specs.Pending.{facility_of, pending_after, waiting_for};
     ghost use Rattle.asset_core.specs.OpenFaults.{MayOpen, IsOpenFault};
 
     /// Opens the facility over these objects with their values, with room for so many entries. It is
     /// refused where the capacity is not from 1 to 1,000,000; else where an object is given twice,
     /// with the least such object; else where memory runs out.
-    #[tactic(auto, unfolding(crate::specs::Recorded::objects_of))]
     pub fn open(alloc: Global, opening: &[(Ob, i64)], capacity: usize) -> Result<Core, OpenFault>
-        ensures opened { IfOk result (λ core. core ≡ opened opening.now capacity) }
+        ensures opened { IfOk result (λ core. core ≡ facility_of opening.now capacity) }
         ensures may { OnOk result (MayOpen opening.now capacity) }
         ensures fault { IfErr result (IsOpenFault opening.now capacity) }
     {
         if capacity < 1 || capacity > MOST {
             return Err(OpenFault::BadCapacity);
         }
-        if let Some(x) = least_double(opening) {
-            return Err(OpenFault::DoubleObject(x));
-        }
+        let tables = match Tables::open(alloc, opening) {
+            Ok(tables) => tables,
+            Err(ObjectsFault::DoubleObject(x)) => return Err(OpenFault::DoubleObject(x)),
+            Err(ObjectsFault::NoMemory) => return Err(OpenFault::NoMemory),
+        };
         match History::open(alloc, opening, capacity) {
-            Ok(history) => Ok(Core { history, owed: 0 }),
+            Ok(history) => Ok(Core { history, tables }),
             Err(_) => Err(OpenFault::NoMemory),
         }
     }
 
-    /// Asks one step. A step that waits changes nothing, and may be asked again. An answered step is
+    /// Asks one step. A step that waits is no entry, and may be asked again; a read or a write that waits
+    /// fills its asker's pending place, and a granted one, or an end, empties it. An answered step is
     /// one more entry, refused or not. Full comes exactly where the entries with this one, and those
     /// that live names are owed after it, exceed the capacity; a complete, a commit or an abort that
     /// changes a status always finds room. NoMemory may come only where an initiate, a read or a
     /// write would be carried out. After Full and NoMemory nothing has changed.
-    #[tactic(auto, unfolding(crate::specs::Recorded::after, crate::specs::Recorded::has_room, crate::specs::Recorded::is_ending))]
+    #[tactic(auto, unfolding(crate::specs::Recorded::after, crate::specs::Recorded::has_room, crate::specs::Recorded::is_ending, asset_names::specs::Answers::carried_out))]
     pub fn step(&mut self, step: Step) -> Result<Outcome, Fault>
-        ensures answered { IfOk result (λ outcome. outcome ≡ answer_to self.old step) }
-        ensures grown { IfOk result (λ outcome. self.new ≡ after self.old step outcome) }
-        ensures full { IsErrOf result Fault.Full ↔ (has_room self.old step (answer_to self.old step) ≡ false) }
-        ensures memory { IsErrOf result Fault.NoMemory → (takes_memory step ≡ true) × (carried_out step (answer_to self.old step) ≡ true) }
-        ensures ending { is_ending self.old step (answer_to self.old step) ≡ true → IsOk result }
+        ensures answered { IfOk result (λ outcome. outcome ≡ answer_to self.old.history step) }
+        ensures grown { IfOk result (λ outcome. self.new.history ≡ after self.old.history step outcome) }
+        ensures pending { IfOk result (λ outcome. self.new.pending ≡ pending_after self.old step outcome) }
+        ensures full { IsErrOf result Fault.Full ↔ (has_room self.old.history step (answer_to self.old.history step) ≡ false) }
+        ensures memory { IsErrOf result Fault.NoMemory → (takes_memory step ≡ true) × (carried_out step (answer_to self.old.history step) ≡ true) }
+        ensures ending { is_ending self.old.history step (answer_to self.old.history step) ≡ true → IsOk result }
         ensures fault { OnErr result (self.new ≡ self.old) }
     {
-        match self.history.answer(step) {
-            Outcome::Wait => Ok(Outcome::Wait),
+        match self.answer(step) {
+            Outcome::Wait => {
+                self.wait(step);
+                Ok(Outcome::Wait)
+            }
             Outcome::Answer(reply) => self.record(step, reply),
         }
     }
 
+    /// The answer to a step. Nothing changes.
+    fn answer(&mut self, step: Step) -> Outcome
+        ensures answer { result ≡ answer_to self.old.history step }
+        ensures same { self.new ≡ self.old }
+    {
+        self.tables.answer(step)
+    }
+
+    /// Keeps a request that waits.
+    fn wait(&mut self, step: Step)
+        requires waits { answer_to self.old.history step ≡ Waits }
+        ensures history { self.new.history ≡ self.old.history }
+        ensures pending { self.new.pending ≡ pending_after self.old step Waits }
+    {
+        self.tables.wait(step);
+    }
+
+    /// How many entries are owed after a step that is carried out with this reply.
+    fn owed_after_deed(&self, step: Step, reply: Reply) -> usize
+        requires answer { answer_to self.now.history step ≡ Answer reply }
+        requires carried { carries_out step reply ≡ true }
+        ensures owed { result ≡ owed (step ∷ deeds self.now.history.past) }
+        ensures bound { result ≤ owed (deeds self.now.history.past) + 2 }
+    {
+        let counted = self.tables.trans.owed();
+        match step {
+            Step::Initiate { .. } => counted + 2,
+            Step::Complete { .. } => counted - 1,
+            Step::Commit { t } => counted - self.tables.trans.status(t).owed(),
+            Step::Abort { t } => counted - self.tables.trans.status(t).owed(),
+            Step::Begin { .. } => counted,
+            Step::Read { .. } => counted,
+            Step::Write { .. } => counted,
+            Step::WaitFor { .. } => counted,
+        }
+    }
+
+    /// How many entries are owed after an answer.
+    fn owed_after(&self, step: Step, reply: Reply) -> usize
+        requires answer { answer_to self.now.history step ≡ Answer reply }
+        ensures owed { result ≡ owed (deeds ((step, reply) ∷ self.now.history.past)) }
+        ensures bound { result ≤ owed (deeds self.now.history.past) + 2 }
+    {
+        if is_carried_out(step, reply) {
+            self.owed_after_deed(step, reply)
+        } else {
+            self.tables.trans.owed()
+        }
+    }
+
+    /// Whether there is room for an answer with what is owed after it.
+    fn has_room(&self, step: Step, reply: Reply) -> bool
+        requires answer { answer_to self.now.history step ≡ Answer reply }
+        ensures room { result ≡ has_room self.now.history step (Answer reply) }
+        ensures ending { is_ending self.now.history step (Answer reply) ≡ true → result ≡ true }
+        ensures place { result ≡ true → length self.now.history.past < self.now.history.room }
+    {
+        self.history.len() + 1 + self.owed_after(step, reply) <= self.history.room()
+    }
+
     /// Records the answer to a step, if there is room for it.
     fn record(&mut self, step: Step, reply: Reply) -> Result<Outcome, Fault>
-        requires legal { IsLegal self.old.opening self.old.past }
-        requires answer { answer_to self.old step ≡ Answer reply }
+        requires answer { answer_to self.old.history step ≡ Answer reply }
         ensures answered { IfOk result (λ outcome. outcome ≡ Answer reply) }
-        ensures grown { OnOk result (self.new ≡ with_entry self.old step reply) }
-        ensures full { IsErrOf result Fault.Full ↔ (has_room self.old step (Answer reply) ≡ false) }
-        ensures memory { result ≢ Err Fault.NoMemory }
-        ensures ending { is_ending self.old step (Answer reply) ≡ true → IsOk result }
+        ensures grown { OnOk result (self.new.history ≡ with_entry self.old.history step reply) }
+        ensures pending { OnOk result (self.new.pending ≡ pending_after self.old step (Answer reply)) }
+        ensures full { IsErrOf result Fault.Full ↔ (has_room self.old.history step (Answer reply) ≡ false) }
+        ensures memory { IsErrOf result Fault.NoMemory → (takes_memory step ≡ true) × (carries_out step reply ≡ true) }
+        ensures ending { is_ending self.old.history step (Answer reply) ≡ true → IsOk result }
         ensures fault { OnErr result (self.new ≡ self.old) }
     {
-        let owed = owed_after(&self.history, self.owed, step, reply);
-        if self.history.len() + 1 + owed > self.history.room() {
+        if !self.has_room(step, reply) {
             return Err(Fault::Full);
         }
-        self.history.append(step, reply);
-        self.owed = owed;
-        Ok(Outcome::Answer(reply))
+        match self.tables.follow(step, reply) {
+            Ok(()) => {
+                self.history.append(step, reply);
+                Ok(Outcome::Answer(reply))
+            }
+            Err(_) => Err(Fault::NoMemory),
+        }
     }
 
     /// The status of a name.
     pub fn status(&self, t: Txn) -> Status
-        ensures { result ≡ status (deeds self.now.past) t.0 }
+        ensures { result ≡ status (deeds self.now.history.past) t.0 }
     {
-        self.history.status(t)
+        self.tables.status(t)
     }
 
     /// The value of an object, if it exists.
     pub fn value(&self, x: Ob) -> Option<i64>
-        ensures { result ≡ value_if_any self.now.opening (deeds self.now.past) x.0 }
+        ensures { result ≡ value_if_any self.now.history.opening (deeds self.now.history.past) x.0 }
     {
-        self.history.value(x)
+        self.tables.objects.value(x)
+    }
+
+    /// The waiter of this number for `x`, in order of initiation from 0, with the operation that it asked.
+    pub fn waiters(&self, x: Ob, number: usize) -> Option<(Txn, Op)>
+        ensures { result ≡ slice_get (waiting_for x.0 self.now.pending) number }
+    {
+        self.tables.locks.waiters(x, number)
     }
 
     /// The history so far.
     pub fn history(&self) -> &History
-        ensures history { result.now ≡ self.now }
-        ensures fits { fits (deeds self.now.past) (length self.now.past) self.now.room ≡ true }
+        ensures history { result.now ≡ self.now.history }
+        ensures fits { fits (deeds self.now.history.past) (length self.now.history.past) self.now.history.room ≡ true }
     {
         &self.history
     }
 
     /// The history, where no further step is asked.
     pub fn into_history(self) -> History
-        ensures { result ≡ self }
+        ensures { result ≡ self.history }
     {
         self.history
     }

@@ -1,8 +1,6 @@
 //! A history: what was opened, and the entries in order.
 
-use crate::answers::{answer, value_if_any};
-use crate::tracks::status_after;
-use asset_names::{Ob, Outcome, Reply, Status, Step, Txn};
+use asset_names::{Ob, Reply, Step};
 use std::alloc::{AllocError, Global};
 use std::marker::Model;
 use thiserror::Error;
@@ -30,9 +28,6 @@ impl Model for History {
 
 impl History {
     ghost use Rattle.std.specs.Prelude.{◌≡◌, ◌<◌, ◌≤◌, ◌↔◌, [], length, reverse, slice_get, IfOk, IsTrue};
-    ghost use Rattle.asset_names.specs.Steps.{deeds};
-    ghost use Rattle.asset_names.specs.Endings.{status};
-    ghost use Rattle.asset_names.specs.Operations.{value_if_any};
     ghost use Rattle.asset_names.specs.Answers.{IsLegal};
     ghost use Rattle.asset_names.specs.declared.replies.Outcome.TheVariants.{Answer};
     ghost use Rattle.asset_core.specs.Recorded.{opened, answer_to, with_entry};
@@ -81,29 +76,6 @@ impl History {
         ensures legal { IsLegal self.now.opening self.now.past }
     {
         self.entries.get(number).copied()
-    }
-
-    /// The status of a name.
-    pub(crate) fn status(&self, t: Txn) -> Status
-        ensures { result ≡ status (deeds self.now.past) t.0 }
-    {
-        status_after(&self.entries, t)
-    }
-
-    /// The value of an object, if it exists.
-    pub(crate) fn value(&self, x: Ob) -> Option<i64>
-        ensures { result ≡ value_if_any self.now.opening (deeds self.now.past) x.0 }
-    {
-        value_if_any(&self.opening, &self.entries, x)
-    }
-
-    /// The answer to a step at the end.
-    #[tactic(auto, unfolding(crate::specs::Recorded::answer_to))]
-    pub(crate) fn answer(&self, step: Step) -> Outcome
-        ensures answer { result ≡ answer_to self.now step }
-        ensures legal { IsLegal self.now.opening self.now.past }
-    {
-        answer(&self.opening, &self.entries, step)
     }
 
     /// How many entries there is room for in all.

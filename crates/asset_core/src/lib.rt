@@ -2,15 +2,9 @@
 //! adds the one answer to it.
 #![tactic(auto)]
 
-mod answers;
 mod facility;
-mod freedom;
 mod history;
-mod openings;
-mod refusals;
-mod room;
-mod tracks;
-mod values;
+mod tables;
 
 pub use facility::Core;
 pub use history::{History, OpenFault};

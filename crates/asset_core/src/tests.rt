@@ -1,7 +1,7 @@
 //! Each public call once, on worked values, and what is left where memory runs out.
 
 use crate::{Core, OpenFault};
-use asset_names::{Fault, Ob, Outcome, Refusal, Reply, Status, Step, Txn};
+use asset_names::{Fault, Ob, Op, Outcome, Refusal, Reply, Status, Step, Txn};
 use std::test::Fail;
 
 const THREE: [(Ob, i64); 3] = [(Ob(1), 100), (Ob(2), 200), (Ob(3), 300)];
@@ -34,8 +34,39 @@ fn write(t: u64, x: u64, v: i64) -> Step {
     }
 }
 
-fn done() -> Result<Outcome, Fault> {
-    Ok(Outcome::Answer(Reply::Done))
+fn complete(t: u64) -> Step {
+    Step::Complete { t: Txn(t) }
+}
+
+fn commit(t: u64) -> Step {
+    Step::Commit { t: Txn(t) }
+}
+
+fn abort(t: u64) -> Step {
+    Step::Abort { t: Txn(t) }
+}
+
+const OK: Result<Outcome, Fault> = Ok(Outcome::Answer(Reply::Done));
+
+const WAIT: Result<Outcome, Fault> = Ok(Outcome::Wait);
+
+const COMMITTED: Result<Outcome, Fault> = Ok(Outcome::Answer(Reply::Committed));
+
+const ABORTED: Result<Outcome, Fault> = Ok(Outcome::Answer(Reply::Aborted));
+
+const FULL: Result<Outcome, Fault> = Err(Fault::Full);
+
+fn value(v: i64) -> Result<Outcome, Fault> {
+    Ok(Outcome::Answer(Reply::Value(v)))
+}
+
+/// Whether the steps have these outcomes, one after another.
+fn plays(core: &mut Core, script: &[(Step, Result<Outcome, Fault>)]) -> bool {
+    let mut alike = true;
+    for asked in script {
+        alike = core.step(asked.0) == asked.1 && alike;
+    }
+    alike
 }
 
 #[test]
@@ -44,10 +75,6 @@ fn opening_is_refused_in_order(rt: HostRuntime) {
     let double = [(Ob(1), 1), (Ob(1), 2)];
     assert_eq!(rt;
         Core::open(alloc, &double, 0).err(),
-        Some(OpenFault::BadCapacity)
-    );
-    assert_eq!(rt;
-        Core::open(alloc, &THREE, 0).err(),
         Some(OpenFault::BadCapacity)
     );
     assert_eq!(rt;
@@ -64,96 +91,79 @@ fn opening_is_refused_in_order(rt: HostRuntime) {
 #[test]
 fn begin_of_an_unknown_name_is_recorded(rt: HostRuntime) -> Result<(), Fail> {
     let mut core = Core::open(rt.alloc(), &NONE, 1)?;
-    assert!(rt; core.history().is_empty());
     let unknown = Reply::Refused(Refusal::Unknown(Txn(7)));
-    assert_eq!(rt; core.step(begin(7)), Ok(Outcome::Answer(unknown)));
-    assert_eq!(rt; core.history().len(), 1);
+    assert!(rt; core.history().is_empty());
+    assert!(rt;
+        plays(
+            &mut core,
+            &[(begin(7), Ok(Outcome::Answer(unknown))), (begin(7), FULL)]
+        )
+    );
     assert_eq!(rt; core.history().entry(0), Some((begin(7), unknown)));
     assert_eq!(rt; core.history().entry(1), None);
-    assert_eq!(rt; core.step(begin(7)), Err(Fault::Full));
-    assert_eq!(rt; core.history().len(), 1);
     Ok(())
 }
 
 #[test]
 fn one_transaction_is_told_by_each_call(rt: HostRuntime) -> Result<(), Fail> {
     let mut core = Core::open(rt.alloc(), &THREE, 10)?;
+    let script = [
+        (initiate(7), OK),
+        (begin(7), OK),
+        (read(7, 1), value(100)),
+        (write(7, 1, 50), OK),
+        (read(7, 1), value(50)),
+        (complete(7), OK),
+        (Step::WaitFor { t: Txn(7) }, OK),
+    ];
     assert_eq!(rt; core.status(Txn(7)), Status::Unknown);
-    assert_eq!(rt; core.step(initiate(7)), done());
-    assert_eq!(rt; core.status(Txn(7)), Status::Initiated);
-    assert_eq!(rt; core.step(begin(7)), done());
-    assert_eq!(rt; core.status(Txn(7)), Status::Running);
-    assert_eq!(rt;
-        core.step(read(7, 1)),
-        Ok(Outcome::Answer(Reply::Value(100)))
-    );
-    assert_eq!(rt; core.step(write(7, 1, 50)), done());
+    assert!(rt; plays(&mut core, &script));
+    assert_eq!(rt; core.status(Txn(7)), Status::Completed);
     assert_eq!(rt; core.value(Ob(1)), Some(50));
     assert_eq!(rt; core.value(Ob(9)), None);
-    assert_eq!(rt; core.step(Step::Complete { t: Txn(7) }), done());
-    assert_eq!(rt; core.status(Txn(7)), Status::Completed);
-    assert_eq!(rt; core.step(Step::WaitFor { t: Txn(7) }), done());
-    assert_eq!(rt;
-        core.step(Step::Commit { t: Txn(7) }),
-        Ok(Outcome::Answer(Reply::Committed))
-    );
+    assert!(rt; plays(&mut core, &[(commit(7), COMMITTED)]));
     assert_eq!(rt; core.status(Txn(7)), Status::Committed);
     let history = core.into_history();
-    assert_eq!(rt; history.len(), 7);
+    assert_eq!(rt; history.len(), 8);
     assert_eq!(rt; history.opening().len(), 3);
-    assert_eq!(rt; history.entry(2), Some((read(7, 1), Reply::Value(100))));
     Ok(())
 }
 
 #[test]
-fn abort_gives_the_value_back(rt: HostRuntime) -> Result<(), Fail> {
+fn reader_waits_for_abort(rt: HostRuntime) -> Result<(), Fail> {
     let mut core = Core::open(rt.alloc(), &THREE, 20)?;
-    for step in [
-        initiate(7),
-        begin(7),
-        initiate(8),
-        begin(8),
-        write(7, 1, 50),
-    ] {
-        assert_eq!(rt; core.step(step), done());
-    }
-    assert_eq!(rt; core.step(read(8, 1)), Ok(Outcome::Wait));
-    assert_eq!(rt; core.history().len(), 5);
-    assert_eq!(rt;
-        core.step(Step::Abort { t: Txn(7) }),
-        Ok(Outcome::Answer(Reply::Aborted))
-    );
+    let waiting = [
+        (initiate(7), OK),
+        (begin(7), OK),
+        (initiate(8), OK),
+        (begin(8), OK),
+        (write(7, 1, 50), OK),
+        (read(8, 1), WAIT),
+    ];
+    assert!(rt; plays(&mut core, &waiting));
+    assert_eq!(rt; core.waiters(Ob(1), 0), Some((Txn(8), Op::Read)));
+    assert_eq!(rt; core.waiters(Ob(1), 1), None);
+    assert!(rt; plays(&mut core, &[(abort(7), ABORTED), (read(8, 1), value(100))]));
     assert_eq!(rt; core.status(Txn(7)), Status::Aborted);
-    assert_eq!(rt; core.value(Ob(1)), Some(100));
-    assert_eq!(rt;
-        core.step(read(8, 1)),
-        Ok(Outcome::Answer(Reply::Value(100)))
-    );
+    assert_eq!(rt; core.waiters(Ob(1), 0), None);
     Ok(())
 }
 
 #[test]
 fn committed_write_stands_under_an_aborted_one(rt: HostRuntime) -> Result<(), Fail> {
     let mut core = Core::open(rt.alloc(), &THREE, 20)?;
-    for step in [
-        initiate(7),
-        begin(7),
-        write(7, 1, 50),
-        Step::Complete { t: Txn(7) },
-    ] {
-        assert_eq!(rt; core.step(step), done());
-    }
-    assert_eq!(rt;
-        core.step(Step::Commit { t: Txn(7) }),
-        Ok(Outcome::Answer(Reply::Committed))
-    );
-    for step in [initiate(8), begin(8), write(8, 1, 60)] {
-        assert_eq!(rt; core.step(step), done());
-    }
-    assert_eq!(rt;
-        core.step(Step::Abort { t: Txn(8) }),
-        Ok(Outcome::Answer(Reply::Aborted))
-    );
+    let script = [
+        (initiate(7), OK),
+        (begin(7), OK),
+        (write(7, 1, 50), OK),
+        (complete(7), OK),
+        (commit(7), COMMITTED),
+        (initiate(8), OK),
+        (begin(8), OK),
+        (write(8, 1, 60), OK),
+        (abort(8), ABORTED),
+    ];
+    assert!(rt; plays(&mut core, &script));
     assert_eq!(rt; core.value(Ob(1)), Some(50));
     Ok(())
 }
@@ -161,16 +171,16 @@ fn committed_write_stands_under_an_aborted_one(rt: HostRuntime) -> Result<(), Fa
 #[test]
 fn endings_find_room(rt: HostRuntime) -> Result<(), Fail> {
     let mut core = Core::open(rt.alloc(), &THREE, 4)?;
-    assert_eq!(rt; core.step(initiate(7)), done());
-    assert_eq!(rt; core.step(begin(7)), done());
-    assert_eq!(rt; core.step(read(7, 1)), Err(Fault::Full));
-    assert_eq!(rt; core.step(Step::Complete { t: Txn(7) }), done());
-    assert_eq!(rt;
-        core.step(Step::Abort { t: Txn(7) }),
-        Ok(Outcome::Answer(Reply::Aborted))
-    );
-    assert_eq!(rt; core.step(initiate(8)), Err(Fault::Full));
-    assert_eq!(rt; core.step(Step::Commit { t: Txn(7) }), Err(Fault::Full));
+    let script = [
+        (initiate(7), OK),
+        (begin(7), OK),
+        (read(7, 1), FULL),
+        (complete(7), OK),
+        (abort(7), ABORTED),
+        (initiate(8), FULL),
+        (commit(7), FULL),
+    ];
+    assert!(rt; plays(&mut core, &script));
     assert_eq!(rt; core.history().len(), 4);
     Ok(())
 }

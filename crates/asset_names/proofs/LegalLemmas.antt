@@ -1,9 +1,12 @@
 -- What a legal history says of the steps that were carried out in it.
 use Rattle.std.proofs.Common.{◌≡◌, ℕ, Bool, true, false, cond, eqb, ◌&&◌, List, [], ◌∷◌, Some, None, refl, sym, ◌∙◌, ap, subst, arith, inl, inr}
-use Rattle.std.specs.Prelude.{Option, is_none, is_some}
+use Rattle.std.specs.Prelude.{ℤ, Option, is_none, is_some}
 use Rattle.std.specs.Option.{option_or}
 use Rattle.std.proofs.lemmas.Bool.{or_cases, or_right, eqb-true, not-false, false≢true}
 use Rattle.asset_names.specs.declared.names.Txn.{Txn}
+use Rattle.asset_names.specs.declared.names.Ob.{Ob}
+use Rattle.asset_names.specs.Operations.{Operation, operations, operated}
+use Rattle.std.specs.List.{list_any}
 use Rattle.asset_names.specs.declared.statuses.End.{End}
 use Rattle.asset_names.specs.declared.statuses.End.TheVariants as End'
 use Rattle.asset_names.specs.declared.steps.Step.{Step}
@@ -13,7 +16,7 @@ use Rattle.asset_names.specs.declared.replies.Reply.{Reply}
 use Rattle.asset_names.specs.declared.replies.Reply.TheVariants as Reply'
 use Rattle.asset_names.specs.declared.replies.Outcome.TheVariants.{Answer}
 use Rattle.asset_names.specs.Arrows.{lists, linked, among}
-use Rattle.asset_names.specs.Steps.{Opening, Entry, carries_out, deeds, initiated, initiated_by, begun, completed, completed_by}
+use Rattle.asset_names.specs.Steps.{Opening, Entry, carries_out, deeds, initiated, initiated_by, begun, begun_by, completed, completed_by}
 use Rattle.asset_names.specs.Endings.{class_arrows, doom_arrows, ended_by, end_of, status, status_of}
 use Rattle.asset_names.specs.Answers.{Rule, is_unknown, is_running, unknown, ended, not_running, taken, rules_for, first_refusal, unrefused, outcome_unless, answer, IsLegal}
 
@@ -73,6 +76,14 @@ unknown_uninitiated past t = go (lists (initiated past) t) (lists (begun past) t
   go true true false None h = sym h
   go true false false None h = sym h
 
+-- who is not unknown was initiated
+pub known_initiated : (past : List Step) (t : ℕ) → is_unknown (status past t) ≡ false → lists (initiated past) t ≡ true
+unfolding status is_unknown status_of
+known_initiated past t = go (lists (initiated past) t) (lists (begun past) t) (lists (completed past) t) (end_of past t) where
+  go : (i b c : Bool) (e : Option End) → is_unknown (status_of i b c e) ≡ false → i ≡ true
+  go true b c e h = refl
+  go false b c e h = sym h
+
 -- who is running was initiated, has not completed and has not ended
 pub running_parts : (past : List Step) (t : ℕ) → is_running (status past t) ≡ true → (lists (initiated past) t ≡ true) × (lists (completed past) t ≡ false) × (end_of past t ≡ None)
 unfolding status status_of is_running
@@ -108,33 +119,83 @@ Distinct (n ∷ names) = (lists names n ≡ false) × Distinct names
 -- the names that were initiated are different, and who has completed was initiated
 pub record IsOrderly (past : List Step) : Type 0 where
   pub different : Distinct (initiated past)
+  pub begun_known : (n : ℕ) → lists (begun past) n ≡ true → lists (initiated past) n ≡ true
+  pub owners_known : (n : ℕ) → list_any (λ (o : Operation). eqb o.owner n) (operations past) ≡ true → lists (initiated past) n ≡ true
   pub known : (n : ℕ) → lists (completed past) n ≡ true → lists (initiated past) n ≡ true
+
+-- a transaction begins only where it was initiated
+pub begin_known : (opening : Opening) (past : List Step) (t : Txn) (reply : Reply) → answer opening past (Begin t) ≡ Answer reply → carries_out (Begin t) reply ≡ true
+    → lists (initiated past) t.0 ≡ true
+unfolding rules_for unknown
+begin_known opening past t reply is carried =
+    known_initiated past t.0 (first_none (unknown past t) _ (carried_unrefused opening past (Begin t) reply is carried)).0
+
+-- a transaction reads and writes only where it was initiated
+pub read_known : (opening : Opening) (past : List Step) (t : Txn) (x : Ob) (reply : Reply) → answer opening past (Read t x) ≡ Answer reply → carries_out (Read t x) reply ≡ true
+    → lists (initiated past) t.0 ≡ true
+unfolding rules_for unknown
+read_known opening past t x reply is carried =
+    known_initiated past t.0 (first_none (unknown past t) _ (carried_unrefused opening past (Read t x) reply is carried)).0
+
+pub write_known : (opening : Opening) (past : List Step) (t : Txn) (x : Ob) (v : ℤ) (reply : Reply) → answer opening past (Write t x v) ≡ Answer reply → carries_out (Write t x v) reply ≡ true
+    → lists (initiated past) t.0 ≡ true
+unfolding rules_for unknown
+write_known opening past t x v reply is carried =
+    known_initiated past t.0 (first_none (unknown past t) _ (carried_unrefused opening past (Write t x v) reply is carried)).0
 
 -- one more step that was carried out keeps a history orderly
 orderly_more : (opening : Opening) (step : Step) (past : List Step) (reply : Reply) → answer opening past step ≡ Answer reply → carries_out step reply ≡ true → IsOrderly past → IsOrderly (step ∷ past)
-unfolding initiated initiated_by completed completed_by lists
+unfolding initiated initiated_by begun begun_by completed completed_by lists operations operated
 orderly_more opening (Initiate t parent) past reply is carried orderly = record {
   different = (initiate_new opening past t parent reply is carried, orderly.different);
+  begun_known = λ n done. or_right (eqb t.0 n) _ (orderly.begun_known n done);
+  owners_known = λ n owns. or_right (eqb t.0 n) _ (orderly.owners_known n owns);
   known = λ n done. or_right (eqb t.0 n) _ (orderly.known n done);
 }
-orderly_more opening (Begin t) past reply is carried orderly = record { different = orderly.different; known = orderly.known }
-orderly_more opening (Read t x) past reply is carried orderly = record { different = orderly.different; known = orderly.known }
-orderly_more opening (Write t x v) past reply is carried orderly = record { different = orderly.different; known = orderly.known }
+orderly_more opening (Begin t) past reply is carried orderly = record {
+  different = orderly.different;
+  begun_known = λ n done. elim (or_cases (eqb t.0 n) _ done) [
+    | inl here ↦ subst (λ m. lists (initiated past) m ≡ true) (eqb-true t.0 n here) (begin_known opening past t reply is carried)
+    | inr before ↦ orderly.begun_known n before
+  ];
+  owners_known = orderly.owners_known;
+  known = orderly.known;
+}
+orderly_more opening (Read t x) past reply is carried orderly = record {
+  different = orderly.different;
+  begun_known = orderly.begun_known;
+  owners_known = λ n owns. elim (or_cases (eqb t.0 n) _ owns) [
+    | inl here ↦ subst (λ m. lists (initiated past) m ≡ true) (eqb-true t.0 n here) (read_known opening past t x reply is carried)
+    | inr before ↦ orderly.owners_known n before
+  ];
+  known = orderly.known;
+}
+orderly_more opening (Write t x v) past reply is carried orderly = record {
+  different = orderly.different;
+  begun_known = orderly.begun_known;
+  owners_known = λ n owns. elim (or_cases (eqb t.0 n) _ owns) [
+    | inl here ↦ subst (λ m. lists (initiated past) m ≡ true) (eqb-true t.0 n here) (write_known opening past t x v reply is carried)
+    | inr before ↦ orderly.owners_known n before
+  ];
+  known = orderly.known;
+}
 orderly_more opening (Complete t) past reply is carried orderly = record {
   different = orderly.different;
+  begun_known = orderly.begun_known;
+  owners_known = orderly.owners_known;
   known = λ n done. elim (or_cases (eqb t.0 n) _ done) [
     | inl here ↦ subst (λ m. lists (initiated past) m ≡ true) (eqb-true t.0 n here) ((running_parts past t.0 (complete_runs opening past t reply is carried)).0)
     | inr before ↦ orderly.known n before
   ];
 }
-orderly_more opening (Commit t) past reply is carried orderly = record { different = orderly.different; known = orderly.known }
-orderly_more opening (Abort t) past reply is carried orderly = record { different = orderly.different; known = orderly.known }
-orderly_more opening (WaitFor t) past reply is carried orderly = record { different = orderly.different; known = orderly.known }
+orderly_more opening (Commit t) past reply is carried orderly = record { different = orderly.different; begun_known = orderly.begun_known; owners_known = orderly.owners_known; known = orderly.known }
+orderly_more opening (Abort t) past reply is carried orderly = record { different = orderly.different; begun_known = orderly.begun_known; owners_known = orderly.owners_known; known = orderly.known }
+orderly_more opening (WaitFor t) past reply is carried orderly = record { different = orderly.different; begun_known = orderly.begun_known; owners_known = orderly.owners_known; known = orderly.known }
 
 -- each legal history is orderly
 pub legal_orderly : (opening : Opening) (entries : List Entry) → IsLegal opening entries → IsOrderly (deeds entries)
-unfolding IsLegal deeds initiated completed lists
-legal_orderly opening [] legal = record { different = tt; known = λ n done. done }
+unfolding IsLegal deeds initiated begun completed lists operations
+legal_orderly opening [] legal = record { different = tt; begun_known = λ n done. done; owners_known = λ n owns. owns; known = λ n done. done }
 legal_orderly opening (entry ∷ older) legal = go (carries_out entry.0 entry.1) refl (legal_orderly opening older legal.1) where
   go : (carried : Bool) → carries_out entry.0 entry.1 ≡ carried → IsOrderly (deeds older) → IsOrderly (cond carried (entry.0 ∷ deeds older) (deeds older))
   go true e orderly = orderly_more opening entry.0 (deeds older) entry.1 legal.0 e orderly

@@ -5,3 +5,5 @@ pub mod Sorting
 pub mod LegalLemmas
 pub mod RoomLemmas
 pub mod HolderLemmas
+pub mod LiveLemmas
+pub mod ClassLemmas

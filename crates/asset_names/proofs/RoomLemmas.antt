@@ -19,7 +19,7 @@ use Rattle.asset_names.specs.Room.{owed_to, owed, fits, changes_status}
 use Rattle.asset_names.proofs.LegalLemmas.{option_or_none, end_alone, running_parts, complete_runs, Distinct, IsOrderly, legal_orderly, ended_initiated}
 
 -- sums of what is the same for each listed name
-sum_same : (f g : ℕ → ℕ) (names : List ℕ) → ((n : ℕ) → lists names n ≡ true → g n ≡ f n) → sum_by g names ≡ sum_by f names
+pub sum_same : (f g : ℕ → ℕ) (names : List ℕ) → ((n : ℕ) → lists names n ≡ true → g n ≡ f n) → sum_by g names ≡ sum_by f names
 unfolding lists
 sum_same f g [] same = refl
 sum_same f g (n ∷ names) same =

@@ -46,6 +46,13 @@ status_of true false false None = Status'.Initiated
 unfoldable pub status : List Step → ℕ → Status
 status past t = status_of (lists (initiated past) t) (lists (begun past) t) (lists (completed past) t) (end_of past t)
 
+-- whether a transaction of this status is live
+unfoldable pub is_live_status : Status → Bool
+is_live_status Status'.Initiated = true
+is_live_status Status'.Running = true
+is_live_status Status'.Completed = true
+is_live_status status = false
+
 -- two live names of one class, and each name with itself
 unfoldable pub same_class : List Step → ℕ → ℕ → Bool
 same_class past a b = linked (among (live past) (class_arrows past)) a b

@@ -1,5 +1,6 @@
 -- Entries of a history, and which of their steps were carried out.
-use Rattle.std.specs.Prelude.{ℕ, ℤ, Bool, true, false, cond, List, [], ◌∷◌, flat_map}
+use Rattle.std.specs.Prelude.{ℕ, ℤ, Bool, true, false, cond, ◌==◌, List, [], ◌∷◌, flat_map, Option, None}
+use Rattle.asset_names.specs.declared.names.Txn.{Txn}
 use Rattle.asset_names.specs.declared.names.Ob.{Ob}
 use Rattle.asset_names.specs.declared.steps.Step.{Step}
 use Rattle.asset_names.specs.declared.steps.Step.TheVariants.{Initiate, Begin, Read, Write, Complete, Commit, Abort}
@@ -52,3 +53,13 @@ begun past = flat_map begun_by past
 
 unfoldable pub completed : List Step → List ℕ
 completed past = flat_map completed_by past
+
+-- the parent that the step gives to t, or else the one before
+unfoldable pub parent_by : Step → ℕ → Option Txn → Option Txn
+parent_by (Initiate u parent) t before = cond (u.0 == t) parent before
+parent_by step t before = before
+
+-- the parent that t was given at its initiation, if it was given one
+unfoldable pub parent_of : List Step → ℕ → Option Txn
+parent_of [] t = None
+parent_of (step ∷ older) t = parent_by step t (parent_of older t)

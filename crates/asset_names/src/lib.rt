@@ -7,6 +7,8 @@ mod doubles;
 mod laws;
 mod names;
 mod operations;
+mod outcomes;
+mod refusals;
 mod replies;
 mod sets;
 mod statuses;
@@ -16,7 +18,12 @@ pub use doubles::{NamesObject, least_double};
 pub use laws::{endings_find_room, free_is_allowed_by_holders, linked_is_chain};
 pub use names::{Ob, Txn};
 pub use operations::{Op, Ops};
-pub use replies::{Fault, Outcome, Refusal, Reply};
+pub use outcomes::{commit_outcome, is_carried_out, wait_outcome};
+pub use refusals::{
+    refusal_to_abort, refusal_to_begin, refusal_to_find, refusal_to_initiate, refusal_to_operate,
+    refusal_to_work,
+};
+pub use replies::{Fault, NoMemory, Outcome, Refusal, Reply};
 pub use sets::{ObList, ObSet, SetFault};
 pub use statuses::{End, Status};
 pub use steps::{Kind, Step};

@@ -12,6 +12,19 @@ pub enum Op {
     Write,
 }
 
+impl Op {
+    ghost use Rattle.std.specs.Prelude.{◌≡◌};
+    ghost use Rattle.asset_names.specs.Operations.{conflict};
+
+    /// Whether the two operations conflict.
+    #[tactic(auto, unfolding(crate::specs::Operations::conflict))]
+    pub fn conflicts_with(self, other: Op) -> bool
+        ensures { result ≡ conflict self other }
+    {
+        self == Op::Write || other == Op::Write
+    }
+}
+
 /// A set of operations that is not empty. Contracts see whether it has Read, and whether it has
 /// Write.
 #[derive(Clone, Copy, Debug, PartialEq, Eq)]

@@ -60,3 +60,8 @@ pub enum Fault {
     #[error("no memory")]
     NoMemory,
 }
+
+/// Memory ran out. Nothing has changed.
+#[derive(Clone, Copy, Debug, PartialEq, Eq, Error)]
+#[error("no memory")]
+pub struct NoMemory;

@@ -23,3 +23,41 @@ pub enum End {
     Committed,
     Aborted,
 }
+
+impl Status {
+    ghost use Rattle.std.specs.Prelude.{◌≡◌};
+    ghost use Rattle.asset_names.specs.Endings.{is_live_status};
+    ghost use Rattle.asset_names.specs.Answers.{is_completed};
+    ghost use Rattle.asset_names.specs.Room.{owed_to};
+
+    /// Whether a transaction of this status is live.
+    #[tactic(auto, unfolding(crate::specs::Endings::is_live_status))]
+    pub fn is_live(self) -> bool
+        ensures { result ≡ is_live_status self }
+    {
+        matches!(
+            self,
+            Status::Initiated | Status::Running | Status::Completed
+        )
+    }
+
+    /// Whether a transaction of this status has completed and not yet ended.
+    #[tactic(auto, unfolding(crate::specs::Answers::is_completed))]
+    pub fn is_completed(self) -> bool
+        ensures { result ≡ is_completed self }
+    {
+        matches!(self, Status::Completed)
+    }
+
+    /// How many entries a transaction of this status is owed, so that it can still end: 0 to 2.
+    #[tactic(auto, unfolding(crate::specs::Room::owed_to))]
+    pub fn owed(self) -> usize
+        ensures { result ≡ owed_to self }
+    {
+        match self {
+            Status::Initiated | Status::Running => 2,
+            Status::Completed => 1,
+            Status::Unknown | Status::Committed | Status::Aborted => 0,
+        }
+    }
+}

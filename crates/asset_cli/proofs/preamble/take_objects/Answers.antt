@@ -7,7 +7,7 @@ use Rattle.asset_cli.specs.Preamble.{Takes, told_from}
 use Rattle.asset_cli.proofs.preamble.take_objects.Goals as goal
 
 pub lines-init : goal.lines-init
-unfolding HasNoDouble twice objects_of
+unfolding HasNoDouble twice
 lines-init c = record {
   told = λ capacity. rw c.requires.empty;
   count = refl;

@@ -20,21 +20,19 @@ returns-then-preamble-clause-end c =
     let told = rw c.if-preamble.true at (c.in_ok-preamble.ensures.told c.args.capacity) in
     rw told
 
-pub tell_steps-requires : goal.tell_steps-requires
-tell_steps-requires c = omega (arith, length-lines c.args.bytes.now, c.requires.limit, c.in_ok-preamble.ensures.few)
+pub tell_over-requires-clause-few : goal.tell_over-requires-clause-few
+tell_over-requires-clause-few c = omega (arith, length-lines c.args.bytes.now, c.requires.limit, c.in_ok-preamble.ensures.few)
 
 pub returns-clause-text : goal.returns-clause-text
 unfolding transcript told_from
 returns-clause-text c =
     let told = rw c.if-preamble.false at (c.in_ok-preamble.ensures.told c.args.capacity) in
-    let core = rw c.deref.ensures.value at c.in_ok-core.ensures.opened in
-    let steps = rw (core, c.new-text.ensures.bytes) at c.in_ok-end.ensures.told.text in
+    let steps = rw (c.deref.ensures.value, c.new-text.ensures.bytes) at c.in_ok-end.ensures.told.text in
     steps ∙ ap (λ (all : Told). all.text) (sym told)
 
 pub returns-clause-end : goal.returns-clause-end
 unfolding transcript told_from
 returns-clause-end c =
     let told = rw c.if-preamble.false at (c.in_ok-preamble.ensures.told c.args.capacity) in
-    let core = rw c.deref.ensures.value at c.in_ok-core.ensures.opened in
-    let steps = rw core at c.in_ok-end.ensures.told.ends in
+    let steps = rw c.deref.ensures.value at c.in_ok-end.ensures.told.ends in
     steps ∙ ap (λ (all : Told). all.end) (sym told)

@@ -5,4 +5,4 @@ use Rattle.asset_core.proofs.facility.Core.history.Goals as goal
 
 pub returns-clause-fits : goal.returns-clause-fits
 unfolding fits
-returns-clause-fits c = rw (← c.self.view_is) (le-leb _ _ (omega (arith, c.self.invariant.fitting, c.self.invariant.counts)))
+returns-clause-fits c = rw (← c.self.view_is) (le-leb _ _ c.self.invariant.fitting)

@@ -1,45 +1,43 @@
-use Rattle.std.proofs.Common.{◌≡◌, ◌+◌, ◌<◌, ◌≤◌, ◌∷◌, true, length, refl, arith}
-use Rattle.std.proofs.lemmas.Bool.{le-leb, lt-leb, leb-true, leb-false}
+use Rattle.std.proofs.Common.{◌≡◌, ◌∙◌, sym, ap, true, false, arith}
+use Rattle.std.proofs.lemmas.Bool.{leb-true, false≢true}
 use Rattle.asset_names.specs.Steps.{deeds}
-use Rattle.asset_names.specs.Room.{fits, owed}
-use Rattle.asset_names.proofs.RoomLemmas.{ending_fits}
-use Rattle.asset_core.specs.Recorded.{answer_to, with_entry, has_room, is_ending}
+use Rattle.asset_names.specs.Room.{fits}
+use Rattle.asset_names.specs.Answers.{IsLegal}
+use Rattle.asset_core.specs.Recorded.{answer_to, after, with_entry, has_room, is_ending}
+use Rattle.asset_core.specs.Pending.{pending_after}
+use Rattle.asset_core.specs.Tables.{places_of}
+use Rattle.asset_core.proofs.ReadyLemmas.{ready}
+use Rattle.asset_core.proofs.KeptLemmas.{kept_orderly, no_ending, places_followed}
+use Rattle.asset_core.proofs.PendingLemmas.{places}
 use Rattle.asset_core.proofs.facility.Core.record.Goals as goal
 
-pub overflow_add-len-2 : goal.overflow_add-len-2
-overflow_add-len-2 c = rw c.len.ensures.len (omega (arith, c.owed_after-owed.ensures.bound, c.self.invariant.fitting, c.self.invariant.capacity))
-
-pub returns-then-len-owed-clause-full : goal.returns-then-len-owed-clause-full
-unfolding has_room fits
-returns-then-len-owed-clause-full c =
-    let history = c.self.inside.history in
-    let over : history.room < length history.past + 1 + owed (deeds ((c.args.step, c.args.reply) ∷ history.past)) =
-    omega (arith, c.if-len-owed.true, c.len.ensures.len, c.room.ensures, c.owed_after-owed.ensures.owed) in
-    rw (← c.self.view_is) ((λ e. lt-leb _ _ over), (λ full. refl))
-
-pub returns-then-len-owed-clause-ending : goal.returns-then-len-owed-clause-ending
-unfolding is_ending answer_to fits
-returns-then-len-owed-clause-ending c = λ ends.
-    let history = c.self.inside.history in
-    let over : history.room < length history.past + 1 + owed (deeds ((c.args.step, c.args.reply) ∷ history.past)) =
-    omega (arith, c.if-len-owed.true, c.len.ensures.len, c.room.ensures, c.owed_after-owed.ensures.owed) in
-    let fitted : fits (deeds history.past) (length history.past) history.room ≡ true = le-leb _ _ (omega (arith, c.self.invariant.fitting, c.self.invariant.counts)) in
-    let found = ending_fits history.opening history.past c.args.step c.args.reply history.room (rw (← c.self.view_is) at c.requires.legal) fitted
-    (rw (← c.self.view_is) at c.requires.answer) (rw (← c.self.view_is) at ends) in
-    absurd (omega (arith, leb-true _ _ found, over))
+pub follow-requires : goal.follow-requires
+unfolding answer_to
+follow-requires c = record { ready = λ carried. ready _ _ c.self.inside.tables c.args.step c.args.reply c.self.invariant.stand (rw (← c.self.view_is) at c.requires.answer) carried }
 
 pub invariant_of-self : goal.invariant_of-self
-unfolding with_entry
-invariant_of-self c = rw c.append.ensures (record {
-  counts = c.owed_after-owed.ensures.owed;
-  fitting = omega (arith, c.if-len-owed.false, c.len.ensures.len, c.room.ensures);
-  capacity = c.self.invariant.capacity;
-})
-
-pub returns-clause-full : goal.returns-clause-full
-unfolding has_room fits
-returns-clause-full c =
+unfolding with_entry answer_to IsLegal has_room fits
+invariant_of-self c =
     let history = c.self.inside.history in
-    let within : length history.past + 1 + owed (deeds ((c.args.step, c.args.reply) ∷ history.past)) ≤ history.room =
-    omega (arith, c.if-len-owed.false, c.len.ensures.len, c.room.ensures, c.owed_after-owed.ensures.owed) in
-    rw (← c.self.view_is) ((λ e. cc), (λ full. absurd (omega (arith, leb-false _ _ full, within))))
+    let roomy = rw (← c.self.view_is) at (sym c.has_room.ensures.room ∙ c.if-not-has_room.false) in
+    rw c.append.ensures (record {
+      stand = c.in-Ok.ensures.stand history.opening history.past c.self.invariant.stand (kept_orderly history c.self.inside.tables c.self.invariant);
+      legal = (rw (← c.self.view_is) at c.requires.answer, c.self.invariant.legal);
+      fitting = omega (arith, leb-true _ _ roomy);
+      capacity = c.self.invariant.capacity;
+    })
+
+pub returns-in-Ok-clause-pending : goal.returns-in-Ok-clause-pending
+unfolding places_of pending_after after answer_to with_entry
+returns-in-Ok-clause-pending c =
+    rw (← c.self.view_is) (ap places c.in-Ok.ensures.locks
+    ∙ places_followed c.self.inside.history.opening c.self.inside.history.past c.self.inside.tables c.args.step c.args.reply c.self.invariant.stand (rw (← c.self.view_is) at c.requires.answer))
+
+pub returns-in-Err-clause-ending : goal.returns-in-Err-clause-ending
+unfolding is_ending
+returns-in-Err-clause-ending c = λ ends. sym (no_ending _ c.args.step c.args.reply c.in-Err.ensures.memory.0) ∙ ends
+
+pub returns-in-Err-clause-fault : goal.returns-in-Err-clause-fault
+unfolding places_of
+returns-in-Err-clause-fault c =
+    rw (← c.self.view_is) (λ i. record { history = c.self.inside.history; pending = places (c.in-Err.ensures.unchanged.locks i) })

@@ -1,0 +1,98 @@
+-- The cell of an object, as names end and as it is shown.
+use Rattle.std.proofs.Common.{◌≡◌, ℕ, Bool, true, false, cond, not, eqb, List, [], ◌∷◌, refl, sym, ◌∙◌, ap, Some, None}
+use Rattle.std.specs.Prelude.{ℤ, pos, Option, option_map, is_some, unwrap_or, ◌&&◌}
+use Rattle.std.proofs.lemmas.Bool.{eqb-true}
+use Rattle.asset_names.specs.declared.statuses.End.{End}
+use Rattle.asset_names.specs.declared.statuses.End.TheVariants as End'
+use Rattle.asset_names.specs.declared.steps.Step.{Step}
+use Rattle.asset_names.specs.Steps.{Opening}
+use Rattle.asset_names.specs.Endings.{end_of}
+use Rattle.asset_names.specs.Operations.{Use, Operation, operations, opening_at, opening_value, exists, value_after, after_use, stands, was_aborted, value, value_if_any}
+use Rattle.asset_names.specs.Operations.Use.{reads, writes}
+use Rattle.asset_objects.specs.Cells.{Cell, fresh, shown, newest_or, written, undone, settled, settled_value, newer, value_in}
+use Rattle.asset_core.specs.Shows.{placed, used, cell_after, cell_of}
+
+-- who passes the test of one name
+abbrev pub is_name : ℕ → ℕ → Bool
+is_name t n = eqb n t
+
+-- names that ended alike leave the same cell
+pub cell_same : (ends later : ℕ → Option End) → ((n : ℕ) → later n ≡ ends n) → (x : ℕ) (first : ℤ) (os : List Operation) → cell_after later x first os ≡ cell_after ends x first os
+unfolding cell_after
+cell_same ends later same x first [] = refl
+cell_same ends later same x first (o ∷ older) = rw (same o.owner, cell_same ends later same x first older)
+
+-- one more write of a name that aborts
+undone_write : (t u : ℕ) (v : ℤ) (older later : Cell) (same : Bool) → eqb u t ≡ same → (end ended : Option End) → ended ≡ cond same (Some End'.Aborted) end → (same ≡ true → end ≡ None)
+    → later ≡ undone (is_name t) older → placed ended u v later ≡ undone (is_name t) (placed end u v older)
+unfolding placed written undone fresh
+undone_write t u v older later true e end ended is alive ih = rw (is, alive refl, e) ih
+undone_write t u v older later false e (Some End'.Committed) ended is alive ih = rw is refl
+undone_write t u v older later false e (Some End'.Aborted) ended is alive ih = rw is ih
+undone_write t u v older later false e None ended is alive ih = rw (is, e, ih) refl
+
+-- one more write of a name that commits
+settled_write : (t u : ℕ) (v : ℤ) (older later : Cell) (same : Bool) → eqb u t ≡ same → (end ended : Option End) → ended ≡ cond same (Some End'.Committed) end → (same ≡ true → end ≡ None)
+    → later ≡ settled (is_name t) older → placed ended u v later ≡ settled (is_name t) (placed end u v older)
+unfolding placed written settled settled_value newer fresh
+settled_write t u v older later true e end ended is alive ih = rw (is, alive refl, e) refl
+settled_write t u v older later false e (Some End'.Committed) ended is alive ih = rw is refl
+settled_write t u v older later false e (Some End'.Aborted) ended is alive ih = rw is ih
+settled_write t u v older later false e None ended is alive ih = rw (is, e, ih) refl
+
+-- the cell after a live name has aborted
+pub cell_undone : (t : ℕ) (ends later : ℕ → Option End) → ends t ≡ None → ((n : ℕ) → later n ≡ cond (eqb n t) (Some End'.Aborted) (ends n))
+    → (x : ℕ) (first : ℤ) (os : List Operation) → cell_after later x first os ≡ undone (is_name t) (cell_after ends x first os)
+unfolding cell_after used fresh undone
+cell_undone t ends later alive is x first [] = refl
+cell_undone t ends later alive is x first (o ∷ older) = go (eqb o.object x) o.use_of (cell_undone t ends later alive is x first older) where
+  alive_as : (u : ℕ) → eqb u t ≡ true → ends u ≡ None
+  alive_as u e = rw (eqb-true u t e) alive
+
+  go : (here : Bool) (deed : Use) → cell_after later x first older ≡ undone (is_name t) (cell_after ends x first older)
+      → cond here (used (later o.owner) o.owner deed (cell_after later x first older)) (cell_after later x first older)
+      ≡ undone (is_name t) (cond here (used (ends o.owner) o.owner deed (cell_after ends x first older)) (cell_after ends x first older))
+  go false deed ih = ih
+  go true reads ih = ih
+  go true (writes v) ih = undone_write t o.owner v _ _ (eqb o.owner t) refl (ends o.owner) (later o.owner) (is o.owner) (alive_as o.owner) ih
+
+-- the cell after a live name has committed
+pub cell_settled : (t : ℕ) (ends later : ℕ → Option End) → ends t ≡ None → ((n : ℕ) → later n ≡ cond (eqb n t) (Some End'.Committed) (ends n))
+    → (x : ℕ) (first : ℤ) (os : List Operation) → cell_after later x first os ≡ settled (is_name t) (cell_after ends x first os)
+unfolding cell_after used fresh settled settled_value newer
+cell_settled t ends later alive is x first [] = refl
+cell_settled t ends later alive is x first (o ∷ older) = go (eqb o.object x) o.use_of (cell_settled t ends later alive is x first older) where
+  alive_as : (u : ℕ) → eqb u t ≡ true → ends u ≡ None
+  alive_as u e = rw (eqb-true u t e) alive
+
+  go : (here : Bool) (deed : Use) → cell_after later x first older ≡ settled (is_name t) (cell_after ends x first older)
+      → cond here (used (later o.owner) o.owner deed (cell_after later x first older)) (cell_after later x first older)
+      ≡ settled (is_name t) (cond here (used (ends o.owner) o.owner deed (cell_after ends x first older)) (cell_after ends x first older))
+  go false deed ih = ih
+  go true reads ih = ih
+  go true (writes v) ih = settled_write t o.owner v _ _ (eqb o.owner t) refl (ends o.owner) (later o.owner) (is o.owner) (alive_as o.owner) ih
+
+-- a cell shows the value of the history
+cell_shown : (past : List Step) (x : ℕ) (first : ℤ) (os : List Operation) → shown (cell_after (end_of past) x first os) ≡ value_after (stands past) x first os
+unfolding cell_after used placed written fresh shown newest_or value_after after_use stands was_aborted
+cell_shown past x first [] = refl
+cell_shown past x first (o ∷ older) = go (eqb o.object x) o.use_of (end_of past o.owner) (cell_shown past x first older) where
+  go : (here : Bool) (deed : Use) (end : Option End) → shown (cell_after (end_of past) x first older) ≡ value_after (stands past) x first older
+      → shown (cond here (used end o.owner deed (cell_after (end_of past) x first older)) (cell_after (end_of past) x first older))
+      ≡ cond (here && not (was_aborted end)) (after_use deed (value_after (stands past) x first older)) (value_after (stands past) x first older)
+  go false deed end ih = ih
+  go true reads (Some End'.Committed) ih = ih
+  go true reads (Some End'.Aborted) ih = ih
+  go true reads None ih = ih
+  go true (writes v) (Some End'.Committed) ih = refl
+  go true (writes v) (Some End'.Aborted) ih = ih
+  go true (writes v) None ih = refl
+
+-- the value that the cells show is that of the history
+pub value_shown : (opening : Opening) (past : List Step) (x : ℕ) → option_map shown (cell_of opening past x) ≡ value_if_any opening past x
+unfolding cell_of value_if_any exists value opening_value
+value_shown opening past x = go (opening_at opening x) where
+  go : (first : Option ℤ) → option_map shown (option_map (λ v. cell_after (end_of past) x v (operations past)) first)
+      ≡ cond (is_some first) (Some (value_after (stands past) x (unwrap_or first (pos 0)) (operations past))) None
+  go None = refl
+  go (Some v) = ap Some (cell_shown past x v (operations past))

@@ -1,0 +1,166 @@
+-- A step that is answered finds the tables ready for it.
+use Rattle.std.proofs.Common.{◌≡◌, ℕ, Bool, true, false, cond, not, eqb, ◌&&◌, ◌||◌, List, [], ◌∷◌, filter, reverse, map, refl, sym, ◌∙◌, ap, subst, arith, Some, None}
+use Rattle.std.specs.Prelude.{Option, find, is_some, option_map, ℤ}
+use Rattle.std.proofs.lemmas.Bool.{eqb-true, or_left, not-true, not-false, false≢true}
+use Rattle.asset_names.specs.declared.names.Txn.{Txn}
+use Rattle.asset_names.specs.declared.names.Ob.{Ob}
+use Rattle.asset_names.specs.declared.operations.Op.{Op}
+use Rattle.asset_names.specs.declared.operations.Op.TheVariants as Op'
+use Rattle.asset_names.specs.declared.statuses.Status.{Status}
+use Rattle.asset_names.specs.declared.statuses.Status.TheVariants as Status'
+use Rattle.asset_names.specs.declared.steps.Step.{Step}
+use Rattle.asset_names.specs.declared.steps.Step.TheVariants.{Initiate, Begin, Read, Write, Complete, Commit, Abort, WaitFor}
+use Rattle.asset_names.specs.declared.replies.Refusal.{Refusal}
+use Rattle.asset_names.specs.declared.replies.Reply.{Reply}
+use Rattle.asset_names.specs.declared.replies.Outcome.{Outcome}
+use Rattle.asset_names.specs.declared.replies.Outcome.TheVariants.{Answer, Wait}
+use Rattle.asset_names.specs.Arrows.{lists}
+use Rattle.asset_names.specs.Steps.{Opening, carries_out, initiated}
+use Rattle.asset_names.specs.Endings.{live, status, end_of, is_live_status}
+use Rattle.asset_names.specs.Operations.{free, exists, opening_at, operations}
+use Rattle.asset_names.specs.Answers.{answer, outcome_unless, unrefused, rules_for, first_refusal, unknown, ended, begun_before, is_unknown, has_ended, has_begun, is_running}
+use Rattle.asset_names.proofs.LegalLemmas.{carried_unrefused, first_none, initiate_new, complete_runs}
+use Rattle.asset_names.proofs.LiveLemmas.{live_by_status, live_parts}
+use Rattle.asset_objects.specs.Cells.{cells, has_object}
+use Rattle.asset_locks.specs.Kept.{table_of}
+use Rattle.asset_locks.specs.Table as Locks
+use Rattle.asset_trans.specs.Rows.{row_in, status_in}
+use Rattle.asset_core.specs.declared.tables.Tables.{Tables}
+use Rattle.asset_core.specs.Shows.{cell_of, cell_after}
+use Rattle.asset_core.specs.Tables.{Stand, IsReady, MayWait, IsAtWork, is_free_for}
+use Rattle.asset_core.proofs.RowLaws.{row_absent}
+use Rattle.asset_core.proofs.HistoryLemmas.{lists_reverse}
+use Rattle.asset_core.proofs.ShowsLemmas.{free_shown}
+use Rattle.asset_core.proofs.TableLemmas.{read_unrefused, write_unrefused}
+
+-- what is listed of the names that pass
+lists_filter : (p : ℕ → Bool) (names : List ℕ) (t : ℕ) → lists (filter p names) t ≡ (p t && lists names t)
+unfolding lists
+lists_filter p [] t = grind arith
+lists_filter p (n ∷ names) t = go (p n) refl (eqb n t) refl (lists_filter p names t) where
+  go : (kept : Bool) → p n ≡ kept → (here : Bool) → eqb n t ≡ here → lists (filter p names) t ≡ (p t && lists names t)
+      → lists (cond kept (n ∷ filter p names) (filter p names)) t ≡ (p t && (here || lists names t))
+  go true k true h ih = rw (h, ← eqb-true n t h, k) refl
+  go true k false h ih = rw (h, ih) refl
+  go false k true h ih = rw (ih, ← eqb-true n t h, k) refl
+  go false k false h ih = ih
+
+-- who is named is enrolled
+enrolled_named : (holders : List Locks.Holder) (t : ℕ) → is_some (find (λ (holder : Locks.Holder). eqb holder.name t) holders) ≡ lists (map (λ (holder : Locks.Holder). holder.name) holders) t
+unfolding lists
+enrolled_named [] t = refl
+enrolled_named (holder ∷ holders) t = go (eqb holder.name t) (enrolled_named holders t) where
+  go : (here : Bool) → is_some (find (λ (h : Locks.Holder). eqb h.name t) holders) ≡ lists (map (λ (h : Locks.Holder). h.name) holders) t
+      → is_some (cond here (Some holder) (find (λ (h : Locks.Holder). eqb h.name t) holders)) ≡ (here || lists (map (λ (h : Locks.Holder). h.name) holders) t)
+  go true ih = refl
+  go false ih = ih
+
+-- who is enrolled is live, and the other way
+pub enrolled_live : (opening : Opening) (past : List Step) (tables : Tables) (t : ℕ) → Stand opening past tables → is_some (Locks.holder_in (table_of tables.locks) t) ≡ (live past t && lists (initiated past) t)
+unfolding Locks.holder_in Locks.names_in
+enrolled_live opening past tables t stand =
+    enrolled_named (table_of tables.locks).holders t ∙ ap (λ names. lists names t) stand.enrolled ∙ lists_filter (live past) (reverse (initiated past)) t ∙ ap (λ b. live past t && b) (lists_reverse (initiated past) t)
+
+none_of : {A : Type 0} (found : Option A) → is_some found ≡ false → found ≡ None
+none_of None h = refl
+none_of (Some x) h = absurd (false≢true (sym h))
+
+running_is : (status : Status) → is_running status ≡ true → status ≡ Status'.Running
+unfolding is_running
+running_is Status'.Running h = refl
+running_is Status'.Unknown h = absurd (false≢true h)
+running_is Status'.Initiated h = absurd (false≢true h)
+running_is Status'.Completed h = absurd (false≢true h)
+running_is Status'.Committed h = absurd (false≢true h)
+running_is Status'.Aborted h = absurd (false≢true h)
+
+initiated_is : (status : Status) → is_unknown status ≡ false → has_ended status ≡ false → has_begun status ≡ false → status ≡ Status'.Initiated
+unfolding is_unknown has_ended has_begun
+initiated_is Status'.Initiated a b c = refl
+initiated_is Status'.Unknown a b c = absurd (false≢true (sym a))
+initiated_is Status'.Running a b c = absurd (false≢true (sym c))
+initiated_is Status'.Completed a b c = absurd (false≢true (sym c))
+initiated_is Status'.Committed a b c = absurd (false≢true (sym b))
+initiated_is Status'.Aborted a b c = absurd (false≢true (sym b))
+
+-- who runs is at work
+at_work : (opening : Opening) (past : List Step) (tables : Tables) (t : ℕ) → Stand opening past tables → is_running (status past t) ≡ true → IsAtWork tables t
+unfolding is_live_status live
+at_work opening past tables t stand running =
+    let runs = running_is (status past t) running in
+    let alive : live past t ≡ true = live_by_status past t ∙ ap is_live_status runs in
+    record {
+      runs = stand.statuses t ∙ runs;
+      enrolled = enrolled_live opening past tables t stand ∙ rw (alive, (live_parts past t alive).0) refl;
+    }
+
+-- a read or a write that is answered is free, and one that waits is not
+free_if : (is_free : Bool) (reply : Reply) (other : Outcome) → cond is_free other Wait ≡ Answer reply → is_free ≡ true
+free_if true reply other h = refl
+free_if false reply other h = cc
+
+hindered_if : (is_free : Bool) (reply : Reply) → cond is_free (Answer reply) Wait ≡ Wait → is_free ≡ false
+hindered_if false reply h = refl
+hindered_if true reply h = cc
+
+-- an answer that comes where nothing is refused is that of the step itself
+answered_unrefused : (opening : Opening) (past : List Step) (step : Step) (outcome : Outcome) → answer opening past step ≡ outcome → first_refusal (rules_for opening past step) ≡ None → unrefused opening past step ≡ outcome
+unfolding answer outcome_unless
+answered_unrefused opening past step outcome is none = rw none at is
+
+-- a step that waits is not refused
+waits_unrefused : (opening : Opening) (past : List Step) (step : Step) → answer opening past step ≡ Wait → first_refusal (rules_for opening past step) ≡ None
+unfolding answer outcome_unless
+waits_unrefused opening past step is = go (first_refusal (rules_for opening past step)) is where
+  go : (first : Option Refusal) → outcome_unless first (unrefused opening past step) ≡ Wait → first ≡ None
+  go None h = refl
+  go (Some refusal) h = cc
+
+-- which objects exist, by the cells
+object_exists : (opening : Opening) (past : List Step) (tables : Tables) (x : ℕ) → Stand opening past tables → has_object (cells tables.objects) x ≡ exists opening x
+unfolding has_object cell_of exists
+object_exists opening past tables x stand = ap is_some (stand.cells x) ∙ go (opening_at opening x) where
+  go : (first : Option ℤ) → is_some (option_map (λ v. cell_after (end_of past) x v (operations past)) first) ≡ is_some first
+  go None = refl
+  go (Some v) = refl
+
+pub ready : (opening : Opening) (past : List Step) (tables : Tables) (step : Step) (reply : Reply) → Stand opening past tables → answer opening past step ≡ Answer reply → carries_out step reply ≡ true → IsReady step tables
+unfolding rules_for unknown ended begun_before unrefused is_free_for
+ready opening past tables (Initiate t parent) reply stand is carried =
+    let new = initiate_new opening past t parent reply is carried in
+    record {
+      no_row = row_absent tables.trans t.0 (ap (λ names. lists names t.0) stand.names ∙ lists_reverse (initiated past) t.0 ∙ new);
+      no_holder = none_of _ (enrolled_live opening past tables t.0 stand ∙ rw new (grind arith));
+    }
+ready opening past tables (Begin t) reply stand is carried =
+    let one = first_none (unknown past t) _ (carried_unrefused opening past (Begin t) reply is carried) in
+    let two = first_none (ended past t) _ one.1 in
+    let three = first_none (begun_before past t) [] two.1 in
+    stand.statuses t.0 ∙ initiated_is (status past t.0) one.0 two.0 three.0
+ready opening past tables (Read t x) reply stand is carried =
+    let none = carried_unrefused opening past (Read t x) reply is carried in
+    let there = read_unrefused opening past t x none in
+    (at_work opening past tables t.0 stand there.0, free_shown opening past _ _ _ t.0 x.0 Op'.Read stand ∙ free_if _ reply _ (answered_unrefused opening past (Read t x) (Answer reply) is none))
+ready opening past tables (Write t x v) reply stand is carried =
+    let none = carried_unrefused opening past (Write t x v) reply is carried in
+    let there = write_unrefused opening past t x v none in
+    (at_work opening past tables t.0 stand there.0, free_shown opening past _ _ _ t.0 x.0 Op'.Write stand ∙ free_if _ reply _ (answered_unrefused opening past (Write t x v) (Answer reply) is none), object_exists opening past tables x.0 stand ∙ there.1)
+ready opening past tables (Complete t) reply stand is carried = stand.statuses t.0 ∙ running_is (status past t.0) (complete_runs opening past t reply is carried)
+ready opening past tables (Commit t) reply stand is carried = tt
+ready opening past tables (Abort t) reply stand is carried = tt
+ready opening past tables (WaitFor t) reply stand is carried = tt
+
+pub may_wait : (opening : Opening) (past : List Step) (tables : Tables) (step : Step) → Stand opening past tables → answer opening past step ≡ Wait → MayWait step tables
+unfolding unrefused is_free_for
+may_wait opening past tables (Read t x) stand is =
+    let none = waits_unrefused opening past (Read t x) is in
+    (at_work opening past tables t.0 stand (read_unrefused opening past t x none).0, free_shown opening past _ _ _ t.0 x.0 Op'.Read stand ∙ hindered_if _ _ (answered_unrefused opening past (Read t x) Wait is none))
+may_wait opening past tables (Write t x v) stand is =
+    let none = waits_unrefused opening past (Write t x v) is in
+    (at_work opening past tables t.0 stand (write_unrefused opening past t x v none).0, free_shown opening past _ _ _ t.0 x.0 Op'.Write stand ∙ hindered_if _ _ (answered_unrefused opening past (Write t x v) Wait is none))
+may_wait opening past tables (Initiate t parent) stand is = tt
+may_wait opening past tables (Begin t) stand is = tt
+may_wait opening past tables (Complete t) stand is = tt
+may_wait opening past tables (Commit t) stand is = tt
+may_wait opening past tables (Abort t) stand is = tt
+may_wait opening past tables (WaitFor t) stand is = tt

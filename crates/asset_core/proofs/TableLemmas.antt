@@ -1,0 +1,94 @@
+-- What the tables' own calls say, put together.
+use Rattle.std.proofs.Common.{◌≡◌, ℕ, Bool, true, false, cond, not, eqb, List, [], ◌∷◌, ◌++◌, filter, refl, sym, ◌∙◌, ap, subst, arith, Some, None, Ok, Err, OnOk, OnErr}
+use Rattle.std.specs.Prelude.{Option, Result, find}
+use Rattle.std.specs.List.{list_any}
+use Rattle.std.proofs.lemmas.Bool.{or_parts, not-false, eq-eqb, false≢true}
+use Rattle.asset_names.specs.declared.names.Txn.{Txn}
+use Rattle.asset_names.specs.declared.names.Ob.{Ob}
+use Rattle.asset_names.specs.declared.operations.Op.{Op}
+use Rattle.asset_names.specs.declared.operations.Op.TheVariants as Op'
+use Rattle.asset_names.specs.declared.steps.Step.{Step}
+use Rattle.asset_names.specs.declared.steps.Step.TheVariants.{Read, Write}
+use Rattle.asset_names.specs.Steps.{Opening}
+use Rattle.asset_names.specs.Endings.{status}
+use Rattle.asset_names.specs.Operations.{exists, value, value_if_any}
+use Rattle.asset_names.specs.Answers.{unrefused, rules_for, first_refusal, unknown, ended, not_running, no_object, is_unknown, is_running}
+use Rattle.asset_names.proofs.LegalLemmas.{first_none}
+use Rattle.asset_objects.specs.Cells.{Cells, cells, value_in}
+use Rattle.asset_locks.specs.Kept.{table_of}
+use Rattle.asset_locks.specs.Table as Locks
+use Rattle.asset_trans.specs.Rows.{Entry}
+use Rattle.asset_core.specs.declared.tables.Tables.{Tables}
+use Rattle.asset_core.specs.Shows.{Shows}
+use Rattle.asset_core.specs.Tables.{Stand, is_free_for, value_or_zero, read_outcome}
+use Rattle.asset_core.proofs.ShowsLemmas.{free_shown, value_of_tables}
+
+-- what holds where a call succeeded, of what held there
+pub on_ok : {T E : Type 0} {P Q : Type 0} (r : Result T E) → (P → Q) → OnOk r P → OnOk r Q
+on_ok (Ok x) f p = f p
+on_ok (Err e) f p = p
+
+pub on_ok_two : {T E : Type 0} {P Q R : Type 0} (r : Result T E) → (P → Q → R) → OnOk r P → OnOk r Q → OnOk r R
+on_ok_two (Ok x) f p q = f p q
+on_ok_two (Err e) f p q = p
+
+pub on_ok_three : {T E : Type 0} {P Q R S : Type 0} (r : Result T E) → (P → Q → R → S) → OnOk r P → OnOk r Q → OnOk r R → OnOk r S
+on_ok_three (Ok x) f p q s = f p q s
+on_ok_three (Err e) f p q s = p
+
+pub always_err : {T E : Type 0} {P : Type 0} (r : Result T E) → P → OnErr r P
+always_err (Ok x) p = tt
+always_err (Err e) p = p
+
+-- tables that are as others are stand for what the others do
+pub stand_as : (opening : Opening) (past : List Step) (later : Tables) (rows : List Entry) (objects : Cells) (table : Locks.Table) → later.trans ≡ rows → cells later.objects ≡ objects → table_of later.locks ≡ table
+    → Shows opening past rows objects table → Stand opening past later
+stand_as opening past later rows objects table r o l shows = rw (r, o, l) shows
+
+-- a step that is not refused finds its object
+no_refusal : (opening : Opening) (past : List Step) (t : Txn) (x : Ob)
+    → first_refusal (unknown past t ∷ ended past t ∷ not_running past t ∷ no_object opening x ∷ []) ≡ None → (is_running (status past t.0) ≡ true) × (exists opening x.0 ≡ true)
+unfolding not_running no_object
+no_refusal opening past t x first =
+    let one = first_none (unknown past t) _ first in
+    let two = first_none (ended past t) _ one.1 in
+    let three = first_none (not_running past t) _ two.1 in
+    (not-false _ three.0, not-false _ ((first_none (no_object opening x) [] three.1).0))
+
+pub read_unrefused : (opening : Opening) (past : List Step) (t : Txn) (x : Ob) → first_refusal (rules_for opening past (Read t x)) ≡ None → (is_running (status past t.0) ≡ true) × (exists opening x.0 ≡ true)
+unfolding rules_for
+read_unrefused opening past t x first = no_refusal opening past t x first
+
+pub write_unrefused : (opening : Opening) (past : List Step) (t : Txn) (x : Ob) (v : _) → first_refusal (rules_for opening past (Write t x v)) ≡ None → (is_running (status past t.0) ≡ true) × (exists opening x.0 ≡ true)
+unfolding rules_for
+write_unrefused opening past t x v first = no_refusal opening past t x first
+
+-- an enrolment that is given back leaves the table as it was
+none_named : (t : ℕ) (holders : List Locks.Holder) → find (λ (holder : Locks.Holder). eqb holder.name t) holders ≡ None
+    → filter (λ (holder : Locks.Holder). not (eqb holder.name t)) (holders ++ record { name = t; place = None; held = [] } ∷ []) ≡ holders
+none_named t [] none = rw (eq-eqb t t refl) refl
+none_named t (holder ∷ holders) none = go (eqb holder.name t) none (none_named t holders) where
+  go : (here : Bool) → cond here (Some holder) (find (λ (h : Locks.Holder). eqb h.name t) holders) ≡ None
+      → (find (λ (h : Locks.Holder). eqb h.name t) holders ≡ None → filter (λ (h : Locks.Holder). not (eqb h.name t)) (holders ++ record { name = t; place = None; held = [] } ∷ []) ≡ holders)
+      → cond (not here) (holder ∷ filter (λ (h : Locks.Holder). not (eqb h.name t)) (holders ++ record { name = t; place = None; held = [] } ∷ [])) (filter (λ (h : Locks.Holder). not (eqb h.name t)) (holders ++ record { name = t; place = None; held = [] } ∷ [])) ≡ holder ∷ holders
+  go true none rest = cc
+  go false none rest = ap (λ hs. holder ∷ hs) (rest none)
+
+none_owned : (t : ℕ) (locks : List Locks.Lock) → list_any (Locks.is_of t) locks ≡ false → filter (λ (lock : Locks.Lock). not (eqb lock.owner t)) locks ≡ locks
+unfolding Locks.is_of
+none_owned t [] none = refl
+none_owned t (lock ∷ locks) none =
+    let parts = or_parts (eqb lock.owner t) (list_any (λ (l : Locks.Lock). eqb l.owner t) locks) none in
+    rw (parts.0, none_owned t locks parts.1) refl
+
+pub enrolment_given_back : (t : ℕ) (table : Locks.Table) → Locks.holder_in table t ≡ None → ((x : ℕ) → list_any (Locks.is_of t) (table.locks_on x) ≡ false)
+    → Locks.release_in (λ n. eqb n t) (Locks.enrol_in t table) ≡ table
+unfolding Locks.holder_in Locks.release_in Locks.enrol_in
+enrolment_given_back t table none unlocked = λ i. record { holders = none_named t table.holders none i; locks_on = λ x. none_owned t (table.locks_on x) (unlocked x) i }
+
+-- what a read is answered by the tables, it is by the history
+pub read_answered : (opening : Opening) (past : List Step) (tables : Tables) (t : Txn) (x : Ob) → Stand opening past tables → exists opening x.0 ≡ true → read_outcome tables t.0 x.0 ≡ unrefused opening past (Read t x)
+unfolding read_outcome is_free_for value_or_zero unrefused value_if_any
+read_answered opening past tables t x stand there =
+    let shown : value_in (cells tables.objects) x.0 ≡ Some (value opening past x.0) = value_of_tables opening past _ _ _ x.0 stand ∙ rw there refl in
+    rw (free_shown opening past _ _ _ t.0 x.0 Op'.Read stand, shown) refl

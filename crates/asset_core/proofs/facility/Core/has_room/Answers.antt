@@ -1,0 +1,20 @@
+use Rattle.std.proofs.Common.{◌≡◌, ◌+◌, ◌≤◌, ◌∷◌, true, length, refl, arith}
+use Rattle.std.proofs.lemmas.Bool.{le-leb, leb-true}
+use Rattle.asset_names.specs.Steps.{deeds}
+use Rattle.asset_names.specs.Room.{fits, owed}
+use Rattle.asset_names.proofs.RoomLemmas.{ending_fits}
+use Rattle.asset_core.specs.Recorded.{answer_to, has_room, is_ending}
+use Rattle.asset_core.proofs.facility.Core.has_room.Goals as goal
+
+pub returns-clause-room : goal.returns-clause-room
+unfolding has_room fits
+returns-clause-room c = rw (c.len.ensures.len, c.owed_after.ensures.owed, c.room.ensures, ← c.self.view_is) refl
+
+pub returns-clause-ending : goal.returns-clause-ending
+unfolding is_ending answer_to fits
+returns-clause-ending c = λ ends.
+    let history = c.self.inside.history in
+    let fitted : fits (deeds history.past) (length history.past) history.room ≡ true = le-leb _ _ c.self.invariant.fitting in
+    let found = ending_fits history.opening history.past c.args.step c.args.reply history.room c.self.invariant.legal fitted
+    (rw (← c.self.view_is) at c.requires.answer) (rw (← c.self.view_is) at ends) in
+    rw (c.len.ensures.len, c.owed_after.ensures.owed, c.room.ensures, ← c.self.view_is) found

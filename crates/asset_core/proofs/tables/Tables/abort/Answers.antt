@@ -1,0 +1,7 @@
+use Rattle.std.proofs.Common.{◌∙◌}
+use Rattle.asset_trans.specs.Rows.{ended_as}
+use Rattle.asset_core.proofs.tables.Tables.abort.Goals as goal
+
+pub returns-then-is_live-clause-live : goal.returns-then-is_live-clause-live
+unfolding ended_as
+returns-then-is_live-clause-live c = λ alive. (c.end.ensures, c.undo.ensures, c.release.ensures)

@@ -1,7 +1,0 @@
-use Rattle.std.proofs.Common.{◌≡◌, reverse, take}
-use Rattle.asset_names.specs.Steps.{deeds}
-use Rattle.asset_core.specs.Tracks.{track_of}
-use Rattle.asset_core.proofs.tracks.track_entries.Given as goal
-
-abbrev pub invariant-entries : goal.invariant-entries
-invariant-entries l = l.track ≡ track_of (deeds (reverse (take l.entry-index l.entries))) l.t.0

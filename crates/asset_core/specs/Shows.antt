@@ -1,0 +1,45 @@
+-- How the tables stand for a history.
+use Rattle.std.specs.Prelude.{◌≡◌, ℕ, ℤ, Bool, cond, ◌==◌, List, [], ◌∷◌, filter, reverse, Option, Some, None, option_map}
+use Rattle.asset_names.specs.declared.operations.Op.{Op}
+use Rattle.asset_names.specs.declared.statuses.End.{End}
+use Rattle.asset_names.specs.declared.statuses.End.TheVariants as End'
+use Rattle.asset_names.specs.declared.steps.Step.{Step}
+use Rattle.asset_names.specs.Steps.{Opening, initiated, parent_of}
+use Rattle.asset_names.specs.Endings.{end_of, live, status}
+use Rattle.asset_names.specs.Operations.{Use, Operation, operations, opening_at, holds}
+use Rattle.asset_names.specs.Operations.Use.{reads, writes}
+use Rattle.asset_objects.specs.Cells.{Cell, Cells, fresh, written}
+use Rattle.asset_locks.specs.Table as Locks
+use Rattle.asset_trans.specs.Rows.{Entry, names_of, status_in, parent_in}
+
+-- What a write makes of an object, by how its owner ended. A committed write has nothing under it, an aborted
+-- one has gone, and that of a live name stands over what was there before.
+unfoldable pub placed : Option End → ℕ → ℤ → Cell → Cell
+placed (Some End'.Committed) owner v cell = fresh v
+placed (Some End'.Aborted) owner v cell = cell
+placed None owner v cell = written owner v cell
+
+-- what an operation makes of its object: a read leaves it
+unfoldable pub used : Option End → ℕ → Use → Cell → Cell
+used end owner reads cell = cell
+used end owner (writes v) cell = placed end owner v cell
+
+-- the cell of x after the operations, newest first, over its first value; `ends` says how each name ended
+unfoldable pub cell_after : (ℕ → Option End) → ℕ → ℤ → List Operation → Cell
+cell_after ends x first [] = fresh first
+cell_after ends x first (o ∷ older) = cond (o.object == x) (used (ends o.owner) o.owner o.use_of (cell_after ends x first older)) (cell_after ends x first older)
+
+-- the cell of an object after the steps, if the object exists
+unfoldable pub cell_of : Opening → List Step → ℕ → Option Cell
+cell_of opening past x = option_map (λ first. cell_after (end_of past) x first (operations past)) (opening_at opening x)
+
+-- The tables stand for the steps that were carried out: the transactions are those that were initiated, in
+-- order, each with its status and parent; the cell of each object is that of the history; the live ones are
+-- enrolled in order of initiation; and a lock carries an operation exactly where its owner holds the object by it.
+pub record Shows (opening : Opening) (past : List Step) (rows : List Entry) (objects : Cells) (table : Locks.Table) : Type 0 where
+  pub names : names_of rows ≡ reverse (initiated past)
+  pub statuses : (t : ℕ) → status_in rows t ≡ status past t
+  pub parents : (t : ℕ) → parent_in rows t ≡ parent_of past t
+  pub cells : (x : ℕ) → objects x ≡ cell_of opening past x
+  pub enrolled : Locks.names_in table ≡ filter (live past) (reverse (initiated past))
+  pub locks : (t x : ℕ) (op : Op) → Locks.carries table t x op ≡ holds past t x op

@@ -1,0 +1,111 @@
+-- The tables of the facility, and when a step finds them ready.
+use Rattle.std.specs.Prelude.{◌≡◌, ℕ, ℤ, pos, ◌+◌, ◌≤◌, ◌==◌, Bool, true, false, cond, List, [], map, length, Option, Some, None, is_some, unwrap_or}
+use Rattle.asset_names.specs.declared.operations.Op.{Op}
+use Rattle.asset_names.specs.declared.operations.Op.TheVariants as Op'
+use Rattle.asset_names.specs.declared.statuses.Status.TheVariants as Status'
+use Rattle.asset_names.specs.declared.steps.Step.{Step}
+use Rattle.asset_names.specs.declared.steps.Step.TheVariants.{Initiate, Begin, Read, Write, Complete, Commit, Abort, WaitFor}
+use Rattle.asset_names.specs.declared.replies.Reply.TheVariants as Reply'
+use Rattle.asset_names.specs.declared.replies.Outcome.{Outcome}
+use Rattle.asset_names.specs.declared.replies.Outcome.TheVariants.{Answer, Wait}
+use Rattle.asset_names.specs.Steps.{Opening, deeds}
+use Rattle.asset_names.specs.Endings.{is_live_status}
+use Rattle.asset_names.specs.Answers.{IsLegal}
+use Rattle.asset_names.specs.Room.{owed}
+use Rattle.asset_permits.specs.Allowed.{allows_in}
+use Rattle.asset_objects.specs.Cells.{cells, value_in, has_object}
+use Rattle.asset_locks.specs.Kept.{Kept, table_of}
+use Rattle.asset_locks.specs.Table as Locks
+use Rattle.asset_trans.specs.Rows.{Entry, row_in, status_in}
+use Rattle.asset_core.specs.declared.tables.Tables.{Tables}
+use Rattle.asset_core.specs.Recorded.{Recorded}
+use Rattle.asset_core.specs.Pending.{Pending}
+use Rattle.asset_core.specs.Shows.{Shows}
+
+-- the tables stand for the steps that were carried out
+abbrev pub Stand : Opening → List Step → Tables → Type 0
+Stand opening past tables = Shows opening past tables.trans (cells tables.objects) (table_of tables.locks)
+
+-- the object is free by the locks
+unfoldable pub is_free_for : Tables → ℕ → ℕ → Op → Bool
+is_free_for tables t x op = Locks.is_free_in (table_of tables.locks) (λ u. allows_in u t x op) t x op
+
+-- the value that a write asks for, and 0 of another step
+unfoldable pub value_asked : Step → ℤ
+value_asked (Write t x v) = v
+value_asked step = pos 0
+
+-- the value of an object, and 0 where there is none
+unfoldable pub value_or_zero : Tables → ℕ → ℤ
+value_or_zero tables x = unwrap_or (value_in (cells tables.objects) x) (pos 0)
+
+-- what a read that is not refused is answered
+unfoldable pub read_outcome : Tables → ℕ → ℕ → Outcome
+read_outcome tables t x = cond (is_free_for tables t x Op'.Read) (Answer (Reply'.Value (value_or_zero tables x))) Wait
+
+-- a running name is enrolled and runs
+pub record IsAtWork (tables : Tables) (t : ℕ) : Type 0 where
+  pub runs : status_in tables.trans t ≡ Status'.Running
+  pub enrolled : is_some (Locks.holder_in (table_of tables.locks) t) ≡ true
+
+-- a new name has no row in any table
+pub record IsNew (tables : Tables) (t : ℕ) : Type 0 where
+  pub no_row : row_in tables.trans t ≡ None
+  pub no_holder : Locks.holder_in (table_of tables.locks) t ≡ None
+
+-- what a step asks of the tables, where it is to be carried out
+abbrev pub IsReady : Step → Tables → Type 0
+IsReady (Initiate t parent) tables = IsNew tables t.0
+IsReady (Begin t) tables = status_in tables.trans t.0 ≡ Status'.Initiated
+IsReady (Read t x) tables = IsAtWork tables t.0 × (is_free_for tables t.0 x.0 Op'.Read ≡ true)
+IsReady (Write t x v) tables = IsAtWork tables t.0 × (is_free_for tables t.0 x.0 Op'.Write ≡ true) × (has_object (cells tables.objects) x.0 ≡ true)
+IsReady (Complete t) tables = status_in tables.trans t.0 ≡ Status'.Running
+IsReady (Commit t) tables = Unit {0}
+IsReady (Abort t) tables = Unit {0}
+IsReady (WaitFor t) tables = Unit {0}
+
+-- what a request asks of the tables, where it is to wait
+abbrev pub MayWait : Step → Tables → Type 0
+MayWait (Read t x) tables = IsAtWork tables t.0 × (is_free_for tables t.0 x.0 Op'.Read ≡ false)
+MayWait (Write t x v) tables = IsAtWork tables t.0 × (is_free_for tables t.0 x.0 Op'.Write ≡ false)
+MayWait step tables = Unit {0}
+
+-- who ends is released, if it was live
+unfoldable pub released : Tables → ℕ → Locks.Table
+released tables t = cond (is_live_status (status_in tables.trans t)) (Locks.release_in (λ n. n == t) (table_of tables.locks)) (table_of tables.locks)
+
+-- the locks after a step that was carried out
+unfoldable pub locks_after : Step → Tables → Locks.Table
+locks_after (Initiate t parent) tables = Locks.enrol_in t.0 (table_of tables.locks)
+locks_after (Read t x) tables = Locks.grant_in t.0 x Op'.Read (table_of tables.locks)
+locks_after (Write t x v) tables = Locks.grant_in t.0 x Op'.Write (table_of tables.locks)
+locks_after (Commit t) tables = released tables t.0
+locks_after (Abort t) tables = released tables t.0
+locks_after step tables = table_of tables.locks
+
+-- the locks after a request that waits
+unfoldable pub locks_waiting : Step → Tables → Locks.Table
+locks_waiting (Read t x) tables = Locks.wait_in t.0 x Op'.Read (table_of tables.locks)
+locks_waiting (Write t x v) tables = Locks.wait_in t.0 x Op'.Write (table_of tables.locks)
+locks_waiting step tables = table_of tables.locks
+
+-- the tables show what they did before
+pub record ShowAlike (later before : Tables) : Type 0 where
+  pub rows : later.trans ≡ before.trans
+  pub objects : cells later.objects ≡ cells before.objects
+  pub locks : table_of later.locks ≡ table_of before.locks
+
+-- the pending places in the table of locks
+unfoldable pub place_of : Locks.Holder → Pending
+place_of holder = record { name = holder.name; request = holder.place }
+
+unfoldable pub places_of : Kept → List Pending
+places_of kept = map place_of (table_of kept).holders
+
+-- how the facility is kept: the tables stand for its history, which is legal, and the entries that are owed fit
+-- with those that are there
+pub record IsKeptBy (history : Recorded) (tables : Tables) : Type 0 where
+  pub stand : Stand history.opening (deeds history.past) tables
+  pub legal : IsLegal history.opening history.past
+  pub fitting : length history.past + owed (deeds history.past) ≤ history.room
+  pub capacity : history.room ≤ 1000000

@@ -1,0 +1,331 @@
+//! The tables together: what they answer, and how a step that is carried out changes them.
+
+ghost use Rattle.std.specs.Prelude.{◌≡◌};
+ghost use Rattle.asset_core.specs.Tables.{value_asked};
+
+use asset_locks::Locks;
+use asset_names::{
+    End, NoMemory, Ob, Op, Outcome, Refusal, Reply, Status, Step, Txn, commit_outcome,
+    is_carried_out, refusal_to_abort, refusal_to_begin, refusal_to_find, refusal_to_initiate,
+    refusal_to_operate, refusal_to_work, wait_outcome,
+};
+use asset_objects::{Objects, ObjectsFault};
+use asset_permits::Permits;
+use asset_trans::Trans;
+use std::alloc::Global;
+
+/// The tables of objects, locks, permits and transactions. Which history they stand for, `Stand` says.
+#[derive(Drop)]
+pub struct Tables {
+    pub objects: Objects,
+    pub locks: Locks,
+    pub permits: Permits,
+    pub trans: Trans,
+}
+
+/// The value that a write asks for, and 0 of another step. A signed number out of a step is passed on as the
+/// result of a call, so that its range is known.
+#[tactic(auto, unfolding(crate::specs::Tables::value_asked))]
+fn value_asked(step: Step) -> i64
+    ensures { result ≡ value_asked step }
+{
+    match step {
+        Step::Write { v, .. } => v,
+        _ => 0,
+    }
+}
+
+impl Tables {
+    ghost use Rattle.std.specs.Prelude.{◌≡◌, ℤ, cond, List, [], ◌∷◌, ◌==◌, true, false, None, OnOk, OnErr, IfOk, IfErr};
+    ghost use Rattle.asset_names.specs.declared.steps.Step.{Step as Request};
+    ghost use Rattle.asset_names.specs.declared.operations.Op.{Op as Kind};
+    ghost use Rattle.asset_names.specs.Steps.{Opening, Entry, carries_out, deeds};
+    ghost use Rattle.asset_names.specs.Answers.{first_refusal, rules_for, unrefused, answer, takes_memory, unknown, ended, not_running, no_object};
+    ghost use Rattle.asset_objects.specs.Faults.{objects_of, IsObjectsFault};
+    ghost use Rattle.asset_names.specs.Sets.{HasNoDouble};
+    ghost use Rattle.asset_objects.specs.Cells.{cells, has_object};
+    ghost use Rattle.asset_objects.specs.Cells.{change_at, change_each, written, undone, settled};
+    ghost use Rattle.asset_locks.specs.Kept.{table_of, HaveOwners};
+    ghost use Rattle.asset_locks.specs.Table.{enrol_in, grant_in, wait_in, release_in};
+    ghost use Rattle.asset_trans.specs.Rows.{status_in, initiate_in, set_in};
+    ghost use Rattle.asset_names.proofs.LegalLemmas.{IsOrderly};
+    ghost use Rattle.asset_names.specs.declared.statuses.Status.{Status};
+    ghost use Rattle.asset_names.specs.Endings.{is_live_status};
+    ghost use Rattle.asset_names.specs.Operations.{exists};
+    ghost use Rattle.asset_core.specs.Tables.{value_asked, value_or_zero, read_outcome, Stand, IsReady, MayWait, IsAtWork, IsNew, is_free_for, locks_after, locks_waiting, places_of, ShowAlike};
+
+    /// The tables of an opening, before the first step.
+    pub fn open(alloc: Global, opening: &[(Ob, i64)]) -> Result<Tables, ObjectsFault>
+        ensures stand { IfOk result (λ tables. Stand opening.now [] tables) }
+        ensures places { IfOk result (λ tables. places_of tables.locks ≡ []) }
+        ensures different { OnOk result (HasNoDouble (objects_of opening.now)) }
+        ensures fault { IfErr result (λ fault. IsObjectsFault opening.now fault) }
+    {
+        Ok(Tables {
+            objects: Objects::open(alloc, opening)?,
+            locks: Locks::new(alloc),
+            permits: Permits::new(alloc),
+            trans: Trans::new(alloc),
+        })
+    }
+
+    /// The status of a transaction.
+    pub fn status(&self, t: Txn) -> Status
+        ensures { result ≡ status_in self.now.trans t.0 }
+    {
+        self.trans.status(t)
+    }
+
+    /// The first refusal of a step, if one applies.
+    fn refusal(&self, step: Step) -> Option<Refusal>
+        ensures { (opening : Opening) (past : List Request) → Stand opening past self.now → result ≡ first_refusal (rules_for opening past step) }
+    {
+        match step {
+            Step::Initiate { t, .. } => refusal_to_initiate(t, self.trans.status(t)),
+            Step::Begin { t } => refusal_to_begin(t, self.trans.status(t)),
+            Step::Read { t, x } => self.refusal_to_use(t, x),
+            Step::Write { t, x, .. } => self.refusal_to_use(t, x),
+            Step::Complete { t } => refusal_to_work(t, self.trans.status(t)),
+            Step::Commit { t } => refusal_to_find(t, self.trans.status(t)),
+            Step::WaitFor { t } => refusal_to_find(t, self.trans.status(t)),
+            Step::Abort { t } => refusal_to_abort(t, self.trans.status(t)),
+        }
+    }
+
+    /// Why `t` may not operate on `x`, if it may not.
+    fn refusal_to_use(&self, t: Txn, x: Ob) -> Option<Refusal>
+        ensures { (opening : Opening) (past : List Request) → Stand opening past self.now →
+            result ≡ first_refusal (unknown past t ∷ ended past t ∷ not_running past t ∷ no_object opening x ∷ []) }
+    {
+        let exists = self.objects.value(x).is_some();
+        refusal_to_operate(t, self.trans.status(t), x, exists)
+    }
+
+    /// The value of an object, and 0 where there is none.
+    #[tactic(auto, unfolding(crate::specs::Tables::value_or_zero))]
+    fn value_or_zero(&self, x: Ob) -> i64
+        ensures { result ≡ value_or_zero self.now x.0 }
+    {
+        match self.objects.value(x) {
+            Some(v) => v,
+            None => 0,
+        }
+    }
+
+    /// The outcome of a read that is not refused. Nothing changes.
+    #[tactic(auto, unfolding(crate::specs::Tables::is_free_for, crate::specs::Tables::read_outcome))]
+    fn read_outcome(&mut self, t: Txn, x: Ob) -> Outcome
+        ensures outcome { result ≡ read_outcome self.old t.0 x.0 }
+        ensures same { self.new ≡ self.old }
+    {
+        if self.locks.is_free(t, x, Op::Read, &mut self.permits) {
+            Outcome::Answer(Reply::Value(self.value_or_zero(x)))
+        } else {
+            Outcome::Wait
+        }
+    }
+
+    /// The outcome of a write, of whatever value, that is not refused. Nothing changes.
+    fn write_outcome(&mut self, t: Txn, x: Ob) -> Outcome
+        ensures outcome { (opening : Opening) (past : List Request) (v : ℤ) → Stand opening past self.old →
+            result ≡ unrefused opening past (Request.Write t x v) }
+        ensures same { self.new ≡ self.old }
+    {
+        if self.locks.is_free(t, x, Op::Write, &mut self.permits) {
+            Outcome::Answer(Reply::Done)
+        } else {
+            Outcome::Wait
+        }
+    }
+
+    /// The outcome of a step that is not refused. Nothing changes.
+    fn unrefused(&mut self, step: Step) -> Outcome
+        ensures outcome { (opening : Opening) (past : List Request) → Stand opening past self.old → first_refusal (rules_for opening past step) ≡ None →
+            result ≡ unrefused opening past step }
+        ensures same { self.new ≡ self.old }
+    {
+        match step {
+            Step::Initiate { .. } => Outcome::Answer(Reply::Done),
+            Step::Begin { .. } => Outcome::Answer(Reply::Done),
+            Step::Complete { .. } => Outcome::Answer(Reply::Done),
+            Step::Read { t, x } => self.read_outcome(t, x),
+            Step::Write { t, x, .. } => self.write_outcome(t, x),
+            Step::Commit { t } => {
+                let status = self.trans.status(t);
+                commit_outcome(status, status.is_completed())
+            }
+            Step::Abort { .. } => Outcome::Answer(Reply::Aborted),
+            Step::WaitFor { t } => wait_outcome(self.trans.status(t)),
+        }
+    }
+
+    /// The answer to a step. Nothing changes.
+    pub fn answer(&mut self, step: Step) -> Outcome
+        ensures answer { (opening : Opening) (past : List Request) → Stand opening past self.old → result ≡ answer opening past step }
+        ensures same { self.new ≡ self.old }
+    {
+        match self.refusal(step) {
+            Some(refusal) => Outcome::Answer(Reply::Refused(refusal)),
+            None => self.unrefused(step),
+        }
+    }
+
+    /// Carries a step out, if the reply says so. Where memory runs out, the tables show what they did before.
+    pub fn follow(&mut self, step: Step, reply: Reply) -> Result<(), NoMemory>
+        requires ready { carries_out step reply ≡ true → IsReady step self.old }
+        ensures stand { OnOk result ((opening : Opening) (older : List Entry) → Stand opening (deeds older) self.old → IsOrderly (deeds older) → Stand opening (deeds ((step, reply) ∷ older)) self.new) }
+        ensures locks { OnOk result (table_of self.new.locks ≡ cond (carries_out step reply) (locks_after step self.old) (table_of self.old.locks)) }
+        ensures memory { OnErr result ((takes_memory step ≡ true) × (carries_out step reply ≡ true)) }
+        ensures unchanged { OnErr result (ShowAlike self.new self.old) }
+    {
+        if is_carried_out(step, reply) {
+            self.carry_out(step)
+        } else {
+            Ok(())
+        }
+    }
+
+    /// Carries a step out. Where memory runs out, the tables show what they did before.
+    pub fn carry_out(&mut self, step: Step) -> Result<(), NoMemory>
+        requires ready { IsReady step self.old }
+        ensures stand { OnOk result ((opening : Opening) (past : List Request) → Stand opening past self.old → IsOrderly past → Stand opening (step ∷ past) self.new) }
+        ensures locks { OnOk result (table_of self.new.locks ≡ locks_after step self.old) }
+        ensures memory { OnErr result (takes_memory step ≡ true) }
+        ensures unchanged { OnErr result (ShowAlike self.new self.old) }
+    {
+        match step {
+            Step::Initiate { t, parent } => self.initiate(t, parent),
+            Step::Begin { t } => {
+                self.trans.begin(t);
+                Ok(())
+            }
+            Step::Read { t, x } => self.read(t, x),
+            Step::Write { t, x, .. } => self.write(t, x, step),
+            Step::Complete { t } => {
+                self.trans.complete(t);
+                Ok(())
+            }
+            Step::Commit { t } => {
+                self.commit(t);
+                Ok(())
+            }
+            Step::Abort { t } => {
+                self.abort(t);
+                Ok(())
+            }
+            Step::WaitFor { .. } => Ok(()),
+        }
+    }
+
+    /// Initiates a new name. Its enrolment goes again where its row finds no memory.
+    fn initiate(&mut self, t: Txn, parent: Option<Txn>) -> Result<(), NoMemory>
+        requires new { IsNew self.old t.0 }
+        ensures rows { OnOk result (self.new.trans ≡ initiate_in self.old.trans t parent) }
+        ensures objects { OnOk result (cells self.new.objects ≡ cells self.old.objects) }
+        ensures locks { OnOk result (table_of self.new.locks ≡ enrol_in t.0 (table_of self.old.locks)) }
+        ensures unchanged { OnErr result (ShowAlike self.new self.old) }
+    {
+        self.locks.enrol(t)?;
+        match self.trans.initiate(t, parent) {
+            Ok(()) => Ok(()),
+            Err(fault) => {
+                self.locks.release(t);
+                Err(fault)
+            }
+        }
+    }
+
+    /// Takes the lock of a read that is free.
+    fn read(&mut self, t: Txn, x: Ob) -> Result<(), NoMemory>
+        requires work { IsAtWork self.old t.0 }
+        requires free { is_free_for self.old t.0 x.0 Kind.Read ≡ true }
+        ensures rows { self.new.trans ≡ self.old.trans }
+        ensures objects { cells self.new.objects ≡ cells self.old.objects }
+        ensures locks { OnOk result (table_of self.new.locks ≡ grant_in t.0 x Kind.Read (table_of self.old.locks)) }
+        ensures owners { OnOk result (HaveOwners ((table_of self.old.locks).locks_on x.0)) }
+        ensures unchanged { OnErr result (table_of self.new.locks ≡ table_of self.old.locks) }
+    {
+        self.locks.ask(t, x, Op::Read, &mut self.permits)?;
+        Ok(())
+    }
+
+    /// Writes what the step asks, where it is free. The record's memory is reserved before the lock is asked for.
+    fn write(&mut self, t: Txn, x: Ob, step: Step) -> Result<(), NoMemory>
+        requires work { IsAtWork self.old t.0 }
+        requires free { is_free_for self.old t.0 x.0 Kind.Write ≡ true }
+        requires exists { has_object (cells self.old.objects) x.0 ≡ true }
+        ensures rows { self.new.trans ≡ self.old.trans }
+        ensures objects { OnOk result (cells self.new.objects ≡ change_at x.0 (written t.0 (value_asked step)) (cells self.old.objects)) }
+        ensures locks { OnOk result (table_of self.new.locks ≡ grant_in t.0 x Kind.Write (table_of self.old.locks)) }
+        ensures owners { OnOk result (HaveOwners ((table_of self.old.locks).locks_on x.0)) }
+        ensures unchanged { OnErr result (ShowAlike self.new self.old) }
+    {
+        self.objects.reserve_write()?;
+        self.locks.ask(t, x, Op::Write, &mut self.permits)?;
+        self.objects.write(t, x, value_asked(step));
+        Ok(())
+    }
+
+    /// Commits `t`, where it is live: its writes stand for good, and its locks go.
+    fn commit(&mut self, t: Txn)
+        ensures live { is_live_status (status_in self.old.trans t.0) ≡ true →
+            (self.new.trans ≡ set_in (λ n. n == t.0) Status.Committed self.old.trans)
+            × (cells self.new.objects ≡ change_each (settled (λ n. n == t.0)) (cells self.old.objects))
+            × (table_of self.new.locks ≡ release_in (λ n. n == t.0) (table_of self.old.locks)) }
+        ensures ended { is_live_status (status_in self.old.trans t.0) ≡ false → self.new ≡ self.old }
+    {
+        if self.trans.status(t).is_live() {
+            self.objects.settle(t);
+            self.locks.release(t);
+            self.trans.end(t, End::Committed);
+        }
+    }
+
+    /// Aborts `t`, where it is live: its writes are undone, and its locks go.
+    fn abort(&mut self, t: Txn)
+        ensures live { is_live_status (status_in self.old.trans t.0) ≡ true →
+            (self.new.trans ≡ set_in (λ n. n == t.0) Status.Aborted self.old.trans)
+            × (cells self.new.objects ≡ change_each (undone (λ n. n == t.0)) (cells self.old.objects))
+            × (table_of self.new.locks ≡ release_in (λ n. n == t.0) (table_of self.old.locks)) }
+        ensures ended { is_live_status (status_in self.old.trans t.0) ≡ false → self.new ≡ self.old }
+    {
+        if self.trans.status(t).is_live() {
+            self.objects.undo(t);
+            self.locks.release(t);
+            self.trans.end(t, End::Aborted);
+        }
+    }
+
+    /// Keeps a request that waits in its asker's pending place. It takes no memory.
+    pub fn wait(&mut self, step: Step)
+        requires waits { MayWait step self.old }
+        ensures rows { self.new.trans ≡ self.old.trans }
+        ensures objects { self.new.objects ≡ self.old.objects }
+        ensures locks { table_of self.new.locks ≡ locks_waiting step self.old }
+    {
+        match step {
+            Step::Read { t, x } => self.wait_for(t, x, Op::Read),
+            Step::Write { t, x, .. } => self.wait_for(t, x, Op::Write),
+            Step::Initiate { .. } => {}
+            Step::Begin { .. } => {}
+            Step::Complete { .. } => {}
+            Step::Commit { .. } => {}
+            Step::Abort { .. } => {}
+            Step::WaitFor { .. } => {}
+        }
+    }
+
+    /// Keeps a request that is not free in the pending place of `t`.
+    fn wait_for(&mut self, t: Txn, x: Ob, op: Op)
+        requires work { IsAtWork self.old t.0 }
+        requires hindered { is_free_for self.old t.0 x.0 op ≡ false }
+        ensures rows { self.new.trans ≡ self.old.trans }
+        ensures objects { self.new.objects ≡ self.old.objects }
+        ensures locks { table_of self.new.locks ≡ wait_in t.0 x op (table_of self.old.locks) }
+    {
+        match self.locks.ask(t, x, op, &mut self.permits) {
+            Ok(_) => {}
+            Err(_) => unreachable!(),
+        }
+    }
+}

@@ -1,0 +1,49 @@
+-- Who is enrolled after each change of the table.
+use Rattle.std.proofs.Common.{◌≡◌, ℕ, Bool, true, false, cond, eqb, ◌||◌, List, [], ◌∷◌, Some, None, is_some, refl, ◌∙◌, ap}
+use Rattle.std.specs.Prelude.{Option, find, option_map}
+use Rattle.std.specs.Option.{option_or}
+use Rattle.std.proofs.lemmas.List.Folds.{find-append}
+use Rattle.asset_names.specs.declared.names.Ob.{Ob}
+use Rattle.asset_names.specs.declared.operations.Op.{Op}
+use Rattle.asset_locks.specs.Table.{Holder, Table, lock_of, change_holder, granted_row, waiting_row, no_locks, enrol_in, wait_in, grant_in, release_in, holder_in}
+use Rattle.asset_locks.specs.Kept.{after_ask}
+use Rattle.asset_locks.proofs.SoundLemmas.{named, change_one, name_one, find_mapped, find_kept}
+
+mapped_some : {X Y : Type 0} (f : X → Y) (o : Option X) → is_some (option_map f o) ≡ is_some o
+mapped_some f None = refl
+mapped_some f (Some x) = refl
+
+either_some : {X : Type 0} (o p : Option X) → is_some (option_or o p) ≡ (is_some o || is_some p)
+either_some None p = refl
+either_some (Some x) p = refl
+
+if_some : {X : Type 0} (b : Bool) (x : X) → is_some (cond b (Some x) None) ≡ b
+if_some true x = refl
+if_some false x = refl
+
+-- nobody, at first
+pub enrolled_first : (n : ℕ) → is_some (holder_in no_locks n) ≡ false
+unfolding holder_in no_locks
+enrolled_first n = refl
+
+-- an enrolment adds its name
+pub enrolled_more : (t n : ℕ) (table : Table) → is_some (holder_in (enrol_in t table) n) ≡ (is_some (holder_in table n) || eqb t n)
+unfolding holder_in enrol_in
+enrolled_more t n table =
+    let new : Holder = record { name = t; place = None; held = [] } in
+    ap is_some (find-append (named n) table.holders (new ∷ [])) ∙ either_some (find (named n) table.holders) (find (named n) (new ∷ [])) ∙ ap (λ b. is_some (find (named n) table.holders) || b) (if_some (eqb t n) new)
+
+enrolled_changed : (t n : ℕ) (change : Holder → Holder) → ((holder : Holder) → (change holder).name ≡ holder.name) → (holders : List Holder) → is_some (find (named n) (change_holder t change holders)) ≡ is_some (find (named n) holders)
+unfolding change_holder
+enrolled_changed t n change same holders = ap is_some (find_mapped n (change_one t change) (name_one t change same) holders) ∙ mapped_some _ (find (named n) holders)
+
+-- a request leaves who is enrolled
+pub enrolled_asked : (free : Bool) (t n : ℕ) (x : Ob) (op : Op) (table : Table) → is_some (holder_in (after_ask free t x op table) n) ≡ is_some (holder_in table n)
+unfolding holder_in after_ask grant_in wait_in granted_row waiting_row
+enrolled_asked true t n x op table = enrolled_changed t n (granted_row x (lock_of t (table.locks_on x.0))) (λ holder. refl) table.holders
+enrolled_asked false t n x op table = enrolled_changed t n (waiting_row x op) (λ holder. refl) table.holders
+
+-- a release leaves who is not released
+pub enrolled_kept : (test : ℕ → Bool) (n : ℕ) (table : Table) → test n ≡ false → is_some (holder_in (release_in test table) n) ≡ is_some (holder_in table n)
+unfolding holder_in release_in
+enrolled_kept test n table free = ap is_some (find_kept test n free table.holders)

@@ -1,0 +1,31 @@
+use Rattle.std.proofs.Common.{◌≡◌, ◌∙◌, ap, sym, subst, eqb, refl, None}
+use Rattle.indexmap.proofs.CallerLemmas.{insert_entry-new}
+use Rattle.asset_names.specs.declared.names.Txn.{Txn}
+use Rattle.asset_locks.specs.declared.holder.Holder.{Holder as Entry}
+use Rattle.asset_locks.specs.Table.{holder_in, enrol_in}
+use Rattle.asset_locks.specs.Kept.{Kept, table_of, IsSound}
+use Rattle.asset_locks.proofs.TableLemmas.{new_row, enrolled}
+use Rattle.asset_locks.proofs.SoundLemmas.{sound_enrol, unlocked}
+use Rattle.asset_locks.proofs.table.Locks.enrol.Goals as goal
+
+pub invariant_of-self : goal.invariant_of-self
+invariant_of-self c =
+    let inside = c.self.inside in
+    let w : Entry = record { place = None; held = c.new.result } in
+    let none = new_row c.args.t.0 inside.holders.entries inside.objects.entries (subst (λ (k : Kept). holder_in (table_of k) c.args.t.0 ≡ None) (sym c.self.view_is) c.requires.new) in
+    let entries = c.in-Ok.ensures.entries ∙ insert_entry-new (λ (a b : Txn). eqb a.0 b.0) inside.holders c.args.t w none in
+    subst IsSound (sym (enrolled c.args.t inside.holders.entries c.insert.new.self.entries inside.objects.entries w refl c.new.ensures.items entries)) (sound_enrol c.args.t.0 _ c.self.invariant)
+
+pub returns-in-Ok-clause-done : goal.returns-in-Ok-clause-done
+returns-in-Ok-clause-done c =
+    let inside = c.self.inside in
+    let w : Entry = record { place = None; held = c.new.result } in
+    let none = new_row c.args.t.0 inside.holders.entries inside.objects.entries (subst (λ (k : Kept). holder_in (table_of k) c.args.t.0 ≡ None) (sym c.self.view_is) c.requires.new) in
+    let entries = c.in-Ok.ensures.entries ∙ insert_entry-new (λ (a b : Txn). eqb a.0 b.0) inside.holders c.args.t w none in
+    enrolled c.args.t inside.holders.entries c.insert.new.self.entries inside.objects.entries w refl c.new.ensures.items entries ∙ ap (λ (k : Kept). enrol_in c.args.t.0 (table_of k)) c.self.view_is
+
+pub returns-in-Ok-clause-unlocked : goal.returns-in-Ok-clause-unlocked
+returns-in-Ok-clause-unlocked c = rw (← c.self.view_is) (unlocked c.args.t.0 _ c.self.invariant (rw (← c.self.view_is) at c.requires.new))
+
+pub returns-clause-unlocked : goal.returns-clause-unlocked
+returns-clause-unlocked c = rw (← c.self.view_is) (unlocked c.args.t.0 _ c.self.invariant (rw (← c.self.view_is) at c.requires.new))

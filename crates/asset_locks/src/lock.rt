@@ -1,0 +1,200 @@
+//! One lock, and the locks of one object.
+
+use crate::locks::LockState;
+use asset_names::{Ob, Op, Txn};
+use asset_permits::Permits;
+use smallvec::SmallVec;
+use std::marker::Model;
+
+/// Whether Read is among some operations, and whether Write is.
+type Carried = (bool, bool);
+
+/// The locks of one object, in order of first grant. Most objects have few.
+pub(crate) type Row = SmallVec<Lock, 4>;
+
+/// A lock: its owner, the operations that it carries, and whether it is granted.
+#[derive(Clone, Copy)]
+pub(crate) struct Lock {
+    owner: Txn,
+    ops: Carried,
+    granted: bool,
+}
+
+impl Model for Lock {
+    ghost use Rattle.asset_locks.specs.Table.{Lock as Shown};
+
+    ghost Value = { Shown };
+
+    ghost view = { λ lock. record { owner = lock.owner.0; ops = lock.ops; granted = lock.granted } };
+
+    ghost inverse = { λ shown. record { owner = record { 0 = shown.owner }; ops = shown.ops; granted = shown.granted } };
+}
+
+/// What stands in the inline places of a row that no lock fills.
+impl Default for Lock {
+    fn default() -> Lock {
+        Lock {
+            owner: Txn(0),
+            ops: (false, false),
+            granted: false,
+        }
+    }
+}
+
+impl Lock {
+    ghost use Rattle.std.specs.Prelude.{◌≡◌};
+    ghost use Rattle.asset_permits.specs.Allowed.{allows_in};
+    ghost use Rattle.asset_locks.specs.Table.{is_of, keeps_off, beside, state_of};
+
+    /// Whether the lock is the transaction's.
+    #[tactic(auto, unfolding(crate::specs::Table::is_of))]
+    fn is_of(&self, t: Txn) -> bool
+        ensures { result ≡ is_of t.0 self.now }
+    {
+        self.owner == t
+    }
+
+    /// Whether the lock keeps `t` from doing `op` on `x`, the object that it is on.
+    #[tactic(auto, unfolding(crate::specs::Table::is_of, crate::specs::Table::keeps_off))]
+    fn keeps_off(&self, t: Txn, x: Ob, op: Op, permits: &mut Permits) -> bool
+        ensures answer { result ≡ keeps_off (λ u. allows_in u t.0 x.0 op) t.0 op self.now }
+        ensures permits { permits.new ≡ permits.old }
+    {
+        self.owner != t && one_conflicts(self.ops, op) && !permits.allows(self.owner, t, x, op)
+    }
+
+    /// What becomes of the lock where `t` is granted a lock with these operations.
+    #[tactic(auto, unfolding(crate::specs::Table::is_of, crate::specs::Table::beside))]
+    fn settle(&mut self, t: Txn, ops: Carried)
+        ensures { self.new ≡ beside t.0 ops self.old }
+    {
+        if self.owner == t {
+            self.ops = ops;
+            self.granted = true;
+        } else if both_conflict(self.ops, ops) {
+            self.granted = false;
+        }
+    }
+
+    /// Its state.
+    #[tactic(auto, unfolding(crate::specs::Table::state_of))]
+    pub(crate) fn state(&self) -> LockState
+        ensures { result ≡ state_of self.now }
+    {
+        if self.granted {
+            LockState::Granted
+        } else {
+            LockState::Suspended
+        }
+    }
+}
+
+ghost use Rattle.std.specs.Prelude.{◌≡◌, ◌==◌, not, map, filter, is_some};
+ghost use Rattle.std.specs.List.{list_any};
+ghost use Rattle.smallvec.specs.SmallVec.{HasRoomFor};
+ghost use Rattle.asset_names.specs.Operations.{conflict, has_op};
+ghost use Rattle.asset_permits.specs.Allowed.{allows_in};
+ghost use Rattle.asset_locks.specs.Kept.{without};
+ghost use Rattle.asset_locks.specs.Table.{one_conflicts, both_conflict, with_op, carried_with, keeps_off, beside, lock_of, granted_on};
+
+/// Whether any of the operations conflicts with `op`.
+#[tactic(auto, unfolding(crate::specs::Table::one_conflicts, asset_names::specs::Operations::conflict))]
+fn one_conflicts(ops: Carried, op: Op) -> bool
+    ensures { result ≡ one_conflicts ops op }
+{
+    match op {
+        Op::Read => ops.1,
+        Op::Write => ops.0 || ops.1,
+    }
+}
+
+/// Whether any of the operations conflicts with any of the others.
+#[tactic(auto, unfolding(crate::specs::Table::both_conflict))]
+fn both_conflict(ops: Carried, others: Carried) -> bool
+    ensures { result ≡ both_conflict ops others }
+{
+    (others.0 && one_conflicts(ops, Op::Read)) || (others.1 && one_conflicts(ops, Op::Write))
+}
+
+/// The operations with one more.
+#[tactic(auto, unfolding(crate::specs::Table::with_op))]
+fn with_op(op: Op, ops: Carried) -> Carried
+    ensures { result ≡ with_op op ops }
+{
+    match op {
+        Op::Read => (true, ops.1),
+        Op::Write => (ops.0, true),
+    }
+}
+
+/// The lock of `t`, if it has one.
+#[tactic(auto, unfolding(crate::specs::Table::lock_of))]
+pub(crate) fn lock_of(locks: &[Lock], t: Txn) -> Option<Lock>
+    ensures { result ≡ lock_of t.0 locks.now }
+{
+    locks.iter().copied().find(|lock| lock.is_of(t))
+}
+
+/// The operations that a lock carries, if there is one, and `op`.
+#[tactic(auto, unfolding(crate::specs::Table::carried_with))]
+fn carried_with(op: Op, lock: Option<Lock>) -> Carried
+    ensures { result ≡ carried_with op lock }
+{
+    match lock {
+        Some(lock) => with_op(op, lock.ops),
+        None => with_op(op, (false, false)),
+    }
+}
+
+/// Whether one of the locks on `x` keeps `t` from doing `op`.
+pub(crate) fn is_kept_off(locks: &[Lock], t: Txn, x: Ob, op: Op, permits: &mut Permits) -> bool
+    ensures answer { result ≡ list_any (keeps_off (λ u. allows_in u t.0 x.0 op) t.0 op) locks.now }
+    ensures permits { permits.new ≡ permits.old }
+{
+    'locks: for lock in locks {
+        if lock.keeps_off(t, x, op, permits) {
+            return true;
+        }
+    }
+    false
+}
+
+/// Settles each of the locks where `t` is granted a lock with these operations.
+fn settle_each(locks: &mut [Lock], t: Txn, ops: Carried)
+    ensures { locks.new ≡ map (beside t.0 ops) locks.old }
+{
+    'locks: for lock in locks.iter_mut() {
+        lock.settle(t, ops);
+    }
+}
+
+/// Grants `op` to `t` among the locks of an object, and says whether `t` had none before.
+pub(crate) fn grant_among(locks: &mut Row, t: Txn, op: Op) -> bool
+    requires { HasRoomFor locks.old 1 }
+    ensures granted { locks.new.items ≡ granted_on t.0 op locks.old.items }
+    ensures is_new { result ≡ not (is_some (lock_of t.0 locks.old.items)) }
+{
+    let before = lock_of(locks.as_slice(), t);
+    let ops = carried_with(op, before);
+    settle_each(locks.as_mut_slice(), t, ops);
+    let is_new = before.is_none();
+    if is_new {
+        locks.push_reserved(Lock {
+            owner: t,
+            ops,
+            granted: true,
+        });
+    }
+    is_new
+}
+
+/// Takes the lock of `t` away.
+pub(crate) fn release_among(locks: &mut Row, t: Txn)
+    ensures { locks.new.items ≡ without t.0 locks.old.items }
+{
+    locks.retain(
+        |lock: &mut Lock| -> bool
+            ensures { (result ≡ not (lock.old.owner == t.0)) × (lock.new ≡ lock.old) }
+        { !lock.is_of(t) },
+    );
+}

@@ -1,0 +1,19 @@
+//! Locks on objects.
+
+/// The state of a lock.
+#[derive(Clone, Copy, Debug, PartialEq, Eq)]
+pub enum LockState {
+    /// Its owner may go on.
+    Granted,
+    /// A later request was granted in conflict with it. It still holds off whom its owner does not
+    /// allow, and its owner has to ask again.
+    Suspended,
+}
+
+/// What becomes of a request.
+#[derive(Clone, Copy, Debug, PartialEq, Eq)]
+pub enum Asked {
+    Granted,
+    /// It waits, and stands in the asker's pending place.
+    Pending,
+}

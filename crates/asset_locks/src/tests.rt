@@ -1,0 +1,126 @@
+//! Each public call on worked values.
+
+ghost use Rattle.std.specs.Prelude.{◌≡◌, ℕ, ◌==◌, ◌||◌, true, false, is_some, OnOk};
+ghost use Rattle.asset_locks.specs.Table.{holder_in};
+ghost use Rattle.asset_locks.specs.Kept.{table_of};
+
+use crate::{Asked, LockState, Locks};
+use asset_names::{NoMemory, Ob, Op, Txn};
+use asset_permits::Permits;
+use std::test::Fail;
+
+/// Enrols a name that was not enrolled. Where memory runs out once, the same call is made again.
+fn enrol(locks: &mut Locks, t: u64) -> Result<(), NoMemory>
+    requires { is_some (holder_in (table_of locks.old) t) ≡ false }
+    ensures { OnOk result ((n : ℕ) → is_some (holder_in (table_of locks.new) n) ≡ (is_some (holder_in (table_of locks.old) n) || t == n)) }
+{
+    match locks.enrol(Txn(t)) {
+        Ok(()) => Ok(()),
+        Err(NoMemory) => locks.enrol(Txn(t)),
+    }
+}
+
+/// Asks where nobody permits anything. Where memory runs out once, the same call is made again.
+fn ask(locks: &mut Locks, t: u64, x: u64, op: Op, permits: &mut Permits) -> Result<Asked, NoMemory>
+    requires { is_some (holder_in (table_of locks.old) t) ≡ true }
+    ensures { (n : ℕ) → is_some (holder_in (table_of locks.new) n) ≡ is_some (holder_in (table_of locks.old) n) }
+{
+    match locks.ask(Txn(t), Ob(x), op, permits) {
+        Ok(asked) => Ok(asked),
+        Err(NoMemory) => locks.ask(Txn(t), Ob(x), op, permits),
+    }
+}
+
+/// Releases a name.
+fn release(locks: &mut Locks, t: u64)
+    ensures { (n : ℕ) → (n == t) ≡ false → is_some (holder_in (table_of locks.new) n) ≡ is_some (holder_in (table_of locks.old) n) }
+{
+    locks.release(Txn(t))
+}
+
+/// A table in which nobody is enrolled.
+fn empty(rt: &HostRuntime) -> Locks
+    ensures { (n : ℕ) → is_some (holder_in (table_of result) n) ≡ false }
+{
+    Locks::new(rt.alloc())
+}
+
+/// A table in which 7, 9 and 8 are enrolled, in this order, and 7 has done an operation on 1. Nobody
+/// permits anything.
+#[derive(Drop)]
+struct Three {
+    locks: Locks,
+    permits: Permits,
+    ghost eight: { is_some (holder_in (table_of locks) 8) ≡ true },
+    ghost nine: { is_some (holder_in (table_of locks) 9) ≡ true },
+}
+
+impl Three {
+    fn new(rt: &HostRuntime, op: Op) -> Result<Three, NoMemory> {
+        let mut permits = Permits::new(rt.alloc());
+        let mut locks = empty(rt);
+        enrol(&mut locks, 7)?;
+        enrol(&mut locks, 9)?;
+        enrol(&mut locks, 8)?;
+        ask(&mut locks, 7, 1, op, &mut permits)?;
+        Ok(Three { locks, permits })
+    }
+
+    fn eight_asks(&mut self, x: u64, op: Op) -> Result<Asked, NoMemory> {
+        ask(&mut self.locks, 8, x, op, &mut self.permits)
+    }
+
+    fn nine_asks(&mut self, x: u64, op: Op) -> Result<Asked, NoMemory> {
+        ask(&mut self.locks, 9, x, op, &mut self.permits)
+    }
+
+    fn release_seven(&mut self) {
+        release(&mut self.locks, 7)
+    }
+
+    fn is_free_for_eight(&mut self, op: Op) -> bool {
+        self.locks.is_free(Txn(8), Ob(1), op, &mut self.permits)
+    }
+}
+
+#[test]
+fn waiter_goes_on_after_release(rt: HostRuntime) -> Result<(), Fail> {
+    let mut three = Three::new(&rt, Op::Write)?;
+    assert_eq!(rt; three.eight_asks(1, Op::Read)?, Asked::Pending);
+    assert_eq!(rt; three.locks.waiters(Ob(1), 0), Some((Txn(8), Op::Read)));
+    assert_eq!(rt; three.locks.waiters(Ob(1), 1), None);
+    assert_eq!(rt; three.locks.status(Txn(7), Ob(1)), Some(LockState::Granted));
+    assert_eq!(rt; three.locks.status(Txn(8), Ob(1)), None);
+    assert_eq!(rt; three.locks.held_by(Txn(7), 0), Some(Ob(1)));
+    assert_eq!(rt; three.locks.held_by(Txn(7), 1), None);
+    assert!(rt; !three.is_free_for_eight(Op::Read));
+    three.release_seven();
+    assert!(rt; three.is_free_for_eight(Op::Read));
+    assert_eq!(rt; three.eight_asks(1, Op::Read)?, Asked::Granted);
+    assert_eq!(rt; three.locks.waiters(Ob(1), 0), None);
+    Ok(())
+}
+
+#[test]
+fn waiters_come_in_order_of_enrolment(rt: HostRuntime) -> Result<(), Fail> {
+    let mut three = Three::new(&rt, Op::Read)?;
+    assert_eq!(rt; three.eight_asks(1, Op::Write)?, Asked::Pending);
+    assert_eq!(rt; three.nine_asks(1, Op::Write)?, Asked::Pending);
+    assert_eq!(rt; three.locks.waiters(Ob(1), 0), Some((Txn(9), Op::Write)));
+    assert_eq!(rt; three.locks.waiters(Ob(1), 1), Some((Txn(8), Op::Write)));
+    assert_eq!(rt; three.locks.waiters(Ob(2), 0), None);
+    Ok(())
+}
+
+#[test]
+fn readers_share_and_a_writer_keeps_its_place(rt: HostRuntime) -> Result<(), Fail> {
+    let mut three = Three::new(&rt, Op::Read)?;
+    assert_eq!(rt; three.eight_asks(1, Op::Read)?, Asked::Granted);
+    assert_eq!(rt; three.locks.status(Txn(7), Ob(1)), Some(LockState::Granted));
+    assert_eq!(rt; three.eight_asks(2, Op::Read)?, Asked::Granted);
+    assert_eq!(rt; three.eight_asks(2, Op::Write)?, Asked::Granted);
+    assert_eq!(rt; three.locks.held_by(Txn(8), 0), Some(Ob(1)));
+    assert_eq!(rt; three.locks.held_by(Txn(8), 1), Some(Ob(2)));
+    assert_eq!(rt; three.locks.held_by(Txn(8), 2), None);
+    Ok(())
+}

@@ -1,0 +1,50 @@
+//! Outcomes of steps that are not refused, by the status of their transaction.
+
+ghost use Rattle.std.specs.Prelude.{◌≡◌};
+ghost use Rattle.asset_names.specs.Steps.{carries_out};
+ghost use Rattle.asset_names.specs.Answers.{commit_outcome, wait_outcome};
+
+use crate::replies::{Outcome, Reply};
+use crate::statuses::Status;
+use crate::steps::Step;
+
+/// The outcome of a commit of a transaction of this status, where `ready` says whether each member of its
+/// class has completed.
+#[tactic(auto, unfolding(crate::specs::Answers::commit_outcome))]
+pub fn commit_outcome(status: Status, ready: bool) -> Outcome
+    ensures { result ≡ commit_outcome status ready }
+{
+    match status {
+        Status::Committed => Outcome::Answer(Reply::Committed),
+        Status::Aborted => Outcome::Answer(Reply::Aborted),
+        _ if ready => Outcome::Answer(Reply::Committed),
+        _ => Outcome::Wait,
+    }
+}
+
+/// The outcome of a wait for a transaction of this status.
+#[tactic(auto, unfolding(crate::specs::Answers::wait_outcome))]
+pub fn wait_outcome(status: Status) -> Outcome
+    ensures { result ≡ wait_outcome status }
+{
+    match status {
+        Status::Completed => Outcome::Answer(Reply::Done),
+        Status::Committed => Outcome::Answer(Reply::Committed),
+        Status::Aborted => Outcome::Answer(Reply::Aborted),
+        Status::Unknown | Status::Initiated | Status::Running => Outcome::Wait,
+    }
+}
+
+/// Whether a step that got this reply was carried out.
+#[tactic(auto, unfolding(crate::specs::Steps::carries_out))]
+pub fn is_carried_out(step: Step, reply: Reply) -> bool
+    ensures { result ≡ carries_out step reply }
+{
+    match step {
+        Step::Read { .. } => matches!(reply, Reply::Value(_)),
+        Step::Commit { .. } => matches!(reply, Reply::Committed),
+        Step::Abort { .. } => matches!(reply, Reply::Aborted),
+        Step::WaitFor { .. } => false,
+        _ => matches!(reply, Reply::Done),
+    }
+}

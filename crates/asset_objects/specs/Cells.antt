@@ -1,0 +1,82 @@
+-- The table of objects: of each object a base and the writes that stand over it.
+use Rattle.std.specs.Prelude.{ℕ, ℤ, Bool, cond, not, ◌==◌, List, [], ◌∷◌, filter, find, Option, option_map, is_some}
+use Rattle.asset_names.specs.Steps.{Opening}
+use Rattle.asset_names.specs.Operations.{opening_at}
+
+-- a write that stands: whose it is, and what it wrote
+pub record Written : Type 0 where
+  pub owner : ℕ
+  pub value : ℤ
+
+-- an object: its base, and the writes that stand over the base, newest first
+pub record Cell : Type 0 where
+  pub base : ℤ
+  pub records : List Written
+
+-- the cell of each object that exists
+abbrev pub Cells : Type 0
+Cells = ℕ → Option Cell
+
+-- the objects, each with its cell, and whether there is room for one more write
+pub record Table : Type 0 where
+  pub rows : List (ℕ × Cell)
+  pub reserved : Bool
+
+-- the cells of a table
+unfoldable pub cells : Table → Cells
+cells table x = option_map (λ (row : ℕ × Cell). row.1) (find (λ (row : ℕ × Cell). row.0 == x) table.rows)
+
+-- an object at its opening value, without a write
+unfoldable pub fresh : ℤ → Cell
+fresh value = record { base = value; records = [] }
+
+-- the cells of an opening
+unfoldable pub opened : Opening → Cells
+opened opening x = option_map fresh (opening_at opening x)
+
+-- the value of the newest write, or else the base
+unfoldable pub newest_or : ℤ → List Written → ℤ
+newest_or base [] = base
+newest_or base (write ∷ older) = write.value
+
+-- the value that an object shows
+unfoldable pub shown : Cell → ℤ
+shown cell = newest_or cell.base cell.records
+
+-- the value of an object, if it exists
+unfoldable pub value_in : Cells → ℕ → Option ℤ
+value_in cells x = option_map shown (cells x)
+
+-- whether the object exists
+unfoldable pub has_object : Cells → ℕ → Bool
+has_object cells x = is_some (cells x)
+
+-- one more write
+unfoldable pub written : ℕ → ℤ → Cell → Cell
+written owner value cell = record cell { records = record { owner = owner; value = value } ∷ cell.records }
+
+-- the writes of those who pass the test are taken away
+unfoldable pub undone : (ℕ → Bool) → Cell → Cell
+undone test cell = record cell { records = filter (λ (write : Written). not (test write.owner)) cell.records }
+
+-- the newest value that one who passes the test wrote, or else the base
+unfoldable pub settled_value : (ℕ → Bool) → ℤ → List Written → ℤ
+settled_value test base [] = base
+settled_value test base (write ∷ older) = cond (test write.owner) write.value (settled_value test base older)
+
+-- the writes that are newer than each write of those who pass the test
+unfoldable pub newer : (ℕ → Bool) → List Written → List Written
+newer test [] = []
+newer test (write ∷ older) = cond (test write.owner) [] (write ∷ newer test older)
+
+-- the newest write of those who pass the test becomes the base, and it goes with all before it
+unfoldable pub settled : (ℕ → Bool) → Cell → Cell
+settled test cell = record { base = settled_value test cell.base cell.records; records = newer test cell.records }
+
+-- a change of one object
+unfoldable pub change_at : ℕ → (Cell → Cell) → Cells → Cells
+change_at y change cells x = cond (y == x) (option_map change (cells x)) (cells x)
+
+-- a change of each object
+unfoldable pub change_each : (Cell → Cell) → Cells → Cells
+change_each change cells x = option_map change (cells x)

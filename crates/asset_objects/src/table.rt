@@ -1,0 +1,132 @@
+//! The table of objects: the values in place, and the records of the writes that stand.
+
+use crate::records;
+use crate::records::Record;
+use asset_names::{NoMemory, Ob, Txn, least_double};
+use indexmap::IndexMap;
+use std::alloc::{AllocError, Global};
+use std::marker::Model;
+use thiserror::Error;
+
+/// The objects with their values, and a record of each write that may still be undone. Contracts see
+/// of each object its base and the writes that stand over it, newest first; its value is that of the
+/// newest write, or else the base.
+#[derive(Drop)]
+pub struct Objects {
+    values: IndexMap<Ob, i64>,
+    records: Vec<Record>,
+}
+
+impl Model for Objects {
+    ghost use Rattle.std.specs.Prelude.{vec_capacity};
+    ghost use Rattle.asset_objects.specs.Cells.{Table};
+    ghost use Rattle.asset_objects.specs.Records.{table_of, IsKept};
+
+    ghost Value = { Table };
+
+    ghost view = { λ o. table_of o.values.entries o.records.items (vec_capacity o.records) };
+
+    ghost invariant = { λ o. IsKept o.values.entries o.records.items };
+}
+
+/// Why no table was opened.
+#[derive(Clone, Copy, Debug, PartialEq, Eq, Error)]
+pub enum ObjectsFault {
+    /// The least object that was given twice.
+    #[error("object {} was given twice", .0.0)]
+    DoubleObject(Ob),
+    /// Memory ran out.
+    #[error("no memory")]
+    NoMemory,
+}
+
+impl Objects {
+    ghost use Rattle.std.specs.Prelude.{◌≡◌, ℕ, ◌==◌, true, map, IfOk, IfErr, OnOk, OnErr};
+    ghost use Rattle.asset_names.specs.Sets.{HasNoDouble};
+    ghost use Rattle.asset_objects.specs.Cells.{cells, opened, value_in, has_object, written, undone, settled, change_at, change_each};
+    ghost use Rattle.asset_objects.specs.Faults.{objects_of, IsObjectsFault};
+
+    /// The objects at their opening values, with no write yet. It is refused with the least object
+    /// that is given twice, and fails where memory runs out.
+    pub fn open(alloc: Global, opening: &[(Ob, i64)]) -> Result<Objects, ObjectsFault>
+        ensures opened { IfOk result (λ objects. cells objects ≡ opened opening.now) }
+        ensures different { OnOk result (HasNoDouble (objects_of opening.now)) }
+        ensures fault { IfErr result (λ fault. IsObjectsFault opening.now fault) }
+    {
+        if let Some(x) = least_double(opening) {
+            return Err(ObjectsFault::DoubleObject(x));
+        }
+        match values_of(alloc, opening) {
+            Ok(values) => Ok(Objects {
+                values,
+                records: Vec::new(alloc),
+            }),
+            Err(_) => Err(ObjectsFault::NoMemory),
+        }
+    }
+
+    /// The value of an object, if it exists.
+    pub fn value(&self, x: Ob) -> Option<i64>
+        ensures { result ≡ value_in (cells self.now) x.0 }
+    {
+        self.values.get(&x).copied()
+    }
+
+    /// Takes the memory for one more write. Where memory runs out, nothing has changed.
+    pub fn reserve_write(&mut self) -> Result<(), NoMemory>
+        ensures cells { cells self.new ≡ cells self.old }
+        ensures reserved { OnOk result (self.new.reserved ≡ true) }
+        ensures unchanged { OnErr result (self.new ≡ self.old) }
+    {
+        self.records.reserve(1).map_err(|_| NoMemory)
+    }
+
+    /// Writes the value to the object. Its memory was reserved, so this takes none.
+    pub fn write(&mut self, t: Txn, x: Ob, v: i64)
+        requires exists { has_object (cells self.old) x.0 ≡ true }
+        requires reserved { self.old.reserved ≡ true }
+        ensures { cells self.new ≡ change_at x.0 (written t.0 v) (cells self.old) }
+    {
+        let before = records::put(&mut self.values, x, v).unwrap();
+        self.records
+            .push(Record {
+                owner: t,
+                object: x,
+                value: v,
+                before,
+            })
+            .unwrap();
+    }
+
+    /// Takes the writes of the transaction away: each object shows what it would have without them.
+    pub fn undo(&mut self, t: Txn)
+        ensures { cells self.new ≡ change_each (undone (λ n. n == t.0)) (cells self.old) }
+    {
+        records::undo(&mut self.values, &mut self.records, t);
+    }
+
+    /// Makes the writes of the transaction final: the newest of them on each object becomes the
+    /// object's base, and goes with the writes before it.
+    pub fn settle(&mut self, t: Txn)
+        ensures { cells self.new ≡ change_each (settled (λ n. n == t.0)) (cells self.old) }
+    {
+        records::settle(&mut self.records, t);
+    }
+}
+
+ghost use Rattle.std.specs.Prelude.{◌≡◌, ℕ, IfOk};
+ghost use Rattle.asset_names.specs.Operations.{opening_at};
+
+/// The values by object. The first value of an object counts.
+fn values_of(alloc: Global, opening: &[(Ob, i64)]) -> Result<IndexMap<Ob, i64>, AllocError>
+    ensures { IfOk result (λ values. (x : ℕ) → opening_at values.entries x ≡ opening_at opening.now x) }
+{
+    let mut values = IndexMap::with_capacity(alloc, opening.len())?;
+    let mut rest = opening.len();
+    'rest: while rest > 0 {
+        rest -= 1;
+        let (x, value) = opening[rest];
+        values.insert(x, value)?;
+    }
+    Ok(values)
+}

@@ -1,0 +1,9 @@
+//! The table of permits: who allows whom to operate on what.
+#![tactic(auto)]
+
+mod table;
+
+pub use table::Permits;
+
+#[cfg(test)]
+mod tests;

@@ -1,0 +1,3 @@
+pub mod PastLemmas
+pub mod TrackLemmas
+pub mod ScanLemmas

@@ -1,0 +1,13 @@
+-- What one step says of an object.
+use Rattle.std.specs.Prelude.{ℕ, ℤ, Bool, true, false, cond, ◌==◌, ◌&&◌, Option, Some, None}
+use Rattle.asset_names.specs.declared.statuses.Status.{Status}
+use Rattle.asset_names.specs.declared.statuses.Status.TheVariants as Status'
+use Rattle.asset_names.specs.declared.steps.Step.{Step}
+use Rattle.asset_names.specs.declared.steps.Step.TheVariants.{Write}
+use Rattle.asset_names.specs.Operations.{Operation}
+use Rattle.asset_names.specs.Operations.Use.{writes}
+
+-- what the step writes to the object, if that write counts
+unfoldable pub written_by : (Operation → Bool) → Step → ℕ → Option ℤ
+written_by counts (Write t y v) x = cond (y.0 == x && counts (record { owner = t.0; object = y.0; use_of = writes v })) (Some v) None
+written_by counts step x = None

@@ -1,0 +1,23 @@
+-- What the steps that were carried out say of one name.
+use Rattle.std.specs.Prelude.{ℕ, cond, ◌==◌, ◌&&◌, ◌||◌, Some, None, List}
+use Rattle.std.specs.Option.{option_or}
+use Rattle.asset_names.specs.declared.steps.Step.{Step}
+use Rattle.asset_names.specs.declared.steps.Step.TheVariants.{Initiate, Begin, Complete, Commit, Abort}
+use Rattle.asset_names.specs.declared.statuses.End.TheVariants as End'
+use Rattle.asset_names.specs.Arrows.{lists}
+use Rattle.asset_names.specs.Steps.{initiated, begun, completed}
+use Rattle.asset_names.specs.Endings.{end_of}
+use Rattle.asset_reference.specs.declared.tracks.Track.{Track}
+
+-- whether the name was initiated, begun and completed, and how it ended
+unfoldable pub track_of : List Step → ℕ → Track
+track_of past t = record { initiated = lists (initiated past) t; begun = lists (begun past) t; completed = lists (completed past) t; end = end_of past t }
+
+-- the same after one more step
+unfoldable pub track_after : Track → Step → ℕ → Track
+track_after track (Initiate u parent) t = record track { initiated = u.0 == t || track.initiated }
+track_after track (Begin u) t = record track { begun = u.0 == t || track.begun }
+track_after track (Complete u) t = record track { completed = u.0 == t || track.completed }
+track_after track (Commit u) t = record track { end = option_or track.end (cond (u.0 == t && track.initiated) (Some End'.Committed) None) }
+track_after track (Abort u) t = record track { end = option_or track.end (cond (u.0 == t && track.initiated) (Some End'.Aborted) None) }
+track_after track step t = track

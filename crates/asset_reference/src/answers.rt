@@ -1,0 +1,80 @@
+//! The one answer to a step after some entries.
+
+ghost use Rattle.std.specs.Prelude.{◌≡◌, false, None, reverse};
+ghost use Rattle.asset_names.specs.Steps.{deeds};
+ghost use Rattle.asset_names.specs.Operations.{value, value_if_any};
+ghost use Rattle.asset_names.specs.Endings.{status};
+ghost use Rattle.asset_names.specs.Answers.{is_unknown, class_completed, commit_outcome, first_refusal, rules_for, unrefused, answer};
+
+use crate::freedom::is_free;
+use crate::openings::opening_at;
+use crate::refusals::refusal;
+use crate::tracks::status_after;
+use crate::values::last_value;
+use asset_names::{Ob, Op, Outcome, Reply, Step, Txn, commit_outcome, wait_outcome};
+
+/// The value of an object, and 0 where there is none.
+#[tactic(auto, unfolding(asset_names::specs::Operations::value, asset_names::specs::Operations::opening_value))]
+fn current_value(opening: &[(Ob, i64)], entries: &[(Step, Reply)], x: Ob) -> i64
+    ensures { result ≡ value opening.now (deeds (reverse entries.now)) x.0 }
+{
+    match last_value(entries, x) {
+        Some(v) => v,
+        None => opening_at(opening, x).unwrap_or(0),
+    }
+}
+
+/// The value of an object, if it exists.
+#[tactic(auto, unfolding(asset_names::specs::Operations::value_if_any, asset_names::specs::Operations::exists))]
+pub fn value_if_any(opening: &[(Ob, i64)], entries: &[(Step, Reply)], x: Ob) -> Option<i64>
+    ensures { result ≡ value_if_any opening.now (deeds (reverse entries.now)) x.0 }
+{
+    match opening_at(opening, x) {
+        Some(_) => Some(current_value(opening, entries, x)),
+        None => None,
+    }
+}
+
+/// The outcome of a commit that is not refused. Each class has one member as long as no step joins two.
+#[tactic(auto, unfolding(asset_names::specs::Answers::is_unknown), using(asset_names::proofs::ClassLemmas::completed_alone))]
+fn outcome_of_commit(entries: &[(Step, Reply)], t: Txn) -> Outcome
+    requires { is_unknown (status (deeds (reverse entries.now)) t.0) ≡ false }
+    ensures { result ≡ commit_outcome (status (deeds (reverse entries.now)) t.0) (class_completed (deeds (reverse entries.now)) t.0) }
+{
+    let status = status_after(entries, t);
+    commit_outcome(status, status.is_completed())
+}
+
+/// The outcome of a step that is not refused.
+#[tactic(auto, unfolding(asset_names::specs::Answers::unrefused))]
+fn unrefused(opening: &[(Ob, i64)], entries: &[(Step, Reply)], step: Step) -> Outcome
+    requires { first_refusal (rules_for opening.now (deeds (reverse entries.now)) step) ≡ None }
+    ensures { result ≡ unrefused opening.now (deeds (reverse entries.now)) step }
+{
+    match step {
+        Step::Initiate { .. } | Step::Begin { .. } | Step::Complete { .. } => {
+            Outcome::Answer(Reply::Done)
+        }
+        Step::Read { t, x } if is_free(entries, t, x, Op::Read) => {
+            Outcome::Answer(Reply::Value(current_value(opening, entries, x)))
+        }
+        Step::Write { t, x, .. } if is_free(entries, t, x, Op::Write) => Outcome::Answer(
+            Reply::Done,
+        ),
+        Step::Read { .. } | Step::Write { .. } => Outcome::Wait,
+        Step::Commit { t } => outcome_of_commit(entries, t),
+        Step::Abort { .. } => Outcome::Answer(Reply::Aborted),
+        Step::WaitFor { t } => wait_outcome(status_after(entries, t)),
+    }
+}
+
+/// The answer to the step after the entries.
+#[tactic(auto, unfolding(asset_names::specs::Answers::answer, asset_names::specs::Answers::outcome_unless))]
+pub fn answer(opening: &[(Ob, i64)], entries: &[(Step, Reply)], step: Step) -> Outcome
+    ensures { result ≡ answer opening.now (deeds (reverse entries.now)) step }
+{
+    match refusal(opening, entries, step) {
+        Some(refusal) => Outcome::Answer(Reply::Refused(refusal)),
+        None => unrefused(opening, entries, step),
+    }
+}

@@ -1,0 +1,16 @@
+//! The answers of the facility, found by going over the entries of a history again and again. Slow, and
+//! short: the tests compare the facility with it.
+#![tactic(auto)]
+
+mod answers;
+mod freedom;
+mod openings;
+mod refusals;
+mod tracks;
+mod values;
+
+pub use answers::{answer, value_if_any};
+pub use tracks::status_after;
+
+#[cfg(test)]
+mod tests;

@@ -1,0 +1,215 @@
+//! The facility gets the answers of the reference, on worked histories and on generated scripts.
+
+use crate::{answer, status_after, value_if_any};
+use asset_core::Core;
+use asset_names::{Fault, Ob, Outcome, Reply, Step, Txn};
+use std::alloc::Global;
+use std::test::Fail;
+
+const THREE: [(Ob, i64); 3] = [(Ob(1), 100), (Ob(2), 200), (Ob(3), 300)];
+
+/// The names that the scripts use.
+const NAMES: [Txn; 5] = [Txn(5), Txn(6), Txn(7), Txn(8), Txn(9)];
+
+/// The objects that the scripts use; the last does not exist.
+const OBJECTS: [Ob; 4] = [Ob(1), Ob(2), Ob(3), Ob(4)];
+
+fn initiate(t: u64) -> Step {
+    Step::Initiate {
+        t: Txn(t),
+        parent: None,
+    }
+}
+
+fn begin(t: u64) -> Step {
+    Step::Begin { t: Txn(t) }
+}
+
+fn read(t: u64, x: u64) -> Step {
+    Step::Read {
+        t: Txn(t),
+        x: Ob(x),
+    }
+}
+
+fn write(t: u64, x: u64, v: i64) -> Step {
+    Step::Write {
+        t: Txn(t),
+        x: Ob(x),
+        v,
+    }
+}
+
+fn complete(t: u64) -> Step {
+    Step::Complete { t: Txn(t) }
+}
+
+fn commit(t: u64) -> Step {
+    Step::Commit { t: Txn(t) }
+}
+
+fn abort(t: u64) -> Step {
+    Step::Abort { t: Txn(t) }
+}
+
+/// How many entries the names are owed after these.
+fn owed(entries: &[(Step, Reply)]) -> usize {
+    let mut owed = 0usize;
+    for t in NAMES {
+        owed = owed.saturating_add(status_after(entries, t).owed());
+    }
+    owed
+}
+
+/// Whether the facility shows the statuses and the values that the entries give.
+fn shows(core: &Core, entries: &[(Step, Reply)]) -> bool {
+    let mut alike = true;
+    for t in NAMES {
+        alike = alike && core.status(t) == status_after(entries, t);
+    }
+    for x in OBJECTS {
+        alike = alike && core.value(x) == value_if_any(&THREE, entries, x);
+    }
+    alike
+}
+
+/// What the reference says of a step, where there is room for so many entries. An answer that has room is
+/// added to the entries.
+fn expected(
+    entries: &mut Vec<(Step, Reply)>,
+    step: Step,
+    capacity: usize,
+) -> Result<Result<Outcome, Fault>, Fail> {
+    match answer(&THREE, entries, step) {
+        Outcome::Wait => Ok(Ok(Outcome::Wait)),
+        Outcome::Answer(reply) => {
+            entries.push((step, reply))?;
+            if entries.len().saturating_add(owed(entries)) > capacity {
+                entries.pop();
+                return Ok(Err(Fault::Full));
+            }
+            Ok(Ok(Outcome::Answer(reply)))
+        }
+    }
+}
+
+/// Whether a facility without entries and the reference agree on each step, and on what they show after the last.
+fn agree_over(
+    core: &mut Core,
+    entries: &mut Vec<(Step, Reply)>,
+    steps: &[Step],
+    capacity: usize,
+) -> Result<bool, Fail> {
+    for step in steps {
+        let told = expected(entries, *step, capacity)?;
+        if core.step(*step) != told {
+            return Ok(false);
+        }
+    }
+    Ok(core.history().len() == entries.len() && shows(core, entries))
+}
+
+/// Whether the facility and the reference agree on these steps.
+fn agree(alloc: Global, steps: &[Step], capacity: usize) -> Result<bool, Fail> {
+    let mut core = Core::open(alloc, &THREE, capacity)?;
+    agree_over(&mut core, &mut Vec::new(alloc), steps, capacity)
+}
+
+/// The next of a sequence of numbers that look random.
+fn next(seed: u64) -> u64 {
+    seed.wrapping_mul(6_364_136_223_846_793_005)
+        .wrapping_add(1_442_695_040_888_963_407)
+}
+
+/// The step that a number stands for.
+fn drawn(number: u64) -> Step {
+    let t = 5 + (number >> 40) % 5;
+    let x = 1 + (number >> 20) % 4;
+    match (number >> 50) % 12 {
+        0 | 1 => initiate(t),
+        2 | 3 => begin(t),
+        4 | 5 => read(t, x),
+        6 | 7 => write(t, x, (number % 1000) as i64),
+        8 => complete(t),
+        9 => commit(t),
+        10 => abort(t),
+        _ => Step::WaitFor { t: Txn(t) },
+    }
+}
+
+#[test]
+fn facility_agrees_on_worked_histories(rt: HostRuntime) -> Result<(), Fail> {
+    let alloc = rt.alloc();
+    let waits = [
+        initiate(7),
+        begin(7),
+        initiate(8),
+        begin(8),
+        write(7, 1, 50),
+        read(8, 1),
+        abort(7),
+        read(8, 1),
+    ];
+    assert!(rt; agree(alloc, &waits, 100)?);
+    let stands = [
+        initiate(7),
+        begin(7),
+        write(7, 1, 50),
+        complete(7),
+        commit(7),
+        initiate(8),
+        begin(8),
+        write(8, 1, 60),
+        abort(8),
+        initiate(9),
+        begin(9),
+        read(9, 1),
+    ];
+    assert!(rt; agree(alloc, &stands, 100)?);
+    let room = [
+        initiate(7),
+        begin(7),
+        read(7, 1),
+        complete(7),
+        abort(7),
+        initiate(8),
+        commit(7),
+    ];
+    assert!(rt; agree(alloc, &room, 4)?);
+    assert!(rt; agree(alloc, &room, 3)?);
+    let refusals = [
+        begin(5),
+        initiate(7),
+        read(7, 4),
+        begin(7),
+        begin(7),
+        initiate(7),
+        read(5, 4),
+        read(7, 4),
+        complete(7),
+        write(7, 4, 1),
+        complete(7),
+        commit(7),
+        begin(7),
+        abort(7),
+        commit(6),
+    ];
+    assert!(rt; agree(alloc, &refusals, 100)?);
+    Ok(())
+}
+
+#[test]
+fn facility_agrees_on_generated_scripts(rt: HostRuntime) -> Result<(), Fail> {
+    let alloc = rt.alloc();
+    let mut seed = 1;
+    for script in 0u64..2000 {
+        let mut steps = [begin(5); 24];
+        for step in steps.iter_mut() {
+            seed = next(seed);
+            *step = drawn(seed);
+        }
+        let capacity = if script % 3 == 0 { 10 } else { 100 };
+        assert!(rt; agree(alloc, &steps, capacity)?, "script {script}");
+    }
+    Ok(())
+}

@@ -1,0 +1,126 @@
+//! The status of a name, by going over the entries.
+
+ghost use Rattle.std.specs.Prelude.{◌≡◌, List, ◌∷◌, [], reverse};
+ghost use Rattle.asset_names.specs.declared.steps.Step.{Step};
+ghost use Rattle.asset_names.specs.Steps.{deeds};
+ghost use Rattle.asset_names.specs.Endings.{status, status_of, end_of};
+ghost use Rattle.asset_names.specs.Operations.{was_aborted};
+ghost use Rattle.asset_reference.specs.Tracks.{track_of};
+
+use asset_names::{End, Reply, Status, Step, Txn, is_carried_out};
+
+/// What the steps that were carried out say of one name.
+#[derive(Clone, Copy, Debug, PartialEq, Eq)]
+pub struct Track {
+    pub initiated: bool,
+    pub begun: bool,
+    pub completed: bool,
+    pub end: Option<End>,
+}
+
+impl Track {
+    ghost use Rattle.std.specs.Prelude.{◌≡◌, ℕ, List, [], ◌∷◌, cond, ◌==◌, ◌&&◌, is_none};
+    ghost use Rattle.std.specs.Option.{option_or};
+    ghost use Rattle.asset_names.specs.declared.steps.Step.{Step};
+    ghost use Rattle.asset_names.specs.Steps.{Entry, deeds};
+    ghost use Rattle.asset_names.specs.Endings.{status_of};
+    ghost use Rattle.asset_reference.specs.Tracks.{track_of, track_after};
+
+    /// The track of a name that no step names.
+    #[tactic(auto, unfolding(crate::specs::Tracks::track_of, asset_names::specs::Arrows::lists, asset_names::specs::Steps::initiated, asset_names::specs::Steps::begun, asset_names::specs::Steps::completed, asset_names::specs::Endings::end_of))]
+    pub fn new() -> Track
+        ensures { (t : ℕ) → result ≡ track_of [] t }
+    {
+        Track {
+            initiated: false,
+            begun: false,
+            completed: false,
+            end: None,
+        }
+    }
+
+    /// The track of `t` after one more entry.
+    #[tactic(auto, using(crate::proofs::TrackLemmas::track_of_entry))]
+    fn after(self, entry: &(Step, Reply), t: Txn) -> Track
+        ensures { (older : List Entry) → self ≡ track_of (deeds older) t.0 → result ≡ track_of (deeds (entry.now ∷ older)) t.0 }
+    {
+        let (step, reply) = *entry;
+        if is_carried_out(step, reply) {
+            self.after_deed(step, t)
+        } else {
+            self
+        }
+    }
+
+    /// The track of `t` after one more step that was carried out.
+    #[tactic(auto, unfolding(crate::specs::Tracks::track_after))]
+    fn after_deed(self, step: Step, t: Txn) -> Track
+        ensures { result ≡ track_after self step t.0 }
+    {
+        let mut next = self;
+        match step {
+            Step::Initiate { t: named, .. } => next.initiated = named == t || self.initiated,
+            Step::Begin { t: named } => next.begun = named == t || self.begun,
+            Step::Complete { t: named } => next.completed = named == t || self.completed,
+            Step::Commit { t: named } => next.end = self.ended(named, t, End::Committed),
+            Step::Abort { t: named } => next.end = self.ended(named, t, End::Aborted),
+            Step::Read { .. } | Step::Write { .. } | Step::WaitFor { .. } => {}
+        }
+        next
+    }
+
+    /// How `t` has ended after `named` was ended in this way.
+    fn ended(self, named: Txn, t: Txn, how: End) -> Option<End>
+        ensures { result ≡ option_or self.end (cond (named.0 == t.0 && self.initiated) (Some how) None) }
+    {
+        match self.end {
+            Some(end) => Some(end),
+            None if named == t && self.initiated => Some(how),
+            None => None,
+        }
+    }
+
+    /// The status that the track says.
+    #[tactic(auto, unfolding(asset_names::specs::Endings::status_of))]
+    pub fn status(self) -> Status
+        ensures { result ≡ status_of self.initiated self.begun self.completed self.end }
+    {
+        if !self.initiated {
+            return Status::Unknown;
+        }
+        match self.end {
+            Some(End::Committed) => Status::Committed,
+            Some(End::Aborted) => Status::Aborted,
+            None if self.completed => Status::Completed,
+            None if self.begun => Status::Running,
+            None => Status::Initiated,
+        }
+    }
+}
+
+/// What the entries say of `t`.
+fn track_entries(entries: &[(Step, Reply)], t: Txn) -> Track
+    ensures { result ≡ track_of (deeds (reverse entries.now)) t.0 }
+{
+    let mut track = Track::new();
+    'entries: for entry in entries {
+        track = track.after(entry, t);
+    }
+    track
+}
+
+/// The status of `t` after these entries.
+#[tactic(auto, unfolding(crate::specs::Tracks::track_of, asset_names::specs::Endings::status))]
+pub fn status_after(entries: &[(Step, Reply)], t: Txn) -> Status
+    ensures { result ≡ status (deeds (reverse entries.now)) t.0 }
+{
+    track_entries(entries, t).status()
+}
+
+/// Whether `t` ended by an abort.
+#[tactic(auto, unfolding(crate::specs::Tracks::track_of, asset_names::specs::Operations::was_aborted))]
+pub fn was_aborted(entries: &[(Step, Reply)], t: Txn) -> bool
+    ensures { result ≡ was_aborted (end_of (deeds (reverse entries.now)) t.0) }
+{
+    matches!(track_entries(entries, t).end, Some(End::Aborted))
+}

@@ -1,0 +1,51 @@
+//! The value of an object, by going over the entries from the newest on.
+
+ghost use Rattle.std.specs.Prelude.{◌≡◌, ℤ, List, ◌∷◌, reverse, unwrap_or};
+ghost use Rattle.asset_names.specs.Steps.{Entry, deeds};
+ghost use Rattle.asset_names.specs.Operations.{operations, stands, value_after};
+ghost use Rattle.asset_reference.specs.Scans.{written_by};
+
+use crate::tracks::was_aborted;
+use asset_names::{Ob, Reply, Step, is_carried_out};
+
+/// What a step that was carried out wrote to the object, if the write stands.
+#[tactic(auto, unfolding(crate::specs::Scans::written_by, asset_names::specs::Operations::stands))]
+fn written_by(entries: &[(Step, Reply)], step: Step, x: Ob) -> Option<i64>
+    ensures { result ≡ written_by (stands (deeds (reverse entries.now))) step x.0 }
+{
+    match step {
+        Step::Write { t, x: y, v } if y == x && !was_aborted(entries, t) => Some(v),
+        _ => None,
+    }
+}
+
+/// What the entry wrote to the object, if it is a write that stands.
+#[tactic(auto, using(crate::proofs::ScanLemmas::value_at_entry))]
+fn standing_write(entries: &[(Step, Reply)], entry: &(Step, Reply), x: Ob) -> Option<i64>
+    ensures { (older : List Entry) (first : ℤ) →
+        value_after (stands (deeds (reverse entries.now))) x.0 first (operations (deeds (entry.now ∷ older)))
+        ≡ unwrap_or result (value_after (stands (deeds (reverse entries.now))) x.0 first (operations (deeds older))) }
+{
+    let (step, reply) = *entry;
+    if is_carried_out(step, reply) {
+        written_by(entries, step, x)
+    } else {
+        None
+    }
+}
+
+/// The last value that was written to the object and stands.
+pub fn last_value(entries: &[(Step, Reply)], x: Ob) -> Option<i64>
+    ensures { (first : ℤ) →
+        value_after (stands (deeds (reverse entries.now))) x.0 first (operations (deeds (reverse entries.now)))
+        ≡ unwrap_or result first }
+{
+    let mut rest = entries.len();
+    'rest: while rest > 0 {
+        rest -= 1;
+        if let Some(v) = standing_write(entries, &entries[rest], x) {
+            return Some(v);
+        }
+    }
+    None
+}

@@ -1,0 +1,32 @@
+use Rattle.std.proofs.Common.{◌≡◌, ◌+◌, arith}
+use Rattle.std.specs.Prelude.{sum_by}
+use Rattle.std.specs.Map.{values_of}
+use Rattle.asset_names.specs.Room.{owed_to}
+use Rattle.asset_trans.specs.Rows.{status_in, one_if_live, live_count_in, owed_in}
+use Rattle.asset_trans.proofs.table.Trans.change.Goals as goal
+
+pub overflow_sub-self : goal.overflow_sub-self
+overflow_sub-self c = rw (c.one_if_live-2.ensures, c.one_if_live.ensures, c.status-before.ensures) c.requires.live_less
+
+pub overflow_sub-self-2 : goal.overflow_sub-self-2
+unfolding live_count_in
+overflow_sub-self-2 c =
+    rw (c.one_if_live-2.ensures, c.one_if_live.ensures, c.status-before.ensures, ← c.self.view_is)
+    (omega (arith, c.set_status.ensures.counted one_if_live, c.self.invariant.counts_live))
+
+pub overflow_sub-self-4 : goal.overflow_sub-self-4
+unfolding owed_in
+overflow_sub-self-4 c =
+    rw (c.owed-2.ensures, c.owed.ensures, c.status-before.ensures, ← c.self.view_is)
+    (omega (arith, c.set_status.ensures.counted owed_to, c.self.invariant.counts_owed))
+
+pub invariant_of-self : goal.invariant_of-self
+unfolding live_count_in owed_in
+invariant_of-self c = record {
+  counts_live =
+      rw (c.one_if_live-2.ensures, c.one_if_live.ensures, c.status-before.ensures, ← c.self.view_is)
+      (omega (arith, c.set_status.ensures.counted one_if_live, c.self.invariant.counts_live, rw (← c.self.view_is) at c.requires.live_less));
+  counts_owed =
+      rw (c.owed-2.ensures, c.owed.ensures, c.status-before.ensures, ← c.self.view_is)
+      (omega (arith, c.set_status.ensures.counted owed_to, c.self.invariant.counts_owed, rw (← c.self.view_is) at c.requires.owed_less));
+}

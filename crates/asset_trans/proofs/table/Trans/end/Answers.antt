@@ -1,0 +1,12 @@
+use Rattle.std.proofs.Common.{refl, arith}
+use Rattle.asset_trans.proofs.RowLemmas.{known_there, live_counts, ended_counts}
+use Rattle.asset_trans.proofs.table.Trans.end.Goals as goal
+
+pub change-requires-clause-there : goal.change-requires-clause-there
+change-requires-clause-there c = known_there c.args.t.0 c.args.self.now _ refl (live_counts _ c.requires.live).1
+
+pub change-requires-clause-owed_less : goal.change-requires-clause-owed_less
+change-requires-clause-owed_less c = rw (c.ended_as.ensures, (ended_counts c.args.how).0) (omega arith)
+
+pub change-requires-clause-live_less : goal.change-requires-clause-live_less
+change-requires-clause-live_less c = rw (c.ended_as.ensures, (ended_counts c.args.how).1) (omega arith)

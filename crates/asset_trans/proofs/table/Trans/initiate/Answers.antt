@@ -1,0 +1,24 @@
+use Rattle.std.proofs.Common.{arith}
+use Rattle.asset_trans.specs.Rows.{initiate_in}
+use Rattle.asset_trans.proofs.RowLemmas.{initiated_counts, most_live, most_owed}
+use Rattle.asset_trans.proofs.table.Trans.initiate.Goals as goal
+
+pub overflow_add-self : goal.overflow_add-self
+overflow_add-self c =
+    let counts = initiated_counts c.args.t c.args.parent c.self.inside.rows.entries in
+    let small = rw c.in_ok-add_row.ensures.added at c.add_row.ensures.small in
+    omega (arith, counts.0, most_live (initiate_in c.self.inside.rows.entries c.args.t c.args.parent), small, c.self.invariant.counts_live)
+
+pub overflow_add-self-2 : goal.overflow_add-self-2
+overflow_add-self-2 c =
+    let counts = initiated_counts c.args.t c.args.parent c.self.inside.rows.entries in
+    let small = rw c.in_ok-add_row.ensures.added at c.add_row.ensures.small in
+    omega (arith, counts.1, most_owed (initiate_in c.self.inside.rows.entries c.args.t c.args.parent), small, c.self.invariant.counts_owed)
+
+pub invariant_of-self-2 : goal.invariant_of-self-2
+invariant_of-self-2 c =
+    let counts = initiated_counts c.args.t c.args.parent c.self.inside.rows.entries in
+    rw c.in_ok-add_row.ensures.added (record {
+      counts_live = omega (arith, counts.0, c.self.invariant.counts_live);
+      counts_owed = omega (arith, counts.1, c.self.invariant.counts_owed);
+    })

@@ -1,0 +1,11 @@
+//! The table of transactions.
+#![tactic(auto)]
+
+mod rows;
+mod table;
+
+pub use rows::Row;
+pub use table::Trans;
+
+#[cfg(test)]
+mod tests;

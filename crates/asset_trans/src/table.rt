@@ -1,0 +1,188 @@
+//! The table of transactions.
+
+ghost use Rattle.std.specs.Prelude.{◌≡◌, ℕ, ◌+◌, ◌<◌, ◌^◌, true, ◌==◌, length, None, is_some, sum_by, OnOk, OnErr};
+ghost use Rattle.std.specs.Map.{values_of};
+ghost use Rattle.asset_names.specs.declared.statuses.Status.{Status};
+ghost use Rattle.asset_names.specs.Room.{owed_to};
+ghost use Rattle.asset_trans.specs.Rows.{row_in, status_in, initiate_in, set_in, ended_as, one_if_live};
+
+use crate::rows::Row;
+use asset_names::{End, NoMemory, Status, Txn};
+use indexmap::IndexMap;
+use std::alloc::Global;
+use std::marker::Model;
+
+/// The transactions that were initiated, in order of initiation, each with its status and the parent that
+/// it was given. Contracts see this list.
+#[derive(Drop)]
+pub struct Trans {
+    rows: IndexMap<Txn, Row>,
+    live: usize,
+    owed: usize,
+}
+
+impl Model for Trans {
+    ghost use Rattle.std.specs.Prelude.{List};
+    ghost use Rattle.asset_trans.specs.Rows.{Entry, IsCounted};
+
+    ghost Value = { List Entry };
+
+    ghost view = { λ trans. trans.rows.entries };
+
+    ghost invariant = { λ trans. IsCounted trans.rows.entries trans.live trans.owed };
+}
+
+/// Adds a transaction that is not there, as Initiated.
+fn add_row(rows: &mut IndexMap<Txn, Row>, t: Txn, parent: Option<Txn>) -> Result<(), NoMemory>
+    requires absent { row_in rows.old.entries t.0 ≡ None }
+    ensures added { OnOk result (rows.new.entries ≡ initiate_in rows.old.entries t parent) }
+    ensures small { length rows.new.entries < 2 ^ 63 }
+    ensures unchanged { OnErr result (rows.new.entries ≡ rows.old.entries) }
+{
+    let row = Row {
+        status: Status::Initiated,
+        parent,
+    };
+    let added = match rows.insert(t, row) {
+        Ok(_) => Ok(()),
+        Err(_) => Err(NoMemory),
+    };
+    // the contract of `len` bounds the number of rows
+    let _len = rows.len();
+    added
+}
+
+/// Gives a transaction that is there another status. A sum over the statuses changes by its own.
+fn set_status(rows: &mut IndexMap<Txn, Row>, t: Txn, status: Status)
+    requires there { is_some (row_in rows.old.entries t.0) ≡ true }
+    ensures set { rows.new.entries ≡ set_in (λ n. n == t.0) status rows.old.entries }
+    ensures counted { (f : Status → ℕ) →
+        sum_by (λ row. f row.status) (values_of rows.new.entries) + f (status_in rows.old.entries t.0)
+        ≡ sum_by (λ row. f row.status) (values_of rows.old.entries) + f status }
+{
+    if let Some(row) = rows.get_mut(&t) {
+        row.status = status;
+    }
+}
+
+/// How much a transaction of this status adds to those that are live.
+#[tactic(auto, unfolding(crate::specs::Rows::one_if_live))]
+fn one_if_live(status: Status) -> usize
+    ensures { result ≡ one_if_live status }
+{
+    if status.is_live() { 1 } else { 0 }
+}
+
+/// The status that an end gives.
+#[tactic(auto, unfolding(crate::specs::Rows::ended_as))]
+fn ended_as(how: End) -> Status
+    ensures { result ≡ ended_as how }
+{
+    match how {
+        End::Committed => Status::Committed,
+        End::Aborted => Status::Aborted,
+    }
+}
+
+impl Trans {
+    ghost use Rattle.std.specs.Prelude.{◌≡◌, ◌≤◌, true, [], None, OnOk, OnErr, ◌==◌, is_some};
+    ghost use Rattle.asset_names.specs.declared.statuses.Status.{Status};
+    ghost use Rattle.asset_names.specs.Room.{owed_to};
+    ghost use Rattle.asset_trans.specs.Rows.{row_in, status_in, parent_in, initiate_in, set_in, ended_as, one_if_live, live_count_in, owed_in};
+    ghost use Rattle.asset_names.specs.Endings.{is_live_status};
+
+    /// A table without transactions. It takes no memory.
+    pub fn new(alloc: Global) -> Trans
+        ensures { result ≡ [] }
+    {
+        Trans {
+            rows: IndexMap::new(alloc),
+            live: 0,
+            owed: 0,
+        }
+    }
+
+    /// Registers `t`, which was not registered before, as Initiated, with the parent that it was given. Where
+    /// memory runs out nothing has changed.
+    pub fn initiate(&mut self, t: Txn, parent: Option<Txn>) -> Result<(), NoMemory>
+        requires new { row_in self.old t.0 ≡ None }
+        ensures done { OnOk result (self.new ≡ initiate_in self.old t parent) }
+        ensures unchanged { OnErr result (self.new ≡ self.old) }
+    {
+        add_row(&mut self.rows, t, parent)?;
+        self.live += 1;
+        self.owed += 2;
+        Ok(())
+    }
+
+    /// The status of a transaction. One that was never registered is Unknown.
+    pub fn status(&self, t: Txn) -> Status
+        ensures { result ≡ status_in self.now t.0 }
+    {
+        match self.rows.get(&t) {
+            Some(row) => row.status,
+            None => Status::Unknown,
+        }
+    }
+
+    /// The parent that a transaction was given, if it was given one.
+    pub fn parent(&self, t: Txn) -> Option<Txn>
+        ensures { result ≡ parent_in self.now t.0 }
+    {
+        match self.rows.get(&t) {
+            Some(row) => row.parent,
+            None => None,
+        }
+    }
+
+    /// Gives `t`, which is there, a status that is owed no more entries.
+    fn change(&mut self, t: Txn, status: Status)
+        requires there { is_some (row_in self.old t.0) ≡ true }
+        requires owed_less { owed_to status ≤ owed_to (status_in self.old t.0) }
+        requires live_less { one_if_live status ≤ one_if_live (status_in self.old t.0) }
+        ensures { self.new ≡ set_in (λ n. n == t.0) status self.old }
+    {
+        let before = self.status(t);
+        set_status(&mut self.rows, t, status);
+        self.live -= one_if_live(before) - one_if_live(status);
+        self.owed -= before.owed() - status.owed();
+    }
+
+    /// Starts `t`, which is Initiated. It takes no memory.
+    pub fn begin(&mut self, t: Txn)
+        requires initiated { status_in self.old t.0 ≡ Status.Initiated }
+        ensures { self.new ≡ set_in (λ n. n == t.0) Status.Running self.old }
+    {
+        self.change(t, Status::Running);
+    }
+
+    /// Completes `t`, which is Running. It takes no memory.
+    pub fn complete(&mut self, t: Txn)
+        requires running { status_in self.old t.0 ≡ Status.Running }
+        ensures { self.new ≡ set_in (λ n. n == t.0) Status.Completed self.old }
+    {
+        self.change(t, Status::Completed);
+    }
+
+    /// Ends `t`, which is live. It takes no memory.
+    pub fn end(&mut self, t: Txn, how: End)
+        requires live { is_live_status (status_in self.old t.0) ≡ true }
+        ensures { self.new ≡ set_in (λ n. n == t.0) (ended_as how) self.old }
+    {
+        self.change(t, ended_as(how));
+    }
+
+    /// How many transactions are live. It looks at none of them.
+    pub fn live_count(&self) -> usize
+        ensures { result ≡ live_count_in self.now }
+    {
+        self.live
+    }
+
+    /// How many entries all live transactions are owed, so that each can still end. It looks at none of them.
+    pub fn owed(&self) -> usize
+        ensures { result ≡ owed_in self.now }
+    {
+        self.owed
+    }
+}

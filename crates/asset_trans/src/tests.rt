@@ -1,0 +1,75 @@
+//! Each public call, on worked values.
+
+use crate::Trans;
+use asset_names::{End, NoMemory, Status, Txn};
+use std::alloc::Global;
+use std::test::Fail;
+
+/// A table with one transaction, which is Initiated.
+#[tactic(auto, unfolding(crate::specs::Rows::row_in))]
+fn with_one(alloc: Global, t: Txn, parent: Option<Txn>) -> Result<Trans, NoMemory> {
+    let mut trans = Trans::new(alloc);
+    trans.initiate(t, parent)?;
+    Ok(trans)
+}
+
+/// Begins a transaction that is Initiated, and says whether it was.
+fn begin(trans: &mut Trans, t: Txn) -> bool {
+    match trans.status(t) {
+        Status::Initiated => {
+            trans.begin(t);
+            true
+        }
+        _ => false,
+    }
+}
+
+/// Completes a transaction that is Running, and says whether it was.
+fn complete(trans: &mut Trans, t: Txn) -> bool {
+    match trans.status(t) {
+        Status::Running => {
+            trans.complete(t);
+            true
+        }
+        _ => false,
+    }
+}
+
+/// Ends a transaction that is live, and says whether it was.
+fn end(trans: &mut Trans, t: Txn, how: End) -> bool {
+    if trans.status(t).is_live() {
+        trans.end(t, how);
+        true
+    } else {
+        false
+    }
+}
+
+#[test]
+fn statuses_and_what_is_owed(rt: HostRuntime) -> Result<(), Fail> {
+    let mut trans = with_one(rt.alloc(), Txn(7), None)?;
+    assert_eq!(rt; trans.status(Txn(7)), Status::Initiated);
+    assert_eq!(rt; (trans.owed(), trans.live_count()), (2, 1));
+    assert!(rt; begin(&mut trans, Txn(7)));
+    assert_eq!(rt; trans.status(Txn(7)), Status::Running);
+    assert_eq!(rt; trans.owed(), 2);
+    assert!(rt; complete(&mut trans, Txn(7)));
+    assert_eq!(rt; trans.status(Txn(7)), Status::Completed);
+    assert_eq!(rt; trans.owed(), 1);
+    assert!(rt; end(&mut trans, Txn(7), End::Committed));
+    assert_eq!(rt; trans.status(Txn(7)), Status::Committed);
+    assert_eq!(rt; (trans.owed(), trans.live_count()), (0, 0));
+    assert!(rt; !end(&mut trans, Txn(7), End::Aborted));
+    Ok(())
+}
+
+#[test]
+fn parent_is_recorded(rt: HostRuntime) -> Result<(), Fail> {
+    let mut trans = with_one(rt.alloc(), Txn(8), Some(Txn(7)))?;
+    assert_eq!(rt; trans.parent(Txn(8)), Some(Txn(7)));
+    assert_eq!(rt; trans.parent(Txn(7)), None);
+    assert_eq!(rt; trans.status(Txn(9)), Status::Unknown);
+    assert!(rt; end(&mut trans, Txn(8), End::Aborted));
+    assert_eq!(rt; trans.status(Txn(8)), Status::Aborted);
+    Ok(())
+}
