@@ -148,39 +148,3 @@ fn reader_waits_for_abort(rt: HostRuntime) -> Result<(), Fail> {
     assert_eq!(rt; core.waiters(Ob(1), 0), None);
     Ok(())
 }
-
-#[test]
-fn committed_write_stands_under_an_aborted_one(rt: HostRuntime) -> Result<(), Fail> {
-    let mut core = Core::open(rt.alloc(), &THREE, 20)?;
-    let script = [
-        (initiate(7), OK),
-        (begin(7), OK),
-        (write(7, 1, 50), OK),
-        (complete(7), OK),
-        (commit(7), COMMITTED),
-        (initiate(8), OK),
-        (begin(8), OK),
-        (write(8, 1, 60), OK),
-        (abort(8), ABORTED),
-    ];
-    assert!(rt; plays(&mut core, &script));
-    assert_eq!(rt; core.value(Ob(1)), Some(50));
-    Ok(())
-}
-
-#[test]
-fn endings_find_room(rt: HostRuntime) -> Result<(), Fail> {
-    let mut core = Core::open(rt.alloc(), &THREE, 4)?;
-    let script = [
-        (initiate(7), OK),
-        (begin(7), OK),
-        (read(7, 1), FULL),
-        (complete(7), OK),
-        (abort(7), ABORTED),
-        (initiate(8), FULL),
-        (commit(7), FULL),
-    ];
-    assert!(rt; plays(&mut core, &script));
-    assert_eq!(rt; core.history().len(), 4);
-    Ok(())
-}

@@ -86,7 +86,7 @@ impl Three {
 #[test]
 fn waiter_goes_on_after_release(rt: HostRuntime) -> Result<(), Fail> {
     let mut three = Three::new(&rt, Op::Write)?;
-    assert_eq!(rt; three.eight_asks(1, Op::Read)?, Asked::Pending);
+    assert_eq!(rt; three.eight_asks(1, Op::Read), Ok(Asked::Pending));
     assert_eq!(rt; three.locks.waiters(Ob(1), 0), Some((Txn(8), Op::Read)));
     assert_eq!(rt; three.locks.waiters(Ob(1), 1), None);
     assert_eq!(rt; three.locks.status(Txn(7), Ob(1)), Some(LockState::Granted));
@@ -96,7 +96,7 @@ fn waiter_goes_on_after_release(rt: HostRuntime) -> Result<(), Fail> {
     assert!(rt; !three.is_free_for_eight(Op::Read));
     three.release_seven();
     assert!(rt; three.is_free_for_eight(Op::Read));
-    assert_eq!(rt; three.eight_asks(1, Op::Read)?, Asked::Granted);
+    assert_eq!(rt; three.eight_asks(1, Op::Read), Ok(Asked::Granted));
     assert_eq!(rt; three.locks.waiters(Ob(1), 0), None);
     Ok(())
 }
@@ -104,8 +104,8 @@ fn waiter_goes_on_after_release(rt: HostRuntime) -> Result<(), Fail> {
 #[test]
 fn waiters_come_in_order_of_enrolment(rt: HostRuntime) -> Result<(), Fail> {
     let mut three = Three::new(&rt, Op::Read)?;
-    assert_eq!(rt; three.eight_asks(1, Op::Write)?, Asked::Pending);
-    assert_eq!(rt; three.nine_asks(1, Op::Write)?, Asked::Pending);
+    assert_eq!(rt; three.eight_asks(1, Op::Write), Ok(Asked::Pending));
+    assert_eq!(rt; three.nine_asks(1, Op::Write), Ok(Asked::Pending));
     assert_eq!(rt; three.locks.waiters(Ob(1), 0), Some((Txn(9), Op::Write)));
     assert_eq!(rt; three.locks.waiters(Ob(1), 1), Some((Txn(8), Op::Write)));
     assert_eq!(rt; three.locks.waiters(Ob(2), 0), None);
@@ -115,10 +115,10 @@ fn waiters_come_in_order_of_enrolment(rt: HostRuntime) -> Result<(), Fail> {
 #[test]
 fn readers_share_and_a_writer_keeps_its_place(rt: HostRuntime) -> Result<(), Fail> {
     let mut three = Three::new(&rt, Op::Read)?;
-    assert_eq!(rt; three.eight_asks(1, Op::Read)?, Asked::Granted);
+    assert_eq!(rt; three.eight_asks(1, Op::Read), Ok(Asked::Granted));
     assert_eq!(rt; three.locks.status(Txn(7), Ob(1)), Some(LockState::Granted));
-    assert_eq!(rt; three.eight_asks(2, Op::Read)?, Asked::Granted);
-    assert_eq!(rt; three.eight_asks(2, Op::Write)?, Asked::Granted);
+    assert_eq!(rt; three.eight_asks(2, Op::Read), Ok(Asked::Granted));
+    assert_eq!(rt; three.eight_asks(2, Op::Write), Ok(Asked::Granted));
     assert_eq!(rt; three.locks.held_by(Txn(8), 0), Some(Ob(1)));
     assert_eq!(rt; three.locks.held_by(Txn(8), 1), Some(Ob(2)));
     assert_eq!(rt; three.locks.held_by(Txn(8), 2), None);

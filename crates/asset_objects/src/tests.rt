@@ -16,11 +16,16 @@ fn write(objects: &mut Objects, t: u64, x: u64, v: i64) -> Result<(), NoMemory> 
     Ok(())
 }
 
+/// Lets 7 and then 8 write to the first object.
+fn write_twice(objects: &mut Objects) -> Result<(), NoMemory> {
+    write(objects, 7, 1, 50)?;
+    write(objects, 8, 1, 60)
+}
+
 /// The two objects, where 7 and then 8 have written to the first.
 fn written_twice(rt: &HostRuntime) -> Result<Objects, Fail> {
     let mut objects = Objects::open(rt.alloc(), &TWO)?;
-    write(&mut objects, 7, 1, 50)?;
-    write(&mut objects, 8, 1, 60)?;
+    write_twice(&mut objects)?;
     Ok(objects)
 }
 
@@ -68,9 +73,9 @@ fn settle_drops_earlier_records(rt: HostRuntime) -> Result<(), Fail> {
 #[test]
 fn undo_of_several_objects(rt: HostRuntime) -> Result<(), Fail> {
     let mut objects = written_twice(&rt)?;
-    write(&mut objects, 7, 2, 1)?;
-    write(&mut objects, 7, 1, 2)?;
-    write(&mut objects, 7, 2, 3)?;
+    assert_eq!(rt; write(&mut objects, 7, 2, 1), Ok(()));
+    assert_eq!(rt; write(&mut objects, 7, 1, 2), Ok(()));
+    assert_eq!(rt; write(&mut objects, 7, 2, 3), Ok(()));
     assert_eq!(rt; objects.value(Ob(1)), Some(2));
     assert_eq!(rt; objects.value(Ob(2)), Some(3));
     objects.undo(Txn(7));
@@ -92,7 +97,7 @@ fn want_of_memory_changes_nothing(rt: HostRuntime) -> Result<(), Fail> {
         assert_eq!(rt; objects.value(Ob(1)), Some(100));
         assert_eq!(rt; objects.reserve_write(), Ok(()));
     }
-    write(&mut objects, 7, 1, 50)?;
+    assert_eq!(rt; write(&mut objects, 7, 1, 50), Ok(()));
     assert_eq!(rt; objects.value(Ob(1)), Some(50));
     Ok(())
 }
