@@ -1,6 +1,8 @@
 pub mod Arrows
 pub mod DoubleLemmas
+pub mod PermitLemmas
 pub mod Rows
+pub mod PermitRows
 pub mod Sorting
 pub mod LegalLemmas
 pub mod RoomLemmas

@@ -8,7 +8,7 @@ use Rattle.asset_names.specs.declared.statuses.End.{End}
 use Rattle.asset_names.specs.declared.statuses.End.TheVariants as End'
 use Rattle.asset_names.specs.declared.names.Txn.{Txn}
 use Rattle.asset_names.specs.declared.steps.Step.{Step}
-use Rattle.asset_names.specs.declared.steps.Step.TheVariants.{Initiate, Begin, Read, Write, Complete, Commit, Abort, WaitFor}
+use Rattle.asset_names.specs.declared.steps.Step.TheVariants.{Initiate, Begin, Read, Write, Complete, Permit, Commit, Abort, WaitFor}
 use Rattle.asset_names.specs.Arrows.{lists, linked, among}
 use Rattle.asset_names.specs.Steps.{Opening, Entry, carries_out, deeds, initiated, initiated_by, begun, completed, completed_by}
 use Rattle.asset_names.specs.Endings.{class_arrows, doom_arrows, ended_by, end_of, live, status, status_of}
@@ -79,6 +79,10 @@ owed_read t x past = sum_same _ _ (initiated past) (λ n listed. same_parts past
 pub owed_write : (t : Txn) (x : _) (v : _) (past : List Step) → owed (Write t x v ∷ past) ≡ owed past
 unfolding owed initiated initiated_by completed completed_by end_of ended_by
 owed_write t x v past = sum_same _ _ (initiated past) (λ n listed. same_parts past (Write t x v ∷ past) n refl refl (option_or_none (end_of past n)))
+
+pub owed_permit : (giver taker : Txn) (obs : _) (ops : _) (past : List Step) → owed (Permit giver taker obs ops ∷ past) ≡ owed past
+unfolding owed initiated initiated_by completed completed_by end_of ended_by
+owed_permit giver taker obs ops past = sum_same _ _ (initiated past) (λ n listed. same_parts past (Permit giver taker obs ops ∷ past) n refl refl (option_or_none (end_of past n)))
 
 pub owed_wait : (t : Txn) (past : List Step) → owed (WaitFor t ∷ past) ≡ owed past
 unfolding owed initiated initiated_by completed completed_by end_of ended_by
@@ -185,6 +189,7 @@ owed_less opening past (Initiate t parent) reply orderly is changes = absurd (fa
 owed_less opening past (Begin t) reply orderly is changes = absurd (false≢true changes)
 owed_less opening past (Read t x) reply orderly is changes = absurd (false≢true changes)
 owed_less opening past (Write t x v) reply orderly is changes = absurd (false≢true changes)
+owed_less opening past (Permit giver taker obs ops) reply orderly is changes = absurd (false≢true changes)
 owed_less opening past (WaitFor t) reply orderly is changes = absurd (false≢true changes)
 
 -- such a step finds room in each legal history that fits

@@ -12,37 +12,37 @@ use Rattle.asset_names.specs.declared.replies.Outcome.TheVariants.{Answer, Wait}
 use Rattle.asset_names.specs.Arrows.{lists, linked, among}
 use Rattle.asset_names.specs.Steps.{Opening, Entry, carries_out, deeds, initiated_by, initiated, begun_by, begun, completed_by, completed}
 use Rattle.asset_names.specs.Endings.{class_arrows, doom_arrows, ended_by, end_of, live, status_of, status, same_class}
-use Rattle.asset_names.specs.Operations.{op_of, conflict, operated, operations, permits, reach, hinders, free, was_aborted, stands, exists, opening_at, opening_value, after_use, value_after, value}
+use Rattle.asset_names.specs.Operations.{op_of, conflict, operated, operations, permits, permitted_by, reach, hinders, free, was_aborted, stands, exists, opening_at, opening_value, after_use, value_after, value}
 use Rattle.asset_names.specs.Room.{owed, owed_to, fits}
 use Rattle.asset_names.specs.Answers.{is_unknown, has_ended, is_running, is_completed, is_committed, has_begun, unknown, ended, not_running, taken, begun_before, too_late, no_object, rules_for, first_refusal, class_completed, commit_outcome, wait_outcome, unrefused, outcome_unless, answer}
 
-abbrev t : ℕ → Txn
+abbrev pub t : ℕ → Txn
 t n = record { 0 = n }
 
-abbrev x : ℕ → Ob
+abbrev pub x : ℕ → Ob
 x n = record { 0 = n }
 
 -- the entry that an outcome adds
-abbrev with_outcome : Step → Outcome → List Entry → List Entry
+abbrev pub with_outcome : Step → Outcome → List Entry → List Entry
 with_outcome step (Answer reply) past = (step, reply) ∷ past
 with_outcome step Wait past = past
 
 -- the outcomes of steps that are asked one after another
-abbrev outcomes : Opening → List Entry → List Step → List Outcome
+abbrev pub outcomes : Opening → List Entry → List Step → List Outcome
 outcomes opening past [] = []
 outcomes opening past (step ∷ steps) = answer opening (deeds past) step ∷ outcomes opening (with_outcome step (answer opening (deeds past) step) past) steps
 
-abbrev refused : Refusal → Outcome
+abbrev pub refused : Refusal → Outcome
 refused refusal = Answer (Refused refusal)
 
-abbrev three : Opening
+abbrev pub three : Opening
 three = (x 1, pos 100) ∷ (x 2, pos 200) ∷ (x 3, pos 300) ∷ []
 
-abbrev ok : Outcome
+abbrev pub ok : Outcome
 ok = Answer Done
 
 -- over three objects with 100, 200 and 300, these steps have these outcomes
-abbrev Row : List Step → List Outcome → Type 0
+abbrev pub Row : List Step → List Outcome → Type 0
 Row steps told = outcomes three [] steps ≡ told
 
 -- one transaction reads, writes, completes and commits
@@ -105,5 +105,5 @@ RoomIsOwed = (owed (Begin (t 7) ∷ Initiate (t 7) None ∷ []) ≡ 2) × (owed 
     × (owed (Abort (t 7) ∷ Initiate (t 8) None ∷ Begin (t 7) ∷ Initiate (t 7) None ∷ []) ≡ 2) × (fits (Initiate (t 7) None ∷ []) 1 3 ≡ true) × (fits (Initiate (t 7) None ∷ []) 1 2 ≡ false)
 
 rows : OneTransaction × WriterHoldsOff × ReadersShare × RefusalsInOrder × CommitWaits × ParentIsRecorded × ReaderWaitsForAbort × AfterTheEnd × CommittedUnderAborted × RoomIsOwed
-unfolding owed owed_to fits answer rules_for unrefused first_refusal outcome_unless unknown ended not_running taken begun_before too_late no_object is_unknown has_ended is_running is_completed is_committed has_begun class_completed commit_outcome wait_outcome free hinders reach permits conflict op_of operations operated value value_after after_use was_aborted stands opening_value opening_at exists status status_of end_of ended_by live same_class class_arrows doom_arrows initiated begun completed initiated_by begun_by completed_by deeds carries_out among linked lists
+unfolding owed owed_to fits answer rules_for unrefused first_refusal outcome_unless unknown ended not_running taken begun_before too_late no_object is_unknown has_ended is_running is_completed is_committed has_begun class_completed commit_outcome wait_outcome free hinders reach permits conflict op_of operations operated permitted_by value value_after after_use was_aborted stands opening_value opening_at exists status status_of end_of ended_by live same_class class_arrows doom_arrows initiated begun completed initiated_by begun_by completed_by deeds carries_out among linked lists
 rows = (refl, refl, refl, refl, refl, refl, refl, refl, refl, (refl, refl, refl, refl, refl))

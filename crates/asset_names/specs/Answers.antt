@@ -1,11 +1,14 @@
 -- The refusals of a step, its one answer, and legal histories.
-use Rattle.std.specs.Prelude.{◌≡◌, ℕ, Bool, true, false, cond, not, ◌||◌, List, [], ◌∷◌, Option, Some, None}
+use Rattle.std.specs.Prelude.{◌≡◌, ℕ, ◌==◌, Bool, true, false, cond, not, ◌||◌, List, [], ◌∷◌, Option, Some, None, find}
 use Rattle.std.specs.List.{list_all}
 use Rattle.asset_names.specs.declared.names.Txn.{Txn}
 use Rattle.asset_names.specs.declared.names.Ob.{Ob}
 use Rattle.asset_names.specs.declared.operations.Op.TheVariants as Op'
 use Rattle.asset_names.specs.declared.steps.Step.{Step}
-use Rattle.asset_names.specs.declared.steps.Step.TheVariants.{Initiate, Begin, Read, Write, Complete, Commit, Abort, WaitFor}
+use Rattle.asset_names.specs.declared.steps.Step.TheVariants.{Initiate, Begin, Read, Write, Complete, Permit, Commit, Abort, WaitFor}
+use Rattle.asset_names.specs.declared.sets.ObSet.{ObSet}
+use Rattle.asset_names.specs.declared.sets.ObSet.TheVariants.{All, Listed}
+use Rattle.asset_names.specs.Sets.{no_object_name}
 use Rattle.asset_names.specs.declared.statuses.Status.{Status}
 use Rattle.asset_names.specs.declared.statuses.Status.TheVariants as Status'
 use Rattle.asset_names.specs.declared.replies.Refusal.{Refusal}
@@ -75,6 +78,23 @@ too_late past t = (is_committed (status past t.0), Refusal'.TooLate t)
 unfoldable pub no_object : Opening → Ob → Rule
 no_object opening x = (not (exists opening x.0), Refusal'.NoObject x)
 
+-- a permit is refused where both its names are one
+unfoldable pub one_name : Txn → Txn → Rule
+one_name giver taker = (giver.0 == taker.0, Refusal'.Same)
+
+-- the first object of a set that does not exist: of a list, which rises, the least; all objects exist
+unfoldable pub missing_in : Opening → ObSet → Option Ob
+missing_in opening All = None
+missing_in opening (Listed list) = find (λ (x : Ob). not (exists opening x.0)) list
+
+-- a permit is refused on a set with an object that does not exist
+unfoldable pub missing_rule : Option Ob → Rule
+missing_rule None = (false, Refusal'.NoObject no_object_name)
+missing_rule (Some x) = (true, Refusal'.NoObject x)
+
+unfoldable pub no_object_of : Opening → ObSet → Rule
+no_object_of opening obs = missing_rule (missing_in opening obs)
+
 -- the refusals of a step, in the order in which they are looked at
 unfoldable pub rules_for : Opening → List Step → Step → List Rule
 rules_for opening past (Initiate t parent) = taken past t ∷ []
@@ -82,6 +102,7 @@ rules_for opening past (Begin t) = unknown past t ∷ ended past t ∷ begun_bef
 rules_for opening past (Read t x) = unknown past t ∷ ended past t ∷ not_running past t ∷ no_object opening x ∷ []
 rules_for opening past (Write t x v) = unknown past t ∷ ended past t ∷ not_running past t ∷ no_object opening x ∷ []
 rules_for opening past (Complete t) = unknown past t ∷ ended past t ∷ not_running past t ∷ []
+rules_for opening past (Permit giver taker obs ops) = one_name giver taker ∷ unknown past giver ∷ unknown past taker ∷ ended past giver ∷ ended past taker ∷ no_object_of opening obs ∷ []
 rules_for opening past (Commit t) = unknown past t ∷ []
 rules_for opening past (Abort t) = unknown past t ∷ too_late past t ∷ []
 rules_for opening past (WaitFor t) = unknown past t ∷ []
@@ -116,6 +137,7 @@ unrefused opening past (Begin t) = Answer Reply'.Done
 unrefused opening past (Read t x) = cond (free past t.0 x.0 Op'.Read) (Answer (Reply'.Value (value opening past x.0))) Wait
 unrefused opening past (Write t x v) = cond (free past t.0 x.0 Op'.Write) (Answer Reply'.Done) Wait
 unrefused opening past (Complete t) = Answer Reply'.Done
+unrefused opening past (Permit giver taker obs ops) = Answer Reply'.Done
 unrefused opening past (Commit t) = commit_outcome (status past t.0) (class_completed past t.0)
 unrefused opening past (Abort t) = Answer Reply'.Aborted
 unrefused opening past (WaitFor t) = wait_outcome (status past t.0)
@@ -133,6 +155,7 @@ unfoldable pub takes_memory : Step → Bool
 takes_memory (Initiate t parent) = true
 takes_memory (Read t x) = true
 takes_memory (Write t x v) = true
+takes_memory (Permit giver taker obs ops) = true
 takes_memory step = false
 
 -- whether the outcome is a reply by which the step is carried out

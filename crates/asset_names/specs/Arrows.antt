@@ -10,6 +10,10 @@ Arrow = ℕ × ℕ
 unfoldable pub lists : List ℕ → ℕ → Bool
 lists names n = list_any (λ m. m == n) names
 
+-- whether an arrow leads from a to b
+unfoldable pub has_arrow : List Arrow → ℕ → ℕ → Bool
+has_arrow arrows a b = list_any (λ (arrow : Arrow). arrow.0 == a && arrow.1 == b) arrows
+
 -- whether b is reached from a along the arrows: without the first one, or by going along it once
 unfoldable pub linked : List Arrow → ℕ → ℕ → Bool
 linked [] a b = a == b

@@ -1,12 +1,13 @@
 -- Operations, who is responsible for them, who holds what, and the value of an object.
-use Rattle.std.specs.Prelude.{ℕ, ℤ, pos, Bool, true, false, cond, not, ◌==◌, ◌&&◌, List, [], ◌∷◌, Option, Some, None, is_some, unwrap_or, option_map, find}
+use Rattle.std.specs.Prelude.{ℕ, ℤ, pos, Bool, true, false, cond, not, ◌==◌, ◌&&◌, List, [], ◌∷◌, ◌++◌, Option, Some, None, is_some, unwrap_or, option_map, find}
 use Rattle.std.specs.List.{list_any}
 use Rattle.asset_names.specs.declared.names.Ob.{Ob}
 use Rattle.asset_names.specs.declared.operations.Op.{Op}
 use Rattle.asset_names.specs.declared.operations.Op.TheVariants as Op'
 use Rattle.asset_names.specs.declared.steps.Step.{Step}
-use Rattle.asset_names.specs.declared.steps.Step.TheVariants.{Read, Write}
+use Rattle.asset_names.specs.declared.steps.Step.TheVariants.{Read, Write, Permit}
 use Rattle.asset_names.specs.Arrows.{Arrow, linked, among}
+use Rattle.asset_names.specs.InSet.{in_set}
 use Rattle.asset_names.specs.Steps.{Opening}
 use Rattle.asset_names.specs.declared.statuses.End.{End}
 use Rattle.asset_names.specs.declared.statuses.End.TheVariants as End'
@@ -61,9 +62,15 @@ operations (step ∷ older) = operated step (operations older)
 unfoldable pub holds : List Step → ℕ → ℕ → Op → Bool
 holds past t x op = live past t && list_any (λ (o : Operation). o.owner == t && o.object == x && same_op (op_of o.use_of) op) (operations past)
 
--- the arrows from a giver to a taker who may do op on x: no step permits anything yet
+-- the arrow from giver to taker that a permit adds, where it covers op on x
+unfoldable pub permitted_by : Step → ℕ → Op → List Arrow
+permitted_by (Permit giver taker obs ops) x op = cond (in_set obs x && has_op ops op) ((giver.0, taker.0) ∷ []) []
+permitted_by step x op = []
+
+-- the arrows from each giver to each taker whom it permits op on x
 unfoldable pub permits : List Step → ℕ → Op → List Arrow
-permits past x op = []
+permits [] x op = []
+permits (step ∷ older) x op = permitted_by step x op ++ permits older x op
 
 -- u allows t to do op on x: they are one name, or a chain of live names leads from u to t, each of
 -- which permits it to the next

@@ -3,7 +3,7 @@ use Rattle.std.specs.Prelude.{ℕ, ℤ, Bool, true, false, cond, ◌==◌, List,
 use Rattle.asset_names.specs.declared.names.Txn.{Txn}
 use Rattle.asset_names.specs.declared.names.Ob.{Ob}
 use Rattle.asset_names.specs.declared.steps.Step.{Step}
-use Rattle.asset_names.specs.declared.steps.Step.TheVariants.{Initiate, Begin, Read, Write, Complete, Commit, Abort}
+use Rattle.asset_names.specs.declared.steps.Step.TheVariants.{Initiate, Begin, Read, Write, Complete, Permit, Commit, Abort}
 use Rattle.asset_names.specs.declared.replies.Reply.{Reply}
 use Rattle.asset_names.specs.declared.replies.Reply.TheVariants as Reply'
 
@@ -22,6 +22,7 @@ carries_out (Begin t) Reply'.Done = true
 carries_out (Read t x) (Reply'.Value v) = true
 carries_out (Write t x v) Reply'.Done = true
 carries_out (Complete t) Reply'.Done = true
+carries_out (Permit giver taker obs ops) Reply'.Done = true
 carries_out (Commit t) Reply'.Committed = true
 carries_out (Abort t) Reply'.Aborted = true
 carries_out step reply = false

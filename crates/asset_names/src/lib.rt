@@ -21,7 +21,7 @@ pub use operations::{Op, Ops};
 pub use outcomes::{commit_outcome, is_carried_out, wait_outcome};
 pub use refusals::{
     refusal_to_abort, refusal_to_begin, refusal_to_find, refusal_to_initiate, refusal_to_operate,
-    refusal_to_work,
+    refusal_to_permit, refusal_to_work,
 };
 pub use replies::{Fault, NoMemory, Outcome, Refusal, Reply};
 pub use sets::{ObList, ObSet, SetFault};

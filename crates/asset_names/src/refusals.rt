@@ -1,8 +1,8 @@
 //! Why a transaction may not do what it asks, by its status: each answers the first refusal that applies, if
 //! one does.
 
-ghost use Rattle.std.specs.Prelude.{◌≡◌, not, [], ◌∷◌};
-ghost use Rattle.asset_names.specs.Answers.{is_unknown, has_ended, has_begun, is_running, is_committed, first_refusal};
+ghost use Rattle.std.specs.Prelude.{◌≡◌, ◌==◌, not, [], ◌∷◌};
+ghost use Rattle.asset_names.specs.Answers.{is_unknown, has_ended, has_begun, is_running, is_committed, missing_rule, first_refusal};
 
 use crate::names::{Ob, Txn};
 use crate::replies::Refusal;
@@ -77,5 +77,49 @@ pub fn refusal_to_abort(t: Txn, status: Status) -> Option<Refusal>
         Status::Unknown => Some(Refusal::Unknown(t)),
         Status::Committed => Some(Refusal::TooLate(t)),
         _ => None,
+    }
+}
+
+/// Why a transaction of one status may not share anything with one of another, on which the least object that
+/// does not exist is given, if there is one. The names are different.
+#[tactic(auto, unfolding(crate::specs::Answers::first_refusal, crate::specs::Answers::has_ended, crate::specs::Answers::missing_rule))]
+fn refusal_of_ended(
+    giver: Txn,
+    giver_status: Status,
+    taker: Txn,
+    taker_status: Status,
+    missing: Option<Ob>,
+) -> Option<Refusal>
+    ensures { result ≡ first_refusal ((has_ended giver_status, Refusal.Ended giver) ∷ (has_ended taker_status, Refusal.Ended taker) ∷ missing_rule missing ∷ []) }
+{
+    if giver_status.has_ended() {
+        Some(Refusal::Ended(giver))
+    } else if taker_status.has_ended() {
+        Some(Refusal::Ended(taker))
+    } else {
+        missing.map(Refusal::NoObject)
+    }
+}
+
+/// Why a giver of one status may not permit anything to a taker of another, where `missing` is the least
+/// object of the permit that does not exist, if there is one.
+#[tactic(auto, unfolding(crate::specs::Answers::first_refusal))]
+pub fn refusal_to_permit(
+    giver: Txn,
+    giver_status: Status,
+    taker: Txn,
+    taker_status: Status,
+    missing: Option<Ob>,
+) -> Option<Refusal>
+    ensures { result ≡ first_refusal ((giver.0 == taker.0, Refusal.Same) ∷ (is_unknown giver_status, Refusal.Unknown giver) ∷ (is_unknown taker_status, Refusal.Unknown taker) ∷ (has_ended giver_status, Refusal.Ended giver) ∷ (has_ended taker_status, Refusal.Ended taker) ∷ missing_rule missing ∷ []) }
+{
+    if giver.0 == taker.0 {
+        Some(Refusal::Same)
+    } else if giver_status.is_unknown() {
+        Some(Refusal::Unknown(giver))
+    } else if taker_status.is_unknown() {
+        Some(Refusal::Unknown(taker))
+    } else {
+        refusal_of_ended(giver, giver_status, taker, taker_status, missing)
     }
 }

@@ -27,7 +27,7 @@ pub enum End {
 impl Status {
     ghost use Rattle.std.specs.Prelude.{◌≡◌};
     ghost use Rattle.asset_names.specs.Endings.{is_live_status};
-    ghost use Rattle.asset_names.specs.Answers.{is_completed};
+    ghost use Rattle.asset_names.specs.Answers.{is_unknown, has_ended, is_completed};
     ghost use Rattle.asset_names.specs.Room.{owed_to};
 
     /// Whether a transaction of this status is live.
@@ -39,6 +39,22 @@ impl Status {
             self,
             Status::Initiated | Status::Running | Status::Completed
         )
+    }
+
+    /// Whether no transaction of the name was initiated.
+    #[tactic(auto, unfolding(crate::specs::Answers::is_unknown))]
+    pub fn is_unknown(self) -> bool
+        ensures { result ≡ is_unknown self }
+    {
+        matches!(self, Status::Unknown)
+    }
+
+    /// Whether a transaction of this status has committed or aborted.
+    #[tactic(auto, unfolding(crate::specs::Answers::has_ended))]
+    pub fn has_ended(self) -> bool
+        ensures { result ≡ has_ended self }
+    {
+        matches!(self, Status::Committed | Status::Aborted)
     }
 
     /// Whether a transaction of this status has completed and not yet ended.

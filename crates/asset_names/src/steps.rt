@@ -1,6 +1,8 @@
 //! The steps that clients ask.
 
 use crate::names::{Ob, Txn};
+use crate::operations::Ops;
+use crate::sets::ObSet;
 
 /// A kind of dependency between two transactions.
 #[derive(Clone, Copy, Debug, PartialEq, Eq)]
@@ -26,6 +28,13 @@ pub enum Step {
     Write { t: Txn, x: Ob, v: i64 },
     /// `t` has done its work.
     Complete { t: Txn },
+    /// The giver lets the taker do the operations on the objects although they conflict with its own.
+    Permit {
+        giver: Txn,
+        taker: Txn,
+        obs: ObSet,
+        ops: Ops,
+    },
     /// Commits `t`.
     Commit { t: Txn },
     /// Aborts `t`.
