@@ -11,11 +11,11 @@ use Rattle.asset_names.specs.declared.operations.Op.TheVariants as Op'
 use Rattle.asset_names.specs.declared.statuses.End.{End}
 use Rattle.asset_names.specs.declared.statuses.End.TheVariants as End'
 use Rattle.asset_names.specs.declared.steps.Step.{Step}
-use Rattle.asset_names.specs.declared.steps.Step.TheVariants.{Initiate, Begin, Read, Write, Complete, Commit, Abort, WaitFor}
+use Rattle.asset_names.specs.declared.steps.Step.TheVariants.{Initiate, Begin, Read, Write, Complete, Permit, Commit, Abort, WaitFor}
 use Rattle.asset_names.specs.Arrows.{lists}
 use Rattle.asset_names.specs.Steps.{Opening, initiated, initiated_by}
 use Rattle.asset_names.specs.Endings.{live, end_of, ended_by}
-use Rattle.asset_names.specs.Operations.{Use, Operation, operations, operated, opening_at, op_of, same_op, holds}
+use Rattle.asset_names.specs.Operations.{Use, Operation, operations, operated, opening_at, op_of, same_op, holds, permits, permitted_by}
 use Rattle.asset_names.specs.Operations.Use.{reads, writes}
 use Rattle.asset_names.proofs.LegalLemmas.{option_or_none, IsOrderly}
 use Rattle.asset_names.proofs.LiveLemmas.{live_initiate, live_commit, live_abort, live_parts, end_commit, end_abort}
@@ -71,23 +71,30 @@ cell_as opening ends later os x same = go (opening_at opening x) where
   go None = refl
   go (Some v) = ap Some (cell_same ends later same x v os)
 
--- what a step that initiates nobody, ends nobody and operates on nothing leaves
+-- what a step that initiates nobody, ends nobody, operates on nothing and permits nothing leaves
 pub record IsQuiet (later past : List Step) : Type 0 where
   pub names : initiated later ≡ initiated past
   pub deeds : operations later ≡ operations past
   pub ends : (n : ℕ) → end_of later n ≡ end_of past n
+  pub arrows : (x : ℕ) (op : Op) → permits later x op ≡ permits past x op
 
 pub live_quiet : (later past : List Step) → initiated later ≡ initiated past → ((n : ℕ) → end_of later n ≡ end_of past n) → (n : ℕ) → live later n ≡ live past n
 unfolding live
 live_quiet later past names ends n = rw (names, ends n)
 
-pub cell_quiet : (opening : Opening) (later past : List Step) → IsQuiet later past → (x : ℕ) → cell_of opening later x ≡ cell_of opening past x
+pub cell_same_steps : (opening : Opening) (later past : List Step) → operations later ≡ operations past → ((n : ℕ) → end_of later n ≡ end_of past n) → (x : ℕ) → cell_of opening later x ≡ cell_of opening past x
 unfolding cell_of
-cell_quiet opening later past quiet x = rw quiet.deeds (cell_as opening (end_of past) (end_of later) (operations past) x quiet.ends)
+cell_same_steps opening later past deeds ends x = rw deeds (cell_as opening (end_of past) (end_of later) (operations past) x ends)
+
+pub cell_quiet : (opening : Opening) (later past : List Step) → IsQuiet later past → (x : ℕ) → cell_of opening later x ≡ cell_of opening past x
+cell_quiet opening later past quiet x = cell_same_steps opening later past quiet.deeds quiet.ends x
+
+pub holds_same_steps : (later past : List Step) → initiated later ≡ initiated past → operations later ≡ operations past → ((n : ℕ) → end_of later n ≡ end_of past n) → (t x : ℕ) (op : Op) → holds later t x op ≡ holds past t x op
+unfolding holds
+holds_same_steps later past names deeds ends t x op = rw (deeds, live_quiet later past names ends t)
 
 pub holds_quiet : (later past : List Step) → IsQuiet later past → (t x : ℕ) (op : Op) → holds later t x op ≡ holds past t x op
-unfolding holds
-holds_quiet later past quiet t x op = rw (quiet.deeds, live_quiet later past quiet.names quiet.ends t)
+holds_quiet later past quiet t x op = holds_same_steps later past quiet.names quiet.deeds quiet.ends t x op
 
 pub enrolled_quiet : (later past : List Step) → initiated later ≡ initiated past → ((n : ℕ) → end_of later n ≡ end_of past n)
     → filter (live later) (reverse (initiated later)) ≡ filter (live past) (reverse (initiated past))
@@ -95,12 +102,12 @@ enrolled_quiet later past names ends = rw names (filter_same (live later) (live 
 
 -- steps that are quiet
 pub begin_quiet : (t : Txn) (past : List Step) → IsQuiet (Begin t ∷ past) past
-unfolding initiated initiated_by operations operated end_of ended_by
-begin_quiet t past = record { names = refl; deeds = refl; ends = λ n. option_or_none (end_of past n) }
+unfolding initiated initiated_by operations operated end_of ended_by permits permitted_by
+begin_quiet t past = record { names = refl; deeds = refl; arrows = λ x op. refl; ends = λ n. option_or_none (end_of past n) }
 
 pub complete_quiet : (t : Txn) (past : List Step) → IsQuiet (Complete t ∷ past) past
-unfolding initiated initiated_by operations operated end_of ended_by
-complete_quiet t past = record { names = refl; deeds = refl; ends = λ n. option_or_none (end_of past n) }
+unfolding initiated initiated_by operations operated end_of ended_by permits permitted_by
+complete_quiet t past = record { names = refl; deeds = refl; arrows = λ x op. refl; ends = λ n. option_or_none (end_of past n) }
 
 -- a new name
 pub enrolled_initiate : (u : Txn) (parent : Option Txn) (past : List Step) → lists (initiated past) u.0 ≡ false

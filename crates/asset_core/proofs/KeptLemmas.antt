@@ -5,7 +5,7 @@ use Rattle.std.proofs.lemmas.Bool.{false≢true}
 use Rattle.asset_names.specs.declared.names.Txn.{Txn}
 use Rattle.asset_names.specs.declared.operations.Op.TheVariants as Op'
 use Rattle.asset_names.specs.declared.steps.Step.{Step}
-use Rattle.asset_names.specs.declared.steps.Step.TheVariants.{Initiate, Begin, Read, Write, Complete, Commit, Abort, WaitFor}
+use Rattle.asset_names.specs.declared.steps.Step.TheVariants.{Initiate, Begin, Read, Write, Complete, Permit, Commit, Abort, WaitFor}
 use Rattle.asset_names.specs.declared.replies.Reply.{Reply}
 use Rattle.asset_names.specs.declared.replies.Outcome.TheVariants.{Answer}
 use Rattle.asset_names.specs.Arrows.{lists}
@@ -31,16 +31,17 @@ kept_orderly history tables kept = legal_orderly history.opening history.past ke
 
 -- what the table counts is what is owed
 pub kept_owed : (history : Recorded) (tables : Tables) → IsKeptBy history tables → owed_in tables.trans ≡ owed (deeds history.past)
-kept_owed history tables kept = owed_shown history.opening (deeds history.past) _ _ _ kept.stand (kept_orderly history tables kept)
+kept_owed history tables kept = owed_shown history.opening (deeds history.past) _ _ _ _ kept.stand (kept_orderly history tables kept)
 
 -- the tables stand as they did while a request waits
-pub waiting_stands : (opening : Opening) (past : List Step) (tables : Tables) (step : Step) → Stand opening past tables → Shows opening past tables.trans (cells tables.objects) (locks_waiting step tables)
+pub waiting_stands : (opening : Opening) (past : List Step) (tables : Tables) (step : Step) → Stand opening past tables → Shows opening past tables.trans (cells tables.objects) (locks_waiting step tables) tables.permits
 unfolding locks_waiting
-waiting_stands opening past tables (Read t x) stand = waiting_shows opening past _ _ _ t.0 x Op'.Read stand
-waiting_stands opening past tables (Write t x v) stand = waiting_shows opening past _ _ _ t.0 x Op'.Write stand
+waiting_stands opening past tables (Read t x) stand = waiting_shows opening past _ _ _ _ t.0 x Op'.Read stand
+waiting_stands opening past tables (Write t x v) stand = waiting_shows opening past _ _ _ _ t.0 x Op'.Write stand
 waiting_stands opening past tables (Initiate t parent) stand = stand
 waiting_stands opening past tables (Begin t) stand = stand
 waiting_stands opening past tables (Complete t) stand = stand
+waiting_stands opening past tables (Permit giver taker obs ops) stand = stand
 waiting_stands opening past tables (Commit t) stand = stand
 waiting_stands opening past tables (Abort t) stand = stand
 waiting_stands opening past tables (WaitFor t) stand = stand
@@ -51,6 +52,7 @@ unfolding takes_memory changes_status
 no_ending past (Initiate t parent) reply takes = refl
 no_ending past (Read t x) reply takes = refl
 no_ending past (Write t x v) reply takes = refl
+no_ending past (Permit giver taker obs ops) reply takes = refl
 no_ending past (Begin t) reply takes = refl
 no_ending past (WaitFor t) reply takes = refl
 no_ending past (Complete t) reply takes = absurd (false≢true takes)

@@ -2,9 +2,11 @@ pub mod CellLemmas
 pub mod RowLaws
 pub mod LockLaws
 pub mod HistoryLemmas
+pub mod PermitLaws
 pub mod ShowsLemmas
 pub mod TableLemmas
 pub mod ReadyLemmas
 pub mod PastLemmas
 pub mod PendingLemmas
 pub mod KeptLemmas
+pub mod StoredLemmas

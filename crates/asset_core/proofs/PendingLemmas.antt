@@ -8,7 +8,7 @@ use Rattle.asset_names.specs.declared.names.Ob.{Ob}
 use Rattle.asset_names.specs.declared.operations.Op.{Op}
 use Rattle.asset_names.specs.declared.operations.Op.TheVariants as Op'
 use Rattle.asset_names.specs.declared.steps.Step.{Step}
-use Rattle.asset_names.specs.declared.steps.Step.TheVariants.{Initiate, Begin, Read, Write, Complete, Commit, Abort, WaitFor}
+use Rattle.asset_names.specs.declared.steps.Step.TheVariants.{Initiate, Begin, Read, Write, Complete, Permit, Commit, Abort, WaitFor}
 use Rattle.asset_names.specs.declared.replies.Reply.{Reply}
 use Rattle.asset_names.specs.declared.replies.Outcome.{Outcome}
 use Rattle.asset_names.specs.declared.replies.Outcome.TheVariants.{Answer, Wait}
@@ -25,6 +25,7 @@ use Rattle.asset_core.specs.Recorded.{Recorded, after, with_entry}
 use Rattle.asset_core.specs.Pending.{Pending, Facility, place_after, request_after, new_place, pending_after, waiter_of, waiting_for}
 use Rattle.asset_core.specs.Tables.{Stand, place_of, places_of, locks_after, locks_waiting, released}
 use Rattle.asset_core.proofs.HistoryLemmas.{lists_pushed, live_quiet, begin_quiet, complete_quiet, read_ends, write_ends, wait_ends}
+use Rattle.asset_core.proofs.PermitLaws.{permit_ends}
 use Rattle.asset_core.proofs.ShowsLemmas.{live_shown, new_name}
 use Rattle.asset_core.proofs.PastLemmas.{deeds_carried, deeds_not_carried}
 
@@ -83,6 +84,7 @@ place_keeps (Write t x v) outcome place = go (eqb place.name t.0) where
 place_keeps (Initiate t parent) outcome place = refl
 place_keeps (Begin t) outcome place = refl
 place_keeps (Complete t) outcome place = refl
+place_keeps (Permit giver taker obs ops) outcome place = refl
 place_keeps (Commit t) outcome place = refl
 place_keeps (Abort t) outcome place = refl
 place_keeps (WaitFor t) outcome place = refl
@@ -114,6 +116,7 @@ place_unchanged (Write t x v) reply place none = rw none (go (eqb place.name t.0
 place_unchanged (Initiate t parent) reply place none = refl
 place_unchanged (Begin t) reply place none = refl
 place_unchanged (Complete t) reply place none = refl
+place_unchanged (Permit giver taker obs ops) reply place none = refl
 place_unchanged (Commit t) reply place none = refl
 place_unchanged (Abort t) reply place none = refl
 place_unchanged (WaitFor t) reply place none = refl
@@ -125,6 +128,7 @@ new_unchanged (Begin t) reply none = refl
 new_unchanged (Read t x) reply none = refl
 new_unchanged (Write t x v) reply none = refl
 new_unchanged (Complete t) reply none = refl
+new_unchanged (Permit giver taker obs ops) reply none = refl
 new_unchanged (Commit t) reply none = refl
 new_unchanged (Abort t) reply none = refl
 new_unchanged (WaitFor t) reply none = refl
@@ -167,6 +171,7 @@ waiting_places (Write t x v) tables = sym (places_changed t.0 (Locks.waiting_row
 waiting_places (Initiate t parent) tables = same_places _ _ (λ place. refl)
 waiting_places (Begin t) tables = same_places _ _ (λ place. refl)
 waiting_places (Complete t) tables = same_places _ _ (λ place. refl)
+waiting_places (Permit giver taker obs ops) tables = same_places _ _ (λ place. refl)
 waiting_places (Commit t) tables = same_places _ _ (λ place. refl)
 waiting_places (Abort t) tables = same_places _ _ (λ place. refl)
 waiting_places (WaitFor t) tables = same_places _ _ (λ place. refl)
@@ -183,6 +188,7 @@ places_waiting opening past tables step stand =
       none (Read t x) = refl
       none (Write t x v) = refl
       none (Complete t) = refl
+      none (Permit giver taker obs ops) = refl
       none (Commit t) = refl
       none (Abort t) = refl
       none (WaitFor t) = refl
@@ -239,7 +245,7 @@ ended_places opening past step tables t stand ends = go (is_live_status (status_
   go false e =
       all_stay (live (step ∷ past)) ps (λ n listed.
       let alive = place_live opening past tables stand n listed in
-      ends n ∙ rw (alive, not_here n (sym (live_shown opening past _ _ _ t stand) ∙ e) alive) refl)
+      ends n ∙ rw (alive, not_here n (sym (live_shown opening past _ _ _ _ t stand) ∙ e) alive) refl)
 
 -- a new name has a place at the end
 initiate_places : (opening : Opening) (past : List Step) (tables : Tables) (t : Txn) (parent : Option Txn) (reply : Reply) → Stand opening past tables → carries_out (Initiate t parent) reply ≡ true → lists (initiated past) t.0 ≡ false
@@ -286,6 +292,9 @@ places_carried opening past tables (Read t x) reply stand carried new =
 places_carried opening past tables (Write t x v) reply stand carried new =
     nobody_ended (Write t x v ∷ past) past (Write t x v) (Answer reply) (places_of tables.locks) (λ n listed. live_quiet (Write t x v ∷ past) past refl (write_ends t x v past) n ∙ place_live opening past tables stand n listed) refl
     ∙ granted_places (Write t x v) t.0 x Op'.Write reply tables carried (λ place. refl)
+places_carried opening past tables (Permit giver taker obs ops) reply stand carried new =
+    nobody_ended (Permit giver taker obs ops ∷ past) past (Permit giver taker obs ops) (Answer reply) (places_of tables.locks) (λ n listed. live_quiet (Permit giver taker obs ops ∷ past) past refl (permit_ends giver taker obs ops past) n ∙ place_live opening past tables stand n listed) refl
+    ∙ same_places _ _ (λ place. refl)
 places_carried opening past tables (Commit t) reply stand carried new =
     ap (λ ps. filter (λ (place : Pending). live (Commit t ∷ past) place.name) ps) (append-nil _ ∙ same_places _ _ (λ place. refl)) ∙ ended_places opening past (Commit t) tables t.0 stand (live_commit t past)
 places_carried opening past tables (Abort t) reply stand carried new =

@@ -9,7 +9,7 @@ use Rattle.asset_names.specs.declared.operations.Op.TheVariants as Op'
 use Rattle.asset_names.specs.declared.statuses.Status.{Status}
 use Rattle.asset_names.specs.declared.statuses.Status.TheVariants as Status'
 use Rattle.asset_names.specs.declared.steps.Step.{Step}
-use Rattle.asset_names.specs.declared.steps.Step.TheVariants.{Initiate, Begin, Read, Write, Complete, Commit, Abort, WaitFor}
+use Rattle.asset_names.specs.declared.steps.Step.TheVariants.{Initiate, Begin, Read, Write, Complete, Permit, Commit, Abort, WaitFor}
 use Rattle.asset_names.specs.declared.replies.Refusal.{Refusal}
 use Rattle.asset_names.specs.declared.replies.Reply.{Reply}
 use Rattle.asset_names.specs.declared.replies.Outcome.{Outcome}
@@ -19,7 +19,7 @@ use Rattle.asset_names.specs.Steps.{Opening, carries_out, initiated}
 use Rattle.asset_names.specs.Endings.{live, status, end_of, is_live_status}
 use Rattle.asset_names.specs.Operations.{free, exists, opening_at, operations}
 use Rattle.asset_names.specs.Answers.{answer, outcome_unless, unrefused, rules_for, first_refusal, unknown, ended, begun_before, is_unknown, has_ended, has_begun, is_running}
-use Rattle.asset_names.proofs.LegalLemmas.{carried_unrefused, first_none, initiate_new, complete_runs}
+use Rattle.asset_names.proofs.LegalLemmas.{carried_unrefused, first_none, initiate_new, complete_runs, permit_live}
 use Rattle.asset_names.proofs.LiveLemmas.{live_by_status, live_parts}
 use Rattle.asset_objects.specs.Cells.{cells, has_object}
 use Rattle.asset_locks.specs.Kept.{table_of}
@@ -30,8 +30,8 @@ use Rattle.asset_core.specs.Shows.{cell_of, cell_after}
 use Rattle.asset_core.specs.Tables.{Stand, IsReady, MayWait, IsAtWork, is_free_for}
 use Rattle.asset_core.proofs.RowLaws.{row_absent}
 use Rattle.asset_core.proofs.HistoryLemmas.{lists_reverse}
-use Rattle.asset_core.proofs.ShowsLemmas.{free_shown}
-use Rattle.asset_core.proofs.TableLemmas.{read_unrefused, write_unrefused}
+use Rattle.asset_core.proofs.ShowsLemmas.{free_shown, live_shown}
+use Rattle.asset_core.proofs.TableLemmas.{object_exists, read_unrefused, write_unrefused}
 
 -- what is listed of the names that pass
 lists_filter : (p : ℕ → Bool) (names : List ℕ) (t : ℕ) → lists (filter p names) t ≡ (p t && lists names t)
@@ -116,14 +116,6 @@ waits_unrefused opening past step is = go (first_refusal (rules_for opening past
   go None h = refl
   go (Some refusal) h = cc
 
--- which objects exist, by the cells
-object_exists : (opening : Opening) (past : List Step) (tables : Tables) (x : ℕ) → Stand opening past tables → has_object (cells tables.objects) x ≡ exists opening x
-unfolding has_object cell_of exists
-object_exists opening past tables x stand = ap is_some (stand.cells x) ∙ go (opening_at opening x) where
-  go : (first : Option ℤ) → is_some (option_map (λ v. cell_after (end_of past) x v (operations past)) first) ≡ is_some first
-  go None = refl
-  go (Some v) = refl
-
 pub ready : (opening : Opening) (past : List Step) (tables : Tables) (step : Step) (reply : Reply) → Stand opening past tables → answer opening past step ≡ Answer reply → carries_out step reply ≡ true → IsReady step tables
 unfolding rules_for unknown ended begun_before unrefused is_free_for
 ready opening past tables (Initiate t parent) reply stand is carried =
@@ -140,12 +132,15 @@ ready opening past tables (Begin t) reply stand is carried =
 ready opening past tables (Read t x) reply stand is carried =
     let none = carried_unrefused opening past (Read t x) reply is carried in
     let there = read_unrefused opening past t x none in
-    (at_work opening past tables t.0 stand there.0, free_shown opening past _ _ _ t.0 x.0 Op'.Read stand ∙ free_if _ reply _ (answered_unrefused opening past (Read t x) (Answer reply) is none))
+    (at_work opening past tables t.0 stand there.0, free_shown opening past _ _ _ _ t.0 x.0 Op'.Read stand ∙ free_if _ reply _ (answered_unrefused opening past (Read t x) (Answer reply) is none))
 ready opening past tables (Write t x v) reply stand is carried =
     let none = carried_unrefused opening past (Write t x v) reply is carried in
     let there = write_unrefused opening past t x v none in
-    (at_work opening past tables t.0 stand there.0, free_shown opening past _ _ _ t.0 x.0 Op'.Write stand ∙ free_if _ reply _ (answered_unrefused opening past (Write t x v) (Answer reply) is none), object_exists opening past tables x.0 stand ∙ there.1)
+    (at_work opening past tables t.0 stand there.0, free_shown opening past _ _ _ _ t.0 x.0 Op'.Write stand ∙ free_if _ reply _ (answered_unrefused opening past (Write t x v) (Answer reply) is none), object_exists opening past tables x.0 stand ∙ there.1)
 ready opening past tables (Complete t) reply stand is carried = stand.statuses t.0 ∙ running_is (status past t.0) (complete_runs opening past t reply is carried)
+ready opening past tables (Permit giver taker obs ops) reply stand is carried =
+    let both = permit_live opening past giver taker obs ops reply is carried in
+    (live_shown opening past _ _ _ _ giver.0 stand ∙ both.0, live_shown opening past _ _ _ _ taker.0 stand ∙ both.1)
 ready opening past tables (Commit t) reply stand is carried = tt
 ready opening past tables (Abort t) reply stand is carried = tt
 ready opening past tables (WaitFor t) reply stand is carried = tt
@@ -154,13 +149,14 @@ pub may_wait : (opening : Opening) (past : List Step) (tables : Tables) (step : 
 unfolding unrefused is_free_for
 may_wait opening past tables (Read t x) stand is =
     let none = waits_unrefused opening past (Read t x) is in
-    (at_work opening past tables t.0 stand (read_unrefused opening past t x none).0, free_shown opening past _ _ _ t.0 x.0 Op'.Read stand ∙ hindered_if _ _ (answered_unrefused opening past (Read t x) Wait is none))
+    (at_work opening past tables t.0 stand (read_unrefused opening past t x none).0, free_shown opening past _ _ _ _ t.0 x.0 Op'.Read stand ∙ hindered_if _ _ (answered_unrefused opening past (Read t x) Wait is none))
 may_wait opening past tables (Write t x v) stand is =
     let none = waits_unrefused opening past (Write t x v) is in
-    (at_work opening past tables t.0 stand (write_unrefused opening past t x v none).0, free_shown opening past _ _ _ t.0 x.0 Op'.Write stand ∙ hindered_if _ _ (answered_unrefused opening past (Write t x v) Wait is none))
+    (at_work opening past tables t.0 stand (write_unrefused opening past t x v none).0, free_shown opening past _ _ _ _ t.0 x.0 Op'.Write stand ∙ hindered_if _ _ (answered_unrefused opening past (Write t x v) Wait is none))
 may_wait opening past tables (Initiate t parent) stand is = tt
 may_wait opening past tables (Begin t) stand is = tt
 may_wait opening past tables (Complete t) stand is = tt
+may_wait opening past tables (Permit giver taker obs ops) stand is = tt
 may_wait opening past tables (Commit t) stand is = tt
 may_wait opening past tables (Abort t) stand is = tt
 may_wait opening past tables (WaitFor t) stand is = tt

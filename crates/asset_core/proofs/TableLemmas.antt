@@ -1,6 +1,6 @@
 -- What the tables' own calls say, put together.
 use Rattle.std.proofs.Common.{◌≡◌, ℕ, Bool, true, false, cond, not, eqb, List, [], ◌∷◌, ◌++◌, filter, refl, sym, ◌∙◌, ap, subst, arith, Some, None, Ok, Err, OnOk, OnErr}
-use Rattle.std.specs.Prelude.{Option, Result, find}
+use Rattle.std.specs.Prelude.{Option, Result, find, is_some, option_map, ℤ}
 use Rattle.std.specs.List.{list_any}
 use Rattle.std.proofs.lemmas.Bool.{or_parts, not-false, eq-eqb, false≢true}
 use Rattle.asset_names.specs.declared.names.Txn.{Txn}
@@ -10,16 +10,17 @@ use Rattle.asset_names.specs.declared.operations.Op.TheVariants as Op'
 use Rattle.asset_names.specs.declared.steps.Step.{Step}
 use Rattle.asset_names.specs.declared.steps.Step.TheVariants.{Read, Write}
 use Rattle.asset_names.specs.Steps.{Opening}
-use Rattle.asset_names.specs.Endings.{status}
-use Rattle.asset_names.specs.Operations.{exists, value, value_if_any}
+use Rattle.asset_names.specs.Endings.{status, end_of}
+use Rattle.asset_names.specs.Operations.{exists, opening_at, operations, value, value_if_any}
 use Rattle.asset_names.specs.Answers.{unrefused, rules_for, first_refusal, unknown, ended, not_running, no_object, is_unknown, is_running}
 use Rattle.asset_names.proofs.LegalLemmas.{first_none}
-use Rattle.asset_objects.specs.Cells.{Cells, cells, value_in}
+use Rattle.asset_permits.specs.Descriptors.{Descriptor}
+use Rattle.asset_objects.specs.Cells.{Cells, cells, value_in, has_object}
 use Rattle.asset_locks.specs.Kept.{table_of}
 use Rattle.asset_locks.specs.Table as Locks
 use Rattle.asset_trans.specs.Rows.{Entry}
 use Rattle.asset_core.specs.declared.tables.Tables.{Tables}
-use Rattle.asset_core.specs.Shows.{Shows}
+use Rattle.asset_core.specs.Shows.{Shows, cell_of, cell_after}
 use Rattle.asset_core.specs.Tables.{Stand, is_free_for, value_or_zero, read_outcome}
 use Rattle.asset_core.proofs.ShowsLemmas.{free_shown, value_of_tables}
 
@@ -36,14 +37,18 @@ pub on_ok_three : {T E : Type 0} {P Q R S : Type 0} (r : Result T E) → (P → 
 on_ok_three (Ok x) f p q s = f p q s
 on_ok_three (Err e) f p q s = p
 
+pub always_ok : {T E : Type 0} {P : Type 0} (r : Result T E) → P → OnOk r P
+always_ok (Ok x) p = p
+always_ok (Err e) p = tt
+
 pub always_err : {T E : Type 0} {P : Type 0} (r : Result T E) → P → OnErr r P
 always_err (Ok x) p = tt
 always_err (Err e) p = p
 
 -- tables that are as others are stand for what the others do
-pub stand_as : (opening : Opening) (past : List Step) (later : Tables) (rows : List Entry) (objects : Cells) (table : Locks.Table) → later.trans ≡ rows → cells later.objects ≡ objects → table_of later.locks ≡ table
-    → Shows opening past rows objects table → Stand opening past later
-stand_as opening past later rows objects table r o l shows = rw (r, o, l) shows
+pub stand_as : (opening : Opening) (past : List Step) (later : Tables) (rows : List Entry) (objects : Cells) (table : Locks.Table) (descriptors : List Descriptor) → later.trans ≡ rows → cells later.objects ≡ objects → table_of later.locks ≡ table
+    → later.permits ≡ descriptors → Shows opening past rows objects table descriptors → Stand opening past later
+stand_as opening past later rows objects table descriptors r o l p shows = rw (r, o, l, p) shows
 
 -- a step that is not refused finds its object
 no_refusal : (opening : Opening) (past : List Step) (t : Txn) (x : Ob)
@@ -90,5 +95,19 @@ enrolment_given_back t table none unlocked = λ i. record { holders = none_named
 pub read_answered : (opening : Opening) (past : List Step) (tables : Tables) (t : Txn) (x : Ob) → Stand opening past tables → exists opening x.0 ≡ true → read_outcome tables t.0 x.0 ≡ unrefused opening past (Read t x)
 unfolding read_outcome is_free_for value_or_zero unrefused value_if_any
 read_answered opening past tables t x stand there =
-    let shown : value_in (cells tables.objects) x.0 ≡ Some (value opening past x.0) = value_of_tables opening past _ _ _ x.0 stand ∙ rw there refl in
-    rw (free_shown opening past _ _ _ t.0 x.0 Op'.Read stand, shown) refl
+    let shown : value_in (cells tables.objects) x.0 ≡ Some (value opening past x.0) = value_of_tables opening past _ _ _ _ x.0 stand ∙ rw there refl in
+    rw (free_shown opening past _ _ _ _ t.0 x.0 Op'.Read stand, shown) refl
+
+-- which objects exist, by the cells
+pub object_exists : (opening : Opening) (past : List Step) (tables : Tables) (x : ℕ) → Stand opening past tables → has_object (cells tables.objects) x ≡ exists opening x
+unfolding has_object cell_of exists
+object_exists opening past tables x stand = ap is_some (stand.cells x) ∙ go (opening_at opening x) where
+  go : (first : Option ℤ) → is_some (option_map (λ v. cell_after (end_of past) x v (operations past)) first) ≡ is_some first
+  go None = refl
+  go (Some v) = refl
+
+-- the first of some objects that has no cell is the first that does not exist
+pub missing_shown : (opening : Opening) (past : List Step) (tables : Tables) (objects : List Ob) → Stand opening past tables
+    → find (λ (x : Ob). not (has_object (cells tables.objects) x.0)) objects ≡ find (λ (x : Ob). not (exists opening x.0)) objects
+missing_shown opening past tables [] stand = refl
+missing_shown opening past tables (x ∷ objects) stand = rw (object_exists opening past tables x.0 stand, missing_shown opening past tables objects stand) refl

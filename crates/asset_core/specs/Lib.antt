@@ -3,3 +3,5 @@ pub mod OpenFaults
 pub mod Pending
 pub mod Shows
 pub mod Tables
+pub mod PermitChanges
+pub mod Stored

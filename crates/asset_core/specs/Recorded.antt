@@ -43,9 +43,3 @@ has_room history step Wait = true
 unfoldable pub is_ending : Recorded → Step → Outcome → Bool
 is_ending history step (Answer reply) = changes_status (deeds history.past) step reply
 is_ending history step Wait = false
-
--- how a history is kept: its entries, oldest first, are legal and within the room that was taken
-pub record IsKept (opening : Opening) (entries : List Entry) (room reserved : ℕ) : Type 0 where
-  pub legal : IsLegal opening (reverse entries)
-  pub within : length entries ≤ room
-  pub taken : room ≤ reserved

@@ -1,14 +1,16 @@
 -- How the tables stand for a history.
-use Rattle.std.specs.Prelude.{◌≡◌, ℕ, ℤ, Bool, cond, ◌==◌, List, [], ◌∷◌, filter, reverse, Option, Some, None, option_map}
+use Rattle.std.specs.Prelude.{◌≡◌, ℕ, ℤ, Bool, cond, ◌==◌, ◌&&◌, List, [], ◌∷◌, filter, reverse, Option, Some, None, option_map}
 use Rattle.asset_names.specs.declared.operations.Op.{Op}
 use Rattle.asset_names.specs.declared.statuses.End.{End}
 use Rattle.asset_names.specs.declared.statuses.End.TheVariants as End'
 use Rattle.asset_names.specs.declared.steps.Step.{Step}
 use Rattle.asset_names.specs.Steps.{Opening, initiated, parent_of}
 use Rattle.asset_names.specs.Endings.{end_of, live, status}
-use Rattle.asset_names.specs.Operations.{Use, Operation, operations, opening_at, holds}
+use Rattle.asset_names.specs.Arrows.{has_arrow}
+use Rattle.asset_names.specs.Operations.{Use, Operation, operations, opening_at, holds, permits}
 use Rattle.asset_names.specs.Operations.Use.{reads, writes}
 use Rattle.asset_objects.specs.Cells.{Cell, Cells, fresh, written}
+use Rattle.asset_permits.specs.Descriptors.{Descriptor, one_covers}
 use Rattle.asset_locks.specs.Table as Locks
 use Rattle.asset_trans.specs.Rows.{Entry, names_of, status_in, parent_in}
 
@@ -33,13 +35,19 @@ cell_after ends x first (o ∷ older) = cond (o.object == x) (used (ends o.owner
 unfoldable pub cell_of : Opening → List Step → ℕ → Option Cell
 cell_of opening past x = option_map (λ first. cell_after (end_of past) x first (operations past)) (opening_at opening x)
 
+-- a permit that stands: it lets the taker do op on x, and both names are live
+unfoldable pub permitted : List Step → ℕ → ℕ → ℕ → Op → Bool
+permitted past giver taker x op = live past giver && live past taker && has_arrow (permits past x op) giver taker
+
 -- The tables stand for the steps that were carried out: the transactions are those that were initiated, in
 -- order, each with its status and parent; the cell of each object is that of the history; the live ones are
--- enrolled in order of initiation; and a lock carries an operation exactly where its owner holds the object by it.
-pub record Shows (opening : Opening) (past : List Step) (rows : List Entry) (objects : Cells) (table : Locks.Table) : Type 0 where
+-- enrolled in order of initiation; a lock carries an operation exactly where its owner holds the object by it; and
+-- a descriptor covers an operation on an object exactly where a permit between live names lets it be done.
+pub record Shows (opening : Opening) (past : List Step) (rows : List Entry) (objects : Cells) (table : Locks.Table) (descriptors : List Descriptor) : Type 0 where
   pub names : names_of rows ≡ reverse (initiated past)
   pub statuses : (t : ℕ) → status_in rows t ≡ status past t
   pub parents : (t : ℕ) → parent_in rows t ≡ parent_of past t
   pub cells : (x : ℕ) → objects x ≡ cell_of opening past x
   pub enrolled : Locks.names_in table ≡ filter (live past) (reverse (initiated past))
   pub locks : (t x : ℕ) (op : Op) → Locks.carries table t x op ≡ holds past t x op
+  pub permits_stand : (u t x : ℕ) (op : Op) → one_covers descriptors u t x op ≡ permitted past u t x op

@@ -4,7 +4,7 @@ use Rattle.asset_names.specs.declared.operations.Op.{Op}
 use Rattle.asset_names.specs.declared.operations.Op.TheVariants as Op'
 use Rattle.asset_names.specs.declared.statuses.Status.TheVariants as Status'
 use Rattle.asset_names.specs.declared.steps.Step.{Step}
-use Rattle.asset_names.specs.declared.steps.Step.TheVariants.{Initiate, Begin, Read, Write, Complete, Commit, Abort, WaitFor}
+use Rattle.asset_names.specs.declared.steps.Step.TheVariants.{Initiate, Begin, Read, Write, Complete, Permit, Commit, Abort, WaitFor}
 use Rattle.asset_names.specs.declared.replies.Reply.TheVariants as Reply'
 use Rattle.asset_names.specs.declared.replies.Outcome.{Outcome}
 use Rattle.asset_names.specs.declared.replies.Outcome.TheVariants.{Answer, Wait}
@@ -12,7 +12,7 @@ use Rattle.asset_names.specs.Steps.{Opening, deeds}
 use Rattle.asset_names.specs.Endings.{is_live_status}
 use Rattle.asset_names.specs.Answers.{IsLegal}
 use Rattle.asset_names.specs.Room.{owed}
-use Rattle.asset_permits.specs.Allowed.{allows_in}
+use Rattle.asset_permits.specs.Descriptors.{allows_in}
 use Rattle.asset_objects.specs.Cells.{cells, value_in, has_object}
 use Rattle.asset_locks.specs.Kept.{Kept, table_of}
 use Rattle.asset_locks.specs.Table as Locks
@@ -24,11 +24,11 @@ use Rattle.asset_core.specs.Shows.{Shows}
 
 -- the tables stand for the steps that were carried out
 abbrev pub Stand : Opening → List Step → Tables → Type 0
-Stand opening past tables = Shows opening past tables.trans (cells tables.objects) (table_of tables.locks)
+Stand opening past tables = Shows opening past tables.trans (cells tables.objects) (table_of tables.locks) tables.permits
 
 -- the object is free by the locks
 unfoldable pub is_free_for : Tables → ℕ → ℕ → Op → Bool
-is_free_for tables t x op = Locks.is_free_in (table_of tables.locks) (λ u. allows_in u t x op) t x op
+is_free_for tables t x op = Locks.is_free_in (table_of tables.locks) (λ u. allows_in tables.permits u t x op) t x op
 
 -- the value that a write asks for, and 0 of another step
 unfoldable pub value_asked : Step → ℤ
@@ -60,6 +60,7 @@ IsReady (Begin t) tables = status_in tables.trans t.0 ≡ Status'.Initiated
 IsReady (Read t x) tables = IsAtWork tables t.0 × (is_free_for tables t.0 x.0 Op'.Read ≡ true)
 IsReady (Write t x v) tables = IsAtWork tables t.0 × (is_free_for tables t.0 x.0 Op'.Write ≡ true) × (has_object (cells tables.objects) x.0 ≡ true)
 IsReady (Complete t) tables = status_in tables.trans t.0 ≡ Status'.Running
+IsReady (Permit giver taker obs ops) tables = (is_live_status (status_in tables.trans giver.0) ≡ true) × (is_live_status (status_in tables.trans taker.0) ≡ true)
 IsReady (Commit t) tables = Unit {0}
 IsReady (Abort t) tables = Unit {0}
 IsReady (WaitFor t) tables = Unit {0}
@@ -94,6 +95,7 @@ pub record ShowAlike (later before : Tables) : Type 0 where
   pub rows : later.trans ≡ before.trans
   pub objects : cells later.objects ≡ cells before.objects
   pub locks : table_of later.locks ≡ table_of before.locks
+  pub permits : later.permits ≡ before.permits
 
 -- the pending places in the table of locks
 unfoldable pub place_of : Locks.Holder → Pending

@@ -67,8 +67,8 @@ impl Core {
     /// fills its asker's pending place, and a granted one, or an end, empties it. An answered step is
     /// one more entry, refused or not. Full comes exactly where the entries with this one, and those
     /// that live names are owed after it, exceed the capacity; a complete, a commit or an abort that
-    /// changes a status always finds room. NoMemory may come only where an initiate, a read or a
-    /// write would be carried out. After Full and NoMemory nothing has changed.
+    /// changes a status always finds room. NoMemory may come only where an initiate, a read, a
+    /// write or a permit would be carried out. After Full and NoMemory nothing has changed.
     #[tactic(auto, unfolding(crate::specs::Recorded::after, crate::specs::Recorded::has_room, crate::specs::Recorded::is_ending, asset_names::specs::Answers::carried_out))]
     pub fn step(&mut self, step: Step) -> Result<Outcome, Fault>
         ensures answered { IfOk result (λ outcome. outcome ≡ answer_to self.old.history step) }
@@ -79,46 +79,47 @@ impl Core {
         ensures ending { is_ending self.old.history step (answer_to self.old.history step) ≡ true → IsOk result }
         ensures fault { OnErr result (self.new ≡ self.old) }
     {
-        match self.answer(step) {
+        match self.answer(&step) {
             Outcome::Wait => {
-                self.wait(step);
+                self.wait(&step);
                 Ok(Outcome::Wait)
             }
-            Outcome::Answer(reply) => self.record(step, reply),
+            Outcome::Answer(reply) => self.record(&step, reply),
         }
     }
 
     /// The answer to a step. Nothing changes.
-    fn answer(&mut self, step: Step) -> Outcome
-        ensures answer { result ≡ answer_to self.old.history step }
+    fn answer(&mut self, step: &Step) -> Outcome
+        ensures answer { result ≡ answer_to self.old.history step.now }
         ensures same { self.new ≡ self.old }
     {
         self.tables.answer(step)
     }
 
     /// Keeps a request that waits.
-    fn wait(&mut self, step: Step)
-        requires waits { answer_to self.old.history step ≡ Waits }
+    fn wait(&mut self, step: &Step)
+        requires waits { answer_to self.old.history step.now ≡ Waits }
         ensures history { self.new.history ≡ self.old.history }
-        ensures pending { self.new.pending ≡ pending_after self.old step Waits }
+        ensures pending { self.new.pending ≡ pending_after self.old step.now Waits }
     {
         self.tables.wait(step);
     }
 
     /// How many entries are owed after a step that is carried out with this reply.
-    fn owed_after_deed(&self, step: Step, reply: Reply) -> usize
-        requires answer { answer_to self.now.history step ≡ Answer reply }
-        requires carried { carries_out step reply ≡ true }
-        ensures owed { result ≡ owed (step ∷ deeds self.now.history.past) }
+    fn owed_after_deed(&self, step: &Step, reply: Reply) -> usize
+        requires answer { answer_to self.now.history step.now ≡ Answer reply }
+        requires carried { carries_out step.now reply ≡ true }
+        ensures owed { result ≡ owed (step.now ∷ deeds self.now.history.past) }
         ensures bound { result ≤ owed (deeds self.now.history.past) + 2 }
     {
         let counted = self.tables.trans.owed();
-        match step {
+        match *step {
             Step::Initiate { .. } => counted + 2,
             Step::Complete { .. } => counted - 1,
             Step::Commit { t } => counted - self.tables.trans.status(t).owed(),
             Step::Abort { t } => counted - self.tables.trans.status(t).owed(),
             Step::Begin { .. } => counted,
+            Step::Permit { .. } => counted,
             Step::Read { .. } => counted,
             Step::Write { .. } => counted,
             Step::WaitFor { .. } => counted,
@@ -126,9 +127,9 @@ impl Core {
     }
 
     /// How many entries are owed after an answer.
-    fn owed_after(&self, step: Step, reply: Reply) -> usize
-        requires answer { answer_to self.now.history step ≡ Answer reply }
-        ensures owed { result ≡ owed (deeds ((step, reply) ∷ self.now.history.past)) }
+    fn owed_after(&self, step: &Step, reply: Reply) -> usize
+        requires answer { answer_to self.now.history step.now ≡ Answer reply }
+        ensures owed { result ≡ owed (deeds ((step.now, reply) ∷ self.now.history.past)) }
         ensures bound { result ≤ owed (deeds self.now.history.past) + 2 }
     {
         if is_carried_out(step, reply) {
@@ -139,24 +140,24 @@ impl Core {
     }
 
     /// Whether there is room for an answer with what is owed after it.
-    fn has_room(&self, step: Step, reply: Reply) -> bool
-        requires answer { answer_to self.now.history step ≡ Answer reply }
-        ensures room { result ≡ has_room self.now.history step (Answer reply) }
-        ensures ending { is_ending self.now.history step (Answer reply) ≡ true → result ≡ true }
+    fn has_room(&self, step: &Step, reply: Reply) -> bool
+        requires answer { answer_to self.now.history step.now ≡ Answer reply }
+        ensures room { result ≡ has_room self.now.history step.now (Answer reply) }
+        ensures ending { is_ending self.now.history step.now (Answer reply) ≡ true → result ≡ true }
         ensures place { result ≡ true → length self.now.history.past < self.now.history.room }
     {
         self.history.len() + 1 + self.owed_after(step, reply) <= self.history.room()
     }
 
     /// Records the answer to a step, if there is room for it.
-    fn record(&mut self, step: Step, reply: Reply) -> Result<Outcome, Fault>
-        requires answer { answer_to self.old.history step ≡ Answer reply }
+    fn record(&mut self, step: &Step, reply: Reply) -> Result<Outcome, Fault>
+        requires answer { answer_to self.old.history step.now ≡ Answer reply }
         ensures answered { IfOk result (λ outcome. outcome ≡ Answer reply) }
-        ensures grown { OnOk result (self.new.history ≡ with_entry self.old.history step reply) }
-        ensures pending { OnOk result (self.new.pending ≡ pending_after self.old step (Answer reply)) }
-        ensures full { IsErrOf result Fault.Full ↔ (has_room self.old.history step (Answer reply) ≡ false) }
-        ensures memory { IsErrOf result Fault.NoMemory → (takes_memory step ≡ true) × (carries_out step reply ≡ true) }
-        ensures ending { is_ending self.old.history step (Answer reply) ≡ true → IsOk result }
+        ensures grown { OnOk result (self.new.history ≡ with_entry self.old.history step.now reply) }
+        ensures pending { OnOk result (self.new.pending ≡ pending_after self.old step.now (Answer reply)) }
+        ensures full { IsErrOf result Fault.Full ↔ (has_room self.old.history step.now (Answer reply) ≡ false) }
+        ensures memory { IsErrOf result Fault.NoMemory → (takes_memory step.now ≡ true) × (carries_out step.now reply ≡ true) }
+        ensures ending { is_ending self.old.history step.now (Answer reply) ≡ true → IsOk result }
         ensures fault { OnErr result (self.new ≡ self.old) }
     {
         if !self.has_room(step, reply) {

@@ -1,29 +1,32 @@
 //! A history: what was opened, and the entries in order.
 
+use crate::stored::{PermitAsked, Stored, put_beside};
 use asset_names::{Ob, Reply, Step};
 use std::alloc::{AllocError, Global};
 use std::marker::Model;
 use thiserror::Error;
 
 /// The opening values of the objects and the entries, each a step with the reply that it got. It is
-/// always legal: the facility would answer each step as it did, after the entries before it. Contracts see the opening, the entries with
-/// the newest first, and how many entries there is room for in all.
+/// always legal: the facility would answer each step as it did, after the entries before it. Contracts
+/// see the opening, the entries with the newest first, and how many entries there is room for in all.
 #[derive(Drop)]
 pub struct History {
     opening: Vec<(Ob, i64)>,
-    entries: Vec<(Step, Reply)>,
+    entries: Vec<(Stored, Reply)>,
+    permits: Vec<PermitAsked>,
     room: usize,
 }
 
 impl Model for History {
-    ghost use Rattle.std.specs.Prelude.{reverse, vec_capacity};
-    ghost use Rattle.asset_core.specs.Recorded.{Recorded, IsKept};
+    ghost use Rattle.std.specs.Prelude.{vec_capacity};
+    ghost use Rattle.asset_core.specs.Recorded.{Recorded};
+    ghost use Rattle.asset_core.specs.Stored.{past_of, IsKept};
 
     ghost Value = { Recorded };
 
-    ghost view = { λ h. record { opening = h.opening.items; past = reverse h.entries.items; room = h.room } };
+    ghost view = { λ h. record { opening = h.opening.items; past = past_of h.permits.items h.entries.items; room = h.room } };
 
-    ghost invariant = { λ h. IsKept h.opening.items h.entries.items h.room (vec_capacity h.entries) };
+    ghost invariant = { λ h. IsKept h.opening.items h.entries.items h.permits.items h.room (vec_capacity h.entries) (vec_capacity h.permits) };
 }
 
 impl History {
@@ -33,7 +36,7 @@ impl History {
     ghost use Rattle.asset_core.specs.Recorded.{opened, answer_to, with_entry};
 
     /// A history of these opening values with room for so many entries, and none yet.
-    #[tactic(auto, unfolding(crate::specs::Recorded::opened))]
+    #[tactic(auto, unfolding(crate::specs::Recorded::opened, crate::specs::Stored::past_of))]
     pub(crate) fn open(
         alloc: Global,
         opening: &[(Ob, i64)],
@@ -44,6 +47,7 @@ impl History {
         Ok(History {
             opening: opening.to_vec(alloc)?,
             entries: Vec::with_capacity(alloc, room)?,
+            permits: Vec::with_capacity(alloc, room)?,
             room,
         })
     }
@@ -67,7 +71,7 @@ impl History {
     pub fn is_empty(&self) -> bool
         ensures { IsTrue result ↔ (self.now.past ≡ []) }
     {
-        self.entries.is_empty()
+        self.len() == 0
     }
 
     /// The entry of this number. Entries count from 0, oldest first.
@@ -75,7 +79,10 @@ impl History {
         ensures entry { result ≡ slice_get (reverse self.now.past) number }
         ensures legal { IsLegal self.now.opening self.now.past }
     {
-        self.entries.get(number).copied()
+        match self.entries.get(number) {
+            Some((stored, reply)) => Some((stored.step(&self.permits), *reply)),
+            None => None,
+        }
     }
 
     /// How many entries there is room for in all.
@@ -87,12 +94,14 @@ impl History {
 
     /// Adds the step with its answer. The room was taken when the history was opened, so this takes
     /// no memory.
-    pub(crate) fn append(&mut self, step: Step, reply: Reply)
-        requires answer { answer_to self.old step ≡ Answer reply }
+    pub(crate) fn append(&mut self, step: &Step, reply: Reply)
+        requires answer { answer_to self.old step.now ≡ Answer reply }
         requires room { length self.old.past < self.old.room }
-        ensures { self.new ≡ with_entry self.old step reply }
+        ensures { self.new ≡ with_entry self.old step.now reply }
     {
-        self.entries.push((step, reply)).unwrap()
+        let stored = Stored::of(step, self.permits.len());
+        put_beside(&mut self.permits, step);
+        self.entries.push((stored, reply)).unwrap();
     }
 }
 

@@ -4,6 +4,7 @@
 
 mod facility;
 mod history;
+mod stored;
 mod tables;
 
 pub use facility::Core;

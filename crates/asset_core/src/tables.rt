@@ -5,9 +5,9 @@ ghost use Rattle.asset_core.specs.Tables.{value_asked};
 
 use asset_locks::Locks;
 use asset_names::{
-    End, NoMemory, Ob, Op, Outcome, Refusal, Reply, Status, Step, Txn, commit_outcome,
+    End, NoMemory, Ob, ObSet, Op, Ops, Outcome, Refusal, Reply, Status, Step, Txn, commit_outcome,
     is_carried_out, refusal_to_abort, refusal_to_begin, refusal_to_find, refusal_to_initiate,
-    refusal_to_operate, refusal_to_work, wait_outcome,
+    refusal_to_operate, refusal_to_permit, refusal_to_work, wait_outcome,
 };
 use asset_objects::{Objects, ObjectsFault};
 use asset_permits::Permits;
@@ -26,21 +26,21 @@ pub struct Tables {
 /// The value that a write asks for, and 0 of another step. A signed number out of a step is passed on as the
 /// result of a call, so that its range is known.
 #[tactic(auto, unfolding(crate::specs::Tables::value_asked))]
-fn value_asked(step: Step) -> i64
-    ensures { result ≡ value_asked step }
+pub(crate) fn value_asked(step: &Step) -> i64
+    ensures { result ≡ value_asked step.now }
 {
-    match step {
+    match *step {
         Step::Write { v, .. } => v,
         _ => 0,
     }
 }
 
 impl Tables {
-    ghost use Rattle.std.specs.Prelude.{◌≡◌, ℤ, cond, List, [], ◌∷◌, ◌==◌, true, false, None, OnOk, OnErr, IfOk, IfErr};
+    ghost use Rattle.std.specs.Prelude.{◌≡◌, ℤ, cond, not, find, List, [], ◌∷◌, ◌==◌, true, false, None, OnOk, OnErr, IfOk, IfErr};
     ghost use Rattle.asset_names.specs.declared.steps.Step.{Step as Request};
     ghost use Rattle.asset_names.specs.declared.operations.Op.{Op as Kind};
     ghost use Rattle.asset_names.specs.Steps.{Opening, Entry, carries_out, deeds};
-    ghost use Rattle.asset_names.specs.Answers.{first_refusal, rules_for, unrefused, answer, takes_memory, unknown, ended, not_running, no_object};
+    ghost use Rattle.asset_names.specs.Answers.{first_refusal, rules_for, unrefused, answer, takes_memory, unknown, ended, not_running, no_object, one_name, missing_in, no_object_of};
     ghost use Rattle.asset_objects.specs.Faults.{objects_of, IsObjectsFault};
     ghost use Rattle.asset_names.specs.Sets.{HasNoDouble};
     ghost use Rattle.asset_objects.specs.Cells.{cells, has_object};
@@ -52,6 +52,7 @@ impl Tables {
     ghost use Rattle.asset_names.specs.declared.statuses.Status.{Status};
     ghost use Rattle.asset_names.specs.Endings.{is_live_status};
     ghost use Rattle.asset_names.specs.Operations.{exists};
+    ghost use Rattle.asset_core.specs.PermitChanges.{IsDropped};
     ghost use Rattle.asset_core.specs.Tables.{value_asked, value_or_zero, read_outcome, Stand, IsReady, MayWait, IsAtWork, IsNew, is_free_for, locks_after, locks_waiting, places_of, ShowAlike};
 
     /// The tables of an opening, before the first step.
@@ -77,15 +78,18 @@ impl Tables {
     }
 
     /// The first refusal of a step, if one applies.
-    fn refusal(&self, step: Step) -> Option<Refusal>
-        ensures { (opening : Opening) (past : List Request) → Stand opening past self.now → result ≡ first_refusal (rules_for opening past step) }
+    fn refusal(&self, step: &Step) -> Option<Refusal>
+        ensures { (opening : Opening) (past : List Request) → Stand opening past self.now → result ≡ first_refusal (rules_for opening past step.now) }
     {
-        match step {
+        match *step {
             Step::Initiate { t, .. } => refusal_to_initiate(t, self.trans.status(t)),
             Step::Begin { t } => refusal_to_begin(t, self.trans.status(t)),
             Step::Read { t, x } => self.refusal_to_use(t, x),
             Step::Write { t, x, .. } => self.refusal_to_use(t, x),
             Step::Complete { t } => refusal_to_work(t, self.trans.status(t)),
+            Step::Permit {
+                giver, taker, obs, ..
+            } => self.refusal_to_permit(giver, taker, &obs),
             Step::Commit { t } => refusal_to_find(t, self.trans.status(t)),
             Step::WaitFor { t } => refusal_to_find(t, self.trans.status(t)),
             Step::Abort { t } => refusal_to_abort(t, self.trans.status(t)),
@@ -99,6 +103,49 @@ impl Tables {
     {
         let exists = self.objects.value(x).is_some();
         refusal_to_operate(t, self.trans.status(t), x, exists)
+    }
+
+    /// Why the giver may not permit the taker anything on the objects, if it may not.
+    fn refusal_to_permit(&self, giver: Txn, taker: Txn, obs: &ObSet) -> Option<Refusal>
+        ensures { (opening : Opening) (past : List Request) → Stand opening past self.now →
+            result ≡ first_refusal (one_name giver taker ∷ unknown past giver ∷ unknown past taker ∷ ended past giver ∷ ended past taker ∷ no_object_of opening obs.now ∷ []) }
+    {
+        let missing = self.missing(obs);
+        refusal_to_permit(
+            giver,
+            self.trans.status(giver),
+            taker,
+            self.trans.status(taker),
+            missing,
+        )
+    }
+
+    /// The least object of the set that does not exist, if there is one.
+    fn missing(&self, obs: &ObSet) -> Option<Ob>
+        ensures { (opening : Opening) (past : List Request) → Stand opening past self.now → result ≡ missing_in opening obs.now }
+    {
+        match obs {
+            ObSet::All => None,
+            ObSet::Listed(list) => self.first_missing(list.objects()),
+        }
+    }
+
+    /// The first of the objects that does not exist, if there is one.
+    fn first_missing(&self, objects: &[Ob]) -> Option<Ob>
+        ensures { result ≡ find (λ x. not (has_object (cells self.now.objects) x.0)) objects.now }
+    {
+        objects.iter().copied().find(|x| self.is_missing(*x))
+    }
+
+    /// Whether the object does not exist.
+    #[tactic(auto, unfolding(asset_objects::specs::Cells::has_object, asset_objects::specs::Cells::value_in))]
+    fn is_missing(&self, x: Ob) -> bool
+        ensures { result ≡ not (has_object (cells self.now.objects) x.0) }
+    {
+        match self.objects.value(x) {
+            Some(_) => false,
+            None => true,
+        }
     }
 
     /// The value of an object, and 0 where there is none.
@@ -139,15 +186,16 @@ impl Tables {
     }
 
     /// The outcome of a step that is not refused. Nothing changes.
-    fn unrefused(&mut self, step: Step) -> Outcome
-        ensures outcome { (opening : Opening) (past : List Request) → Stand opening past self.old → first_refusal (rules_for opening past step) ≡ None →
-            result ≡ unrefused opening past step }
+    fn unrefused(&mut self, step: &Step) -> Outcome
+        ensures outcome { (opening : Opening) (past : List Request) → Stand opening past self.old → first_refusal (rules_for opening past step.now) ≡ None →
+            result ≡ unrefused opening past step.now }
         ensures same { self.new ≡ self.old }
     {
-        match step {
+        match *step {
             Step::Initiate { .. } => Outcome::Answer(Reply::Done),
             Step::Begin { .. } => Outcome::Answer(Reply::Done),
             Step::Complete { .. } => Outcome::Answer(Reply::Done),
+            Step::Permit { .. } => Outcome::Answer(Reply::Done),
             Step::Read { t, x } => self.read_outcome(t, x),
             Step::Write { t, x, .. } => self.write_outcome(t, x),
             Step::Commit { t } => {
@@ -160,8 +208,8 @@ impl Tables {
     }
 
     /// The answer to a step. Nothing changes.
-    pub fn answer(&mut self, step: Step) -> Outcome
-        ensures answer { (opening : Opening) (past : List Request) → Stand opening past self.old → result ≡ answer opening past step }
+    pub fn answer(&mut self, step: &Step) -> Outcome
+        ensures answer { (opening : Opening) (past : List Request) → Stand opening past self.old → result ≡ answer opening past step.now }
         ensures same { self.new ≡ self.old }
     {
         match self.refusal(step) {
@@ -171,11 +219,11 @@ impl Tables {
     }
 
     /// Carries a step out, if the reply says so. Where memory runs out, the tables show what they did before.
-    pub fn follow(&mut self, step: Step, reply: Reply) -> Result<(), NoMemory>
-        requires ready { carries_out step reply ≡ true → IsReady step self.old }
-        ensures stand { OnOk result ((opening : Opening) (older : List Entry) → Stand opening (deeds older) self.old → IsOrderly (deeds older) → Stand opening (deeds ((step, reply) ∷ older)) self.new) }
-        ensures locks { OnOk result (table_of self.new.locks ≡ cond (carries_out step reply) (locks_after step self.old) (table_of self.old.locks)) }
-        ensures memory { OnErr result ((takes_memory step ≡ true) × (carries_out step reply ≡ true)) }
+    pub fn follow(&mut self, step: &Step, reply: Reply) -> Result<(), NoMemory>
+        requires ready { carries_out step.now reply ≡ true → IsReady step.now self.old }
+        ensures stand { OnOk result ((opening : Opening) (older : List Entry) → Stand opening (deeds older) self.old → IsOrderly (deeds older) → Stand opening (deeds ((step.now, reply) ∷ older)) self.new) }
+        ensures locks { OnOk result (table_of self.new.locks ≡ cond (carries_out step.now reply) (locks_after step.now self.old) (table_of self.old.locks)) }
+        ensures memory { OnErr result ((takes_memory step.now ≡ true) × (carries_out step.now reply ≡ true)) }
         ensures unchanged { OnErr result (ShowAlike self.new self.old) }
     {
         if is_carried_out(step, reply) {
@@ -186,14 +234,14 @@ impl Tables {
     }
 
     /// Carries a step out. Where memory runs out, the tables show what they did before.
-    pub fn carry_out(&mut self, step: Step) -> Result<(), NoMemory>
-        requires ready { IsReady step self.old }
-        ensures stand { OnOk result ((opening : Opening) (past : List Request) → Stand opening past self.old → IsOrderly past → Stand opening (step ∷ past) self.new) }
-        ensures locks { OnOk result (table_of self.new.locks ≡ locks_after step self.old) }
-        ensures memory { OnErr result (takes_memory step ≡ true) }
+    pub fn carry_out(&mut self, step: &Step) -> Result<(), NoMemory>
+        requires ready { IsReady step.now self.old }
+        ensures stand { OnOk result ((opening : Opening) (past : List Request) → Stand opening past self.old → IsOrderly past → Stand opening (step.now ∷ past) self.new) }
+        ensures locks { OnOk result (table_of self.new.locks ≡ locks_after step.now self.old) }
+        ensures memory { OnErr result (takes_memory step.now ≡ true) }
         ensures unchanged { OnErr result (ShowAlike self.new self.old) }
     {
-        match step {
+        match *step {
             Step::Initiate { t, parent } => self.initiate(t, parent),
             Step::Begin { t } => {
                 self.trans.begin(t);
@@ -205,6 +253,12 @@ impl Tables {
                 self.trans.complete(t);
                 Ok(())
             }
+            Step::Permit {
+                giver,
+                taker,
+                obs,
+                ops,
+            } => self.permits.add(giver, taker, obs, ops),
             Step::Commit { t } => {
                 self.commit(t);
                 Ok(())
@@ -223,6 +277,7 @@ impl Tables {
         ensures rows { OnOk result (self.new.trans ≡ initiate_in self.old.trans t parent) }
         ensures objects { OnOk result (cells self.new.objects ≡ cells self.old.objects) }
         ensures locks { OnOk result (table_of self.new.locks ≡ enrol_in t.0 (table_of self.old.locks)) }
+        ensures permits { self.new.permits ≡ self.old.permits }
         ensures unchanged { OnErr result (ShowAlike self.new self.old) }
     {
         self.locks.enrol(t)?;
@@ -240,6 +295,7 @@ impl Tables {
         requires work { IsAtWork self.old t.0 }
         requires free { is_free_for self.old t.0 x.0 Kind.Read ≡ true }
         ensures rows { self.new.trans ≡ self.old.trans }
+        ensures permits { self.new.permits ≡ self.old.permits }
         ensures objects { cells self.new.objects ≡ cells self.old.objects }
         ensures locks { OnOk result (table_of self.new.locks ≡ grant_in t.0 x Kind.Read (table_of self.old.locks)) }
         ensures owners { OnOk result (HaveOwners ((table_of self.old.locks).locks_on x.0)) }
@@ -250,12 +306,13 @@ impl Tables {
     }
 
     /// Writes what the step asks, where it is free. The record's memory is reserved before the lock is asked for.
-    fn write(&mut self, t: Txn, x: Ob, step: Step) -> Result<(), NoMemory>
+    fn write(&mut self, t: Txn, x: Ob, step: &Step) -> Result<(), NoMemory>
         requires work { IsAtWork self.old t.0 }
         requires free { is_free_for self.old t.0 x.0 Kind.Write ≡ true }
         requires exists { has_object (cells self.old.objects) x.0 ≡ true }
         ensures rows { self.new.trans ≡ self.old.trans }
-        ensures objects { OnOk result (cells self.new.objects ≡ change_at x.0 (written t.0 (value_asked step)) (cells self.old.objects)) }
+        ensures permits { self.new.permits ≡ self.old.permits }
+        ensures objects { OnOk result (cells self.new.objects ≡ change_at x.0 (written t.0 (value_asked step.now)) (cells self.old.objects)) }
         ensures locks { OnOk result (table_of self.new.locks ≡ grant_in t.0 x Kind.Write (table_of self.old.locks)) }
         ensures owners { OnOk result (HaveOwners ((table_of self.old.locks).locks_on x.0)) }
         ensures unchanged { OnErr result (ShowAlike self.new self.old) }
@@ -266,49 +323,55 @@ impl Tables {
         Ok(())
     }
 
-    /// Commits `t`, where it is live: its writes stand for good, and its locks go.
+    /// Commits `t`, where it is live: its writes stand for good, and its locks and permits go.
     fn commit(&mut self, t: Txn)
         ensures live { is_live_status (status_in self.old.trans t.0) ≡ true →
             (self.new.trans ≡ set_in (λ n. n == t.0) Status.Committed self.old.trans)
             × (cells self.new.objects ≡ change_each (settled (λ n. n == t.0)) (cells self.old.objects))
-            × (table_of self.new.locks ≡ release_in (λ n. n == t.0) (table_of self.old.locks)) }
+            × (table_of self.new.locks ≡ release_in (λ n. n == t.0) (table_of self.old.locks))
+            × IsDropped t.0 self.old.permits self.new.permits }
         ensures ended { is_live_status (status_in self.old.trans t.0) ≡ false → self.new ≡ self.old }
     {
         if self.trans.status(t).is_live() {
             self.objects.settle(t);
             self.locks.release(t);
+            self.permits.drop_all(t);
             self.trans.end(t, End::Committed);
         }
     }
 
-    /// Aborts `t`, where it is live: its writes are undone, and its locks go.
+    /// Aborts `t`, where it is live: its writes are undone, and its locks and permits go.
     fn abort(&mut self, t: Txn)
         ensures live { is_live_status (status_in self.old.trans t.0) ≡ true →
             (self.new.trans ≡ set_in (λ n. n == t.0) Status.Aborted self.old.trans)
             × (cells self.new.objects ≡ change_each (undone (λ n. n == t.0)) (cells self.old.objects))
-            × (table_of self.new.locks ≡ release_in (λ n. n == t.0) (table_of self.old.locks)) }
+            × (table_of self.new.locks ≡ release_in (λ n. n == t.0) (table_of self.old.locks))
+            × IsDropped t.0 self.old.permits self.new.permits }
         ensures ended { is_live_status (status_in self.old.trans t.0) ≡ false → self.new ≡ self.old }
     {
         if self.trans.status(t).is_live() {
             self.objects.undo(t);
             self.locks.release(t);
+            self.permits.drop_all(t);
             self.trans.end(t, End::Aborted);
         }
     }
 
     /// Keeps a request that waits in its asker's pending place. It takes no memory.
-    pub fn wait(&mut self, step: Step)
-        requires waits { MayWait step self.old }
+    pub fn wait(&mut self, step: &Step)
+        requires waits { MayWait step.now self.old }
         ensures rows { self.new.trans ≡ self.old.trans }
+        ensures permits { self.new.permits ≡ self.old.permits }
         ensures objects { self.new.objects ≡ self.old.objects }
-        ensures locks { table_of self.new.locks ≡ locks_waiting step self.old }
+        ensures locks { table_of self.new.locks ≡ locks_waiting step.now self.old }
     {
-        match step {
+        match *step {
             Step::Read { t, x } => self.wait_for(t, x, Op::Read),
             Step::Write { t, x, .. } => self.wait_for(t, x, Op::Write),
             Step::Initiate { .. } => {}
             Step::Begin { .. } => {}
             Step::Complete { .. } => {}
+            Step::Permit { .. } => {}
             Step::Commit { .. } => {}
             Step::Abort { .. } => {}
             Step::WaitFor { .. } => {}
@@ -320,6 +383,7 @@ impl Tables {
         requires work { IsAtWork self.old t.0 }
         requires hindered { is_free_for self.old t.0 x.0 op ≡ false }
         ensures rows { self.new.trans ≡ self.old.trans }
+        ensures permits { self.new.permits ≡ self.old.permits }
         ensures objects { self.new.objects ≡ self.old.objects }
         ensures locks { table_of self.new.locks ≡ wait_in t.0 x op (table_of self.old.locks) }
     {

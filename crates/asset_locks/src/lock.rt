@@ -43,7 +43,7 @@ impl Default for Lock {
 
 impl Lock {
     ghost use Rattle.std.specs.Prelude.{◌≡◌};
-    ghost use Rattle.asset_permits.specs.Allowed.{allows_in};
+    ghost use Rattle.asset_permits.specs.Descriptors.{allows_in};
     ghost use Rattle.asset_locks.specs.Table.{is_of, keeps_off, beside, state_of};
 
     /// Whether the lock is the transaction's.
@@ -57,7 +57,7 @@ impl Lock {
     /// Whether the lock keeps `t` from doing `op` on `x`, the object that it is on.
     #[tactic(auto, unfolding(crate::specs::Table::is_of, crate::specs::Table::keeps_off))]
     fn keeps_off(&self, t: Txn, x: Ob, op: Op, permits: &mut Permits) -> bool
-        ensures answer { result ≡ keeps_off (λ u. allows_in u t.0 x.0 op) t.0 op self.now }
+        ensures answer { result ≡ keeps_off (λ u. allows_in permits.old u t.0 x.0 op) t.0 op self.now }
         ensures permits { permits.new ≡ permits.old }
     {
         self.owner != t && one_conflicts(self.ops, op) && !permits.allows(self.owner, t, x, op)
@@ -93,7 +93,7 @@ ghost use Rattle.std.specs.Prelude.{◌≡◌, ◌==◌, not, map, filter, is_so
 ghost use Rattle.std.specs.List.{list_any};
 ghost use Rattle.smallvec.specs.SmallVec.{HasRoomFor};
 ghost use Rattle.asset_names.specs.Operations.{conflict, has_op};
-ghost use Rattle.asset_permits.specs.Allowed.{allows_in};
+ghost use Rattle.asset_permits.specs.Descriptors.{allows_in};
 ghost use Rattle.asset_locks.specs.Kept.{without};
 ghost use Rattle.asset_locks.specs.Table.{one_conflicts, both_conflict, with_op, carried_with, keeps_off, beside, lock_of, granted_on};
 
@@ -148,7 +148,7 @@ fn carried_with(op: Op, lock: Option<Lock>) -> Carried
 
 /// Whether one of the locks on `x` keeps `t` from doing `op`.
 pub(crate) fn is_kept_off(locks: &[Lock], t: Txn, x: Ob, op: Op, permits: &mut Permits) -> bool
-    ensures answer { result ≡ list_any (keeps_off (λ u. allows_in u t.0 x.0 op) t.0 op) locks.now }
+    ensures answer { result ≡ list_any (keeps_off (λ u. allows_in permits.old u t.0 x.0 op) t.0 op) locks.now }
     ensures permits { permits.new ≡ permits.old }
 {
     'locks: for lock in locks {

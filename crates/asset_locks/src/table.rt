@@ -38,7 +38,7 @@ impl Locks {
     ghost use Rattle.std.specs.Prelude.{◌≡◌, ℕ, ◌==◌, true, false, None, Some, is_some, slice_get, IsTrue, IfOk, IsErr, OnOk, OnErr};
     ghost use Rattle.std.specs.Option.{option_to_list};
     ghost use Rattle.std.specs.List.{list_any};
-    ghost use Rattle.asset_permits.specs.Allowed.{allows_in};
+    ghost use Rattle.asset_permits.specs.Descriptors.{allows_in};
     ghost use Rattle.asset_locks.specs.Table.{is_of, no_locks, enrol_in, release_in, holder_in, is_free_in, grant_in, wait_in, status_in, held_in, waiters_in, waiting_at, AreApart, Holder as Enrolled};
     ghost use Rattle.asset_locks.specs.Kept.{table_of, answer_where, after_ask, HaveOwners};
 
@@ -74,7 +74,7 @@ impl Locks {
     /// Whether `t` may do `op` on `x` now: each lock on `x` that conflicts with `op`, granted or
     /// suspended, is its own or of somebody who permits it. It takes no memory.
     pub fn is_free(&self, t: Txn, x: Ob, op: Op, permits: &mut Permits) -> bool
-        ensures free { result ≡ is_free_in (table_of self.now) (λ u. allows_in u t.0 x.0 op) t.0 x.0 op }
+        ensures free { result ≡ is_free_in (table_of self.now) (λ u. allows_in permits.old u t.0 x.0 op) t.0 x.0 op }
         ensures owners { HaveOwners ((table_of self.now).locks_on x.0) }
         ensures permits { permits.new ≡ permits.old }
     {
@@ -88,10 +88,10 @@ impl Locks {
     /// Only a grant takes memory. Where there is none, nothing changes.
     pub fn ask(&mut self, t: Txn, x: Ob, op: Op, permits: &mut Permits) -> Result<Asked, NoMemory>
         requires enrolled { is_some (holder_in (table_of self.old) t.0) ≡ true }
-        ensures answer { IfOk result (λ asked. asked ≡ answer_where (is_free_in (table_of self.old) (λ u. allows_in u t.0 x.0 op) t.0 x.0 op)) }
-        ensures done { OnOk result (table_of self.new ≡ after_ask (is_free_in (table_of self.old) (λ u. allows_in u t.0 x.0 op) t.0 x.0 op) t.0 x op (table_of self.old)) }
+        ensures answer { IfOk result (λ asked. asked ≡ answer_where (is_free_in (table_of self.old) (λ u. allows_in permits.old u t.0 x.0 op) t.0 x.0 op)) }
+        ensures done { OnOk result (table_of self.new ≡ after_ask (is_free_in (table_of self.old) (λ u. allows_in permits.old u t.0 x.0 op) t.0 x.0 op) t.0 x op (table_of self.old)) }
         ensures owners { HaveOwners ((table_of self.old).locks_on x.0) }
-        ensures memory { IsErr result → is_free_in (table_of self.old) (λ u. allows_in u t.0 x.0 op) t.0 x.0 op ≡ true }
+        ensures memory { IsErr result → is_free_in (table_of self.old) (λ u. allows_in permits.old u t.0 x.0 op) t.0 x.0 op ≡ true }
         ensures unchanged { OnErr result (table_of self.new ≡ table_of self.old) }
         ensures permits { permits.new ≡ permits.old }
     {

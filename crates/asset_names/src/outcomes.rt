@@ -37,8 +37,8 @@ pub fn wait_outcome(status: Status) -> Outcome
 
 /// Whether a step that got this reply was carried out.
 #[tactic(auto, unfolding(crate::specs::Steps::carries_out))]
-pub fn is_carried_out(step: Step, reply: Reply) -> bool
-    ensures { result ≡ carries_out step reply }
+pub fn is_carried_out(step: &Step, reply: Reply) -> bool
+    ensures { result ≡ carries_out step.now reply }
 {
     match step {
         Step::Read { .. } => matches!(reply, Reply::Value(_)),

@@ -1,1 +1,1 @@
-pub mod Allowed
+pub mod Descriptors

@@ -5,5 +5,3 @@ mod table;
 
 pub use table::Permits;
 
-#[cfg(test)]
-mod tests;

@@ -15,6 +15,6 @@ unfolding is_ending answer_to fits
 returns-clause-ending c = λ ends.
     let history = c.self.inside.history in
     let fitted : fits (deeds history.past) (length history.past) history.room ≡ true = le-leb _ _ c.self.invariant.fitting in
-    let found = ending_fits history.opening history.past c.args.step c.args.reply history.room c.self.invariant.legal fitted
+    let found = ending_fits history.opening history.past c.args.step.now c.args.reply history.room c.self.invariant.legal fitted
     (rw (← c.self.view_is) at c.requires.answer) (rw (← c.self.view_is) at ends) in
     rw (c.len.ensures.len, c.owed_after.ensures.owed, c.room.ensures, ← c.self.view_is) found

@@ -6,11 +6,11 @@ use Rattle.asset_core.proofs.facility.Core.owed_after.Goals as goal
 
 pub returns-then-is_carried_out-clause-owed : goal.returns-then-is_carried_out-clause-owed
 returns-then-is_carried_out-clause-owed c =
-    c.owed_after_deed.ensures.owed ∙ sym (ap owed (deeds_carried (c.args.step, c.args.reply) _ (sym c.is_carried_out.ensures ∙ c.if-is_carried_out.true)))
+    c.owed_after_deed.ensures.owed ∙ sym (ap owed (deeds_carried (c.args.step.now, c.args.reply) _ (sym c.is_carried_out.ensures ∙ c.if-is_carried_out.true)))
 
 pub returns-else-is_carried_out-clause-owed : goal.returns-else-is_carried_out-clause-owed
 returns-else-is_carried_out-clause-owed c =
-    rw (← c.self.view_is) (c.owed.ensures ∙ kept_owed c.self.inside.history c.self.inside.tables c.self.invariant ∙ sym (ap owed (deeds_not_carried (c.args.step, c.args.reply) _ (sym c.is_carried_out.ensures ∙ c.if-is_carried_out.false))))
+    rw (← c.self.view_is) (c.owed.ensures ∙ kept_owed c.self.inside.history c.self.inside.tables c.self.invariant ∙ sym (ap owed (deeds_not_carried (c.args.step.now, c.args.reply) _ (sym c.is_carried_out.ensures ∙ c.if-is_carried_out.false))))
 
 pub returns-else-is_carried_out-clause-bound : goal.returns-else-is_carried_out-clause-bound
 returns-else-is_carried_out-clause-bound c =

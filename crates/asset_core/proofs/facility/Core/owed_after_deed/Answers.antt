@@ -1,7 +1,7 @@
 use Rattle.std.proofs.Common.{sym, ◌∙◌, ap, arith}
 use Rattle.asset_names.specs.Room.{owed_to}
 use Rattle.asset_names.proofs.LegalLemmas.{initiate_new, complete_runs}
-use Rattle.asset_names.proofs.RoomLemmas.{owed_initiate, owed_complete, owed_commit, owed_abort, owed_begin, owed_read, owed_write, owed_wait}
+use Rattle.asset_names.proofs.RoomLemmas.{owed_initiate, owed_complete, owed_commit, owed_abort, owed_begin, owed_read, owed_write, owed_permit, owed_wait}
 use Rattle.asset_core.specs.Recorded.{answer_to}
 use Rattle.asset_core.proofs.KeptLemmas.{kept_owed, kept_orderly}
 use Rattle.asset_core.proofs.facility.Core.owed_after_deed.Goals as goal
@@ -131,5 +131,15 @@ returns-in-Write-clause-bound c =
 
 pub returns-in-WaitFor-clause-bound : goal.returns-in-WaitFor-clause-bound
 returns-in-WaitFor-clause-bound c =
+    let counts = c.owed-counted.ensures ∙ kept_owed c.self.inside.history c.self.inside.tables c.self.invariant in
+    rw (← c.self.view_is) (omega (arith, counts))
+
+pub returns-in-Permit-clause-owed : goal.returns-in-Permit-clause-owed
+returns-in-Permit-clause-owed c =
+    let counts = c.owed-counted.ensures ∙ kept_owed c.self.inside.history c.self.inside.tables c.self.invariant in
+    rw (c.in-Permit.is, ← c.self.view_is) (counts ∙ sym (owed_permit _ _ _ _ _))
+
+pub returns-in-Permit-clause-bound : goal.returns-in-Permit-clause-bound
+returns-in-Permit-clause-bound c =
     let counts = c.owed-counted.ensures ∙ kept_owed c.self.inside.history c.self.inside.tables c.self.invariant in
     rw (← c.self.view_is) (omega (arith, counts))

@@ -13,7 +13,7 @@ use Rattle.asset_core.proofs.facility.Core.record.Goals as goal
 
 pub follow-requires : goal.follow-requires
 unfolding answer_to
-follow-requires c = record { ready = λ carried. ready _ _ c.self.inside.tables c.args.step c.args.reply c.self.invariant.stand (rw (← c.self.view_is) at c.requires.answer) carried }
+follow-requires c = record { ready = λ carried. ready _ _ c.self.inside.tables c.args.step.now c.args.reply c.self.invariant.stand (rw (← c.self.view_is) at c.requires.answer) carried }
 
 pub invariant_of-self : goal.invariant_of-self
 unfolding with_entry answer_to IsLegal has_room fits
@@ -31,11 +31,11 @@ pub returns-in-Ok-clause-pending : goal.returns-in-Ok-clause-pending
 unfolding places_of pending_after after answer_to with_entry
 returns-in-Ok-clause-pending c =
     rw (← c.self.view_is) (ap places c.in-Ok.ensures.locks
-    ∙ places_followed c.self.inside.history.opening c.self.inside.history.past c.self.inside.tables c.args.step c.args.reply c.self.invariant.stand (rw (← c.self.view_is) at c.requires.answer))
+    ∙ places_followed c.self.inside.history.opening c.self.inside.history.past c.self.inside.tables c.args.step.now c.args.reply c.self.invariant.stand (rw (← c.self.view_is) at c.requires.answer))
 
 pub returns-in-Err-clause-ending : goal.returns-in-Err-clause-ending
 unfolding is_ending
-returns-in-Err-clause-ending c = λ ends. sym (no_ending _ c.args.step c.args.reply c.in-Err.ensures.memory.0) ∙ ends
+returns-in-Err-clause-ending c = λ ends. sym (no_ending _ c.args.step.now c.args.reply c.in-Err.ensures.memory.0) ∙ ends
 
 pub returns-in-Err-clause-fault : goal.returns-in-Err-clause-fault
 unfolding places_of

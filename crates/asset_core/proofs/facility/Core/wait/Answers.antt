@@ -11,11 +11,11 @@ use Rattle.asset_core.proofs.facility.Core.wait.Goals as goal
 
 pub wait-requires : goal.wait-requires
 unfolding answer_to
-wait-requires c = record { waits = may_wait _ _ c.self.inside.tables c.args.step c.self.invariant.stand (rw (← c.self.view_is) at c.requires.waits) }
+wait-requires c = record { waits = may_wait _ _ c.self.inside.tables c.args.step.now c.self.invariant.stand (rw (← c.self.view_is) at c.requires.waits) }
 
 pub invariant_of-self : goal.invariant_of-self
 invariant_of-self c = record {
-  stand = stand_as _ _ _ _ _ _ c.wait.ensures.rows (ap cells c.wait.ensures.objects) c.wait.ensures.locks (waiting_stands _ _ c.self.inside.tables c.args.step c.self.invariant.stand);
+  stand = stand_as _ _ _ _ _ _ _ c.wait.ensures.rows (ap cells c.wait.ensures.objects) c.wait.ensures.locks c.wait.ensures.permits (waiting_stands _ _ c.self.inside.tables c.args.step.now c.self.invariant.stand);
   legal = c.self.invariant.legal;
   fitting = c.self.invariant.fitting;
   capacity = c.self.invariant.capacity;
@@ -23,4 +23,4 @@ invariant_of-self c = record {
 
 pub returns-clause-pending : goal.returns-clause-pending
 unfolding places_of pending_after after
-returns-clause-pending c = rw (← c.self.view_is) (ap places c.wait.ensures.locks ∙ sym (places_waiting _ _ c.self.inside.tables c.args.step c.self.invariant.stand))
+returns-clause-pending c = rw (← c.self.view_is) (ap places c.wait.ensures.locks ∙ sym (places_waiting _ _ c.self.inside.tables c.args.step.now c.self.invariant.stand))

@@ -1,9 +1,18 @@
-use Rattle.std.proofs.Common.{arith}
+use Rattle.std.proofs.Common.{arith, refl}
 use Rattle.asset_names.specs.Answers.{IsLegal}
+use Rattle.asset_core.specs.Stored.{past_of, all_there}
 use Rattle.asset_core.proofs.history.History.open.Goals as goal
 
 pub invariant_of-result : goal.invariant_of-result
-unfolding IsLegal
+unfolding IsLegal past_of all_there
 invariant_of-result c =
     let taken = c.in_ok-with_capacity.ensures in
-    record { legal = rw taken.items tt; within = rw taken.items (omega arith); taken = taken.capacity }
+    let beside = c.in_ok-with_capacity-2.ensures in
+    record {
+      legal = rw taken.items tt;
+      there = rw taken.items refl;
+      fewer = rw (taken.items, beside.items) (omega arith);
+      within = rw taken.items (omega arith);
+      taken = taken.capacity;
+      taken_beside = beside.capacity;
+    }

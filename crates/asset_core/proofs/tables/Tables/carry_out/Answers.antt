@@ -8,14 +8,14 @@ use Rattle.asset_locks.specs.Kept.{table_of}
 use Rattle.asset_locks.specs.Table as Locks
 use Rattle.asset_trans.specs.Rows.{status_in}
 use Rattle.asset_core.specs.Tables.{value_asked, Stand, locks_after, released}
-use Rattle.asset_core.proofs.ShowsLemmas.{initiate_shows, begin_shows, complete_shows, read_shows, write_shows, commit_shows, commit_again_shows, abort_shows, abort_again_shows, wait_shows, new_name, running_live, live_shown}
-use Rattle.asset_core.proofs.TableLemmas.{on_ok_two, on_ok_three, always_err, stand_as}
+use Rattle.asset_core.proofs.ShowsLemmas.{initiate_shows, begin_shows, complete_shows, read_shows, write_shows, commit_shows, commit_again_shows, abort_shows, abort_again_shows, wait_shows, permit_shows, new_name, running_live, live_shown}
+use Rattle.asset_core.proofs.TableLemmas.{on_ok, on_ok_two, on_ok_three, always_ok, always_err, stand_as}
 use Rattle.asset_core.proofs.tables.Tables.carry_out.Goals as goal
 
 pub returns-in-Initiate-clause-stand : goal.returns-in-Initiate-clause-stand
 returns-in-Initiate-clause-stand c = rw c.in-Initiate.is (on_ok_three c.initiate.result
-    (λ rows objects locks. λ opening past stand orderly. stand_as opening _ _ _ _ _ rows objects locks
-    (initiate_shows opening past _ _ _ c.in-Initiate.t c.in-Initiate.parent stand orderly (new_name opening past _ _ _ c.in-Initiate.t.0 stand (rw c.in-Initiate.is at c.requires.ready).no_row)))
+    (λ rows objects locks. λ opening past stand orderly. stand_as opening _ _ _ _ _ _ rows objects locks c.initiate.ensures.permits
+    (initiate_shows opening past _ _ _ _ c.in-Initiate.t c.in-Initiate.parent stand orderly (new_name opening past _ _ _ _ c.in-Initiate.t.0 stand (rw c.in-Initiate.is at c.requires.ready).no_row)))
     c.initiate.ensures.rows c.initiate.ensures.objects c.initiate.ensures.locks)
 
 pub returns-in-Initiate-clause-locks : goal.returns-in-Initiate-clause-locks
@@ -28,16 +28,16 @@ returns-in-Initiate-clause-memory c = rw c.in-Initiate.is (always_err c.initiate
 
 pub returns-in-Begin-clause-stand : goal.returns-in-Begin-clause-stand
 returns-in-Begin-clause-stand c = rw c.in-Begin.is (λ opening past stand orderly.
-    rw c.begin.ensures (begin_shows opening past _ _ _ c.in-Begin.t stand (sym (stand.statuses c.in-Begin.t.0) ∙ rw c.in-Begin.is at c.requires.ready)))
+    rw c.begin.ensures (begin_shows opening past _ _ _ _ c.in-Begin.t stand (sym (stand.statuses c.in-Begin.t.0) ∙ rw c.in-Begin.is at c.requires.ready)))
 
 pub returns-in-Complete-clause-stand : goal.returns-in-Complete-clause-stand
 returns-in-Complete-clause-stand c = rw c.in-Complete.is (λ opening past stand orderly.
-    rw c.complete.ensures (complete_shows opening past _ _ _ c.in-Complete.t stand (sym (stand.statuses c.in-Complete.t.0) ∙ rw c.in-Complete.is at c.requires.ready)))
+    rw c.complete.ensures (complete_shows opening past _ _ _ _ c.in-Complete.t stand (sym (stand.statuses c.in-Complete.t.0) ∙ rw c.in-Complete.is at c.requires.ready)))
 
 pub returns-in-Read-clause-stand : goal.returns-in-Read-clause-stand
 returns-in-Read-clause-stand c = rw c.in-Read.is (on_ok_two c.read.result
-    (λ locks owners. λ opening past stand orderly. stand_as opening _ _ _ _ _ c.read.ensures.rows c.read.ensures.objects locks
-    (read_shows opening past _ _ _ c.in-Read.t c.in-Read.x stand (running_live opening past _ _ _ c.in-Read.t.0 stand (rw c.in-Read.is at c.requires.ready).0.runs) owners))
+    (λ locks owners. λ opening past stand orderly. stand_as opening _ _ _ _ _ _ c.read.ensures.rows c.read.ensures.objects locks c.read.ensures.permits
+    (read_shows opening past _ _ _ _ c.in-Read.t c.in-Read.x stand (running_live opening past _ _ _ _ c.in-Read.t.0 stand (rw c.in-Read.is at c.requires.ready).0.runs) owners))
     c.read.ensures.locks c.read.ensures.owners)
 
 pub returns-in-Read-clause-locks : goal.returns-in-Read-clause-locks
@@ -51,9 +51,9 @@ returns-in-Read-clause-memory c = rw c.in-Read.is (always_err c.read.result refl
 pub returns-in-Write-clause-stand : goal.returns-in-Write-clause-stand
 unfolding value_asked
 returns-in-Write-clause-stand c = rw c.in-Write.is (on_ok_three c.write.result
-    (λ objects locks owners. λ opening past stand orderly. stand_as opening _ _ _ _ _ c.write.ensures.rows objects locks
-    (write_shows opening past _ _ _ c.in-Write.t c.in-Write.x c.in-Write.v stand (running_live opening past _ _ _ c.in-Write.t.0 stand (rw c.in-Write.is at c.requires.ready).0.runs) owners))
-    c.write.ensures.objects c.write.ensures.locks c.write.ensures.owners)
+    (λ objects locks owners. λ opening past stand orderly. stand_as opening _ _ _ _ _ _ c.write.ensures.rows objects locks c.write.ensures.permits
+    (write_shows opening past _ _ _ _ c.in-Write.t c.in-Write.x c.in-Write.v stand (running_live opening past _ _ _ _ c.in-Write.t.0 stand (rw c.in-Write.is at c.requires.ready).0.runs) owners))
+    (rw c.in-Write.is at c.write.ensures.objects) c.write.ensures.locks c.write.ensures.owners)
 
 pub returns-in-Write-clause-locks : goal.returns-in-Write-clause-locks
 unfolding locks_after
@@ -80,9 +80,9 @@ returns-in-Commit-clause-stand c = rw c.in-Commit.is (λ opening past stand orde
   go : (opening : Opening) (past : List Step) (stand : Stand opening past c.args.self.now) (alive : Bool) → is_live_status (status_in c.args.self.now.trans c.in-Commit.t.0) ≡ alive → Stand opening (Commit c.in-Commit.t ∷ past) c.commit.new.self
   go opening past stand true e =
       let changed = c.commit.ensures.live e in
-      stand_as opening _ _ _ _ _ changed.0 changed.1 changed.2 (commit_shows opening past _ _ _ c.in-Commit.t stand (sym (live_shown opening past _ _ _ c.in-Commit.t.0 stand) ∙ e))
+      stand_as opening _ _ _ _ _ _ changed.0 changed.1 changed.2 refl (commit_shows opening past _ _ _ _ c.in-Commit.t stand (sym (live_shown opening past _ _ _ _ c.in-Commit.t.0 stand) ∙ e) _ changed.3)
   go opening past stand false e =
-      rw (c.commit.ensures.ended e) (commit_again_shows opening past _ _ _ c.in-Commit.t stand (sym (live_shown opening past _ _ _ c.in-Commit.t.0 stand) ∙ e))
+      rw (c.commit.ensures.ended e) (commit_again_shows opening past _ _ _ _ c.in-Commit.t stand (sym (live_shown opening past _ _ _ _ c.in-Commit.t.0 stand) ∙ e))
 
 pub returns-in-Commit-clause-locks : goal.returns-in-Commit-clause-locks
 unfolding locks_after released
@@ -97,9 +97,9 @@ returns-in-Abort-clause-stand c = rw c.in-Abort.is (λ opening past stand orderl
   go : (opening : Opening) (past : List Step) (stand : Stand opening past c.args.self.now) (alive : Bool) → is_live_status (status_in c.args.self.now.trans c.in-Abort.t.0) ≡ alive → Stand opening (Abort c.in-Abort.t ∷ past) c.abort.new.self
   go opening past stand true e =
       let changed = c.abort.ensures.live e in
-      stand_as opening _ _ _ _ _ changed.0 changed.1 changed.2 (abort_shows opening past _ _ _ c.in-Abort.t stand (sym (live_shown opening past _ _ _ c.in-Abort.t.0 stand) ∙ e))
+      stand_as opening _ _ _ _ _ _ changed.0 changed.1 changed.2 refl (abort_shows opening past _ _ _ _ c.in-Abort.t stand (sym (live_shown opening past _ _ _ _ c.in-Abort.t.0 stand) ∙ e) _ changed.3)
   go opening past stand false e =
-      rw (c.abort.ensures.ended e) (abort_again_shows opening past _ _ _ c.in-Abort.t stand (sym (live_shown opening past _ _ _ c.in-Abort.t.0 stand) ∙ e))
+      rw (c.abort.ensures.ended e) (abort_again_shows opening past _ _ _ _ c.in-Abort.t stand (sym (live_shown opening past _ _ _ _ c.in-Abort.t.0 stand) ∙ e))
 
 pub returns-in-Abort-clause-locks : goal.returns-in-Abort-clause-locks
 unfolding locks_after released
@@ -110,4 +110,20 @@ returns-in-Abort-clause-locks c = rw c.in-Abort.is (go (is_live_status (status_i
   go false e = rw (c.abort.ensures.ended e) refl
 
 pub returns-in-WaitFor-clause-stand : goal.returns-in-WaitFor-clause-stand
-returns-in-WaitFor-clause-stand c = rw c.in-WaitFor.is (λ opening past stand orderly. wait_shows opening past _ _ _ c.in-WaitFor.t stand)
+returns-in-WaitFor-clause-stand c = rw c.in-WaitFor.is (λ opening past stand orderly. wait_shows opening past _ _ _ _ c.in-WaitFor.t stand)
+
+pub returns-in-Permit-clause-stand : goal.returns-in-Permit-clause-stand
+returns-in-Permit-clause-stand c = rw c.in-Permit.is (on_ok c.add.result
+    (λ added. λ opening past stand orderly.
+    let both = rw c.in-Permit.is at c.requires.ready in
+    stand_as opening _ _ _ _ _ _ refl refl refl refl
+    (permit_shows opening past _ _ _ _ c.in-Permit.giver c.in-Permit.taker c.in-Permit.obs c.in-Permit.ops stand (sym (live_shown opening past _ _ _ _ c.in-Permit.giver.0 stand) ∙ both.0) (sym (live_shown opening past _ _ _ _ c.in-Permit.taker.0 stand) ∙ both.1) _ added))
+    c.add.ensures.covers)
+
+pub returns-in-Permit-clause-locks : goal.returns-in-Permit-clause-locks
+unfolding locks_after
+returns-in-Permit-clause-locks c = rw c.in-Permit.is (always_ok c.add.result refl)
+
+pub returns-in-Permit-clause-memory : goal.returns-in-Permit-clause-memory
+unfolding takes_memory
+returns-in-Permit-clause-memory c = rw c.in-Permit.is (always_err c.add.result refl)

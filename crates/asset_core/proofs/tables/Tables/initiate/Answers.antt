@@ -7,4 +7,5 @@ returns-in-Err-clause-unchanged c = record {
   rows = c.in-Err.ensures.unchanged;
   objects = refl;
   locks = c.release.ensures ∙ rw c.in_ok-enrol.ensures.done (enrolment_given_back _ _ c.requires.new.no_holder c.enrol.ensures.unlocked);
+  permits = refl;
 }

@@ -6,7 +6,7 @@ use Rattle.asset_core.proofs.TableLemmas.{stand_as}
 use Rattle.asset_core.proofs.tables.Tables.open.Goals as goal
 
 pub returns-clause-stand : goal.returns-clause-stand
-returns-clause-stand c = stand_as c.args.opening.now [] _ _ _ _ c.new-3.ensures c.in_ok-open.ensures.opened c.new.ensures (opened_shows c.args.opening.now)
+returns-clause-stand c = stand_as c.args.opening.now [] _ _ _ _ _ c.new-3.ensures c.in_ok-open.ensures.opened c.new.ensures c.new-2.ensures (opened_shows c.args.opening.now)
 
 pub returns-clause-places : goal.returns-clause-places
 unfolding places_of no_locks

@@ -46,3 +46,7 @@ returns-in-Read c = λ opening past stand. rw c.in-Read.is (c.refusal_to_use.ens
 pub returns-in-Write : goal.returns-in-Write
 unfolding rules_for
 returns-in-Write c = λ opening past stand. rw c.in-Write.is (c.refusal_to_use-in-Write.ensures opening past stand)
+
+pub returns-in-Permit : goal.returns-in-Permit
+unfolding rules_for
+returns-in-Permit c = λ opening past stand. rw c.in-Permit.is (c.refusal_to_permit.ensures opening past stand)

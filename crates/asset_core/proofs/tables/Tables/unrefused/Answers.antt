@@ -41,3 +41,7 @@ unfolding unrefused
 returns-in-WaitFor-clause-outcome c = λ opening past stand first.
     let known : c.status.result ≡ status past c.in-WaitFor.t.0 = c.status.ensures ∙ stand.statuses c.in-WaitFor.t.0 in
     rw (c.in-WaitFor.is, ← known) c.wait_outcome.ensures
+
+pub returns-in-Permit-clause-outcome : goal.returns-in-Permit-clause-outcome
+unfolding unrefused
+returns-in-Permit-clause-outcome c = λ opening past stand first. rw c.in-Permit.is refl

@@ -33,3 +33,7 @@ returns-in-Abort-clause-locks c = rw c.in-Abort.is refl
 pub returns-in-WaitFor-clause-locks : goal.returns-in-WaitFor-clause-locks
 unfolding locks_waiting
 returns-in-WaitFor-clause-locks c = rw c.in-WaitFor.is refl
+
+pub returns-in-Permit-clause-locks : goal.returns-in-Permit-clause-locks
+unfolding locks_waiting
+returns-in-Permit-clause-locks c = rw c.in-Permit.is refl

@@ -1,0 +1,93 @@
+-- Which permits stand, by the table and by the history, and how that changes with a step.
+use Rattle.std.proofs.Common.{◌≡◌, ℕ, Bool, true, false, cond, not, eqb, ◌&&◌, ◌||◌, List, [], ◌∷◌, map, filter, refl, sym, ◌∙◌, ap, subst, arith, None}
+use Rattle.std.specs.List.{list_any}
+use Rattle.std.proofs.lemmas.Bool.{eqb-true, false≢true}
+use Rattle.asset_names.specs.declared.names.Txn.{Txn}
+use Rattle.asset_names.specs.declared.operations.Op.{Op}
+use Rattle.asset_names.specs.declared.sets.ObSet.{ObSet}
+use Rattle.asset_names.specs.declared.steps.Step.{Step}
+use Rattle.asset_names.specs.declared.steps.Step.TheVariants.{Initiate, Permit}
+use Rattle.asset_names.specs.InSet.{in_set}
+use Rattle.asset_names.specs.Arrows.{Arrow, lists, has_arrow}
+use Rattle.asset_names.specs.Steps.{initiated, initiated_by}
+use Rattle.asset_names.specs.Endings.{live, end_of, ended_by}
+use Rattle.asset_names.specs.Operations.{has_op, permits, permitted_by}
+use Rattle.asset_names.proofs.LegalLemmas.{option_or_none, IsOrderly}
+use Rattle.asset_names.proofs.LiveLemmas.{live_initiate}
+use Rattle.asset_names.proofs.PermitLemmas.{arrows_permitted}
+use Rattle.asset_permits.specs.Descriptors.{Descriptor, covers, lets, one_covers, arrows_for}
+use Rattle.asset_core.specs.Shows.{permitted}
+use Rattle.asset_core.proofs.HistoryLemmas.{live_quiet}
+
+-- the arrows of the descriptors lead as they cover
+pub arrows_cover : (descriptors : List Descriptor) (u n x : ℕ) (op : Op) → has_arrow (arrows_for descriptors x op) u n ≡ one_covers descriptors u n x op
+unfolding has_arrow arrows_for one_covers lets
+arrows_cover [] u n x op = refl
+arrows_cover (d ∷ descriptors) u n x op = go (covers x op d) (arrows_cover descriptors u n x op) where
+  rest : List Arrow
+  rest = map (λ (e : Descriptor). (e.giver, e.taker)) (filter (covers x op) descriptors)
+
+  leads : List Arrow → Bool
+  leads arrows = list_any (λ (arrow : Arrow). eqb arrow.0 u && eqb arrow.1 n) arrows
+
+  go : (covered : Bool) → leads rest ≡ list_any (λ (e : Descriptor). eqb e.giver u && eqb e.taker n && covers x op e) descriptors
+      → leads (map (λ (e : Descriptor). (e.giver, e.taker)) (cond covered (d ∷ filter (covers x op) descriptors) (filter (covers x op) descriptors)))
+      ≡ ((eqb d.giver u && eqb d.taker n && covered) || list_any (λ (e : Descriptor). eqb e.giver u && eqb e.taker n && covers x op e) descriptors)
+  go true ih = rw (← ih) (grind arith)
+  go false ih = rw (← ih) (grind arith)
+
+-- a step that initiates nobody, ends nobody and permits nothing leaves each permit
+pub permitted_quiet : (later past : List Step) → initiated later ≡ initiated past → ((n : ℕ) → end_of later n ≡ end_of past n) → ((x : ℕ) (op : Op) → permits later x op ≡ permits past x op)
+    → (u n x : ℕ) (op : Op) → permitted later u n x op ≡ permitted past u n x op
+unfolding permitted
+permitted_quiet later past names ends arrows u n x op = rw (live_quiet later past names ends u, live_quiet later past names ends n, arrows x op)
+
+-- a new name was not permitted anything, and permitted nothing
+pub permitted_initiate : (t : Txn) (parent : _) (past : List Step) → lists (initiated past) t.0 ≡ false → IsOrderly past → (u n x : ℕ) (op : Op) → permitted (Initiate t parent ∷ past) u n x op ≡ permitted past u n x op
+unfolding permitted permits permitted_by
+permitted_initiate t parent past new orderly u n x op =
+    rw (live_initiate t parent past u new, live_initiate t parent past n new) (go (eqb t.0 u) refl (eqb t.0 n) refl (has_arrow (permits past x op) u n) refl) where
+      absent : (m : ℕ) → eqb t.0 m ≡ true → lists (initiated past) m ≡ true → false ≡ true
+      absent m e known = sym new ∙ ap (lists (initiated past)) (eqb-true t.0 m e) ∙ known
+
+      go : (from : Bool) → eqb t.0 u ≡ from → (to : Bool) → eqb t.0 n ≡ to → (arrow : Bool) → has_arrow (permits past x op) u n ≡ arrow
+          → ((from || live past u) && (to || live past n) && arrow) ≡ (live past u && live past n && arrow)
+      go from e to f false h = grind arith
+      go false e false f true h = refl
+      go true e to f true h = absurd (false≢true (absent u e (orderly.permits_known u n x op h).0))
+      go false e true f true h = absurd (false≢true (absent n f (orderly.permits_known u n x op h).1))
+
+-- one name ends, and its permits go
+pub permitted_end : (later past : List Step) (t : ℕ) → ((n : ℕ) → live later n ≡ (not (eqb t n) && live past n)) → ((x : ℕ) (op : Op) → permits later x op ≡ permits past x op)
+    → (u n x : ℕ) (op : Op) → permitted later u n x op ≡ (permitted past u n x op && not (eqb u t) && not (eqb n t))
+unfolding permitted
+permitted_end later past t alive arrows u n x op = rw (alive u, alive n, arrows x op, eqb-flip u t, eqb-flip n t) (grind arith) where
+  eqb-flip : (m k : ℕ) → eqb m k ≡ eqb k m
+  eqb-flip m k = grind arith
+
+-- a permit ends nobody
+pub permit_ends : (giver taker : Txn) (obs : ObSet) (ops : Bool × Bool) (past : List Step) (n : ℕ) → end_of (Permit giver taker obs ops ∷ past) n ≡ end_of past n
+unfolding end_of ended_by
+permit_ends giver taker obs ops past n = option_or_none (end_of past n)
+
+-- one more permit between live names
+pub permitted_permit : (giver taker : Txn) (obs : ObSet) (ops : Bool × Bool) (past : List Step) → live past giver.0 ≡ true → live past taker.0 ≡ true
+    → (u n x : ℕ) (op : Op) → permitted (Permit giver taker obs ops ∷ past) u n x op ≡ (permitted past u n x op || (eqb u giver.0 && eqb n taker.0 && in_set obs x && has_op ops op))
+unfolding permitted initiated initiated_by
+permitted_permit giver taker obs ops past gives takes u n x op =
+    let same_live : (m : ℕ) → live (Permit giver taker obs ops ∷ past) m ≡ live past m = live_quiet (Permit giver taker obs ops ∷ past) past refl (permit_ends giver taker obs ops past) in
+    rw (same_live u, same_live n, arrows_permitted giver taker obs ops past x op u n, eqb-flip u giver.0, eqb-flip n taker.0) (go (eqb giver.0 u) refl (eqb taker.0 n) refl) where
+      eqb-flip : (m k : ℕ) → eqb m k ≡ eqb k m
+      eqb-flip m k = grind arith
+
+      arrow : Bool
+      arrow = has_arrow (permits past x op) u n
+
+      covered : Bool
+      covered = in_set obs x && has_op ops op
+
+      go : (from : Bool) → eqb giver.0 u ≡ from → (to : Bool) → eqb taker.0 n ≡ to
+          → (live past u && live past n && ((from && to && covered) || arrow)) ≡ ((live past u && live past n && arrow) || (from && to && in_set obs x && has_op ops op))
+      go false e to f = grind arith
+      go true e false f = grind arith
+      go true e true f = rw (subst (λ m. live past m ≡ true) (eqb-true giver.0 u e) gives, subst (λ m. live past m ≡ true) (eqb-true taker.0 n f) takes) (grind arith)

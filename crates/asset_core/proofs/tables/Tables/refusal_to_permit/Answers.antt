@@ -1,0 +1,12 @@
+use Rattle.std.proofs.Common.{◌≡◌, ◌∙◌}
+use Rattle.asset_names.specs.Endings.{status}
+use Rattle.asset_names.specs.Answers.{unknown, ended, one_name, missing_in, no_object_of}
+use Rattle.asset_core.proofs.tables.Tables.refusal_to_permit.Goals as goal
+
+pub returns : goal.returns
+unfolding unknown ended one_name no_object_of
+returns c = λ opening past stand.
+    let gives : c.status.result ≡ status past c.args.giver.0 = c.status.ensures ∙ stand.statuses c.args.giver.0 in
+    let takes : c.status-2.result ≡ status past c.args.taker.0 = c.status-2.ensures ∙ stand.statuses c.args.taker.0 in
+    let missing : c.missing-missing.result ≡ missing_in opening c.args.obs.now = c.missing-missing.ensures opening past stand in
+    rw (← gives, ← takes, ← missing) c.refusal_to_permit.ensures
