@@ -1,3 +1,4 @@
 pub mod PastLemmas
 pub mod TrackLemmas
 pub mod ScanLemmas
+pub mod ReachLemmas

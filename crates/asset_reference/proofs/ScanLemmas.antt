@@ -1,16 +1,14 @@
 -- What one more entry says of an object and of who may use it.
-use Rattle.std.proofs.Common.{◌≡◌, ℕ, Bool, true, false, cond, eqb, ◌&&◌, ◌||◌, List, [], ◌∷◌, Some, None, refl, ◌∙◌, ap, arith}
+use Rattle.std.proofs.Common.{◌≡◌, ℕ, Bool, true, false, cond, eqb, ◌&&◌, ◌||◌, List, [], ◌∷◌, ◌++◌, Some, None, refl, ◌∙◌, ap, arith}
 use Rattle.std.specs.Prelude.{Option, ℤ, unwrap_or, is_none}
 use Rattle.std.specs.List.{list_any}
 use Rattle.asset_names.specs.declared.operations.Op.{Op}
-use Rattle.asset_names.specs.declared.statuses.End.{End}
-use Rattle.asset_names.specs.declared.statuses.End.TheVariants as End'
+use Rattle.std.proofs.lemmas.List.Elements.{filter-append}
 use Rattle.asset_names.specs.declared.steps.Step.{Step}
-use Rattle.asset_names.specs.declared.steps.Step.TheVariants.{Initiate, Begin, Read, Write, Complete, Commit, Abort, WaitFor}
-use Rattle.asset_names.specs.Arrows.{lists, linked, among}
-use Rattle.asset_names.specs.Steps.{Entry, carries_out, deeds, initiated, begun, completed}
-use Rattle.asset_names.specs.Endings.{live, status, status_of, end_of}
-use Rattle.asset_names.specs.Operations.{Operation, operations, operated, permits, reach, value_after, after_use}
+use Rattle.asset_names.specs.declared.steps.Step.TheVariants.{Initiate, Begin, Read, Write, Complete, Permit, Commit, Abort, WaitFor}
+use Rattle.asset_names.specs.Arrows.{Arrow, among}
+use Rattle.asset_names.specs.Steps.{Entry, carries_out, deeds}
+use Rattle.asset_names.specs.Operations.{Operation, operations, operated, permits, permitted_by, value_after, after_use}
 use Rattle.asset_names.specs.Operations.Use.{reads, writes}
 use Rattle.asset_reference.specs.Scans.{written_by}
 use Rattle.asset_reference.proofs.PastLemmas.{deeds_carried, deeds_not_carried}
@@ -43,6 +41,7 @@ value_at_step counts x first (Write u y v) past = go (eqb y.0 x && counts (recor
   go true = refl
   go false = refl
 value_at_step counts x first (Complete u) past = refl
+value_at_step counts x first (Permit giver taker obs ops) past = refl
 value_at_step counts x first (Commit u) past = refl
 value_at_step counts x first (Abort u) past = refl
 value_at_step counts x first (WaitFor u) past = refl
@@ -57,10 +56,15 @@ value_at_entry counts x first entry older =
       go true = value_at_step counts x first entry.0 (deeds older)
       go false = refl
 
--- nobody permits anything to another yet
-pub reached_alone : (past : List Step) (u t x : ℕ) (op : Op) → reach past u t x op ≡ eqb u t
-unfolding reach permits among linked
-reached_alone past u t x op = refl
+-- the permits after one more entry
+pub permits_at_entry : (test : ℕ → Bool) (x : ℕ) (op : Op) (entry : Entry) (older : List Entry) →
+    among test (permits (deeds (entry ∷ older)) x op) ≡ cond (carries_out entry.0 entry.1) (among test (permitted_by entry.0 x op)) [] ++ among test (permits (deeds older) x op)
+unfolding permits among
+permits_at_entry test x op entry older = at_deeds (λ past. among test (permits past x op)) entry older ∙ go (carries_out entry.0 entry.1) where
+  go : (carried : Bool) → cond carried (among test (permitted_by entry.0 x op ++ permits (deeds older) x op)) (among test (permits (deeds older) x op))
+      ≡ cond carried (among test (permitted_by entry.0 x op)) [] ++ among test (permits (deeds older) x op)
+  go true = filter-append (λ (arrow : Arrow). test arrow.0 && test arrow.1) (permitted_by entry.0 x op) (permits (deeds older) x op)
+  go false = refl
 
 -- who is hindered after one more step
 hindered_at_step : (test : Operation → Bool) (step : Step) (past : List Step) → list_any test (operations (step ∷ past)) ≡ (list_any test (operated step []) || list_any test (operations past))
@@ -70,6 +74,7 @@ hindered_at_step test (Begin u) past = refl
 hindered_at_step test (Read u y) past = grind arith
 hindered_at_step test (Write u y v) past = grind arith
 hindered_at_step test (Complete u) past = refl
+hindered_at_step test (Permit giver taker obs ops) past = refl
 hindered_at_step test (Commit u) past = refl
 hindered_at_step test (Abort u) past = refl
 hindered_at_step test (WaitFor u) past = refl

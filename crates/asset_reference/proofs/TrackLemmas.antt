@@ -2,7 +2,7 @@
 use Rattle.std.proofs.Common.{◌≡◌, ℕ, Bool, true, false, cond, List, ◌∷◌, refl}
 use Rattle.asset_names.specs.declared.statuses.End.TheVariants as End'
 use Rattle.asset_names.specs.declared.steps.Step.{Step}
-use Rattle.asset_names.specs.declared.steps.Step.TheVariants.{Initiate, Begin, Read, Write, Complete, Commit, Abort, WaitFor}
+use Rattle.asset_names.specs.declared.steps.Step.TheVariants.{Initiate, Begin, Read, Write, Complete, Permit, Commit, Abort, WaitFor}
 use Rattle.asset_names.specs.Arrows.{lists, linked, among}
 use Rattle.asset_names.specs.Steps.{Entry, carries_out, deeds, initiated, initiated_by, begun, begun_by, completed, completed_by}
 use Rattle.asset_names.specs.Endings.{class_arrows, doom_arrows, end_of, ended_by, live}
@@ -17,6 +17,7 @@ track_of_more (Begin u) past t = rw (option_or_none (end_of past t))
 track_of_more (Read u x) past t = rw (option_or_none (end_of past t))
 track_of_more (Write u x v) past t = rw (option_or_none (end_of past t))
 track_of_more (Complete u) past t = rw (option_or_none (end_of past t))
+track_of_more (Permit giver taker obs ops) past t = rw (option_or_none (end_of past t))
 track_of_more (Commit u) past t = rw (end_alone End'.Committed u.0 t past)
 track_of_more (Abort u) past t = rw (end_alone End'.Aborted u.0 t past)
 track_of_more (WaitFor u) past t = rw (option_or_none (end_of past t))

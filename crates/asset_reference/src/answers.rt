@@ -47,14 +47,15 @@ fn outcome_of_commit(entries: &[(Step, Reply)], t: Txn) -> Outcome
 
 /// The outcome of a step that is not refused.
 #[tactic(auto, unfolding(asset_names::specs::Answers::unrefused))]
-fn unrefused(opening: &[(Ob, i64)], entries: &[(Step, Reply)], step: Step) -> Outcome
-    requires { first_refusal (rules_for opening.now (deeds (reverse entries.now)) step) ≡ None }
-    ensures { result ≡ unrefused opening.now (deeds (reverse entries.now)) step }
+fn unrefused(opening: &[(Ob, i64)], entries: &[(Step, Reply)], step: &Step) -> Outcome
+    requires { first_refusal (rules_for opening.now (deeds (reverse entries.now)) step.now) ≡ None }
+    ensures { result ≡ unrefused opening.now (deeds (reverse entries.now)) step.now }
 {
-    match step {
-        Step::Initiate { .. } | Step::Begin { .. } | Step::Complete { .. } => {
-            Outcome::Answer(Reply::Done)
-        }
+    match *step {
+        Step::Initiate { .. }
+        | Step::Begin { .. }
+        | Step::Complete { .. }
+        | Step::Permit { .. } => Outcome::Answer(Reply::Done),
         Step::Read { t, x } if is_free(entries, t, x, Op::Read) => {
             Outcome::Answer(Reply::Value(current_value(opening, entries, x)))
         }
@@ -70,8 +71,8 @@ fn unrefused(opening: &[(Ob, i64)], entries: &[(Step, Reply)], step: Step) -> Ou
 
 /// The answer to the step after the entries.
 #[tactic(auto, unfolding(asset_names::specs::Answers::answer, asset_names::specs::Answers::outcome_unless))]
-pub fn answer(opening: &[(Ob, i64)], entries: &[(Step, Reply)], step: Step) -> Outcome
-    ensures { result ≡ answer opening.now (deeds (reverse entries.now)) step }
+pub fn answer(opening: &[(Ob, i64)], entries: &[(Step, Reply)], step: &Step) -> Outcome
+    ensures { result ≡ answer opening.now (deeds (reverse entries.now)) step.now }
 {
     match refusal(opening, entries, step) {
         Some(refusal) => Outcome::Answer(Reply::Refused(refusal)),

@@ -1,33 +1,34 @@
 //! Whether an object is free, by going over the entries.
 
-ghost use Rattle.std.specs.Prelude.{◌≡◌, ◌||◌, List, [], ◌∷◌, reverse};
+ghost use Rattle.std.specs.Prelude.{◌≡◌, ◌||◌, ◌&&◌, ◌==◌, not, List, [], ◌∷◌, reverse};
 ghost use Rattle.std.specs.List.{list_any};
 ghost use Rattle.asset_names.specs.Steps.{Entry, deeds};
 ghost use Rattle.asset_names.specs.Endings.{live};
-ghost use Rattle.asset_names.specs.Operations.{operations, operated, hinders, free};
+ghost use Rattle.asset_names.specs.Operations.{operations, operated, hinders, free, reach};
 
-use crate::tracks::status_after;
+use crate::reaching::{is_live, reaches};
 use asset_names::{Ob, Op, Reply, Step, Txn, is_carried_out};
 
-/// Whether the transaction is live.
-#[tactic(auto, using(asset_names::proofs::LiveLemmas::live_by_status))]
-fn is_live(entries: &[(Step, Reply)], t: Txn) -> bool
-    ensures { result ≡ live (deeds (reverse entries.now)) t.0 }
+/// Whether an operation of this owner keeps `t` from doing `op` on `x`: the owner is another, which is live and
+/// does not allow it.
+#[tactic(auto)]
+fn is_kept_off_by(entries: &[(Step, Reply)], owner: Txn, t: Txn, x: Ob, op: Op) -> bool
+    ensures { result ≡ (not (owner.0 == t.0) && live (deeds (reverse entries.now)) owner.0 && not (reach (deeds (reverse entries.now)) owner.0 t.0 x.0 op)) }
 {
-    status_after(entries, t).is_live()
+    owner != t && is_live(entries, owner) && !reaches(entries, owner, t, x, op)
 }
 
 /// Whether a step that was carried out is an operation that keeps `t` from doing `op` on `x`.
-#[tactic(auto, unfolding(asset_names::specs::Operations::operated, asset_names::specs::Operations::op_of, asset_names::specs::Operations::hinders), using(crate::proofs::ScanLemmas::reached_alone))]
-fn is_hindrance(entries: &[(Step, Reply)], step: Step, t: Txn, x: Ob, op: Op) -> bool
-    ensures { result ≡ list_any (hinders (deeds (reverse entries.now)) t.0 x.0 op) (operated step []) }
+#[tactic(auto, unfolding(asset_names::specs::Operations::operated, asset_names::specs::Operations::op_of, asset_names::specs::Operations::hinders))]
+fn is_hindrance(entries: &[(Step, Reply)], step: &Step, t: Txn, x: Ob, op: Op) -> bool
+    ensures { result ≡ list_any (hinders (deeds (reverse entries.now)) t.0 x.0 op) (operated step.now []) }
 {
-    match step {
+    match *step {
         Step::Read { t: owner, x: y } => {
-            y == x && Op::Read.conflicts_with(op) && owner != t && is_live(entries, owner)
+            y == x && Op::Read.conflicts_with(op) && is_kept_off_by(entries, owner, t, x, op)
         }
         Step::Write { t: owner, x: y, .. } => {
-            y == x && Op::Write.conflicts_with(op) && owner != t && is_live(entries, owner)
+            y == x && Op::Write.conflicts_with(op) && is_kept_off_by(entries, owner, t, x, op)
         }
         _ => false,
     }
@@ -40,8 +41,7 @@ fn is_hindered_by(entries: &[(Step, Reply)], entry: &(Step, Reply), t: Txn, x: O
         list_any (hinders (deeds (reverse entries.now)) t.0 x.0 op) (operations (deeds (entry.now ∷ older)))
         ≡ (result || list_any (hinders (deeds (reverse entries.now)) t.0 x.0 op) (operations (deeds older))) }
 {
-    let (step, reply) = *entry;
-    is_carried_out(step, reply) && is_hindrance(entries, step, t, x, op)
+    is_carried_out(&entry.0, entry.1) && is_hindrance(entries, &entry.0, t, x, op)
 }
 
 /// Whether the object is free for `t` to do `op` on it.

@@ -5,6 +5,7 @@
 mod answers;
 mod freedom;
 mod openings;
+mod reaching;
 mod refusals;
 mod tracks;
 mod values;

@@ -1,9 +1,10 @@
 //! Which objects exist, and their opening values.
 
-ghost use Rattle.std.specs.Prelude.{◌≡◌};
-ghost use Rattle.asset_names.specs.Operations.{opening_at};
+ghost use Rattle.std.specs.Prelude.{◌≡◌, not, find};
+ghost use Rattle.asset_names.specs.Operations.{opening_at, exists};
+ghost use Rattle.asset_names.specs.Answers.{missing_in};
 
-use asset_names::Ob;
+use asset_names::{Ob, ObSet};
 
 /// The opening value of an object, if it exists.
 #[tactic(auto, unfolding(asset_names::specs::Operations::opening_at))]
@@ -14,4 +15,33 @@ pub fn opening_at(opening: &[(Ob, i64)], x: Ob) -> Option<i64>
         .iter()
         .find(|pair| pair.0.0 == x.0)
         .map(|pair| pair.1)
+}
+
+/// Whether the object does not exist.
+#[tactic(auto, unfolding(asset_names::specs::Operations::exists))]
+fn is_missing(opening: &[(Ob, i64)], x: Ob) -> bool
+    ensures { result ≡ not (exists opening.now x.0) }
+{
+    match opening_at(opening, x) {
+        Some(_) => false,
+        None => true,
+    }
+}
+
+/// The first of the objects that does not exist, if there is one.
+fn first_missing(opening: &[(Ob, i64)], objects: &[Ob]) -> Option<Ob>
+    ensures { result ≡ find (λ x. not (exists opening.now x.0)) objects.now }
+{
+    objects.iter().copied().find(|x| is_missing(opening, *x))
+}
+
+/// The least object of the set that does not exist, if there is one.
+#[tactic(auto, unfolding(asset_names::specs::Answers::missing_in))]
+pub fn missing_in(opening: &[(Ob, i64)], obs: &ObSet) -> Option<Ob>
+    ensures { result ≡ missing_in opening.now obs.now }
+{
+    match obs {
+        ObSet::All => None,
+        ObSet::Listed(list) => first_missing(opening, list.objects()),
+    }
 }

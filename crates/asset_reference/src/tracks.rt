@@ -44,9 +44,8 @@ impl Track {
     fn after(self, entry: &(Step, Reply), t: Txn) -> Track
         ensures { (older : List Entry) → self ≡ track_of (deeds older) t.0 → result ≡ track_of (deeds (entry.now ∷ older)) t.0 }
     {
-        let (step, reply) = *entry;
-        if is_carried_out(step, reply) {
-            self.after_deed(step, t)
+        if is_carried_out(&entry.0, entry.1) {
+            self.after_deed(&entry.0, t)
         } else {
             self
         }
@@ -54,17 +53,20 @@ impl Track {
 
     /// The track of `t` after one more step that was carried out.
     #[tactic(auto, unfolding(crate::specs::Tracks::track_after))]
-    fn after_deed(self, step: Step, t: Txn) -> Track
-        ensures { result ≡ track_after self step t.0 }
+    fn after_deed(self, step: &Step, t: Txn) -> Track
+        ensures { result ≡ track_after self step.now t.0 }
     {
         let mut next = self;
-        match step {
+        match *step {
             Step::Initiate { t: named, .. } => next.initiated = named == t || self.initiated,
             Step::Begin { t: named } => next.begun = named == t || self.begun,
             Step::Complete { t: named } => next.completed = named == t || self.completed,
             Step::Commit { t: named } => next.end = self.ended(named, t, End::Committed),
             Step::Abort { t: named } => next.end = self.ended(named, t, End::Aborted),
-            Step::Read { .. } | Step::Write { .. } | Step::WaitFor { .. } => {}
+            Step::Read { .. }
+            | Step::Write { .. }
+            | Step::Permit { .. }
+            | Step::WaitFor { .. } => {}
         }
         next
     }

@@ -10,10 +10,10 @@ use asset_names::{Ob, Reply, Step, is_carried_out};
 
 /// What a step that was carried out wrote to the object, if the write stands.
 #[tactic(auto, unfolding(crate::specs::Scans::written_by, asset_names::specs::Operations::stands))]
-fn written_by(entries: &[(Step, Reply)], step: Step, x: Ob) -> Option<i64>
-    ensures { result ≡ written_by (stands (deeds (reverse entries.now))) step x.0 }
+fn written_by(entries: &[(Step, Reply)], step: &Step, x: Ob) -> Option<i64>
+    ensures { result ≡ written_by (stands (deeds (reverse entries.now))) step.now x.0 }
 {
-    match step {
+    match *step {
         Step::Write { t, x: y, v } if y == x && !was_aborted(entries, t) => Some(v),
         _ => None,
     }
@@ -26,9 +26,8 @@ fn standing_write(entries: &[(Step, Reply)], entry: &(Step, Reply), x: Ob) -> Op
         value_after (stands (deeds (reverse entries.now))) x.0 first (operations (deeds (entry.now ∷ older)))
         ≡ unwrap_or result (value_after (stands (deeds (reverse entries.now))) x.0 first (operations (deeds older))) }
 {
-    let (step, reply) = *entry;
-    if is_carried_out(step, reply) {
-        written_by(entries, step, x)
+    if is_carried_out(&entry.0, entry.1) {
+        written_by(entries, &entry.0, x)
     } else {
         None
     }
