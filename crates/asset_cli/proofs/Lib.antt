@@ -4,5 +4,6 @@ pub mod NumberLemmas
 mod GrammarRows
 mod NumberLaws
 pub mod ToldLemmas
+pub mod GivenLemmas
 pub mod PreambleLemmas
 pub mod RunLemmas

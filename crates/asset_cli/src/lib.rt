@@ -6,6 +6,7 @@ mod arguments;
 mod device;
 mod ends;
 mod faults;
+mod given;
 mod grammar;
 mod keywords;
 mod lines;

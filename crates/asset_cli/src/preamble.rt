@@ -1,18 +1,15 @@
 //! The object lines, which stand before the first step.
-ghost use Rattle.std.specs.Prelude.{◌≡◌, ℕ, ◌+◌, ◌^◌, ◌<◌, List, [], ◌∷◌, ◌++◌, not, length, IfOk, OnOk, IfErr, ◌==◌};
-ghost use Rattle.std.specs.Bool.{OnTrue};
-ghost use Rattle.std.specs.List.{list_any};
+ghost use Rattle.std.specs.Prelude.{◌≡◌, ℕ, ◌+◌, ◌^◌, ◌<◌, [], length, IfOk, OnOk, IfErr};
 ghost use Rattle.asset_names.specs.Sets.{HasNoDouble};
-ghost use Rattle.asset_names.specs.Operations.{exists};
 ghost use Rattle.asset_core.specs.Recorded.{objects_of};
 ghost use Rattle.asset_cli.specs.Lines.{lines};
 ghost use Rattle.asset_cli.specs.Transcript.{objects_told};
 ghost use Rattle.asset_cli.specs.Preamble.{Takes, told_from};
 
 use crate::faults::ScriptFault;
+use crate::given::GivenObjects;
 use crate::grammar::{Command, Line};
 use crate::lines::split_line;
-use asset_names::Ob;
 
 /// What a line does before the first step.
 #[derive(Clone, Copy, Debug, PartialEq, Eq)]
@@ -36,40 +33,16 @@ pub(crate) struct Preamble<'a> {
     pub is_bad: bool,
 }
 
-/// Whether the object is in the opening.
-fn is_listed(opening: &[(Ob, i64)], x: Ob) -> bool
-    ensures { result ≡ list_any (λ pair. pair.0.0 == x.0) opening.now }
-{
-    opening.iter().any(|pair| pair.0.0 == x.0)
-}
-
-/// Takes an object with its value, unless the object was given before.
-#[tactic(auto, using(crate::proofs::PreambleLemmas::exists_listed, crate::proofs::PreambleLemmas::no_double_more))]
-fn take_object(opening: &mut Vec<(Ob, i64)>, object: (Ob, i64)) -> Result<bool, ScriptFault>
-    ensures taken { IfOk result (λ taken. taken ≡ not (exists opening.old.items object.0.0)) }
-    ensures grown { IfOk result (λ taken. OnTrue taken (opening.new.items ≡ opening.old.items ++ object ∷ [])) }
-    ensures different { OnOk result (HasNoDouble (objects_of opening.old.items) → HasNoDouble (objects_of opening.new.items)) }
-    ensures memory { IfErr result (λ fault. fault ≡ ScriptFault.NoMemory) }
-{
-    if is_listed(opening, object.0) {
-        return Ok(false);
-    }
-    match opening.push(object) {
-        Ok(()) => Ok(true),
-        Err(_) => Err(ScriptFault::NoMemory),
-    }
-}
-
 /// Takes one line before the first step.
-fn take_line(opening: &mut Vec<(Ob, i64)>, line: &[u8]) -> Result<Taken, ScriptFault>
-    ensures takes { IfOk result (λ taken. Takes taken line.now opening.old.items opening.new.items) }
-    ensures different { OnOk result (HasNoDouble (objects_of opening.old.items) → HasNoDouble (objects_of opening.new.items)) }
+fn take_line(opening: &mut GivenObjects, line: &[u8]) -> Result<Taken, ScriptFault>
+    ensures takes { IfOk result (λ taken. Takes taken line.now opening.old opening.new) }
+    ensures different { OnOk result (HasNoDouble (objects_of opening.old) → HasNoDouble (objects_of opening.new)) }
     ensures memory { IfErr result (λ fault. fault ≡ ScriptFault.NoMemory) }
 {
     match Line::parse(line) {
         Line::Blank => Ok(Taken::More),
         Line::Command(Command::Object(object)) => {
-            if take_object(opening, object)? {
+            if opening.add(object)? {
                 Ok(Taken::More)
             } else {
                 Ok(Taken::Bad)
@@ -82,15 +55,15 @@ fn take_line(opening: &mut Vec<(Ob, i64)>, line: &[u8]) -> Result<Taken, ScriptF
 
 /// Takes the object lines at the front of a script into the opening, which is empty before.
 pub(crate) fn take_objects<'a>(
-    opening: &mut Vec<(Ob, i64)>,
+    opening: &mut GivenObjects,
     bytes: &'a [u8],
 ) -> Result<Preamble<'a>, ScriptFault>
-    requires empty { opening.old.items ≡ [] }
+    requires empty { opening.old ≡ [] }
     requires few { length (lines bytes.now) + 1 < 2 ^ 64 }
     ensures told { IfOk result (λ preamble. (capacity : ℕ) →
-        objects_told (lines bytes.now) 1 [] capacity ≡ told_from preamble.is_bad (lines preamble.rest.now) preamble.number opening.new.items capacity) }
+        objects_told (lines bytes.now) 1 [] capacity ≡ told_from preamble.is_bad (lines preamble.rest.now) preamble.number opening.new capacity) }
     ensures few { IfOk result (λ preamble. preamble.number + length (lines preamble.rest.now) ≡ 1 + length (lines bytes.now)) }
-    ensures different { OnOk result (HasNoDouble (objects_of opening.new.items)) }
+    ensures different { OnOk result (HasNoDouble (objects_of opening.new)) }
     ensures memory { IfErr result (λ fault. fault ≡ ScriptFault.NoMemory) }
 {
     let mut left = bytes;

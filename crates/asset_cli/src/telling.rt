@@ -9,12 +9,14 @@ ghost use Rattle.asset_cli.specs.Transfers.{input_limit};
 ghost use Rattle.asset_cli.specs.Lines.{lines};
 ghost use Rattle.asset_cli.specs.Transcript.{told_outcome, joined_by, steps_told, transcript};
 ghost use Rattle.asset_cli.specs.Telling.{GoesOn, Ends};
+ghost use Rattle.asset_cli.specs.Preamble.{told_from};
 
 use crate::ends::RunEnd;
 use crate::faults::ScriptFault;
+use crate::given::GivenObjects;
 use crate::grammar::{Command, Line};
 use crate::lines::split_line;
-use crate::preamble::take_objects;
+use crate::preamble::{Preamble, take_objects};
 use crate::texts::{push_bad_line, push_full, push_outcome};
 use asset_core::{Core, OpenFault};
 use asset_names::{Fault, Ob, Step};
@@ -123,6 +125,36 @@ fn tell_over(
     tell_steps(&mut core, text, bytes, first)
 }
 
+/// Tells what a script prints from where its object lines end, over the objects that they gave.
+fn tell_from(
+    alloc: Global,
+    opening: &[(Ob, i64)],
+    capacity: usize,
+    preamble: &Preamble<'_>,
+) -> Result<(String, RunEnd), ScriptFault>
+    requires capacity { IsCapacity capacity }
+    requires different { HasNoDouble (objects_of opening.now) }
+    requires few { preamble.now.number + length (lines preamble.now.rest.now) < 2 ^ 64 }
+    ensures text { IfOk result (λ told. string_bytes told.0 ≡ (told_from preamble.now.is_bad (lines preamble.now.rest.now) preamble.now.number opening.now capacity).text) }
+    ensures end { IfOk result (λ told. told.1 ≡ (told_from preamble.now.is_bad (lines preamble.now.rest.now) preamble.now.number opening.now capacity).end) }
+    ensures memory { IfErr result (λ fault. fault ≡ ScriptFault.NoMemory) }
+{
+    let mut text = String::new(alloc);
+    if preamble.is_bad {
+        push_bad_line(&mut text, preamble.number)?;
+        return Ok((text, RunEnd::BadLine(preamble.number)));
+    }
+    let end = tell_over(
+        alloc,
+        opening,
+        capacity,
+        &mut text,
+        preamble.rest,
+        preamble.number,
+    )?;
+    Ok((text, end))
+}
+
 /// The transcript of a script: its text, and how its run ends.
 pub(crate) fn tell(
     alloc: Global,
@@ -135,20 +167,9 @@ pub(crate) fn tell(
     ensures end { IfOk result (λ told. told.1 ≡ (transcript bytes.now capacity).end) }
     ensures memory { IfErr result (λ fault. fault ≡ ScriptFault.NoMemory) }
 {
-    let mut opening = Vec::new(alloc);
-    let preamble = take_objects(&mut opening, bytes)?;
-    let mut text = String::new(alloc);
-    if preamble.is_bad {
-        push_bad_line(&mut text, preamble.number)?;
-        return Ok((text, RunEnd::BadLine(preamble.number)));
+    let mut opening = GivenObjects::new(alloc);
+    match take_objects(&mut opening, bytes) {
+        Ok(preamble) => tell_from(alloc, &opening.into_pairs(), capacity, &preamble),
+        Err(fault) => Err(fault),
     }
-    let end = tell_over(
-        alloc,
-        &opening,
-        capacity,
-        &mut text,
-        preamble.rest,
-        preamble.number,
-    )?;
-    Ok((text, end))
 }

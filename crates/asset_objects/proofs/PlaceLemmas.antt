@@ -1,16 +1,20 @@
 -- The values in place as the entries of a map, and the rows of a table.
-use Rattle.std.proofs.Common.{◌≡◌, ℕ, Bool, true, false, cond, eqb, List, [], ◌∷◌, map, find, Option, Some, None, refl, sym, ap, ◌∙◌, arith}
+use Rattle.std.proofs.Common.{◌≡◌, ℕ, ◌+◌, ◌<◌, Bool, true, false, cond, eqb, ◌||◌, List, [], ◌∷◌, ◌++◌, map, length, get_or, take, find, Option, Some, None, refl, sym, ap, ◌∙◌, arith}
 use Rattle.std.specs.Prelude.{ℤ}
 use Rattle.std.specs.Option.{option_map}
 use Rattle.std.specs.Map.{lookup, set_value}
-use Rattle.indexmap.specs.IndexMap.{insert_entry}
 use Rattle.std.proofs.lemmas.Bool.{eqb-true}
 use Rattle.std.proofs.lemmas.Bool.Decides.{nat_tests}
+use Rattle.std.proofs.lemmas.List.{take_more, map-append}
 use Rattle.asset_names.specs.declared.names.Ob.{Ob}
+use Rattle.asset_names.specs.Arrows.{lists}
+use Rattle.asset_names.specs.Sets.{HasNoDouble}
 use Rattle.asset_names.specs.Steps.{Opening}
 use Rattle.asset_names.specs.Operations.{opening_at}
+use Rattle.asset_names.proofs.DoubleLemmas.{no_double_push}
 use Rattle.asset_objects.specs.declared.records.Record.{Record}
 use Rattle.asset_objects.specs.Cells.{Cell, cells}
+use Rattle.asset_objects.specs.Faults.{objects_of}
 use Rattle.asset_objects.specs.Records.{put_at, cell_of, cells_of, table_of}
 
 pub eqb_sym : (a b : ℕ) → eqb a b ≡ eqb b a
@@ -78,32 +82,22 @@ put_absent pairs x value h y = go (eqb x y) refl where
   go true e = let none : opening_at pairs y ≡ None = ap (opening_at pairs) (sym (eqb-true x y e)) ∙ h in none ∙ ap (option_map (λ (old : ℤ). value)) (sym none)
   go false e = refl
 
-insert_step : (here there both : Bool) (value first : ℤ) (rest changed : Option ℤ) → (here ≡ true → both ≡ there) → (here ≡ false → there ≡ true → both ≡ false) →
-    changed ≡ cond both (Some value) rest →
-    cond here (cond there (Some value) rest) (cond there (Some first) changed) ≡ cond both (Some value) (cond there (Some first) rest)
-insert_step true true true value first rest changed h k e = refl
-insert_step true true false value first rest changed h k e = cc (h refl)
-insert_step true false true value first rest changed h k e = cc (h refl)
-insert_step true false false value first rest changed h k e = refl
-insert_step false true true value first rest changed h k e = cc (k refl refl)
-insert_step false true false value first rest changed h k e = refl
-insert_step false false both value first rest changed h k e = e
+-- an object without a value is not listed
+unlisted : (pairs : Opening) (x : ℕ) → opening_at pairs x ≡ None → lists (objects_of pairs) x ≡ false
+unfolding lists
+unlisted [] x h = refl
+unlisted (pair ∷ pairs) x h = go (eqb pair.0.0 x) (sym (opening_at-cons pair pairs x) ∙ h) (unlisted pairs x) where
+  go : (here : Bool) → cond here (Some pair.1) (opening_at pairs x) ≡ None → (opening_at pairs x ≡ None → lists (objects_of pairs) x ≡ false) → (here || lists (objects_of pairs) x) ≡ false
+  go true e rest = cc e
+  go false e rest = rest e
 
--- an inserted value
-pub opening_insert : (eq : Ob → Ob → Bool) (x : Ob) → Finds (eq x) x.0 → (pairs : Opening) (value : ℤ) (y : ℕ) → opening_at (insert_entry eq pairs x value) y ≡ cond (eqb x.0 y) (Some value) (opening_at pairs y)
-opening_insert eq x h [] value y = opening_at-cons (x, value) [] y
-opening_insert eq x h (pair ∷ pairs) value y =
-    ap (λ (b : Bool). opening_at (cond b ((pair.0, value) ∷ pairs) (pair ∷ insert_entry eq pairs x value)) y) (h pair.0)
-    ∙ choice (eqb x.0 pair.0.0)
-    ∙ insert_step (eqb x.0 pair.0.0) (eqb pair.0.0 y) (eqb x.0 y) value pair.1 (opening_at pairs y) (opening_at (insert_entry eq pairs x value) y)
-    (λ e. ap (λ (n : ℕ). eqb n y) (eqb-true x.0 pair.0.0 e))
-    (λ e f. ap (eqb x.0) (sym (eqb-true pair.0.0 y f)) ∙ e)
-    (opening_insert eq x h pairs value y)
-    ∙ ap (cond (eqb x.0 y) (Some value)) (sym (opening_at-cons pair pairs y)) where
-      choice : (b : Bool) → opening_at (cond b ((pair.0, value) ∷ pairs) (pair ∷ insert_entry eq pairs x value)) y
-          ≡ cond b (cond (eqb pair.0.0 y) (Some value) (opening_at pairs y)) (cond (eqb pair.0.0 y) (Some pair.1) (opening_at (insert_entry eq pairs x value) y))
-      choice true = opening_at-cons (pair.0, value) pairs y
-      choice false = opening_at-cons pair (insert_entry eq pairs x value) y
+-- one more object that had no value makes no double
+pub no_double_pair : (pairs : Opening) (pair : Ob × ℤ) → opening_at pairs pair.0.0 ≡ None → HasNoDouble (objects_of pairs) → HasNoDouble (objects_of (pairs ++ pair ∷ []))
+no_double_pair pairs pair new none = rw map-append (no_double_push (objects_of pairs) pair.0.0 (unlisted pairs pair.0.0 new) none)
+
+-- the opening that was gone over is one pair longer
+pub added_pair : (opening : Opening) (i : ℕ) (pair : Ob × ℤ) (before after : Opening) → i < length opening → before ≡ take i opening → after ≡ before ++ get_or opening i pair ∷ [] → after ≡ take (i + 1) opening
+added_pair opening i pair before after below front more = more ∙ rw front (sym (take_more opening i pair below))
 
 -- the rows of a table show the cells
 pub cells_table : (pairs : Opening) (records : List Record) (room : ℕ) (x : ℕ) → cells (table_of pairs records room) x ≡ cells_of pairs records x

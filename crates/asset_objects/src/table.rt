@@ -4,7 +4,7 @@ use crate::records;
 use crate::records::Record;
 use asset_names::{NoMemory, Ob, Txn, least_double};
 use indexmap::IndexMap;
-use std::alloc::{AllocError, Global};
+use std::alloc::Global;
 use std::marker::Model;
 use thiserror::Error;
 
@@ -53,15 +53,12 @@ impl Objects {
         ensures different { OnOk result (HasNoDouble (objects_of opening.now)) }
         ensures fault { IfErr result (λ fault. IsObjectsFault opening.now fault) }
     {
-        if let Some(x) = least_double(opening) {
-            return Err(ObjectsFault::DoubleObject(x));
-        }
         match values_of(alloc, opening) {
-            Ok(values) => Ok(Objects {
+            Some(values) => Ok(Objects {
                 values,
                 records: Vec::new(alloc),
             }),
-            Err(_) => Err(ObjectsFault::NoMemory),
+            None => Err(fault_of(opening)),
         }
     }
 
@@ -114,19 +111,48 @@ impl Objects {
     }
 }
 
-ghost use Rattle.std.specs.Prelude.{◌≡◌, ℕ, IfOk};
+ghost use Rattle.std.specs.Prelude.{◌≡◌, [], ◌∷◌, ◌++◌, None, IfSome, OnSome};
+ghost use Rattle.std.specs.Bool.{OnTrue};
 ghost use Rattle.asset_names.specs.Operations.{opening_at};
+ghost use Rattle.asset_names.specs.Sets.{HasNoDouble};
+ghost use Rattle.asset_objects.specs.Faults.{objects_of, IsObjectsFault};
 
-/// The values by object. The first value of an object counts.
-fn values_of(alloc: Global, opening: &[(Ob, i64)]) -> Result<IndexMap<Ob, i64>, AllocError>
-    ensures { IfOk result (λ values. (x : ℕ) → opening_at values.entries x ≡ opening_at opening.now x) }
+/// The values by object, in the order of the opening. There are none where an object is given twice
+/// or memory runs out.
+fn values_of(alloc: Global, opening: &[(Ob, i64)]) -> Option<IndexMap<Ob, i64>>
+    ensures values { IfSome result (λ values. values.entries ≡ opening.now) }
+    ensures different { OnSome result (HasNoDouble (objects_of opening.now)) }
 {
-    let mut values = IndexMap::with_capacity(alloc, opening.len())?;
-    let mut rest = opening.len();
-    'rest: while rest > 0 {
-        rest -= 1;
-        let (x, value) = opening[rest];
-        values.insert(x, value)?;
+    let Ok(mut values) = IndexMap::with_capacity(alloc, opening.len()) else {
+        return None;
+    };
+    'pairs: for &(x, value) in opening {
+        if !add(&mut values, x, value) {
+            return None;
+        }
     }
-    Ok(values)
+    Some(values)
+}
+
+/// Adds an object with its value, unless it is there already or memory runs out. Whether it was added.
+fn add(values: &mut IndexMap<Ob, i64>, x: Ob, value: i64) -> bool
+    ensures added { OnTrue result (values.new.entries ≡ values.old.entries ++ (x, value) ∷ []) }
+    ensures different { OnTrue result (opening_at values.old.entries x.0 ≡ None) }
+{
+    match values.insert(x, value) {
+        Ok(None) => true,
+        Ok(Some(_)) => false,
+        Err(_) => false,
+    }
+}
+
+/// Why there is no table of these objects: one is given twice, or else memory ran out. It looks at
+/// each pair.
+fn fault_of(opening: &[(Ob, i64)]) -> ObjectsFault
+    ensures { IsObjectsFault opening.now result }
+{
+    match least_double(opening) {
+        Some(x) => ObjectsFault::DoubleObject(x),
+        None => ObjectsFault::NoMemory,
+    }
 }

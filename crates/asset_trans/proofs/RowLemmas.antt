@@ -1,13 +1,14 @@
 -- One row of a table of different names changes.
-use Rattle.std.proofs.Common.{◌≡◌, ℕ, ◌+◌, ◌*◌, ◌≤◌, length, Bool, true, false, cond, eqb, List, [], ◌∷◌, ◌++◌, map, refl, sym, ◌∙◌, ap, subst, arith, Some, None}
+use Rattle.std.proofs.Common.{◌≡◌, ℕ, ◌+◌, ◌*◌, ◌≤◌, length, Bool, true, false, cond, eqb, ◌||◌, List, [], ◌∷◌, ◌++◌, refl, sym, ◌∙◌, ap, arith, Some, None}
 use Rattle.std.specs.Prelude.{Option, is_some, sum_by}
 use Rattle.std.specs.List.{IsDistinct, AllByRecursion}
 use Rattle.std.specs.Map.{lookup, values_of, set_value, keys_of}
-use Rattle.std.proofs.lemmas.Bool.{eqb-true, eq-eqb, false≢true}
+use Rattle.std.proofs.lemmas.Bool.{eqb-true, false≢true, or_parts}
 use Rattle.std.proofs.lemmas.Map.Entries.{sum_by-set_value}
 use Rattle.std.proofs.lemmas.List.Sums.{sum_by-cons}
 use Rattle.std.proofs.lemmas.List.Sums.{sum_by_push}
 use Rattle.std.proofs.lemmas.List.{map-append}
+use Rattle.std.proofs.lemmas.List.Folds.{list_any-append}
 use Rattle.asset_names.specs.Answers.{is_unknown}
 use Rattle.asset_names.specs.Endings.{is_live_status}
 use Rattle.asset_names.specs.Room.{owed_to}
@@ -17,7 +18,7 @@ use Rattle.asset_names.specs.declared.statuses.End.TheVariants as End'
 use Rattle.asset_names.specs.declared.names.Txn.{Txn}
 use Rattle.asset_names.specs.declared.statuses.Status.{Status}
 use Rattle.asset_trans.specs.declared.rows.Row.{Row}
-use Rattle.asset_trans.specs.Rows.{Entry, row_in, status_in, status_or_unknown, initiate_in, set_in, set_entry, ended_as, one_if_live, live_count_in, owed_in}
+use Rattle.asset_trans.specs.Rows.{Entry, row_in, status_in, status_or_unknown, initiate_in, set_in, set_entry, ended_as, one_if_live, live_count_in, owed_in, has_unknown}
 
 -- whether two names are one, as the map looks for a name
 abbrev pub same : Txn → Txn → Bool
@@ -124,3 +125,38 @@ pub ended_counts : (how : End) → (owed_to (ended_as how) ≡ 0) × (one_if_liv
 unfolding ended_as owed_to one_if_live is_live_status
 ended_counts End'.Committed = (refl, refl)
 ended_counts End'.Aborted = (refl, refl)
+
+-- what has ended is known
+pub ended_known : (how : End) → is_unknown (ended_as how) ≡ false
+unfolding ended_as is_unknown
+ended_known End'.Committed = refl
+ended_known End'.Aborted = refl
+
+-- a name whose status is Unknown has no row
+pub unknown_absent : (t : ℕ) (rows : List Entry) → has_unknown rows ≡ false → status_in rows t ≡ Status'.Unknown → row_in rows t ≡ None
+unfolding has_unknown status_in status_or_unknown row_in is_unknown
+unknown_absent t [] known is = refl
+unknown_absent t (entry ∷ rows) known is =
+    let parts = or_parts (is_unknown entry.1.status) (has_unknown rows) known in
+    go (eqb t entry.0.0) parts.0 is (unknown_absent t rows parts.1) where
+      go : (here : Bool) → is_unknown entry.1.status ≡ false → status_or_unknown (cond here (Some entry.1) (row_in rows t)) ≡ Status'.Unknown
+          → (status_in rows t ≡ Status'.Unknown → row_in rows t ≡ None) → cond here (Some entry.1) (row_in rows t) ≡ None
+      go true new e rest = absurd (false≢true (sym new ∙ ap is_unknown e))
+      go false new e rest = rest e
+
+-- no row becomes Unknown where the status that is set is another
+pub known_set : (test : ℕ → Bool) (status : Status) (rows : List Entry) → is_unknown status ≡ false → has_unknown rows ≡ false → has_unknown (set_in test status rows) ≡ false
+unfolding has_unknown set_in set_entry
+known_set test status [] new known = refl
+known_set test status (entry ∷ rows) new known =
+    let parts = or_parts (is_unknown entry.1.status) (has_unknown rows) known in
+    go (test entry.0.0) parts.0 (known_set test status rows new parts.1) where
+      go : (set : Bool) → is_unknown entry.1.status ≡ false → has_unknown (set_in test status rows) ≡ false
+          → (is_unknown (cond set (entry.0, record entry.1 { status = status }) entry).1.status || has_unknown (set_in test status rows)) ≡ false
+      go true old rest = rw (new, rest) refl
+      go false old rest = rw (old, rest) refl
+
+-- nor where a new name comes
+pub known_initiate : (t : Txn) (parent : Option Txn) (rows : List Entry) → has_unknown rows ≡ false → has_unknown (initiate_in rows t parent) ≡ false
+unfolding has_unknown initiate_in is_unknown
+known_initiate t parent rows known = list_any-append (λ (entry : Entry). is_unknown entry.1.status) rows _ ∙ rw known refl

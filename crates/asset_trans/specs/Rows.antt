@@ -1,11 +1,13 @@
 -- The table of transactions: a row for each name that was initiated, in order of initiation.
-use Rattle.std.specs.Prelude.{◌≡◌, ℕ, Bool, true, false, cond, ◌==◌, List, [], ◌∷◌, ◌++◌, map, sum_by, count_by, Option, Some, None}
+use Rattle.std.specs.Prelude.{◌≡◌, ℕ, Bool, false, cond, ◌==◌, List, [], ◌∷◌, ◌++◌, map, sum_by, Option, Some, None}
+use Rattle.std.specs.List.{list_any}
 use Rattle.std.specs.Map.{lookup, values_of}
 use Rattle.asset_names.specs.declared.names.Txn.{Txn}
 use Rattle.asset_names.specs.declared.statuses.Status.{Status}
 use Rattle.asset_names.specs.declared.statuses.Status.TheVariants as Status'
 use Rattle.asset_names.specs.declared.statuses.End.{End}
 use Rattle.asset_names.specs.declared.statuses.End.TheVariants as End'
+use Rattle.asset_names.specs.Answers.{is_unknown}
 use Rattle.asset_names.specs.Endings.{is_live_status}
 use Rattle.asset_names.specs.Room.{owed_to}
 use Rattle.asset_trans.specs.declared.rows.Row.{Row}
@@ -66,7 +68,12 @@ live_count_in rows = sum_by (λ (row : Row). one_if_live row.status) (values_of 
 unfoldable pub owed_in : List Entry → ℕ
 owed_in rows = sum_by (λ (row : Row). owed_to row.status) (values_of rows)
 
--- how the counts are kept beside the rows
-pub record IsCounted (rows : List Entry) (live owed : ℕ) : Type 0 where
+-- whether a row has the status of a name that has none
+unfoldable pub has_unknown : List Entry → Bool
+has_unknown rows = list_any (λ (entry : Entry). is_unknown entry.1.status) rows
+
+-- how the rows are kept, and the counts beside them
+pub record IsKept (rows : List Entry) (live owed : ℕ) : Type 0 where
+  pub known : has_unknown rows ≡ false
   pub counts_live : live ≡ live_count_in rows
   pub counts_owed : owed ≡ owed_in rows

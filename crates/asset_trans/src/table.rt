@@ -23,13 +23,13 @@ pub struct Trans {
 
 impl Model for Trans {
     ghost use Rattle.std.specs.Prelude.{List};
-    ghost use Rattle.asset_trans.specs.Rows.{Entry, IsCounted};
+    ghost use Rattle.asset_trans.specs.Rows.{Entry, IsKept};
 
     ghost Value = { List Entry };
 
     ghost view = { λ trans. trans.rows.entries };
 
-    ghost invariant = { λ trans. IsCounted trans.rows.entries trans.live trans.owed };
+    ghost invariant = { λ trans. IsKept trans.rows.entries trans.live trans.owed };
 }
 
 /// Adds a transaction that is not there, as Initiated.
@@ -85,10 +85,11 @@ fn ended_as(how: End) -> Status
 }
 
 impl Trans {
-    ghost use Rattle.std.specs.Prelude.{◌≡◌, ◌≤◌, true, [], None, OnOk, OnErr, ◌==◌, is_some};
+    ghost use Rattle.std.specs.Prelude.{◌≡◌, ◌≤◌, true, false, [], OnOk, OnErr, ◌==◌, is_some};
     ghost use Rattle.asset_names.specs.declared.statuses.Status.{Status};
     ghost use Rattle.asset_names.specs.Room.{owed_to};
     ghost use Rattle.asset_trans.specs.Rows.{row_in, status_in, parent_in, initiate_in, set_in, ended_as, one_if_live, live_count_in, owed_in};
+    ghost use Rattle.asset_names.specs.Answers.{is_unknown};
     ghost use Rattle.asset_names.specs.Endings.{is_live_status};
 
     /// A table without transactions. It takes no memory.
@@ -102,10 +103,10 @@ impl Trans {
         }
     }
 
-    /// Registers `t`, which was not registered before, as Initiated, with the parent that it was given. Where
+    /// Registers `t`, which is Unknown, as Initiated, with the parent that it was given. Where
     /// memory runs out nothing has changed.
     pub fn initiate(&mut self, t: Txn, parent: Option<Txn>) -> Result<(), NoMemory>
-        requires new { row_in self.old t.0 ≡ None }
+        requires new { status_in self.old t.0 ≡ Status.Unknown }
         ensures done { OnOk result (self.new ≡ initiate_in self.old t parent) }
         ensures unchanged { OnErr result (self.new ≡ self.old) }
     {
@@ -138,6 +139,7 @@ impl Trans {
     /// Gives `t`, which is there, a status that is owed no more entries.
     fn change(&mut self, t: Txn, status: Status)
         requires there { is_some (row_in self.old t.0) ≡ true }
+        requires known { is_unknown status ≡ false }
         requires owed_less { owed_to status ≤ owed_to (status_in self.old t.0) }
         requires live_less { one_if_live status ≤ one_if_live (status_in self.old t.0) }
         ensures { self.new ≡ set_in (λ n. n == t.0) status self.old }

@@ -5,11 +5,21 @@ use asset_names::{End, NoMemory, Status, Txn};
 use std::alloc::Global;
 use std::test::Fail;
 
+/// Initiates a transaction that is Unknown, and says whether it was.
+fn initiate(trans: &mut Trans, t: Txn, parent: Option<Txn>) -> Result<bool, NoMemory> {
+    match trans.status(t) {
+        Status::Unknown => {
+            trans.initiate(t, parent)?;
+            Ok(true)
+        }
+        _ => Ok(false),
+    }
+}
+
 /// A table with one transaction, which is Initiated.
-#[tactic(auto, unfolding(crate::specs::Rows::row_in))]
 fn with_one(alloc: Global, t: Txn, parent: Option<Txn>) -> Result<Trans, NoMemory> {
     let mut trans = Trans::new(alloc);
-    trans.initiate(t, parent)?;
+    initiate(&mut trans, t, parent)?;
     Ok(trans)
 }
 
@@ -71,5 +81,22 @@ fn parent_is_recorded(rt: HostRuntime) -> Result<(), Fail> {
     assert_eq!(rt; trans.status(Txn(9)), Status::Unknown);
     assert!(rt; end(&mut trans, Txn(8), End::Aborted));
     assert_eq!(rt; trans.status(Txn(8)), Status::Aborted);
+    Ok(())
+}
+
+#[test]
+fn want_of_memory_changes_nothing(rt: HostRuntime) -> Result<(), Fail> {
+    let mut trans = Trans::new(rt.alloc());
+    for n in 0..20 {
+        let before = (trans.owed(), trans.live_count());
+        if initiate(&mut trans, Txn(n), None) == Err(NoMemory) {
+            assert_eq!(rt; trans.status(Txn(n)), Status::Unknown);
+            assert_eq!(rt; (trans.owed(), trans.live_count()), before);
+            assert_eq!(rt; initiate(&mut trans, Txn(n), None), Ok(true));
+        }
+        assert_eq!(rt; trans.status(Txn(n)), Status::Initiated);
+    }
+    assert_eq!(rt; (trans.owed(), trans.live_count()), (40, 20));
+    assert_eq!(rt; initiate(&mut trans, Txn(7), None), Ok(false));
     Ok(())
 }

@@ -8,15 +8,15 @@ returns-in-Blank-clause-takes c = takes_blank _ _ (sym c.in-Blank.ensures)
 
 pub returns-then-branch-clause-takes : goal.returns-then-branch-clause-takes
 returns-then-branch-clause-takes c =
-    let took = c.in_ok-take_object-in-Command-Object.ensures in
+    let took = c.in_ok-add-in-Command-Object.ensures in
     let is = rw c.in-Command-Object.field-0-is at c.in-Command-Object.ensures in
-    rw (rw c.if-branch.true at took.grown) (takes_object _ _ _ (sym is) (not-true _ (sym took.taken ∙ c.if-branch.true)))
+    rw (rw c.if-branch.true at took.grown) (takes_object _ _ _ (sym is) (not-true _ (sym took.added ∙ c.if-branch.true)))
 
 pub returns-else-branch-clause-takes : goal.returns-else-branch-clause-takes
 returns-else-branch-clause-takes c =
-    let took = c.in_ok-take_object-in-Command-Object.ensures in
+    let took = c.in_ok-add-in-Command-Object.ensures in
     let is = rw c.in-Command-Object.field-0-is at c.in-Command-Object.ensures in
-    takes_double _ _ _ _ (sym is) (not-false _ (sym took.taken ∙ c.if-branch.false))
+    takes_double _ _ _ _ (sym is) (not-false _ (sym took.added ∙ c.if-branch.false))
 
 pub returns-in-Command-Ask-clause-takes : goal.returns-in-Command-Ask-clause-takes
 returns-in-Command-Ask-clause-takes c = takes_step _ _ _ (sym (rw c.in-Command-Ask.field-0-is at c.in-Command-Ask.ensures))

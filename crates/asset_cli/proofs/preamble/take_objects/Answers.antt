@@ -1,6 +1,5 @@
 use Rattle.std.proofs.Common.{length, refl, ◌∙◌, ap, arith}
 use Rattle.asset_names.specs.Sets.{twice, HasNoDouble}
-use Rattle.asset_core.specs.Recorded.{objects_of}
 use Rattle.asset_cli.specs.Lines.{lines}
 use Rattle.asset_cli.specs.Transcript.{objects_told, steps_told}
 use Rattle.asset_cli.specs.Preamble.{Takes, told_from}

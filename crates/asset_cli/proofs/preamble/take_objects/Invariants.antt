@@ -8,9 +8,9 @@ use Rattle.asset_cli.proofs.preamble.take_objects.Given as goal
 -- the lines left tell, over the opening so far, what all of them do
 abbrev pub invariant-lines : goal.invariant-lines
 invariant-lines l = record {
-  told : (capacity : ℕ) → objects_told (lines l.bytes) 1 [] capacity ≡ objects_told (lines l.left) l.number l.opening.items capacity;
+  told : (capacity : ℕ) → objects_told (lines l.bytes) 1 [] capacity ≡ objects_told (lines l.left) l.number l.opening capacity;
   count : l.number + length (lines l.left) ≡ 1 + length (lines l.bytes);
-  different : HasNoDouble (objects_of l.opening.items);
+  different : HasNoDouble (objects_of l.opening);
 }
 
 abbrev pub decreases-lines : goal.decreases-lines

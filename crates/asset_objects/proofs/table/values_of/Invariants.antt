@@ -1,10 +1,11 @@
-use Rattle.std.proofs.Common.{◌≡◌, ◌≤◌, ℕ, drop, length}
-use Rattle.asset_names.specs.Operations.{opening_at}
+use Rattle.std.proofs.Common.{◌≡◌, take}
+use Rattle.asset_names.specs.Sets.{HasNoDouble}
+use Rattle.asset_objects.specs.Faults.{objects_of}
 use Rattle.asset_objects.proofs.table.values_of.Given as goal
 
--- the pairs from here on stand in the map
-abbrev pub invariant-rest : goal.invariant-rest
-invariant-rest l = (l.rest ≤ length l.opening) × ((x : ℕ) → opening_at l.values.entries x ≡ opening_at (drop l.rest l.opening) x)
-
-abbrev pub decreases-rest : goal.decreases-rest
-decreases-rest l = l.rest
+-- the pairs so far stand in the map, and they are of different objects
+abbrev pub invariant-pairs : goal.invariant-pairs
+invariant-pairs l = record {
+  values : l.values.entries ≡ take l.x-index l.opening;
+  different : HasNoDouble (objects_of l.values.entries);
+}

@@ -17,3 +17,7 @@ change-requires-clause-owed_less c = rw c.requires.initiated (omega arith)
 pub change-requires-clause-live_less : goal.change-requires-clause-live_less
 unfolding one_if_live is_live_status
 change-requires-clause-live_less c = rw c.requires.initiated (omega arith)
+
+pub change-requires-clause-known : goal.change-requires-clause-known
+unfolding is_unknown
+change-requires-clause-known c = refl

@@ -1,8 +1,7 @@
-use Rattle.std.proofs.Common.{◌≡◌, ◌+◌, arith}
-use Rattle.std.specs.Prelude.{sum_by}
-use Rattle.std.specs.Map.{values_of}
+use Rattle.std.proofs.Common.{arith}
 use Rattle.asset_names.specs.Room.{owed_to}
-use Rattle.asset_trans.specs.Rows.{status_in, one_if_live, live_count_in, owed_in}
+use Rattle.asset_trans.specs.Rows.{one_if_live, live_count_in, owed_in}
+use Rattle.asset_trans.proofs.RowLemmas.{known_set}
 use Rattle.asset_trans.proofs.table.Trans.change.Goals as goal
 
 pub overflow_sub-self : goal.overflow_sub-self
@@ -23,6 +22,7 @@ overflow_sub-self-4 c =
 pub invariant_of-self : goal.invariant_of-self
 unfolding live_count_in owed_in
 invariant_of-self c = record {
+  known = rw c.set_status.ensures.set (known_set _ _ _ c.requires.known c.self.invariant.known);
   counts_live =
       rw (c.one_if_live-2.ensures, c.one_if_live.ensures, c.status-before.ensures, ← c.self.view_is)
       (omega (arith, c.set_status.ensures.counted one_if_live, c.self.invariant.counts_live, rw (← c.self.view_is) at c.requires.live_less));

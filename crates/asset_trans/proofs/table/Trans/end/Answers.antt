@@ -1,5 +1,5 @@
 use Rattle.std.proofs.Common.{refl, arith}
-use Rattle.asset_trans.proofs.RowLemmas.{known_there, live_counts, ended_counts}
+use Rattle.asset_trans.proofs.RowLemmas.{known_there, live_counts, ended_counts, ended_known}
 use Rattle.asset_trans.proofs.table.Trans.end.Goals as goal
 
 pub change-requires-clause-there : goal.change-requires-clause-there
@@ -10,3 +10,6 @@ change-requires-clause-owed_less c = rw (c.ended_as.ensures, (ended_counts c.arg
 
 pub change-requires-clause-live_less : goal.change-requires-clause-live_less
 change-requires-clause-live_less c = rw (c.ended_as.ensures, (ended_counts c.args.how).1) (omega arith)
+
+pub change-requires-clause-known : goal.change-requires-clause-known
+change-requires-clause-known c = rw c.ended_as.ensures (ended_known c.args.how)

@@ -1,6 +1,6 @@
 use Rattle.std.proofs.Common.{arith}
 use Rattle.asset_trans.specs.Rows.{initiate_in}
-use Rattle.asset_trans.proofs.RowLemmas.{initiated_counts, most_live, most_owed}
+use Rattle.asset_trans.proofs.RowLemmas.{initiated_counts, most_live, most_owed, unknown_absent, known_initiate}
 use Rattle.asset_trans.proofs.table.Trans.initiate.Goals as goal
 
 pub overflow_add-self : goal.overflow_add-self
@@ -19,6 +19,10 @@ pub invariant_of-self-2 : goal.invariant_of-self-2
 invariant_of-self-2 c =
     let counts = initiated_counts c.args.t c.args.parent c.self.inside.rows.entries in
     rw c.in_ok-add_row.ensures.added (record {
+      known = known_initiate c.args.t c.args.parent c.self.inside.rows.entries c.self.invariant.known;
       counts_live = omega (arith, counts.0, c.self.invariant.counts_live);
       counts_owed = omega (arith, counts.1, c.self.invariant.counts_owed);
     })
+
+pub add_row-requires : goal.add_row-requires
+add_row-requires c = record { absent = unknown_absent c.args.t.0 c.self.inside.rows.entries c.self.invariant.known (rw c.self.view_is c.requires.new) }

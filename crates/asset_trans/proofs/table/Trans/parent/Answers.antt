@@ -1,4 +1,4 @@
-use Rattle.std.proofs.Common.{sym, ap}
+use Rattle.std.proofs.Common.{ap}
 use Rattle.asset_trans.specs.Rows.{row_in, parent_in, parent_or_none}
 use Rattle.asset_trans.proofs.table.Trans.parent.Goals as goal
 

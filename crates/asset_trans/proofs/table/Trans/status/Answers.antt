@@ -1,4 +1,4 @@
-use Rattle.std.proofs.Common.{sym, ap}
+use Rattle.std.proofs.Common.{ap}
 use Rattle.asset_trans.specs.Rows.{row_in, status_in, status_or_unknown}
 use Rattle.asset_trans.proofs.table.Trans.status.Goals as goal
 

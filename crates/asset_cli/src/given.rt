@@ -1,0 +1,72 @@
+//! The objects that a script gives before its first step.
+
+use crate::faults::ScriptFault;
+use asset_names::Ob;
+use indexmap::IndexSet;
+use std::alloc::Global;
+use std::marker::Model;
+
+/// Objects with their values, in the order in which they were given. Contracts see this list. Whether an
+/// object is among them is found without going over them.
+#[derive(Drop)]
+pub(crate) struct GivenObjects {
+    pairs: Vec<(Ob, i64)>,
+    objects: IndexSet<Ob>,
+}
+
+impl Model for GivenObjects {
+    ghost use Rattle.std.specs.Prelude.{◌≡◌, ℤ, map};
+    ghost use Rattle.asset_names.specs.declared.names.Ob.{Ob};
+    ghost use Rattle.asset_names.specs.Steps.{Opening};
+
+    ghost Value = { Opening };
+
+    ghost view = { λ given. given.pairs.items };
+
+    ghost invariant = { λ given. given.objects.keys ≡ map (λ (pair : Ob × ℤ). pair.0) given.pairs.items };
+}
+
+impl GivenObjects {
+    ghost use Rattle.std.specs.Prelude.{◌≡◌, [], ◌∷◌, ◌++◌, not, IfOk, OnOk, IfErr};
+    ghost use Rattle.std.specs.Bool.{OnTrue};
+    ghost use Rattle.asset_names.specs.Sets.{HasNoDouble};
+    ghost use Rattle.asset_names.specs.Operations.{exists};
+    ghost use Rattle.asset_core.specs.Recorded.{objects_of};
+
+    /// No object yet. It takes no memory.
+    pub fn new(alloc: Global) -> GivenObjects
+        ensures { result ≡ [] }
+    {
+        GivenObjects {
+            pairs: Vec::new(alloc),
+            objects: IndexSet::new(alloc),
+        }
+    }
+
+    /// Adds an object with its value, unless it was given before. Whether it was added.
+    pub fn add(&mut self, object: (Ob, i64)) -> Result<bool, ScriptFault>
+        ensures added { IfOk result (λ added. added ≡ not (exists self.old object.0.0)) }
+        ensures grown { IfOk result (λ added. OnTrue added (self.new ≡ self.old ++ object ∷ [])) }
+        ensures different { OnOk result (HasNoDouble (objects_of self.old) → HasNoDouble (objects_of self.new)) }
+        ensures memory { IfErr result (λ fault. fault ≡ ScriptFault.NoMemory) }
+    {
+        match self.pairs.reserve(1) {
+            Ok(()) => match self.objects.insert(object.0) {
+                Ok(true) => {
+                    self.pairs.push(object).unwrap();
+                    Ok(true)
+                }
+                Ok(false) => Ok(false),
+                Err(_) => Err(ScriptFault::NoMemory),
+            },
+            Err(_) => Err(ScriptFault::NoMemory),
+        }
+    }
+
+    /// The objects with their values.
+    pub fn into_pairs(self) -> Vec<(Ob, i64)>
+        ensures { result.items ≡ self }
+    {
+        self.pairs
+    }
+}
