@@ -1,1 +1,3 @@
-pub mod Allowed
+pub mod Descriptors
+pub mod Kept
+pub mod Searched

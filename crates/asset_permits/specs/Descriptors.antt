@@ -1,0 +1,68 @@
+-- Permits: who lets whom do what on which objects, and who allows whom by them.
+use Rattle.std.specs.Prelude.{◌≡◌, ℕ, Bool, true, false, ◌==◌, ◌&&◌, List, [], ◌∷◌, map, filter}
+use Rattle.std.specs.List.{list_any}
+use Rattle.std.specs.Bool.{beq}
+use Rattle.std.specs.Cmp.Lexicographic.{pointwise}
+use Rattle.asset_names.specs.declared.names.Ob.{Ob}
+use Rattle.asset_names.specs.declared.operations.Op.{Op}
+use Rattle.asset_names.specs.declared.sets.ObSet.{ObSet}
+use Rattle.asset_names.specs.declared.sets.ObSet.TheVariants.{All, Listed}
+use Rattle.asset_names.specs.Arrows.{Arrow, linked}
+use Rattle.asset_names.specs.InSet.{in_set}
+use Rattle.asset_names.specs.Operations.{has_op}
+
+-- a permit: the giver lets the taker do the operations on the objects
+pub record Descriptor : Type 0 where
+  pub giver : ℕ
+  pub taker : ℕ
+  pub objects : ObSet
+  pub ops : Bool × Bool
+
+-- whether the two are the same set, said by the same list
+unfoldable pub same_objects : ObSet → ObSet → Bool
+same_objects All All = true
+same_objects All (Listed others) = false
+same_objects (Listed objects) All = false
+same_objects (Listed objects) (Listed others) = pointwise (λ (x y : Ob). x.0 == y.0) objects others
+
+-- whether the two are the same operations
+unfoldable pub same_ops : Bool × Bool → Bool × Bool → Bool
+same_ops ops others = beq ops.0 others.0 && beq ops.1 others.1
+
+-- whether the two say the same
+unfoldable pub same_descriptor : Descriptor → Descriptor → Bool
+same_descriptor d e = d.giver == e.giver && d.taker == e.taker && same_objects d.objects e.objects && same_ops d.ops e.ops
+
+-- whether the descriptor is among those that stand
+unfoldable pub stands : List Descriptor → Descriptor → Bool
+stands descriptors e = list_any (λ (d : Descriptor). same_descriptor d e) descriptors
+
+-- none stands twice
+unfoldable pub AreDifferent : List Descriptor → Type 0
+AreDifferent [] = Unit {0}
+AreDifferent (d ∷ descriptors) = (stands descriptors d ≡ false) × AreDifferent descriptors
+
+-- whether the descriptor covers op on x: it has the object and the operation
+unfoldable pub covers : ℕ → Op → Descriptor → Bool
+covers x op d = in_set d.objects x && has_op d.ops op
+
+-- whether the descriptor is of this giver for this taker, and covers op on x
+unfoldable pub lets : ℕ → ℕ → ℕ → Op → Descriptor → Bool
+lets giver taker x op d = d.giver == giver && d.taker == taker && covers x op d
+
+-- whether a descriptor that stands lets the taker do op on x
+unfoldable pub one_covers : List Descriptor → ℕ → ℕ → ℕ → Op → Bool
+one_covers descriptors giver taker x op = list_any (lets giver taker x op) descriptors
+
+-- the arrows from givers to takers who may do op on x
+unfoldable pub arrows_for : List Descriptor → ℕ → Op → List Arrow
+arrows_for descriptors x op = map (λ (d : Descriptor). (d.giver, d.taker)) (filter (covers x op) descriptors)
+
+-- whether the giver allows the taker to do op on x: they are one name, or a chain of descriptors that
+-- stand leads from the one to the other, each of which covers op on x
+unfoldable pub allows_in : List Descriptor → ℕ → ℕ → ℕ → Op → Bool
+allows_in descriptors giver taker x op = linked (arrows_for descriptors x op) giver taker
+
+-- whether there is an arrow from the first name to the second
+unfoldable pub has_arrow : List Arrow → ℕ → ℕ → Bool
+has_arrow arrows u t = list_any (λ (arrow : Arrow). arrow.0 == u && arrow.1 == t) arrows
