@@ -1,0 +1,5 @@
+pub mod Laws
+pub mod DescriptorLemmas
+pub mod MarkLemmas
+pub mod WalkLemmas
+pub mod SearchLemmas

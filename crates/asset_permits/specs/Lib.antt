@@ -1,1 +1,3 @@
 pub mod Descriptors
+pub mod Kept
+pub mod Searched

@@ -1,6 +1,10 @@
-//! The table of permits: who allows whom to operate on what.
+//! The table of permits: who lets whom do what on which objects, and who allows whom by them. `add`
+//! alone takes memory.
 #![tactic(auto)]
 
+mod descriptor;
+mod marks;
+mod search;
 mod table;
 
 pub use table::Permits;

@@ -1,8 +1,10 @@
-use Rattle.std.proofs.Common.{rules, ◌≡◌, ℕ, [], ◌∙◌, ap, refl}
-use Rattle.asset_names.specs.Arrows.{linked}
-use Rattle.asset_permits.specs.Descriptors.{allows_in, arrows_for}
+use Rattle.std.proofs.Common.{◌≡◌, ◌∙◌, sym, ap}
+use Rattle.std.proofs.lemmas.Bool.{eqb-true}
+use Rattle.asset_permits.specs.Descriptors.{allows_in}
+use Rattle.asset_permits.proofs.Laws.{allows_itself}
 use Rattle.asset_permits.proofs.table.Permits.allows.Goals as goal
 
-pub returns-clause-allowed : goal.returns-clause-allowed
-unfolding allows_in arrows_for linked
-returns-clause-allowed c = rw (← c.self.view_is) c.eq.ensures
+pub returns-then-eq-clause-allowed : goal.returns-then-eq-clause-allowed
+returns-then-eq-clause-allowed c =
+    let same : c.args.giver.0 ≡ c.args.taker.0 = eqb-true c.args.giver.0 c.args.taker.0 (sym c.eq.ensures ∙ c.if-eq.true) in
+    c.if-eq.true ∙ sym (allows_itself c.args.self.now c.args.giver.0 c.args.x.0 c.args.op) ∙ ap (λ t. allows_in c.args.self.now c.args.giver.0 t c.args.x.0 c.args.op) same

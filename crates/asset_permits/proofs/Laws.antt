@@ -1,0 +1,95 @@
+-- Laws of who allows whom, for the tables above.
+use Rattle.std.proofs.Common.{◌≡◌, ℕ, Bool, true, false, cond, eqb, ◌&&◌, ◌||◌, List, [], ◌∷◌, map, filter, refl, sym, ap, subst, ◌∙◌, inl, inr}
+use Rattle.std.proofs.lemmas.Bool.{or_cases, or_left, or_right, and_from, and_parts, eqb-true, eq-eqb, false≢true}
+use Rattle.asset_names.specs.declared.operations.Op.{Op}
+use Rattle.asset_names.specs.Arrows.{Arrow, linked, Chain}
+use Rattle.asset_names.proofs.Arrows.{linked_refl, linked_trans, chain_from_linked, linked_from_chain}
+use Rattle.asset_permits.specs.Descriptors.{Descriptor, covers, lets, one_covers, arrows_for, allows_in, has_arrow}
+use Rattle.asset_permits.proofs.MarkLemmas.{same_truth}
+
+-- an arrow links its two ends
+pub arrow_links : (arrows : List Arrow) (u t : ℕ) → has_arrow arrows u t ≡ true → linked arrows u t ≡ true
+unfolding has_arrow linked
+arrow_links [] u t h = absurd (false≢true h)
+arrow_links (arrow ∷ arrows) u t h =
+    elim (or_cases (eqb arrow.0 u && eqb arrow.1 t) _ h) [
+      | inl here ↦
+          let ends = and_parts (eqb arrow.0 u) (eqb arrow.1 t) here in
+          let to = subst (λ n. linked arrows u n ≡ true) (sym (eqb-true arrow.0 u ends.0)) (linked_refl arrows u) in
+          let on = subst (λ n. linked arrows n t ≡ true) (sym (eqb-true arrow.1 t ends.1)) (linked_refl arrows t) in
+          or_right (linked arrows u t) _ (and_from (linked arrows u arrow.0) (linked arrows arrow.1 t) to on)
+      | inr later ↦ or_left (linked arrows u t) _ (arrow_links arrows u t later)
+    ]
+
+-- a way, and an arrow behind it
+pub linked_step : (arrows : List Arrow) (a u t : ℕ) → linked arrows a u ≡ true → has_arrow arrows u t ≡ true → linked arrows a t ≡ true
+linked_step arrows a u t way arrow = linked_trans arrows a u t way (arrow_links arrows u t arrow)
+
+-- what each arrow keeps is kept along the arrows
+pub closed_linked : (test : ℕ → Bool) (arrows : List Arrow) → ((u t : ℕ) → has_arrow arrows u t ≡ true → test u ≡ true → test t ≡ true)
+    → (a b : ℕ) → linked arrows a b ≡ true → test a ≡ true → test b ≡ true
+unfolding has_arrow linked
+closed_linked test [] closed a b h at = subst (λ n. test n ≡ true) (eqb-true a b h) at
+closed_linked test (arrow ∷ arrows) closed a b h at =
+    let rest = λ (u t : ℕ) (there : has_arrow arrows u t ≡ true). closed u t (or_right (eqb arrow.0 u && eqb arrow.1 t) _ there) in
+    elim (or_cases (linked arrows a b) _ h) [
+      | inl p ↦ closed_linked test arrows rest a b p at
+      | inr q ↦
+          let parts = and_parts (linked arrows a arrow.0) (linked arrows arrow.1 b) q in
+          let from = closed_linked test arrows rest a arrow.0 parts.0 at in
+          closed_linked test arrows rest arrow.1 b parts.1 (closed arrow.0 arrow.1 (or_left _ _ (and_from (eqb arrow.0 arrow.0) (eqb arrow.1 arrow.1) (eq-eqb arrow.0 arrow.0 refl) (eq-eqb arrow.1 arrow.1 refl))) from)
+    ]
+
+-- equal arrows, in whichever order and however often, link alike
+pub linked_same : (arrows others : List Arrow) → ((u t : ℕ) → has_arrow arrows u t ≡ has_arrow others u t) → (a b : ℕ) → linked arrows a b ≡ linked others a b
+linked_same arrows others same a b =
+    same_truth (linked arrows a b) (linked others a b) (one_way arrows others same a b) (one_way others arrows (λ u t. sym (same u t)) a b)
+  where
+    one_way : (some more : List Arrow) → ((u t : ℕ) → has_arrow some u t ≡ has_arrow more u t) → (a b : ℕ) → linked some a b ≡ true → linked more a b ≡ true
+    one_way some more equal a b h =
+        closed_linked (linked more a) some (λ u t arrow way. linked_step more a u t way (sym (equal u t) ∙ arrow)) a b h (linked_refl more a)
+
+-- the arrows are those of the descriptors that cover
+and_true : (p : Bool) → (p && true) ≡ p
+and_true true = refl
+and_true false = refl
+
+and_false : (p : Bool) → (p && false) ≡ false
+and_false true = refl
+and_false false = refl
+
+pub arrows_stand : (descriptors : List Descriptor) (u t x : ℕ) (op : Op) → has_arrow (arrows_for descriptors x op) u t ≡ one_covers descriptors u t x op
+unfolding has_arrow arrows_for one_covers lets
+arrows_stand [] u t x op = refl
+arrows_stand (d ∷ descriptors) u t x op = go (covers x op d) (arrows_stand descriptors u t x op) where
+  go : (b : Bool) → has_arrow (arrows_for descriptors x op) u t ≡ one_covers descriptors u t x op
+      → has_arrow (map (λ (e : Descriptor). (e.giver, e.taker)) (cond b (d ∷ filter (covers x op) descriptors) (filter (covers x op) descriptors))) u t
+      ≡ (eqb d.giver u && eqb d.taker t && b || one_covers descriptors u t x op)
+  go true rest = rw (and_true (eqb d.giver u && eqb d.taker t)) (ap (λ b. eqb d.giver u && eqb d.taker t || b) rest)
+  go false rest = rw (and_false (eqb d.giver u && eqb d.taker t)) rest
+
+-- who allows whom, by any list of arrows that has those of the descriptors
+pub allowed_by_arrows : (descriptors : List Descriptor) (arrows : List Arrow) (x : ℕ) (op : Op) → ((u t : ℕ) → has_arrow arrows u t ≡ one_covers descriptors u t x op)
+    → (u t : ℕ) → allows_in descriptors u t x op ≡ linked arrows u t
+unfolding allows_in
+allowed_by_arrows descriptors arrows x op same u t = linked_same (arrows_for descriptors x op) arrows (λ v w. arrows_stand descriptors v w x op ∙ sym (same v w)) u t
+
+-- who allows whom depends on which descriptors cover alone
+pub allowed_same : (descriptors others : List Descriptor) (x : ℕ) (op : Op) → ((u t : ℕ) → one_covers descriptors u t x op ≡ one_covers others u t x op)
+    → (u t : ℕ) → allows_in descriptors u t x op ≡ allows_in others u t x op
+unfolding allows_in
+allowed_same descriptors others x op same u t = allowed_by_arrows descriptors (arrows_for others x op) x op (λ v w. arrows_stand others v w x op ∙ sym (same v w)) u t
+
+-- each allows itself
+pub allows_itself : (descriptors : List Descriptor) (u x : ℕ) (op : Op) → allows_in descriptors u u x op ≡ true
+unfolding allows_in
+allows_itself descriptors u x op = linked_refl (arrows_for descriptors x op) u
+
+-- a chain for each who is allowed, and each to whom a chain leads is allowed
+pub chain_from_allowed : (descriptors : List Descriptor) (u t x : ℕ) (op : Op) → allows_in descriptors u t x op ≡ true → Chain (arrows_for descriptors x op) u t
+unfolding allows_in
+chain_from_allowed descriptors u t x op h = chain_from_linked (arrows_for descriptors x op) u t h
+
+pub allowed_from_chain : (descriptors : List Descriptor) (u t x : ℕ) (op : Op) → Chain (arrows_for descriptors x op) u t → allows_in descriptors u t x op ≡ true
+unfolding allows_in
+allowed_from_chain descriptors u t x op h = linked_from_chain (arrows_for descriptors x op) u t h

@@ -1,0 +1,109 @@
+//! Which nodes a search has met.
+
+use asset_names::NoMemory;
+use std::alloc::Global;
+use std::marker::Model;
+
+/// Marks on the nodes below a number, for a search that takes no memory and has nothing to clear.
+/// Contracts see how many nodes there are, and those that are met, in order of meeting.
+///
+/// `order` has each node once, first those that are met, and `place` says where.
+#[derive(Drop)]
+pub(crate) struct Marks {
+    order: Vec<usize>,
+    place: Vec<usize>,
+    met: usize,
+}
+
+impl Model for Marks {
+    ghost use Rattle.std.specs.Prelude.{length, take};
+    ghost use Rattle.asset_permits.specs.Kept.{Met, IsPlaced};
+
+    ghost Value = { Met };
+
+    ghost view = { λ m. record { size = length m.order.items; nodes = take m.met m.order.items } };
+
+    ghost invariant = { λ m. IsPlaced m.order.items m.place.items m.met };
+}
+
+impl Marks {
+    ghost use Rattle.std.specs.Prelude.{◌≡◌, ℕ, ◌+◌, ◌<◌, ◌≤◌, true, false, cond, [], ◌∷◌, ◌++◌, length, slice_index, OnOk, OnErr};
+    ghost use Rattle.asset_names.specs.Arrows.{lists};
+
+    /// No node. It takes no memory.
+    pub(crate) fn new(alloc: Global) -> Marks
+        ensures size { result.size ≡ 0 }
+        ensures nodes { result.nodes ≡ [] }
+    {
+        Marks {
+            order: Vec::new(alloc),
+            place: Vec::new(alloc),
+            met: 0,
+        }
+    }
+
+    /// One more node, which is not met. Where memory runs out, nothing changes.
+    pub(crate) fn grow(&mut self) -> Result<(), NoMemory>
+        ensures size { OnOk result (self.new.size ≡ self.old.size + 1) }
+        ensures nodes { self.new.nodes ≡ self.old.nodes }
+        ensures unchanged { OnErr result (self.new ≡ self.old) }
+    {
+        if self.order.reserve(1).is_err() || self.place.reserve(1).is_err() {
+            return Err(NoMemory);
+        }
+        let node = self.order.len();
+        self.order.push(node).unwrap();
+        self.place.push(node).unwrap();
+        Ok(())
+    }
+
+    /// How many nodes are met.
+    pub(crate) fn len(&self) -> usize
+        ensures len { result ≡ length self.now.nodes }
+        ensures within { length self.now.nodes ≤ self.now.size }
+    {
+        self.met
+    }
+
+    /// The node that was met at this number, from 0.
+    pub(crate) fn node(&self, number: usize) -> usize
+        requires { number < length self.now.nodes }
+        ensures node { result ≡ slice_index self.now.nodes number }
+        ensures within { result < self.now.size }
+    {
+        self.order[number]
+    }
+
+    /// Meets none.
+    pub(crate) fn clear(&mut self)
+        ensures size { self.new.size ≡ self.old.size }
+        ensures nodes { self.new.nodes ≡ [] }
+    {
+        self.met = 0;
+    }
+
+    /// Whether the node is met.
+    pub(crate) fn has(&self, node: usize) -> bool
+        requires { node < self.now.size }
+        ensures { result ≡ lists self.now.nodes node }
+    {
+        self.place[node] < self.met
+    }
+
+    /// Meets the node. Where it is met already, nothing changes.
+    pub(crate) fn meet(&mut self, node: usize)
+        requires { node < self.old.size }
+        ensures size { self.new.size ≡ self.old.size }
+        ensures nodes { self.new.nodes ≡ cond (lists self.old.nodes node) self.old.nodes (self.old.nodes ++ node ∷ []) }
+    {
+        let at = self.place[node];
+        if at >= self.met {
+            let other = self.order[self.met];
+            self.order[at] = other;
+            self.place[other] = at;
+            self.order[self.met] = node;
+            self.place[node] = self.met;
+            self.met += 1;
+        }
+    }
+}
