@@ -9,3 +9,5 @@ mod table;
 
 pub use table::Permits;
 
+#[cfg(test)]
+mod tests;
