@@ -1,14 +1,18 @@
 -- What single lines say.
-use Rattle.std.specs.Prelude.{◌≡◌, ◌++◌, [], ◌∷◌, None, Some, pos, negsuc, codes, refl, replicate}
+use Rattle.std.specs.Prelude.{◌≡◌, ◌++◌, [], ◌∷◌, None, Some, true, false, pos, negsuc, codes, refl, replicate}
 use Rattle.asset_names.specs.declared.steps.Step.TheVariants as Step'
 use Rattle.asset_cli.specs.declared.grammar.Command.TheVariants.{Ask, Object}
 use Rattle.asset_cli.specs.declared.grammar.Line.TheVariants as Line'
 use Rattle.asset_cli.specs.Arguments.{txn, ob, txn_of, ob_of, both, all_three, one_txn, txn_and_parent, object_and_value, txn_object_and_value}
+use Rattle.asset_names.specs.declared.sets.ObSet.TheVariants.{All, Listed}
+use Rattle.asset_names.specs.Sets.{numbers, twice, rising, put_in}
+use Rattle.asset_cli.specs.PermitArguments.{txns_ops_and_set}
+use Rattle.asset_cli.specs.Sets.{ops_of, one_more, gathered, make_list, listed, set_of}
 use Rattle.asset_cli.specs.Grammar.{step_by, object_command, step_command, command_from, command_of, is_blank, line_by, line_of}
 use Rattle.asset_cli.specs.Keywords.{keyword_text, all_keywords, keyword_of}
 use Rattle.asset_cli.specs.Lines.{lines}
 use Rattle.asset_cli.specs.Numbers.{is_numeral, number_of, positive_value, negative_value, value_of}
-use Rattle.asset_cli.specs.Words.{words}
+use Rattle.asset_cli.specs.Words.{words, parts}
 
 -- a line feed ends a line, and a rest is a line too; an empty line is one
 cut_lines : lines (97 ∷ 10 ∷ 10 ∷ 98 ∷ []) ≡ (97 ∷ []) ∷ [] ∷ (98 ∷ []) ∷ []
@@ -73,35 +77,35 @@ unfolding value_of number_of is_numeral
 leading_zero_after_the_sign = refl
 
 object_line : line_of (codes "object 1 -5") ≡ Line'.Command (Object (ob 1, negsuc 4))
-unfolding line_of line_by is_blank command_of command_from object_command words object_and_value both ob_of value_of negative_value number_of is_numeral
+unfolding line_of line_by is_blank command_of command_from object_command words parts object_and_value both ob_of value_of negative_value number_of is_numeral
 object_line = refl
 
 child_line : line_of (codes "initiate 8 7") ≡ Line'.Command (Ask (Step'.Initiate (txn 8) (Some (txn 7))))
-unfolding line_of line_by is_blank command_of command_from step_command step_by words keyword_of keyword_text all_keywords txn_and_parent both txn_of number_of is_numeral
+unfolding line_of line_by is_blank command_of command_from step_command step_by words parts keyword_of keyword_text all_keywords txn_and_parent both txn_of number_of is_numeral
 child_line = refl
 
 write_line : line_of (codes "write 7 1 50") ≡ Line'.Command (Ask (Step'.Write (txn 7) (ob 1) (pos 50)))
-unfolding line_of line_by is_blank command_of command_from step_command step_by words keyword_of keyword_text all_keywords txn_object_and_value all_three txn_of ob_of value_of positive_value number_of is_numeral
+unfolding line_of line_by is_blank command_of command_from step_command step_by words parts keyword_of keyword_text all_keywords txn_object_and_value all_three txn_of ob_of value_of positive_value number_of is_numeral
 write_line = refl
 
 two_spaces : line_of (codes "begin  7") ≡ Line'.Bad
-unfolding line_of line_by is_blank command_of command_from step_command step_by words keyword_of keyword_text all_keywords one_txn txn_of number_of is_numeral
+unfolding line_of line_by is_blank command_of command_from step_command step_by words parts keyword_of keyword_text all_keywords one_txn txn_of number_of is_numeral
 two_spaces = refl
 
 space_at_the_end : line_of (codes "begin 7 ") ≡ Line'.Bad
-unfolding line_of line_by is_blank command_of command_from step_command step_by words keyword_of keyword_text all_keywords one_txn txn_of number_of is_numeral
+unfolding line_of line_by is_blank command_of command_from step_command step_by words parts keyword_of keyword_text all_keywords one_txn txn_of number_of is_numeral
 space_at_the_end = refl
 
 space_at_the_start : line_of (codes " begin 7") ≡ Line'.Bad
-unfolding line_of line_by is_blank command_of command_from step_command words keyword_of keyword_text all_keywords
+unfolding line_of line_by is_blank command_of command_from step_command words parts keyword_of keyword_text all_keywords
 space_at_the_start = refl
 
 carriage_return : line_of (codes "begin 7" ++ 13 ∷ []) ≡ Line'.Bad
-unfolding line_of line_by is_blank command_of command_from step_command step_by words keyword_of keyword_text all_keywords one_txn txn_of number_of is_numeral
+unfolding line_of line_by is_blank command_of command_from step_command step_by words parts keyword_of keyword_text all_keywords one_txn txn_of number_of is_numeral
 carriage_return = refl
 
 upper_case : line_of (codes "Begin 7") ≡ Line'.Bad
-unfolding line_of line_by is_blank command_of command_from step_command words keyword_of keyword_text all_keywords
+unfolding line_of line_by is_blank command_of command_from step_command words parts keyword_of keyword_text all_keywords
 upper_case = refl
 
 empty_line : line_of [] ≡ Line'.Blank
@@ -119,3 +123,24 @@ longest_remark = refl
 remark_that_is_too_long : line_of (replicate 4097 35) ≡ Line'.Bad
 unfolding line_of is_blank
 remark_that_is_too_long = refl
+
+-- a permit's objects stand in any order, and are kept in rising order
+permit_line : line_of (codes "permit 7 8 rw 3,1,2") ≡ Line'.Command (Ask (Step'.Permit (txn 7) (txn 8) (Listed (ob 1 ∷ ob 2 ∷ ob 3 ∷ [])) (true, true)))
+unfolding line_of line_by is_blank command_of command_from step_command step_by words parts keyword_of keyword_text all_keywords txns_ops_and_set both txn_of ob_of number_of is_numeral ops_of set_of gathered one_more listed make_list numbers twice rising put_in
+permit_line = refl
+
+permit_of_all : line_of (codes "permit 7 8 r all") ≡ Line'.Command (Ask (Step'.Permit (txn 7) (txn 8) All (true, false)))
+unfolding line_of line_by is_blank command_of command_from step_command step_by words parts keyword_of keyword_text all_keywords txns_ops_and_set both txn_of number_of is_numeral ops_of set_of
+permit_of_all = refl
+
+permit_of_a_double : line_of (codes "permit 7 8 w 1,2,1") ≡ Line'.Bad
+unfolding line_of line_by is_blank command_of command_from step_command step_by words parts keyword_of keyword_text all_keywords txns_ops_and_set both txn_of ob_of number_of is_numeral ops_of set_of gathered one_more listed make_list numbers twice
+permit_of_a_double = refl
+
+permit_of_nothing : line_of (codes "permit 7 8 w 1,") ≡ Line'.Bad
+unfolding line_of line_by is_blank command_of command_from step_command step_by words parts keyword_of keyword_text all_keywords txns_ops_and_set both txn_of ob_of number_of is_numeral ops_of set_of gathered one_more
+permit_of_nothing = refl
+
+permit_of_other_operations : line_of (codes "permit 7 8 wr 1") ≡ Line'.Bad
+unfolding line_of line_by is_blank command_of command_from step_command step_by words parts keyword_of keyword_text all_keywords txns_ops_and_set both txn_of ob_of number_of is_numeral ops_of set_of gathered one_more listed make_list numbers twice
+permit_of_other_operations = refl

@@ -7,3 +7,4 @@ pub mod ToldLemmas
 pub mod GivenLemmas
 pub mod PreambleLemmas
 pub mod RunLemmas
+pub mod SetLemmas

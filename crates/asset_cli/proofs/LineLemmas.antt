@@ -1,14 +1,14 @@
 -- Lines and words after a cut.
 use Rattle.std.proofs.Common.{◌≡◌, ℕ, ◌+◌, ◌<◌, ◌≤◌, ◌==◌, Bool, true, false, cond, List, [], ◌∷◌, ◌++◌, length, get_or, take, drop, None, Some, refl, sym, ap, ◌∙◌, arith, take-append-drop, drop-cons, add-one}
 use Rattle.std.specs.List.{All, onto_first, slice_split, position, position_or_len}
-use Rattle.std.proofs.lemmas.Bool.{eqb-true, ltb-false}
+use Rattle.std.proofs.lemmas.Bool.{eqb-true, eq-eqb, ltb-false}
 use Rattle.std.proofs.lemmas.List.{get_or-take, length-take}
 use Rattle.std.proofs.lemmas.List.Sums.{fails_before_first}
 use Rattle.std.proofs.lemmas.List.Elements.{All-head, All-tail}
 use Rattle.std.proofs.lemmas.List.Quantifiers.{position-Some}
 use Rattle.std.proofs.lemmas.List.Splits.{slice_split_at, slice_split_none}
 use Rattle.asset_cli.specs.Lines.{IsCutAt, Lacks, lines}
-use Rattle.asset_cli.specs.Words.{words}
+use Rattle.asset_cli.specs.Words.{parts}
 
 -- a byte that is no line feed goes onto the first line
 lines-cons : (b : ℕ) (bytes : List ℕ) → (b == 10) ≡ false → lines (b ∷ bytes) ≡ onto_first b (lines bytes)
@@ -65,13 +65,13 @@ lacks_without_position byte bytes h =
     let at_end : length bytes ≤ position_or_len (λ b. b == byte) bytes = ltb-false _ _ (none_when _ _ h) in
     λ k d inside. fails_before_first (λ b. b == byte) bytes k d (omega arith)
 
-pub words_cut : (line before after : List ℕ) → IsCutAt 32 line before after → words line ≡ before ∷ words after
-unfolding words Lacks
-words_cut line before after h = ap (slice_split (λ b. b == 32)) h.whole ∙ slice_split_at (λ b. b == 32) before 32 after h.first refl
+pub parts_cut : (separator : ℕ) (text before after : List ℕ) → IsCutAt separator text before after → parts separator text ≡ before ∷ parts separator after
+unfolding parts Lacks
+parts_cut separator text before after h = ap (slice_split (λ b. b == separator)) h.whole ∙ slice_split_at (λ b. b == separator) before separator after h.first (eq-eqb separator separator refl)
 
-pub words_last : (line : List ℕ) → Lacks 32 line → words line ≡ line ∷ []
-unfolding words Lacks
-words_last line h = slice_split_none (λ b. b == 32) line h
+pub parts_last : (separator : ℕ) (text : List ℕ) → Lacks separator text → parts separator text ≡ text ∷ []
+unfolding parts Lacks
+parts_last separator text h = slice_split_none (λ b. b == separator) text h
 
 -- a byte on the first line makes at most one line more
 length-onto_first : (b n : ℕ) (parts : List (List ℕ)) → length parts ≤ n → length (onto_first b parts) ≤ n + 1

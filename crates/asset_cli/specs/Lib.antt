@@ -11,3 +11,5 @@ pub mod Transcript
 pub mod Telling
 pub mod Preamble
 pub mod Runs
+pub mod Sets
+pub mod PermitArguments

@@ -1,10 +1,12 @@
 //! The shapes of arguments: how the words after a keyword are read, all of them.
 ghost use Rattle.std.specs.Prelude.{◌≡◌};
 ghost use Rattle.asset_cli.specs.Arguments.{ob_of, object_and_value, one_txn, txn_and_object, txn_and_parent, txn_object_and_value, txn_of};
+ghost use Rattle.asset_cli.specs.PermitArguments.{txns_ops_and_set};
 
 use crate::numbers::{parse_number, parse_value};
+use crate::sets::{parse_ops, parse_set};
 use crate::words::Words;
-use asset_names::{Ob, Txn};
+use asset_names::{Ob, ObSet, Ops, Txn};
 
 // The transaction that a word names.
 #[tactic(auto, unfolding(crate::specs::Arguments::txn_of))]
@@ -14,9 +16,9 @@ fn parse_txn(word: &[u8]) -> Option<Txn>
     parse_number(word).map(Txn)
 }
 
-// The object that a word names.
+/// The object that a word names.
 #[tactic(auto, unfolding(crate::specs::Arguments::ob_of))]
-fn parse_ob(word: &[u8]) -> Option<Ob>
+pub(crate) fn parse_ob(word: &[u8]) -> Option<Ob>
     ensures { result ≡ ob_of word.now }
 {
     parse_number(word).map(Ob)
@@ -81,5 +83,23 @@ impl Words<'_> {
             return None;
         };
         Some((parse_txn(t)?, parse_ob(x)?, parse_value(v)?))
+    }
+
+    /// Two transactions, operations and a set of objects.
+    #[tactic(auto, unfolding(crate::specs::Arguments::both, crate::specs::PermitArguments::txns_ops_and_set))]
+    pub(crate) fn txns_ops_and_set(mut self) -> Option<((Txn, Txn), (Ops, ObSet))>
+        ensures { result ≡ txns_ops_and_set self.entry }
+    {
+        let (Some(giver), Some(taker), Some(ops), Some(obs), None) = (
+            self.next(),
+            self.next(),
+            self.next(),
+            self.next(),
+            self.next(),
+        ) else {
+            return None;
+        };
+        let names = (parse_txn(giver)?, parse_txn(taker)?);
+        Some((names, (parse_ops(ops)?, parse_set(obs)?)))
     }
 }

@@ -36,8 +36,8 @@ impl Command {
     fn ask(word: &[u8], arguments: Words<'_>) -> Option<Command>
         ensures { result ≡ step_command word.now arguments.entry }
     {
-        let keyword = Keyword::of(word)?;
-        keyword.step(arguments).map(Command::Ask)
+        let step = Keyword::of(word)?.step(arguments)?;
+        Some(Command::Ask(step))
     }
 
     // What a line asks.

@@ -12,6 +12,7 @@ pub(crate) enum Keyword {
     Read,
     Write,
     Complete,
+    Permit,
     Commit,
     Abort,
     Wait,
@@ -21,12 +22,13 @@ impl Keyword {
     ghost use Rattle.asset_cli.specs.Grammar.{step_by};
     ghost use Rattle.asset_cli.specs.Keywords.{keyword_of, keyword_text};
 
-    const ALL: [Keyword; 8] = [
+    const ALL: [Keyword; 9] = [
         Keyword::Initiate,
         Keyword::Begin,
         Keyword::Read,
         Keyword::Write,
         Keyword::Complete,
+        Keyword::Permit,
         Keyword::Commit,
         Keyword::Abort,
         Keyword::Wait,
@@ -43,6 +45,7 @@ impl Keyword {
             Keyword::Read => b"read",
             Keyword::Write => b"write",
             Keyword::Complete => b"complete",
+            Keyword::Permit => b"permit",
             Keyword::Commit => b"commit",
             Keyword::Abort => b"abort",
             Keyword::Wait => b"wait",
@@ -75,6 +78,14 @@ impl Keyword {
                 .txn_object_and_value()
                 .map(|(t, x, v)| Step::Write { t, x, v }),
             Keyword::Complete => arguments.one_txn().map(|t| Step::Complete { t }),
+            Keyword::Permit => arguments.txns_ops_and_set().map(|((giver, taker), (ops, obs))| {
+                Step::Permit {
+                    giver,
+                    taker,
+                    obs,
+                    ops,
+                }
+            }),
             Keyword::Commit => arguments.one_txn().map(|t| Step::Commit { t }),
             Keyword::Abort => arguments.one_txn().map(|t| Step::Abort { t }),
             Keyword::Wait => arguments.one_txn().map(|t| Step::WaitFor { t }),

@@ -14,6 +14,7 @@ mod numbers;
 mod preamble;
 mod reading;
 mod running;
+mod sets;
 mod telling;
 mod texts;
 mod words;

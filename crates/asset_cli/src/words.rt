@@ -1,36 +1,46 @@
-//! The words of a line.
+//! The words of a line, and the parts of a word.
 ghost use Rattle.std.specs.Prelude.{◌≡◌, length};
 ghost use Rattle.std.specs.Iterator.{YieldsFirstRef, item_count};
-ghost use Rattle.asset_cli.specs.Words.{words};
+ghost use Rattle.asset_cli.specs.Words.{words, parts};
 
 use crate::lines::cut;
 use std::marker::Model;
 
-/// The words of a line that are still to come.
+/// The parts of a text, between its separators, that are still to come.
 #[derive(Drop)]
 pub(crate) struct Words<'a> {
     rest: &'a [u8],
     ended: bool,
+    separator: u8,
 }
 
 impl<'a> Model for Words<'a> {
     ghost use Rattle.std.specs.Prelude.{ℕ, List};
-    ghost use Rattle.asset_cli.specs.Words.{words_left};
+    ghost use Rattle.asset_cli.specs.Words.{parts_left};
 
     ghost Value = { List (List ℕ) };
 
-    ghost view = { λ w. words_left w.ended w.rest.now };
+    ghost view = { λ w. parts_left w.separator w.ended w.rest.now };
 }
 
 impl<'a> Words<'a> {
     /// All the words of a line.
-    #[tactic(auto, unfolding(crate::specs::Words::words_left))]
+    #[tactic(auto, unfolding(crate::specs::Words::words))]
     pub(crate) fn new(line: &'a [u8]) -> Self
         ensures { result ≡ words line.now }
     {
+        Words::between(line, b' ')
+    }
+
+    /// All that stands between the separators of a text.
+    #[tactic(auto, unfolding(crate::specs::Words::parts_left))]
+    pub(crate) fn between(text: &'a [u8], separator: u8) -> Self
+        ensures { result ≡ parts separator text.now }
+    {
         Words {
-            rest: line,
+            rest: text,
             ended: false,
+            separator,
         }
     }
 }
@@ -42,15 +52,15 @@ impl<'a> Iterator for Words<'a> {
 
     ghost remaining = { item_count (λ words. words) };
 
-    #[tactic(auto, unfolding(crate::specs::Words::words_left), using(crate::proofs::LineLemmas::words_cut, crate::proofs::LineLemmas::words_last))]
+    #[tactic(auto, unfolding(crate::specs::Words::parts_left), using(crate::proofs::LineLemmas::parts_cut, crate::proofs::LineLemmas::parts_last))]
     fn next(&mut self) -> Option<&'a [u8]> {
         if self.ended {
             return None;
         }
-        match cut(self.rest, b' ') {
-            Some((word, rest)) => {
+        match cut(self.rest, self.separator) {
+            Some((part, rest)) => {
                 self.rest = rest;
-                Some(word)
+                Some(part)
             }
             None => {
                 self.ended = true;

@@ -9,3 +9,4 @@ pub mod RoomLemmas
 pub mod HolderLemmas
 pub mod LiveLemmas
 pub mod ClassLemmas
+pub mod RisingLemmas

@@ -1,5 +1,5 @@
 -- Lists of objects, and objects that are listed twice.
-use Rattle.std.specs.Prelude.{◌≡◌, ℕ, ◌≤◌, Bool, true, false, cond, ◌==◌, nat_le, nat_lt, List, map, count_by, Option, Some, None}
+use Rattle.std.specs.Prelude.{◌≡◌, ℕ, ◌≤◌, Bool, true, false, cond, ◌==◌, nat_le, nat_lt, List, [], ◌∷◌, map, count_by, Option, Some, None}
 use Rattle.asset_names.specs.declared.names.Ob.{Ob}
 
 -- the numbers of the objects
@@ -26,3 +26,13 @@ lesser x (Some y) = cond (nat_lt y.0 x.0) y x
 -- what stands in the places of a list that no object fills
 abbrev pub no_object_name : Ob
 no_object_name = record { 0 = 0 }
+
+-- the objects with one more, which stands before the first that is greater
+unfoldable pub put_in : Ob → List Ob → List Ob
+put_in x [] = x ∷ []
+put_in x (y ∷ objects) = cond (nat_lt x.0 y.0) (x ∷ y ∷ objects) (y ∷ put_in x objects)
+
+-- the objects in rising order
+unfoldable pub rising : List Ob → List Ob
+rising [] = []
+rising (x ∷ objects) = put_in x (rising objects)

@@ -6,5 +6,5 @@
 pub struct Txn(pub u64);
 
 /// An object's name. Any number is a name; which objects exist, the opening of a history says.
-#[derive(Clone, Copy, Debug, PartialEq, Eq, Hash)]
+#[derive(Clone, Copy, Debug, Default, PartialEq, Eq, Hash)]
 pub struct Ob(pub u64);

@@ -97,7 +97,7 @@ impl ObList {
     ghost use Rattle.std.specs.Prelude.{◌≡◌, ◌<◌, ◌≤◌, length, IfOk, OnOk, IfErr, IsPermutation};
     ghost use Rattle.std.specs.List.Sorted.{IsStrictlyIncreasing};
     ghost use Rattle.asset_names.specs.Arrows.{lists};
-    ghost use Rattle.asset_names.specs.Sets.{numbers, HasNoDouble};
+    ghost use Rattle.asset_names.specs.Sets.{numbers, rising, HasNoDouble};
     ghost use Rattle.asset_names.specs.SetFaults.{IsSetFault};
 
     /// The list of these objects. It is refused where there is none; else where there are more than
@@ -105,6 +105,7 @@ impl ObList {
     #[tactic(auto, unfolding(crate::specs::Sets::numbers))]
     pub fn of(objects: &[Ob]) -> Result<ObList, SetFault>
         ensures kept { IfOk result (λ list. IsPermutation objects.now list) }
+        ensures rising { IfOk result (λ list. list ≡ rising objects.now) }
         ensures some { OnOk result (0 < length objects.now) }
         ensures few { OnOk result (length objects.now ≤ 16) }
         ensures different { OnOk result (HasNoDouble (numbers objects.now)) }

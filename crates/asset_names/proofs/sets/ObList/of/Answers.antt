@@ -2,6 +2,7 @@ use Rattle.std.proofs.Common.{◌≤◌, length, arith}
 use Rattle.std.proofs.lemmas.Grind.{common_steps}
 use Rattle.asset_names.specs.Sets.{numbers}
 use Rattle.asset_names.proofs.Sorting.{sorted_rises, places_all}
+use Rattle.asset_names.proofs.RisingLemmas.{kept_is_rising}
 use Rattle.asset_names.proofs.sets.ObList.of.Goals as goal
 
 pub invariant_of-result : goal.invariant_of-result
@@ -15,3 +16,8 @@ invariant_of-result c =
       rising = sorted_rises c.args.objects.now _ c.sorted.ensures.permutation c.sorted.ensures.sorted c.in_default.ensures.none;
       rest = c.sorted.ensures.rest;
     }
+
+pub returns-clause-rising : goal.returns-clause-rising
+unfolding numbers
+returns-clause-rising c =
+    kept_is_rising c.args.objects.now _ c.sorted.ensures.permutation (sorted_rises c.args.objects.now _ c.sorted.ensures.permutation c.sorted.ensures.sorted c.in_default.ensures.none) c.in_default.ensures.none

@@ -1,0 +1,89 @@
+//! Sets of operations and of objects, as the arguments of a step write them.
+ghost use Rattle.std.specs.Prelude.{◌≡◌, cond, [], Some, None, option_map, option_and_then};
+ghost use Rattle.asset_cli.specs.Arguments.{ob_of};
+ghost use Rattle.asset_cli.specs.Words.{parts};
+ghost use Rattle.asset_cli.specs.Sets.{ops_of, set_of, gathered, one_more, listed};
+
+use crate::arguments::parse_ob;
+use crate::words::Words;
+use arrayvec::ArrayVec;
+use asset_names::{Ob, ObList, ObSet, Ops};
+
+// The most objects that a list has.
+const MOST: usize = 16;
+
+// The words that name operations, and the one that names all objects.
+const READ: &[u8] = b"r";
+const WRITE: &[u8] = b"w";
+const BOTH: &[u8] = b"rw";
+const ALL: &[u8] = b"all";
+
+/// The operations that a word writes.
+#[tactic(auto, unfolding(crate::specs::Sets::ops_of))]
+pub(crate) fn parse_ops(word: &[u8]) -> Option<Ops>
+    ensures { result ≡ ops_of word.now }
+{
+    if word == READ {
+        Ops::new(true, false)
+    } else if word == WRITE {
+        Ops::new(false, true)
+    } else if word == BOTH {
+        Ops::new(true, true)
+    } else {
+        None
+    }
+}
+
+// Puts the object that a number names to the others, and says whether it did: the number names one, and
+// there is room for it.
+#[tactic(auto, unfolding(crate::specs::Sets::one_more))]
+fn add(objects: &mut ArrayVec<Ob, MOST>, number: &[u8]) -> bool
+    ensures { one_more objects.old.items (ob_of number.now) ≡ cond result (Some objects.new.items) None }
+{
+    match parse_ob(number) {
+        Some(x) => match objects.try_push(x) {
+            Ok(()) => true,
+            Err(_) => false,
+        },
+        None => false,
+    }
+}
+
+// The objects whose numbers stand between the commas of a word, at most 16.
+fn objects_in(word: &[u8]) -> Option<ArrayVec<Ob, MOST>>
+    ensures { option_map (λ objects. objects.items) result ≡ gathered [] (parts 44 word.now) }
+{
+    let mut objects: ArrayVec<Ob, MOST> = ArrayVec::new();
+    let mut numbers = Words::between(word, b',');
+    'numbers: while let Some(number) = numbers.next() {
+        if !add(&mut objects, number) {
+            return None;
+        }
+    }
+    Some(objects)
+}
+
+// The set of these objects, if they make a list.
+#[tactic(auto, unfolding(crate::specs::Sets::listed), using(crate::proofs::SetLemmas::makes_list, crate::proofs::SetLemmas::makes_none))]
+fn set_of_objects(objects: &[Ob]) -> Option<ObSet>
+    ensures { result ≡ listed objects.now }
+{
+    match ObList::of(objects) {
+        Ok(list) => Some(ObSet::Listed(list)),
+        Err(_) => None,
+    }
+}
+
+/// The set of objects that a word writes.
+#[tactic(auto, unfolding(crate::specs::Sets::set_of))]
+pub(crate) fn parse_set(word: &[u8]) -> Option<ObSet>
+    ensures { result ≡ set_of word.now }
+{
+    if word == ALL {
+        return Some(ObSet::All);
+    }
+    match objects_in(word) {
+        Some(objects) => set_of_objects(objects.as_slice()),
+        None => None,
+    }
+}
