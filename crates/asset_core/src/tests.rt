@@ -1,7 +1,7 @@
 //! Each public call once, on worked values, and what is left where memory runs out.
 
 use crate::{Core, OpenFault};
-use asset_names::{Fault, Ob, Op, Outcome, Refusal, Reply, Status, Step, Txn};
+use asset_names::{Fault, Ob, ObList, ObSet, Op, Ops, Outcome, Refusal, Reply, Status, Step, Txn};
 use std::test::Fail;
 
 const THREE: [(Ob, i64); 3] = [(Ob(1), 100), (Ob(2), 200), (Ob(3), 300)];
@@ -146,5 +146,52 @@ fn reader_waits_for_abort(rt: HostRuntime) -> Result<(), Fail> {
     assert!(rt; plays(&mut core, &[(abort(7), ABORTED), (read(8, 1), value(100))]));
     assert_eq!(rt; core.status(Txn(7)), Status::Aborted);
     assert_eq!(rt; core.waiters(Ob(1), 0), None);
+    Ok(())
+}
+
+/// A permit of 7 for 8 to read and write these objects, if they make a list.
+fn permit(objects: &[Ob]) -> Option<Step> {
+    let list = ObList::of(objects).ok()?;
+    let ops = Ops::new(true, true)?;
+    Some(Step::Permit {
+        giver: Txn(7),
+        taker: Txn(8),
+        obs: ObSet::Listed(list),
+        ops,
+    })
+}
+
+/// Whether the entry of this number is the step with the reply.
+fn recorded(core: &Core, number: usize, step: &Step, reply: Reply) -> bool {
+    match core.history().entry(number) {
+        Some((asked, told)) => asked == *step && told == reply,
+        None => false,
+    }
+}
+
+#[test]
+fn permits_are_entries_with_their_objects(rt: HostRuntime) -> Result<(), Fail> {
+    let mut core = Core::open(rt.alloc(), &THREE, 20)?;
+    let (Some(one), Some(four)) = (permit(&[Ob(2), Ob(1)]), permit(&[Ob(4), Ob(3)])) else {
+        return Ok(());
+    };
+    let missing = Reply::Refused(Refusal::NoObject(Ob(4)));
+    let script = [
+        (initiate(7), OK),
+        (begin(7), OK),
+        (initiate(8), OK),
+        (begin(8), OK),
+        (write(7, 1, 50), OK),
+        (four, Ok(Outcome::Answer(missing))),
+        (one, OK),
+        (write(8, 1, 60), OK),
+        (read(7, 1), WAIT),
+        (abort(7), ABORTED),
+        (read(8, 1), value(60)),
+    ];
+    assert!(rt; plays(&mut core, &script));
+    assert!(rt; recorded(&core, 5, &four, missing));
+    assert!(rt; recorded(&core, 6, &one, Reply::Done));
+    assert!(rt; recorded(&core, 7, &write(8, 1, 60), Reply::Done));
     Ok(())
 }

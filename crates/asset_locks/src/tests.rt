@@ -5,7 +5,7 @@ ghost use Rattle.asset_locks.specs.Table.{holder_in};
 ghost use Rattle.asset_locks.specs.Kept.{table_of};
 
 use crate::{Asked, LockState, Locks};
-use asset_names::{NoMemory, Ob, Op, Txn};
+use asset_names::{NoMemory, Ob, ObSet, Op, Ops, Txn};
 use asset_permits::Permits;
 use std::test::Fail;
 
@@ -74,6 +74,21 @@ impl Three {
         ask(&mut self.locks, 9, x, op, &mut self.permits)
     }
 
+    fn is_free_for_seven(&mut self, op: Op) -> bool {
+        self.locks.is_free(Txn(7), Ob(1), op, &mut self.permits)
+    }
+
+    /// Lets 8 do everything that 7 may do. Where memory runs out once, the same call is made again.
+    fn seven_permits_eight(&mut self) -> Result<(), NoMemory> {
+        match Ops::new(true, true) {
+            Some(ops) => match self.permits.add(Txn(7), Txn(8), ObSet::All, ops) {
+                Ok(()) => Ok(()),
+                Err(NoMemory) => self.permits.add(Txn(7), Txn(8), ObSet::All, ops),
+            },
+            None => Ok(()),
+        }
+    }
+
     fn release_seven(&mut self) {
         release(&mut self.locks, 7)
     }
@@ -122,5 +137,17 @@ fn readers_share_and_a_writer_keeps_its_place(rt: HostRuntime) -> Result<(), Fai
     assert_eq!(rt; three.locks.held_by(Txn(8), 0), Some(Ob(1)));
     assert_eq!(rt; three.locks.held_by(Txn(8), 1), Some(Ob(2)));
     assert_eq!(rt; three.locks.held_by(Txn(8), 2), None);
+    Ok(())
+}
+
+#[test]
+fn permitted_writer_suspends_the_giver(rt: HostRuntime) -> Result<(), Fail> {
+    let mut three = Three::new(&rt, Op::Write)?;
+    three.seven_permits_eight()?;
+    assert_eq!(rt; three.eight_asks(1, Op::Write), Ok(Asked::Granted));
+    assert_eq!(rt; three.locks.status(Txn(7), Ob(1)), Some(LockState::Suspended));
+    assert_eq!(rt; three.locks.status(Txn(8), Ob(1)), Some(LockState::Granted));
+    assert!(rt; !three.is_free_for_seven(Op::Read));
+    assert_eq!(rt; three.nine_asks(1, Op::Read), Ok(Asked::Pending));
     Ok(())
 }

@@ -2,7 +2,7 @@
 
 use crate::{answer, status_after, value_if_any};
 use asset_core::Core;
-use asset_names::{Fault, Ob, Outcome, Reply, Step, Txn};
+use asset_names::{Fault, Ob, ObList, ObSet, Ops, Outcome, Reply, Step, Txn};
 use std::alloc::Global;
 use std::test::Fail;
 
@@ -52,6 +52,23 @@ fn abort(t: u64) -> Step {
     Step::Abort { t: Txn(t) }
 }
 
+/// A permit of one for another, on all objects where none is given.
+fn permit(giver: u64, taker: u64, objects: &[Ob], (read, write): (bool, bool)) -> Step {
+    let obs = match ObList::of(objects) {
+        Ok(list) => ObSet::Listed(list),
+        Err(_) => ObSet::All,
+    };
+    match Ops::new(read, write) {
+        Some(ops) => Step::Permit {
+            giver: Txn(giver),
+            taker: Txn(taker),
+            obs,
+            ops,
+        },
+        None => begin(giver),
+    }
+}
+
 /// How many entries the names are owed after these.
 fn owed(entries: &[(Step, Reply)]) -> usize {
     let mut owed = 0usize;
@@ -80,7 +97,7 @@ fn expected(
     step: Step,
     capacity: usize,
 ) -> Result<Result<Outcome, Fault>, Fail> {
-    match answer(&THREE, entries, step) {
+    match answer(&THREE, entries, &step) {
         Outcome::Wait => Ok(Ok(Outcome::Wait)),
         Outcome::Answer(reply) => {
             entries.push((step, reply))?;
@@ -125,7 +142,8 @@ fn next(seed: u64) -> u64 {
 fn drawn(number: u64) -> Step {
     let t = 5 + (number >> 40) % 5;
     let x = 1 + (number >> 20) % 4;
-    match (number >> 50) % 12 {
+    let taker = 5 + (number >> 30) % 5;
+    match (number >> 50) % 15 {
         0 | 1 => initiate(t),
         2 | 3 => begin(t),
         4 | 5 => read(t, x),
@@ -133,7 +151,9 @@ fn drawn(number: u64) -> Step {
         8 => complete(t),
         9 => commit(t),
         10 => abort(t),
-        _ => Step::WaitFor { t: Txn(t) },
+        11 => Step::WaitFor { t: Txn(t) },
+        12 | 13 => permit(t, taker, &[Ob(x)], (number % 3 != 0, number % 3 != 1)),
+        _ => permit(t, taker, &[], (true, true)),
     }
 }
 
@@ -193,6 +213,50 @@ fn facility_agrees_on_worked_histories(rt: HostRuntime) -> Result<(), Fail> {
         begin(7),
         abort(7),
         commit(6),
+    ];
+    assert!(rt; agree(alloc, &refusals, 100)?);
+    Ok(())
+}
+
+#[test]
+fn facility_agrees_on_permits(rt: HostRuntime) -> Result<(), Fail> {
+    let alloc = rt.alloc();
+    let chain = [
+        initiate(7),
+        begin(7),
+        initiate(8),
+        begin(8),
+        initiate(9),
+        begin(9),
+        write(7, 1, 11),
+        write(7, 2, 22),
+        write(7, 3, 33),
+        permit(7, 8, &[Ob(2), Ob(1)], (true, true)),
+        permit(8, 9, &[Ob(3), Ob(2)], (true, false)),
+        read(9, 2),
+        read(9, 1),
+        write(9, 2, 5),
+        read(9, 3),
+        write(8, 1, 5),
+        read(7, 1),
+        complete(8),
+        commit(8),
+        read(9, 2),
+        abort(7),
+        read(9, 1),
+    ];
+    assert!(rt; agree(alloc, &chain, 100)?);
+    let refusals = [
+        permit(5, 5, &[Ob(4)], (true, false)),
+        permit(5, 6, &[Ob(4)], (true, false)),
+        initiate(5),
+        permit(5, 6, &[Ob(4)], (true, false)),
+        initiate(6),
+        permit(5, 6, &[Ob(4), Ob(1)], (true, false)),
+        abort(6),
+        permit(5, 6, &[], (false, true)),
+        abort(5),
+        permit(5, 6, &[], (false, true)),
     ];
     assert!(rt; agree(alloc, &refusals, 100)?);
     Ok(())

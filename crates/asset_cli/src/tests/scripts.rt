@@ -1,7 +1,7 @@
 //! What the lines of a script say.
 use crate::grammar::{Command, Line};
 use crate::lines::split_line;
-use asset_names::{Ob, Step, Txn};
+use asset_names::{Ob, ObList, ObSet, Op, Step, Txn};
 
 #[test]
 fn lines_that_ask(rt: HostRuntime) {
@@ -54,7 +54,14 @@ fn lines_that_are_bad(rt: HostRuntime) {
         " ",
         "abort",
         "wait 7 8",
-        "permit 7 8 r 1",
+        "permit 7 8 r",
+        "permit 7 8 r 1 2",
+        "permit 7 8 wr 1",
+        "permit 7 8 r 1,",
+        "permit 7 8 r 1,,2",
+        "permit 7 8 r 1,2,1",
+        "permit 7 8 r 1;2",
+        "permit 7 8 r all,1",
         "delegate 7 8 all",
         "depend cd 7 8",
     ];
@@ -79,4 +86,28 @@ fn script_is_cut_at_line_feeds(rt: HostRuntime) {
         rest = cut.map_or(&[], |parts| parts.1);
     }
     assert_eq!(rt; split_line(rest), None);
+}
+
+/// The permit of 7 for 8 that a line asks for, as its objects and whether it has each operation.
+fn permit_of(text: &str) -> Option<(ObSet, bool, bool)> {
+    match Line::parse(text.as_bytes()) {
+        Line::Command(Command::Ask(Step::Permit {
+            giver: Txn(7),
+            taker: Txn(8),
+            obs,
+            ops,
+        })) => Some((obs, ops.has(Op::Read), ops.has(Op::Write))),
+        _ => None,
+    }
+}
+
+#[test]
+fn permits_that_are_asked(rt: HostRuntime) {
+    let all = permit_of("permit 7 8 r all");
+    assert_eq!(rt; all, Some((ObSet::All, true, false)));
+    let two = ObList::of(&[Ob(2), Ob(30)]).ok().map(ObSet::Listed);
+    let both = permit_of("permit 7 8 rw 30,2");
+    assert_eq!(rt; both, two.map(|obs| (obs, true, true)));
+    let write = permit_of("permit 7 8 w 2,30");
+    assert_eq!(rt; write, two.map(|obs| (obs, false, true)));
 }
