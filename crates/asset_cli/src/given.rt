@@ -27,8 +27,8 @@ impl Model for GivenObjects {
 }
 
 impl GivenObjects {
-    ghost use Rattle.std.specs.Prelude.{◌≡◌, [], ◌∷◌, ◌++◌, not, IfOk, OnOk, IfErr};
-    ghost use Rattle.std.specs.Bool.{OnTrue};
+    ghost use Rattle.std.specs.Prelude.{◌≡◌, [], ◌∷◌, ◌++◌, not, IfOk, OnOk, IfErr, OnErr};
+    ghost use Rattle.std.specs.Bool.{OnTrue, OnFalse};
     ghost use Rattle.asset_names.specs.Sets.{HasNoDouble};
     ghost use Rattle.asset_names.specs.Operations.{exists};
     ghost use Rattle.asset_core.specs.Recorded.{objects_of};
@@ -43,11 +43,14 @@ impl GivenObjects {
         }
     }
 
-    /// Adds an object with its value, unless it was given before. Whether it was added.
+    /// Adds an object with its value, unless it was given before. Whether it was added. Where memory runs
+    /// out, nothing changes.
     pub fn add(&mut self, object: (Ob, i64)) -> Result<bool, ScriptFault>
         ensures added { IfOk result (λ added. added ≡ not (exists self.old object.0.0)) }
         ensures grown { IfOk result (λ added. OnTrue added (self.new ≡ self.old ++ object ∷ [])) }
+        ensures kept { IfOk result (λ added. OnFalse added (self.new ≡ self.old)) }
         ensures different { OnOk result (HasNoDouble (objects_of self.old) → HasNoDouble (objects_of self.new)) }
+        ensures unchanged { OnErr result (self.new ≡ self.old) }
         ensures memory { IfErr result (λ fault. fault ≡ ScriptFault.NoMemory) }
     {
         match self.pairs.reserve(1) {
