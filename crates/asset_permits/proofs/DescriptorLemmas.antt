@@ -1,9 +1,10 @@
 -- Lists of descriptors: two that say the same are one; what stands after one more, and after some go.
-use Rattle.std.proofs.Common.{◌≡◌, ℕ, Bool, true, false, cond, not, eqb, ◌&&◌, ◌||◌, List, [], ◌∷◌, ◌++◌, filter, refl, sym, ap, ◌∙◌, arith, inl, inr}
+use Rattle.std.proofs.Common.{◌≡◌, ℕ, Bool, true, false, cond, not, eqb, ◌&&◌, ◌||◌, List, [], ◌∷◌, ◌++◌, map, filter, refl, sym, ap, ◌∙◌, arith, inl, inr}
 use Rattle.std.specs.Bool.{beq}
 use Rattle.std.specs.List.{list_any}
 use Rattle.std.specs.Cmp.Lexicographic.{pointwise}
 use Rattle.std.proofs.lemmas.Bool.{or_cases, or_parts, or_from, or_left, or_right, and_from, and_parts, eqb-true, eq-eqb, false≢true, true≢false, false_from_ne_true}
+use Rattle.std.proofs.lemmas.List.{map-append}
 use Rattle.std.proofs.lemmas.List.Folds.{list_any-append}
 use Rattle.std.proofs.lemmas.Map.Views.{any-filter_same}
 use Rattle.asset_names.specs.declared.names.Ob.{Ob}
@@ -12,7 +13,7 @@ use Rattle.asset_names.specs.declared.sets.ObSet.{ObSet}
 use Rattle.asset_names.specs.declared.sets.ObSet.TheVariants.{All, Listed}
 use Rattle.asset_names.specs.InSet.{in_set}
 use Rattle.asset_names.specs.Operations.{has_op}
-use Rattle.asset_permits.specs.Descriptors.{Descriptor, same_objects, same_ops, same_descriptor, stands, AreDifferent, covers, lets, one_covers}
+use Rattle.asset_permits.specs.Descriptors.{Descriptor, Given, given_by, same_given, same_objects, same_ops, same_descriptor, stands, AreDifferent, covers, lets, one_covers}
 
 -- ---- two that say the same
 beq-true : (p q : Bool) → beq p q ≡ true → p ≡ q
@@ -82,7 +83,7 @@ or_none : (p : Bool) → (p || false) ≡ p
 or_none true = refl
 or_none false = refl
 
-any_push : (test : Descriptor → Bool) (descriptors : List Descriptor) (d : Descriptor) → list_any test (descriptors ++ d ∷ []) ≡ (list_any test descriptors || test d)
+pub any_push : (test : Descriptor → Bool) (descriptors : List Descriptor) (d : Descriptor) → list_any test (descriptors ++ d ∷ []) ≡ (list_any test descriptors || test d)
 any_push test descriptors d = list_any-append test descriptors (d ∷ []) ∙ ap (λ b. list_any test descriptors || b) (or_none (test d))
 
 pub stands_push : (descriptors : List Descriptor) (d e : Descriptor) → stands (descriptors ++ d ∷ []) e ≡ (stands descriptors e || same_descriptor d e)
@@ -104,7 +105,7 @@ different_push (c ∷ descriptors) d different none =
     (stands_push descriptors d c ∙ or_from _ _ different.0 (not_same c d parts.0), different_push descriptors d different.1 parts.1)
 
 -- ---- one that stands already
-any_has : (test : Descriptor → Bool) (d : Descriptor) (descriptors : List Descriptor) → stands descriptors d ≡ true → test d ≡ true → list_any test descriptors ≡ true
+pub any_has : (test : Descriptor → Bool) (d : Descriptor) (descriptors : List Descriptor) → stands descriptors d ≡ true → test d ≡ true → list_any test descriptors ≡ true
 unfolding stands
 any_has test d [] there passes = absurd (false≢true there)
 any_has test d (c ∷ descriptors) there passes =
@@ -177,7 +178,7 @@ different_filtered keep (d ∷ descriptors) different = go (keep d) (filtered d 
   go false none rest = rest
 
 -- ---- who is let, as callers say it
-eqb-flip : (m n : ℕ) → eqb m n ≡ eqb n m
+pub eqb-flip : (m n : ℕ) → eqb m n ≡ eqb n m
 eqb-flip m n = grind arith
 
 regrouped : (p q r s : Bool) → (p && q && (r && s)) ≡ (p && q && r && s)
@@ -190,3 +191,11 @@ unfolding lets covers
 lets_by u t x op d =
     (λ i. eqb-flip d.giver u i && eqb-flip d.taker t i && (in_set d.objects x && has_op d.ops op))
     ∙ regrouped (eqb u d.giver) (eqb t d.taker) (in_set d.objects x) (has_op d.ops op)
+
+-- two that one name gives say the same
+pub same_by : (u : ℕ) (g h : Given) → same_descriptor (given_by u g) (given_by u h) ≡ same_given g h
+unfolding same_descriptor given_by same_given
+same_by u g h = rw (eq-eqb u u refl) refl
+
+pub mapped_push : (u : ℕ) (given : List Given) (one : Given) → map (given_by u) (given ++ one ∷ []) ≡ map (given_by u) given ++ given_by u one ∷ []
+mapped_push u given one = map-append (given_by u) given (one ∷ [])

@@ -5,7 +5,7 @@ use Rattle.std.proofs.lemmas.Bool.{or_cases, eqb-true, eq-eqb, ltb-true, lt-ltb,
 use Rattle.std.proofs.lemmas.List.{length-set, get_or-set_same, get_or-set_other, get_or-take, length-take-le, take_more_set, take-set-le, length_push, get_or_push, get_or_append_left}
 use Rattle.std.proofs.lemmas.List.Folds.{list_any_at}
 use Rattle.asset_names.specs.Arrows.{lists}
-use Rattle.asset_permits.specs.Kept.{IsPlaced}
+use Rattle.asset_permits.specs.Marked.{IsPlaced}
 
 -- two tests are one where each gives the other
 pub same_truth : (p q : Bool) → (p ≡ true → q ≡ true) → (q ≡ true → p ≡ true) → p ≡ q

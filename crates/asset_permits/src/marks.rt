@@ -17,7 +17,7 @@ pub(crate) struct Marks {
 
 impl Model for Marks {
     ghost use Rattle.std.specs.Prelude.{length, take};
-    ghost use Rattle.asset_permits.specs.Kept.{Met, IsPlaced};
+    ghost use Rattle.asset_permits.specs.Marked.{Met, IsPlaced};
 
     ghost Value = { Met };
 
@@ -27,7 +27,7 @@ impl Model for Marks {
 }
 
 impl Marks {
-    ghost use Rattle.std.specs.Prelude.{◌≡◌, ℕ, ◌+◌, ◌<◌, ◌≤◌, true, false, cond, [], ◌∷◌, ◌++◌, length, slice_index, OnOk, OnErr};
+    ghost use Rattle.std.specs.Prelude.{◌≡◌, ℕ, ◌+◌, ◌<◌, ◌≤◌, cond, [], ◌∷◌, ◌++◌, length, slice_index, OnOk, OnErr};
     ghost use Rattle.asset_names.specs.Arrows.{lists};
 
     /// No node. It takes no memory.
@@ -57,6 +57,13 @@ impl Marks {
         Ok(())
     }
 
+    /// How many nodes there are.
+    pub(crate) fn size(&self) -> usize
+        ensures { result ≡ self.now.size }
+    {
+        self.order.len()
+    }
+
     /// How many nodes are met.
     pub(crate) fn len(&self) -> usize
         ensures len { result ≡ length self.now.nodes }
@@ -80,14 +87,6 @@ impl Marks {
         ensures nodes { self.new.nodes ≡ [] }
     {
         self.met = 0;
-    }
-
-    /// Whether the node is met.
-    pub(crate) fn has(&self, node: usize) -> bool
-        requires { node < self.now.size }
-        ensures { result ≡ lists self.now.nodes node }
-    {
-        self.place[node] < self.met
     }
 
     /// Meets the node. Where it is met already, nothing changes.
