@@ -1,9 +1,9 @@
 -- A name is expanded by what it gives: the rows of its takers are met.
-use Rattle.std.proofs.Common.{◌≡◌, ℕ, ◌+◌, ◌<◌, Bool, true, false, cond, eqb, ◌&&◌, ◌||◌, List, [], ◌∷◌, ◌++◌, length, map, Some, None, is_some, refl, sym, ap, subst, ◌∙◌, arith, zero, suc, inl, inr}
+use Rattle.std.proofs.Common.{◌≡◌, ℕ, ◌+◌, ◌<◌, Bool, true, false, cond, not, eqb, ◌&&◌, ◌||◌, List, [], ◌∷◌, ◌++◌, length, map, Some, None, is_some, refl, sym, ap, subst, ◌∙◌, arith, zero, suc, inl, inr}
 use Rattle.std.specs.Prelude.{Option, slice_get, option_map}
 use Rattle.std.specs.List.{list_any, position, AllByRecursion, IsDistinct}
 use Rattle.std.specs.Map.{keys_of}
-use Rattle.std.proofs.lemmas.Bool.{or_cases, or_left, or_right, and_parts, and_from, eqb-true, eq-eqb, false≢true, true≢false, false_from_ne_true, cases_eq}
+use Rattle.std.proofs.lemmas.Bool.{or_cases, or_left, or_right, and_parts, and_from, eqb-true, eq-eqb, false≢true, true≢false, false_from_ne_true, not_from_false, cases_eq}
 use Rattle.std.proofs.lemmas.List.{append_assoc, append-nil}
 use Rattle.std.proofs.lemmas.List.Quantifiers.{position-Some}
 use Rattle.std.proofs.lemmas.Map.Entries.{length-keys_of}
@@ -13,7 +13,7 @@ use Rattle.asset_names.specs.declared.operations.Op.{Op}
 use Rattle.asset_names.specs.Arrows.{linked, lists}
 use Rattle.asset_permits.specs.Descriptors.{Descriptor, Given, given_by, covers, covers_given, lets, one_covers, arrows_for, allows_in, has_arrow}
 use Rattle.asset_permits.specs.Row.{has_giver, has_taker}
-use Rattle.asset_permits.specs.Kept.{Entry, row_of, givers_in, descriptors_of, is_to, HaveNames, AreNoted}
+use Rattle.asset_permits.specs.Kept.{Entry, row_of, givers_in, descriptors_of, is_to, HaveNames, AreNoted, given_in}
 use Rattle.asset_permits.specs.Searched.{name_at, Meets, Expands}
 use Rattle.asset_permits.specs.declared.row.Row.{Row}
 use Rattle.asset_permits.proofs.Laws.{arrows_stand, closed_linked}
@@ -217,3 +217,52 @@ unknown_giver rows u t x op names none other =
 pub no_row : (o : Option Row) → is_some o ≡ false → o ≡ None
 no_row None h = refl
 no_row (Some row) h = absurd (true≢false h)
+
+-- ---- a name without a row is given nothing
+any_more : {X : Type 0} (p q : X → Bool) (xs : List X) → ((x : X) → p x ≡ true → q x ≡ true) → list_any p xs ≡ true → list_any q xs ≡ true
+any_more p q [] more h = h
+any_more p q (x ∷ xs) more h = elim (or_cases (p x) _ h) [
+  | inl here ↦ or_left (q x) _ (more x here)
+  | inr later ↦ or_right (q x) _ (any_more p q xs more later)
+]
+
+lets_is_to : (u t x : ℕ) (op : Op) (d : Descriptor) → lets u t x op d ≡ true → is_to t d ≡ true
+unfolding lets is_to
+lets_is_to u t x op d h = (and_parts (eqb d.giver u) (eqb d.taker t) (and_parts _ _ h).0).1
+
+no_arrow_to : (rows : List Entry) (t x : ℕ) (op : Op) → HaveNames rows → AreNoted rows → row_of rows t ≡ None → (v : ℕ) → has_arrow (arrows_for (descriptors_of rows) x op) v t ≡ false
+unfolding one_covers AreNoted has_giver
+no_arrow_to rows t x op names noted none v = false_from_ne_true (has_arrow (arrows_for (descriptors_of rows) x op) v t) (λ arrow.
+    let given : list_any (lets v t x op) (given_in rows v) ≡ true =
+    sym (any_flat (lets v t x op) v (lets_owned v t x op) rows names) ∙ sym (arrows_stand (descriptors_of rows) v t x op) ∙ arrow
+    in
+    let known = noted v t (any_more (lets v t x op) (is_to t) (given_in rows v) (lets_is_to v t x op) given) in
+    false≢true (sym (ap (has_giver v) (givers_nowhere rows t none)) ∙ known))
+
+pub unknown_taker : (rows : List Entry) (u t x : ℕ) (op : Op) → HaveNames rows → AreNoted rows → row_of rows t ≡ None → eqb u t ≡ false → allows_in (descriptors_of rows) u t x op ≡ false
+unfolding allows_in
+unknown_taker rows u t x op names noted none other =
+    let arrows = arrows_for (descriptors_of rows) x op in
+    let closed : (v w : ℕ) → has_arrow arrows v w ≡ true → not (eqb v t) ≡ true → not (eqb w t) ≡ true = λ v w arrow apart.
+    not_from_false (eqb w t) (false_from_ne_true (eqb w t) (λ same. true≢false (sym arrow ∙ ap (has_arrow arrows v) (eqb-true w t same) ∙ no_arrow_to rows t x op names noted none v)))
+    in
+    false_from_ne_true (linked arrows u t) (λ way. false≢true (sym (ap not (eq-eqb t t refl)) ∙ closed_linked (λ n. not (eqb n t)) arrows closed u t way (not_from_false (eqb u t) other)))
+
+-- ---- two rows have two names
+two_rows : (rows : List Entry) (i k : ℕ) (e f : Entry) → HaveNames rows → slice_get rows i ≡ Some e → slice_get rows k ≡ Some f → eqb e.0.0 f.0.0 ≡ true → i ≡ k
+unfolding HaveNames IsDistinct
+two_rows [] i k e f names at_i at_k same = cc
+two_rows (r ∷ rows) zero zero e f names at_i at_k same = refl
+two_rows (r ∷ rows) zero (suc k) e f names at_i at_k same =
+    let first : r ≡ e = cc in
+    absurd (true≢false (sym same ∙ ap (λ (g : Entry). eqb g.0.0 f.0.0) (sym first) ∙ key_apart r.0.0 rows k f names.0 at_k))
+two_rows (r ∷ rows) (suc i) zero e f names at_i at_k same =
+    let second : r ≡ f = cc in
+    absurd (true≢false (sym same ∙ eqb-flip e.0.0 f.0.0 ∙ ap (λ (g : Entry). eqb g.0.0 e.0.0) (sym second) ∙ key_apart r.0.0 rows i e names.0 at_i))
+two_rows (r ∷ rows) (suc i) (suc k) e f names at_i at_k same = ap suc (two_rows rows i k e f names.1 at_i at_k same)
+
+pub other_name : (rows : List Entry) (i k : ℕ) → HaveNames rows → i < length rows → k < length rows → (i ≡ k → ⊥) → eqb (name_at rows i) (name_at rows k) ≡ false
+other_name rows i k names below_i below_k apart =
+    let e = entry_at rows i below_i in
+    let f = entry_at rows k below_k in
+    rw (named rows i e.0 e.1, named rows k f.0 f.1) (false_from_ne_true (eqb e.0.0.0 f.0.0.0) (λ same. apart (two_rows rows i k e.0 f.0 names e.1 f.1 same)))

@@ -89,6 +89,14 @@ impl Marks {
         self.met = 0;
     }
 
+    /// Whether the node is met.
+    pub(crate) fn has(&self, node: usize) -> bool
+        requires { node < self.now.size }
+        ensures { result ≡ lists self.now.nodes node }
+    {
+        self.place[node] < self.met
+    }
+
     /// Meets the node. Where it is met already, nothing changes.
     pub(crate) fn meet(&mut self, node: usize)
         requires { node < self.old.size }

@@ -11,18 +11,6 @@ use crate::marks::Marks;
 use crate::rows::Rows;
 use asset_names::{Ob, Op, Txn};
 
-/// The name of the row of this number.
-#[tactic(auto, unfolding(crate::specs::Searched::name_at))]
-fn name_at(rows: &Rows, number: usize) -> Txn
-    requires { number < length rows.now.entries }
-    ensures { result.0 ≡ name_at rows.now.entries number }
-{
-    match rows.get_index(number) {
-        Some((name, _)) => *name,
-        None => unreachable!(),
-    }
-}
-
 /// Meets the row of each taker to whom something is given that covers `op` on `x`.
 fn meet_takers(rows: &Rows, given: &[Given], marks: &mut Marks, x: Ob, op: Op)
     requires there { (t : ℕ) → has_taker t given.now ≡ true → is_some (row_of rows.now.entries t) ≡ true }
@@ -54,25 +42,27 @@ fn expand(rows: &Rows, number: usize, marks: &mut Marks, x: Ob, op: Op)
     }
 }
 
-/// Whether a chain of permits that cover `op` on `x` leads from the name of the row of this number to
-/// the taker, who is another. It looks at the permits of the names that it meets alone.
-fn leads_from(rows: &Rows, number: usize, marks: &mut Marks, taker: Txn, x: Ob, op: Op) -> bool
-    requires there { number < length rows.now.entries }
+/// Whether a chain of permits that cover `op` on `x` leads from the name of the first row to that of the
+/// second, which is another. It looks at the permits of the names that it meets alone, and stops once
+/// it has met the second.
+fn leads_on(rows: &Rows, from: usize, to: usize, marks: &mut Marks, x: Ob, op: Op) -> bool
+    requires from_there { from < length rows.now.entries }
+    requires to_there { to < length rows.now.entries }
     requires names { HaveNames rows.now.entries }
     requires noted { AreNoted rows.now.entries }
     requires marked { length rows.now.entries ≤ marks.old.size }
-    requires another { (name_at rows.now.entries number == taker.0) ≡ false }
+    requires another { (name_at rows.now.entries from == name_at rows.now.entries to) ≡ false }
     ensures size { marks.new.size ≡ marks.old.size }
-    ensures leads { result ≡ allows_in (descriptors_of rows.now.entries) (name_at rows.now.entries number) taker.0 x.0 op }
+    ensures leads { result ≡ allows_in (descriptors_of rows.now.entries) (name_at rows.now.entries from) (name_at rows.now.entries to) x.0 op }
 {
     marks.clear();
-    expand(rows, number, marks, x, op);
+    expand(rows, from, marks, x, op);
     let mut next = 0;
     'met: while next < marks.len() {
-        let node = marks.node(next);
-        if name_at(rows, node) == taker {
+        if marks.has(to) {
             return true;
         }
+        let node = marks.node(next);
         expand(rows, node, marks, x, op);
         next += 1;
     }
@@ -88,8 +78,11 @@ pub(crate) fn leads(rows: &Rows, marks: &mut Marks, giver: Txn, taker: Txn, x: O
     ensures size { marks.new.size ≡ marks.old.size }
     ensures leads { result ≡ allows_in (descriptors_of rows.now.entries) giver.0 taker.0 x.0 op }
 {
-    match rows.get_index_of(&giver) {
-        Some(number) => leads_from(rows, number, marks, taker, x, op),
-        None => false,
-    }
+    let Some(from) = rows.get_index_of(&giver) else {
+        return false;
+    };
+    let Some(to) = rows.get_index_of(&taker) else {
+        return false;
+    };
+    leads_on(rows, from, to, marks, x, op)
 }

@@ -11,8 +11,8 @@ use indexmap::IndexMap;
 use std::alloc::Global;
 use std::marker::Model;
 
-/// The permits that stand. Contracts see them as descriptors in no order of note, none of which stands
-/// twice. Each name has what it gives in a row of its own.
+/// The permits that stand. Contracts see them as descriptors, none of which stands twice; their order says
+/// nothing. Each name has what it gives in a row of its own, and keeps the row until it is dropped.
 #[derive(Drop)]
 pub struct Permits {
     rows: Rows,
