@@ -1,18 +1,18 @@
--- Lists of descriptors: two that say the same are one; what stands after one more, and after some go.
-use Rattle.std.proofs.Common.{◌≡◌, ℕ, Bool, true, false, cond, not, eqb, ◌&&◌, ◌||◌, List, [], ◌∷◌, ◌++◌, filter, refl, sym, ap, ◌∙◌, arith, inl, inr}
+-- Lists of descriptors: two that say the same are one; what stands after one more, and that none stands twice.
+use Rattle.std.proofs.Common.{◌≡◌, ℕ, Bool, true, false, cond, eqb, ◌&&◌, ◌||◌, List, [], ◌∷◌, ◌++◌, map, filter, refl, sym, ap, ◌∙◌, arith, inl, inr}
 use Rattle.std.specs.Bool.{beq}
 use Rattle.std.specs.List.{list_any}
 use Rattle.std.specs.Cmp.Lexicographic.{pointwise}
 use Rattle.std.proofs.lemmas.Bool.{or_cases, or_parts, or_from, or_left, or_right, and_from, and_parts, eqb-true, eq-eqb, false≢true, true≢false, false_from_ne_true}
+use Rattle.std.proofs.lemmas.List.{map-append}
 use Rattle.std.proofs.lemmas.List.Folds.{list_any-append}
-use Rattle.std.proofs.lemmas.Map.Views.{any-filter_same}
 use Rattle.asset_names.specs.declared.names.Ob.{Ob}
 use Rattle.asset_names.specs.declared.operations.Op.{Op}
 use Rattle.asset_names.specs.declared.sets.ObSet.{ObSet}
 use Rattle.asset_names.specs.declared.sets.ObSet.TheVariants.{All, Listed}
 use Rattle.asset_names.specs.InSet.{in_set}
 use Rattle.asset_names.specs.Operations.{has_op}
-use Rattle.asset_permits.specs.Descriptors.{Descriptor, same_objects, same_ops, same_descriptor, stands, AreDifferent, covers, lets, one_covers}
+use Rattle.asset_permits.specs.Descriptors.{Descriptor, Given, given_by, same_given, same_objects, same_ops, same_descriptor, stands, AreDifferent, covers, lets, one_covers}
 
 -- ---- two that say the same
 beq-true : (p q : Bool) → beq p q ≡ true → p ≡ q
@@ -24,9 +24,6 @@ beq-true false false h = refl
 beq_self : (p : Bool) → beq p p ≡ true
 beq_self true = refl
 beq_self false = refl
-
-same_ob : Ob → Ob → Bool
-same_ob x y = eqb x.0 y.0
 
 same_lists : (xs ys : List Ob) → pointwise (λ (x y : Ob). eqb x.0 y.0) xs ys ≡ true → xs ≡ ys
 same_lists [] [] h = refl
@@ -82,16 +79,12 @@ or_none : (p : Bool) → (p || false) ≡ p
 or_none true = refl
 or_none false = refl
 
-any_push : (test : Descriptor → Bool) (descriptors : List Descriptor) (d : Descriptor) → list_any test (descriptors ++ d ∷ []) ≡ (list_any test descriptors || test d)
+pub any_push : (test : Descriptor → Bool) (descriptors : List Descriptor) (d : Descriptor) → list_any test (descriptors ++ d ∷ []) ≡ (list_any test descriptors || test d)
 any_push test descriptors d = list_any-append test descriptors (d ∷ []) ∙ ap (λ b. list_any test descriptors || b) (or_none (test d))
 
 pub stands_push : (descriptors : List Descriptor) (d e : Descriptor) → stands (descriptors ++ d ∷ []) e ≡ (stands descriptors e || same_descriptor d e)
 unfolding stands
 stands_push descriptors d e = any_push (λ (c : Descriptor). same_descriptor c e) descriptors d
-
-pub covers_push : (descriptors : List Descriptor) (d : Descriptor) (u t x : ℕ) (op : Op) → one_covers (descriptors ++ d ∷ []) u t x op ≡ (one_covers descriptors u t x op || lets u t x op d)
-unfolding one_covers
-covers_push descriptors d u t x op = any_push (lets u t x op) descriptors d
 
 not_same : (d e : Descriptor) → same_descriptor d e ≡ false → same_descriptor e d ≡ false
 not_same d e h = false_from_ne_true _ (λ same. true≢false (sym (same_self d) ∙ ap (same_descriptor d) (sym (same_is e d same)) ∙ h))
@@ -104,7 +97,7 @@ different_push (c ∷ descriptors) d different none =
     (stands_push descriptors d c ∙ or_from _ _ different.0 (not_same c d parts.0), different_push descriptors d different.1 parts.1)
 
 -- ---- one that stands already
-any_has : (test : Descriptor → Bool) (d : Descriptor) (descriptors : List Descriptor) → stands descriptors d ≡ true → test d ≡ true → list_any test descriptors ≡ true
+pub any_has : (test : Descriptor → Bool) (d : Descriptor) (descriptors : List Descriptor) → stands descriptors d ≡ true → test d ≡ true → list_any test descriptors ≡ true
 unfolding stands
 any_has test d [] there passes = absurd (false≢true there)
 any_has test d (c ∷ descriptors) there passes =
@@ -126,35 +119,7 @@ pub covers_again : (descriptors : List Descriptor) (d : Descriptor) (u t x : ℕ
 unfolding one_covers
 covers_again descriptors d u t x op there = or_has _ (lets u t x op d) (any_has (lets u t x op) d descriptors there)
 
--- ---- those of a name go
-abbrev pub of_others : ℕ → Descriptor → Bool
-of_others t d = not (eqb d.giver t || eqb d.taker t)
-
-keeps_apart : (s p q : Bool) → (not (p || q) && s) ≡ (s && not p && not q)
-keeps_apart true true q = refl
-keeps_apart true false true = refl
-keeps_apart true false false = refl
-keeps_apart false true q = refl
-keeps_apart false false true = refl
-keeps_apart false false false = refl
-
-pub stands_dropped : (t : ℕ) (descriptors : List Descriptor) (e : Descriptor) → stands (filter (of_others t) descriptors) e ≡ (stands descriptors e && not (eqb e.giver t) && not (eqb e.taker t))
-unfolding stands
-stands_dropped t descriptors e =
-    any-filter_same (λ (d : Descriptor). same_descriptor d e) (of_others t) (of_others t e) (λ d same. ap (of_others t) (same_is d e same)) descriptors
-    ∙ keeps_apart (stands descriptors e) (eqb e.giver t) (eqb e.taker t)
-
-pub covers_dropped : (t : ℕ) (descriptors : List Descriptor) (u v x : ℕ) (op : Op) → one_covers (filter (of_others t) descriptors) u v x op ≡ (one_covers descriptors u v x op && not (eqb u t) && not (eqb v t))
-unfolding one_covers lets
-covers_dropped t descriptors u v x op =
-    any-filter_same (lets u v x op) (of_others t) (not (eqb u t || eqb v t)) (λ d there. of_these t u v x op d there) descriptors
-    ∙ keeps_apart (one_covers descriptors u v x op) (eqb u t) (eqb v t)
-  where
-    of_these : (t u v x : ℕ) (op : Op) (d : Descriptor) → lets u v x op d ≡ true → of_others t d ≡ not (eqb u t || eqb v t)
-    of_these t u v x op d there =
-        let names = (and_parts _ _ (and_parts _ _ there).0) in
-        λ i. not (eqb (eqb-true d.giver u names.0 i) t || eqb (eqb-true d.taker v names.1 i) t)
-
+-- ---- some go
 none_filtered : (test keep : Descriptor → Bool) (descriptors : List Descriptor) → list_any test descriptors ≡ false → list_any test (filter keep descriptors) ≡ false
 none_filtered test keep [] none = refl
 none_filtered test keep (d ∷ descriptors) none =
@@ -177,7 +142,7 @@ different_filtered keep (d ∷ descriptors) different = go (keep d) (filtered d 
   go false none rest = rest
 
 -- ---- who is let, as callers say it
-eqb-flip : (m n : ℕ) → eqb m n ≡ eqb n m
+pub eqb-flip : (m n : ℕ) → eqb m n ≡ eqb n m
 eqb-flip m n = grind arith
 
 regrouped : (p q r s : Bool) → (p && q && (r && s)) ≡ (p && q && r && s)
@@ -190,3 +155,11 @@ unfolding lets covers
 lets_by u t x op d =
     (λ i. eqb-flip d.giver u i && eqb-flip d.taker t i && (in_set d.objects x && has_op d.ops op))
     ∙ regrouped (eqb u d.giver) (eqb t d.taker) (in_set d.objects x) (has_op d.ops op)
+
+-- two that one name gives say the same
+pub same_by : (u : ℕ) (g h : Given) → same_descriptor (given_by u g) (given_by u h) ≡ same_given g h
+unfolding same_descriptor given_by same_given
+same_by u g h = rw (eq-eqb u u refl) refl
+
+pub mapped_push : (u : ℕ) (given : List Given) (one : Given) → map (given_by u) (given ++ one ∷ []) ≡ map (given_by u) given ++ given_by u one ∷ []
+mapped_push u given one = map-append (given_by u) given (one ∷ [])

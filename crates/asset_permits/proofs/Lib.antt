@@ -2,4 +2,6 @@ pub mod Laws
 pub mod DescriptorLemmas
 pub mod MarkLemmas
 pub mod WalkLemmas
+pub mod RowLemmas
 pub mod SearchLemmas
+pub mod TableLemmas

@@ -2,10 +2,10 @@
 use Rattle.std.proofs.Common.{◌≡◌, ℕ, ◌+◌, ◌<◌, ◌≤◌, Bool, true, false, eqb, ltb, List, [], ◌∷◌, ◌++◌, length, get_or, set, take, refl, sym, ap, subst, ◌∙◌, arith, suc, inl, inr}
 use Rattle.std.specs.List.{list_any}
 use Rattle.std.proofs.lemmas.Bool.{or_cases, eqb-true, eq-eqb, ltb-true, lt-ltb, false≢true, cases_eq}
-use Rattle.std.proofs.lemmas.List.{length-set, get_or-set_same, get_or-set_other, get_or-take, length-take-le, take_more_set, take-set-le, length_push, get_or_push, get_or_append_left}
+use Rattle.std.proofs.lemmas.List.{length-set, get_or-set_same, get_or-set_other, get_or-take, length-take-le, take_more_set, take-set-le}
 use Rattle.std.proofs.lemmas.List.Folds.{list_any_at}
 use Rattle.asset_names.specs.Arrows.{lists}
-use Rattle.asset_permits.specs.Kept.{IsPlaced}
+use Rattle.asset_permits.specs.Marked.{IsPlaced}
 
 -- two tests are one where each gives the other
 pub same_truth : (p q : Bool) → (p ≡ true → q ≡ true) → (q ≡ true → p ≡ true) → p ≡ q
@@ -131,26 +131,3 @@ swapped order place met node at other placed below is_at after is_other =
 pub swapped_met : (order : List ℕ) (met node at other : ℕ) → met ≤ at → at < length order → take (met + 1) (set (set order at other) met node) ≡ take met order ++ node ∷ []
 swapped_met order met node at other after below =
     take_more_set (set order at other) met node (rw length-set (omega arith)) ∙ ap (λ (l : List ℕ). l ++ node ∷ []) (take-set-le met order at other after)
-
--- ---- one more node
-pub grown : (order place : List ℕ) (met node : ℕ) → IsPlaced order place met → node ≡ length order → IsPlaced (order ++ node ∷ []) (place ++ node ∷ []) met
-grown order place met node placed is =
-    let size = length_push order node in
-    let sizes = length_push place node in
-    let same = placed.same_size in
-    record {
-      within = omega (arith, placed.within);
-      same_size = omega arith;
-      nodes = λ i within. elim (cases_eq i node) [
-        | inl last ↦ rw (last, get_or_push order node 0 node (sym is), get_or_push place node 0 node (omega arith)) (omega arith, refl)
-        | inr not_last ↦
-            let old = placed.nodes i (omega arith) in
-            rw (get_or_append_left order (node ∷ []) 0 i (omega arith), get_or_append_left place (node ∷ []) 0 (get_or order i 0) (omega (arith, old.0))) (omega (arith, old.0), old.1)
-      ];
-      places = λ n within. elim (cases_eq n node) [
-        | inl last ↦ rw (last, get_or_push place node 0 node (omega arith), get_or_push order node 0 node (sym is)) (omega arith, refl)
-        | inr not_last ↦
-            let old = placed.places n (omega arith) in
-            rw (get_or_append_left place (node ∷ []) 0 n (omega arith), get_or_append_left order (node ∷ []) 0 (get_or place n 0) (omega (arith, old.0))) (omega (arith, old.0), old.1)
-      ];
-    }

@@ -85,12 +85,6 @@ walk_on arrows name_of size from to nodes after next walked below other expands 
       ];
     }
 
--- ---- the node of the name is among those that are met
-pub walk_finds : (arrows : List Arrow) (name_of : ℕ → ℕ) (size from to : ℕ) (nodes : List ℕ) (next : ℕ) → Walked arrows name_of size from to nodes next → next < length nodes
-    → eqb (name_of (get_or nodes next 0)) to ≡ true → linked arrows from to ≡ true
-walk_finds arrows name_of size from to nodes next walked below is =
-    subst (λ n. linked arrows from n ≡ true) (eqb-true (name_of (get_or nodes next 0)) to is) (walked.reached (get_or nodes next 0) (lists_at nodes (get_or nodes next 0) next below refl))
-
 -- ---- all nodes are expanded, and the name is not among theirs
 unfoldable met_name : (ℕ → ℕ) → ℕ → List ℕ → ℕ → Bool
 met_name name_of from nodes t = eqb from t || list_any (λ k. eqb (name_of k) t) nodes

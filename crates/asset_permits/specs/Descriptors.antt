@@ -18,6 +18,16 @@ pub record Descriptor : Type 0 where
   pub objects : ObSet
   pub ops : Bool × Bool
 
+-- a permit of a giver who is known
+pub record Given : Type 0 where
+  pub taker : ℕ
+  pub objects : ObSet
+  pub ops : Bool × Bool
+
+-- the permit of this giver
+unfoldable pub given_by : ℕ → Given → Descriptor
+given_by giver given = record { giver = giver; taker = given.taker; objects = given.objects; ops = given.ops }
+
 -- whether the two are the same set, said by the same list
 unfoldable pub same_objects : ObSet → ObSet → Bool
 same_objects All All = true
@@ -28,6 +38,10 @@ same_objects (Listed objects) (Listed others) = pointwise (λ (x y : Ob). x.0 ==
 -- whether the two are the same operations
 unfoldable pub same_ops : Bool × Bool → Bool × Bool → Bool
 same_ops ops others = beq ops.0 others.0 && beq ops.1 others.1
+
+-- whether the two say the same, where the giver is known
+unfoldable pub same_given : Given → Given → Bool
+same_given g h = g.taker == h.taker && same_objects g.objects h.objects && same_ops g.ops h.ops
 
 -- whether the two say the same
 unfoldable pub same_descriptor : Descriptor → Descriptor → Bool
@@ -45,6 +59,10 @@ AreDifferent (d ∷ descriptors) = (stands descriptors d ≡ false) × AreDiffer
 -- whether the descriptor covers op on x: it has the object and the operation
 unfoldable pub covers : ℕ → Op → Descriptor → Bool
 covers x op d = in_set d.objects x && has_op d.ops op
+
+-- the same of a permit of a giver who is known
+unfoldable pub covers_given : ℕ → Op → Given → Bool
+covers_given x op given = in_set given.objects x && has_op given.ops op
 
 -- whether the descriptor is of this giver for this taker, and covers op on x
 unfoldable pub lets : ℕ → ℕ → ℕ → Op → Descriptor → Bool

@@ -1,20 +1,62 @@
--- How the table is kept: marks beside the descriptors, for searches that take no memory.
-use Rattle.std.specs.Prelude.{◌≡◌, ℕ, ◌<◌, ◌≤◌, List, length, slice_index}
-use Rattle.asset_permits.specs.Descriptors.{Descriptor, AreDifferent}
+-- How the table is kept: a row for each name that gives a permit or was given one.
+use Rattle.std.specs.Prelude.{◌≡◌, ℕ, ◌≤◌, Bool, true, ◌==◌, List, [], length, not, map, filter, flat_map, Option, Some, None}
+use Rattle.std.specs.List.{list_any, IsDistinct}
+use Rattle.std.specs.Map.{lookup, keys_of}
+use Rattle.asset_names.specs.declared.names.Txn.{Txn}
+use Rattle.asset_permits.specs.Descriptors.{Descriptor, given_by, AreDifferent}
+use Rattle.asset_permits.specs.Row.{has_giver}
+use Rattle.asset_permits.specs.declared.row.Row.{Row}
 
--- what contracts see of marks: how many nodes there are, and which are met, in order of meeting
-pub record Met : Type 0 where
-  pub size : ℕ
-  pub nodes : List ℕ
+-- a name with its row
+abbrev pub Entry : Type 0
+Entry = Txn × Row
 
--- each node stands in the order at its place, and the nodes that are met stand first
-pub record IsPlaced (order place : List ℕ) (met : ℕ) : Type 0 where
-  pub within : met ≤ length order
-  pub same_size : length place ≡ length order
-  pub nodes : (i : ℕ) → i < length order → (slice_index order i < length order) × (slice_index place (slice_index order i) ≡ i)
-  pub places : (n : ℕ) → n < length order → (slice_index place n < length order) × (slice_index order (slice_index place n) ≡ n)
+-- the row of a name, if it has one
+unfoldable pub row_of : List Entry → ℕ → Option Row
+row_of rows u = lookup (λ (name : Txn). u == name.0) rows
 
--- no descriptor stands twice, and each has a mark
-pub record IsKept (descriptors : List Descriptor) (marks : Met) : Type 0 where
-  pub different : AreDifferent descriptors
-  pub marked : length descriptors ≤ marks.size
+-- what a name gives
+unfoldable pub given_or_none : ℕ → Option Row → List Descriptor
+given_or_none u None = []
+given_or_none u (Some row) = map (given_by u) row.given.items
+
+unfoldable pub given_in : List Entry → ℕ → List Descriptor
+given_in rows u = given_or_none u (row_of rows u)
+
+-- who has given something to a name, as its row has it
+unfoldable pub givers_or_none : Option Row → List Txn
+givers_or_none None = []
+givers_or_none (Some row) = row.givers.items
+
+unfoldable pub givers_in : List Entry → ℕ → List Txn
+givers_in rows t = givers_or_none (row_of rows t)
+
+-- the permits of all rows
+unfoldable pub given_of : Entry → List Descriptor
+given_of entry = map (given_by entry.0.0) entry.1.given.items
+
+unfoldable pub descriptors_of : List Entry → List Descriptor
+descriptors_of rows = flat_map given_of rows
+
+-- whether the descriptor is for this taker
+unfoldable pub is_to : ℕ → Descriptor → Bool
+is_to t d = d.taker == t
+
+-- the descriptors but those for this taker
+unfoldable pub without_taker : ℕ → List Descriptor → List Descriptor
+without_taker t descriptors = filter (λ (d : Descriptor). not (is_to t d)) descriptors
+
+-- no name has two rows
+unfoldable pub HaveNames : List Entry → Type 0
+HaveNames rows = IsDistinct (λ (a b : Txn). a.0 == b.0) (keys_of rows)
+
+-- each taker has noted who gives to it
+unfoldable pub AreNoted : List Entry → Type 0
+AreNoted rows = (u t : ℕ) → list_any (is_to t) (given_in rows u) ≡ true → has_giver u (givers_in rows t) ≡ true
+
+-- no name has two rows, none gives the same twice, takers have noted their givers, and each row has a mark
+pub record IsKept (rows : List Entry) (size : ℕ) : Type 0 where
+  pub names : HaveNames rows
+  pub different : (u : ℕ) → AreDifferent (given_in rows u)
+  pub noted : AreNoted rows
+  pub marked : length rows ≤ size

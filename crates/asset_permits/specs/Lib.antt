@@ -1,3 +1,5 @@
 pub mod Descriptors
+pub mod Marked
 pub mod Kept
 pub mod Searched
+pub mod Row

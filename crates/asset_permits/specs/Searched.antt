@@ -1,11 +1,14 @@
 -- A search along arrows between names, which meets nodes by their number.
-use Rattle.std.specs.Prelude.{◌≡◌, ℕ, ◌<◌, ◌++◌, true, List, slice_get, option_map, unwrap_or}
+use Rattle.std.specs.Prelude.{◌≡◌, ℕ, ◌<◌, ◌++◌, ◌==◌, ◌&&◌, true, List, length, Some, slice_get, option_map, unwrap_or}
+use Rattle.std.specs.List.{list_any}
+use Rattle.asset_names.specs.declared.operations.Op.{Op}
 use Rattle.asset_names.specs.Arrows.{Arrow, lists}
-use Rattle.asset_permits.specs.Descriptors.{Descriptor, has_arrow}
+use Rattle.asset_permits.specs.Descriptors.{Given, covers_given, has_arrow}
+use Rattle.asset_permits.specs.Kept.{Entry}
 
--- the taker of the descriptor of this number
-unfoldable pub taker_at : List Descriptor → ℕ → ℕ
-taker_at descriptors k = unwrap_or (option_map (λ (d : Descriptor). d.taker) (slice_get descriptors k)) 0
+-- the name of the row of this number
+unfoldable pub name_at : List Entry → ℕ → ℕ
+name_at rows k = unwrap_or (option_map (λ (entry : Entry). entry.0.0) (slice_get rows k)) 0
 
 -- how a name is expanded, where each node below the size stands for a name: what was met stays first,
 -- and nodes come to whose names an arrow leads from it; then each name to which an arrow leads is met
@@ -15,3 +18,11 @@ pub record Expands (arrows : List Arrow) (name_of : ℕ → ℕ) (size name : �
   pub within : (k : ℕ) → lists more k ≡ true → k < size
   pub leads : (k : ℕ) → lists more k ≡ true → has_arrow arrows name (name_of k) ≡ true
   pub all : (t : ℕ) → has_arrow arrows name t ≡ true → (k : ℕ) × (lists after k ≡ true) × (name_of k ≡ t)
+
+-- the takers of the first few that are given are met, where what is given covers op on x: what was met
+-- stays first, and rows come
+pub record Meets (rows : List Entry) (given : List Given) (x : ℕ) (op : Op) (before after : List ℕ) (end : ℕ) : Type 0 where
+  pub more : List ℕ
+  pub kept : after ≡ before ++ more
+  pub takers : (k : ℕ) → lists more k ≡ true → (k < length rows) × list_any (λ (one : Given). one.taker == name_at rows k && covers_given x op one) given ≡ true
+  pub all : (j : ℕ) (one : Given) → j < end → slice_get given j ≡ Some one → covers_given x op one ≡ true → (k : ℕ) × (lists after k ≡ true) × (name_at rows k ≡ one.taker)

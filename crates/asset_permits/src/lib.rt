@@ -2,8 +2,10 @@
 //! alone takes memory.
 #![tactic(auto)]
 
-mod descriptor;
+mod given;
 mod marks;
+mod row;
+mod rows;
 mod search;
 mod table;
 

@@ -17,7 +17,7 @@ pub(crate) struct Marks {
 
 impl Model for Marks {
     ghost use Rattle.std.specs.Prelude.{length, take};
-    ghost use Rattle.asset_permits.specs.Kept.{Met, IsPlaced};
+    ghost use Rattle.asset_permits.specs.Marked.{Met, IsPlaced};
 
     ghost Value = { Met };
 
@@ -27,7 +27,7 @@ impl Model for Marks {
 }
 
 impl Marks {
-    ghost use Rattle.std.specs.Prelude.{◌≡◌, ℕ, ◌+◌, ◌<◌, ◌≤◌, true, false, cond, [], ◌∷◌, ◌++◌, length, slice_index, OnOk, OnErr};
+    ghost use Rattle.std.specs.Prelude.{◌≡◌, ℕ, ◌+◌, ◌<◌, ◌≤◌, cond, [], ◌∷◌, ◌++◌, length, slice_index, OnOk, OnErr};
     ghost use Rattle.asset_names.specs.Arrows.{lists};
 
     /// No node. It takes no memory.
@@ -55,6 +55,13 @@ impl Marks {
         self.order.push(node).unwrap();
         self.place.push(node).unwrap();
         Ok(())
+    }
+
+    /// How many nodes there are.
+    pub(crate) fn size(&self) -> usize
+        ensures { result ≡ self.now.size }
+    {
+        self.order.len()
     }
 
     /// How many nodes are met.

@@ -1,60 +1,88 @@
-//! The search along descriptors.
+//! The search along permits.
 
-ghost use Rattle.std.specs.Prelude.{◌≡◌, ℕ, ◌<◌, ◌≤◌, ◌==◌, false, length};
+ghost use Rattle.std.specs.Prelude.{◌≡◌, ℕ, ◌<◌, ◌≤◌, ◌==◌, false, true, length, is_some};
 ghost use Rattle.asset_permits.specs.Descriptors.{arrows_for, allows_in};
-ghost use Rattle.asset_permits.specs.Searched.{taker_at, Expands};
+ghost use Rattle.asset_permits.specs.Row.{has_taker};
+ghost use Rattle.asset_permits.specs.Kept.{HaveNames, AreNoted, row_of, descriptors_of};
+ghost use Rattle.asset_permits.specs.Searched.{name_at, Meets, Expands};
 
-use crate::descriptor::Descriptor;
+use crate::given::Given;
 use crate::marks::Marks;
+use crate::rows::Rows;
 use asset_names::{Ob, Op, Txn};
 
-/// Meets the descriptors of the giver that cover `op` on `x`.
-fn meet_given(descriptors: &[Descriptor], marks: &mut Marks, giver: Txn, x: Ob, op: Op)
-    requires marked { length descriptors.now ≤ marks.old.size }
+/// Meets the row of each taker to whom something is given that covers `op` on `x`.
+fn meet_takers(rows: &Rows, given: &[Given], marks: &mut Marks, x: Ob, op: Op)
+    requires there { (t : ℕ) → has_taker t given.now ≡ true → is_some (row_of rows.now.entries t) ≡ true }
+    requires marked { length rows.now.entries ≤ marks.old.size }
     ensures size { marks.new.size ≡ marks.old.size }
-    ensures expanded { Expands (arrows_for descriptors.now x.0 op) (taker_at descriptors.now) (length descriptors.now) giver.0 marks.old.nodes marks.new.nodes }
+    ensures met { Meets rows.now.entries given.now x.0 op marks.old.nodes marks.new.nodes (length given.now) }
 {
-    'descriptors: for i in 0..descriptors.len() {
-        if descriptors[i].is_from(giver, x, op) {
-            marks.meet(i);
+    'given: for one in given {
+        if one.covers(x, op) {
+            if let Some(number) = rows.get_index_of(&one.taker()) {
+                marks.meet(number);
+            }
         }
     }
 }
 
-/// The taker of the descriptor of this number.
-#[tactic(auto, unfolding(crate::specs::Searched::taker_at))]
-fn taker_at(descriptors: &[Descriptor], number: usize) -> Txn
-    requires { number < length descriptors.now }
-    ensures { result.0 ≡ taker_at descriptors.now number }
+/// Expands the name of the row of this number.
+fn expand(rows: &Rows, number: usize, marks: &mut Marks, x: Ob, op: Op)
+    requires there { number < length rows.now.entries }
+    requires names { HaveNames rows.now.entries }
+    requires noted { AreNoted rows.now.entries }
+    requires marked { length rows.now.entries ≤ marks.old.size }
+    ensures size { marks.new.size ≡ marks.old.size }
+    ensures expanded { Expands (arrows_for (descriptors_of rows.now.entries) x.0 op) (name_at rows.now.entries) (length rows.now.entries) (name_at rows.now.entries number) marks.old.nodes marks.new.nodes }
 {
-    descriptors[number].taker()
+    match rows.get_index(number) {
+        Some((_, row)) => meet_takers(rows, &row.given, marks, x, op),
+        None => unreachable!(),
+    }
 }
 
-/// Whether a chain of descriptors that cover `op` on `x` leads from the giver to the taker, who is
-/// another.
-pub(crate) fn leads(
-    descriptors: &[Descriptor],
-    marks: &mut Marks,
-    giver: Txn,
-    taker: Txn,
-    x: Ob,
-    op: Op,
-) -> bool
-    requires marked { length descriptors.now ≤ marks.old.size }
-    requires another { (giver.0 == taker.0) ≡ false }
+/// Whether a chain of permits that cover `op` on `x` leads from the name of the first row to that of the
+/// second, which is another. It looks at the permits of the names that it meets alone, and stops once
+/// it has met the second.
+fn leads_on(rows: &Rows, from: usize, to: usize, marks: &mut Marks, x: Ob, op: Op) -> bool
+    requires from_there { from < length rows.now.entries }
+    requires to_there { to < length rows.now.entries }
+    requires names { HaveNames rows.now.entries }
+    requires noted { AreNoted rows.now.entries }
+    requires marked { length rows.now.entries ≤ marks.old.size }
+    requires another { (name_at rows.now.entries from == name_at rows.now.entries to) ≡ false }
     ensures size { marks.new.size ≡ marks.old.size }
-    ensures leads { result ≡ allows_in descriptors.now giver.0 taker.0 x.0 op }
+    ensures leads { result ≡ allows_in (descriptors_of rows.now.entries) (name_at rows.now.entries from) (name_at rows.now.entries to) x.0 op }
 {
     marks.clear();
-    meet_given(descriptors, marks, giver, x, op);
+    expand(rows, from, marks, x, op);
     let mut next = 0;
     'met: while next < marks.len() {
-        let name = taker_at(descriptors, marks.node(next));
-        if name == taker {
+        if marks.has(to) {
             return true;
         }
-        meet_given(descriptors, marks, name, x, op);
+        let node = marks.node(next);
+        expand(rows, node, marks, x, op);
         next += 1;
     }
     false
+}
+
+/// Whether a chain of permits that cover `op` on `x` leads from the giver to the taker, who is another.
+pub(crate) fn leads(rows: &Rows, marks: &mut Marks, giver: Txn, taker: Txn, x: Ob, op: Op) -> bool
+    requires names { HaveNames rows.now.entries }
+    requires noted { AreNoted rows.now.entries }
+    requires marked { length rows.now.entries ≤ marks.old.size }
+    requires another { (giver.0 == taker.0) ≡ false }
+    ensures size { marks.new.size ≡ marks.old.size }
+    ensures leads { result ≡ allows_in (descriptors_of rows.now.entries) giver.0 taker.0 x.0 op }
+{
+    let Some(from) = rows.get_index_of(&giver) else {
+        return false;
+    };
+    let Some(to) = rows.get_index_of(&taker) else {
+        return false;
+    };
+    leads_on(rows, from, to, marks, x, op)
 }

@@ -1,31 +1,47 @@
 //! The table of permits.
 
-ghost use Rattle.std.specs.Prelude.{◌≡◌, ℕ};
+ghost use Rattle.std.specs.Prelude.{◌≡◌, ℕ, ◌+◌, ◌≤◌, length, OnOk};
 
-use crate::descriptor::Descriptor;
+use crate::given::Given;
 use crate::marks::Marks;
+use crate::rows::{Rows, drop_givers, drop_takers, give, gives, note};
 use crate::search::leads;
 use asset_names::{NoMemory, Ob, ObSet, Op, Ops, Txn};
+use indexmap::IndexMap;
 use std::alloc::Global;
 use std::marker::Model;
 
-/// The permits that stand. Contracts see them as descriptors, none of which stands twice.
+/// The permits that stand. Contracts see them as descriptors, none of which stands twice; their order says
+/// nothing. Each name has what it gives in a row of its own, and keeps the row until it is dropped.
 #[derive(Drop)]
 pub struct Permits {
-    descriptors: Vec<Descriptor>,
+    rows: Rows,
     marks: Marks,
+    alloc: Global,
 }
 
 impl Model for Permits {
     ghost use Rattle.std.specs.Prelude.{List};
     ghost use Rattle.asset_permits.specs.Descriptors.{Descriptor};
-    ghost use Rattle.asset_permits.specs.Kept.{IsKept};
+    ghost use Rattle.asset_permits.specs.Kept.{IsKept, descriptors_of};
 
     ghost Value = { List Descriptor };
 
-    ghost view = { λ p. p.descriptors.items };
+    ghost view = { λ p. descriptors_of p.rows.entries };
 
-    ghost invariant = { λ p. IsKept p.descriptors.items p.marks };
+    ghost invariant = { λ p. IsKept p.rows.entries p.marks.size };
+}
+
+/// Takes the memory for the mark of one more row. Where memory runs out, nothing changes.
+fn make_mark(rows: &Rows, marks: &mut Marks) -> Result<(), NoMemory>
+    requires { length rows.now.entries ≤ marks.old.size }
+    ensures size { marks.old.size ≤ marks.new.size }
+    ensures made { OnOk result (length rows.now.entries + 1 ≤ marks.new.size) }
+{
+    if marks.size() <= rows.len() {
+        marks.grow()?;
+    }
+    Ok(())
 }
 
 impl Permits {
@@ -40,8 +56,9 @@ impl Permits {
         ensures { result ≡ [] }
     {
         Permits {
-            descriptors: Vec::new(alloc),
+            rows: IndexMap::new(alloc),
             marks: Marks::new(alloc),
+            alloc,
         }
     }
 
@@ -53,15 +70,14 @@ impl Permits {
         ensures covers { OnOk result ((u t x : ℕ) (op : Op) → one_covers self.new u t x op ≡ (one_covers self.old u t x op || (u == giver.0 && t == taker.0 && in_set objects x && has_op ops op))) }
         ensures unchanged { OnErr result (self.new ≡ self.old) }
     {
-        let descriptor = Descriptor::of(giver, taker, objects, ops);
-        if is_among(&self.descriptors, &descriptor) {
+        let given = Given::of(taker, objects, ops);
+        if gives(&self.rows, giver, &given) {
             return Ok(());
         }
-        self.marks.grow()?;
-        match self.descriptors.push(descriptor) {
-            Ok(()) => Ok(()),
-            Err(_) => Err(NoMemory),
-        }
+        make_mark(&self.rows, &mut self.marks)?;
+        note(&mut self.rows, taker, giver, self.alloc)?;
+        make_mark(&self.rows, &mut self.marks)?;
+        give(&mut self.rows, giver, given, self.alloc)
     }
 
     /// Whether the giver allows the taker to do `op` on `x`: they are one name, or a chain of permits
@@ -72,23 +88,19 @@ impl Permits {
         ensures different { AreDifferent self.old }
         ensures same { self.new ≡ self.old }
     {
-        giver == taker || leads(&self.descriptors, &mut self.marks, giver, taker, x, op)
+        giver == taker || leads(&self.rows, &mut self.marks, giver, taker, x, op)
     }
 
-    /// Drops the permits that `t` has given, and those that were given to it. It takes no memory.
+    /// Drops the permits that `t` has given, and those that were given to it. It looks at what these names
+    /// have in their rows alone, and takes no memory.
     pub fn drop_all(&mut self, t: Txn)
         ensures stands { (e : Descriptor) → stands self.new e ≡ (stands self.old e && not (e.giver == t.0) && not (e.taker == t.0)) }
         ensures covers { (u v x : ℕ) (op : Op) → one_covers self.new u v x op ≡ (one_covers self.old u v x op && not (u == t.0) && not (v == t.0)) }
     {
-        self.descriptors.retain(|d| !d.is_of(t));
+        let Some(row) = self.rows.swap_remove(&t) else {
+            return;
+        };
+        drop_takers(&mut self.rows, &row.givers, t);
+        drop_givers(&mut self.rows, &row.given, t);
     }
-}
-
-ghost use Rattle.asset_permits.specs.Descriptors.{stands};
-
-/// Whether the descriptor is among them.
-fn is_among(descriptors: &[Descriptor], descriptor: &Descriptor) -> bool
-    ensures { result ≡ stands descriptors.now descriptor.now }
-{
-    descriptors.iter().any(|d| d.is_same(descriptor))
 }

@@ -1,42 +1,37 @@
-use Rattle.std.proofs.Common.{◌≡◌, ◌<◌, ◌∙◌, eqb, sym, ap, subst, refl, get_or, length, arith}
-use Rattle.asset_permits.specs.Descriptors.{arrows_for, allows_in}
-use Rattle.asset_permits.specs.Searched.{taker_at, Expands}
-use Rattle.asset_permits.proofs.MarkLemmas.{lists_at}
-use Rattle.asset_permits.proofs.WalkLemmas.{walk_from, walk_on, walk_finds, walk_ends}
+use Rattle.std.proofs.Common.{◌≡◌, ◌∙◌, eqb, Some, is_some, sym, ap}
+use Rattle.std.specs.List.{position}
+use Rattle.std.specs.Map.{keys_of}
+use Rattle.asset_permits.specs.Descriptors.{allows_in}
+use Rattle.asset_permits.specs.Kept.{row_of, descriptors_of}
+use Rattle.asset_permits.proofs.RowLemmas.{is_name}
+use Rattle.asset_permits.proofs.SearchLemmas.{number_named, unknown_giver, unknown_taker, no_row}
 use Rattle.asset_permits.proofs.search.leads.Goals as goal
 
-pub met-init : goal.met-init
-met-init c = (c.meet_given.ensures.size ∙ c.clear.ensures.size, walk_from _ _ _ _ _ _ _ c.clear.ensures.nodes c.meet_given.ensures.expanded)
+pub returns-in_default-clause-leads : goal.returns-in_default-clause-leads
+unfolding row_of
+returns-in_default-clause-leads c =
+    let rows = c.args.rows.now.entries in
+    let none = no_row (row_of rows c.args.giver.0) (sym c.get_index_of.ensures.found ∙ ap is_some c.in_default.is) in
+    sym (unknown_giver rows c.args.giver.0 c.args.taker.0 c.args.x.0 c.args.op c.requires.names none c.requires.another)
 
-pub returns-then-eq-clause-leads : goal.returns-then-eq-clause-leads
-unfolding allows_in
-returns-then-eq-clause-leads c =
-    let nodes = c.met.marks.nodes in
-    let below : c.met.next < length nodes = omega (arith, c.met-test.true, c.len.ensures.len) in
-    let name : c.taker_at-name.result.0 ≡ taker_at c.args.descriptors.now (get_or nodes c.met.next 0) = c.taker_at-name.ensures ∙ ap (taker_at c.args.descriptors.now) c.node.ensures.node in
-    let is = ap (λ n. eqb n c.args.taker.0) (sym name) ∙ sym c.eq.ensures ∙ c.if-eq.true in
-    sym (walk_finds _ _ _ _ _ nodes c.met.next c.met.invariant.1 below is)
+pub returns-in_default-get_index_of-clause-leads : goal.returns-in_default-get_index_of-clause-leads
+unfolding row_of
+returns-in_default-get_index_of-clause-leads c =
+    let rows = c.args.rows.now.entries in
+    let none = no_row (row_of rows c.args.taker.0) (sym c.get_index_of-2.ensures.found ∙ ap is_some c.in_default-get_index_of.is) in
+    sym (unknown_taker rows c.args.giver.0 c.args.taker.0 c.args.x.0 c.args.op c.requires.names c.requires.noted none c.requires.another)
 
-pub met-preserved : goal.met-preserved
-met-preserved c =
-    let ds = c.args.descriptors.now in
-    let arrows = arrows_for ds c.args.x.0 c.args.op in
-    let nodes = c.met.marks.nodes in
-    let after = c.meet_given-in-met.new.marks.nodes in
-    let below : c.met.next < length nodes = omega (arith, c.met-test.true, c.len.ensures.len) in
-    let name : c.taker_at-name.result.0 ≡ taker_at ds (get_or nodes c.met.next 0) = c.taker_at-name.ensures ∙ ap (taker_at ds) c.node.ensures.node in
-    let other = ap (λ n. eqb n c.args.taker.0) (sym name) ∙ sym c.eq.ensures ∙ c.if-eq.false in
-    let expanded : Expands arrows (taker_at ds) (length ds) (taker_at ds (get_or nodes c.met.next 0)) nodes after = subst (λ n. Expands arrows (taker_at ds) (length ds) n nodes after) name c.meet_given-in-met.ensures.expanded in
-    (c.meet_given-in-met.ensures.size ∙ c.met.invariant.0, walk_on arrows (taker_at ds) (length ds) c.args.giver.0 c.args.taker.0 nodes after c.met.next c.met.invariant.1 below other expanded)
+pub leads_on-requires-clause-another : goal.leads_on-requires-clause-another
+leads_on-requires-clause-another c =
+    let rows = c.args.rows.now.entries in
+    let giver : position (is_name c.args.giver.0) (keys_of rows) ≡ Some c.in-Some.from = sym c.get_index_of.ensures.index ∙ c.in-Some.is in
+    let taker : position (is_name c.args.taker.0) (keys_of rows) ≡ Some c.in-Some-get_index_of.to = sym c.get_index_of-2.ensures.index ∙ c.in-Some-get_index_of.is in
+    (λ i. eqb ((number_named rows c.args.giver.0 c.in-Some.from giver).1 i) ((number_named rows c.args.taker.0 c.in-Some-get_index_of.to taker).1 i)) ∙ c.requires.another
 
 pub returns-clause-leads : goal.returns-clause-leads
-unfolding allows_in
 returns-clause-leads c =
-    sym (walk_ends _ _ _ _ _ c.met.marks.nodes c.met.next c.met.invariant.1 (omega (arith, c.met-test.false, c.len.ensures.len)) c.requires.another)
-
-pub taker_at-name-requires : goal.taker_at-name-requires
-taker_at-name-requires c =
-    let nodes = c.met.marks.nodes in
-    let below : c.met.next < length nodes = omega (arith, c.met-test.true, c.len.ensures.len) in
-    let within = c.met.invariant.1.within (get_or nodes c.met.next 0) (lists_at nodes (get_or nodes c.met.next 0) c.met.next below refl) in
-    omega (arith, within, c.node.ensures.node)
+    let rows = c.args.rows.now.entries in
+    let giver : position (is_name c.args.giver.0) (keys_of rows) ≡ Some c.in-Some.from = sym c.get_index_of.ensures.index ∙ c.in-Some.is in
+    let taker : position (is_name c.args.taker.0) (keys_of rows) ≡ Some c.in-Some-get_index_of.to = sym c.get_index_of-2.ensures.index ∙ c.in-Some-get_index_of.is in
+    c.leads_on.ensures.leads
+    ∙ (λ i. allows_in (descriptors_of rows) ((number_named rows c.args.giver.0 c.in-Some.from giver).1 i) ((number_named rows c.args.taker.0 c.in-Some-get_index_of.to taker).1 i) c.args.x.0 c.args.op)
