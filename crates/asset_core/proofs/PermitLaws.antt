@@ -15,26 +15,9 @@ use Rattle.asset_names.specs.Operations.{has_op, permits, permitted_by}
 use Rattle.asset_names.proofs.LegalLemmas.{option_or_none, IsOrderly}
 use Rattle.asset_names.proofs.LiveLemmas.{live_initiate}
 use Rattle.asset_names.proofs.PermitLemmas.{arrows_permitted}
-use Rattle.asset_permits.specs.Descriptors.{Descriptor, covers, lets, one_covers, arrows_for}
+use Rattle.asset_permits.specs.Descriptors.{one_covers}
 use Rattle.asset_core.specs.Shows.{permitted}
 use Rattle.asset_core.proofs.HistoryLemmas.{live_quiet}
-
--- the arrows of the descriptors lead as they cover
-pub arrows_cover : (descriptors : List Descriptor) (u n x : ℕ) (op : Op) → has_arrow (arrows_for descriptors x op) u n ≡ one_covers descriptors u n x op
-unfolding has_arrow arrows_for one_covers lets
-arrows_cover [] u n x op = refl
-arrows_cover (d ∷ descriptors) u n x op = go (covers x op d) (arrows_cover descriptors u n x op) where
-  rest : List Arrow
-  rest = map (λ (e : Descriptor). (e.giver, e.taker)) (filter (covers x op) descriptors)
-
-  leads : List Arrow → Bool
-  leads arrows = list_any (λ (arrow : Arrow). eqb arrow.0 u && eqb arrow.1 n) arrows
-
-  go : (covered : Bool) → leads rest ≡ list_any (λ (e : Descriptor). eqb e.giver u && eqb e.taker n && covers x op e) descriptors
-      → leads (map (λ (e : Descriptor). (e.giver, e.taker)) (cond covered (d ∷ filter (covers x op) descriptors) (filter (covers x op) descriptors)))
-      ≡ ((eqb d.giver u && eqb d.taker n && covered) || list_any (λ (e : Descriptor). eqb e.giver u && eqb e.taker n && covers x op e) descriptors)
-  go true ih = rw (← ih) (grind arith)
-  go false ih = rw (← ih) (grind arith)
 
 -- a step that initiates nobody, ends nobody and permits nothing leaves each permit
 pub permitted_quiet : (later past : List Step) → initiated later ≡ initiated past → ((n : ℕ) → end_of later n ≡ end_of past n) → ((x : ℕ) (op : Op) → permits later x op ≡ permits past x op)

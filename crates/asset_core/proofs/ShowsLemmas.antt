@@ -30,8 +30,9 @@ use Rattle.asset_locks.specs.Kept.{HaveOwners}
 use Rattle.asset_locks.specs.Table as Locks
 use Rattle.asset_trans.specs.Rows.{Entry, names_of, row_in, status_in, status_or_unknown, parent_in, parent_or_none, initiate_in, set_in, owed_in}
 use Rattle.asset_core.specs.Shows.{Shows, cell_of, cell_after, permitted}
+use Rattle.asset_permits.proofs.Laws.{arrows_stand}
 use Rattle.asset_core.specs.PermitChanges.{IsDropped, IsAdded}
-use Rattle.asset_core.proofs.PermitLaws.{arrows_cover, permitted_quiet, permitted_initiate, permitted_end, permitted_permit, permit_ends}
+use Rattle.asset_core.proofs.PermitLaws.{permitted_quiet, permitted_initiate, permitted_end, permitted_permit, permit_ends}
 use Rattle.asset_core.proofs.CellLemmas.{is_name, value_shown}
 use Rattle.asset_core.proofs.RowLaws.{names_set, status_set, parent_set, names_initiate, status_initiate_in, parent_initiate_in, row_named, row_absent, owed_by_names}
 use Rattle.asset_core.proofs.LockLaws.{carries_granted, carries_released, carries_enrolled, names_granted, names_waiting, carries_waiting, names_enrolled, names_released, free_by_locks, locks_by_free}
@@ -238,7 +239,7 @@ pub allows_shown : (opening : Opening) (past : List Step) (rows : List Entry) (o
     → allows_in descriptors u t x op ≡ reach past u t x op
 unfolding allows_in permitted
 allows_shown opening past rows objects table descriptors u t x op shows =
-    reach_by past x op (arrows_for descriptors x op) (λ m n. arrows_cover descriptors m n x op ∙ shows.permits_stand m n x op) u t
+    reach_by past x op (arrows_for descriptors x op) (λ m n. arrows_stand descriptors m n x op ∙ shows.permits_stand m n x op) u t
 
 -- who is free by the tables is free by the history
 pub free_shown : (opening : Opening) (past : List Step) (rows : List Entry) (objects : Cells) (table : Locks.Table) (descriptors : List Descriptor) (t x : ℕ) (op : Op) → Shows opening past rows objects table descriptors

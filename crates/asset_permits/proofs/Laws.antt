@@ -2,10 +2,10 @@
 use Rattle.std.proofs.Common.{◌≡◌, ℕ, Bool, true, false, cond, eqb, ◌&&◌, ◌||◌, List, [], ◌∷◌, map, filter, refl, sym, ap, subst, ◌∙◌, inl, inr}
 use Rattle.std.proofs.lemmas.Bool.{or_cases, or_left, or_right, and_from, and_parts, eqb-true, eq-eqb, false≢true}
 use Rattle.asset_names.specs.declared.operations.Op.{Op}
-use Rattle.asset_names.specs.Arrows.{Arrow, linked, Chain}
+use Rattle.asset_names.specs.Arrows.{Arrow, linked, Chain, has_arrow}
+use Rattle.asset_names.proofs.PermitLemmas.{linked_same}
 use Rattle.asset_names.proofs.Arrows.{linked_refl, linked_trans, chain_from_linked, linked_from_chain}
-use Rattle.asset_permits.specs.Descriptors.{Descriptor, covers, lets, one_covers, arrows_for, allows_in, has_arrow}
-use Rattle.asset_permits.proofs.MarkLemmas.{same_truth}
+use Rattle.asset_permits.specs.Descriptors.{Descriptor, covers, lets, one_covers, arrows_for, allows_in}
 
 -- an arrow links its two ends
 pub arrow_links : (arrows : List Arrow) (u t : ℕ) → has_arrow arrows u t ≡ true → linked arrows u t ≡ true
@@ -39,15 +39,6 @@ closed_linked test (arrow ∷ arrows) closed a b h at =
           let from = closed_linked test arrows rest a arrow.0 parts.0 at in
           closed_linked test arrows rest arrow.1 b parts.1 (closed arrow.0 arrow.1 (or_left _ _ (and_from (eqb arrow.0 arrow.0) (eqb arrow.1 arrow.1) (eq-eqb arrow.0 arrow.0 refl) (eq-eqb arrow.1 arrow.1 refl))) from)
     ]
-
--- equal arrows, in whichever order and however often, link alike
-pub linked_same : (arrows others : List Arrow) → ((u t : ℕ) → has_arrow arrows u t ≡ has_arrow others u t) → (a b : ℕ) → linked arrows a b ≡ linked others a b
-linked_same arrows others same a b =
-    same_truth (linked arrows a b) (linked others a b) (one_way arrows others same a b) (one_way others arrows (λ u t. sym (same u t)) a b)
-  where
-    one_way : (some more : List Arrow) → ((u t : ℕ) → has_arrow some u t ≡ has_arrow more u t) → (a b : ℕ) → linked some a b ≡ true → linked more a b ≡ true
-    one_way some more equal a b h =
-        closed_linked (linked more a) some (λ u t arrow way. linked_step more a u t way (sym (equal u t) ∙ arrow)) a b h (linked_refl more a)
 
 -- the arrows are those of the descriptors that cover
 and_true : (p : Bool) → (p && true) ≡ p

@@ -10,8 +10,8 @@ use Rattle.std.proofs.lemmas.Map.Entries.{length-keys_of}
 use Rattle.std.proofs.lemmas.Option.{get_or_from_slice_get}
 use Rattle.asset_names.specs.declared.names.Txn.{Txn}
 use Rattle.asset_names.specs.declared.operations.Op.{Op}
-use Rattle.asset_names.specs.Arrows.{linked, lists}
-use Rattle.asset_permits.specs.Descriptors.{Descriptor, Given, given_by, covers, covers_given, lets, one_covers, arrows_for, allows_in, has_arrow}
+use Rattle.asset_names.specs.Arrows.{linked, lists, has_arrow}
+use Rattle.asset_permits.specs.Descriptors.{Descriptor, Given, given_by, covers, covers_given, lets, one_covers, arrows_for, allows_in}
 use Rattle.asset_permits.specs.Row.{has_giver, has_taker}
 use Rattle.asset_permits.specs.Kept.{Entry, row_of, givers_in, descriptors_of, is_to, HaveNames, AreNoted, given_in}
 use Rattle.asset_permits.specs.Searched.{name_at, Meets, Expands}

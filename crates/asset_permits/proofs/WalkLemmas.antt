@@ -4,9 +4,8 @@ use Rattle.std.specs.List.{list_any}
 use Rattle.std.proofs.lemmas.Bool.{or_cases, or_left, or_right, eqb-true, eq-eqb, false≢true, true≢false, false_from_ne_true, cases_eq}
 use Rattle.std.proofs.lemmas.List.{length-append, get_or_append_left}
 use Rattle.std.proofs.lemmas.List.Folds.{list_any-append, list_any_at}
-use Rattle.asset_names.specs.Arrows.{Arrow, linked, lists}
+use Rattle.asset_names.specs.Arrows.{Arrow, linked, lists, has_arrow}
 use Rattle.asset_names.proofs.Arrows.{linked_refl}
-use Rattle.asset_permits.specs.Descriptors.{has_arrow}
 use Rattle.asset_permits.specs.Searched.{Expands}
 use Rattle.asset_permits.proofs.Laws.{linked_step, closed_linked}
 use Rattle.asset_permits.proofs.MarkLemmas.{listed_at, lists_at}

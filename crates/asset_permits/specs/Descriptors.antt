@@ -80,7 +80,3 @@ arrows_for descriptors x op = map (λ (d : Descriptor). (d.giver, d.taker)) (fil
 -- stand leads from the one to the other, each of which covers op on x
 unfoldable pub allows_in : List Descriptor → ℕ → ℕ → ℕ → Op → Bool
 allows_in descriptors giver taker x op = linked (arrows_for descriptors x op) giver taker
-
--- whether there is an arrow from the first name to the second
-unfoldable pub has_arrow : List Arrow → ℕ → ℕ → Bool
-has_arrow arrows u t = list_any (λ (arrow : Arrow). arrow.0 == u && arrow.1 == t) arrows

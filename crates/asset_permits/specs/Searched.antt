@@ -2,8 +2,8 @@
 use Rattle.std.specs.Prelude.{◌≡◌, ℕ, ◌<◌, ◌++◌, ◌==◌, ◌&&◌, true, List, length, Some, slice_get, option_map, unwrap_or}
 use Rattle.std.specs.List.{list_any}
 use Rattle.asset_names.specs.declared.operations.Op.{Op}
-use Rattle.asset_names.specs.Arrows.{Arrow, lists}
-use Rattle.asset_permits.specs.Descriptors.{Given, covers_given, has_arrow}
+use Rattle.asset_names.specs.Arrows.{Arrow, lists, has_arrow}
+use Rattle.asset_permits.specs.Descriptors.{Given, covers_given}
 use Rattle.asset_permits.specs.Kept.{Entry}
 
 -- the name of the row of this number
