@@ -129,9 +129,74 @@ def hot_readers(steps, seed):
     return script
 
 
+def permit_chains(steps, seed, length):
+    """Chains of so many names, each of which permits the next; the last writes what the first wrote, and all end."""
+    script = Script(steps, seed, 2000)
+    while script.has_room(6 * length + 4):
+        names = [script.start() for _ in range(length)]
+        x = script.object()
+        script.say(f"write {names[0]} {x} 1")
+        for giver, taker in zip(names, names[1:]):
+            script.say(f"permit {giver} {taker} rw {x}")
+        script.say(f"write {names[-1]} {x} 2")
+        script.say(f"read {names[-1]} {x}")
+        for name in reversed(names):
+            script.finish(name)
+    return script
+
+
+def chains_of_2(steps, seed):
+    return permit_chains(steps, seed, 2)
+
+
+def chains_of_8(steps, seed):
+    return permit_chains(steps, seed, 8)
+
+
+def chains_of_64(steps, seed):
+    return permit_chains(steps, seed, 64)
+
+
+def standing_permits(steps, seed):
+    """Pairs of names, thousands of them live at once, permit one another three objects; each writes what the other wrote."""
+    script = Script(steps, seed, 20_000)
+    while script.has_room(16):
+        pairs = []
+        while script.has_room(16) and len(pairs) < 2500:
+            one, other = script.start(), script.start()
+            objects = sorted({script.object() for _ in range(3)})
+            listed = ",".join(map(str, objects))
+            script.say(f"permit {one} {other} rw {listed}")
+            script.say(f"permit {other} {one} r all")
+            script.say(f"permit {one} {other} w all")
+            pairs.append((one, other, objects))
+            script.left -= 3
+        for one, other, objects in pairs:
+            script.left += 3
+            script.say(f"write {one} {objects[0]} 1")
+            script.say(f"write {other} {objects[0]} 2")
+            script.say(f"read {one} {objects[-1]}")
+        for one, other, _ in pairs:
+            script.finish(one)
+            script.finish(other, "abort")
+    return script
+
+
 WORKLOADS = {
     workload.__name__: workload
-    for workload in [one_after_another, interleaved, hot_objects, half_abort, many_objects, many_alive, hot_readers]
+    for workload in [
+        one_after_another,
+        interleaved,
+        hot_objects,
+        half_abort,
+        many_objects,
+        many_alive,
+        hot_readers,
+        chains_of_2,
+        chains_of_8,
+        chains_of_64,
+        standing_permits,
+    ]
 }
 
 

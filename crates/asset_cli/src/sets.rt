@@ -14,8 +14,11 @@ const MOST: usize = 16;
 
 // The words that name operations, and the one that names all objects.
 const READ: &[u8] = b"r";
+
 const WRITE: &[u8] = b"w";
+
 const BOTH: &[u8] = b"rw";
+
 const ALL: &[u8] = b"all";
 
 /// The operations that a word writes.

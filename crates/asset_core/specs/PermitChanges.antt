@@ -14,4 +14,3 @@ IsDropped t before later = (u n x : ℕ) (op : Op) → one_covers later u n x op
 abbrev pub IsAdded : ℕ → ℕ → ObSet → Bool × Bool → List Descriptor → List Descriptor → Type 0
 IsAdded giver taker obs ops before later =
     (u n x : ℕ) (op : Op) → one_covers later u n x op ≡ (one_covers before u n x op || (u == giver && n == taker && in_set obs x && has_op ops op))
-

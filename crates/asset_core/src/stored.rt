@@ -19,38 +19,16 @@ pub(crate) struct PermitAsked {
 /// A step as its entry stores it.
 #[derive(Clone, Copy)]
 pub(crate) enum Stored {
-    Initiate {
-        t: Txn,
-        parent: Option<Txn>,
-    },
-    Begin {
-        t: Txn,
-    },
-    Read {
-        t: Txn,
-        x: Ob,
-    },
-    Write {
-        t: Txn,
-        x: Ob,
-        v: i64,
-    },
-    Complete {
-        t: Txn,
-    },
-    Commit {
-        t: Txn,
-    },
-    Abort {
-        t: Txn,
-    },
-    WaitFor {
-        t: Txn,
-    },
+    Initiate { t: Txn, parent: Option<Txn> },
+    Begin { t: Txn },
+    Read { t: Txn, x: Ob },
+    Write { t: Txn, x: Ob, v: i64 },
+    Complete { t: Txn },
+    Commit { t: Txn },
+    Abort { t: Txn },
+    WaitFor { t: Txn },
     /// The permit of this number among those that stand beside.
-    Permit {
-        number: usize,
-    },
+    Permit { number: usize },
 }
 
 impl Stored {

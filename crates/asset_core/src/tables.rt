@@ -88,7 +88,10 @@ impl Tables {
             Step::Write { t, x, .. } => self.refusal_to_use(t, x),
             Step::Complete { t } => refusal_to_work(t, self.trans.status(t)),
             Step::Permit {
-                giver, taker, obs, ..
+                giver,
+                taker,
+                obs,
+                ..
             } => self.refusal_to_permit(giver, taker, &obs),
             Step::Commit { t } => refusal_to_find(t, self.trans.status(t)),
             Step::WaitFor { t } => refusal_to_find(t, self.trans.status(t)),

@@ -145,7 +145,10 @@ fn permitted_writer_suspends_the_giver(rt: HostRuntime) -> Result<(), Fail> {
     let mut three = Three::new(&rt, Op::Write)?;
     three.seven_permits_eight()?;
     assert_eq!(rt; three.eight_asks(1, Op::Write), Ok(Asked::Granted));
-    assert_eq!(rt; three.locks.status(Txn(7), Ob(1)), Some(LockState::Suspended));
+    assert_eq!(rt;
+        three.locks.status(Txn(7), Ob(1)),
+        Some(LockState::Suspended)
+    );
     assert_eq!(rt; three.locks.status(Txn(8), Ob(1)), Some(LockState::Granted));
     assert!(rt; !three.is_free_for_seven(Op::Read));
     assert_eq!(rt; three.nine_asks(1, Op::Read), Ok(Asked::Pending));

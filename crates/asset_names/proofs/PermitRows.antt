@@ -46,14 +46,14 @@ CooperatingWriteUndone = Row
 abbrev PermitChain : Type 0
 PermitChain = Row
     (three_run ++ Write (t 7) (x 1) (pos 11) ∷ Write (t 7) (x 2) (pos 22) ∷ Write (t 7) (x 3) (pos 33) ∷ Permit (t 7) (t 8) (Listed (x 1 ∷ x 2 ∷ [])) rw_ ∷ Permit (t 8) (t 9) (Listed (x 2 ∷ x 3 ∷ [])) r_
-        ∷ Read (t 9) (x 2) ∷ Read (t 9) (x 1) ∷ Write (t 9) (x 2) (pos 5) ∷ Read (t 9) (x 3) ∷ Complete (t 8) ∷ Commit (t 8) ∷ Read (t 9) (x 2) ∷ [])
+    ∷ Read (t 9) (x 2) ∷ Read (t 9) (x 1) ∷ Write (t 9) (x 2) (pos 5) ∷ Read (t 9) (x 3) ∷ Complete (t 8) ∷ Commit (t 8) ∷ Read (t 9) (x 2) ∷ [])
     (six_ok ++ ok ∷ ok ∷ ok ∷ ok ∷ ok ∷ Answer (Value (pos 22)) ∷ Wait ∷ Wait ∷ Wait ∷ ok ∷ Answer Committed ∷ Wait ∷ [])
 
 -- which refusal of a permit comes first
 abbrev PermitsRefused : Type 0
 PermitsRefused = Row
     (Permit (t 5) (t 5) (Listed (x 9 ∷ [])) r_ ∷ Permit (t 5) (t 6) (Listed (x 9 ∷ [])) r_ ∷ Initiate (t 5) None ∷ Permit (t 5) (t 6) (Listed (x 9 ∷ [])) r_ ∷ Initiate (t 6) None ∷ Permit (t 5) (t 6) (Listed (x 1 ∷ x 8 ∷ x 9 ∷ [])) r_ ∷ Permit (t 5) (t 6) All r_
-        ∷ Abort (t 6) ∷ Permit (t 5) (t 6) (Listed (x 9 ∷ [])) r_ ∷ Abort (t 5) ∷ Permit (t 5) (t 6) All r_ ∷ [])
+    ∷ Abort (t 6) ∷ Permit (t 5) (t 6) (Listed (x 9 ∷ [])) r_ ∷ Abort (t 5) ∷ Permit (t 5) (t 6) All r_ ∷ [])
     (refused Same ∷ refused (Unknown (t 5)) ∷ ok ∷ refused (Unknown (t 6)) ∷ ok ∷ refused (NoObject (x 8)) ∷ ok ∷ Answer Aborted ∷ refused (Ended (t 6)) ∷ Answer Aborted ∷ refused (Ended (t 5)) ∷ [])
 
 permit_rows : CooperatingWriteSurvives × CooperatingWriteUndone × PermitChain × PermitsRefused

@@ -28,11 +28,13 @@ rises_pairs [] h = tt
 rises_pairs (x ∷ []) h = (λ m listed. absurd (false≢true listed), tt)
 rises_pairs (x ∷ y ∷ objects) h =
     let next : x.0 < y.0 = h 0 1 0 (omega arith) (omega arith) in
-    let rest = rises_pairs (y ∷ objects) (λ i j d lt within. h (suc i) (suc j) d (omega (arith, lt)) (omega (arith, within))) in
-    (λ m listed. elim (or_cases (eqb y.0 m) _ listed) [
-      | inl here ↦ omega (arith, next, eqb-true y.0 m here)
-      | inr later ↦ omega (arith, next, rest.0 m later)
-    ], rest)
+    let rest = rises_pairs (y ∷ objects) (λ i j d lt within. h (suc i) (suc j) d (omega (arith, lt)) (omega (arith, within))) in (
+      λ m listed. elim (or_cases (eqb y.0 m) _ listed) [
+        | inl here ↦ omega (arith, next, eqb-true y.0 m here)
+        | inr later ↦ omega (arith, next, rest.0 m later)
+      ],
+      rest,
+    )
 
 -- a list that rises does not list what is not above its first
 not_after : (n m : ℕ) (objects : List Ob) → Above n objects → m ≤ n → lists (numbers objects) m ≡ false
@@ -87,14 +89,20 @@ put_in_rises x (y ∷ objects) up new = go (ltb x.0 y.0) refl (put_in_rises x ob
   parts = or_parts (eqb y.0 x.0) (lists (numbers objects) x.0) new
 
   go : (before : Bool) → ltb x.0 y.0 ≡ before → Rises (put_in x objects) → Rises (cond before (x ∷ y ∷ objects) (y ∷ put_in x objects))
-  go true e rest = (λ m listed. elim (or_cases (eqb y.0 m) _ listed) [
-    | inl here ↦ omega (arith, ltb-true x.0 y.0 e, eqb-true y.0 m here)
-    | inr later ↦ omega (arith, ltb-true x.0 y.0 e, up.0 m later)
-  ], up)
-  go false e rest = (λ m listed. elim (or_cases (eqb x.0 m) _ (sym (put_in_lists x objects m) ∙ listed)) [
-    | inl here ↦ omega (arith, ltb-false x.0 y.0 e, eqb-true x.0 m here, eqb-false y.0 x.0 parts.0)
-    | inr later ↦ up.0 m later
-  ], rest)
+  go true e rest = (
+    λ m listed. elim (or_cases (eqb y.0 m) _ listed) [
+      | inl here ↦ omega (arith, ltb-true x.0 y.0 e, eqb-true y.0 m here)
+      | inr later ↦ omega (arith, ltb-true x.0 y.0 e, up.0 m later)
+    ],
+    up,
+  )
+  go false e rest = (
+    λ m listed. elim (or_cases (eqb x.0 m) _ (sym (put_in_lists x objects m) ∙ listed)) [
+      | inl here ↦ omega (arith, ltb-false x.0 y.0 e, eqb-true x.0 m here, eqb-false y.0 x.0 parts.0)
+      | inr later ↦ up.0 m later
+    ],
+    rest,
+  )
 
 -- what is listed is counted
 lists_counted : (ns : List ℕ) (n : ℕ) → lists ns n ≡ ltb 0 (count_by (λ m. eqb m n) ns)

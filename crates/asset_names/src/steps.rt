@@ -19,15 +19,29 @@ pub enum Kind {
 #[derive(Clone, Copy, Debug, PartialEq, Eq)]
 pub enum Step {
     /// Registers the transaction `t`. A parent may be named, whatever it is: nothing depends on it.
-    Initiate { t: Txn, parent: Option<Txn> },
+    Initiate {
+        t: Txn,
+        parent: Option<Txn>,
+    },
     /// Starts `t`.
-    Begin { t: Txn },
+    Begin {
+        t: Txn,
+    },
     /// Locks `x` for reading and reads it.
-    Read { t: Txn, x: Ob },
+    Read {
+        t: Txn,
+        x: Ob,
+    },
     /// Locks `x` for writing and writes `v` to it.
-    Write { t: Txn, x: Ob, v: i64 },
+    Write {
+        t: Txn,
+        x: Ob,
+        v: i64,
+    },
     /// `t` has done its work.
-    Complete { t: Txn },
+    Complete {
+        t: Txn,
+    },
     /// The giver lets the taker do the operations on the objects although they conflict with its own.
     Permit {
         giver: Txn,
@@ -36,9 +50,15 @@ pub enum Step {
         ops: Ops,
     },
     /// Commits `t`.
-    Commit { t: Txn },
+    Commit {
+        t: Txn,
+    },
     /// Aborts `t`.
-    Abort { t: Txn },
+    Abort {
+        t: Txn,
+    },
     /// Asks whether `t` has completed or ended.
-    WaitFor { t: Txn },
+    WaitFor {
+        t: Txn,
+    },
 }

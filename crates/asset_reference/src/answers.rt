@@ -52,10 +52,8 @@ fn unrefused(opening: &[(Ob, i64)], entries: &[(Step, Reply)], step: &Step) -> O
     ensures { result ≡ unrefused opening.now (deeds (reverse entries.now)) step.now }
 {
     match *step {
-        Step::Initiate { .. }
-        | Step::Begin { .. }
-        | Step::Complete { .. }
-        | Step::Permit { .. } => Outcome::Answer(Reply::Done),
+        Step::Initiate { .. } | Step::Begin { .. } | Step::Complete { .. } | Step::Permit { .. } =>
+            Outcome::Answer(Reply::Done),
         Step::Read { t, x } if is_free(entries, t, x, Op::Read) => {
             Outcome::Answer(Reply::Value(current_value(opening, entries, x)))
         }

@@ -38,12 +38,7 @@ fn permit_by(entries: &[(Step, Reply)], step: &Step, x: Ob, op: Op) -> Option<(T
 
 /// The giver and the taker of an entry that permits `op` on `x`, if both are live.
 #[tactic(auto, unfolding(crate::specs::Scans::arrows_of), using(crate::proofs::ScanLemmas::permits_at_entry))]
-fn permit_of(
-    entries: &[(Step, Reply)],
-    entry: &(Step, Reply),
-    x: Ob,
-    op: Op,
-) -> Option<(Txn, Txn)>
+fn permit_of(entries: &[(Step, Reply)], entry: &(Step, Reply), x: Ob, op: Op) -> Option<(Txn, Txn)>
     ensures { (older : List Entry) →
         among (live (deeds (reverse entries.now))) (permits (deeds (entry.now ∷ older)) x.0 op)
         ≡ arrows_of result ++ among (live (deeds (reverse entries.now))) (permits (deeds older) x.0 op) }
@@ -57,13 +52,7 @@ fn permit_of(
 
 /// Whether one allows another by the permits of the first entries of this number: without the newest of them, or
 /// by going along it once.
-fn reaches_by(
-    entries: &[(Step, Reply)],
-    count: usize,
-    ends: (Txn, Txn),
-    x: Ob,
-    op: Op,
-) -> bool
+fn reaches_by(entries: &[(Step, Reply)], count: usize, ends: (Txn, Txn), x: Ob, op: Op) -> bool
     requires { count ≤ length entries.now }
     ensures { result ≡ linked (among (live (deeds (reverse entries.now))) (permits (deeds (reverse (take count entries.now))) x.0 op)) ends.0.0 ends.1.0 }
 {

@@ -25,7 +25,10 @@ pub fn refusal(opening: &[(Ob, i64)], entries: &[(Step, Reply)], step: &Step) ->
         }
         Step::Complete { t } => refusal_to_work(t, status_after(entries, t)),
         Step::Permit {
-            giver, taker, obs, ..
+            giver,
+            taker,
+            obs,
+            ..
         } => refusal_to_permit(
             giver,
             status_after(entries, giver),

@@ -63,10 +63,8 @@ impl Track {
             Step::Complete { t: named } => next.completed = named == t || self.completed,
             Step::Commit { t: named } => next.end = self.ended(named, t, End::Committed),
             Step::Abort { t: named } => next.end = self.ended(named, t, End::Aborted),
-            Step::Read { .. }
-            | Step::Write { .. }
-            | Step::Permit { .. }
-            | Step::WaitFor { .. } => {}
+            Step::Read { .. } | Step::Write { .. } | Step::Permit { .. } | Step::WaitFor { .. } =>
+                {}
         }
         next
     }

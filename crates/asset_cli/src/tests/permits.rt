@@ -6,7 +6,8 @@ use std::test::Fail;
 /// A permitted write stands when the giver of the permit aborts.
 #[test]
 fn cooperating_write_survives(rt: HostRuntime) -> Result<(), Fail> {
-    let script = b"object 1 100\nobject 2 200\nobject 3 300\ninitiate 7\nbegin 7\ninitiate 8\nbegin 8\n\
+    let script =
+        b"object 1 100\nobject 2 200\nobject 3 300\ninitiate 7\nbegin 7\ninitiate 8\nbegin 8\n\
         initiate 9\nbegin 9\nwrite 7 1 50\npermit 7 8 rw 1\nwrite 8 1 60\nabort 7\nread 8 1\n\
         abort 8\nread 9 1\n";
     let text = "ok\nok\nok\nok\nok\nok\nok\nok\nok\naborted\n60\naborted\n100\n";
@@ -16,7 +17,8 @@ fn cooperating_write_survives(rt: HostRuntime) -> Result<(), Fail> {
 /// The permitted writer aborts, and the giver reads its own write again.
 #[test]
 fn cooperating_write_undone(rt: HostRuntime) -> Result<(), Fail> {
-    let script = b"object 1 100\nobject 2 200\nobject 3 300\ninitiate 7\nbegin 7\ninitiate 8\nbegin 8\n\
+    let script =
+        b"object 1 100\nobject 2 200\nobject 3 300\ninitiate 7\nbegin 7\ninitiate 8\nbegin 8\n\
         initiate 9\nbegin 9\nwrite 7 1 50\npermit 7 8 rw 1\nwrite 8 1 60\nread 7 1\nabort 8\n\
         read 7 1\nabort 7\nread 9 1\n";
     let text = "ok\nok\nok\nok\nok\nok\nok\nok\nok\nwait\naborted\n50\naborted\n100\n";
@@ -26,7 +28,8 @@ fn cooperating_write_undone(rt: HostRuntime) -> Result<(), Fail> {
 /// A chain of permits covers what each of them covers.
 #[test]
 fn permit_chain(rt: HostRuntime) -> Result<(), Fail> {
-    let script = b"object 1 100\nobject 2 200\nobject 3 300\ninitiate 7\nbegin 7\ninitiate 8\nbegin 8\n\
+    let script =
+        b"object 1 100\nobject 2 200\nobject 3 300\ninitiate 7\nbegin 7\ninitiate 8\nbegin 8\n\
         initiate 9\nbegin 9\nwrite 7 1 11\nwrite 7 2 22\nwrite 7 3 33\npermit 7 8 rw 1,2\n\
         permit 8 9 r 2,3\nread 9 2\nread 9 1\nwrite 9 2 5\nread 9 3\n";
     let text = "ok\nok\nok\nok\nok\nok\nok\nok\nok\nok\nok\n22\nwait\nwait\nwait\n";
@@ -36,7 +39,8 @@ fn permit_chain(rt: HostRuntime) -> Result<(), Fail> {
 /// A chain breaks when a name in its middle ends.
 #[test]
 fn chain_broken_by_end(rt: HostRuntime) -> Result<(), Fail> {
-    let script = b"object 1 100\nobject 2 200\nobject 3 300\ninitiate 7\nbegin 7\ninitiate 8\nbegin 8\n\
+    let script =
+        b"object 1 100\nobject 2 200\nobject 3 300\ninitiate 7\nbegin 7\ninitiate 8\nbegin 8\n\
         initiate 9\nbegin 9\nwrite 7 1 11\nwrite 7 2 22\nwrite 7 3 33\npermit 7 8 rw 1,2\n\
         permit 8 9 r 2,3\ncomplete 8\ncommit 8\nread 9 2\n";
     let text = "ok\nok\nok\nok\nok\nok\nok\nok\nok\nok\nok\nok\ncommitted\nwait\n";
@@ -46,7 +50,8 @@ fn chain_broken_by_end(rt: HostRuntime) -> Result<(), Fail> {
 /// A list of sixteen objects; the least that does not exist is named.
 #[test]
 fn sixteen_objects(rt: HostRuntime) -> Result<(), Fail> {
-    let script = b"object 1 100\nobject 2 200\nobject 3 300\ninitiate 7\nbegin 7\ninitiate 8\nbegin 8\n\
+    let script =
+        b"object 1 100\nobject 2 200\nobject 3 300\ninitiate 7\nbegin 7\ninitiate 8\nbegin 8\n\
         write 7 1 -9223372036854775808\nread 7 1\n\
         permit 7 8 r 1,2,3,4,5,6,7,8,9,10,11,12,13,14,15,16\n";
     let text = "ok\nok\nok\nok\nok\n-9223372036854775808\nrefused no object 4\n";
@@ -56,18 +61,21 @@ fn sixteen_objects(rt: HostRuntime) -> Result<(), Fail> {
 /// A list of seventeen objects is bad.
 #[test]
 fn seventeen_objects(rt: HostRuntime) -> Result<(), Fail> {
-    let script = b"object 1 100\nobject 2 200\nobject 3 300\ninitiate 7\nbegin 7\ninitiate 8\nbegin 8\n\
+    let script =
+        b"object 1 100\nobject 2 200\nobject 3 300\ninitiate 7\nbegin 7\ninitiate 8\nbegin 8\n\
         write 7 1 -9223372036854775808\nread 7 1\n\
         permit 7 8 r 1,2,3,4,5,6,7,8,9,10,11,12,13,14,15,16\n\
         permit 7 8 r 1,2,3,4,5,6,7,8,9,10,11,12,13,14,15,16,17\n";
-    let text = "ok\nok\nok\nok\nok\n-9223372036854775808\nrefused no object 4\nline 11: bad command\n";
+    let text =
+        "ok\nok\nok\nok\nok\n-9223372036854775808\nrefused no object 4\nline 11: bad command\n";
     expect(&rt, script, text, RunEnd::BadLine(11))
 }
 
 /// A committed write stands over an earlier one that is aborted.
 #[test]
 fn committed_over_aborted(rt: HostRuntime) -> Result<(), Fail> {
-    let script = b"object 1 100\nobject 2 200\nobject 3 300\ninitiate 7\nbegin 7\ninitiate 8\nbegin 8\n\
+    let script =
+        b"object 1 100\nobject 2 200\nobject 3 300\ninitiate 7\nbegin 7\ninitiate 8\nbegin 8\n\
         initiate 9\nbegin 9\nwrite 7 1 50\npermit 7 8 rw 1\nwrite 8 1 60\ncomplete 8\ncommit 8\n\
         abort 7\nread 9 1\n";
     let text = "ok\nok\nok\nok\nok\nok\nok\nok\nok\nok\ncommitted\naborted\n60\n";
@@ -77,7 +85,8 @@ fn committed_over_aborted(rt: HostRuntime) -> Result<(), Fail> {
 /// A refused permit changes nothing.
 #[test]
 fn refused_permit_joins(rt: HostRuntime) -> Result<(), Fail> {
-    let script = b"object 1 100\nobject 2 200\nobject 3 300\ninitiate 7\nbegin 7\ninitiate 9\nbegin 9\n\
+    let script =
+        b"object 1 100\nobject 2 200\nobject 3 300\ninitiate 7\nbegin 7\ninitiate 9\nbegin 9\n\
         abort 9\npermit 7 9 r 1\ncomplete 7\ncommit 7\n";
     let text = "ok\nok\nok\nok\naborted\nrefused ended 9\nok\ncommitted\n";
     expect(&rt, script, text, RunEnd::Finished)

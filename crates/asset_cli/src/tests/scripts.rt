@@ -91,12 +91,16 @@ fn script_is_cut_at_line_feeds(rt: HostRuntime) {
 /// The permit of 7 for 8 that a line asks for, as its objects and whether it has each operation.
 fn permit_of(text: &str) -> Option<(ObSet, bool, bool)> {
     match Line::parse(text.as_bytes()) {
-        Line::Command(Command::Ask(Step::Permit {
-            giver: Txn(7),
-            taker: Txn(8),
-            obs,
-            ops,
-        })) => Some((obs, ops.has(Op::Read), ops.has(Op::Write))),
+        Line::Command(
+            Command::Ask(
+                Step::Permit {
+                    giver: Txn(7),
+                    taker: Txn(8),
+                    obs,
+                    ops,
+                },
+            ),
+        ) => Some((obs, ops.has(Op::Read), ops.has(Op::Write))),
         _ => None,
     }
 }

@@ -39,5 +39,10 @@ pub returns : goal.returns
 unfolding with_entry
 returns c =
     let count : c.len.result ≡ length c.self.inside.permits.items = omega (arith, c.len.ensures) in
-    rw (← c.self.view_is, rw c.unwrap.ensures at c.push.ensures.items, c.put_beside.ensures.items, c.of-stored.ensures,
-    past_appended c.args.step.now c.args.reply c.self.inside.permits.items c.self.inside.entries.items c.len.result count c.self.invariant.there)
+    rw (
+      ← c.self.view_is,
+      rw c.unwrap.ensures at c.push.ensures.items,
+      c.put_beside.ensures.items,
+      c.of-stored.ensures,
+      past_appended c.args.step.now c.args.reply c.self.inside.permits.items c.self.inside.entries.items c.len.result count c.self.invariant.there,
+    )
