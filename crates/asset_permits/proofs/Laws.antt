@@ -1,8 +1,9 @@
 -- Laws of who allows whom, for the tables above.
 use Rattle.std.proofs.Common.{◌≡◌, ℕ, Bool, true, false, cond, eqb, ◌&&◌, ◌||◌, List, [], ◌∷◌, map, filter, refl, sym, ap, subst, ◌∙◌, inl, inr}
 use Rattle.std.proofs.lemmas.Bool.{or_cases, or_left, or_right, and_from, and_parts, eqb-true, eq-eqb, false≢true}
+use Rattle.std.proofs.lemmas.Map.Views.{any-filter_same}
 use Rattle.asset_names.specs.declared.operations.Op.{Op}
-use Rattle.asset_names.specs.Arrows.{Arrow, linked, Chain}
+use Rattle.asset_names.specs.Arrows.{Arrow, linked, among, Chain}
 use Rattle.asset_names.proofs.Arrows.{linked_refl, linked_trans, chain_from_linked, linked_from_chain}
 use Rattle.asset_permits.specs.Descriptors.{Descriptor, covers, lets, one_covers, arrows_for, allows_in, has_arrow}
 use Rattle.asset_permits.proofs.MarkLemmas.{same_truth}
@@ -93,3 +94,19 @@ chain_from_allowed descriptors u t x op h = chain_from_linked (arrows_for descri
 pub allowed_from_chain : (descriptors : List Descriptor) (u t x : ℕ) (op : Op) → Chain (arrows_for descriptors x op) u t → allows_in descriptors u t x op ≡ true
 unfolding allows_in
 allowed_from_chain descriptors u t x op h = linked_from_chain (arrows_for descriptors x op) u t h
+
+-- the arrows among those who pass a test
+pub arrow_among : (test : ℕ → Bool) (arrows : List Arrow) (u t : ℕ) → has_arrow (among test arrows) u t ≡ (test u && test t && has_arrow arrows u t)
+unfolding has_arrow among
+arrow_among test arrows u t =
+    any-filter_same (λ (arrow : Arrow). eqb arrow.0 u && eqb arrow.1 t) (λ (arrow : Arrow). test arrow.0 && test arrow.1) (test u && test t)
+    (λ arrow here.
+    let ends = and_parts (eqb arrow.0 u) (eqb arrow.1 t) here in
+    λ i. test (eqb-true arrow.0 u ends.0 i) && test (eqb-true arrow.1 t ends.1 i))
+    arrows
+
+-- who allows whom, where the descriptors are the arrows among those who pass a test
+pub allowed_among : (descriptors : List Descriptor) (test : ℕ → Bool) (arrows : List Arrow) (x : ℕ) (op : Op)
+    → ((u t : ℕ) → one_covers descriptors u t x op ≡ (test u && test t && has_arrow arrows u t)) → (u t : ℕ) → allows_in descriptors u t x op ≡ linked (among test arrows) u t
+allowed_among descriptors test arrows x op same u t =
+    allowed_by_arrows descriptors (among test arrows) x op (λ v w. arrow_among test arrows v w ∙ sym (same v w)) u t
