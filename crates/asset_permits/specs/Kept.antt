@@ -15,26 +15,29 @@ Entry = Txn × Row
 unfoldable pub row_of : List Entry → ℕ → Option Row
 row_of rows u = lookup (λ (name : Txn). u == name.0) rows
 
--- what a name gives
+-- what a name gives by its row, if it has one
 unfoldable pub given_or_none : ℕ → Option Row → List Descriptor
 given_or_none u None = []
 given_or_none u (Some row) = map (given_by u) row.given.items
 
+-- what a name gives
 unfoldable pub given_in : List Entry → ℕ → List Descriptor
 given_in rows u = given_or_none u (row_of rows u)
 
--- who has given something to a name, as its row has it
+-- who is noted in a row, if there is one
 unfoldable pub givers_or_none : Option Row → List Txn
 givers_or_none None = []
 givers_or_none (Some row) = row.givers.items
 
+-- who is noted to have given something to a name
 unfoldable pub givers_in : List Entry → ℕ → List Txn
 givers_in rows t = givers_or_none (row_of rows t)
 
--- the permits of all rows
+-- the permits of a name with its row
 unfoldable pub given_of : Entry → List Descriptor
 given_of entry = map (given_by entry.0.0) entry.1.given.items
 
+-- the permits of all rows
 unfoldable pub descriptors_of : List Entry → List Descriptor
 descriptors_of rows = flat_map given_of rows
 
