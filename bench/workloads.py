@@ -158,7 +158,7 @@ def chains_of_64(steps, seed):
 
 
 def standing_permits(steps, seed):
-    """Pairs of names, thousands of them live at once, permit one another three objects; each writes what the other wrote."""
+    """Pairs of names, thousands of them live at once, with three permits each; one writes over what the other wrote."""
     script = Script(steps, seed, 20_000)
     while script.has_room(16):
         pairs = []

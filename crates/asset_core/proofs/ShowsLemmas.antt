@@ -30,7 +30,7 @@ use Rattle.asset_locks.specs.Kept.{HaveOwners}
 use Rattle.asset_locks.specs.Table as Locks
 use Rattle.asset_trans.specs.Rows.{Entry, names_of, row_in, status_in, status_or_unknown, parent_in, parent_or_none, initiate_in, set_in, owed_in}
 use Rattle.asset_core.specs.Shows.{Shows, cell_of, cell_after, permitted}
-use Rattle.asset_permits.proofs.Laws.{arrows_stand}
+use Rattle.asset_permits.proofs.ArrowLaws.{arrows_stand}
 use Rattle.asset_core.specs.PermitChanges.{IsDropped, IsAdded}
 use Rattle.asset_core.proofs.PermitLaws.{permitted_quiet, permitted_initiate, permitted_end, permitted_permit, permit_ends}
 use Rattle.asset_core.proofs.CellLemmas.{is_name, value_shown}

@@ -14,7 +14,7 @@ use Rattle.asset_names.specs.Steps.{Entry}
 use Rattle.asset_core.specs.declared.stored.PermitAsked.{PermitAsked}
 use Rattle.asset_core.specs.declared.stored.Stored.{Stored}
 use Rattle.asset_core.specs.declared.stored.Stored.TheVariants as Stored'
-use Rattle.asset_core.specs.Stored.{stored_as, beside_after, permit_or_none, step_of, entry_of, past_of, is_there, all_there}
+use Rattle.asset_core.specs.Stored.{stored_as, beside_after, permit_or_wait, step_of, entry_of, past_of, is_there, all_there}
 
 -- what stands beside is found as before, when one more comes
 found_before : (beside : List PermitAsked) (asked : PermitAsked) (number : ℕ) → number < length beside → slice_get (beside ++ asked ∷ []) number ≡ slice_get beside number
@@ -37,7 +37,7 @@ step_before beside asked (Stored'.Begin t) there = refl
 step_before beside asked (Stored'.Read t x) there = refl
 step_before beside asked (Stored'.Write t x v) there = refl
 step_before beside asked (Stored'.Complete t) there = refl
-step_before beside asked (Stored'.Permit number) there = ap permit_or_none (found_before beside asked number (ltb-true number (length beside) there))
+step_before beside asked (Stored'.Permit number) there = ap permit_or_wait (found_before beside asked number (ltb-true number (length beside) there))
 step_before beside asked (Stored'.Commit t) there = refl
 step_before beside asked (Stored'.Abort t) there = refl
 step_before beside asked (Stored'.WaitFor t) there = refl
@@ -65,13 +65,13 @@ entries_after (WaitFor t) beside entries there = refl
 
 -- a step that is stored is that step
 step_stored : (step : Step) (beside : List PermitAsked) → step_of (beside_after step beside) (stored_as (length beside) step) ≡ step
-unfolding step_of stored_as beside_after permit_or_none
+unfolding step_of stored_as beside_after permit_or_wait
 step_stored (Initiate t parent) beside = refl
 step_stored (Begin t) beside = refl
 step_stored (Read t x) beside = refl
 step_stored (Write t x v) beside = refl
 step_stored (Complete t) beside = refl
-step_stored (Permit giver taker obs ops) beside = ap permit_or_none (found_last beside (record { giver = giver; taker = taker; obs = obs; ops = ops }))
+step_stored (Permit giver taker obs ops) beside = ap permit_or_wait (found_last beside (record { giver = giver; taker = taker; obs = obs; ops = ops }))
 step_stored (Commit t) beside = refl
 step_stored (Abort t) beside = refl
 step_stored (WaitFor t) beside = refl

@@ -50,10 +50,6 @@ pending_after facility step outcome =
     filter (λ (place : Pending). live (deeds (after facility.history step outcome).past) place.name)
     (map (place_after step outcome) facility.pending ++ new_place step outcome)
 
--- the facility after a step with this outcome
-unfoldable pub facility_after : Facility → Step → Outcome → Facility
-facility_after facility step outcome = record { history = after facility.history step outcome; pending = pending_after facility step outcome }
-
 -- the waiter that a place names, if its request is for x
 unfoldable pub waiter_of : ℕ → ℕ → Option (Ob × Op) → List (Txn × Op)
 waiter_of x t None = []

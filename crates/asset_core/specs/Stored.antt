@@ -28,10 +28,10 @@ unfoldable pub beside_after : Step → List PermitAsked → List PermitAsked
 beside_after (Permit giver taker obs ops) beside = beside ++ record { giver = giver; taker = taker; obs = obs; ops = ops } ∷ []
 beside_after step beside = beside
 
--- the permit that stands beside, where one does
-unfoldable pub permit_or_none : Option PermitAsked → Step
-permit_or_none (Some asked) = Permit asked.giver asked.taker asked.obs asked.ops
-permit_or_none None = WaitFor (record { 0 = 0 })
+-- the permit that stands beside; where none does, which no kept history has, a wait that nobody asked
+unfoldable pub permit_or_wait : Option PermitAsked → Step
+permit_or_wait (Some asked) = Permit asked.giver asked.taker asked.obs asked.ops
+permit_or_wait None = WaitFor (record { 0 = 0 })
 
 -- the step that is stored
 unfoldable pub step_of : List PermitAsked → Stored → Step
@@ -40,7 +40,7 @@ step_of beside (Stored'.Begin t) = Begin t
 step_of beside (Stored'.Read t x) = Read t x
 step_of beside (Stored'.Write t x v) = Write t x v
 step_of beside (Stored'.Complete t) = Complete t
-step_of beside (Stored'.Permit number) = permit_or_none (slice_get beside number)
+step_of beside (Stored'.Permit number) = permit_or_wait (slice_get beside number)
 step_of beside (Stored'.Commit t) = Commit t
 step_of beside (Stored'.Abort t) = Abort t
 step_of beside (Stored'.WaitFor t) = WaitFor t

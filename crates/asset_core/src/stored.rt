@@ -58,7 +58,7 @@ impl Stored {
     }
 
     /// The step that is stored, in its entry or beside.
-    #[tactic(auto, unfolding(crate::specs::Stored::step_of, crate::specs::Stored::value_stored, crate::specs::Stored::permit_or_none, crate::specs::Stored::is_there))]
+    #[tactic(auto, unfolding(crate::specs::Stored::step_of, crate::specs::Stored::value_stored, crate::specs::Stored::permit_or_wait, crate::specs::Stored::is_there))]
     pub(crate) fn step(&self, beside: &[PermitAsked]) -> Step
         requires there { is_there (length beside.now) self.now ≡ true }
         ensures { result ≡ step_of beside.now self.now }

@@ -36,7 +36,7 @@ pub(crate) fn value_asked(step: &Step) -> i64
 }
 
 impl Tables {
-    ghost use Rattle.std.specs.Prelude.{◌≡◌, ℤ, cond, not, find, List, [], ◌∷◌, ◌==◌, true, false, None, OnOk, OnErr, IfOk, IfErr};
+    ghost use Rattle.std.specs.Prelude.{◌≡◌, ℕ, ℤ, cond, not, find, List, [], ◌∷◌, ◌==◌, true, false, None, OnOk, OnErr, IfOk, IfErr};
     ghost use Rattle.asset_names.specs.declared.steps.Step.{Step as Request};
     ghost use Rattle.asset_names.specs.declared.operations.Op.{Op as Kind};
     ghost use Rattle.asset_names.specs.Steps.{Opening, Entry, carries_out, deeds};
@@ -51,7 +51,8 @@ impl Tables {
     ghost use Rattle.asset_names.proofs.LegalLemmas.{IsOrderly};
     ghost use Rattle.asset_names.specs.declared.statuses.Status.{Status};
     ghost use Rattle.asset_names.specs.Endings.{is_live_status};
-    ghost use Rattle.asset_names.specs.Operations.{exists};
+    ghost use Rattle.asset_names.specs.Operations.{exists, reach};
+    ghost use Rattle.asset_permits.specs.Descriptors.{allows_in};
     ghost use Rattle.asset_core.specs.PermitChanges.{IsDropped};
     ghost use Rattle.asset_core.specs.Tables.{value_asked, value_or_zero, read_outcome, Stand, IsReady, MayWait, IsAtWork, IsNew, is_free_for, locks_after, locks_waiting, places_of, ShowAlike};
 
@@ -213,6 +214,8 @@ impl Tables {
     /// The answer to a step. Nothing changes.
     pub fn answer(&mut self, step: &Step) -> Outcome
         ensures answer { (opening : Opening) (past : List Request) → Stand opening past self.old → result ≡ answer opening past step.now }
+        ensures allowed { (opening : Opening) (past : List Request) → Stand opening past self.old →
+            (u t x : ℕ) (op : Kind) → allows_in self.old.permits u t x op ≡ reach past u t x op }
         ensures same { self.new ≡ self.old }
     {
         match self.refusal(step) {

@@ -173,7 +173,7 @@ fn recorded(core: &Core, number: usize, step: &Step, reply: Reply) -> bool {
 fn permits_are_entries_with_their_objects(rt: HostRuntime) -> Result<(), Fail> {
     let mut core = Core::open(rt.alloc(), &THREE, 20)?;
     let (Some(one), Some(four)) = (permit(&[Ob(2), Ob(1)]), permit(&[Ob(4), Ob(3)])) else {
-        return Ok(());
+        return Err(Fail::new("a permit was not made"));
     };
     let missing = Reply::Refused(Refusal::NoObject(Ob(4)));
     let script = [

@@ -28,7 +28,7 @@ has_listed (arrow ∷ arrows) a b h = elim (Contains-append_cases (arrow ∷ [])
   here (suc k, below, is) = absurd (omega arith)
 
 -- an arrow that leads links
-linked_has : (arrows : List Arrow) (a b : ℕ) → has_arrow arrows a b ≡ true → linked arrows a b ≡ true
+pub linked_has : (arrows : List Arrow) (a b : ℕ) → has_arrow arrows a b ≡ true → linked arrows a b ≡ true
 unfolding has_arrow linked
 linked_has [] a b h = absurd (false≢true h)
 linked_has (arrow ∷ arrows) a b h = elim (or_cases (eqb arrow.0 a && eqb arrow.1 b) _ h) [

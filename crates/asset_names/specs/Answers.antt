@@ -55,7 +55,7 @@ Rule = Bool × Refusal
 unfoldable pub unknown : List Step → Txn → Rule
 unknown past t = (is_unknown (status past t.0), Refusal'.Unknown t)
 
--- a begin and a transaction's own work are refused where it has ended
+-- a begin, a transaction's own work, and a permit by it or for it are refused where it has ended
 unfoldable pub ended : List Step → Txn → Rule
 ended past t = (has_ended (status past t.0), Refusal'.Ended t)
 

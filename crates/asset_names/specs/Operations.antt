@@ -1,4 +1,4 @@
--- Operations, who is responsible for them, who holds what, and the value of an object.
+-- Operations, who is responsible for them, who holds what, permits and who reaches whom, and the value of an object.
 use Rattle.std.specs.Prelude.{ℕ, ℤ, pos, Bool, true, false, cond, not, ◌==◌, ◌&&◌, List, [], ◌∷◌, ◌++◌, Option, Some, None, is_some, unwrap_or, option_map, find}
 use Rattle.std.specs.List.{list_any}
 use Rattle.asset_names.specs.declared.names.Ob.{Ob}

@@ -80,8 +80,8 @@ pub fn refusal_to_abort(t: Txn, status: Status) -> Option<Refusal>
     }
 }
 
-/// Why a transaction of one status may not share anything with one of another, on which the least object that
-/// does not exist is given, if there is one. The names are different.
+/// Why a giver and a taker that are known may not share objects: one of them has ended, or an object does not
+/// exist, of which `missing` is the least.
 #[tactic(auto, unfolding(crate::specs::Answers::first_refusal, crate::specs::Answers::has_ended, crate::specs::Answers::missing_rule))]
 fn refusal_of_ended(
     giver: Txn,

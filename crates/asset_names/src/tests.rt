@@ -1,8 +1,10 @@
-//! Each public call once, on values worked out by hand.
+//! Sets and lists, statuses, refusals and outcomes, on values worked out by hand.
 
 use crate::{
-    Ob, ObList, ObSet, Op, Ops, SetFault, endings_find_room, free_is_allowed_by_holders,
-    least_double, linked_is_chain,
+    Ob, ObList, ObSet, Op, Ops, Outcome, Refusal, Reply, SetFault, Status, Step, Txn,
+    commit_outcome, endings_find_room, free_is_allowed_by_holders, is_carried_out, least_double,
+    linked_is_chain, refusal_to_abort, refusal_to_begin, refusal_to_find, refusal_to_initiate,
+    refusal_to_operate, refusal_to_permit, refusal_to_work, wait_outcome,
 };
 use std::test::Fail;
 
@@ -72,4 +74,47 @@ fn laws_can_be_called() {
     linked_is_chain();
     endings_find_room();
     free_is_allowed_by_holders();
+}
+
+#[test]
+fn refusals_by_status(rt: HostRuntime) {
+    let (t, u, x) = (Txn(7), Txn(8), Ob(1));
+    assert_eq!(rt;
+        refusal_to_initiate(t, Status::Initiated),
+        Some(Refusal::Taken(t))
+    );
+    assert_eq!(rt;
+        refusal_to_begin(t, Status::Running),
+        Some(Refusal::Begun(t))
+    );
+    assert_eq!(rt;
+        refusal_to_work(t, Status::Completed),
+        Some(Refusal::NotRunning(t))
+    );
+    let missing = refusal_to_operate(t, Status::Running, x, false);
+    assert_eq!(rt; missing, Some(Refusal::NoObject(x)));
+    let ended = refusal_to_permit(t, Status::Running, u, Status::Aborted, Some(x));
+    assert_eq!(rt; ended, Some(Refusal::Ended(u)));
+    assert_eq!(rt;
+        refusal_to_find(t, Status::Unknown),
+        Some(Refusal::Unknown(t))
+    );
+    assert_eq!(rt;
+        refusal_to_abort(t, Status::Committed),
+        Some(Refusal::TooLate(t))
+    );
+}
+
+#[test]
+fn outcomes_and_statuses(rt: HostRuntime) {
+    assert_eq!(rt; commit_outcome(Status::Running, false), Outcome::Wait);
+    assert_eq!(rt;
+        wait_outcome(Status::Completed),
+        Outcome::Answer(Reply::Done)
+    );
+    assert!(rt; is_carried_out(&Step::Begin { t: Txn(7) }, Reply::Done));
+    assert!(rt; Op::Write.conflicts_with(Op::Read) && !Op::Read.conflicts_with(Op::Read));
+    assert!(rt; Status::Unknown.is_unknown() && Status::Aborted.has_ended());
+    assert!(rt; Status::Initiated.is_live() && Status::Completed.is_completed());
+    assert_eq!(rt; (Status::Running.owed(), Status::Completed.owed()), (2, 1));
 }

@@ -1,4 +1,4 @@
-pub mod Laws
+pub mod ArrowLaws
 pub mod DescriptorLemmas
 pub mod MarkLemmas
 pub mod WalkLemmas

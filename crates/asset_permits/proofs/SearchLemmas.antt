@@ -16,7 +16,7 @@ use Rattle.asset_permits.specs.Row.{has_giver, has_taker}
 use Rattle.asset_permits.specs.Kept.{Entry, row_of, givers_in, descriptors_of, is_to, HaveNames, AreNoted, given_in}
 use Rattle.asset_permits.specs.Searched.{name_at, Meets, Expands}
 use Rattle.asset_permits.specs.declared.row.Row.{Row}
-use Rattle.asset_permits.proofs.Laws.{arrows_stand, closed_linked}
+use Rattle.asset_permits.proofs.ArrowLaws.{arrows_stand, closed_linked}
 use Rattle.asset_permits.proofs.DescriptorLemmas.{eqb-flip}
 use Rattle.asset_permits.proofs.RowLemmas.{any_flat, any_map, given_there, given_nowhere, givers_nowhere, is_name}
 use Rattle.asset_permits.proofs.WalkLemmas.{lists-append, lists_left, lists_right, nothing_listed}

@@ -7,7 +7,7 @@ use Rattle.std.proofs.lemmas.List.Folds.{list_any-append, list_any_at}
 use Rattle.asset_names.specs.Arrows.{Arrow, linked, lists, has_arrow}
 use Rattle.asset_names.proofs.Arrows.{linked_refl}
 use Rattle.asset_permits.specs.Searched.{Expands}
-use Rattle.asset_permits.proofs.Laws.{linked_step, closed_linked}
+use Rattle.asset_permits.proofs.ArrowLaws.{linked_step, closed_linked}
 use Rattle.asset_permits.proofs.MarkLemmas.{listed_at, lists_at}
 
 -- ---- which nodes are listed

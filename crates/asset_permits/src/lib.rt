@@ -3,12 +3,14 @@
 #![tactic(auto)]
 
 mod given;
+mod laws;
 mod marks;
 mod row;
 mod rows;
 mod search;
 mod table;
 
+pub use laws::allowed_is_chain;
 pub use table::Permits;
 
 #[cfg(test)]

@@ -4,7 +4,7 @@ use asset_names::NoMemory;
 use std::alloc::Global;
 use std::marker::Model;
 
-/// Marks on the nodes below a number, for a search that takes no memory and has nothing to clear.
+/// Marks on the nodes below a number, for a search that takes no memory. One count clears them.
 /// Contracts see how many nodes there are, and those that are met, in order of meeting.
 ///
 /// `order` has each node once, first those that are met, and `place` says where.

@@ -4,7 +4,7 @@ use crate::given::Given;
 use asset_names::{NoMemory, Txn};
 use std::alloc::Global;
 
-/// What a name gives, and who has given it something. Where memory ran out in time, a giver may be noted
+/// What a name gives, and who has given it something. Where memory once ran out, a giver may be noted
 /// that gives nothing.
 #[derive(Drop)]
 pub(crate) struct Row {

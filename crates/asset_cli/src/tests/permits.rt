@@ -91,3 +91,13 @@ fn refused_permit_joins(rt: HostRuntime) -> Result<(), Fail> {
     let text = "ok\nok\nok\nok\naborted\nrefused ended 9\nok\ncommitted\n";
     expect(&rt, script, text, RunEnd::Finished)
 }
+
+/// Which refusal of a permit comes first.
+#[test]
+fn permits_are_refused_in_order(rt: HostRuntime) -> Result<(), Fail> {
+    let script = b"object 1 100\ninitiate 7\npermit 5 5 r 9\npermit 7 5 r 9\npermit 5 7 r 9\n\
+        initiate 8\npermit 7 8 r 9,2,1\nabort 8\npermit 7 8 r 9\npermit 8 7 r all\n";
+    let text = "ok\nrefused same\nrefused unknown 5\nrefused unknown 5\n\
+        ok\nrefused no object 2\naborted\nrefused ended 8\nrefused ended 8\n";
+    expect(&rt, script, text, RunEnd::Finished)
+}

@@ -1,7 +1,7 @@
 //! What the lines of a script say.
 use crate::grammar::{Command, Line};
 use crate::lines::split_line;
-use asset_names::{Ob, ObList, ObSet, Op, Step, Txn};
+use asset_names::{Ob, ObSet, Op, Step, Txn};
 
 #[test]
 fn lines_that_ask(rt: HostRuntime) {
@@ -88,30 +88,40 @@ fn script_is_cut_at_line_feeds(rt: HostRuntime) {
     assert_eq!(rt; split_line(rest), None);
 }
 
-/// The permit of 7 for 8 that a line asks for, as its objects and whether it has each operation.
-fn permit_of(text: &str) -> Option<(ObSet, bool, bool)> {
-    match Line::parse(text.as_bytes()) {
+/// Whether the set is of these objects, or of all where none is given.
+fn is_set(obs: &ObSet, objects: &[Ob]) -> bool {
+    match obs {
+        ObSet::All => objects.is_empty(),
+        ObSet::Listed(list) => list.objects() == objects,
+    }
+}
+
+/// Whether a line asks for a permit of 7 for 8 on these objects, and for these operations.
+fn permits(text: &str, objects: &[Ob], read: bool, write: bool) -> bool {
+    let line = Line::parse(text.as_bytes());
+    match &line {
         Line::Command(
             Command::Ask(
                 Step::Permit {
-                    giver: Txn(7),
-                    taker: Txn(8),
+                    giver,
+                    taker,
                     obs,
                     ops,
                 },
             ),
-        ) => Some((obs, ops.has(Op::Read), ops.has(Op::Write))),
-        _ => None,
+        ) => {
+            let names = giver.0 == 7 && taker.0 == 8;
+            let both = ops.has(Op::Read) == read && ops.has(Op::Write) == write;
+            names && both && is_set(obs, objects)
+        }
+        _ => false,
     }
 }
 
 #[test]
 fn permits_that_are_asked(rt: HostRuntime) {
-    let all = permit_of("permit 7 8 r all");
-    assert_eq!(rt; all, Some((ObSet::All, true, false)));
-    let two = ObList::of(&[Ob(2), Ob(30)]).ok().map(ObSet::Listed);
-    let both = permit_of("permit 7 8 rw 30,2");
-    assert_eq!(rt; both, two.map(|obs| (obs, true, true)));
-    let write = permit_of("permit 7 8 w 2,30");
-    assert_eq!(rt; write, two.map(|obs| (obs, false, true)));
+    assert!(rt; permits("permit 7 8 r all", &[], true, false));
+    assert!(rt; permits("permit 7 8 rw 30,2", &[Ob(2), Ob(30)], true, true));
+    assert!(rt; permits("permit 7 8 w 2,30", &[Ob(2), Ob(30)], false, true));
+    assert!(rt; !permits("permit 8 7 w 2,30", &[Ob(2), Ob(30)], false, true));
 }

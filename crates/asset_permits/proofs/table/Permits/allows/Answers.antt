@@ -1,7 +1,7 @@
 use Rattle.std.proofs.Common.{◌≡◌, ◌∙◌, sym, ap, subst}
 use Rattle.std.proofs.lemmas.Bool.{eqb-true}
 use Rattle.asset_permits.specs.Descriptors.{allows_in, AreDifferent}
-use Rattle.asset_permits.proofs.Laws.{allows_itself}
+use Rattle.asset_permits.proofs.ArrowLaws.{allows_itself}
 use Rattle.asset_permits.proofs.RowLemmas.{different_flat}
 use Rattle.asset_permits.proofs.table.Permits.allows.Goals as goal
 

@@ -3,27 +3,13 @@ use Rattle.std.proofs.Common.{◌≡◌, ℕ, Bool, true, false, cond, eqb, ◌&
 use Rattle.std.proofs.lemmas.Bool.{or_cases, or_left, or_right, and_from, and_parts, eqb-true, eq-eqb, false≢true}
 use Rattle.asset_names.specs.declared.operations.Op.{Op}
 use Rattle.asset_names.specs.Arrows.{Arrow, linked, Chain, has_arrow}
-use Rattle.asset_names.proofs.PermitLemmas.{linked_same}
+use Rattle.asset_names.proofs.PermitLemmas.{linked_has, linked_same}
 use Rattle.asset_names.proofs.Arrows.{linked_refl, linked_trans, chain_from_linked, linked_from_chain}
 use Rattle.asset_permits.specs.Descriptors.{Descriptor, covers, lets, one_covers, arrows_for, allows_in}
 
--- an arrow links its two ends
-pub arrow_links : (arrows : List Arrow) (u t : ℕ) → has_arrow arrows u t ≡ true → linked arrows u t ≡ true
-unfolding has_arrow linked
-arrow_links [] u t h = absurd (false≢true h)
-arrow_links (arrow ∷ arrows) u t h =
-    elim (or_cases (eqb arrow.0 u && eqb arrow.1 t) _ h) [
-      | inl here ↦
-          let ends = and_parts (eqb arrow.0 u) (eqb arrow.1 t) here in
-          let to = subst (λ n. linked arrows u n ≡ true) (sym (eqb-true arrow.0 u ends.0)) (linked_refl arrows u) in
-          let on = subst (λ n. linked arrows n t ≡ true) (sym (eqb-true arrow.1 t ends.1)) (linked_refl arrows t) in
-          or_right (linked arrows u t) _ (and_from (linked arrows u arrow.0) (linked arrows arrow.1 t) to on)
-      | inr later ↦ or_left (linked arrows u t) _ (arrow_links arrows u t later)
-    ]
-
 -- a way, and an arrow behind it
 pub linked_step : (arrows : List Arrow) (a u t : ℕ) → linked arrows a u ≡ true → has_arrow arrows u t ≡ true → linked arrows a t ≡ true
-linked_step arrows a u t way arrow = linked_trans arrows a u t way (arrow_links arrows u t arrow)
+linked_step arrows a u t way arrow = linked_trans arrows a u t way (linked_has arrows u t arrow)
 
 -- what each arrow keeps is kept along the arrows
 pub closed_linked : (test : ℕ → Bool) (arrows : List Arrow) → ((u t : ℕ) → has_arrow arrows u t ≡ true → test u ≡ true → test t ≡ true)
@@ -40,7 +26,7 @@ closed_linked test (arrow ∷ arrows) closed a b h at =
           closed_linked test arrows rest arrow.1 b parts.1 (closed arrow.0 arrow.1 (or_left _ _ (and_from (eqb arrow.0 arrow.0) (eqb arrow.1 arrow.1) (eq-eqb arrow.0 arrow.0 refl) (eq-eqb arrow.1 arrow.1 refl))) from)
     ]
 
--- the arrows are those of the descriptors that cover
+-- both with what is true, and with what is false
 and_true : (p : Bool) → (p && true) ≡ p
 and_true true = refl
 and_true false = refl
@@ -49,6 +35,7 @@ and_false : (p : Bool) → (p && false) ≡ false
 and_false true = refl
 and_false false = refl
 
+-- the arrows are those of the descriptors that cover
 pub arrows_stand : (descriptors : List Descriptor) (u t x : ℕ) (op : Op) → has_arrow (arrows_for descriptors x op) u t ≡ one_covers descriptors u t x op
 unfolding has_arrow arrows_for one_covers lets
 arrows_stand [] u t x op = refl
