@@ -60,11 +60,27 @@ fn value(v: i64) -> Result<Outcome, Fault> {
     Ok(Outcome::Answer(Reply::Value(v)))
 }
 
+/// Asks a step. Where memory runs out once, nothing has changed and it is asked again.
+fn ask(core: &mut Core, step: &Step) -> Result<Outcome, Fault> {
+    let before = (core.history().len(), core.status(Txn(7)), core.value(Ob(1)));
+    match core.step(*step) {
+        Err(Fault::NoMemory) => {
+            let after = (core.history().len(), core.status(Txn(7)), core.value(Ob(1)));
+            if after == before {
+                core.step(*step)
+            } else {
+                Err(Fault::NoMemory)
+            }
+        }
+        told => told,
+    }
+}
+
 /// Whether the steps have these outcomes, one after another.
 fn plays(core: &mut Core, script: &[(Step, Result<Outcome, Fault>)]) -> bool {
     let mut alike = true;
     for asked in script {
-        alike = core.step(asked.0) == asked.1 && alike;
+        alike = ask(core, &asked.0) == asked.1 && alike;
     }
     alike
 }
