@@ -1,5 +1,5 @@
 -- The cell of an object, as names end and as it is shown.
-use Rattle.std.proofs.Common.{◌≡◌, ℕ, Bool, true, false, cond, not, eqb, List, [], ◌∷◌, refl, sym, ◌∙◌, ap, Some, None}
+use Rattle.std.proofs.Common.{◌≡◌, ℕ, Bool, true, false, cond, not, eqb, List, [], ◌∷◌, refl, ap, Some, None}
 use Rattle.std.specs.Prelude.{ℤ, pos, Option, option_map, is_some, unwrap_or, ◌&&◌}
 use Rattle.std.proofs.lemmas.Bool.{eqb-true}
 use Rattle.asset_names.specs.declared.statuses.End.{End}
@@ -9,7 +9,7 @@ use Rattle.asset_names.specs.Steps.{Opening}
 use Rattle.asset_names.specs.Endings.{end_of}
 use Rattle.asset_names.specs.Operations.{Use, Operation, operations, opening_at, opening_value, exists, value_after, after_use, stands, was_aborted, value, value_if_any}
 use Rattle.asset_names.specs.Operations.Use.{reads, writes}
-use Rattle.asset_objects.specs.Cells.{Cell, fresh, shown, newest_or, written, undone, settled, settled_value, newer, value_in}
+use Rattle.asset_objects.specs.Cells.{Cell, fresh, shown, newest_or, written, undone, settled, settled_value, newer}
 use Rattle.asset_core.specs.Shows.{placed, used, cell_after, cell_of}
 
 -- who passes the test of one name

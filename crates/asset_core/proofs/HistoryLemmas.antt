@@ -1,25 +1,23 @@
 -- What a step that was carried out leaves as it was, and what it adds.
 use Rattle.std.proofs.Common.{◌≡◌, ℕ, Bool, true, false, cond, not, eqb, ◌&&◌, ◌||◌, List, [], ◌∷◌, ◌++◌, filter, reverse, refl, sym, ◌∙◌, ap, subst, arith, Some, None}
-use Rattle.std.specs.Prelude.{Option, ℤ, option_map, is_none}
+use Rattle.std.specs.Prelude.{Option, ℤ, option_map}
 use Rattle.std.specs.List.{list_any}
 use Rattle.std.proofs.lemmas.List.{reverse-append}
-use Rattle.std.proofs.lemmas.Bool.{or_cases, or_left, or_right, or_parts, eqb-true, eq-eqb, eqb-false, ne_eqb, false≢true}
+use Rattle.std.proofs.lemmas.Bool.{or_left, or_right, or_parts, eqb-true, eq-eqb, ne_eqb, false≢true}
 use Rattle.asset_names.specs.declared.names.Txn.{Txn}
 use Rattle.asset_names.specs.declared.names.Ob.{Ob}
 use Rattle.asset_names.specs.declared.operations.Op.{Op}
-use Rattle.asset_names.specs.declared.operations.Op.TheVariants as Op'
 use Rattle.asset_names.specs.declared.statuses.End.{End}
 use Rattle.asset_names.specs.declared.statuses.End.TheVariants as End'
 use Rattle.asset_names.specs.declared.steps.Step.{Step}
-use Rattle.asset_names.specs.declared.steps.Step.TheVariants.{Initiate, Begin, Read, Write, Complete, Permit, Commit, Abort, WaitFor}
+use Rattle.asset_names.specs.declared.steps.Step.TheVariants.{Initiate, Begin, Read, Write, Complete, Commit, Abort, WaitFor}
 use Rattle.asset_names.specs.Arrows.{lists}
 use Rattle.asset_names.specs.Steps.{Opening, initiated, initiated_by}
 use Rattle.asset_names.specs.Endings.{live, end_of, ended_by}
 use Rattle.asset_names.specs.Operations.{Use, Operation, operations, operated, opening_at, op_of, same_op, holds, permits, permitted_by}
-use Rattle.asset_names.specs.Operations.Use.{reads, writes}
 use Rattle.asset_names.proofs.LegalLemmas.{option_or_none, IsOrderly}
-use Rattle.asset_names.proofs.LiveLemmas.{live_initiate, live_commit, live_abort, live_parts, end_commit, end_abort}
-use Rattle.asset_objects.specs.Cells.{Cell, Cells, change_at, change_each, written, undone, settled}
+use Rattle.asset_names.proofs.LiveLemmas.{live_initiate, live_parts, end_commit, end_abort}
+use Rattle.asset_objects.specs.Cells.{Cell, change_at, change_each, written, undone, settled}
 use Rattle.asset_core.specs.Shows.{placed, used, cell_after, cell_of}
 use Rattle.asset_core.proofs.CellLemmas.{is_name, cell_same, cell_undone, cell_settled}
 

@@ -21,7 +21,7 @@ use Rattle.asset_core.specs.declared.tables.Tables.{Tables}
 use Rattle.asset_core.specs.Recorded.{Recorded}
 use Rattle.asset_core.specs.Shows.{Shows}
 use Rattle.asset_core.specs.Pending.{Pending, place_after, new_place}
-use Rattle.asset_core.specs.Tables.{Stand, IsKeptBy, locks_after, locks_waiting, places_of, place_of}
+use Rattle.asset_core.specs.Tables.{Stand, IsKeptBy, locks_after, locks_waiting, places_of}
 use Rattle.asset_core.proofs.ShowsLemmas.{owed_shown, waiting_shows}
 use Rattle.asset_core.proofs.PastLemmas.{deeds_carried, deeds_not_carried}
 use Rattle.asset_core.proofs.PendingLemmas.{places, places_carried, places_refused}

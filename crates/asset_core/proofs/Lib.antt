@@ -9,4 +9,5 @@ pub mod ReadyLemmas
 pub mod PastLemmas
 pub mod PendingLemmas
 pub mod KeptLemmas
+pub mod ToldLemmas
 pub mod StoredLemmas

@@ -1,6 +1,6 @@
 -- The table of locks after a change, and who is free by it.
 use Rattle.std.proofs.Common.{◌≡◌, ◌≢◌, ℕ, Bool, true, false, cond, not, eqb, ◌&&◌, ◌||◌, List, [], ◌∷◌, ◌++◌, map, filter, refl, sym, ◌∙◌, ap, subst, arith, Some, None, inl, inr, ◌⊎◌}
-use Rattle.std.specs.Prelude.{Option, find, is_some}
+use Rattle.std.specs.Prelude.{Option, is_some}
 use Rattle.std.specs.List.{list_any}
 use Rattle.std.proofs.lemmas.List.{map-append}
 use Rattle.std.proofs.lemmas.Bool.{or_cases, or_left, or_right, or_parts, or_from, and_parts, and_from, eqb-true, eq-eqb, eqb-false, ne_eqb, not-true, not-false, not_from_false, false≢true}
@@ -9,7 +9,7 @@ use Rattle.asset_names.specs.declared.operations.Op.{Op}
 use Rattle.asset_names.specs.declared.operations.Op.TheVariants as Op'
 use Rattle.asset_names.specs.Operations.{conflict, has_op, same_op}
 use Rattle.asset_locks.specs.Kept.{HaveOwners}
-use Rattle.asset_locks.specs.Table.{Lock, Holder, Table, Place, is_of, carries, one_conflicts, both_conflict, keeps_off, is_free_in, lock_of, with_op, carried_with, beside, newcomer, granted_on, one_more, change_holder, granted_row, waiting_row, grant_in, wait_in, enrol_in, release_in, names_in, holder_in}
+use Rattle.asset_locks.specs.Table.{Lock, Holder, Table, is_of, carries, one_conflicts, both_conflict, keeps_off, is_free_in, lock_of, with_op, carried_with, beside, newcomer, granted_on, change_holder, granted_row, waiting_row, grant_in, wait_in, enrol_in, release_in, names_in}
 
 -- whether the lock is t's and carries op
 abbrev pub carries_op : ℕ → Op → Lock → Bool

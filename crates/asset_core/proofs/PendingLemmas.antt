@@ -1,6 +1,6 @@
 -- The pending places after a step.
 use Rattle.std.proofs.Common.{◌≡◌, ℕ, Bool, true, false, cond, not, eqb, ◌&&◌, ◌||◌, List, [], ◌∷◌, ◌++◌, filter, reverse, map, refl, sym, ◌∙◌, ap, subst, arith, Some, None, inl, inr, ◌⊎◌}
-use Rattle.std.specs.Prelude.{Option, flat_map, ℤ}
+use Rattle.std.specs.Prelude.{Option, flat_map}
 use Rattle.std.proofs.lemmas.List.{map-append, append-nil}
 use Rattle.std.proofs.lemmas.Bool.{eqb-true, eq-eqb, or_cases, or_left, or_right, false≢true}
 use Rattle.asset_names.specs.declared.names.Txn.{Txn}
@@ -13,7 +13,7 @@ use Rattle.asset_names.specs.declared.replies.Reply.{Reply}
 use Rattle.asset_names.specs.declared.replies.Outcome.{Outcome}
 use Rattle.asset_names.specs.declared.replies.Outcome.TheVariants.{Answer, Wait}
 use Rattle.asset_names.specs.Arrows.{lists}
-use Rattle.asset_names.specs.Steps.{Opening, carries_out, deeds, initiated, initiated_by}
+use Rattle.asset_names.specs.Steps.{Opening, carries_out, initiated, initiated_by}
 use Rattle.asset_names.specs.Endings.{live, is_live_status}
 use Rattle.asset_names.specs.Answers.{carried_out}
 use Rattle.asset_names.proofs.LiveLemmas.{live_initiate, live_commit, live_abort}
@@ -21,13 +21,12 @@ use Rattle.asset_locks.specs.Kept.{Kept, table_of}
 use Rattle.asset_locks.specs.Table as Locks
 use Rattle.asset_trans.specs.Rows.{status_in}
 use Rattle.asset_core.specs.declared.tables.Tables.{Tables}
-use Rattle.asset_core.specs.Recorded.{Recorded, after, with_entry}
-use Rattle.asset_core.specs.Pending.{Pending, Facility, place_after, request_after, new_place, pending_after, waiter_of, waiting_for}
+use Rattle.asset_core.specs.Recorded.{after}
+use Rattle.asset_core.specs.Pending.{Pending, place_after, request_after, new_place, waiter_of, waiting_for}
 use Rattle.asset_core.specs.Tables.{Stand, place_of, places_of, locks_after, locks_waiting, released}
-use Rattle.asset_core.proofs.HistoryLemmas.{lists_pushed, live_quiet, begin_quiet, complete_quiet, read_ends, write_ends, wait_ends}
+use Rattle.asset_core.proofs.HistoryLemmas.{lists_pushed, live_quiet, begin_quiet, complete_quiet, read_ends, write_ends}
 use Rattle.asset_core.proofs.PermitLaws.{permit_ends}
-use Rattle.asset_core.proofs.ShowsLemmas.{live_shown, new_name}
-use Rattle.asset_core.proofs.PastLemmas.{deeds_carried, deeds_not_carried}
+use Rattle.asset_core.proofs.ShowsLemmas.{live_shown}
 
 -- the pending places of a table of locks
 abbrev pub places : Locks.Table → List Pending

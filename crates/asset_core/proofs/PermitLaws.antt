@@ -1,6 +1,5 @@
 -- Which permits stand, by the table and by the history, and how that changes with a step.
-use Rattle.std.proofs.Common.{◌≡◌, ℕ, Bool, true, false, cond, not, eqb, ◌&&◌, ◌||◌, List, [], ◌∷◌, map, filter, refl, sym, ◌∙◌, ap, subst, arith, None}
-use Rattle.std.specs.List.{list_any}
+use Rattle.std.proofs.Common.{◌≡◌, ℕ, Bool, true, false, not, eqb, ◌&&◌, ◌||◌, List, ◌∷◌, refl, sym, ◌∙◌, ap, subst, arith}
 use Rattle.std.proofs.lemmas.Bool.{eqb-true, false≢true}
 use Rattle.asset_names.specs.declared.names.Txn.{Txn}
 use Rattle.asset_names.specs.declared.operations.Op.{Op}
@@ -8,14 +7,13 @@ use Rattle.asset_names.specs.declared.sets.ObSet.{ObSet}
 use Rattle.asset_names.specs.declared.steps.Step.{Step}
 use Rattle.asset_names.specs.declared.steps.Step.TheVariants.{Initiate, Permit}
 use Rattle.asset_names.specs.InSet.{in_set}
-use Rattle.asset_names.specs.Arrows.{Arrow, lists, has_arrow}
+use Rattle.asset_names.specs.Arrows.{lists, has_arrow}
 use Rattle.asset_names.specs.Steps.{initiated, initiated_by}
 use Rattle.asset_names.specs.Endings.{live, end_of, ended_by}
 use Rattle.asset_names.specs.Operations.{has_op, permits, permitted_by}
 use Rattle.asset_names.proofs.LegalLemmas.{option_or_none, IsOrderly}
 use Rattle.asset_names.proofs.LiveLemmas.{live_initiate}
 use Rattle.asset_names.proofs.PermitLemmas.{arrows_permitted}
-use Rattle.asset_permits.specs.Descriptors.{one_covers}
 use Rattle.asset_core.specs.Shows.{permitted}
 use Rattle.asset_core.proofs.HistoryLemmas.{live_quiet}
 

@@ -1,10 +1,7 @@
 -- A step that is answered finds the tables ready for it.
-use Rattle.std.proofs.Common.{◌≡◌, ℕ, Bool, true, false, cond, not, eqb, ◌&&◌, ◌||◌, List, [], ◌∷◌, filter, reverse, map, refl, sym, ◌∙◌, ap, subst, arith, Some, None}
-use Rattle.std.specs.Prelude.{Option, find, is_some, option_map, ℤ}
-use Rattle.std.proofs.lemmas.Bool.{eqb-true, or_left, not-true, not-false, false≢true}
-use Rattle.asset_names.specs.declared.names.Txn.{Txn}
-use Rattle.asset_names.specs.declared.names.Ob.{Ob}
-use Rattle.asset_names.specs.declared.operations.Op.{Op}
+use Rattle.std.proofs.Common.{◌≡◌, ℕ, Bool, true, false, cond, eqb, ◌&&◌, ◌||◌, List, [], ◌∷◌, filter, reverse, map, refl, sym, ◌∙◌, ap, arith, Some, None}
+use Rattle.std.specs.Prelude.{Option, find, is_some}
+use Rattle.std.proofs.lemmas.Bool.{eqb-true, false≢true}
 use Rattle.asset_names.specs.declared.operations.Op.TheVariants as Op'
 use Rattle.asset_names.specs.declared.statuses.Status.{Status}
 use Rattle.asset_names.specs.declared.statuses.Status.TheVariants as Status'
@@ -16,17 +13,13 @@ use Rattle.asset_names.specs.declared.replies.Outcome.{Outcome}
 use Rattle.asset_names.specs.declared.replies.Outcome.TheVariants.{Answer, Wait}
 use Rattle.asset_names.specs.Arrows.{lists}
 use Rattle.asset_names.specs.Steps.{Opening, carries_out, initiated}
-use Rattle.asset_names.specs.Endings.{live, status, end_of, is_live_status}
-use Rattle.asset_names.specs.Operations.{free, exists, opening_at, operations}
+use Rattle.asset_names.specs.Endings.{live, status, is_live_status}
 use Rattle.asset_names.specs.Answers.{answer, outcome_unless, unrefused, rules_for, first_refusal, unknown, ended, begun_before, is_unknown, has_ended, has_begun, is_running}
 use Rattle.asset_names.proofs.LegalLemmas.{carried_unrefused, first_none, initiate_new, complete_runs, permit_live}
 use Rattle.asset_names.proofs.LiveLemmas.{live_by_status, live_parts}
-use Rattle.asset_objects.specs.Cells.{cells, has_object}
 use Rattle.asset_locks.specs.Kept.{table_of}
 use Rattle.asset_locks.specs.Table as Locks
-use Rattle.asset_trans.specs.Rows.{row_in, status_in}
 use Rattle.asset_core.specs.declared.tables.Tables.{Tables}
-use Rattle.asset_core.specs.Shows.{cell_of, cell_after}
 use Rattle.asset_core.specs.Tables.{Stand, IsReady, MayWait, IsAtWork, is_free_for}
 use Rattle.asset_core.proofs.RowLaws.{row_absent}
 use Rattle.asset_core.proofs.HistoryLemmas.{lists_reverse}

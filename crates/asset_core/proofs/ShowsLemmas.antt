@@ -1,7 +1,7 @@
 -- The tables go on standing for the history with each step.
-use Rattle.std.proofs.Common.{◌≡◌, ◌≢◌, ℕ, Bool, true, false, cond, not, eqb, ◌&&◌, ◌||◌, List, [], ◌∷◌, ◌++◌, filter, reverse, refl, sym, ◌∙◌, ap, subst, arith, Some, None}
+use Rattle.std.proofs.Common.{◌≡◌, ℕ, Bool, true, false, cond, eqb, ◌&&◌, List, [], ◌∷◌, ◌++◌, reverse, refl, sym, ◌∙◌, ap, subst, arith, Some, None}
 use Rattle.std.specs.Prelude.{Option, ℤ, option_map, is_some, sum_by}
-use Rattle.std.proofs.lemmas.Bool.{or_parts, eqb-true, eq-eqb, eqb-false, ne_eqb, false≢true}
+use Rattle.std.proofs.lemmas.Bool.{or_parts, eqb-true}
 use Rattle.std.proofs.lemmas.List.Sums.{sum_by_push, sum_by-cons}
 use Rattle.asset_names.specs.declared.names.Txn.{Txn}
 use Rattle.asset_names.specs.declared.names.Ob.{Ob}
@@ -11,10 +11,10 @@ use Rattle.asset_names.specs.declared.statuses.Status.{Status}
 use Rattle.asset_names.specs.declared.statuses.Status.TheVariants as Status'
 use Rattle.asset_names.specs.declared.steps.Step.{Step}
 use Rattle.asset_names.specs.declared.steps.Step.TheVariants.{Initiate, Begin, Read, Write, Complete, Permit, Commit, Abort, WaitFor}
-use Rattle.asset_names.specs.Arrows.{lists, linked, among}
+use Rattle.asset_names.specs.Arrows.{lists}
 use Rattle.asset_names.specs.Steps.{Opening, initiated, initiated_by, begun, begun_by, completed, completed_by, parent_of, parent_by}
 use Rattle.asset_names.specs.Endings.{live, end_of, status, status_of, is_live_status}
-use Rattle.asset_names.specs.Operations.{Use, operations, operated, op_of, conflict, holds, permits, permitted_by, reach, free, exists, value, value_if_any}
+use Rattle.asset_names.specs.Operations.{operations, operated, op_of, holds, permits, permitted_by, reach, free, exists, value, value_if_any}
 use Rattle.asset_names.specs.Operations.Use.{reads, writes}
 use Rattle.asset_names.specs.Answers.{is_unknown}
 use Rattle.asset_names.specs.Room.{owed, owed_to}
@@ -36,7 +36,7 @@ use Rattle.asset_core.proofs.PermitLaws.{permitted_quiet, permitted_initiate, pe
 use Rattle.asset_core.proofs.CellLemmas.{is_name, value_shown}
 use Rattle.asset_core.proofs.RowLaws.{names_set, status_set, parent_set, names_initiate, status_initiate_in, parent_initiate_in, row_named, row_absent, owed_by_names}
 use Rattle.asset_core.proofs.LockLaws.{carries_granted, carries_released, carries_enrolled, names_granted, names_waiting, carries_waiting, names_enrolled, names_released, free_by_locks, locks_by_free}
-use Rattle.asset_core.proofs.HistoryLemmas.{IsQuiet, lists_pushed, lists_reverse, reverse-cons, live_quiet, cell_quiet, cell_same_steps, holds_quiet, holds_same_steps, enrolled_quiet, begin_quiet, complete_quiet, enrolled_initiate, cell_initiate, holds_initiate, holds_operation, holds_end, enrolled_end, read_ends, write_ends, wait_ends, cell_read, cell_write, cell_abort, cell_commit}
+use Rattle.asset_core.proofs.HistoryLemmas.{IsQuiet, lists_pushed, lists_reverse, reverse-cons, cell_quiet, cell_same_steps, holds_quiet, holds_same_steps, enrolled_quiet, begin_quiet, complete_quiet, enrolled_initiate, cell_initiate, holds_initiate, holds_operation, holds_end, enrolled_end, read_ends, write_ends, wait_ends, cell_read, cell_write, cell_abort, cell_commit}
 
 eqb-flip : (m n : ℕ) → eqb m n ≡ eqb n m
 eqb-flip m n = grind arith

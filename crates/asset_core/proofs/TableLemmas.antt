@@ -1,18 +1,17 @@
 -- What the tables' own calls say, put together.
-use Rattle.std.proofs.Common.{◌≡◌, ℕ, Bool, true, false, cond, not, eqb, List, [], ◌∷◌, ◌++◌, filter, refl, sym, ◌∙◌, ap, subst, arith, Some, None, Ok, Err, OnOk, OnErr}
+use Rattle.std.proofs.Common.{◌≡◌, ℕ, Bool, true, false, cond, not, eqb, List, [], ◌∷◌, ◌++◌, filter, refl, ◌∙◌, ap, Some, None, Ok, Err, OnOk, OnErr}
 use Rattle.std.specs.Prelude.{Option, Result, find, is_some, option_map, ℤ}
 use Rattle.std.specs.List.{list_any}
-use Rattle.std.proofs.lemmas.Bool.{or_parts, not-false, eq-eqb, false≢true}
+use Rattle.std.proofs.lemmas.Bool.{or_parts, not-false, eq-eqb}
 use Rattle.asset_names.specs.declared.names.Txn.{Txn}
 use Rattle.asset_names.specs.declared.names.Ob.{Ob}
-use Rattle.asset_names.specs.declared.operations.Op.{Op}
 use Rattle.asset_names.specs.declared.operations.Op.TheVariants as Op'
 use Rattle.asset_names.specs.declared.steps.Step.{Step}
 use Rattle.asset_names.specs.declared.steps.Step.TheVariants.{Read, Write}
 use Rattle.asset_names.specs.Steps.{Opening}
 use Rattle.asset_names.specs.Endings.{status, end_of}
 use Rattle.asset_names.specs.Operations.{exists, opening_at, operations, value, value_if_any}
-use Rattle.asset_names.specs.Answers.{unrefused, rules_for, first_refusal, unknown, ended, not_running, no_object, is_unknown, is_running}
+use Rattle.asset_names.specs.Answers.{unrefused, rules_for, first_refusal, unknown, ended, not_running, no_object, is_running}
 use Rattle.asset_names.proofs.LegalLemmas.{first_none}
 use Rattle.asset_permits.specs.Descriptors.{Descriptor}
 use Rattle.asset_objects.specs.Cells.{Cells, cells, value_in, has_object}

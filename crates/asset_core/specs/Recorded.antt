@@ -1,13 +1,12 @@
 -- A history as callers see it, and what a step makes of it.
 pub use Rattle.asset_objects.specs.Faults.{objects_of}
-use Rattle.std.specs.Prelude.{◌≡◌, ℕ, ℤ, ◌+◌, ◌≤◌, Bool, true, false, List, [], ◌∷◌, length, map, reverse}
-use Rattle.asset_names.specs.declared.names.Ob.{Ob}
+use Rattle.std.specs.Prelude.{ℕ, ◌+◌, Bool, true, false, List, [], ◌∷◌, length}
 use Rattle.asset_names.specs.declared.steps.Step.{Step}
 use Rattle.asset_names.specs.declared.replies.Reply.{Reply}
 use Rattle.asset_names.specs.declared.replies.Outcome.{Outcome}
 use Rattle.asset_names.specs.declared.replies.Outcome.TheVariants.{Answer, Wait}
 use Rattle.asset_names.specs.Steps.{Opening, Entry, deeds}
-use Rattle.asset_names.specs.Answers.{answer, IsLegal}
+use Rattle.asset_names.specs.Answers.{answer}
 use Rattle.asset_names.specs.Room.{fits, changes_status}
 
 -- the opening, the entries with the newest first, and how many entries there is room for in all

@@ -1,61 +1,106 @@
--- How the entries of a history are stored: what a permit asks stands in a list beside them, and its entry has
--- its number there.
+-- How the entries of a history are stored: a refusal without the name or the object that it is about, which the
+-- step names; and a permit, whose set is large, in a list beside, where its entry has its number.
 use Rattle.std.specs.Prelude.{◌≡◌, ℕ, ℤ, pos, ◌≤◌, Bool, true, nat_lt, List, [], ◌∷◌, ◌++◌, length, map, reverse, slice_get, Option, Some, None}
 use Rattle.std.specs.List.{list_all}
+use Rattle.asset_names.specs.declared.names.Txn.{Txn}
+use Rattle.asset_names.specs.declared.names.Ob.{Ob}
 use Rattle.asset_names.specs.declared.steps.Step.{Step}
 use Rattle.asset_names.specs.declared.steps.Step.TheVariants.{Initiate, Begin, Read, Write, Complete, Permit, Commit, Abort, WaitFor}
+use Rattle.asset_names.specs.declared.replies.Refusal.TheVariants as Refusal'
 use Rattle.asset_names.specs.declared.replies.Reply.{Reply}
+use Rattle.asset_names.specs.declared.replies.Reply.TheVariants as Reply'
 use Rattle.asset_names.specs.Steps.{Opening, Entry}
+use Rattle.asset_names.specs.Sets.{no_object_name}
 use Rattle.asset_names.specs.Answers.{IsLegal}
-use Rattle.asset_core.specs.declared.stored.PermitAsked.{PermitAsked}
+use Rattle.asset_core.specs.declared.told.Told.{Told}
+use Rattle.asset_core.specs.declared.told.Told.TheVariants as Told'
+use Rattle.asset_core.specs.declared.stored.PermitEntry.{PermitEntry}
 use Rattle.asset_core.specs.declared.stored.Stored.{Stored}
 use Rattle.asset_core.specs.declared.stored.Stored.TheVariants as Stored'
 
--- a step as it is stored, where so many permits stand beside
-unfoldable pub stored_as : ℕ → Step → Stored
-stored_as count (Initiate t parent) = Stored'.Initiate t parent
-stored_as count (Begin t) = Stored'.Begin t
-stored_as count (Read t x) = Stored'.Read t x
-stored_as count (Write t x v) = Stored'.Write t x v
-stored_as count (Complete t) = Stored'.Complete t
-stored_as count (Permit giver taker obs ops) = Stored'.Permit count
-stored_as count (Commit t) = Stored'.Commit t
-stored_as count (Abort t) = Stored'.Abort t
-stored_as count (WaitFor t) = Stored'.WaitFor t
+-- what a reply tells, without the name, the object and the value that it is about
+unfoldable pub told_by : Reply → Told
+told_by Reply'.Done = Told'.Done
+told_by (Reply'.Value v) = Told'.Value
+told_by Reply'.Committed = Told'.Committed
+told_by Reply'.Aborted = Told'.Aborted
+told_by (Reply'.Refused (Refusal'.Unknown t)) = Told'.Unknown
+told_by (Reply'.Refused (Refusal'.Ended t)) = Told'.Ended
+told_by (Reply'.Refused (Refusal'.NotRunning t)) = Told'.NotRunning
+told_by (Reply'.Refused (Refusal'.Taken t)) = Told'.Taken
+told_by (Reply'.Refused (Refusal'.Begun t)) = Told'.Begun
+told_by (Reply'.Refused (Refusal'.NoObject x)) = Told'.NoObject
+told_by (Reply'.Refused Refusal'.Same) = Told'.Same
+told_by (Reply'.Refused Refusal'.Cycle) = Told'.Cycle
+told_by (Reply'.Refused (Refusal'.TooLate t)) = Told'.TooLate
 
--- what stands beside, after a step
-unfoldable pub beside_after : Step → List PermitAsked → List PermitAsked
-beside_after (Permit giver taker obs ops) beside = beside ++ record { giver = giver; taker = taker; obs = obs; ops = ops } ∷ []
-beside_after step beside = beside
+-- the value that was read, and 0 of another reply
+unfoldable pub value_told : Reply → ℤ
+value_told (Reply'.Value v) = v
+value_told reply = pos 0
+
+-- the reply that tells this about a name, an object and a value
+unfoldable pub reply_about : Txn → Ob → ℤ → Told → Reply
+reply_about t x v Told'.Done = Reply'.Done
+reply_about t x v Told'.Value = Reply'.Value v
+reply_about t x v Told'.Committed = Reply'.Committed
+reply_about t x v Told'.Aborted = Reply'.Aborted
+reply_about t x v Told'.Unknown = Reply'.Refused (Refusal'.Unknown t)
+reply_about t x v Told'.Ended = Reply'.Refused (Refusal'.Ended t)
+reply_about t x v Told'.NotRunning = Reply'.Refused (Refusal'.NotRunning t)
+reply_about t x v Told'.Taken = Reply'.Refused (Refusal'.Taken t)
+reply_about t x v Told'.Begun = Reply'.Refused (Refusal'.Begun t)
+reply_about t x v Told'.NoObject = Reply'.Refused (Refusal'.NoObject x)
+reply_about t x v Told'.Same = Reply'.Refused Refusal'.Same
+reply_about t x v Told'.Cycle = Reply'.Refused Refusal'.Cycle
+reply_about t x v Told'.TooLate = Reply'.Refused (Refusal'.TooLate t)
+
+-- the reply to a step that operates on nothing
+unfoldable pub reply_of_name : Txn → Told → Reply
+reply_of_name t told = reply_about t no_object_name (pos 0) told
+
+-- an entry as it is stored, where so many permits stand beside
+unfoldable pub stored_as : ℕ → Step → Reply → Stored
+stored_as count (Initiate t parent) reply = Stored'.Initiate (told_by reply) t parent
+stored_as count (Begin t) reply = Stored'.Begin (told_by reply) t
+stored_as count (Read t x) reply = Stored'.Read (told_by reply) t x (value_told reply)
+stored_as count (Write t x v) reply = Stored'.Write (told_by reply) t x v
+stored_as count (Complete t) reply = Stored'.Complete (told_by reply) t
+stored_as count (Permit giver taker obs ops) reply = Stored'.Permit count
+stored_as count (Commit t) reply = Stored'.Commit (told_by reply) t
+stored_as count (Abort t) reply = Stored'.Abort (told_by reply) t
+stored_as count (WaitFor t) reply = Stored'.WaitFor (told_by reply) t
+
+-- what stands beside, after an entry
+unfoldable pub beside_after : Step → Reply → List PermitEntry → List PermitEntry
+beside_after (Permit giver taker obs ops) reply beside = beside ++ record { giver = giver; taker = taker; obs = obs; ops = ops; reply = reply } ∷ []
+beside_after step reply beside = beside
 
 -- the permit that stands beside; where none does, which no kept history has, a wait that nobody asked
-unfoldable pub permit_or_wait : Option PermitAsked → Step
-permit_or_wait (Some asked) = Permit asked.giver asked.taker asked.obs asked.ops
-permit_or_wait None = WaitFor (record { 0 = 0 })
-
--- the step that is stored
-unfoldable pub step_of : List PermitAsked → Stored → Step
-step_of beside (Stored'.Initiate t parent) = Initiate t parent
-step_of beside (Stored'.Begin t) = Begin t
-step_of beside (Stored'.Read t x) = Read t x
-step_of beside (Stored'.Write t x v) = Write t x v
-step_of beside (Stored'.Complete t) = Complete t
-step_of beside (Stored'.Permit number) = permit_or_wait (slice_get beside number)
-step_of beside (Stored'.Commit t) = Commit t
-step_of beside (Stored'.Abort t) = Abort t
-step_of beside (Stored'.WaitFor t) = WaitFor t
-
--- the value that a stored write asks for, and 0 of another step
-unfoldable pub value_stored : Stored → ℤ
-value_stored (Stored'.Write t x v) = v
-value_stored stored = pos 0
+unfoldable pub permit_or_wait : Option PermitEntry → Entry
+permit_or_wait (Some entry) = (Permit entry.giver entry.taker entry.obs entry.ops, entry.reply)
+permit_or_wait None = (WaitFor (record { 0 = 0 }), Reply'.Done)
 
 -- the entry that is stored
-unfoldable pub entry_of : List PermitAsked → Stored × Reply → Entry
-entry_of beside entry = (step_of beside entry.0, entry.1)
+unfoldable pub entry_of : List PermitEntry → Stored → Entry
+entry_of beside (Stored'.Initiate told t parent) = (Initiate t parent, reply_of_name t told)
+entry_of beside (Stored'.Begin told t) = (Begin t, reply_of_name t told)
+entry_of beside (Stored'.Read told t x v) = (Read t x, reply_about t x v told)
+entry_of beside (Stored'.Write told t x v) = (Write t x v, reply_about t x (pos 0) told)
+entry_of beside (Stored'.Complete told t) = (Complete t, reply_of_name t told)
+entry_of beside (Stored'.Permit number) = permit_or_wait (slice_get beside number)
+entry_of beside (Stored'.Commit told t) = (Commit t, reply_of_name t told)
+entry_of beside (Stored'.Abort told t) = (Abort t, reply_of_name t told)
+entry_of beside (Stored'.WaitFor told t) = (WaitFor t, reply_of_name t told)
+
+-- the value that a stored entry reads or writes, and 0 of another
+unfoldable pub value_stored : Stored → ℤ
+value_stored (Stored'.Read told t x v) = v
+value_stored (Stored'.Write told t x v) = v
+value_stored stored = pos 0
 
 -- the entries, newest first
-unfoldable pub past_of : List PermitAsked → List (Stored × Reply) → List Entry
+unfoldable pub past_of : List PermitEntry → List Stored → List Entry
 past_of beside entries = reverse (map (entry_of beside) entries)
 
 -- whether what is stored is in its entry, or stands beside
@@ -64,12 +109,12 @@ is_there count (Stored'.Permit number) = nat_lt number count
 is_there count stored = true
 
 -- whether each entry is there, where so many permits stand beside
-unfoldable pub all_there : ℕ → List (Stored × Reply) → Bool
-all_there count entries = list_all (λ (entry : Stored × Reply). is_there count entry.0) entries
+unfoldable pub all_there : ℕ → List Stored → Bool
+all_there count entries = list_all (is_there count) entries
 
 -- How a history is kept: its entries are legal and there; and the room that was taken serves for all entries, each
 -- of which may be a permit.
-pub record IsKept (opening : Opening) (entries : List (Stored × Reply)) (beside : List PermitAsked) (room reserved reserved_beside : ℕ) : Type 0 where
+pub record IsKept (opening : Opening) (entries : List Stored) (beside : List PermitEntry) (room reserved reserved_beside : ℕ) : Type 0 where
   pub legal : IsLegal opening (past_of beside entries)
   pub there : all_there (length beside) entries ≡ true
   pub fewer : length beside ≤ length entries

@@ -1,5 +1,5 @@
 -- The tables of the facility, and when a step finds them ready.
-use Rattle.std.specs.Prelude.{◌≡◌, ℕ, ℤ, pos, ◌+◌, ◌≤◌, ◌==◌, Bool, true, false, cond, List, [], map, length, Option, Some, None, is_some, unwrap_or}
+use Rattle.std.specs.Prelude.{◌≡◌, ℕ, ℤ, pos, ◌+◌, ◌≤◌, ◌==◌, Bool, true, false, cond, List, map, length, None, is_some, unwrap_or}
 use Rattle.asset_names.specs.declared.operations.Op.{Op}
 use Rattle.asset_names.specs.declared.operations.Op.TheVariants as Op'
 use Rattle.asset_names.specs.declared.statuses.Status.TheVariants as Status'
@@ -16,7 +16,7 @@ use Rattle.asset_permits.specs.Descriptors.{allows_in}
 use Rattle.asset_objects.specs.Cells.{cells, value_in, has_object}
 use Rattle.asset_locks.specs.Kept.{Kept, table_of}
 use Rattle.asset_locks.specs.Table as Locks
-use Rattle.asset_trans.specs.Rows.{Entry, row_in, status_in}
+use Rattle.asset_trans.specs.Rows.{row_in, status_in}
 use Rattle.asset_core.specs.declared.tables.Tables.{Tables}
 use Rattle.asset_core.specs.Recorded.{Recorded}
 use Rattle.asset_core.specs.Pending.{Pending}

@@ -1,6 +1,6 @@
 //! A history: what was opened, and the entries in order.
 
-use crate::stored::{PermitAsked, Stored, put_beside};
+use crate::stored::{PermitEntry, Stored, put_beside};
 use asset_names::{Ob, Reply, Step};
 use std::alloc::{AllocError, Global};
 use std::marker::Model;
@@ -12,8 +12,8 @@ use thiserror::Error;
 #[derive(Drop)]
 pub struct History {
     opening: Vec<(Ob, i64)>,
-    entries: Vec<(Stored, Reply)>,
-    permits: Vec<PermitAsked>,
+    entries: Vec<Stored>,
+    permits: Vec<PermitEntry>,
     room: usize,
 }
 
@@ -80,7 +80,7 @@ impl History {
         ensures legal { IsLegal self.now.opening self.now.past }
     {
         match self.entries.get(number) {
-            Some((stored, reply)) => Some((stored.step(&self.permits), *reply)),
+            Some(stored) => Some(stored.entry(&self.permits)),
             None => None,
         }
     }
@@ -99,9 +99,9 @@ impl History {
         requires room { length self.old.past < self.old.room }
         ensures { self.new ≡ with_entry self.old step.now reply }
     {
-        let stored = Stored::of(step, self.permits.len());
-        put_beside(&mut self.permits, step);
-        self.entries.push((stored, reply)).unwrap();
+        let stored = Stored::of(step, reply, self.permits.len());
+        put_beside(&mut self.permits, step, reply);
+        self.entries.push(stored).unwrap();
     }
 }
 

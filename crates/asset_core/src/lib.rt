@@ -6,6 +6,7 @@ mod facility;
 mod history;
 mod stored;
 mod tables;
+mod told;
 
 pub use facility::Core;
 pub use history::{History, OpenFault};

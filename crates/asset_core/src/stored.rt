@@ -1,110 +1,167 @@
-//! How steps are stored: what a permit asks stands in a list beside the entries, and its entry has its number
-//! there. So an entry without a set of objects stays small.
+//! How entries are stored: in 32 bytes each, but that a permit, whose set is large, stands in a list beside them
+//! and its entry has its number there.
 
-ghost use Rattle.std.specs.Prelude.{◌≡◌, ◌≤◌, ◌<◌, true, length, vec_capacity};
+ghost use Rattle.std.specs.Prelude.{◌≡◌, ◌<◌, ◌≤◌, length, vec_capacity};
 ghost use Rattle.asset_core.specs.Stored.{beside_after};
 
 use crate::tables::value_asked;
-use asset_names::{Ob, ObSet, Ops, Step, Txn};
+use crate::told::{Told, value_told};
+use asset_names::{Ob, ObSet, Ops, Reply, Step, Txn};
 
-/// What a permit asks.
+/// The entry of a permit: what it asks, and the reply.
 #[derive(Clone, Copy)]
-pub(crate) struct PermitAsked {
+pub(crate) struct PermitEntry {
     giver: Txn,
     taker: Txn,
     obs: ObSet,
     ops: Ops,
+    reply: Reply,
 }
 
-/// A step as its entry stores it.
+/// An entry as it is stored: the step, and what it was told. A read has the value that it was told, or 0. What
+/// was told comes first, since fields lie in this order, and so it fits beside the tag of its variant.
 #[derive(Clone, Copy)]
 pub(crate) enum Stored {
-    Initiate { t: Txn, parent: Option<Txn> },
-    Begin { t: Txn },
-    Read { t: Txn, x: Ob },
-    Write { t: Txn, x: Ob, v: i64 },
-    Complete { t: Txn },
-    Commit { t: Txn },
-    Abort { t: Txn },
-    WaitFor { t: Txn },
+    Initiate {
+        told: Told,
+        t: Txn,
+        parent: Option<Txn>,
+    },
+    Begin {
+        told: Told,
+        t: Txn,
+    },
+    Read {
+        told: Told,
+        t: Txn,
+        x: Ob,
+        v: i64,
+    },
+    Write {
+        told: Told,
+        t: Txn,
+        x: Ob,
+        v: i64,
+    },
+    Complete {
+        told: Told,
+        t: Txn,
+    },
     /// The permit of this number among those that stand beside.
-    Permit { number: usize },
+    Permit {
+        number: usize,
+    },
+    Commit {
+        told: Told,
+        t: Txn,
+    },
+    Abort {
+        told: Told,
+        t: Txn,
+    },
+    WaitFor {
+        told: Told,
+        t: Txn,
+    },
 }
 
 impl Stored {
     ghost use Rattle.std.specs.Prelude.{◌≡◌, true, length};
-    ghost use Rattle.asset_core.specs.Stored.{stored_as, step_of, value_stored, is_there};
+    ghost use Rattle.asset_core.specs.Stored.{stored_as, entry_of, value_stored, is_there};
 
-    /// The step as it is stored, where so many permits stand beside.
+    /// The entry as it is stored, where so many permits stand beside.
     #[tactic(auto, unfolding(crate::specs::Stored::stored_as, crate::specs::Tables::value_asked))]
-    pub(crate) fn of(step: &Step, count: usize) -> Stored
-        ensures { result ≡ stored_as count step.now }
+    pub(crate) fn of(step: &Step, reply: Reply, count: usize) -> Stored
+        ensures { result ≡ stored_as count step.now reply }
     {
+        let told = Told::by(reply);
         match *step {
-            Step::Initiate { t, parent } => Stored::Initiate { t, parent },
-            Step::Begin { t } => Stored::Begin { t },
-            Step::Read { t, x } => Stored::Read { t, x },
+            Step::Initiate { t, parent } => Stored::Initiate { told, t, parent },
+            Step::Begin { t } => Stored::Begin { told, t },
+            Step::Read { t, x } => Stored::Read {
+                told,
+                t,
+                x,
+                v: value_told(reply),
+            },
             Step::Write { t, x, .. } => Stored::Write {
+                told,
                 t,
                 x,
                 v: value_asked(step),
             },
-            Step::Complete { t } => Stored::Complete { t },
+            Step::Complete { t } => Stored::Complete { told, t },
             Step::Permit { .. } => Stored::Permit { number: count },
-            Step::Commit { t } => Stored::Commit { t },
-            Step::Abort { t } => Stored::Abort { t },
-            Step::WaitFor { t } => Stored::WaitFor { t },
+            Step::Commit { t } => Stored::Commit { told, t },
+            Step::Abort { t } => Stored::Abort { told, t },
+            Step::WaitFor { t } => Stored::WaitFor { told, t },
         }
     }
 
-    /// The step that is stored, in its entry or beside.
-    #[tactic(auto, unfolding(crate::specs::Stored::step_of, crate::specs::Stored::value_stored, crate::specs::Stored::permit_or_wait, crate::specs::Stored::is_there))]
-    pub(crate) fn step(&self, beside: &[PermitAsked]) -> Step
+    /// The entry that is stored, here or beside.
+    #[tactic(auto, unfolding(crate::specs::Stored::entry_of, crate::specs::Stored::value_stored, crate::specs::Stored::permit_or_wait, crate::specs::Stored::is_there))]
+    pub(crate) fn entry(&self, beside: &[PermitEntry]) -> (Step, Reply)
         requires there { is_there (length beside.now) self.now ≡ true }
-        ensures { result ≡ step_of beside.now self.now }
+        ensures { result ≡ entry_of beside.now self.now }
     {
         match *self {
-            Stored::Initiate { t, parent } => Step::Initiate { t, parent },
-            Stored::Begin { t } => Step::Begin { t },
-            Stored::Read { t, x } => Step::Read { t, x },
-            Stored::Write { t, x, .. } => Step::Write {
-                t,
-                x,
-                v: self.value(),
-            },
-            Stored::Complete { t } => Step::Complete { t },
-            Stored::Commit { t } => Step::Commit { t },
-            Stored::Abort { t } => Step::Abort { t },
-            Stored::WaitFor { t } => Step::WaitFor { t },
-            Stored::Permit { number } => {
-                let asked = beside[number];
-                Step::Permit {
-                    giver: asked.giver,
-                    taker: asked.taker,
-                    obs: asked.obs,
-                    ops: asked.ops,
-                }
+            Stored::Initiate { told, t, parent } => {
+                (Step::Initiate { t, parent }, told.about_name(t))
             }
+            Stored::Begin { told, t } => (Step::Begin { t }, told.about_name(t)),
+            Stored::Read { told, t, x, .. } => (
+                Step::Read { t, x },
+                told.about(t, x, self.value()),
+            ),
+            Stored::Write { told, t, x, .. } => {
+                let v = self.value();
+                (Step::Write { t, x, v }, told.about(t, x, 0))
+            }
+            Stored::Complete { told, t } => (Step::Complete { t }, told.about_name(t)),
+            Stored::Permit { number } => beside[number].entry(),
+            Stored::Commit { told, t } => (Step::Commit { t }, told.about_name(t)),
+            Stored::Abort { told, t } => (Step::Abort { t }, told.about_name(t)),
+            Stored::WaitFor { told, t } => (Step::WaitFor { t }, told.about_name(t)),
         }
     }
 
-    /// The value that a stored write asks for, and 0 of another step.
+    /// The value that a stored entry reads or writes, and 0 of another.
     #[tactic(auto, unfolding(crate::specs::Stored::value_stored))]
     fn value(&self) -> i64
         ensures { result ≡ value_stored self.now }
     {
         match *self {
+            Stored::Read { v, .. } => v,
             Stored::Write { v, .. } => v,
             _ => 0,
         }
     }
 }
 
-/// Puts what a permit asks to what stands beside. Its room was taken.
+impl PermitEntry {
+    ghost use Rattle.std.specs.Prelude.{◌≡◌, Some};
+    ghost use Rattle.asset_core.specs.Stored.{permit_or_wait};
+
+    /// The permit's step, and the reply.
+    #[tactic(auto, unfolding(crate::specs::Stored::permit_or_wait))]
+    fn entry(&self) -> (Step, Reply)
+        ensures { result ≡ permit_or_wait (Some self.now) }
+    {
+        let step = Step::Permit {
+            giver: self.giver,
+            taker: self.taker,
+            obs: self.obs,
+            ops: self.ops,
+        };
+        (step, self.reply)
+    }
+}
+
+/// Puts a permit's entry to what stands beside. Its room was taken.
 #[tactic(auto, unfolding(crate::specs::Stored::beside_after))]
-pub(crate) fn put_beside(beside: &mut Vec<PermitAsked>, step: &Step)
+pub(crate) fn put_beside(beside: &mut Vec<PermitEntry>, step: &Step, reply: Reply)
     requires room { length beside.old.items < vec_capacity beside.old }
-    ensures items { beside.new.items ≡ beside_after step.now beside.old.items }
+    ensures items { beside.new.items ≡ beside_after step.now reply beside.old.items }
     ensures room { vec_capacity beside.old ≤ vec_capacity beside.new }
 {
     match *step {
@@ -114,13 +171,14 @@ pub(crate) fn put_beside(beside: &mut Vec<PermitAsked>, step: &Step)
             obs,
             ops,
         } => {
-            let asked = PermitAsked {
+            let entry = PermitEntry {
                 giver,
                 taker,
                 obs,
                 ops,
+                reply,
             };
-            beside.push(asked).unwrap();
+            beside.push(entry).unwrap();
         }
         _ => {}
     }

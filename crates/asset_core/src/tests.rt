@@ -1,7 +1,9 @@
 //! Each public call once, on worked values, and what is left where memory runs out.
 
+use crate::stored::Stored;
 use crate::{Core, OpenFault};
 use asset_names::{Fault, Ob, ObList, ObSet, Op, Ops, Outcome, Refusal, Reply, Status, Step, Txn};
+use std::mem::size_of;
 use std::test::Fail;
 
 const THREE: [(Ob, i64); 3] = [(Ob(1), 100), (Ob(2), 200), (Ob(3), 300)];
@@ -183,6 +185,62 @@ fn recorded(core: &Core, number: usize, step: &Step, reply: Reply) -> bool {
         Some((asked, told)) => asked == *step && told == reply,
         None => false,
     }
+}
+
+/// Whether the entries are these, none of which waits or meets a fault.
+fn stands(core: &Core, script: &[(Step, Result<Outcome, Fault>)]) -> bool {
+    let mut alike = core.history().len() == script.len();
+    for (number, (step, told)) in script.iter().enumerate() {
+        alike = alike
+            && match told {
+                Ok(Outcome::Answer(reply)) => recorded(core, number, step, *reply),
+                _ => false,
+            };
+    }
+    alike
+}
+
+fn refused(refusal: Refusal) -> Result<Outcome, Fault> {
+    Ok(Outcome::Answer(Reply::Refused(refusal)))
+}
+
+#[test]
+fn entries_are_told_whole(rt: HostRuntime) -> Result<(), Fail> {
+    let mut core = Core::open(rt.alloc(), &THREE, 40)?;
+    let child = Step::Initiate {
+        t: Txn(8),
+        parent: Some(Txn(7)),
+    };
+    let script = [
+        (begin(7), refused(Refusal::Unknown(Txn(7)))),
+        (initiate(7), OK),
+        (initiate(7), refused(Refusal::Taken(Txn(7)))),
+        (read(7, 1), refused(Refusal::NotRunning(Txn(7)))),
+        (begin(7), OK),
+        (begin(7), refused(Refusal::Begun(Txn(7)))),
+        (write(7, 9, -5), refused(Refusal::NoObject(Ob(9)))),
+        (write(7, 1, -5), OK),
+        (read(7, 1), value(-5)),
+        (child, OK),
+        (complete(7), OK),
+        (Step::WaitFor { t: Txn(7) }, OK),
+        (commit(7), COMMITTED),
+        (commit(7), COMMITTED),
+        (Step::WaitFor { t: Txn(7) }, COMMITTED),
+        (abort(7), refused(Refusal::TooLate(Txn(7)))),
+        (complete(7), refused(Refusal::Ended(Txn(7)))),
+        (abort(8), ABORTED),
+        (commit(8), ABORTED),
+        (abort(8), ABORTED),
+    ];
+    assert!(rt; plays(&mut core, &script));
+    assert!(rt; stands(&core, &script));
+    Ok(())
+}
+
+#[test]
+fn an_entry_without_a_set_takes_32_bytes(rt: HostRuntime) {
+    assert_eq!(rt; size_of::<Stored>(), 32);
 }
 
 #[test]

@@ -1,7 +1,7 @@
-use Rattle.std.proofs.Common.{◌≡◌, ◌+◌, ◌≤◌, ◌∷◌, true, length, refl, arith}
-use Rattle.std.proofs.lemmas.Bool.{le-leb, leb-true}
+use Rattle.std.proofs.Common.{◌≡◌, true, length, refl}
+use Rattle.std.proofs.lemmas.Bool.{le-leb}
 use Rattle.asset_names.specs.Steps.{deeds}
-use Rattle.asset_names.specs.Room.{fits, owed}
+use Rattle.asset_names.specs.Room.{fits}
 use Rattle.asset_names.proofs.RoomLemmas.{ending_fits}
 use Rattle.asset_core.specs.Recorded.{answer_to, has_room, is_ending}
 use Rattle.asset_core.proofs.facility.Core.has_room.Goals as goal

@@ -1,4 +1,3 @@
-use Rattle.std.proofs.Common.{arith}
 use Rattle.std.proofs.lemmas.Bool.{le-leb}
 use Rattle.asset_names.specs.Room.{fits}
 use Rattle.asset_core.proofs.facility.Core.history.Goals as goal

@@ -1,6 +1,5 @@
-use Rattle.std.proofs.Common.{◌≡◌, ◌∙◌, sym, ap, true, false, arith}
-use Rattle.std.proofs.lemmas.Bool.{leb-true, false≢true}
-use Rattle.asset_names.specs.Steps.{deeds}
+use Rattle.std.proofs.Common.{◌∙◌, sym, ap, arith}
+use Rattle.std.proofs.lemmas.Bool.{leb-true}
 use Rattle.asset_names.specs.Room.{fits}
 use Rattle.asset_names.specs.Answers.{IsLegal}
 use Rattle.asset_core.specs.Recorded.{answer_to, after, with_entry, has_room, is_ending}

@@ -1,8 +1,8 @@
-use Rattle.std.proofs.Common.{◌∙◌, sym, ap, map}
+use Rattle.std.proofs.Common.{◌∙◌, sym, ap}
 use Rattle.asset_objects.specs.Cells.{cells}
 use Rattle.asset_core.specs.Recorded.{answer_to, after}
 use Rattle.asset_core.specs.Pending.{pending_after}
-use Rattle.asset_core.specs.Tables.{places_of, place_of}
+use Rattle.asset_core.specs.Tables.{places_of}
 use Rattle.asset_core.proofs.ReadyLemmas.{may_wait}
 use Rattle.asset_core.proofs.KeptLemmas.{waiting_stands}
 use Rattle.asset_core.proofs.TableLemmas.{stand_as}

@@ -1,24 +1,22 @@
-use Rattle.std.proofs.Common.{◌≡◌, ◌∙◌, sym, ap, get_or, length, arith, Some, None}
-use Rattle.std.specs.Prelude.{slice_get, option_map}
+use Rattle.std.proofs.Common.{◌≡◌, ◌∙◌, sym, ap, length, Some}
+use Rattle.std.specs.Prelude.{slice_get}
 use Rattle.std.proofs.lemmas.Bool.{ltb-true, ltb-false}
 use Rattle.std.proofs.lemmas.Option.{slice_get-get_or, slice_get_past}
-use Rattle.asset_core.specs.Stored.{entry_of}
 use Rattle.asset_core.proofs.StoredLemmas.{entry_stored, entry_there}
 use Rattle.asset_core.proofs.history.History.entry.Goals as goal
 
-pub step-requires : goal.step-requires
-step-requires c =
+pub entry-requires : goal.entry-requires
+entry-requires c =
     let here = rw c.deref.ensures.value at c.in-Some.ensures.lookup in
     record { there = rw (c.deref-in-Some.ensures.value, here.1) (entry_there (length c.self.inside.permits.items) c.self.inside.entries.items c.args.number _ (ltb-true _ _ (sym here.0)) c.self.invariant.there) }
 
 pub returns-in-Some-clause-entry : goal.returns-in-Some-clause-entry
-unfolding entry_of
 returns-in-Some-clause-entry c =
     let entries = c.self.inside.entries.items in
     let beside = c.self.inside.permits.items in
     let here = rw c.deref.ensures.value at c.in-Some.ensures.lookup in
-    let found : slice_get entries c.args.number ≡ Some c.in-Some.field-0.now = slice_get-get_or entries c.args.number c.in-Some.field-0.now (ltb-true _ _ (sym here.0)) ∙ ap Some (sym here.1) in
-    rw (← c.self.view_is, entry_stored beside entries c.args.number, found, c.step.ensures, c.deref-in-Some.ensures.value)
+    let found : slice_get entries c.args.number ≡ Some c.in-Some.stored.now = slice_get-get_or entries c.args.number c.in-Some.stored.now (ltb-true _ _ (sym here.0)) ∙ ap Some (sym here.1) in
+    rw (← c.self.view_is, entry_stored beside entries c.args.number, found, c.entry.ensures, c.deref-in-Some.ensures.value)
 
 pub returns-in-None-clause-entry : goal.returns-in-None-clause-entry
 returns-in-None-clause-entry c =

@@ -1,4 +1,3 @@
-use Rattle.std.proofs.Common.{◌∙◌}
 use Rattle.asset_trans.specs.Rows.{ended_as}
 use Rattle.asset_core.proofs.tables.Tables.commit.Goals as goal
 

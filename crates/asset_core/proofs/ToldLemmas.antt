@@ -1,0 +1,102 @@
+-- The reply to a step is about what the step names.
+use Rattle.std.proofs.Common.{◌≡◌, Bool, true, false, cond, List, [], ◌∷◌, refl, subst}
+use Rattle.std.specs.Prelude.{pos, Some}
+use Rattle.asset_names.specs.declared.names.Txn.{Txn}
+use Rattle.asset_names.specs.declared.operations.Op.TheVariants as Op'
+use Rattle.asset_names.specs.declared.statuses.Status.{Status}
+use Rattle.asset_names.specs.declared.statuses.Status.TheVariants as Status'
+use Rattle.asset_names.specs.declared.steps.Step.{Step}
+use Rattle.asset_names.specs.declared.steps.Step.TheVariants.{Initiate, Begin, Read, Write, Complete, Permit, Commit, Abort, WaitFor}
+use Rattle.asset_names.specs.declared.replies.Reply.{Reply}
+use Rattle.asset_names.specs.declared.replies.Reply.TheVariants as Reply'
+use Rattle.asset_names.specs.declared.replies.Outcome.{Outcome}
+use Rattle.asset_names.specs.declared.replies.Outcome.TheVariants.{Answer, Wait}
+use Rattle.asset_names.specs.Steps.{Opening}
+use Rattle.asset_names.specs.Endings.{status}
+use Rattle.asset_names.specs.Operations.{free, value}
+use Rattle.asset_names.specs.Answers.{Rule, rules_for, first_refusal, class_completed, commit_outcome, wait_outcome, unrefused, outcome_unless, answer, unknown, ended, not_running, taken, begun_before, too_late, no_object}
+use Rattle.asset_core.specs.Stored.{told_by, value_told, reply_about, reply_of_name}
+
+-- a reply to the step, told again from what the step names
+unfoldable pub again : Step → Reply → Reply
+again (Initiate t parent) reply = reply_of_name t (told_by reply)
+again (Begin t) reply = reply_of_name t (told_by reply)
+again (Read t x) reply = reply_about t x (value_told reply) (told_by reply)
+again (Write t x v) reply = reply_about t x (pos 0) (told_by reply)
+again (Complete t) reply = reply_of_name t (told_by reply)
+again (Permit giver taker obs ops) reply = reply
+again (Commit t) reply = reply_of_name t (told_by reply)
+again (Abort t) reply = reply_of_name t (told_by reply)
+again (WaitFor t) reply = reply_of_name t (told_by reply)
+
+-- each refusal is the same when it is told again
+AreSame : (Reply → Reply) → List Rule → Type 0
+AreSame tell [] = Unit {0}
+AreSame tell (rule ∷ rules) = (tell (Reply'.Refused rule.1) ≡ Reply'.Refused rule.1) × AreSame tell rules
+
+-- the reply is the same when it is told again, if there is one
+IsSame : (Reply → Reply) → Outcome → Type 0
+IsSame tell (Answer reply) = tell reply ≡ reply
+IsSame tell Wait = Unit {0}
+
+same_unless : (tell : Reply → Reply) (rules : List Rule) (outcome : Outcome) → AreSame tell rules → IsSame tell outcome → IsSame tell (outcome_unless (first_refusal rules) outcome)
+unfolding outcome_unless first_refusal AreSame IsSame
+same_unless tell [] outcome refusals same = same
+same_unless tell (rule ∷ rules) outcome refusals same = go rule.0 (same_unless tell rules outcome refusals.1 same) where
+  go : (applies : Bool) → IsSame tell (outcome_unless (first_refusal rules) outcome) → IsSame tell (outcome_unless (cond applies (Some rule.1) (first_refusal rules)) outcome)
+  go true later = refusals.0
+  go false later = later
+
+-- a reply that may still have to wait
+same_if : (tell : Reply → Reply) (ready : Bool) (reply : Reply) → tell reply ≡ reply → IsSame tell (cond ready (Answer reply) Wait)
+unfolding IsSame
+same_if tell true reply same = same
+same_if tell false reply same = tt
+
+refusals_same : (opening : Opening) (past : List Step) (step : Step) → AreSame (again step) (rules_for opening past step)
+unfolding AreSame again rules_for unknown ended not_running taken begun_before too_late no_object told_by reply_about reply_of_name
+refusals_same opening past (Initiate t parent) = (refl, tt)
+refusals_same opening past (Begin t) = (refl, (refl, (refl, tt)))
+refusals_same opening past (Read t x) = (refl, (refl, (refl, (refl, tt))))
+refusals_same opening past (Write t x v) = (refl, (refl, (refl, (refl, tt))))
+refusals_same opening past (Complete t) = (refl, (refl, (refl, tt)))
+refusals_same opening past (Permit giver taker obs ops) = (refl, (refl, (refl, (refl, (refl, (refl, tt))))))
+refusals_same opening past (Commit t) = (refl, tt)
+refusals_same opening past (Abort t) = (refl, (refl, tt))
+refusals_same opening past (WaitFor t) = (refl, tt)
+
+commit_same : (t : Txn) (now : Status) (ready : Bool) → IsSame (λ reply. reply_of_name t (told_by reply)) (commit_outcome now ready)
+unfolding IsSame commit_outcome told_by reply_about reply_of_name
+commit_same t Status'.Committed ready = refl
+commit_same t Status'.Aborted ready = refl
+commit_same t Status'.Unknown ready = same_if _ ready _ refl
+commit_same t Status'.Initiated ready = same_if _ ready _ refl
+commit_same t Status'.Running ready = same_if _ ready _ refl
+commit_same t Status'.Completed ready = same_if _ ready _ refl
+
+wait_same : (t : Txn) (now : Status) → IsSame (λ reply. reply_of_name t (told_by reply)) (wait_outcome now)
+unfolding IsSame wait_outcome told_by reply_about reply_of_name
+wait_same t Status'.Completed = refl
+wait_same t Status'.Committed = refl
+wait_same t Status'.Aborted = refl
+wait_same t Status'.Unknown = tt
+wait_same t Status'.Initiated = tt
+wait_same t Status'.Running = tt
+
+unrefused_same : (opening : Opening) (past : List Step) (step : Step) → IsSame (again step) (unrefused opening past step)
+unfolding IsSame again unrefused told_by value_told reply_about reply_of_name
+unrefused_same opening past (Initiate t parent) = refl
+unrefused_same opening past (Begin t) = refl
+unrefused_same opening past (Read t x) = same_if _ (free past t.0 x.0 Op'.Read) (Reply'.Value (value opening past x.0)) refl
+unrefused_same opening past (Write t x v) = same_if _ (free past t.0 x.0 Op'.Write) Reply'.Done refl
+unrefused_same opening past (Complete t) = refl
+unrefused_same opening past (Permit giver taker obs ops) = refl
+unrefused_same opening past (Commit t) = commit_same t (status past t.0) (class_completed past t.0)
+unrefused_same opening past (Abort t) = refl
+unrefused_same opening past (WaitFor t) = wait_same t (status past t.0)
+
+-- the answer to a step is the same when it is told again
+pub told_again : (opening : Opening) (past : List Step) (step : Step) (reply : Reply) → answer opening past step ≡ Answer reply → again step reply ≡ reply
+unfolding answer IsSame
+told_again opening past step reply is =
+    subst (IsSame (again step)) is (same_unless (again step) (rules_for opening past step) (unrefused opening past step) (refusals_same opening past step) (unrefused_same opening past step))
