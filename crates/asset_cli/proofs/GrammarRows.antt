@@ -7,7 +7,7 @@ use Rattle.asset_cli.specs.Arguments.{txn, ob, txn_of, ob_of, both, all_three, o
 use Rattle.asset_names.specs.declared.sets.ObSet.TheVariants.{All, Listed}
 use Rattle.asset_names.specs.Sets.{numbers, twice, rising, put_in}
 use Rattle.asset_cli.specs.PermitArguments.{txns_ops_and_set}
-use Rattle.asset_cli.specs.Sets.{ops_of, one_more, gathered, make_list, listed, set_of}
+use Rattle.asset_cli.specs.Sets.{ops_of, one_more_object, gathered, is_list, listed, set_of}
 use Rattle.asset_cli.specs.Grammar.{step_by, object_command, step_command, command_from, command_of, is_blank, line_by, line_of}
 use Rattle.asset_cli.specs.Keywords.{keyword_text, all_keywords, keyword_of}
 use Rattle.asset_cli.specs.Lines.{lines}
@@ -126,7 +126,7 @@ remark_that_is_too_long = refl
 
 -- a permit's objects stand in any order, and are kept in rising order
 permit_line : line_of (codes "permit 7 8 rw 3,1,2") ≡ Line'.Command (Ask (Step'.Permit (txn 7) (txn 8) (Listed (ob 1 ∷ ob 2 ∷ ob 3 ∷ [])) (true, true)))
-unfolding line_of line_by is_blank command_of command_from step_command step_by words parts keyword_of keyword_text all_keywords txns_ops_and_set both txn_of ob_of number_of is_numeral ops_of set_of gathered one_more listed make_list numbers twice rising put_in
+unfolding line_of line_by is_blank command_of command_from step_command step_by words parts keyword_of keyword_text all_keywords txns_ops_and_set both txn_of ob_of number_of is_numeral ops_of set_of gathered one_more_object listed is_list numbers twice rising put_in
 permit_line = refl
 
 permit_of_all : line_of (codes "permit 7 8 r all") ≡ Line'.Command (Ask (Step'.Permit (txn 7) (txn 8) All (true, false)))
@@ -134,13 +134,13 @@ unfolding line_of line_by is_blank command_of command_from step_command step_by 
 permit_of_all = refl
 
 permit_of_a_double : line_of (codes "permit 7 8 w 1,2,1") ≡ Line'.Bad
-unfolding line_of line_by is_blank command_of command_from step_command step_by words parts keyword_of keyword_text all_keywords txns_ops_and_set both txn_of ob_of number_of is_numeral ops_of set_of gathered one_more listed make_list numbers twice
+unfolding line_of line_by is_blank command_of command_from step_command step_by words parts keyword_of keyword_text all_keywords txns_ops_and_set both txn_of ob_of number_of is_numeral ops_of set_of gathered one_more_object listed is_list numbers twice
 permit_of_a_double = refl
 
 permit_of_nothing : line_of (codes "permit 7 8 w 1,") ≡ Line'.Bad
-unfolding line_of line_by is_blank command_of command_from step_command step_by words parts keyword_of keyword_text all_keywords txns_ops_and_set both txn_of ob_of number_of is_numeral ops_of set_of gathered one_more
+unfolding line_of line_by is_blank command_of command_from step_command step_by words parts keyword_of keyword_text all_keywords txns_ops_and_set both txn_of ob_of number_of is_numeral ops_of set_of gathered one_more_object
 permit_of_nothing = refl
 
 permit_of_other_operations : line_of (codes "permit 7 8 wr 1") ≡ Line'.Bad
-unfolding line_of line_by is_blank command_of command_from step_command step_by words parts keyword_of keyword_text all_keywords txns_ops_and_set both txn_of ob_of number_of is_numeral ops_of set_of gathered one_more listed make_list numbers twice
+unfolding line_of line_by is_blank command_of command_from step_command step_by words parts keyword_of keyword_text all_keywords txns_ops_and_set both txn_of ob_of number_of is_numeral ops_of set_of gathered one_more_object listed is_list numbers twice
 permit_of_other_operations = refl

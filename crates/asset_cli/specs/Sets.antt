@@ -14,21 +14,21 @@ unfoldable pub ops_of : List ℕ → Option (Bool × Bool)
 ops_of word = cond (bytes_eq word (codes "r")) (Some (true, false)) (cond (bytes_eq word (codes "w")) (Some (false, true)) (cond (bytes_eq word (codes "rw")) (Some (true, true)) None))
 
 -- one more object, where there is room for it among 16
-unfoldable pub one_more : List Ob → Option Ob → Option (List Ob)
-one_more objects x = cond (nat_lt (length objects) 16) (option_map (λ y. objects ++ y ∷ []) x) None
+unfoldable pub one_more_object : List Ob → Option Ob → Option (List Ob)
+one_more_object objects x = cond (nat_lt (length objects) 16) (option_map (λ y. objects ++ y ∷ []) x) None
 
 -- The objects that the parts name, after these: each names one, and there are at most 16 in all.
 unfoldable pub gathered : List Ob → List (List ℕ) → Option (List Ob)
 gathered objects [] = Some objects
-gathered objects (part ∷ rest) = option_and_then (λ more. gathered more rest) (one_more objects (ob_of part))
+gathered objects (part ∷ rest) = option_and_then (λ more. gathered more rest) (one_more_object objects (ob_of part))
 
--- Objects that make a list: 1 to 16 of them, none of which occurs twice.
-unfoldable pub make_list : List Ob → Bool
-make_list objects = nat_lt 0 (length objects) && nat_le (length objects) 16 && not (list_any (λ (x : Ob). twice (numbers objects) x.0) objects)
+-- Whether the objects make a list: 1 to 16 of them, none of which occurs twice.
+unfoldable pub is_list : List Ob → Bool
+is_list objects = nat_lt 0 (length objects) && nat_le (length objects) 16 && not (list_any (λ (x : Ob). twice (numbers objects) x.0) objects)
 
 -- The set of such objects, in rising order.
 unfoldable pub listed : List Ob → Option ObSet
-listed objects = cond (make_list objects) (Some (Listed (rising objects))) None
+listed objects = cond (is_list objects) (Some (Listed (rising objects))) None
 
 -- The set that a word writes: all objects, or those whose numbers stand between its commas, in any order.
 unfoldable pub set_of : List ℕ → Option ObSet

@@ -2,7 +2,7 @@
 ghost use Rattle.std.specs.Prelude.{◌≡◌, cond, [], Some, None, option_map, option_and_then};
 ghost use Rattle.asset_cli.specs.Arguments.{ob_of};
 ghost use Rattle.asset_cli.specs.Words.{parts};
-ghost use Rattle.asset_cli.specs.Sets.{ops_of, set_of, gathered, one_more, listed};
+ghost use Rattle.asset_cli.specs.Sets.{ops_of, set_of, gathered, one_more_object, listed};
 
 use crate::arguments::parse_ob;
 use crate::words::Words;
@@ -39,9 +39,9 @@ pub(crate) fn parse_ops(word: &[u8]) -> Option<Ops>
 
 // Puts the object that a number names to the others, and says whether it did: the number names one, and
 // there is room for it.
-#[tactic(auto, unfolding(crate::specs::Sets::one_more))]
+#[tactic(auto, unfolding(crate::specs::Sets::one_more_object))]
 fn add(objects: &mut ArrayVec<Ob, MOST>, number: &[u8]) -> bool
-    ensures { one_more objects.old.items (ob_of number.now) ≡ cond result (Some objects.new.items) None }
+    ensures { one_more_object objects.old.items (ob_of number.now) ≡ cond result (Some objects.new.items) None }
 {
     match parse_ob(number) {
         Some(x) => match objects.try_push(x) {

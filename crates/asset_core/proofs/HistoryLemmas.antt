@@ -15,9 +15,10 @@ use Rattle.asset_names.specs.Arrows.{lists}
 use Rattle.asset_names.specs.Steps.{Opening, initiated, initiated_by}
 use Rattle.asset_names.specs.Endings.{live, end_of, ended_by}
 use Rattle.asset_names.specs.Operations.{Use, Operation, operations, operated, opening_at, op_of, same_op, holds, permits, permitted_by}
-use Rattle.asset_names.proofs.LegalLemmas.{option_or_none, IsOrderly}
+use Rattle.asset_names.specs.Orderly.{IsOrderly}
 use Rattle.asset_names.proofs.LiveLemmas.{live_initiate, live_parts, end_commit, end_abort}
-use Rattle.asset_objects.specs.Cells.{Cell, change_at, change_each, written, undone, settled}
+use Rattle.asset_names.proofs.Common.{eqb-flip, cond_same, option_or_none}
+use Rattle.asset_objects.specs.Cells.{change_at, change_each, written, undone, settled}
 use Rattle.asset_core.specs.Shows.{placed, used, cell_after, cell_of}
 use Rattle.asset_core.proofs.CellLemmas.{is_name, cell_same, cell_undone, cell_settled}
 
@@ -177,9 +178,7 @@ pub enrolled_end : (later past : List Step) (u : ℕ) → initiated later ≡ in
     → filter (λ n. not (eqb n u)) (filter (live past) (reverse (initiated past))) ≡ filter (live later) (reverse (initiated later))
 enrolled_end later past u names alive =
     rw names (filter_twice (λ n. not (eqb n u)) (live past) (reverse (initiated past))
-    ∙ filter_same (λ n. not (eqb n u) && live past n) (live later) (reverse (initiated past)) (λ n listed. rw (eqb-flip n u) (sym (alive n)))) where
-      eqb-flip : (m n : ℕ) → eqb m n ≡ eqb n m
-      eqb-flip m n = grind arith
+    ∙ filter_same (λ n. not (eqb n u) && live past n) (live later) (reverse (initiated past)) (λ n listed. rw (eqb-flip n u) (sym (alive n))))
 
 -- reads and writes end nobody
 pub read_ends : (u : Txn) (y : Ob) (past : List Step) (n : ℕ) → end_of (Read u y ∷ past) n ≡ end_of past n
@@ -201,15 +200,11 @@ cell_read opening u y past x = go (opening_at opening x) where
   ends : (n : ℕ) → end_of (Read u y ∷ past) n ≡ end_of past n
   ends n = read_ends u y past n
 
-  same : (b : Bool) (cell : Cell) → cond b cell cell ≡ cell
-  same true cell = refl
-  same false cell = refl
-
   go : (first : Option ℤ)
       → option_map (λ v. cond (eqb y.0 x) (cell_after (end_of (Read u y ∷ past)) x v (operations past)) (cell_after (end_of (Read u y ∷ past)) x v (operations past))) first
       ≡ option_map (λ v. cell_after (end_of past) x v (operations past)) first
   go None = refl
-  go (Some v) = ap Some (same (eqb y.0 x) _ ∙ cell_same (end_of past) (end_of (Read u y ∷ past)) ends x v (operations past))
+  go (Some v) = ap Some (cond_same (eqb y.0 x) _ ∙ cell_same (end_of past) (end_of (Read u y ∷ past)) ends x v (operations past))
 
 -- the cell of an object after a write of a live name: one more write stands
 pub cell_write : (opening : Opening) (u : Txn) (y : Ob) (w : ℤ) (past : List Step) (x : ℕ) → live past u.0 ≡ true
@@ -235,11 +230,8 @@ pub cell_abort : (opening : Opening) (u : Txn) (past : List Step) (x : ℕ) → 
     → change_each (undone (is_name u.0)) (cell_of opening past) x ≡ cell_of opening (Abort u ∷ past) x
 unfolding cell_of operations operated change_each
 cell_abort opening u past x alive = go (opening_at opening x) where
-  flip : (m n : ℕ) → eqb m n ≡ eqb n m
-  flip m n = grind arith
-
   ends : (n : ℕ) → end_of (Abort u ∷ past) n ≡ cond (eqb n u.0) (Some End'.Aborted) (end_of past n)
-  ends n = end_abort u past n alive ∙ rw (flip u.0 n) refl
+  ends n = end_abort u past n alive ∙ rw (eqb-flip u.0 n) refl
 
   go : (first : Option ℤ) → option_map (undone (is_name u.0)) (option_map (λ v. cell_after (end_of past) x v (operations past)) first) ≡ option_map (λ v. cell_after (end_of (Abort u ∷ past)) x v (operations past)) first
   go None = refl
@@ -249,11 +241,8 @@ pub cell_commit : (opening : Opening) (u : Txn) (past : List Step) (x : ℕ) →
     → change_each (settled (is_name u.0)) (cell_of opening past) x ≡ cell_of opening (Commit u ∷ past) x
 unfolding cell_of operations operated change_each
 cell_commit opening u past x alive = go (opening_at opening x) where
-  flip : (m n : ℕ) → eqb m n ≡ eqb n m
-  flip m n = grind arith
-
   ends : (n : ℕ) → end_of (Commit u ∷ past) n ≡ cond (eqb n u.0) (Some End'.Committed) (end_of past n)
-  ends n = end_commit u past n alive ∙ rw (flip u.0 n) refl
+  ends n = end_commit u past n alive ∙ rw (eqb-flip u.0 n) refl
 
   go : (first : Option ℤ) → option_map (settled (is_name u.0)) (option_map (λ v. cell_after (end_of past) x v (operations past)) first) ≡ option_map (λ v. cell_after (end_of (Commit u ∷ past)) x v (operations past)) first
   go None = refl

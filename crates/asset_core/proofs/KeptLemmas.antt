@@ -13,7 +13,8 @@ use Rattle.asset_names.specs.Steps.{Opening, Entry, carries_out, deeds, initiate
 use Rattle.asset_names.specs.Endings.{live}
 use Rattle.asset_names.specs.Answers.{answer, takes_memory}
 use Rattle.asset_names.specs.Room.{owed, changes_status}
-use Rattle.asset_names.proofs.LegalLemmas.{IsOrderly, legal_orderly, initiate_new}
+use Rattle.asset_names.proofs.LegalLemmas.{legal_orderly, initiate_new}
+use Rattle.asset_names.specs.Orderly.{IsOrderly}
 use Rattle.asset_objects.specs.Cells.{cells}
 use Rattle.asset_locks.specs.Kept.{table_of}
 use Rattle.asset_trans.specs.Rows.{owed_in}
@@ -23,7 +24,7 @@ use Rattle.asset_core.specs.Shows.{Shows}
 use Rattle.asset_core.specs.Pending.{Pending, place_after, new_place}
 use Rattle.asset_core.specs.Tables.{Stand, IsKeptBy, locks_after, locks_waiting, places_of}
 use Rattle.asset_core.proofs.ShowsLemmas.{owed_shown, waiting_shows}
-use Rattle.asset_core.proofs.PastLemmas.{deeds_carried, deeds_not_carried}
+use Rattle.asset_names.proofs.PastLemmas.{deeds_carried, deeds_not_carried}
 use Rattle.asset_core.proofs.PendingLemmas.{places, places_carried, places_refused}
 
 pub kept_orderly : (history : Recorded) (tables : Tables) → IsKeptBy history tables → IsOrderly (deeds history.past)

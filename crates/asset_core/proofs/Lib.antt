@@ -6,7 +6,6 @@ pub mod PermitLaws
 pub mod ShowsLemmas
 pub mod TableLemmas
 pub mod ReadyLemmas
-pub mod PastLemmas
 pub mod PendingLemmas
 pub mod KeptLemmas
 pub mod ToldLemmas

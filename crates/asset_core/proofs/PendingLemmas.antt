@@ -17,6 +17,7 @@ use Rattle.asset_names.specs.Steps.{Opening, carries_out, initiated, initiated_b
 use Rattle.asset_names.specs.Endings.{live, is_live_status}
 use Rattle.asset_names.specs.Answers.{carried_out}
 use Rattle.asset_names.proofs.LiveLemmas.{live_initiate, live_commit, live_abort}
+use Rattle.asset_names.proofs.Common.{eqb-flip}
 use Rattle.asset_locks.specs.Kept.{Kept, table_of}
 use Rattle.asset_locks.specs.Table as Locks
 use Rattle.asset_trans.specs.Rows.{status_in}
@@ -227,9 +228,6 @@ ended_places opening past step tables t stand ends = go (is_live_status (status_
   ps : List Pending
   ps = places_of tables.locks
 
-  flip : (m n : ℕ) → eqb m n ≡ eqb n m
-  flip m n = grind arith
-
   not_here : (n : ℕ) → live past t ≡ false → live past n ≡ true → eqb t n ≡ false
   not_here n dead alive = apart (eqb t n) refl where
     apart : (b : Bool) → eqb t n ≡ b → b ≡ false
@@ -239,7 +237,7 @@ ended_places opening past step tables t stand ends = go (is_live_status (status_
   go : (alive : Bool) → is_live_status (status_in tables.trans t) ≡ alive
       → filter (λ (place : Pending). live (step ∷ past) place.name) ps ≡ places (cond alive (Locks.release_in (λ n. eqb n t) (table_of tables.locks)) (table_of tables.locks))
   go true e =
-      places_alike (live (step ∷ past)) (λ n. not (eqb n t)) ps (λ n listed. ends n ∙ rw (place_live opening past tables stand n listed, flip t n) (grind arith))
+      places_alike (live (step ∷ past)) (λ n. not (eqb n t)) ps (λ n listed. ends n ∙ rw (place_live opening past tables stand n listed, eqb-flip t n) (grind arith))
       ∙ sym (places_without t (table_of tables.locks).holders)
   go false e =
       all_stay (live (step ∷ past)) ps (λ n listed.

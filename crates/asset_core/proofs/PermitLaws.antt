@@ -11,11 +11,18 @@ use Rattle.asset_names.specs.Arrows.{lists, has_arrow}
 use Rattle.asset_names.specs.Steps.{initiated, initiated_by}
 use Rattle.asset_names.specs.Endings.{live, end_of, ended_by}
 use Rattle.asset_names.specs.Operations.{has_op, permits, permitted_by}
-use Rattle.asset_names.proofs.LegalLemmas.{option_or_none, IsOrderly}
+use Rattle.asset_names.specs.Orderly.{IsOrderly}
 use Rattle.asset_names.proofs.LiveLemmas.{live_initiate}
 use Rattle.asset_names.proofs.PermitLemmas.{arrows_permitted}
+use Rattle.asset_names.proofs.Common.{eqb-flip, option_or_none}
 use Rattle.asset_core.specs.Shows.{permitted}
+use Rattle.asset_permits.specs.Descriptors.{Descriptor, one_covers}
 use Rattle.asset_core.proofs.HistoryLemmas.{live_quiet}
+
+-- one more descriptor covers what it says, and nothing else is covered
+abbrev pub IsAdded : ℕ → ℕ → ObSet → Bool × Bool → List Descriptor → List Descriptor → Type 0
+IsAdded giver taker obs ops before later =
+    (u n x : ℕ) (op : Op) → one_covers later u n x op ≡ (one_covers before u n x op || (eqb u giver && eqb n taker && in_set obs x && has_op ops op))
 
 -- a step that initiates nobody, ends nobody and permits nothing leaves each permit
 pub permitted_quiet : (later past : List Step) → initiated later ≡ initiated past → ((n : ℕ) → end_of later n ≡ end_of past n) → ((x : ℕ) (op : Op) → permits later x op ≡ permits past x op)
@@ -42,9 +49,7 @@ permitted_initiate t parent past new orderly u n x op =
 pub permitted_end : (later past : List Step) (t : ℕ) → ((n : ℕ) → live later n ≡ (not (eqb t n) && live past n)) → ((x : ℕ) (op : Op) → permits later x op ≡ permits past x op)
     → (u n x : ℕ) (op : Op) → permitted later u n x op ≡ (permitted past u n x op && not (eqb u t) && not (eqb n t))
 unfolding permitted
-permitted_end later past t alive arrows u n x op = rw (alive u, alive n, arrows x op, eqb-flip u t, eqb-flip n t) (grind arith) where
-  eqb-flip : (m k : ℕ) → eqb m k ≡ eqb k m
-  eqb-flip m k = grind arith
+permitted_end later past t alive arrows u n x op = rw (alive u, alive n, arrows x op, eqb-flip u t, eqb-flip n t) (grind arith)
 
 -- a permit ends nobody
 pub permit_ends : (giver taker : Txn) (obs : ObSet) (ops : Bool × Bool) (past : List Step) (n : ℕ) → end_of (Permit giver taker obs ops ∷ past) n ≡ end_of past n
@@ -58,9 +63,6 @@ unfolding permitted initiated initiated_by
 permitted_permit giver taker obs ops past gives takes u n x op =
     let same_live : (m : ℕ) → live (Permit giver taker obs ops ∷ past) m ≡ live past m = live_quiet (Permit giver taker obs ops ∷ past) past refl (permit_ends giver taker obs ops past) in
     rw (same_live u, same_live n, arrows_permitted giver taker obs ops past x op u n, eqb-flip u giver.0, eqb-flip n taker.0) (go (eqb giver.0 u) refl (eqb taker.0 n) refl) where
-      eqb-flip : (m k : ℕ) → eqb m k ≡ eqb k m
-      eqb-flip m k = grind arith
-
       arrow : Bool
       arrow = has_arrow (permits past x op) u n
 

@@ -12,7 +12,8 @@ use Rattle.asset_names.specs.declared.names.Txn.{Txn}
 use Rattle.asset_names.specs.declared.statuses.Status.{Status}
 use Rattle.asset_names.specs.declared.statuses.Status.TheVariants as Status'
 use Rattle.asset_names.specs.Arrows.{lists}
-use Rattle.asset_names.proofs.LegalLemmas.{Distinct}
+use Rattle.asset_names.specs.Orderly.{Distinct}
+use Rattle.asset_names.proofs.Common.{eqb-flip, cond_same, option_or_none}
 use Rattle.asset_trans.specs.declared.rows.Row.{Row}
 use Rattle.asset_trans.specs.Rows.{Entry, names_of, row_in, status_or_unknown, parent_or_none, status_in, parent_in, initiate_in, set_entry, set_in, owed_in}
 
@@ -26,9 +27,6 @@ names_set test status (entry ∷ rows) = go (test entry.0.0) (names_set test sta
   go false ih = ap (λ ns. entry.0.0 ∷ ns) ih
 
 -- both ways are one
-cond_same : {A : Type 0} (b : Bool) (x : A) → cond b x x ≡ x
-cond_same true x = refl
-cond_same false x = refl
 
 -- a row with another status, if there is one
 unfoldable pub set_row : Status → Option Row → Option Row
@@ -82,9 +80,6 @@ row_pushed (entry ∷ rows) t row n = go (eqb n entry.0.0) (row_pushed rows t ro
   go true ih = refl
   go false ih = ih
 
-eqb-flip : (m n : ℕ) → eqb m n ≡ eqb n m
-eqb-flip m n = grind arith
-
 pub row_initiate : (rows : List Entry) (t : Txn) (parent : Option Txn) (n : ℕ) → row_in rows t.0 ≡ None
     → row_in (initiate_in rows t parent) n ≡ cond (eqb t.0 n) (Some (record { status = Status'.Initiated; parent = parent })) (row_in rows n)
 unfolding initiate_in
@@ -92,13 +87,9 @@ row_initiate rows t parent n new = row_pushed rows t _ n ∙ rw (eqb-flip n t.0)
   new_row : Row
   new_row = record { status = Status'.Initiated; parent = parent }
 
-  or_none : (row : Option Row) → option_or row None ≡ row
-  or_none None = refl
-  or_none (Some row) = refl
-
   go : (same : Bool) → eqb t.0 n ≡ same → option_or (row_in rows n) (cond same (Some new_row) None) ≡ cond same (Some new_row) (row_in rows n)
   go true e = rw (subst (λ m. row_in rows m ≡ None) (eqb-true t.0 n e) new) refl
-  go false e = or_none (row_in rows n)
+  go false e = option_or_none (row_in rows n)
 
 pub status_initiate_in : (rows : List Entry) (t : Txn) (parent : Option Txn) (n : ℕ) → row_in rows t.0 ≡ None
     → status_in (initiate_in rows t parent) n ≡ cond (eqb t.0 n) Status'.Initiated (status_in rows n)

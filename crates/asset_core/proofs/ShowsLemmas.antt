@@ -18,12 +18,13 @@ use Rattle.asset_names.specs.Operations.{operations, operated, op_of, holds, per
 use Rattle.asset_names.specs.Operations.Use.{reads, writes}
 use Rattle.asset_names.specs.Answers.{is_unknown}
 use Rattle.asset_names.specs.Room.{owed, owed_to}
-use Rattle.asset_names.proofs.LegalLemmas.{IsOrderly, Distinct}
+use Rattle.asset_names.specs.Orderly.{IsOrderly, Distinct}
 use Rattle.asset_names.proofs.LiveLemmas.{live_by_status, status_initiate, status_begin, status_complete, status_commit, status_abort, live_commit, live_abort, end_commit_again, end_abort_again}
 use Rattle.asset_names.proofs.HolderLemmas.{free_allowed, allowed_free}
 use Rattle.asset_names.proofs.RoomLemmas.{sum_same}
 use Rattle.asset_names.specs.declared.sets.ObSet.{ObSet}
 use Rattle.asset_names.proofs.PermitLemmas.{reach_by}
+use Rattle.asset_names.proofs.Common.{eqb-flip}
 use Rattle.asset_permits.specs.Descriptors.{Descriptor, allows_in, one_covers, arrows_for}
 use Rattle.asset_objects.specs.Cells.{Cell, Cells, opened, shown, value_in, written, undone, settled, change_at, change_each}
 use Rattle.asset_locks.specs.Kept.{HaveOwners}
@@ -31,15 +32,12 @@ use Rattle.asset_locks.specs.Table as Locks
 use Rattle.asset_trans.specs.Rows.{Entry, names_of, row_in, status_in, status_or_unknown, parent_in, parent_or_none, initiate_in, set_in, owed_in}
 use Rattle.asset_core.specs.Shows.{Shows, cell_of, cell_after, permitted}
 use Rattle.asset_permits.proofs.ArrowLaws.{arrows_stand}
-use Rattle.asset_core.specs.PermitChanges.{IsDropped, IsAdded}
-use Rattle.asset_core.proofs.PermitLaws.{permitted_quiet, permitted_initiate, permitted_end, permitted_permit, permit_ends}
+use Rattle.asset_core.specs.PermitChanges.{IsDropped}
+use Rattle.asset_core.proofs.PermitLaws.{IsAdded, permitted_quiet, permitted_initiate, permitted_end, permitted_permit, permit_ends}
 use Rattle.asset_core.proofs.CellLemmas.{is_name, value_shown}
 use Rattle.asset_core.proofs.RowLaws.{names_set, status_set, parent_set, names_initiate, status_initiate_in, parent_initiate_in, row_named, row_absent, owed_by_names}
 use Rattle.asset_core.proofs.LockLaws.{carries_granted, carries_released, carries_enrolled, names_granted, names_waiting, carries_waiting, names_enrolled, names_released, free_by_locks, locks_by_free}
 use Rattle.asset_core.proofs.HistoryLemmas.{IsQuiet, lists_pushed, lists_reverse, reverse-cons, cell_quiet, cell_same_steps, holds_quiet, holds_same_steps, enrolled_quiet, begin_quiet, complete_quiet, enrolled_initiate, cell_initiate, holds_initiate, holds_operation, holds_end, enrolled_end, read_ends, write_ends, wait_ends, cell_read, cell_write, cell_abort, cell_commit}
-
-eqb-flip : (m n : ℕ) → eqb m n ≡ eqb n m
-eqb-flip m n = grind arith
 
 -- who is not unknown has a row
 row_known : (rows : List Entry) (t : ℕ) → is_unknown (status_in rows t) ≡ false → is_some (row_in rows t) ≡ true

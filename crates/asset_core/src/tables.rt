@@ -48,7 +48,7 @@ impl Tables {
     ghost use Rattle.asset_locks.specs.Kept.{table_of, HaveOwners};
     ghost use Rattle.asset_locks.specs.Table.{enrol_in, grant_in, wait_in, release_in};
     ghost use Rattle.asset_trans.specs.Rows.{status_in, initiate_in, set_in};
-    ghost use Rattle.asset_names.proofs.LegalLemmas.{IsOrderly};
+    ghost use Rattle.asset_names.specs.Orderly.{IsOrderly};
     ghost use Rattle.asset_names.specs.declared.statuses.Status.{Status};
     ghost use Rattle.asset_names.specs.Endings.{is_live_status};
     ghost use Rattle.asset_names.specs.Operations.{exists, reach};

@@ -3,6 +3,7 @@
 use crate::stored::Stored;
 use crate::{Core, OpenFault};
 use asset_names::{Fault, Ob, ObList, ObSet, Op, Ops, Outcome, Refusal, Reply, Status, Step, Txn};
+use std::alloc::Global;
 use std::mem::size_of;
 use std::test::Fail;
 
@@ -87,44 +88,58 @@ fn plays(core: &mut Core, script: &[(Step, Result<Outcome, Fault>)]) -> bool {
     alike
 }
 
+/// Why nothing is opened over these objects, if nothing is.
+fn fault(alloc: Global, opening: &[(Ob, i64)], capacity: usize) -> Option<OpenFault> {
+    Core::open(alloc, opening, capacity).err()
+}
+
 #[test]
 fn opening_is_refused_in_order(rt: HostRuntime) {
-    let alloc = rt.alloc();
     let double = [(Ob(1), 1), (Ob(1), 2)];
+    assert_eq!(rt; fault(rt.alloc(), &double, 0), Some(OpenFault::BadCapacity));
     assert_eq!(rt;
-        Core::open(alloc, &double, 0).err(),
+        fault(rt.alloc(), &THREE, 1_000_001),
         Some(OpenFault::BadCapacity)
     );
     assert_eq!(rt;
-        Core::open(alloc, &THREE, 1_000_001).err(),
-        Some(OpenFault::BadCapacity)
-    );
-    assert_eq!(rt;
-        Core::open(alloc, &double, 5).err(),
+        fault(rt.alloc(), &double, 5),
         Some(OpenFault::DoubleObject(Ob(1)))
     );
-    assert!(rt; Core::open(alloc, &THREE, 1_000_000).is_ok());
+    assert_eq!(rt; fault(rt.alloc(), &THREE, 1_000_000), None);
 }
 
-#[test]
-fn begin_of_an_unknown_name_is_recorded(rt: HostRuntime) -> Result<(), Fail> {
-    let mut core = Core::open(rt.alloc(), &NONE, 1)?;
+/// Whether the check holds of a facility that is opened.
+fn holds<F: FnOnce(&mut Core) -> bool>(
+    alloc: Global,
+    opening: &[(Ob, i64)],
+    capacity: usize,
+    check: F,
+) -> bool
+    requires { F.IsAlwaysCallable check }
+{
+    match Core::open(alloc, opening, capacity) {
+        Ok(mut core) => check(&mut core),
+        Err(_) => false,
+    }
+}
+
+/// Whether a begin of an unknown name fills a history with room for one entry.
+fn unknown_begin_stands(core: &mut Core) -> bool {
     let unknown = Reply::Refused(Refusal::Unknown(Txn(7)));
-    assert!(rt; core.history().is_empty());
-    assert!(rt;
-        plays(
-            &mut core,
-            &[(begin(7), Ok(Outcome::Answer(unknown))), (begin(7), FULL)]
-        )
-    );
-    assert_eq!(rt; core.history().entry(0), Some((begin(7), unknown)));
-    assert_eq!(rt; core.history().entry(1), None);
-    Ok(())
+    let script = [(begin(7), Ok(Outcome::Answer(unknown))), (begin(7), FULL)];
+    core.history().is_empty()
+        && plays(core, &script)
+        && core.history().entry(0) == Some((begin(7), unknown))
+        && core.history().entry(1) == None
 }
 
 #[test]
-fn one_transaction_is_told_by_each_call(rt: HostRuntime) -> Result<(), Fail> {
-    let mut core = Core::open(rt.alloc(), &THREE, 10)?;
+fn begin_of_an_unknown_name_is_recorded(rt: HostRuntime) {
+    assert!(rt; holds(rt.alloc(), &NONE, 1, unknown_begin_stands));
+}
+
+/// Whether each call tells of a transaction before it commits.
+fn transaction_works(core: &mut Core) -> bool {
     let script = [
         (initiate(7), OK),
         (begin(7), OK),
@@ -134,11 +149,17 @@ fn one_transaction_is_told_by_each_call(rt: HostRuntime) -> Result<(), Fail> {
         (complete(7), OK),
         (Step::WaitFor { t: Txn(7) }, OK),
     ];
-    assert_eq!(rt; core.status(Txn(7)), Status::Unknown);
-    assert!(rt; plays(&mut core, &script));
-    assert_eq!(rt; core.status(Txn(7)), Status::Completed);
-    assert_eq!(rt; core.value(Ob(1)), Some(50));
-    assert_eq!(rt; core.value(Ob(9)), None);
+    core.status(Txn(7)) == Status::Unknown
+        && plays(core, &script)
+        && core.status(Txn(7)) == Status::Completed
+        && core.value(Ob(1)) == Some(50)
+        && core.value(Ob(9)) == None
+}
+
+#[test]
+fn one_transaction_is_told_by_each_call(rt: HostRuntime) -> Result<(), Fail> {
+    let mut core = Core::open(rt.alloc(), &THREE, 10)?;
+    assert!(rt; transaction_works(&mut core));
     assert!(rt; plays(&mut core, &[(commit(7), COMMITTED)]));
     assert_eq!(rt; core.status(Txn(7)), Status::Committed);
     let history = core.into_history();
@@ -147,9 +168,8 @@ fn one_transaction_is_told_by_each_call(rt: HostRuntime) -> Result<(), Fail> {
     Ok(())
 }
 
-#[test]
-fn reader_waits_for_abort(rt: HostRuntime) -> Result<(), Fail> {
-    let mut core = Core::open(rt.alloc(), &THREE, 20)?;
+/// Whether a reader waits for a writer, and goes on when the writer has aborted.
+fn reader_waits(core: &mut Core) -> bool {
     let waiting = [
         (initiate(7), OK),
         (begin(7), OK),
@@ -158,13 +178,17 @@ fn reader_waits_for_abort(rt: HostRuntime) -> Result<(), Fail> {
         (write(7, 1, 50), OK),
         (read(8, 1), WAIT),
     ];
-    assert!(rt; plays(&mut core, &waiting));
-    assert_eq!(rt; core.waiters(Ob(1), 0), Some((Txn(8), Op::Read)));
-    assert_eq!(rt; core.waiters(Ob(1), 1), None);
-    assert!(rt; plays(&mut core, &[(abort(7), ABORTED), (read(8, 1), value(100))]));
-    assert_eq!(rt; core.status(Txn(7)), Status::Aborted);
-    assert_eq!(rt; core.waiters(Ob(1), 0), None);
-    Ok(())
+    plays(core, &waiting)
+        && core.waiters(Ob(1), 0) == Some((Txn(8), Op::Read))
+        && core.waiters(Ob(1), 1) == None
+        && plays(core, &[(abort(7), ABORTED), (read(8, 1), value(100))])
+        && core.status(Txn(7)) == Status::Aborted
+        && core.waiters(Ob(1), 0) == None
+}
+
+#[test]
+fn reader_waits_for_abort(rt: HostRuntime) {
+    assert!(rt; holds(rt.alloc(), &THREE, 20, reader_waits));
 }
 
 /// A permit of 7 for 8 to read and write these objects, if they make a list.
@@ -204,9 +228,8 @@ fn refused(refusal: Refusal) -> Result<Outcome, Fault> {
     Ok(Outcome::Answer(Reply::Refused(refusal)))
 }
 
-#[test]
-fn entries_are_told_whole(rt: HostRuntime) -> Result<(), Fail> {
-    let mut core = Core::open(rt.alloc(), &THREE, 40)?;
+/// Whether entries of each kind but permits, with each refusal that they can get, stand as they were answered.
+fn entries_stand(core: &mut Core) -> bool {
     let child = Step::Initiate {
         t: Txn(8),
         parent: Some(Txn(7)),
@@ -233,9 +256,12 @@ fn entries_are_told_whole(rt: HostRuntime) -> Result<(), Fail> {
         (commit(8), ABORTED),
         (abort(8), ABORTED),
     ];
-    assert!(rt; plays(&mut core, &script));
-    assert!(rt; stands(&core, &script));
-    Ok(())
+    plays(core, &script) && stands(core, &script)
+}
+
+#[test]
+fn entries_are_told_whole(rt: HostRuntime) {
+    assert!(rt; holds(rt.alloc(), &THREE, 40, entries_stand));
 }
 
 #[test]
@@ -243,14 +269,13 @@ fn an_entry_without_a_set_takes_32_bytes(rt: HostRuntime) {
     assert_eq!(rt; size_of::<Stored>(), 32);
 }
 
-#[test]
-fn permits_are_entries_with_their_objects(rt: HostRuntime) -> Result<(), Fail> {
-    let mut core = Core::open(rt.alloc(), &THREE, 20)?;
+/// Whether permits are answered as they must be, and stand whole: a list with a missing object, and one without.
+fn permits_stand(core: &mut Core) -> bool {
     let (Some(one), Some(four)) = (permit(&[Ob(2), Ob(1)]), permit(&[Ob(4), Ob(3)])) else {
-        return Err(Fail::new("a permit was not made"));
+        return false;
     };
     let missing = Reply::Refused(Refusal::NoObject(Ob(4)));
-    let script = [
+    let before = [
         (initiate(7), OK),
         (begin(7), OK),
         (initiate(8), OK),
@@ -263,9 +288,13 @@ fn permits_are_entries_with_their_objects(rt: HostRuntime) -> Result<(), Fail> {
         (abort(7), ABORTED),
         (read(8, 1), value(60)),
     ];
-    assert!(rt; plays(&mut core, &script));
-    assert!(rt; recorded(&core, 5, &four, missing));
-    assert!(rt; recorded(&core, 6, &one, Reply::Done));
-    assert!(rt; recorded(&core, 7, &write(8, 1, 60), Reply::Done));
-    Ok(())
+    plays(core, &before)
+        && recorded(core, 5, &four, missing)
+        && recorded(core, 6, &one, Reply::Done)
+        && recorded(core, 7, &write(8, 1, 60), Reply::Done)
+}
+
+#[test]
+fn permits_are_entries_with_their_objects(rt: HostRuntime) {
+    assert!(rt; holds(rt.alloc(), &THREE, 20, permits_stand));
 }

@@ -9,6 +9,7 @@ use Rattle.indexmap.specs.IndexMap.{IndexMap}
 use Rattle.smallvec.specs.SmallVec.{SmallVec}
 use Rattle.asset_names.specs.declared.names.Ob.{Ob}
 use Rattle.asset_names.specs.declared.operations.Op.{Op}
+use Rattle.asset_names.proofs.Common.{cond_same}
 use Rattle.asset_locks.specs.Table.{Lock, lock_of, carried_with, beside, newcomer, granted_on}
 use Rattle.asset_locks.specs.Kept.{Row, row_of, locks_or_none, locks_in, lists_object, without}
 
@@ -53,9 +54,6 @@ pub locks_written : (old new : List Row) (x : ℕ) (row w : SmallVec Lock) (f : 
 locks_written old new x row w f there items written y = written_at old new x y row w f (eqb x y) refl there items (written y)
 
 -- one row is written, and its locks stay
-cond_same : {A : Type 0} (b : Bool) (x : A) → cond b x x ≡ x
-cond_same true x = refl
-cond_same false x = refl
 
 pub locks_kept : (old new : List Row) (x : ℕ) (row w : SmallVec Lock) → row_of old x ≡ Some row → w.items ≡ row.items
     → ((y : ℕ) → row_of new y ≡ cond (eqb x y) (Some w) (row_of old y)) → (y : ℕ) → locks_in new y ≡ locks_in old y

@@ -8,6 +8,7 @@ use Rattle.std.proofs.lemmas.List.{map-append}
 use Rattle.asset_names.specs.declared.names.Txn.{Txn}
 use Rattle.asset_names.specs.declared.names.Ob.{Ob}
 use Rattle.asset_names.specs.declared.operations.Op.{Op}
+use Rattle.asset_names.proofs.Common.{cond_same}
 use Rattle.asset_locks.specs.declared.holder.Holder.{Holder as Entry}
 use Rattle.asset_locks.specs.Table.{Lock, Holder, Table, is_of, lock_of, granted_on, one_more, change_holder, granted_row, waiting_row, no_locks, enrol_in, wait_in, grant_in, release_in, holder_in, held_or_none, held_in}
 use Rattle.asset_locks.specs.Kept.{Kept, Row, locks_or_none, locks_in, table_of, shown_holder, without, lists_object, IsSound}
@@ -96,9 +97,6 @@ granted t x op entries new rows changed_rows v w is_new differ there place held 
     λ i. record { holders = h i; locks_on = λ y. l y i }
 
 -- a row that is written as it was, but for its room
-cond_same : {A : Type 0} (b : Bool) (x : A) → cond b x x ≡ x
-cond_same true x = refl
-cond_same false x = refl
 
 unchanged_one : (t : ℕ) (holders : List Holder) → change_holder t (λ holder. holder) holders ≡ holders
 unfolding change_holder

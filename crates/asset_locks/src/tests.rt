@@ -55,14 +55,24 @@ struct Three {
     ghost nine: { is_some (holder_in (table_of locks) 9) ≡ true },
 }
 
+/// Enrols 7, 9 and 8, and 7 does an operation on 1.
+fn fill(locks: &mut Locks, permits: &mut Permits, op: Op) -> Result<(), NoMemory>
+    requires { (n : ℕ) → is_some (holder_in (table_of locks.old) n) ≡ false }
+    ensures eight { OnOk result (is_some (holder_in (table_of locks.new) 8) ≡ true) }
+    ensures nine { OnOk result (is_some (holder_in (table_of locks.new) 9) ≡ true) }
+{
+    enrol(locks, 7)?;
+    enrol(locks, 9)?;
+    enrol(locks, 8)?;
+    ask(locks, 7, 1, op, permits)?;
+    Ok(())
+}
+
 impl Three {
     fn new(rt: &HostRuntime, op: Op) -> Result<Three, NoMemory> {
         let mut permits = Permits::new(rt.alloc());
         let mut locks = empty(rt);
-        enrol(&mut locks, 7)?;
-        enrol(&mut locks, 9)?;
-        enrol(&mut locks, 8)?;
-        ask(&mut locks, 7, 1, op, &mut permits)?;
+        fill(&mut locks, &mut permits, op)?;
         Ok(Three { locks, permits })
     }
 
@@ -96,61 +106,83 @@ impl Three {
     fn is_free_for_eight(&mut self, op: Op) -> bool {
         self.locks.is_free(Txn(8), Ob(1), op, &mut self.permits)
     }
+
+    /// Whether 8 waits for 7, the writer.
+    fn eight_waits(&mut self) -> bool {
+        self.eight_asks(1, Op::Read) == Ok(Asked::Pending)
+            && self.locks.waiters(Ob(1), 0) == Some((Txn(8), Op::Read))
+            && self.locks.waiters(Ob(1), 1) == None
+            && self.locks.status(Txn(7), Ob(1)) == Some(LockState::Granted)
+            && self.locks.status(Txn(8), Ob(1)) == None
+            && self.locks.held_by(Txn(7), 0) == Some(Ob(1))
+            && self.locks.held_by(Txn(7), 1) == None
+            && !self.is_free_for_eight(Op::Read)
+    }
+
+    /// Whether 8 gets its lock when 7 is released.
+    fn eight_goes_on(&mut self) -> bool {
+        self.release_seven();
+        self.is_free_for_eight(Op::Read)
+            && self.eight_asks(1, Op::Read) == Ok(Asked::Granted)
+            && self.locks.waiters(Ob(1), 0) == None
+    }
+
+    /// Whether 9, which was enrolled before 8, comes before it.
+    fn nine_comes_first(&mut self) -> bool {
+        self.eight_asks(1, Op::Write) == Ok(Asked::Pending)
+            && self.nine_asks(1, Op::Write) == Ok(Asked::Pending)
+            && self.locks.waiters(Ob(1), 0) == Some((Txn(9), Op::Write))
+            && self.locks.waiters(Ob(1), 1) == Some((Txn(8), Op::Write))
+            && self.locks.waiters(Ob(2), 0) == None
+    }
+
+    /// Whether two readers hold one object, and 8 holds another once for two operations.
+    fn readers_share(&mut self) -> bool {
+        self.eight_asks(1, Op::Read) == Ok(Asked::Granted)
+            && self.locks.status(Txn(7), Ob(1)) == Some(LockState::Granted)
+            && self.eight_asks(2, Op::Read) == Ok(Asked::Granted)
+            && self.eight_asks(2, Op::Write) == Ok(Asked::Granted)
+            && self.locks.held_by(Txn(8), 0) == Some(Ob(1))
+            && self.locks.held_by(Txn(8), 1) == Some(Ob(2))
+            && self.locks.held_by(Txn(8), 2) == None
+    }
+
+    /// Whether 8, whom 7 permits, suspends the lock of 7, and 9 still waits.
+    fn eight_suspends_seven(&mut self) -> bool {
+        self.seven_permits_eight() == Ok(())
+            && self.eight_asks(1, Op::Write) == Ok(Asked::Granted)
+            && self.locks.status(Txn(7), Ob(1)) == Some(LockState::Suspended)
+            && self.locks.status(Txn(8), Ob(1)) == Some(LockState::Granted)
+            && !self.is_free_for_seven(Op::Read)
+            && self.nine_asks(1, Op::Read) == Ok(Asked::Pending)
+    }
 }
 
 #[test]
 fn waiter_goes_on_after_release(rt: HostRuntime) -> Result<(), Fail> {
     let mut three = Three::new(&rt, Op::Write)?;
-    assert_eq!(rt; three.eight_asks(1, Op::Read), Ok(Asked::Pending));
-    assert_eq!(rt; three.locks.waiters(Ob(1), 0), Some((Txn(8), Op::Read)));
-    assert_eq!(rt; three.locks.waiters(Ob(1), 1), None);
-    assert_eq!(rt; three.locks.status(Txn(7), Ob(1)), Some(LockState::Granted));
-    assert_eq!(rt; three.locks.status(Txn(8), Ob(1)), None);
-    assert_eq!(rt; three.locks.held_by(Txn(7), 0), Some(Ob(1)));
-    assert_eq!(rt; three.locks.held_by(Txn(7), 1), None);
-    assert!(rt; !three.is_free_for_eight(Op::Read));
-    three.release_seven();
-    assert!(rt; three.is_free_for_eight(Op::Read));
-    assert_eq!(rt; three.eight_asks(1, Op::Read), Ok(Asked::Granted));
-    assert_eq!(rt; three.locks.waiters(Ob(1), 0), None);
+    assert!(rt; three.eight_waits());
+    assert!(rt; three.eight_goes_on());
     Ok(())
 }
 
 #[test]
 fn waiters_come_in_order_of_enrolment(rt: HostRuntime) -> Result<(), Fail> {
     let mut three = Three::new(&rt, Op::Read)?;
-    assert_eq!(rt; three.eight_asks(1, Op::Write), Ok(Asked::Pending));
-    assert_eq!(rt; three.nine_asks(1, Op::Write), Ok(Asked::Pending));
-    assert_eq!(rt; three.locks.waiters(Ob(1), 0), Some((Txn(9), Op::Write)));
-    assert_eq!(rt; three.locks.waiters(Ob(1), 1), Some((Txn(8), Op::Write)));
-    assert_eq!(rt; three.locks.waiters(Ob(2), 0), None);
+    assert!(rt; three.nine_comes_first());
     Ok(())
 }
 
 #[test]
 fn readers_share_and_a_writer_keeps_its_place(rt: HostRuntime) -> Result<(), Fail> {
     let mut three = Three::new(&rt, Op::Read)?;
-    assert_eq!(rt; three.eight_asks(1, Op::Read), Ok(Asked::Granted));
-    assert_eq!(rt; three.locks.status(Txn(7), Ob(1)), Some(LockState::Granted));
-    assert_eq!(rt; three.eight_asks(2, Op::Read), Ok(Asked::Granted));
-    assert_eq!(rt; three.eight_asks(2, Op::Write), Ok(Asked::Granted));
-    assert_eq!(rt; three.locks.held_by(Txn(8), 0), Some(Ob(1)));
-    assert_eq!(rt; three.locks.held_by(Txn(8), 1), Some(Ob(2)));
-    assert_eq!(rt; three.locks.held_by(Txn(8), 2), None);
+    assert!(rt; three.readers_share());
     Ok(())
 }
 
 #[test]
 fn permitted_writer_suspends_the_giver(rt: HostRuntime) -> Result<(), Fail> {
     let mut three = Three::new(&rt, Op::Write)?;
-    three.seven_permits_eight()?;
-    assert_eq!(rt; three.eight_asks(1, Op::Write), Ok(Asked::Granted));
-    assert_eq!(rt;
-        three.locks.status(Txn(7), Ob(1)),
-        Some(LockState::Suspended)
-    );
-    assert_eq!(rt; three.locks.status(Txn(8), Ob(1)), Some(LockState::Granted));
-    assert!(rt; !three.is_free_for_seven(Op::Read));
-    assert_eq!(rt; three.nine_asks(1, Op::Read), Ok(Asked::Pending));
+    assert!(rt; three.eight_suspends_seven());
     Ok(())
 }

@@ -8,7 +8,7 @@ use Rattle.asset_names.specs.declared.names.Ob.{Ob}
 use Rattle.asset_names.specs.declared.operations.Op.{Op}
 use Rattle.asset_names.specs.declared.sets.ObSet.{ObSet}
 use Rattle.asset_names.specs.InSet.{in_set}
-use Rattle.asset_names.specs.Operations.{Operation, operations, operated, has_op, permits, permitted_by}
+use Rattle.asset_names.specs.Operations.{operations, operated, has_op, permits, permitted_by}
 use Rattle.std.specs.List.{list_any}
 use Rattle.asset_names.specs.declared.statuses.End.{End}
 use Rattle.asset_names.specs.declared.statuses.End.TheVariants as End'
@@ -22,11 +22,8 @@ use Rattle.asset_names.specs.Arrows.{Arrow, lists, linked, among, has_arrow}
 use Rattle.asset_names.specs.Steps.{Opening, Entry, carries_out, deeds, initiated, initiated_by, begun, begun_by, completed, completed_by}
 use Rattle.asset_names.specs.Endings.{class_arrows, doom_arrows, ended_by, end_of, live, status, status_of}
 use Rattle.asset_names.specs.Answers.{Rule, is_unknown, has_ended, is_running, unknown, ended, not_running, one_name, taken, rules_for, first_refusal, unrefused, outcome_unless, answer, IsLegal}
-
--- no end is added
-pub option_or_none : (end : Option End) → option_or end None ≡ end
-option_or_none None = refl
-option_or_none (Some end) = refl
+use Rattle.asset_names.proofs.Common.{option_or_none}
+use Rattle.asset_names.specs.Orderly.{IsOrderly}
 
 -- an end of u ends n where they are one live name
 pub end_alone : (how : End) (u n : ℕ) (past : List Step) → option_or (end_of past n) (cond ((lists (initiated past) u && is_none (end_of past u)) && eqb u n) (Some how) None)
@@ -114,19 +111,6 @@ complete_runs opening past t reply is carried =
     let first = first_none (unknown past t) _ (carried_unrefused opening past (Complete t) reply is carried) in
     let second = first_none (ended past t) _ first.1 in
     not-false _ ((first_none (not_running past t) [] second.1).0)
-
--- no name is listed twice
-abbrev pub Distinct : List ℕ → Type 0
-Distinct [] = Unit {0}
-Distinct (n ∷ names) = (lists names n ≡ false) × Distinct names
-
--- the names that were initiated are different, and who has completed was initiated
-pub record IsOrderly (past : List Step) : Type 0 where
-  pub different : Distinct (initiated past)
-  pub begun_known : (n : ℕ) → lists (begun past) n ≡ true → lists (initiated past) n ≡ true
-  pub owners_known : (n : ℕ) → list_any (λ (o : Operation). eqb o.owner n) (operations past) ≡ true → lists (initiated past) n ≡ true
-  pub known : (n : ℕ) → lists (completed past) n ≡ true → lists (initiated past) n ≡ true
-  pub permits_known : (u t x : ℕ) (op : Op) → has_arrow (permits past x op) u t ≡ true → (lists (initiated past) u ≡ true) × (lists (initiated past) t ≡ true)
 
 -- a transaction begins only where it was initiated
 pub begin_known : (opening : Opening) (past : List Step) (t : Txn) (reply : Reply) → answer opening past (Begin t) ≡ Answer reply → carries_out (Begin t) reply ≡ true

@@ -1,9 +1,11 @@
+pub mod Common
 pub mod Arrows
 pub mod DoubleLemmas
 pub mod PermitLemmas
 pub mod Rows
 pub mod PermitRows
 pub mod Sorting
+pub mod PastLemmas
 pub mod LegalLemmas
 pub mod RoomLemmas
 pub mod HolderLemmas

@@ -13,7 +13,9 @@ use Rattle.asset_names.specs.declared.steps.Step.TheVariants.{Initiate, Begin, C
 use Rattle.asset_names.specs.Arrows.{lists, linked, among}
 use Rattle.asset_names.specs.Steps.{initiated, initiated_by, begun, begun_by, completed, completed_by}
 use Rattle.asset_names.specs.Endings.{class_arrows, doom_arrows, ended_by, live, status, status_of, is_live_status, end_of}
-use Rattle.asset_names.proofs.LegalLemmas.{option_or_none, end_alone, IsOrderly, ended_initiated}
+use Rattle.asset_names.proofs.LegalLemmas.{end_alone, ended_initiated}
+use Rattle.asset_names.specs.Orderly.{IsOrderly}
+use Rattle.asset_names.proofs.Common.{option_or_none}
 
 -- who is live, by the status
 pub live_by_status : (past : List Step) (t : ℕ) → live past t ≡ is_live_status (status past t)

@@ -1,5 +1,5 @@
 -- Arrows that lead alike, and who reaches whom by permits.
-use Rattle.std.proofs.Common.{◌≡◌, ℕ, zero, suc, Bool, true, false, cond, eqb, ◌&&◌, ◌||◌, List, [], ◌∷◌, ◌++◌, refl, sym, ◌∙◌, subst, arith, inl, inr, filter}
+use Rattle.std.proofs.Common.{◌≡◌, ℕ, zero, suc, Bool, true, false, cond, eqb, ◌&&◌, ◌||◌, List, [], ◌∷◌, ◌++◌, refl, sym, ◌∙◌, arith, inl, inr}
 use Rattle.std.specs.List.{list_any, Contains}
 use Rattle.std.proofs.lemmas.Bool.{or_cases, or_left, or_right, and_from, and_parts, eqb-true, eq-eqb, false≢true}
 use Rattle.std.proofs.lemmas.List.Elements.{Contains-append_cases}
@@ -13,7 +13,7 @@ use Rattle.asset_names.specs.Arrows.{Arrow, linked, among, has_arrow, Chain}
 use Rattle.asset_names.specs.Arrows.Chain.{stay, along}
 use Rattle.asset_names.specs.Endings.{live}
 use Rattle.asset_names.specs.Operations.{has_op, permits, permitted_by, reach}
-use Rattle.asset_names.proofs.Arrows.{linked_refl, linked_trans, linked_arrow, chain_from_linked}
+use Rattle.asset_names.proofs.Arrows.{linked_refl, linked_trans, chain_from_linked}
 
 -- an arrow that is listed leads
 has_listed : (arrows : List Arrow) (a b : ℕ) → Contains arrows (a, b) → has_arrow arrows a b ≡ true

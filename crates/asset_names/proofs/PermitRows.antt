@@ -1,14 +1,14 @@
 -- Worked rows of permits, computed on the definitions.
-use Rattle.std.specs.Prelude.{◌≡◌, ℕ, pos, Bool, true, false, List, [], ◌∷◌, ◌++◌, Some, None, refl}
+use Rattle.std.specs.Prelude.{pos, Bool, true, false, List, [], ◌∷◌, ◌++◌, None, refl}
 use Rattle.asset_names.specs.declared.sets.ObSet.TheVariants.{All, Listed}
 use Rattle.asset_names.specs.declared.steps.Step.{Step}
 use Rattle.asset_names.specs.declared.steps.Step.TheVariants.{Initiate, Begin, Read, Write, Complete, Permit, Commit, Abort}
 use Rattle.asset_names.specs.declared.replies.Refusal.TheVariants.{Unknown, Ended, NoObject, Same}
-use Rattle.asset_names.specs.declared.replies.Reply.TheVariants.{Done, Value, Committed, Aborted}
+use Rattle.asset_names.specs.declared.replies.Reply.TheVariants.{Value, Committed, Aborted}
 use Rattle.asset_names.specs.declared.replies.Outcome.{Outcome}
 use Rattle.asset_names.specs.declared.replies.Outcome.TheVariants.{Answer, Wait}
 use Rattle.asset_names.specs.Arrows.{lists, linked, among}
-use Rattle.asset_names.specs.Sets.{numbers, no_object_name}
+use Rattle.asset_names.specs.Sets.{numbers}
 use Rattle.asset_names.specs.InSet.{in_set}
 use Rattle.asset_names.specs.Steps.{carries_out, deeds, initiated_by, initiated, begun_by, begun, completed_by, completed}
 use Rattle.asset_names.specs.Endings.{class_arrows, doom_arrows, ended_by, end_of, live, status_of, status, same_class}
@@ -17,11 +17,11 @@ use Rattle.asset_names.specs.Answers.{is_unknown, has_ended, is_running, is_comp
 use Rattle.asset_names.proofs.Rows.{t, x, Row, ok, refused}
 
 -- read, write or both
-abbrev rw_ : Bool × Bool
-rw_ = (true, true)
+abbrev read_and_write : Bool × Bool
+read_and_write = (true, true)
 
-abbrev r_ : Bool × Bool
-r_ = (true, false)
+abbrev read_only : Bool × Bool
+read_only = (true, false)
 
 -- three names run
 abbrev three_run : List Step
@@ -33,27 +33,27 @@ six_ok = ok ∷ ok ∷ ok ∷ ok ∷ ok ∷ ok ∷ []
 -- a write that a permit let through stands when the giver aborts, and goes with its own writer
 abbrev CooperatingWriteSurvives : Type 0
 CooperatingWriteSurvives = Row
-    (three_run ++ Write (t 7) (x 1) (pos 50) ∷ Permit (t 7) (t 8) (Listed (x 1 ∷ [])) rw_ ∷ Write (t 8) (x 1) (pos 60) ∷ Abort (t 7) ∷ Read (t 8) (x 1) ∷ Abort (t 8) ∷ Read (t 9) (x 1) ∷ [])
+    (three_run ++ Write (t 7) (x 1) (pos 50) ∷ Permit (t 7) (t 8) (Listed (x 1 ∷ [])) read_and_write ∷ Write (t 8) (x 1) (pos 60) ∷ Abort (t 7) ∷ Read (t 8) (x 1) ∷ Abort (t 8) ∷ Read (t 9) (x 1) ∷ [])
     (six_ok ++ ok ∷ ok ∷ ok ∷ Answer Aborted ∷ Answer (Value (pos 60)) ∷ Answer Aborted ∷ Answer (Value (pos 100)) ∷ [])
 
 -- the giver waits for the taker, whom it let through and who did not permit it anything
 abbrev CooperatingWriteUndone : Type 0
 CooperatingWriteUndone = Row
-    (three_run ++ Write (t 7) (x 1) (pos 50) ∷ Permit (t 7) (t 8) (Listed (x 1 ∷ [])) rw_ ∷ Write (t 8) (x 1) (pos 60) ∷ Read (t 7) (x 1) ∷ Abort (t 8) ∷ Read (t 7) (x 1) ∷ Abort (t 7) ∷ Read (t 9) (x 1) ∷ [])
+    (three_run ++ Write (t 7) (x 1) (pos 50) ∷ Permit (t 7) (t 8) (Listed (x 1 ∷ [])) read_and_write ∷ Write (t 8) (x 1) (pos 60) ∷ Read (t 7) (x 1) ∷ Abort (t 8) ∷ Read (t 7) (x 1) ∷ Abort (t 7) ∷ Read (t 9) (x 1) ∷ [])
     (six_ok ++ ok ∷ ok ∷ ok ∷ Wait ∷ Answer Aborted ∷ Answer (Value (pos 50)) ∷ Answer Aborted ∷ Answer (Value (pos 100)) ∷ [])
 
 -- a chain of two permits covers what both cover, and breaks when its middle ends
 abbrev PermitChain : Type 0
 PermitChain = Row
-    (three_run ++ Write (t 7) (x 1) (pos 11) ∷ Write (t 7) (x 2) (pos 22) ∷ Write (t 7) (x 3) (pos 33) ∷ Permit (t 7) (t 8) (Listed (x 1 ∷ x 2 ∷ [])) rw_ ∷ Permit (t 8) (t 9) (Listed (x 2 ∷ x 3 ∷ [])) r_
+    (three_run ++ Write (t 7) (x 1) (pos 11) ∷ Write (t 7) (x 2) (pos 22) ∷ Write (t 7) (x 3) (pos 33) ∷ Permit (t 7) (t 8) (Listed (x 1 ∷ x 2 ∷ [])) read_and_write ∷ Permit (t 8) (t 9) (Listed (x 2 ∷ x 3 ∷ [])) read_only
     ∷ Read (t 9) (x 2) ∷ Read (t 9) (x 1) ∷ Write (t 9) (x 2) (pos 5) ∷ Read (t 9) (x 3) ∷ Complete (t 8) ∷ Commit (t 8) ∷ Read (t 9) (x 2) ∷ [])
     (six_ok ++ ok ∷ ok ∷ ok ∷ ok ∷ ok ∷ Answer (Value (pos 22)) ∷ Wait ∷ Wait ∷ Wait ∷ ok ∷ Answer Committed ∷ Wait ∷ [])
 
 -- which refusal of a permit comes first
 abbrev PermitsRefused : Type 0
 PermitsRefused = Row
-    (Permit (t 5) (t 5) (Listed (x 9 ∷ [])) r_ ∷ Permit (t 5) (t 6) (Listed (x 9 ∷ [])) r_ ∷ Initiate (t 5) None ∷ Permit (t 5) (t 6) (Listed (x 9 ∷ [])) r_ ∷ Initiate (t 6) None ∷ Permit (t 5) (t 6) (Listed (x 1 ∷ x 8 ∷ x 9 ∷ [])) r_ ∷ Permit (t 5) (t 6) All r_
-    ∷ Abort (t 6) ∷ Permit (t 5) (t 6) (Listed (x 9 ∷ [])) r_ ∷ Abort (t 5) ∷ Permit (t 5) (t 6) All r_ ∷ [])
+    (Permit (t 5) (t 5) (Listed (x 9 ∷ [])) read_only ∷ Permit (t 5) (t 6) (Listed (x 9 ∷ [])) read_only ∷ Initiate (t 5) None ∷ Permit (t 5) (t 6) (Listed (x 9 ∷ [])) read_only ∷ Initiate (t 6) None ∷ Permit (t 5) (t 6) (Listed (x 1 ∷ x 8 ∷ x 9 ∷ [])) read_only ∷ Permit (t 5) (t 6) All read_only
+    ∷ Abort (t 6) ∷ Permit (t 5) (t 6) (Listed (x 9 ∷ [])) read_only ∷ Abort (t 5) ∷ Permit (t 5) (t 6) All read_only ∷ [])
     (refused Same ∷ refused (Unknown (t 5)) ∷ ok ∷ refused (Unknown (t 6)) ∷ ok ∷ refused (NoObject (x 8)) ∷ ok ∷ Answer Aborted ∷ refused (Ended (t 6)) ∷ Answer Aborted ∷ refused (Ended (t 5)) ∷ [])
 
 permit_rows : CooperatingWriteSurvives × CooperatingWriteUndone × PermitChain × PermitsRefused

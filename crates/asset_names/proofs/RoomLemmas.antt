@@ -16,7 +16,9 @@ use Rattle.asset_names.specs.declared.replies.Reply.{Reply}
 use Rattle.asset_names.specs.declared.replies.Outcome.TheVariants.{Answer}
 use Rattle.asset_names.specs.Answers.{is_running, answer, IsLegal}
 use Rattle.asset_names.specs.Room.{owed_to, owed, fits, changes_status}
-use Rattle.asset_names.proofs.LegalLemmas.{option_or_none, end_alone, running_parts, complete_runs, Distinct, IsOrderly, legal_orderly, ended_initiated}
+use Rattle.asset_names.proofs.LegalLemmas.{end_alone, running_parts, complete_runs, legal_orderly, ended_initiated}
+use Rattle.asset_names.specs.Orderly.{Distinct, IsOrderly}
+use Rattle.asset_names.proofs.Common.{option_or_none}
 
 -- sums of what is the same for each listed name
 pub sum_same : (f g : ℕ → ℕ) (names : List ℕ) → ((n : ℕ) → lists names n ≡ true → g n ≡ f n) → sum_by g names ≡ sum_by f names

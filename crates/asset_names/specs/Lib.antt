@@ -6,5 +6,6 @@ pub mod SetFaults
 pub mod Steps
 pub mod Endings
 pub mod Operations
+pub mod Orderly
 pub mod Answers
 pub mod Room

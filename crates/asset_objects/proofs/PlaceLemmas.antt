@@ -1,10 +1,9 @@
 -- The values in place as the entries of a map, and the rows of a table.
-use Rattle.std.proofs.Common.{◌≡◌, ℕ, ◌+◌, ◌<◌, Bool, true, false, cond, eqb, ◌||◌, List, [], ◌∷◌, ◌++◌, map, length, get_or, take, find, Option, Some, None, refl, sym, ap, ◌∙◌, arith}
+use Rattle.std.proofs.Common.{◌≡◌, ℕ, ◌+◌, ◌<◌, Bool, true, false, cond, eqb, ◌||◌, List, [], ◌∷◌, ◌++◌, map, length, get_or, take, find, Option, Some, None, refl, sym, ap, ◌∙◌}
 use Rattle.std.specs.Prelude.{ℤ}
 use Rattle.std.specs.Option.{option_map}
 use Rattle.std.specs.Map.{lookup, set_value}
 use Rattle.std.proofs.lemmas.Bool.{eqb-true}
-use Rattle.std.proofs.lemmas.Bool.Decides.{nat_tests}
 use Rattle.std.proofs.lemmas.List.{take_more, map-append}
 use Rattle.asset_names.specs.declared.names.Ob.{Ob}
 use Rattle.asset_names.specs.Arrows.{lists}
@@ -12,13 +11,11 @@ use Rattle.asset_names.specs.Sets.{HasNoDouble}
 use Rattle.asset_names.specs.Steps.{Opening}
 use Rattle.asset_names.specs.Operations.{opening_at}
 use Rattle.asset_names.proofs.DoubleLemmas.{no_double_push}
+use Rattle.asset_names.proofs.Common.{eqb-flip}
 use Rattle.asset_objects.specs.declared.records.Record.{Record}
 use Rattle.asset_objects.specs.Cells.{Cell, cells}
 use Rattle.asset_objects.specs.Faults.{objects_of}
 use Rattle.asset_objects.specs.Records.{put_at, cell_of, cells_of, table_of}
-
-pub eqb_sym : (a b : ℕ) → eqb a b ≡ eqb b a
-eqb_sym a b = grind (arith, nat_tests)
 
 -- the value of the first pair or of the others
 pub opening_at-cons : (pair : Ob × ℤ) (pairs : Opening) (x : ℕ) → opening_at (pair ∷ pairs) x ≡ cond (eqb pair.0.0 x) (Some pair.1) (opening_at pairs x)
@@ -38,7 +35,7 @@ lookup_opening test x h [] = opening_nil where
   opening_nil : None ≡ opening_at [] x
   opening_nil = refl
 lookup_opening test x h (pair ∷ pairs) =
-    (λ i. cond ((h pair.0 ∙ eqb_sym x pair.0.0) i) (Some pair.1) (lookup_opening test x h pairs i))
+    (λ i. cond ((h pair.0 ∙ eqb-flip x pair.0.0) i) (Some pair.1) (lookup_opening test x h pairs i))
     ∙ sym (opening_at-cons pair pairs x)
 
 -- what a write to one entry makes of the value of an object, by which objects are one

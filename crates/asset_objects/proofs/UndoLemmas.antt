@@ -8,6 +8,7 @@ use Rattle.std.proofs.lemmas.List.{append-nil}
 use Rattle.std.proofs.lemmas.List.Elements.{filter-append}
 use Rattle.asset_names.specs.Steps.{Opening}
 use Rattle.asset_names.specs.Operations.{opening_at}
+use Rattle.asset_names.proofs.Common.{cond_same}
 use Rattle.asset_objects.specs.declared.records.Record.{Record}
 use Rattle.asset_objects.specs.Cells.{Written, Cell, undone, change_each}
 use Rattle.asset_objects.specs.Records.{is_on, is_of, write_of, base_of, writes_on, cell_of, cells_of, put_at, IsChained, IsKept, IsReturned, handed}
@@ -91,10 +92,6 @@ filter_gone test false write e = refl
 -- the value in place of one object, once a record on x is gone
 abbrev value_after : ℕ → ℕ → ℤ → List Record → ℤ → ℤ
 value_after x y before later value = cond (list_any (is_on x) later) value (cond (eqb x y) before value)
-
-cond_same : (b : Bool) (value : ℤ) → cond b value value ≡ value
-cond_same true value = refl
-cond_same false value = refl
 
 -- what the object held before the later records is as it was
 gone_base : (y : ℕ) (gone : Record) (later : List Record) (value : ℤ) →

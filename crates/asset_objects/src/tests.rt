@@ -2,6 +2,7 @@
 
 use crate::{Objects, ObjectsFault};
 use asset_names::{NoMemory, Ob, Txn};
+use std::alloc::Global;
 use std::test::Fail;
 
 const TWO: [(Ob, i64); 2] = [(Ob(1), 100), (Ob(2), 200)];
@@ -22,6 +23,13 @@ fn write_twice(objects: &mut Objects) -> Result<(), NoMemory> {
     write(objects, 8, 1, 60)
 }
 
+/// Whether the objects have these values.
+fn shows(objects: &Objects, first: i64, second: i64) -> bool {
+    objects.value(Ob(1)) == Some(first)
+        && objects.value(Ob(2)) == Some(second)
+        && objects.value(Ob(9)) == None
+}
+
 /// The two objects, where 7 and then 8 have written to the first.
 fn written_twice(rt: &HostRuntime) -> Result<Objects, Fail> {
     let mut objects = Objects::open(rt.alloc(), &TWO)?;
@@ -32,9 +40,7 @@ fn written_twice(rt: &HostRuntime) -> Result<Objects, Fail> {
 #[test]
 fn opening_values_are_shown(rt: HostRuntime) -> Result<(), Fail> {
     let objects = Objects::open(rt.alloc(), &TWO)?;
-    assert_eq!(rt; objects.value(Ob(1)), Some(100));
-    assert_eq!(rt; objects.value(Ob(2)), Some(200));
-    assert_eq!(rt; objects.value(Ob(9)), None);
+    assert!(rt; shows(&objects, 100, 200));
     Ok(())
 }
 
@@ -48,56 +54,74 @@ fn double_object_is_refused(rt: HostRuntime) -> Result<(), Fail> {
     Ok(())
 }
 
+/// Whether undo of 7 mends the record of 8, which wrote later.
+fn undo_mends(objects: &mut Objects) -> bool {
+    let before = shows(objects, 60, 200);
+    objects.undo(Txn(7));
+    let between = shows(objects, 60, 200);
+    objects.undo(Txn(8));
+    before && between && shows(objects, 100, 200)
+}
+
 #[test]
 fn undo_mends_the_later_record(rt: HostRuntime) -> Result<(), Fail> {
     let mut objects = written_twice(&rt)?;
-    assert_eq!(rt; objects.value(Ob(1)), Some(60));
-    objects.undo(Txn(7));
-    assert_eq!(rt; objects.value(Ob(1)), Some(60));
-    objects.undo(Txn(8));
-    assert_eq!(rt; objects.value(Ob(1)), Some(100));
-    assert_eq!(rt; objects.value(Ob(2)), Some(200));
+    assert!(rt; undo_mends(&mut objects));
     Ok(())
+}
+
+/// Whether nothing of 7 is left to undo when 8, which wrote later, has settled.
+fn settle_drops(objects: &mut Objects) -> bool {
+    objects.settle(Txn(8));
+    let between = shows(objects, 60, 200);
+    objects.undo(Txn(7));
+    between && shows(objects, 60, 200)
 }
 
 #[test]
 fn settle_drops_earlier_records(rt: HostRuntime) -> Result<(), Fail> {
     let mut objects = written_twice(&rt)?;
-    objects.settle(Txn(8));
-    assert_eq!(rt; objects.value(Ob(1)), Some(60));
-    objects.undo(Txn(7));
-    assert_eq!(rt; objects.value(Ob(1)), Some(60));
+    assert!(rt; settle_drops(&mut objects));
     Ok(())
+}
+
+/// Whether undo of 7 takes its writes to both objects away, however they were mixed.
+fn undo_takes_all(objects: &mut Objects) -> bool {
+    let written = write(objects, 7, 2, 1) == Ok(())
+        && write(objects, 7, 1, 2) == Ok(())
+        && write(objects, 7, 2, 3) == Ok(());
+    let between = shows(objects, 2, 3);
+    objects.undo(Txn(7));
+    written && between && shows(objects, 60, 200)
 }
 
 #[test]
 fn undo_of_several_objects(rt: HostRuntime) -> Result<(), Fail> {
     let mut objects = written_twice(&rt)?;
-    assert_eq!(rt; write(&mut objects, 7, 2, 1), Ok(()));
-    assert_eq!(rt; write(&mut objects, 7, 1, 2), Ok(()));
-    assert_eq!(rt; write(&mut objects, 7, 2, 3), Ok(()));
-    assert_eq!(rt; objects.value(Ob(1)), Some(2));
-    assert_eq!(rt; objects.value(Ob(2)), Some(3));
-    objects.undo(Txn(7));
-    assert_eq!(rt; objects.value(Ob(1)), Some(60));
-    assert_eq!(rt; objects.value(Ob(2)), Some(200));
+    assert!(rt; undo_takes_all(&mut objects));
     Ok(())
+}
+
+/// The two objects. Where memory runs out once, they are opened again.
+fn opened(alloc: Global) -> Result<Objects, ObjectsFault> {
+    match Objects::open(alloc, &TWO) {
+        Err(ObjectsFault::NoMemory) => Objects::open(alloc, &TWO),
+        result => result,
+    }
+}
+
+/// Whether a write that finds no memory changes nothing, and can be asked again.
+fn write_is_asked_again(objects: &mut Objects) -> bool {
+    let reserved = match objects.reserve_write() {
+        Ok(()) => true,
+        Err(NoMemory) => shows(objects, 100, 200) && objects.reserve_write() == Ok(()),
+    };
+    reserved && write(objects, 7, 1, 50) == Ok(()) && shows(objects, 50, 200)
 }
 
 #[test]
 fn want_of_memory_changes_nothing(rt: HostRuntime) -> Result<(), Fail> {
-    let mut objects = match Objects::open(rt.alloc(), &TWO) {
-        Ok(objects) => objects,
-        Err(fault) => {
-            assert_eq!(rt; fault, ObjectsFault::NoMemory);
-            Objects::open(rt.alloc(), &TWO)?
-        }
-    };
-    if objects.reserve_write() == Err(NoMemory) {
-        assert_eq!(rt; objects.value(Ob(1)), Some(100));
-        assert_eq!(rt; objects.reserve_write(), Ok(()));
-    }
-    assert_eq!(rt; write(&mut objects, 7, 1, 50), Ok(()));
-    assert_eq!(rt; objects.value(Ob(1)), Some(50));
+    let mut objects = opened(rt.alloc())?;
+    assert!(rt; write_is_asked_again(&mut objects));
     Ok(())
 }

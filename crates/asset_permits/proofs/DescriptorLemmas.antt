@@ -1,5 +1,5 @@
 -- Lists of descriptors: two that say the same are one; what stands after one more, and that none stands twice.
-use Rattle.std.proofs.Common.{◌≡◌, ℕ, Bool, true, false, cond, eqb, ◌&&◌, ◌||◌, List, [], ◌∷◌, ◌++◌, map, filter, refl, sym, ap, ◌∙◌, arith, inl, inr}
+use Rattle.std.proofs.Common.{◌≡◌, ℕ, Bool, true, false, cond, eqb, ◌&&◌, ◌||◌, List, [], ◌∷◌, ◌++◌, map, filter, refl, sym, ap, ◌∙◌, inl, inr}
 use Rattle.std.specs.Bool.{beq}
 use Rattle.std.specs.List.{list_any}
 use Rattle.std.specs.Cmp.Lexicographic.{pointwise}
@@ -12,6 +12,8 @@ use Rattle.asset_names.specs.declared.sets.ObSet.{ObSet}
 use Rattle.asset_names.specs.declared.sets.ObSet.TheVariants.{All, Listed}
 use Rattle.asset_names.specs.InSet.{in_set}
 use Rattle.asset_names.specs.Operations.{has_op}
+use Rattle.asset_names.proofs.Common.{eqb-flip}
+use Rattle.std.proofs.Math.Bool.{or-false}
 use Rattle.asset_permits.specs.Descriptors.{Descriptor, Given, given_by, same_given, same_objects, same_ops, same_descriptor, stands, AreDifferent, covers, lets, one_covers}
 
 -- ---- two that say the same
@@ -75,12 +77,8 @@ same_self d =
     and_from _ _ (and_from _ _ (and_from _ _ (eq-eqb d.giver d.giver refl) (eq-eqb d.taker d.taker refl)) (objects_self d.objects)) (and_from _ _ (beq_self d.ops.0) (beq_self d.ops.1))
 
 -- ---- one more
-or_none : (p : Bool) → (p || false) ≡ p
-or_none true = refl
-or_none false = refl
-
 pub any_push : (test : Descriptor → Bool) (descriptors : List Descriptor) (d : Descriptor) → list_any test (descriptors ++ d ∷ []) ≡ (list_any test descriptors || test d)
-any_push test descriptors d = list_any-append test descriptors (d ∷ []) ∙ ap (λ b. list_any test descriptors || b) (or_none (test d))
+any_push test descriptors d = list_any-append test descriptors (d ∷ []) ∙ ap (λ b. list_any test descriptors || b) (or-false (test d))
 
 pub stands_push : (descriptors : List Descriptor) (d e : Descriptor) → stands (descriptors ++ d ∷ []) e ≡ (stands descriptors e || same_descriptor d e)
 unfolding stands
@@ -142,8 +140,6 @@ different_filtered keep (d ∷ descriptors) different = go (keep d) (filtered d 
   go false none rest = rest
 
 -- ---- who is let, as callers say it
-pub eqb-flip : (m n : ℕ) → eqb m n ≡ eqb n m
-eqb-flip m n = grind arith
 
 regrouped : (p q r s : Bool) → (p && q && (r && s)) ≡ (p && q && r && s)
 regrouped true true r s = refl

@@ -8,21 +8,19 @@ use Rattle.std.proofs.lemmas.List.Folds.{list_any-append, list_any_more}
 use Rattle.std.proofs.lemmas.Map.Entries.{length-keys_of}
 use Rattle.indexmap.specs.IndexMap.{IndexMap}
 use Rattle.asset_names.specs.declared.names.Txn.{Txn}
+use Rattle.asset_names.proofs.Common.{eqb-flip, cond_same}
+use Rattle.std.proofs.Math.Bool.{or-false}
 use Rattle.asset_permits.specs.Descriptors.{Descriptor, Given, given_by, stands, AreDifferent, same_descriptor}
 use Rattle.asset_permits.specs.Row.{has_giver, without_giver, has_given, has_taker}
 use Rattle.asset_permits.specs.Kept.{Entry, row_of, given_or_none, given_in, givers_or_none, givers_in, given_of, descriptors_of, is_to, without_taker, HaveNames}
 use Rattle.asset_permits.specs.declared.row.Row.{Row}
-use Rattle.asset_permits.proofs.DescriptorLemmas.{same_is, same_self, same_by, eqb-flip}
+use Rattle.asset_permits.proofs.DescriptorLemmas.{same_is, same_self, same_by}
 
 abbrev pub same_txn : Txn → Txn → Bool
 same_txn t u = eqb t.0 u.0
 
 abbrev pub is_name : ℕ → Txn → Bool
 is_name u name = eqb u name.0
-
-pub or_none : (p : Bool) → (p || false) ≡ p
-or_none true = refl
-or_none false = refl
 
 -- ---- one row is written
 given_at : (old new : List Entry) (x y : ℕ) (w : Row) (f : ℕ → List Descriptor → List Descriptor) (b : Bool) → eqb x y ≡ b → given_or_none x (Some w) ≡ f x (given_in old x)
@@ -50,9 +48,6 @@ pub givers_written : (old new : List Entry) (x : ℕ) (w : Row) (f : List Txn �
 givers_written old new x w f becomes written y = givers_at old new x y w f (eqb x y) refl becomes (written y)
 
 -- what of it stays
-cond_same : {A : Type 0} (b : Bool) (x : A) → cond b x x ≡ x
-cond_same true x = refl
-cond_same false x = refl
 
 pub given_kept : (old new : List Entry) (x : ℕ) (w : Row) → given_or_none x (Some w) ≡ given_in old x
     → ((y : ℕ) → row_of new y ≡ cond (eqb x y) (Some w) (row_of old y)) → (y : ℕ) → given_in new y ≡ given_in old y
@@ -137,7 +132,7 @@ flat_own test u e rows true same owns apart rest =
     let is = eqb-true u e.0.0 same in
     let none : given_in rows u ≡ [] = given_nowhere rows u (nobody u rows (subst (λ n. AllByRecursion (λ (key : Txn). eqb n key.0 ≡ false) (keys_of rows)) (sym is) apart)) in
     let later : list_any test (descriptors_of rows) ≡ false = rest ∙ ap (list_any test) none in
-    ap (λ b. list_any test (map (given_by e.0.0) e.1.given.items) || b) later ∙ or_none (list_any test (map (given_by e.0.0) e.1.given.items)) ∙ ap (λ n. list_any test (map (given_by n) e.1.given.items)) (sym is)
+    ap (λ b. list_any test (map (given_by e.0.0) e.1.given.items) || b) later ∙ or-false (list_any test (map (given_by e.0.0) e.1.given.items)) ∙ ap (λ n. list_any test (map (given_by n) e.1.given.items)) (sym is)
 flat_own test u e rows false same owns apart rest = ap (λ b. b || list_any test (descriptors_of rows)) (none_by test u e.0.0 owns same e.1.given.items) ∙ rest
 
 pub any_flat : (test : Descriptor → Bool) (u : ℕ) → ((d : Descriptor) → test d ≡ true → d.giver ≡ u) → (rows : List Entry) → HaveNames rows → list_any test (descriptors_of rows) ≡ list_any test (given_in rows u)
@@ -193,7 +188,7 @@ different_flat (e ∷ rows) names different =
 -- ---- who is noted
 has_giver_push : (u : ℕ) (names : List Txn) (name : Txn) → has_giver u (names ++ name ∷ []) ≡ (has_giver u names || eqb u name.0)
 unfolding has_giver
-has_giver_push u names name = list_any-append (λ (n : Txn). eqb n.0 u) names (name ∷ []) ∙ ap (λ b. list_any (λ (n : Txn). eqb n.0 u) names || b) (or_none (eqb name.0 u) ∙ eqb-flip name.0 u)
+has_giver_push u names name = list_any-append (λ (n : Txn). eqb n.0 u) names (name ∷ []) ∙ ap (λ b. list_any (λ (n : Txn). eqb n.0 u) names || b) (or-false (eqb name.0 u) ∙ eqb-flip name.0 u)
 
 pub giver_noted : (u : ℕ) (names new : List Txn) (name : Txn) → new ≡ names ++ name ∷ [] → has_giver u new ≡ (has_giver u names || eqb u name.0)
 giver_noted u names new name is = ap (has_giver u) is ∙ has_giver_push u names name
@@ -202,7 +197,7 @@ pub giver_there : (u : ℕ) (names : List Txn) (name : Txn) → has_giver name.0
 giver_there u names name there = go (eqb u name.0) refl where
   go : (b : Bool) → eqb u name.0 ≡ b → has_giver u names ≡ (has_giver u names || b)
   go true e = let known : has_giver u names ≡ true = subst (λ n. has_giver n names ≡ true) (sym (eqb-true u name.0 e)) there in rw known refl
-  go false e = sym (or_none (has_giver u names))
+  go false e = sym (or-false (has_giver u names))
 
 -- ---- some are taken away
 pub filter_mapped : (t u : ℕ) (given : List Given) → map (given_by u) (filter (λ (one : Given). not (eqb one.taker t)) given) ≡ without_taker t (map (given_by u) given)
@@ -281,7 +276,7 @@ noted_at : (old new : List Entry) (x g t u : ℕ) (w : Row) (b : Bool) → eqb x
     → row_of new t ≡ cond b (Some w) (row_of old t) → has_giver u (givers_in new t) ≡ (has_giver u (givers_in old t) || b && eqb u g)
 noted_at old new x g t u w true e says written =
     ap (has_giver u) (givers_there new t w written) ∙ says ∙ ap (λ n. has_giver u (givers_in old n) || eqb u g) (eqb-true x t e)
-noted_at old new x g t u w false e says written = ap (has_giver u) (givers_by old new t written) ∙ sym (or_none (has_giver u (givers_in old t)))
+noted_at old new x g t u w false e says written = ap (has_giver u) (givers_by old new t written) ∙ sym (or-false (has_giver u (givers_in old t)))
 
 pub noted_written : (old new : List Entry) (x g : ℕ) (w : Row) → ((u : ℕ) → has_giver u w.givers.items ≡ (has_giver u (givers_in old x) || eqb u g))
     → ((y : ℕ) → row_of new y ≡ cond (eqb x y) (Some w) (row_of old y)) → (t u : ℕ) → has_giver u (givers_in new t) ≡ (has_giver u (givers_in old t) || eqb x t && eqb u g)

@@ -17,7 +17,7 @@ use Rattle.asset_permits.specs.Kept.{Entry, row_of, givers_in, descriptors_of, i
 use Rattle.asset_permits.specs.Searched.{name_at, Meets, Expands}
 use Rattle.asset_permits.specs.declared.row.Row.{Row}
 use Rattle.asset_permits.proofs.ArrowLaws.{arrows_stand, closed_linked}
-use Rattle.asset_permits.proofs.DescriptorLemmas.{eqb-flip}
+use Rattle.asset_names.proofs.Common.{eqb-flip}
 use Rattle.asset_permits.proofs.RowLemmas.{any_flat, any_map, given_there, given_nowhere, givers_nowhere, is_name}
 use Rattle.asset_permits.proofs.WalkLemmas.{lists-append, lists_left, lists_right, nothing_listed}
 

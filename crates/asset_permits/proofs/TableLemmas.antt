@@ -5,12 +5,14 @@ use Rattle.std.proofs.lemmas.Bool.{or_cases, or_parts, and_parts, eqb-true, eq-e
 use Rattle.std.proofs.lemmas.Map.Views.{any-filter_same}
 use Rattle.asset_names.specs.declared.names.Txn.{Txn}
 use Rattle.asset_names.specs.declared.operations.Op.{Op}
+use Rattle.asset_names.proofs.Common.{eqb-flip}
+use Rattle.std.proofs.Math.Bool.{or-false}
 use Rattle.asset_permits.specs.Descriptors.{Descriptor, Given, given_by, stands, AreDifferent, same_descriptor, lets}
 use Rattle.asset_permits.specs.Row.{has_giver, without_giver, has_taker}
 use Rattle.asset_permits.specs.Kept.{Entry, row_of, given_or_none, given_in, givers_or_none, givers_in, descriptors_of, is_to, without_taker, HaveNames, AreNoted, IsKept}
 use Rattle.asset_permits.specs.declared.row.Row.{Row}
-use Rattle.asset_permits.proofs.DescriptorLemmas.{any_push, different_push, different_filtered, eqb-flip, same_is}
-use Rattle.asset_permits.proofs.RowLemmas.{any_flat, or_none, given_nowhere, givers_there, givers_nowhere}
+use Rattle.asset_permits.proofs.DescriptorLemmas.{any_push, different_push, different_filtered, same_is}
+use Rattle.asset_permits.proofs.RowLemmas.{any_flat, given_nowhere, givers_there, givers_nowhere}
 
 -- ---- one more permit
 more_at : (test : Descriptor → Bool) (g u : ℕ) (one : Given) (old new : List Descriptor) (b : Bool) → eqb g u ≡ b → ((d : Descriptor) → test d ≡ true → d.giver ≡ u)
@@ -20,7 +22,7 @@ more_at test g u one old new true same owns is =
     ap (list_any test) is ∙ any_push test old (given_by u one) ∙ ap (λ n. list_any test old || test (given_by n one)) (sym (eqb-true g u same))
 more_at test g u one old new false other owns is =
     let none : test (given_by g one) ≡ false = false_from_ne_true (test (given_by g one)) (λ passes. true≢false (sym (eq-eqb g u (owns (given_by g one) passes)) ∙ other)) in
-    ap (list_any test) is ∙ sym (or_none (list_any test old)) ∙ ap (λ b. list_any test old || b) (sym none)
+    ap (list_any test) is ∙ sym (or-false (list_any test old)) ∙ ap (λ b. list_any test old || b) (sym none)
 
 pub any_given_more : (test : Descriptor → Bool) (g u : ℕ) (one : Given) (old new : List Entry) → ((d : Descriptor) → test d ≡ true → d.giver ≡ u) → HaveNames old → HaveNames new
     → ((y : ℕ) → given_in new y ≡ cond (eqb g y) (given_in old y ++ given_by y one ∷ []) (given_in old y))

@@ -2,7 +2,6 @@
 
 use crate::Permits;
 use asset_names::{NoMemory, Ob, ObList, ObSet, Op, Ops, SetFault, Txn};
-use std::test::Fail;
 
 /// The set of two objects.
 fn two(first: u64, second: u64) -> Result<ObSet, SetFault> {
@@ -23,28 +22,22 @@ fn add_once(
     }
 }
 
-/// Adds a permit as `add_once` does. Where memory runs out, nothing has changed and the same call is
-/// made again.
-fn add(permits: &mut Permits, u: u64, t: u64, objects: &ObSet, write: bool) -> Result<(), Fail> {
+/// Adds a permit as `add_once` does, and says whether it could. Where memory runs out, nothing has changed and the
+/// same call is made again.
+fn add(permits: &mut Permits, u: u64, t: u64, objects: &ObSet, write: bool) -> bool {
     let before = reads(permits, u, t, 2);
     match add_once(permits, u, t, objects, write) {
-        Ok(()) => Ok(()),
+        Ok(()) => true,
         Err(NoMemory) => {
-            if reads(permits, u, t, 2) != before {
-                return Err(Fail::new("a permit was added, and none was told"));
-            }
-            add_once(permits, u, t, objects, write)?;
-            Ok(())
+            reads(permits, u, t, 2) == before && add_once(permits, u, t, objects, write) == Ok(())
         }
     }
 }
 
 /// Seven lets eight read and write 1 and 2, and eight lets nine read 2 and 3.
-fn worked(rt: &HostRuntime) -> Result<Permits, Fail> {
-    let mut permits = Permits::new(rt.alloc());
-    add(&mut permits, 7, 8, &two(1, 2)?, true)?;
-    add(&mut permits, 8, 9, &two(2, 3)?, false)?;
-    Ok(permits)
+fn permit_both(permits: &mut Permits) -> Result<bool, SetFault> {
+    let (low, high) = (two(1, 2)?, two(2, 3)?);
+    Ok(add(permits, 7, 8, &low, true) && add(permits, 8, 9, &high, false))
 }
 
 /// Whether a name allows another to read an object.
@@ -57,45 +50,62 @@ fn writes(permits: &mut Permits, u: u64, t: u64, x: u64) -> bool {
     permits.allows(Txn(u), Txn(t), Ob(x), Op::Write)
 }
 
-#[test]
-fn chain_allows_what_each_permit_has(rt: HostRuntime) -> Result<(), Fail> {
-    let mut permits = worked(&rt)?;
-    assert!(rt; reads(&mut permits, 7, 9, 2));
-    assert!(rt; !writes(&mut permits, 7, 9, 2));
-    assert!(rt; !reads(&mut permits, 7, 9, 1));
-    assert!(rt; writes(&mut permits, 7, 7, 1));
-    assert!(rt; !reads(&mut permits, 9, 7, 2));
-    Ok(())
+/// Whether a chain lets its end do what each of its permits has, and no more.
+fn chain_allows(permits: &mut Permits) -> bool {
+    reads(permits, 7, 9, 2)
+        && !writes(permits, 7, 9, 2)
+        && !reads(permits, 7, 9, 1)
+        && writes(permits, 7, 7, 1)
+        && !reads(permits, 9, 7, 2)
 }
 
 #[test]
-fn chain_ends_with_its_members(rt: HostRuntime) -> Result<(), Fail> {
-    let mut permits = worked(&rt)?;
+fn chain_allows_what_each_permit_has(rt: HostRuntime) {
+    let mut permits = Permits::new(rt.alloc());
+    assert_eq!(rt; permit_both(&mut permits), Ok(true));
+    assert!(rt; chain_allows(&mut permits));
+}
+
+/// Whether nothing is left of a chain when its middle has ended, and seven can permit nine by itself.
+fn chain_ends(permits: &mut Permits) -> bool {
     permits.drop_all(Txn(8));
-    assert!(rt; !reads(&mut permits, 7, 9, 2));
-    assert!(rt; !reads(&mut permits, 7, 8, 2));
-    assert!(rt; !reads(&mut permits, 8, 9, 2));
-    add(&mut permits, 7, 9, &ObSet::All, true)?;
-    assert!(rt; writes(&mut permits, 7, 9, 4));
-    Ok(())
+    !reads(permits, 7, 9, 2)
+        && !reads(permits, 7, 8, 2)
+        && !reads(permits, 8, 9, 2)
+        && add(permits, 7, 9, &ObSet::All, true)
+        && writes(permits, 7, 9, 4)
 }
 
 #[test]
-fn chain_may_come_back(rt: HostRuntime) -> Result<(), Fail> {
-    let mut permits = worked(&rt)?;
-    add(&mut permits, 9, 7, &ObSet::All, false)?;
-    assert!(rt; reads(&mut permits, 9, 8, 2));
-    assert!(rt; !reads(&mut permits, 9, 6, 2));
-    Ok(())
+fn chain_ends_with_its_members(rt: HostRuntime) {
+    let mut permits = Permits::new(rt.alloc());
+    assert_eq!(rt; permit_both(&mut permits), Ok(true));
+    assert!(rt; chain_ends(&mut permits));
+}
+
+/// Whether a chain may come back to its start.
+fn chain_comes_back(permits: &mut Permits) -> bool {
+    add(permits, 9, 7, &ObSet::All, false) && reads(permits, 9, 8, 2) && !reads(permits, 9, 6, 2)
 }
 
 #[test]
-fn permit_is_given_twice(rt: HostRuntime) -> Result<(), Fail> {
-    let mut permits = worked(&rt)?;
-    add(&mut permits, 7, 8, &two(2, 1)?, true)?;
-    assert!(rt; reads(&mut permits, 7, 9, 2));
+fn chain_may_come_back(rt: HostRuntime) {
+    let mut permits = Permits::new(rt.alloc());
+    assert_eq!(rt; permit_both(&mut permits), Ok(true));
+    assert!(rt; chain_comes_back(&mut permits));
+}
+
+/// Whether a permit that is given twice is one permit, and goes with its giver.
+fn second_adds_nothing(permits: &mut Permits) -> Result<bool, SetFault> {
+    let same = two(2, 1)?;
+    let stands = add(permits, 7, 8, &same, true) && reads(permits, 7, 9, 2);
     permits.drop_all(Txn(7));
-    assert!(rt; !reads(&mut permits, 7, 8, 2));
-    assert!(rt; reads(&mut permits, 8, 9, 3));
-    Ok(())
+    Ok(stands && !reads(permits, 7, 8, 2) && reads(permits, 8, 9, 3))
+}
+
+#[test]
+fn permit_is_given_twice(rt: HostRuntime) {
+    let mut permits = Permits::new(rt.alloc());
+    assert_eq!(rt; permit_both(&mut permits), Ok(true));
+    assert_eq!(rt; second_adds_nothing(&mut permits), Ok(true));
 }

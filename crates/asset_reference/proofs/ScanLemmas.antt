@@ -1,6 +1,6 @@
 -- What one more entry says of an object and of who may use it.
 use Rattle.std.proofs.Common.{◌≡◌, ℕ, Bool, true, false, cond, eqb, ◌&&◌, ◌||◌, List, [], ◌∷◌, ◌++◌, Some, None, refl, ◌∙◌, ap, arith}
-use Rattle.std.specs.Prelude.{Option, ℤ, unwrap_or, is_none}
+use Rattle.std.specs.Prelude.{ℤ, unwrap_or}
 use Rattle.std.specs.List.{list_any}
 use Rattle.asset_names.specs.declared.operations.Op.{Op}
 use Rattle.std.proofs.lemmas.List.Elements.{filter-append}
@@ -10,8 +10,9 @@ use Rattle.asset_names.specs.Arrows.{Arrow, among}
 use Rattle.asset_names.specs.Steps.{Entry, carries_out, deeds}
 use Rattle.asset_names.specs.Operations.{Operation, operations, operated, permits, permitted_by, value_after, after_use}
 use Rattle.asset_names.specs.Operations.Use.{reads, writes}
+use Rattle.asset_names.proofs.Common.{cond_same}
 use Rattle.asset_reference.specs.Scans.{written_by}
-use Rattle.asset_reference.proofs.PastLemmas.{deeds_carried, deeds_not_carried}
+use Rattle.asset_names.proofs.PastLemmas.{deeds_carried, deeds_not_carried}
 
 -- what is said of the deeds after one more entry: of its step where that was carried out
 pub at_deeds : {A : Type 0} (f : List Step → A) (entry : Entry) (older : List Entry) → f (deeds (entry ∷ older)) ≡ cond (carries_out entry.0 entry.1) (f (entry.0 ∷ deeds older)) (f (deeds older))
@@ -21,9 +22,6 @@ at_deeds {A} f entry older = go (carries_out entry.0 entry.1) refl where
   go false e = ap f (deeds_not_carried entry older e)
 
 -- both ways are one
-cond_same : {A : Type 0} (b : Bool) (x : A) → cond b x x ≡ x
-cond_same true x = refl
-cond_same false x = refl
 
 -- nothing is added by what is false
 pub or_none : (p q : Bool) → q ≡ false → (p || q) ≡ p

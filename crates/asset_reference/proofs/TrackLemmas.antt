@@ -6,8 +6,9 @@ use Rattle.asset_names.specs.declared.steps.Step.TheVariants.{Initiate, Begin, R
 use Rattle.asset_names.specs.Arrows.{lists, linked, among}
 use Rattle.asset_names.specs.Steps.{Entry, carries_out, deeds, initiated, initiated_by, begun, begun_by, completed, completed_by}
 use Rattle.asset_names.specs.Endings.{class_arrows, doom_arrows, end_of, ended_by, live}
-use Rattle.asset_names.proofs.LegalLemmas.{option_or_none, end_alone}
-use Rattle.asset_reference.proofs.PastLemmas.{deeds_carried, deeds_not_carried}
+use Rattle.asset_names.proofs.Common.{option_or_none}
+use Rattle.asset_names.proofs.LegalLemmas.{end_alone}
+use Rattle.asset_names.proofs.PastLemmas.{deeds_carried, deeds_not_carried}
 use Rattle.asset_reference.specs.Tracks.{track_of, track_after}
 
 pub track_of_more : (step : Step) (past : List Step) (t : ℕ) → track_of (step ∷ past) t ≡ track_after (track_of past t) step t

@@ -1,7 +1,5 @@
 -- What one step says of an object.
-use Rattle.std.specs.Prelude.{ℕ, ℤ, Bool, true, false, cond, ◌==◌, ◌&&◌, List, [], ◌∷◌, Option, Some, None}
-use Rattle.asset_names.specs.declared.statuses.Status.{Status}
-use Rattle.asset_names.specs.declared.statuses.Status.TheVariants as Status'
+use Rattle.std.specs.Prelude.{ℕ, ℤ, Bool, cond, ◌==◌, ◌&&◌, List, [], ◌∷◌, Option, Some, None}
 use Rattle.asset_names.specs.declared.names.Txn.{Txn}
 use Rattle.asset_names.specs.Arrows.{Arrow}
 use Rattle.asset_names.specs.declared.steps.Step.{Step}

@@ -17,15 +17,13 @@ use Rattle.asset_names.specs.declared.statuses.End.{End}
 use Rattle.asset_names.specs.declared.statuses.End.TheVariants as End'
 use Rattle.asset_names.specs.declared.names.Txn.{Txn}
 use Rattle.asset_names.specs.declared.statuses.Status.{Status}
+use Rattle.asset_names.proofs.Common.{eqb-flip}
 use Rattle.asset_trans.specs.declared.rows.Row.{Row}
 use Rattle.asset_trans.specs.Rows.{Entry, row_in, status_in, status_or_unknown, initiate_in, set_in, set_entry, ended_as, one_if_live, live_count_in, owed_in, has_unknown}
 
 -- whether two names are one, as the map looks for a name
 abbrev pub same : Txn → Txn → Bool
 same t u = eqb t.0 u.0
-
-eqb-flip : (m n : ℕ) → eqb m n ≡ eqb n m
-eqb-flip m n = grind arith
 
 -- a name that is not there is not set
 none_set : (t : Txn) (status : Status) (rows : List Entry) → AllByRecursion (λ u. same t u ≡ false) (keys_of rows) → set_in (λ n. eqb n t.0) status rows ≡ rows

@@ -55,48 +55,72 @@ fn end(trans: &mut Trans, t: Txn, how: End) -> bool {
     }
 }
 
+/// Whether a transaction has this status, and so much is owed to so many live ones.
+fn shows(trans: &Trans, t: u64, status: Status, owed: usize, live: usize) -> bool {
+    trans.status(Txn(t)) == status && trans.owed() == owed && trans.live_count() == live
+}
+
+/// Whether each change of the one transaction, 7, is shown, to its commit.
+fn changes_are_shown(trans: &mut Trans) -> bool {
+    shows(trans, 7, Status::Initiated, 2, 1)
+        && begin(trans, Txn(7))
+        && shows(trans, 7, Status::Running, 2, 1)
+        && complete(trans, Txn(7))
+        && shows(trans, 7, Status::Completed, 1, 1)
+        && end(trans, Txn(7), End::Committed)
+        && shows(trans, 7, Status::Committed, 0, 0)
+        && !end(trans, Txn(7), End::Aborted)
+}
+
 #[test]
 fn statuses_and_what_is_owed(rt: HostRuntime) -> Result<(), Fail> {
     let mut trans = with_one(rt.alloc(), Txn(7), None)?;
-    assert_eq!(rt; trans.status(Txn(7)), Status::Initiated);
-    assert_eq!(rt; (trans.owed(), trans.live_count()), (2, 1));
-    assert!(rt; begin(&mut trans, Txn(7)));
-    assert_eq!(rt; trans.status(Txn(7)), Status::Running);
-    assert_eq!(rt; trans.owed(), 2);
-    assert!(rt; complete(&mut trans, Txn(7)));
-    assert_eq!(rt; trans.status(Txn(7)), Status::Completed);
-    assert_eq!(rt; trans.owed(), 1);
-    assert!(rt; end(&mut trans, Txn(7), End::Committed));
-    assert_eq!(rt; trans.status(Txn(7)), Status::Committed);
-    assert_eq!(rt; (trans.owed(), trans.live_count()), (0, 0));
-    assert!(rt; !end(&mut trans, Txn(7), End::Aborted));
+    assert!(rt; changes_are_shown(&mut trans));
     Ok(())
+}
+
+/// Whether 8 has its parent, 7, which is no transaction, and can abort.
+fn parent_stands(trans: &mut Trans) -> bool {
+    trans.parent(Txn(8)) == Some(Txn(7))
+        && trans.parent(Txn(7)) == None
+        && trans.status(Txn(9)) == Status::Unknown
+        && end(trans, Txn(8), End::Aborted)
+        && trans.status(Txn(8)) == Status::Aborted
 }
 
 #[test]
 fn parent_is_recorded(rt: HostRuntime) -> Result<(), Fail> {
     let mut trans = with_one(rt.alloc(), Txn(8), Some(Txn(7)))?;
-    assert_eq!(rt; trans.parent(Txn(8)), Some(Txn(7)));
-    assert_eq!(rt; trans.parent(Txn(7)), None);
-    assert_eq!(rt; trans.status(Txn(9)), Status::Unknown);
-    assert!(rt; end(&mut trans, Txn(8), End::Aborted));
-    assert_eq!(rt; trans.status(Txn(8)), Status::Aborted);
+    assert!(rt; parent_stands(&mut trans));
     Ok(())
 }
 
-#[test]
-fn want_of_memory_changes_nothing(rt: HostRuntime) -> Result<(), Fail> {
-    let mut trans = Trans::new(rt.alloc());
-    for n in 0..20 {
-        let before = (trans.owed(), trans.live_count());
-        if initiate(&mut trans, Txn(n), None) == Err(NoMemory) {
-            assert_eq!(rt; trans.status(Txn(n)), Status::Unknown);
-            assert_eq!(rt; (trans.owed(), trans.live_count()), before);
-            assert_eq!(rt; initiate(&mut trans, Txn(n), None), Ok(true));
+/// Initiates a transaction. Where memory runs out, nothing has changed, and it is asked again.
+fn initiate_again(trans: &mut Trans, t: Txn) -> bool {
+    let before = (trans.owed(), trans.live_count());
+    match initiate(trans, t, None) {
+        Ok(initiated) => initiated,
+        Err(NoMemory) => {
+            trans.status(t) == Status::Unknown
+                && (trans.owed(), trans.live_count()) == before
+                && initiate(trans, t, None) == Ok(true)
         }
-        assert_eq!(rt; trans.status(Txn(n)), Status::Initiated);
     }
-    assert_eq!(rt; (trans.owed(), trans.live_count()), (40, 20));
-    assert_eq!(rt; initiate(&mut trans, Txn(7), None), Ok(false));
-    Ok(())
+}
+
+/// Whether 20 transactions are initiated, one after another, and none twice.
+fn twenty_are_initiated(trans: &mut Trans) -> bool {
+    let mut alike = true;
+    for n in 0..20 {
+        alike = initiate_again(trans, Txn(n)) && trans.status(Txn(n)) == Status::Initiated && alike;
+    }
+    alike
+        && (trans.owed(), trans.live_count()) == (40, 20)
+        && initiate(trans, Txn(7), None) == Ok(false)
+}
+
+#[test]
+fn want_of_memory_changes_nothing(rt: HostRuntime) {
+    let mut trans = Trans::new(rt.alloc());
+    assert!(rt; twenty_are_initiated(&mut trans));
 }

@@ -1,4 +1,4 @@
-use Rattle.std.proofs.Common.{◌≡◌, [], ◌∙◌, refl, sym}
+use Rattle.std.proofs.Common.{◌∙◌, refl, sym}
 use Rattle.asset_cli.specs.Sets.{gathered}
 use Rattle.asset_cli.proofs.sets.objects_in.Goals as goal
 

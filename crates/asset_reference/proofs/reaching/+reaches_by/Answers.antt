@@ -1,4 +1,4 @@
-use Rattle.std.proofs.Common.{◌≡◌, ◌∙◌, ◌<◌, arith, refl}
+use Rattle.std.proofs.Common.{◌<◌, arith}
 use Rattle.asset_names.specs.Arrows.{among, linked}
 use Rattle.asset_names.specs.Steps.{deeds}
 use Rattle.asset_names.specs.Operations.{permits}

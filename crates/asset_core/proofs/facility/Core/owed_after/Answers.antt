@@ -1,7 +1,7 @@
 use Rattle.std.proofs.Common.{sym, ◌∙◌, ap, arith}
 use Rattle.asset_names.specs.Room.{owed}
 use Rattle.asset_core.proofs.KeptLemmas.{kept_owed}
-use Rattle.asset_core.proofs.PastLemmas.{deeds_carried, deeds_not_carried}
+use Rattle.asset_names.proofs.PastLemmas.{deeds_carried, deeds_not_carried}
 use Rattle.asset_core.proofs.facility.Core.owed_after.Goals as goal
 
 pub returns-then-is_carried_out-clause-owed : goal.returns-then-is_carried_out-clause-owed

@@ -1,5 +1,5 @@
 use Rattle.std.proofs.Common.{sym, ◌∙◌}
-use Rattle.asset_core.proofs.PastLemmas.{deeds_carried, deeds_not_carried}
+use Rattle.asset_names.proofs.PastLemmas.{deeds_carried, deeds_not_carried}
 use Rattle.asset_core.proofs.TableLemmas.{on_ok}
 use Rattle.asset_core.proofs.tables.Tables.follow.Goals as goal
 

@@ -1,0 +1,18 @@
+-- Small laws that the proofs of several crates need.
+use Rattle.std.proofs.Common.{◌≡◌, ℕ, Bool, true, false, cond, eqb, Some, None, refl, arith}
+use Rattle.std.specs.Prelude.{Option}
+use Rattle.std.specs.Option.{option_or}
+
+-- two numbers compare the same either way round
+pub eqb-flip : (m n : ℕ) → eqb m n ≡ eqb n m
+eqb-flip m n = grind arith
+
+-- both ways lead to the same
+pub cond_same : {A : Type 0} (b : Bool) (x : A) → cond b x x ≡ x
+cond_same true x = refl
+cond_same false x = refl
+
+-- there is no second choice
+pub option_or_none : {A : Type 0} (found : Option A) → option_or found None ≡ found
+option_or_none None = refl
+option_or_none (Some x) = refl

@@ -1,0 +1,22 @@
+-- What the steps of a legal history say of the names in them.
+use Rattle.std.specs.Prelude.{◌≡◌, ℕ, ◌==◌, true, false, List, [], ◌∷◌}
+use Rattle.std.specs.List.{list_any}
+use Rattle.asset_names.specs.declared.operations.Op.{Op}
+use Rattle.asset_names.specs.declared.steps.Step.{Step}
+use Rattle.asset_names.specs.Arrows.{lists, has_arrow}
+use Rattle.asset_names.specs.Steps.{initiated, begun, completed}
+use Rattle.asset_names.specs.Operations.{Operation, operations, permits}
+
+-- no name is listed twice
+abbrev pub Distinct : List ℕ → Type 0
+Distinct [] = Unit {0}
+Distinct (n ∷ names) = (lists names n ≡ false) × Distinct names
+
+-- The names that were initiated are different; and who has begun, has completed, is responsible for an operation, or
+-- gives or takes a permit was initiated.
+pub record IsOrderly (past : List Step) : Type 0 where
+  pub different : Distinct (initiated past)
+  pub begun_known : (n : ℕ) → lists (begun past) n ≡ true → lists (initiated past) n ≡ true
+  pub owners_known : (n : ℕ) → list_any (λ (o : Operation). o.owner == n) (operations past) ≡ true → lists (initiated past) n ≡ true
+  pub known : (n : ℕ) → lists (completed past) n ≡ true → lists (initiated past) n ≡ true
+  pub permits_known : (u t x : ℕ) (op : Op) → has_arrow (permits past x op) u t ≡ true → (lists (initiated past) u ≡ true) × (lists (initiated past) t ≡ true)
