@@ -35,90 +35,93 @@ fn refusal(rt: &HostRuntime, texts: &[&str]) -> Result<(String, u8), Fail> {
     }
 }
 
+/// Whether the words are answered with this text, and this exit status.
+fn tells(rt: &HostRuntime, texts: &[&str], expected: &str, status: u8) -> Result<bool, Fail> {
+    let (text, told) = refusal(rt, texts)?;
+    Ok(text.as_str() == expected && told == status)
+}
+
+/// Whether a fault of the words has this text.
+fn is_fault(alloc: Global, fault: WordsFault, expected: &str) -> Result<bool, AllocError> {
+    let text = fault.to_string(alloc)?;
+    Ok(text.as_str() == expected)
+}
+
+/// Whether a fault of a run has this text.
+fn is_run_fault(alloc: Global, fault: ScriptFault, expected: &str) -> Result<bool, AllocError> {
+    let text = fault.to_string(alloc)?;
+    Ok(text.as_str() == expected)
+}
+
 #[test]
-fn words_give_the_capacity(rt: HostRuntime) -> Result<(), Fail> {
-    assert_eq!(rt; capacity(&rt, &[])?, 10_000);
-    assert_eq!(rt; capacity(&rt, &["run"])?, 10_000);
-    assert_eq!(rt; capacity(&rt, &["run", "--cap", "4"])?, 4);
-    assert_eq!(rt; capacity(&rt, &["run", "--cap", "1"])?, 1);
-    assert_eq!(rt; capacity(&rt, &["run", "--cap=1000000"])?, 1_000_000);
-    Ok(())
+fn words_give_the_capacity(rt: HostRuntime) {
+    assert_eq!(rt; capacity(&rt, &[]), Ok(10_000));
+    assert_eq!(rt; capacity(&rt, &["run"]), Ok(10_000));
+    assert_eq!(rt; capacity(&rt, &["run", "--cap", "4"]), Ok(4));
+    assert_eq!(rt; capacity(&rt, &["run", "--cap", "1"]), Ok(1));
+    assert_eq!(rt; capacity(&rt, &["run", "--cap=1000000"]), Ok(1_000_000));
 }
 
 #[test]
 fn capacity_out_of_range_is_refused(rt: HostRuntime) -> Result<(), Fail> {
-    let (low, status) = refusal(&rt, &["run", "--cap", "0"])?;
-    assert_eq!(rt; status, 2);
-    assert_eq!(rt;
-        low.as_str(),
-        "error: invalid value '0' for '--cap <n>': 0 is not in 1..=1000000\n\nFor more information, try '--help'.\n"
-    );
-    let (high, status) = refusal(&rt, &["run", "--cap", "1000001"])?;
-    assert_eq!(rt; status, 2);
-    assert_eq!(rt;
-        high.as_str(),
-        "error: invalid value '1000001' for '--cap <n>': 1000001 is not in 1..=1000000\n\nFor more information, try '--help'.\n"
-    );
+    let low =
+        "error: invalid value '0' for '--cap <n>': 0 is not in 1..=1000000\n\nFor more information, try '--help'.\n";
+    assert!(rt; tells(&rt, &["run", "--cap", "0"], low, 2)?);
+    let high =
+        "error: invalid value '1000001' for '--cap <n>': 1000001 is not in 1..=1000000\n\nFor more information, try '--help'.\n";
+    assert!(rt; tells(&rt, &["run", "--cap", "1000001"], high, 2)?);
     Ok(())
 }
 
 #[test]
 fn other_words_are_refused(rt: HostRuntime) -> Result<(), Fail> {
-    let (text, status) = refusal(&rt, &["--cap", "5"])?;
-    assert_eq!(rt; status, 2);
-    assert_eq!(rt;
-        text.as_str(),
-        "error: unexpected argument '--cap' found\n\nUsage: asset [COMMAND]\n\nFor more information, try '--help'.\n"
-    );
-    let (text, status) = refusal(&rt, &["run", "x"])?;
-    assert_eq!(rt; status, 2);
-    assert_eq!(rt;
-        text.as_str(),
-        "error: unexpected argument 'x' found\n\nUsage: asset run [OPTIONS]\n\nFor more information, try '--help'.\n"
-    );
-    for word in ["groups", "sources", "jobs"] {
-        let (text, status) = refusal(&rt, &[word])?;
-        let expected = format!(in rt.alloc();
-            "error: unrecognized subcommand '{word}'\n\nUsage: asset [COMMAND]\n\nFor more information, try '--help'.\n"
-        )?;
-        assert_eq!(rt; status, 2);
-        assert_eq!(rt; text.as_str(), expected.as_str());
+    let unexpected =
+        "error: unexpected argument '--cap' found\n\nUsage: asset [COMMAND]\n\nFor more information, try '--help'.\n";
+    assert!(rt; tells(&rt, &["--cap", "5"], unexpected, 2)?);
+    let more =
+        "error: unexpected argument 'x' found\n\nUsage: asset run [OPTIONS]\n\nFor more information, try '--help'.\n";
+    assert!(rt; tells(&rt, &["run", "x"], more, 2)?);
+    for (word, expected) in [
+        (
+            "groups",
+            "error: unrecognized subcommand 'groups'\n\nUsage: asset [COMMAND]\n\nFor more information, try '--help'.\n",
+        ),
+        (
+            "sources",
+            "error: unrecognized subcommand 'sources'\n\nUsage: asset [COMMAND]\n\nFor more information, try '--help'.\n",
+        ),
+        (
+            "jobs",
+            "error: unrecognized subcommand 'jobs'\n\nUsage: asset [COMMAND]\n\nFor more information, try '--help'.\n",
+        ),
+        (
+            "prune",
+            "error: unrecognized subcommand 'prune'\n\n  tip: a similar subcommand exists: 'run'\n\nUsage: asset [COMMAND]\n\nFor more information, try '--help'.\n",
+        ),
+    ] {
+        assert!(rt; tells(&rt, &[word], expected, 2)?, "after {word}");
     }
     Ok(())
 }
 
 #[test]
-fn word_to_come_is_refused(rt: HostRuntime) -> Result<(), Fail> {
-    let (text, status) = refusal(&rt, &["prune"])?;
-    assert_eq!(rt; status, 2);
-    assert_eq!(rt;
-        text.as_str(),
-        "error: unrecognized subcommand 'prune'\n\n  tip: a similar subcommand exists: 'run'\n\nUsage: asset [COMMAND]\n\nFor more information, try '--help'.\n"
-    );
-    Ok(())
-}
-
-#[test]
 fn words_that_cannot_be_read(rt: HostRuntime) -> Result<(), Fail> {
-    let text = WordsFault::NotText.to_string(rt.alloc())?;
-    assert_eq!(rt; text.as_str(), "a word of the command line is no text");
+    let no_text = "a word of the command line is no text";
+    assert!(rt; is_fault(rt.alloc(), WordsFault::NotText, no_text)?);
+    assert!(rt; is_fault(rt.alloc(), WordsFault::NoMemory, "no memory")?);
     assert_eq!(rt; status_of_words(WordsFault::NotText), 2);
-    let text = WordsFault::NoMemory.to_string(rt.alloc())?;
-    assert_eq!(rt; text.as_str(), "no memory");
     assert_eq!(rt; status_of_words(WordsFault::NoMemory), 1);
     Ok(())
 }
 
 #[test]
 fn faults_of_a_run_in_text(rt: HostRuntime) -> Result<(), Fail> {
-    let cases = [
+    for (fault, expected) in [
         (ScriptFault::Read, "read fault"),
         (ScriptFault::Write, "write fault"),
         (ScriptFault::NoMemory, "no memory"),
-    ];
-    for (fault, expected) in cases {
-        let text = fault.to_string(rt.alloc())?;
-        assert_eq!(rt; text.as_str(), expected);
+    ] {
+        assert!(rt; is_run_fault(rt.alloc(), fault, expected)?, "{expected}");
         assert_eq!(rt; status_of_run(Err(fault)), 1);
     }
     assert_eq!(rt; status_of_run(Ok(RunEnd::Finished)), 0);
@@ -128,17 +131,11 @@ fn faults_of_a_run_in_text(rt: HostRuntime) -> Result<(), Fail> {
 
 #[test]
 fn help_is_shown(rt: HostRuntime) -> Result<(), Fail> {
-    let (text, status) = refusal(&rt, &["--help"])?;
-    assert_eq!(rt; status, 0);
-    assert_eq!(rt;
-        text.as_str(),
-        "ASSET, a facility of transactions that can share their work\n\nUsage: asset [COMMAND]\n\nCommands:\n  run   Runs the script on standard input and writes its transcript (the default)\n  help  Print this message or the help of the given subcommand(s)\n\nOptions:\n  -h, --help  Print help\n"
-    );
-    let (text, status) = refusal(&rt, &["run", "--help"])?;
-    assert_eq!(rt; status, 0);
-    assert_eq!(rt;
-        text.as_str(),
-        "Runs the script on standard input and writes its transcript (the default)\n\nUsage: asset run [OPTIONS]\n\nOptions:\n      --cap <n>  How many entries the history has room for, from 1 to 1000000 [default: 10000]\n  -h, --help     Print help\n"
-    );
+    let help =
+        "ASSET, a facility of transactions that can share their work\n\nUsage: asset [COMMAND]\n\nCommands:\n  run   Runs the script on standard input and writes its transcript (the default)\n  help  Print this message or the help of the given subcommand(s)\n\nOptions:\n  -h, --help  Print help\n";
+    assert!(rt; tells(&rt, &["--help"], help, 0)?);
+    let run_help =
+        "Runs the script on standard input and writes its transcript (the default)\n\nUsage: asset run [OPTIONS]\n\nOptions:\n      --cap <n>  How many entries the history has room for, from 1 to 1000000 [default: 10000]\n  -h, --help     Print help\n";
+    assert!(rt; tells(&rt, &["run", "--help"], run_help, 0)?);
     Ok(())
 }
