@@ -90,7 +90,7 @@ fn plays(core: &mut Core, script: &[(Step, Result<Outcome, Fault>)]) -> bool {
 
 /// Why nothing is opened over these objects, if nothing is.
 fn fault(alloc: Global, opening: &[(Ob, i64)], capacity: usize) -> Option<OpenFault> {
-    Core::open(alloc, opening, capacity).err()
+    opened(alloc, opening, capacity).err()
 }
 
 #[test]
@@ -108,6 +108,14 @@ fn opening_is_refused_in_order(rt: HostRuntime) {
     assert_eq!(rt; fault(rt.alloc(), &THREE, 1_000_000), None);
 }
 
+/// Opens the facility. Where memory runs out once, it is opened again.
+fn opened(alloc: Global, opening: &[(Ob, i64)], capacity: usize) -> Result<Core, OpenFault> {
+    match Core::open(alloc, opening, capacity) {
+        Err(OpenFault::NoMemory) => Core::open(alloc, opening, capacity),
+        told => told,
+    }
+}
+
 /// Whether the check holds of a facility that is opened.
 fn holds<F: FnOnce(&mut Core) -> bool>(
     alloc: Global,
@@ -117,7 +125,7 @@ fn holds<F: FnOnce(&mut Core) -> bool>(
 ) -> bool
     requires { F.IsAlwaysCallable check }
 {
-    match Core::open(alloc, opening, capacity) {
+    match opened(alloc, opening, capacity) {
         Ok(mut core) => check(&mut core),
         Err(_) => false,
     }
@@ -158,7 +166,7 @@ fn transaction_works(core: &mut Core) -> bool {
 
 #[test]
 fn one_transaction_is_told_by_each_call(rt: HostRuntime) -> Result<(), Fail> {
-    let mut core = Core::open(rt.alloc(), &THREE, 10)?;
+    let mut core = opened(rt.alloc(), &THREE, 10)?;
     assert!(rt; transaction_works(&mut core));
     assert!(rt; plays(&mut core, &[(commit(7), COMMITTED)]));
     assert_eq!(rt; core.status(Txn(7)), Status::Committed);
