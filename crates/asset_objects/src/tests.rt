@@ -9,12 +9,29 @@ const TWO: [(Ob, i64); 2] = [(Ob(1), 100), (Ob(2), 200)];
 
 /// Reserves a write and writes, to an object that exists.
 #[tactic(auto, using(crate::proofs::TableLemmas::exists_by_value))]
-fn write(objects: &mut Objects, t: u64, x: u64, v: i64) -> Result<(), NoMemory> {
+fn write_once(objects: &mut Objects, t: u64, x: u64, v: i64) -> Result<(), NoMemory> {
     if objects.value(Ob(x)).is_some() {
         objects.reserve_write()?;
         objects.write(Txn(t), Ob(x), v);
     }
     Ok(())
+}
+
+/// Writes as `write_once` does. Where memory runs out, nothing has changed, and the same call is made again.
+fn write(objects: &mut Objects, t: u64, x: u64, v: i64) -> Result<(), NoMemory> {
+    let before = objects.value(Ob(x));
+    match write_once(objects, t, x, v) {
+        Err(NoMemory) if objects.value(Ob(x)) == before => write_once(objects, t, x, v),
+        told => told,
+    }
+}
+
+/// Opens these objects. Where memory runs out once, they are opened again.
+fn opened(alloc: Global, opening: &[(Ob, i64)]) -> Result<Objects, ObjectsFault> {
+    match Objects::open(alloc, opening) {
+        Err(ObjectsFault::NoMemory) => Objects::open(alloc, opening),
+        told => told,
+    }
 }
 
 /// Lets 7 and then 8 write to the first object.
@@ -32,14 +49,14 @@ fn shows(objects: &Objects, first: i64, second: i64) -> bool {
 
 /// The two objects, where 7 and then 8 have written to the first.
 fn written_twice(rt: &HostRuntime) -> Result<Objects, Fail> {
-    let mut objects = Objects::open(rt.alloc(), &TWO)?;
+    let mut objects = opened(rt.alloc(), &TWO)?;
     write_twice(&mut objects)?;
     Ok(objects)
 }
 
 #[test]
 fn opening_values_are_shown(rt: HostRuntime) -> Result<(), Fail> {
-    let objects = Objects::open(rt.alloc(), &TWO)?;
+    let objects = opened(rt.alloc(), &TWO)?;
     assert!(rt; shows(&objects, 100, 200));
     Ok(())
 }
@@ -48,7 +65,7 @@ fn opening_values_are_shown(rt: HostRuntime) -> Result<(), Fail> {
 fn double_object_is_refused(rt: HostRuntime) -> Result<(), Fail> {
     let double = [(Ob(1), 1), (Ob(1), 2)];
     let fault = ObjectsFault::DoubleObject(Ob(1));
-    assert_eq!(rt; Objects::open(rt.alloc(), &double).err(), Some(fault));
+    assert_eq!(rt; opened(rt.alloc(), &double).err(), Some(fault));
     let text = format!(in rt.alloc(); "{fault}")?;
     assert_eq!(rt; text.as_str(), "object 1 was given twice");
     Ok(())
@@ -102,14 +119,6 @@ fn undo_of_several_objects(rt: HostRuntime) -> Result<(), Fail> {
     Ok(())
 }
 
-/// The two objects. Where memory runs out once, they are opened again.
-fn opened(alloc: Global) -> Result<Objects, ObjectsFault> {
-    match Objects::open(alloc, &TWO) {
-        Err(ObjectsFault::NoMemory) => Objects::open(alloc, &TWO),
-        result => result,
-    }
-}
-
 /// Whether a write that finds no memory changes nothing, and can be asked again.
 fn write_is_asked_again(objects: &mut Objects) -> bool {
     let reserved = match objects.reserve_write() {
@@ -121,7 +130,7 @@ fn write_is_asked_again(objects: &mut Objects) -> bool {
 
 #[test]
 fn want_of_memory_changes_nothing(rt: HostRuntime) -> Result<(), Fail> {
-    let mut objects = opened(rt.alloc())?;
+    let mut objects = opened(rt.alloc(), &TWO)?;
     assert!(rt; write_is_asked_again(&mut objects));
     Ok(())
 }
