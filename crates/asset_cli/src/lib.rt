@@ -24,6 +24,3 @@ pub use device::Device;
 pub use ends::RunEnd;
 pub use faults::ScriptFault;
 pub use running::run_script;
-
-#[cfg(test)]
-mod tests;

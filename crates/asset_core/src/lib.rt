@@ -10,6 +10,3 @@ mod told;
 
 pub use facility::Core;
 pub use history::{History, OpenFault};
-
-#[cfg(test)]
-mod tests;

@@ -7,6 +7,7 @@ ghost use Rattle.asset_core.specs.Stored.{beside_after};
 use crate::tables::value_asked;
 use crate::told::{Told, value_told};
 use asset_names::{Ob, ObSet, Ops, Reply, Step, Txn};
+use std::mem::size_of;
 
 /// The entry of a permit: what it asks, and the reply.
 #[derive(Clone, Copy)]
@@ -64,6 +65,8 @@ pub(crate) enum Stored {
         t: Txn,
     },
 }
+
+const _: () = prove!(size_of::<Stored>() == 32);
 
 impl Stored {
     ghost use Rattle.std.specs.Prelude.{◌≡◌, true, length};

@@ -8,6 +8,3 @@ mod table;
 
 pub use locks::{Asked, LockState};
 pub use table::Locks;
-
-#[cfg(test)]
-mod tests;

@@ -27,6 +27,3 @@ pub use replies::{Fault, NoMemory, Outcome, Refusal, Reply};
 pub use sets::{ObList, ObSet, SetFault};
 pub use statuses::{End, Status};
 pub use steps::{Kind, Step};
-
-#[cfg(test)]
-mod tests;

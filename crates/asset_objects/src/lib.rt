@@ -7,6 +7,3 @@ mod records;
 mod table;
 
 pub use table::{Objects, ObjectsFault};
-
-#[cfg(test)]
-mod tests;

@@ -12,6 +12,3 @@ mod table;
 
 pub use laws::allowed_is_chain;
 pub use table::Permits;
-
-#[cfg(test)]
-mod tests;

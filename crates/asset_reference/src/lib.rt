@@ -12,6 +12,3 @@ mod values;
 
 pub use answers::{answer, value_if_any};
 pub use tracks::status_after;
-
-#[cfg(test)]
-mod tests;

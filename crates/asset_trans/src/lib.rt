@@ -6,6 +6,3 @@ mod table;
 
 pub use rows::Row;
 pub use table::Trans;
-
-#[cfg(test)]
-mod tests;

@@ -1,8 +1,9 @@
 //! The facility gets the answers of the reference, on worked histories and on generated scripts.
 
-use crate::{answer, status_after, value_if_any};
+use crate::steps::{abort, begin, commit, complete, initiate, read, write};
 use asset_core::Core;
 use asset_names::{Fault, Ob, ObList, ObSet, Ops, Outcome, Reply, Step, Txn};
+use asset_reference::{answer, status_after, value_if_any};
 use std::alloc::Global;
 use std::test::Fail;
 
@@ -13,44 +14,6 @@ const NAMES: [Txn; 5] = [Txn(5), Txn(6), Txn(7), Txn(8), Txn(9)];
 
 /// The objects that the scripts use; the last does not exist.
 const OBJECTS: [Ob; 4] = [Ob(1), Ob(2), Ob(3), Ob(4)];
-
-fn initiate(t: u64) -> Step {
-    Step::Initiate {
-        t: Txn(t),
-        parent: None,
-    }
-}
-
-fn begin(t: u64) -> Step {
-    Step::Begin { t: Txn(t) }
-}
-
-fn read(t: u64, x: u64) -> Step {
-    Step::Read {
-        t: Txn(t),
-        x: Ob(x),
-    }
-}
-
-fn write(t: u64, x: u64, v: i64) -> Step {
-    Step::Write {
-        t: Txn(t),
-        x: Ob(x),
-        v,
-    }
-}
-
-fn complete(t: u64) -> Step {
-    Step::Complete { t: Txn(t) }
-}
-
-fn commit(t: u64) -> Step {
-    Step::Commit { t: Txn(t) }
-}
-
-fn abort(t: u64) -> Step {
-    Step::Abort { t: Txn(t) }
-}
 
 /// A permit of one for another, on all objects where none is given.
 fn permit(giver: u64, taker: u64, objects: &[Ob], (read, write): (bool, bool)) -> Step {

@@ -1,6 +1,6 @@
 //! Whole scripts, with the text that answers each and how its run ends.
-use super::memory::{ITS_TEXT, ONE_TRANSACTION, expect, run};
-use crate::RunEnd;
+use super::memory::{ITS_TEXT, ONE_TRANSACTION, expect, expect_with_room};
+use asset_cli::RunEnd;
 use std::alloc::{AllocError, Global};
 use std::test::Fail;
 
@@ -103,19 +103,15 @@ fn reader_waits_for_abort(rt: HostRuntime) -> Result<(), Fail> {
 fn room_is_owed(rt: HostRuntime) -> Result<(), Fail> {
     let script = b"object 1 100\nobject 2 200\nobject 3 300\ninitiate 7\nbegin 7\nread 7 1\n\
         complete 7\nabort 7\ninitiate 8\ncommit 7\n";
-    let (end, text) = run(&rt, script, 4)?;
-    assert_eq!(rt; text.as_str(), "ok\nok\nfull\nok\naborted\nfull\nfull\n");
-    assert_eq!(rt; end, RunEnd::Finished);
-    Ok(())
+    let text = "ok\nok\nfull\nok\naborted\nfull\nfull\n";
+    expect_with_room(&rt, script, 4, text, RunEnd::Finished)
 }
 
 #[test]
 fn no_room_to_begin(rt: HostRuntime) -> Result<(), Fail> {
     let script = b"object 1 100\nobject 2 200\nobject 3 300\ninitiate 7\nbegin 7\nabort 7\n";
-    let (end, text) = run(&rt, script, 3)?;
-    assert_eq!(rt; text.as_str(), "ok\nfull\naborted\n");
-    assert_eq!(rt; end, RunEnd::Finished);
-    Ok(())
+    let text = "ok\nfull\naborted\n";
+    expect_with_room(&rt, script, 3, text, RunEnd::Finished)
 }
 
 #[test]

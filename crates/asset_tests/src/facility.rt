@@ -1,53 +1,14 @@
 //! Each public call once, on worked values, and what is left where memory runs out.
 
-use crate::stored::Stored;
-use crate::{Core, OpenFault};
+use crate::steps::{abort, begin, commit, complete, initiate, read, write};
+use asset_core::{Core, OpenFault};
 use asset_names::{Fault, Ob, ObList, ObSet, Op, Ops, Outcome, Refusal, Reply, Status, Step, Txn};
 use std::alloc::Global;
-use std::mem::size_of;
 use std::test::Fail;
 
 const THREE: [(Ob, i64); 3] = [(Ob(1), 100), (Ob(2), 200), (Ob(3), 300)];
 
 const NONE: [(Ob, i64); 0] = [];
-
-fn initiate(t: u64) -> Step {
-    Step::Initiate {
-        t: Txn(t),
-        parent: None,
-    }
-}
-
-fn begin(t: u64) -> Step {
-    Step::Begin { t: Txn(t) }
-}
-
-fn read(t: u64, x: u64) -> Step {
-    Step::Read {
-        t: Txn(t),
-        x: Ob(x),
-    }
-}
-
-fn write(t: u64, x: u64, v: i64) -> Step {
-    Step::Write {
-        t: Txn(t),
-        x: Ob(x),
-        v,
-    }
-}
-
-fn complete(t: u64) -> Step {
-    Step::Complete { t: Txn(t) }
-}
-
-fn commit(t: u64) -> Step {
-    Step::Commit { t: Txn(t) }
-}
-
-fn abort(t: u64) -> Step {
-    Step::Abort { t: Txn(t) }
-}
 
 const OK: Result<Outcome, Fault> = Ok(Outcome::Answer(Reply::Done));
 
@@ -270,11 +231,6 @@ fn entries_stand(core: &mut Core) -> bool {
 #[test]
 fn entries_are_told_whole(rt: HostRuntime) {
     assert!(rt; holds(rt.alloc(), &THREE, 40, entries_stand));
-}
-
-#[test]
-fn an_entry_without_a_set_takes_32_bytes(rt: HostRuntime) {
-    assert_eq!(rt; size_of::<Stored>(), 32);
 }
 
 /// Whether permits are answered as they must be, and stand whole: a list with a missing object, and one without.

@@ -4,7 +4,7 @@ ghost use Rattle.std.specs.Prelude.{◌≡◌, ℕ, ◌==◌, ◌||◌, true, fa
 ghost use Rattle.asset_locks.specs.Table.{holder_in};
 ghost use Rattle.asset_locks.specs.Kept.{table_of};
 
-use crate::{Asked, LockState, Locks};
+use asset_locks::{Asked, LockState, Locks};
 use asset_names::{NoMemory, Ob, ObSet, Op, Ops, Txn};
 use asset_permits::Permits;
 use std::test::Fail;

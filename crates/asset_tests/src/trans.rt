@@ -1,7 +1,7 @@
 //! Each public call, on worked values.
 
-use crate::Trans;
 use asset_names::{End, NoMemory, Status, Txn};
+use asset_trans::Trans;
 use std::alloc::Global;
 use std::test::Fail;
 

@@ -1,14 +1,14 @@
 //! Each public call once, on worked values, and what is left where memory runs out.
 
-use crate::{Objects, ObjectsFault};
 use asset_names::{NoMemory, Ob, Txn};
+use asset_objects::{Objects, ObjectsFault};
 use std::alloc::Global;
 use std::test::Fail;
 
 const TWO: [(Ob, i64); 2] = [(Ob(1), 100), (Ob(2), 200)];
 
 /// Reserves a write and writes, to an object that exists.
-#[tactic(auto, using(crate::proofs::TableLemmas::exists_by_value))]
+#[tactic(auto, using(asset_objects::proofs::TableLemmas::exists_by_value))]
 fn write_once(objects: &mut Objects, t: u64, x: u64, v: i64) -> Result<(), NoMemory> {
     if objects.value(Ob(x)).is_some() {
         objects.reserve_write()?;

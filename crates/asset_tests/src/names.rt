@@ -1,6 +1,6 @@
 //! Sets and lists, statuses, refusals and outcomes, on values worked out by hand.
 
-use crate::{
+use asset_names::{
     Ob, ObList, ObSet, Op, Ops, Outcome, Refusal, Reply, SetFault, Status, Step, Txn,
     commit_outcome, endings_find_room, free_is_allowed_by_holders, is_carried_out, least_double,
     linked_is_chain, refusal_to_abort, refusal_to_begin, refusal_to_find, refusal_to_initiate,

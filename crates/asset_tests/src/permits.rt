@@ -1,7 +1,7 @@
 //! Each public call on worked permits, and what is left where memory runs out.
 
-use crate::Permits;
 use asset_names::{NoMemory, Ob, ObList, ObSet, Op, Ops, SetFault, Txn};
+use asset_permits::Permits;
 
 /// The set of two objects.
 fn two(first: u64, second: u64) -> Result<ObSet, SetFault> {

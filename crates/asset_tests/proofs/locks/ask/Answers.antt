@@ -2,7 +2,7 @@ use Rattle.std.proofs.Common.{◌∙◌, ap, is_some}
 use Rattle.asset_locks.specs.Table.{Table, holder_in}
 use Rattle.asset_locks.proofs.ListLemmas.{either_way}
 use Rattle.asset_locks.proofs.Laws.{enrolled_asked}
-use Rattle.asset_locks.proofs.tests.ask.Goals as goal
+use Rattle.asset_tests.proofs.locks.ask.Goals as goal
 
 pub returns-in-Ok : goal.returns-in-Ok
 returns-in-Ok c = λ n. ap (λ (table : Table). is_some (holder_in table n)) c.in-Ok.ensures.done ∙ enrolled_asked _ c.args.t n (record { 0 = c.args.x }) c.args.op _

@@ -1,17 +1,23 @@
 //! What the runs of small scripts write, and how they end.
-use super::memory::{expect, run};
-use crate::RunEnd;
+use super::memory::expect;
+use asset_cli::RunEnd;
 use std::alloc::{AllocError, Global};
 use std::process::Abort;
 use std::test::Fail;
 
 // Asserts that a script is answered with nothing but which of its lines is bad.
-fn expect_bad(rt: &(impl Abort + AllocGlobal), script: &str, number: u64) -> Result<(), Fail> {
+pub(crate) fn expect_bad(
+    rt: &(impl Abort + AllocGlobal),
+    script: &str,
+    number: u64,
+) -> Result<(), Fail> {
     let text = format!(in rt.alloc(); "line {number}: bad command\n")?;
-    let (end, written) = run(rt, script.as_bytes(), 10_000)?;
-    assert_eq!(rt; written.as_str(), text.as_str(), "after {script:?}");
-    assert_eq!(rt; end, RunEnd::BadLine(number), "after {script:?}");
-    Ok(())
+    expect(
+        rt,
+        script.as_bytes(),
+        text.as_str(),
+        RunEnd::BadLine(number),
+    )
 }
 
 #[test]

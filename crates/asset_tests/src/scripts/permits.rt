@@ -1,6 +1,6 @@
 //! Whole scripts with permits, with the text that answers each and how its run ends.
 use super::memory::expect;
-use crate::RunEnd;
+use asset_cli::RunEnd;
 use std::test::Fail;
 
 /// A permitted write stands when the giver of the permit aborts.

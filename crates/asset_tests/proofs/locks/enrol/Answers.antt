@@ -2,7 +2,7 @@ use Rattle.std.proofs.Common.{◌∙◌, ◌||◌, eqb, ap, is_some}
 use Rattle.std.proofs.lemmas.Result.{on_ok_weaker}
 use Rattle.asset_locks.specs.Table.{Table, holder_in}
 use Rattle.asset_locks.proofs.Laws.{enrolled_more}
-use Rattle.asset_locks.proofs.tests.enrol.Goals as goal
+use Rattle.asset_tests.proofs.locks.enrol.Goals as goal
 
 pub returns-in-Ok : goal.returns-in-Ok
 returns-in-Ok c = λ n. ap (λ (table : Table). is_some (holder_in table n)) c.in-Ok.ensures.done ∙ enrolled_more c.args.t n _

@@ -1,0 +1,24 @@
+//! The tests of the libraries, through their public calls. They stand in one crate, since a test build
+//! proves again all of the crate that it belongs to.
+#![tactic(auto)]
+
+mod steps;
+
+pub use steps::{abort, begin, commit, complete, initiate, read, write};
+
+#[cfg(test)]
+mod facility;
+#[cfg(test)]
+mod locks;
+#[cfg(test)]
+mod names;
+#[cfg(test)]
+mod objects;
+#[cfg(test)]
+mod permits;
+#[cfg(test)]
+mod reference;
+#[cfg(test)]
+mod scripts;
+#[cfg(test)]
+mod trans;

@@ -1,0 +1,7 @@
+//! Scripts from their bytes to the text that answers them, and devices that fail in mid-stream.
+mod devices;
+mod lines;
+mod memory;
+mod permits;
+mod rows;
+mod runs;

@@ -1,0 +1,59 @@
+//! Scripts whose bytes and whose text stand in memory.
+ghost use Rattle.asset_core.specs.OpenFaults.{IsCapacity};
+
+use asset_cli::{Device, RunEnd, ScriptFault, run_script};
+use std::alloc::Global;
+use std::process::Abort;
+use std::test::Fail;
+
+// The capacity of the history where a test names none.
+const ROOM: usize = 10_000;
+
+// A transaction that reads, writes and commits.
+pub(crate) const ONE_TRANSACTION: &[u8] =
+    b"object 1 100\nobject 2 200\nobject 3 300\ninitiate 7\nbegin 7\nread 7 1\nwrite 7 1 50\n\
+    read 7 1\ncomplete 7\ncommit 7\n";
+
+// What it is answered.
+pub(crate) const ITS_TEXT: &str = "ok\nok\n100\nok\n50\nok\ncommitted\n";
+
+// Runs a script, and adds to these bytes what it writes.
+fn run(
+    alloc: Global,
+    script: &[u8],
+    capacity: usize,
+    written: &mut Vec<u8>,
+) -> Result<RunEnd, ScriptFault>
+    requires { IsCapacity capacity }
+{
+    let mut input = Device::new(script);
+    let mut output = Device::new(written);
+    run_script(alloc, &mut input, &mut output, capacity)
+}
+
+// Asserts what a script writes where the history has so much room, and how its run ends.
+pub(crate) fn expect_with_room(
+    rt: &(impl Abort + AllocGlobal),
+    script: &[u8],
+    capacity: usize,
+    text: &str,
+    end: RunEnd,
+) -> Result<(), Fail>
+    requires { IsCapacity capacity }
+{
+    let mut written = Vec::new(rt.alloc());
+    let ended = run(rt.alloc(), script, capacity, &mut written)?;
+    assert_eq!(rt; str::from_utf8(&written)?, text);
+    assert_eq!(rt; ended, end, "after {text:?}");
+    Ok(())
+}
+
+// Asserts what a script writes and how its run ends.
+pub(crate) fn expect(
+    rt: &(impl Abort + AllocGlobal),
+    script: &[u8],
+    text: &str,
+    end: RunEnd,
+) -> Result<(), Fail> {
+    expect_with_room(rt, script, ROOM, text, end)
+}
