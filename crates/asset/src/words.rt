@@ -64,8 +64,11 @@ fn command<'a>(alloc: Global) -> Result<Command<'a>, AllocError> {
 /// error may be the help that was asked for.
 pub fn capacity_given<'a>(alloc: Global, words: &'a [String]) -> Result<Option<u32>, Error> {
     let matches = command(alloc)?.try_get_matches_from(words)?;
-    match matches.subcommand() {
-        Some((_, run)) => Ok(run.get_one::<u32>("cap")),
-        None => Ok(None),
-    }
+    let capacity = match matches.subcommand() {
+        Some((_, run)) => run.get_one::<u32>("cap"),
+        None => None,
+    };
+    // By name: the call's proof is made once for each type in the matches.
+    drop(matches);
+    Ok(capacity)
 }

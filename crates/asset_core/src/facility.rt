@@ -59,7 +59,11 @@ impl Core {
         };
         match History::open(alloc, opening, capacity) {
             Ok(history) => Ok(Core { history, tables }),
-            Err(_) => Err(OpenFault::NoMemory),
+            Err(_) => {
+                // By name, as in `into_history`.
+                drop(tables);
+                Err(OpenFault::NoMemory)
+            }
         }
     }
 
@@ -205,6 +209,10 @@ impl Core {
     pub fn into_history(self) -> History
         ensures { result ≡ self.history }
     {
-        self.history
+        // The tables are dropped by name: the call's proof is then made once for each type in them, and not
+        // for all of them at each place where they go.
+        let Core { history, tables } = self;
+        drop(tables);
+        history
     }
 }
