@@ -57,16 +57,14 @@ fn fault(alloc: Global, opening: &[(Ob, i64)], capacity: usize) -> Option<OpenFa
 #[test]
 fn opening_is_refused_in_order(rt: HostRuntime) {
     let double = [(Ob(1), 1), (Ob(1), 2)];
-    assert_eq!(rt; fault(rt.alloc(), &double, 0), Some(OpenFault::BadCapacity));
-    assert_eq!(rt;
-        fault(rt.alloc(), &THREE, 1_000_001),
-        Some(OpenFault::BadCapacity)
-    );
-    assert_eq!(rt;
-        fault(rt.alloc(), &double, 5),
-        Some(OpenFault::DoubleObject(Ob(1)))
-    );
-    assert_eq!(rt; fault(rt.alloc(), &THREE, 1_000_000), None);
+    for (opening, capacity, told) in [
+        (&double[..], 0, Some(OpenFault::BadCapacity)),
+        (&THREE[..], 1_000_001, Some(OpenFault::BadCapacity)),
+        (&double[..], 5, Some(OpenFault::DoubleObject(Ob(1)))),
+        (&THREE[..], 1_000_000, None),
+    ] {
+        assert_eq!(rt; fault(rt.alloc(), opening, capacity), told);
+    }
 }
 
 /// Opens the facility. Where memory runs out once, it is opened again.
@@ -87,7 +85,11 @@ fn holds<F: FnOnce(&mut Core) -> bool>(
     requires { F.IsAlwaysCallable check }
 {
     match opened(alloc, opening, capacity) {
-        Ok(mut core) => check(&mut core),
+        Ok(mut core) => {
+            let told = check(&mut core);
+            drop(core);
+            told
+        }
         Err(_) => false,
     }
 }
@@ -125,15 +127,20 @@ fn transaction_works(core: &mut Core) -> bool {
         && core.value(Ob(9)) == None
 }
 
+/// Whether each call tells of a transaction to its commit.
+fn transaction_commits(core: &mut Core) -> bool {
+    transaction_works(core)
+        && plays(core, &[(commit(7), COMMITTED)])
+        && core.status(Txn(7)) == Status::Committed
+}
+
 #[test]
 fn one_transaction_is_told_by_each_call(rt: HostRuntime) -> Result<(), Fail> {
     let mut core = opened(rt.alloc(), &THREE, 10)?;
-    assert!(rt; transaction_works(&mut core));
-    assert!(rt; plays(&mut core, &[(commit(7), COMMITTED)]));
-    assert_eq!(rt; core.status(Txn(7)), Status::Committed);
+    let told = transaction_commits(&mut core);
     let history = core.into_history();
-    assert_eq!(rt; history.len(), 8);
-    assert_eq!(rt; history.opening().len(), 3);
+    assert!(rt; told);
+    assert!(rt; history.len() == 8 && history.opening().len() == 3);
     Ok(())
 }
 

@@ -161,28 +161,35 @@ impl Three {
 #[test]
 fn waiter_goes_on_after_release(rt: HostRuntime) -> Result<(), Fail> {
     let mut three = Three::new(&rt, Op::Write)?;
-    assert!(rt; three.eight_waits());
-    assert!(rt; three.eight_goes_on());
+    let told = three.eight_waits() && three.eight_goes_on();
+    drop(three);
+    assert!(rt; told);
     Ok(())
 }
 
 #[test]
 fn waiters_come_in_order_of_enrolment(rt: HostRuntime) -> Result<(), Fail> {
     let mut three = Three::new(&rt, Op::Read)?;
-    assert!(rt; three.nine_comes_first());
+    let told = three.nine_comes_first();
+    drop(three);
+    assert!(rt; told);
     Ok(())
 }
 
 #[test]
 fn readers_share_and_a_writer_keeps_its_place(rt: HostRuntime) -> Result<(), Fail> {
     let mut three = Three::new(&rt, Op::Read)?;
-    assert!(rt; three.readers_share());
+    let told = three.readers_share();
+    drop(three);
+    assert!(rt; told);
     Ok(())
 }
 
 #[test]
 fn permitted_writer_suspends_the_giver(rt: HostRuntime) -> Result<(), Fail> {
     let mut three = Three::new(&rt, Op::Write)?;
-    assert!(rt; three.eight_suspends_seven());
+    let told = three.eight_suspends_seven();
+    drop(three);
+    assert!(rt; told);
     Ok(())
 }

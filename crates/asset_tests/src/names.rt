@@ -47,26 +47,30 @@ fn list_has_from_one_to_sixteen_objects(rt: HostRuntime) {
     for (number, object) in objects.iter_mut().enumerate() {
         *object = Ob(100 - number as u64);
     }
-    assert_eq!(rt; ObList::of(&NONE), Err(SetFault::Empty));
-    assert_eq!(rt;
-        ObList::of(&objects[..16]).map(|list| list.objects().len()),
-        Ok(16)
-    );
-    assert_eq!(rt; ObList::of(&objects), Err(SetFault::TooMany));
-    assert_eq!(rt; ObList::of(&[Ob(1); 17]), Err(SetFault::TooMany));
+    for (given, told) in [
+        (&NONE[..], Err(SetFault::Empty)),
+        (&objects[..16], Ok(16)),
+        (&objects[..], Err(SetFault::TooMany)),
+        (&[Ob(1); 17][..], Err(SetFault::TooMany)),
+    ] {
+        assert_eq!(rt; ObList::of(given).map(|list| list.objects().len()), told);
+    }
 }
 
 #[test]
 fn least_double_is_named(rt: HostRuntime) {
-    assert_eq!(rt; ObList::of(&[Ob(1), Ob(1)]), Err(SetFault::Double(Ob(1))));
     let twice = [Ob(9), Ob(4), Ob(2), Ob(9), Ob(4)];
-    assert_eq!(rt; ObList::of(&twice), Err(SetFault::Double(Ob(4))));
-    assert_eq!(rt; least_double(&twice), Some(Ob(4)));
-    assert_eq!(rt;
-        least_double(&[(Ob(3), 30), (Ob(1), 10), (Ob(3), -30)]),
-        Some(Ob(3))
-    );
-    assert_eq!(rt; least_double(&NONE), None);
+    for (objects, x) in [(&[Ob(1), Ob(1)][..], Ob(1)), (&twice[..], Ob(4))] {
+        assert_eq!(rt; ObList::of(objects), Err(SetFault::Double(x)));
+    }
+    let pairs = [(Ob(3), 30), (Ob(1), 10), (Ob(3), -30)];
+    for (told, double) in [
+        (least_double(&twice), Some(Ob(4))),
+        (least_double(&pairs), Some(Ob(3))),
+        (least_double(&NONE), None),
+    ] {
+        assert_eq!(rt; told, double);
+    }
 }
 
 #[test]
@@ -79,42 +83,40 @@ fn laws_can_be_called() {
 #[test]
 fn refusals_by_status(rt: HostRuntime) {
     let (t, u, x) = (Txn(7), Txn(8), Ob(1));
-    assert_eq!(rt;
-        refusal_to_initiate(t, Status::Initiated),
-        Some(Refusal::Taken(t))
-    );
-    assert_eq!(rt;
-        refusal_to_begin(t, Status::Running),
-        Some(Refusal::Begun(t))
-    );
-    assert_eq!(rt;
-        refusal_to_work(t, Status::Completed),
-        Some(Refusal::NotRunning(t))
-    );
-    let missing = refusal_to_operate(t, Status::Running, x, false);
-    assert_eq!(rt; missing, Some(Refusal::NoObject(x)));
     let ended = refusal_to_permit(t, Status::Running, u, Status::Aborted, Some(x));
-    assert_eq!(rt; ended, Some(Refusal::Ended(u)));
-    assert_eq!(rt;
-        refusal_to_find(t, Status::Unknown),
-        Some(Refusal::Unknown(t))
-    );
-    assert_eq!(rt;
-        refusal_to_abort(t, Status::Committed),
-        Some(Refusal::TooLate(t))
-    );
+    for (told, refusal) in [
+        (refusal_to_initiate(t, Status::Initiated), Refusal::Taken(t)),
+        (refusal_to_begin(t, Status::Running), Refusal::Begun(t)),
+        (
+            refusal_to_work(t, Status::Completed),
+            Refusal::NotRunning(t),
+        ),
+        (
+            refusal_to_operate(t, Status::Running, x, false),
+            Refusal::NoObject(x),
+        ),
+        (ended, Refusal::Ended(u)),
+        (refusal_to_find(t, Status::Unknown), Refusal::Unknown(t)),
+        (refusal_to_abort(t, Status::Committed), Refusal::TooLate(t)),
+    ] {
+        assert_eq!(rt; told, Some(refusal));
+    }
 }
 
 #[test]
 fn outcomes_and_statuses(rt: HostRuntime) {
-    assert_eq!(rt; commit_outcome(Status::Running, false), Outcome::Wait);
-    assert_eq!(rt;
-        wait_outcome(Status::Completed),
-        Outcome::Answer(Reply::Done)
-    );
+    for (told, outcome) in [
+        (commit_outcome(Status::Running, false), Outcome::Wait),
+        (
+            wait_outcome(Status::Completed),
+            Outcome::Answer(Reply::Done),
+        ),
+    ] {
+        assert_eq!(rt; told, outcome);
+    }
     assert!(rt; is_carried_out(&Step::Begin { t: Txn(7) }, Reply::Done));
     assert!(rt; Op::Write.conflicts_with(Op::Read) && !Op::Read.conflicts_with(Op::Read));
     assert!(rt; Status::Unknown.is_unknown() && Status::Aborted.has_ended());
     assert!(rt; Status::Initiated.is_live() && Status::Completed.is_completed());
-    assert_eq!(rt; (Status::Running.owed(), Status::Completed.owed()), (2, 1));
+    assert!(rt; Status::Running.owed() == 2 && Status::Completed.owed() == 1);
 }

@@ -57,7 +57,9 @@ fn written_twice(rt: &HostRuntime) -> Result<Objects, Fail> {
 #[test]
 fn opening_values_are_shown(rt: HostRuntime) -> Result<(), Fail> {
     let objects = opened(rt.alloc(), &TWO)?;
-    assert!(rt; shows(&objects, 100, 200));
+    let told = shows(&objects, 100, 200);
+    drop(objects);
+    assert!(rt; told);
     Ok(())
 }
 
@@ -83,7 +85,9 @@ fn undo_mends(objects: &mut Objects) -> bool {
 #[test]
 fn undo_mends_the_later_record(rt: HostRuntime) -> Result<(), Fail> {
     let mut objects = written_twice(&rt)?;
-    assert!(rt; undo_mends(&mut objects));
+    let told = undo_mends(&mut objects);
+    drop(objects);
+    assert!(rt; told);
     Ok(())
 }
 
@@ -98,7 +102,9 @@ fn settle_drops(objects: &mut Objects) -> bool {
 #[test]
 fn settle_drops_earlier_records(rt: HostRuntime) -> Result<(), Fail> {
     let mut objects = written_twice(&rt)?;
-    assert!(rt; settle_drops(&mut objects));
+    let told = settle_drops(&mut objects);
+    drop(objects);
+    assert!(rt; told);
     Ok(())
 }
 
@@ -115,7 +121,9 @@ fn undo_takes_all(objects: &mut Objects) -> bool {
 #[test]
 fn undo_of_several_objects(rt: HostRuntime) -> Result<(), Fail> {
     let mut objects = written_twice(&rt)?;
-    assert!(rt; undo_takes_all(&mut objects));
+    let told = undo_takes_all(&mut objects);
+    drop(objects);
+    assert!(rt; told);
     Ok(())
 }
 
@@ -131,6 +139,8 @@ fn write_is_asked_again(objects: &mut Objects) -> bool {
 #[test]
 fn want_of_memory_changes_nothing(rt: HostRuntime) -> Result<(), Fail> {
     let mut objects = opened(rt.alloc(), &TWO)?;
-    assert!(rt; write_is_asked_again(&mut objects));
+    let told = write_is_asked_again(&mut objects);
+    drop(objects);
+    assert!(rt; told);
     Ok(())
 }

@@ -50,9 +50,10 @@ fn writes(permits: &mut Permits, u: u64, t: u64, x: u64) -> bool {
     permits.allows(Txn(u), Txn(t), Ob(x), Op::Write)
 }
 
-/// Whether a chain lets its end do what each of its permits has, and no more.
+/// Whether a chain that is given lets its end do what each of its permits has, and no more.
 fn chain_allows(permits: &mut Permits) -> bool {
-    reads(permits, 7, 9, 2)
+    permit_both(permits) == Ok(true)
+        && reads(permits, 7, 9, 2)
         && !writes(permits, 7, 9, 2)
         && !reads(permits, 7, 9, 1)
         && writes(permits, 7, 7, 1)
@@ -62,14 +63,17 @@ fn chain_allows(permits: &mut Permits) -> bool {
 #[test]
 fn chain_allows_what_each_permit_has(rt: HostRuntime) {
     let mut permits = Permits::new(rt.alloc());
-    assert_eq!(rt; permit_both(&mut permits), Ok(true));
-    assert!(rt; chain_allows(&mut permits));
+    let told = chain_allows(&mut permits);
+    drop(permits);
+    assert!(rt; told);
 }
 
-/// Whether nothing is left of a chain when its middle has ended, and seven can permit nine by itself.
+/// Whether nothing is left of a chain that is given when its middle has ended, and seven can permit nine by itself.
 fn chain_ends(permits: &mut Permits) -> bool {
+    let both = permit_both(permits);
     permits.drop_all(Txn(8));
-    !reads(permits, 7, 9, 2)
+    both == Ok(true)
+        && !reads(permits, 7, 9, 2)
         && !reads(permits, 7, 8, 2)
         && !reads(permits, 8, 9, 2)
         && add(permits, 7, 9, &ObSet::All, true)
@@ -79,33 +83,41 @@ fn chain_ends(permits: &mut Permits) -> bool {
 #[test]
 fn chain_ends_with_its_members(rt: HostRuntime) {
     let mut permits = Permits::new(rt.alloc());
-    assert_eq!(rt; permit_both(&mut permits), Ok(true));
-    assert!(rt; chain_ends(&mut permits));
+    let told = chain_ends(&mut permits);
+    drop(permits);
+    assert!(rt; told);
 }
 
-/// Whether a chain may come back to its start.
+/// Whether a chain that is given may come back to its start.
 fn chain_comes_back(permits: &mut Permits) -> bool {
-    add(permits, 9, 7, &ObSet::All, false) && reads(permits, 9, 8, 2) && !reads(permits, 9, 6, 2)
+    permit_both(permits) == Ok(true)
+        && add(permits, 9, 7, &ObSet::All, false)
+        && reads(permits, 9, 8, 2)
+        && !reads(permits, 9, 6, 2)
 }
 
 #[test]
 fn chain_may_come_back(rt: HostRuntime) {
     let mut permits = Permits::new(rt.alloc());
-    assert_eq!(rt; permit_both(&mut permits), Ok(true));
-    assert!(rt; chain_comes_back(&mut permits));
+    let told = chain_comes_back(&mut permits);
+    drop(permits);
+    assert!(rt; told);
 }
 
 /// Whether a permit that is given twice is one permit, and goes with its giver.
-fn second_adds_nothing(permits: &mut Permits) -> Result<bool, SetFault> {
-    let same = two(2, 1)?;
+fn second_adds_nothing(permits: &mut Permits) -> bool {
+    let (both, Ok(same)) = (permit_both(permits), two(2, 1)) else {
+        return false;
+    };
     let stands = add(permits, 7, 8, &same, true) && reads(permits, 7, 9, 2);
     permits.drop_all(Txn(7));
-    Ok(stands && !reads(permits, 7, 8, 2) && reads(permits, 8, 9, 3))
+    both == Ok(true) && stands && !reads(permits, 7, 8, 2) && reads(permits, 8, 9, 3)
 }
 
 #[test]
 fn permit_is_given_twice(rt: HostRuntime) {
     let mut permits = Permits::new(rt.alloc());
-    assert_eq!(rt; permit_both(&mut permits), Ok(true));
-    assert_eq!(rt; second_adds_nothing(&mut permits), Ok(true));
+    let told = second_adds_nothing(&mut permits);
+    drop(permits);
+    assert!(rt; told);
 }

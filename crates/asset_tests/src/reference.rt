@@ -92,7 +92,9 @@ fn agree_over(
 /// Whether the facility and the reference agree on these steps.
 fn agree(alloc: Global, steps: &[Step], capacity: usize) -> Result<bool, Fail> {
     let mut core = Core::open(alloc, &THREE, capacity)?;
-    agree_over(&mut core, &mut Vec::new(alloc), steps, capacity)
+    let agreed = agree_over(&mut core, &mut Vec::new(alloc), steps, capacity);
+    drop(core);
+    agreed
 }
 
 /// The next of a sequence of numbers that look random.
@@ -122,7 +124,6 @@ fn drawn(number: u64) -> Step {
 
 #[test]
 fn facility_agrees_on_worked_histories(rt: HostRuntime) -> Result<(), Fail> {
-    let alloc = rt.alloc();
     let waits = [
         initiate(7),
         begin(7),
@@ -133,7 +134,6 @@ fn facility_agrees_on_worked_histories(rt: HostRuntime) -> Result<(), Fail> {
         abort(7),
         read(8, 1),
     ];
-    assert!(rt; agree(alloc, &waits, 100)?);
     let stands = [
         initiate(7),
         begin(7),
@@ -148,7 +148,6 @@ fn facility_agrees_on_worked_histories(rt: HostRuntime) -> Result<(), Fail> {
         begin(9),
         read(9, 1),
     ];
-    assert!(rt; agree(alloc, &stands, 100)?);
     let room = [
         initiate(7),
         begin(7),
@@ -158,8 +157,6 @@ fn facility_agrees_on_worked_histories(rt: HostRuntime) -> Result<(), Fail> {
         initiate(8),
         commit(7),
     ];
-    assert!(rt; agree(alloc, &room, 4)?);
-    assert!(rt; agree(alloc, &room, 3)?);
     let refusals = [
         begin(5),
         initiate(7),
@@ -177,13 +174,20 @@ fn facility_agrees_on_worked_histories(rt: HostRuntime) -> Result<(), Fail> {
         abort(7),
         commit(6),
     ];
-    assert!(rt; agree(alloc, &refusals, 100)?);
+    for (steps, capacity) in [
+        (&waits[..], 100),
+        (&stands[..], 100),
+        (&room[..], 4),
+        (&room[..], 3),
+        (&refusals[..], 100),
+    ] {
+        assert!(rt; agree(rt.alloc(), steps, capacity)?);
+    }
     Ok(())
 }
 
 #[test]
 fn facility_agrees_on_permits(rt: HostRuntime) -> Result<(), Fail> {
-    let alloc = rt.alloc();
     let chain = [
         initiate(7),
         begin(7),
@@ -208,7 +212,6 @@ fn facility_agrees_on_permits(rt: HostRuntime) -> Result<(), Fail> {
         abort(7),
         read(9, 1),
     ];
-    assert!(rt; agree(alloc, &chain, 100)?);
     let refusals = [
         permit(5, 5, &[Ob(4)], (true, false)),
         permit(5, 6, &[Ob(4)], (true, false)),
@@ -221,7 +224,9 @@ fn facility_agrees_on_permits(rt: HostRuntime) -> Result<(), Fail> {
         abort(5),
         permit(5, 6, &[], (false, true)),
     ];
-    assert!(rt; agree(alloc, &refusals, 100)?);
+    for steps in [&chain[..], &refusals[..]] {
+        assert!(rt; agree(rt.alloc(), steps, 100)?);
+    }
     Ok(())
 }
 

@@ -91,7 +91,9 @@ fn changes_are_shown(trans: &mut Trans) -> bool {
 #[test]
 fn statuses_and_what_is_owed(rt: HostRuntime) -> Result<(), Fail> {
     let mut trans = with_one(rt.alloc(), Txn(7), None)?;
-    assert!(rt; changes_are_shown(&mut trans));
+    let told = changes_are_shown(&mut trans);
+    drop(trans);
+    assert!(rt; told);
     Ok(())
 }
 
@@ -107,7 +109,9 @@ fn parent_stands(trans: &mut Trans) -> bool {
 #[test]
 fn parent_is_recorded(rt: HostRuntime) -> Result<(), Fail> {
     let mut trans = with_one(rt.alloc(), Txn(8), Some(Txn(7)))?;
-    assert!(rt; parent_stands(&mut trans));
+    let told = parent_stands(&mut trans);
+    drop(trans);
+    assert!(rt; told);
     Ok(())
 }
 
@@ -127,5 +131,7 @@ fn twenty_are_initiated(trans: &mut Trans) -> bool {
 #[test]
 fn want_of_memory_changes_nothing(rt: HostRuntime) {
     let mut trans = Trans::new(rt.alloc());
-    assert!(rt; twenty_are_initiated(&mut trans));
+    let told = twenty_are_initiated(&mut trans);
+    drop(trans);
+    assert!(rt; told);
 }
