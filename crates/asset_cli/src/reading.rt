@@ -26,7 +26,6 @@ fn zeros(alloc: Global, len: usize) -> Result<Vec<u8>, AllocError>
 }
 
 // Adds what the reader gives to the bytes, up to its end, by pieces that are read into `piece`.
-#[tactic(auto, unfolding(crate::specs::Device::counted))]
 fn read_into<R: Read>(
     input: &mut Device<R>,
     piece: &mut [u8],

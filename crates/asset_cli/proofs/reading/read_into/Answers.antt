@@ -35,3 +35,7 @@ requests-preserved g c =
       limit = omega (arith, added.len, given);
       room = omega arith;
     }
+
+pub returns-then-count-eq0-clause-counted : goal.returns-then-count-eq0-clause-counted
+unfolding counted
+returns-then-count-eq0-clause-counted g c = omega (arith, c.in-Some.ensures.moved)
