@@ -1,5 +1,5 @@
 -- The lines that a script's run prints.
-use Rattle.std.specs.Prelude.{ℕ, List, [], ◌∷◌, ◌++◌, codes}
+use Rattle.std.specs.Prelude.{ℕ, List, [], ◌∷◌, ◌++◌, Option, None, Some, codes}
 use Rattle.std.specs.Fmt.{decimal, signed_decimal}
 use Rattle.asset_names.specs.declared.replies.Refusal.{Refusal}
 use Rattle.asset_names.specs.declared.replies.Refusal.TheVariants.{Unknown, Ended, NotRunning, Taken, Begun, NoObject, Same, Cycle, TooLate}
@@ -23,6 +23,11 @@ refusal_line (NoObject x) = codes "refused no object " ++ decimal x.0 ++ line_en
 refusal_line Same = codes "refused same" ++ line_end
 refusal_line Cycle = codes "refused cycle" ++ line_end
 refusal_line (TooLate t) = codes "refused too late " ++ decimal t.0 ++ line_end
+
+-- the line of a refusal by a rule that is called so, where it is about a name or not
+unfoldable pub refused_by : List ℕ → Option ℕ → List ℕ
+refused_by rule (Some name) = codes "refused " ++ rule ++ codes " " ++ decimal name ++ line_end
+refused_by rule None = codes "refused " ++ rule ++ line_end
 
 -- The line of a reply.
 unfoldable pub reply_line : Reply → List ℕ

@@ -59,7 +59,7 @@ impl Words<'_> {
         let (Some(t), Some(x), None) = (self.next(), self.next(), self.next()) else {
             return None;
         };
-        Some((parse_txn(t)?, parse_ob(x)?))
+        parse_txn(t).zip(parse_ob(x))
     }
 
     /// An object and a value.
@@ -70,7 +70,7 @@ impl Words<'_> {
         let (Some(x), Some(v), None) = (self.next(), self.next(), self.next()) else {
             return None;
         };
-        Some((parse_ob(x)?, parse_value(v)?))
+        parse_ob(x).zip(parse_value(v))
     }
 
     /// A transaction, an object and a value.
@@ -82,7 +82,8 @@ impl Words<'_> {
         else {
             return None;
         };
-        Some((parse_txn(t)?, parse_ob(x)?, parse_value(v)?))
+        let ((t, x), v) = parse_txn(t).zip(parse_ob(x)).zip(parse_value(v))?;
+        Some((t, x, v))
     }
 
     /// Two transactions, operations and a set of objects.
@@ -99,7 +100,7 @@ impl Words<'_> {
         ) else {
             return None;
         };
-        let names = (parse_txn(giver)?, parse_txn(taker)?);
-        Some((names, (parse_ops(ops)?, parse_set(obs)?)))
+        let names = parse_txn(giver).zip(parse_txn(taker));
+        names.zip(parse_ops(ops).zip(parse_set(obs)))
     }
 }

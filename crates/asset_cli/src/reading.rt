@@ -1,5 +1,5 @@
 //! Reads a whole input.
-ghost use Rattle.std.specs.Prelude.{◌≡◌, ◌≢◌, ◌≤◌, false, IfOk, OnOk, Err, vec_len};
+ghost use Rattle.std.specs.Prelude.{◌≡◌, ◌≢◌, ◌≤◌, false, [], length, IfOk, OnOk, Err, vec_len};
 ghost use Rattle.std.specs.Io.KnownBytes.{Consumes, IsAtEnd};
 ghost use Rattle.asset_cli.specs.Device.{IsFresh};
 ghost use Rattle.asset_cli.specs.Transfers.{IsReadFault, input_limit};
@@ -25,9 +25,41 @@ fn zeros(alloc: Global, len: usize) -> Result<Vec<u8>, AllocError>
     vec![in alloc; 0u8; len]
 }
 
+// Adds what the reader gives to the bytes, up to its end, by pieces that are read into `piece`.
+fn read_into<R: Read>(
+    input: &mut Device<R>,
+    piece: &mut [u8],
+    bytes: &mut Vec<u8>,
+) -> Result<(), ScriptFault>
+    requires fresh { IsFresh input.old }
+    requires room { length piece.old ≡ 65536 }
+    requires empty { bytes.old.items ≡ [] }
+    ensures gave { OnOk result
+        (Consumes (R.remaining input.old.inner) (R.remaining input.new.inner) bytes.new.items) }
+    ensures end { OnOk result (IsAtEnd (R.remaining input.new.inner)) }
+    ensures limit { OnOk result (vec_len bytes.new ≤ input_limit) }
+    ensures sound { OnOk result (input.new.failed ≡ false) }
+    ensures counted { OnOk result (input.new.moved ≡ vec_len bytes.new) }
+    ensures fault { result ≡ Err ScriptFault.Read → IsReadFault R.remaining input.old input.new }
+    ensures reads_only { result ≢ Err ScriptFault.Write }
+{
+    'requests: for _ in 0..MOST_REQUESTS {
+        let Some(count) = input.read(piece) else {
+            return Err(ScriptFault::Read);
+        };
+        if count == 0 {
+            return Ok(());
+        }
+        if bytes.len() + count > MOST_BYTES {
+            return Err(ScriptFault::Read);
+        }
+        bytes.extend_from_slice(&piece[..count])?;
+    }
+    Err(ScriptFault::Read)
+}
+
 /// All that the reader gives, up to its end. A reader that gives more than 67,108,864 bytes, or has
 /// no end within 134,217,728 requests, is given up.
-#[tactic(auto, unfolding(crate::specs::Device::counted))]
 pub(crate) fn read_all<R: Read>(
     alloc: Global,
     input: &mut Device<R>,
@@ -42,19 +74,10 @@ pub(crate) fn read_all<R: Read>(
     ensures fault { result ≡ Err ScriptFault.Read → IsReadFault R.remaining input.old input.new }
     ensures reads_only { result ≢ Err ScriptFault.Write }
 {
-    let mut bytes = Vec::new(alloc);
     let mut piece = zeros(alloc, PIECE)?;
-    'requests: for _ in 0..MOST_REQUESTS {
-        let Some(count) = input.read(piece.as_mut_slice()) else {
-            return Err(ScriptFault::Read);
-        };
-        if count == 0 {
-            return Ok(bytes);
-        }
-        if bytes.len() + count > MOST_BYTES {
-            return Err(ScriptFault::Read);
-        }
-        bytes.extend_from_slice(&piece[..count])?;
+    let mut bytes = Vec::new(alloc);
+    match read_into(input, piece.as_mut_slice(), &mut bytes) {
+        Ok(()) => Ok(bytes),
+        Err(fault) => Err(fault),
     }
-    Err(ScriptFault::Read)
 }

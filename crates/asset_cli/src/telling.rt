@@ -106,6 +106,23 @@ fn open_over(alloc: Global, opening: &[(Ob, i64)], capacity: usize) -> Result<Co
     }
 }
 
+/// Tells what the lines print from the first step on, with a facility that is not used again.
+fn tell_with(
+    mut core: Core,
+    text: &mut String,
+    bytes: &[u8],
+    first: u64,
+) -> Result<RunEnd, ScriptFault>
+    requires { first + length (lines bytes.now) < 2 ^ 64 }
+    ensures told { IfOk result (λ end. Ends (string_bytes text.old) (steps_told (lines bytes.now) first core.history) (string_bytes text.new) end) }
+    ensures memory { IfErr result (λ fault. fault ≡ ScriptFault.NoMemory) }
+{
+    let end = tell_steps(&mut core, text, bytes, first);
+    // All but the history is let go in that call, which leaves the history alone to be let go here.
+    core.into_history();
+    end
+}
+
 /// Tells what the lines print from the first step on, over these objects.
 fn tell_over(
     alloc: Global,
@@ -121,8 +138,10 @@ fn tell_over(
     ensures told { IfOk result (λ end. Ends (string_bytes text.old) (steps_told (lines bytes.now) first (opened opening.now capacity)) (string_bytes text.new) end) }
     ensures memory { IfErr result (λ fault. fault ≡ ScriptFault.NoMemory) }
 {
-    let mut core = open_over(alloc, opening, capacity)?;
-    tell_steps(&mut core, text, bytes, first)
+    match open_over(alloc, opening, capacity) {
+        Ok(core) => tell_with(core, text, bytes, first),
+        Err(fault) => Err(fault),
+    }
 }
 
 /// Tells what a script prints from where its object lines end, over the objects that they gave.

@@ -1,26 +1,37 @@
 //! The lines that a script's run prints. Where memory runs out, a part of a line may have been added
 //! to a text.
 ghost use Rattle.std.specs.Prelude.{◌≡◌, ◌++◌, OnOk, string_bytes};
-ghost use Rattle.asset_cli.specs.Texts.{bad_line, full_line, outcome_line, refusal_line, reply_line};
+ghost use Rattle.asset_cli.specs.Texts.{bad_line, full_line, outcome_line, refusal_line, refused_by, reply_line};
 
 use asset_names::{Outcome, Refusal, Reply};
 use std::alloc::AllocError;
 
+// The rule that a refusal is by, in words, and the number of the name that it is about.
+#[tactic(auto, unfolding(crate::specs::Texts::refusal_line, crate::specs::Texts::refused_by))]
+fn rule_and_name(refusal: Refusal) -> (&'static str, Option<u64>)
+    ensures { refusal_line refusal ≡ refused_by result.0.now result.1 }
+{
+    match refusal {
+        Refusal::Unknown(t) => ("unknown", Some(t.0)),
+        Refusal::Ended(t) => ("ended", Some(t.0)),
+        Refusal::NotRunning(t) => ("not running", Some(t.0)),
+        Refusal::Taken(t) => ("taken", Some(t.0)),
+        Refusal::Begun(t) => ("begun", Some(t.0)),
+        Refusal::NoObject(x) => ("no object", Some(x.0)),
+        Refusal::Same => ("same", None),
+        Refusal::Cycle => ("cycle", None),
+        Refusal::TooLate(t) => ("too late", Some(t.0)),
+    }
+}
+
 // Appends the line of a refusal.
-#[tactic(auto, unfolding(crate::specs::Texts::refusal_line, crate::specs::Texts::line_end))]
+#[tactic(auto, unfolding(crate::specs::Texts::refused_by, crate::specs::Texts::line_end))]
 fn push_refusal(text: &mut String, refusal: Refusal) -> Result<(), AllocError>
     ensures { OnOk result (string_bytes text.new ≡ string_bytes text.old ++ refusal_line refusal) }
 {
-    match refusal {
-        Refusal::Unknown(t) => writeln!(text, "refused unknown {}", t.0),
-        Refusal::Ended(t) => writeln!(text, "refused ended {}", t.0),
-        Refusal::NotRunning(t) => writeln!(text, "refused not running {}", t.0),
-        Refusal::Taken(t) => writeln!(text, "refused taken {}", t.0),
-        Refusal::Begun(t) => writeln!(text, "refused begun {}", t.0),
-        Refusal::NoObject(x) => writeln!(text, "refused no object {}", x.0),
-        Refusal::Same => writeln!(text, "refused same"),
-        Refusal::Cycle => writeln!(text, "refused cycle"),
-        Refusal::TooLate(t) => writeln!(text, "refused too late {}", t.0),
+    match rule_and_name(refusal) {
+        (rule, Some(name)) => writeln!(text, "refused {rule} {name}"),
+        (rule, None) => writeln!(text, "refused {rule}"),
     }
 }
 

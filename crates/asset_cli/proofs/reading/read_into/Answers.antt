@@ -4,7 +4,7 @@ use Rattle.std.proofs.lemmas.List.{length-take-le}
 use Rattle.std.proofs.KnownBytes.{Consumes-trans}
 use Rattle.asset_cli.specs.Device.{counted}
 use Rattle.asset_cli.proofs.TransferLemmas.{fault_of_failure, fault_of_requests, fault_of_excess}
-use Rattle.asset_cli.proofs.reading.read_all.Goals as goal
+use Rattle.asset_cli.proofs.reading.read_into.Goals as goal
 
 pub returns-in_default-clause-fault : goal.returns-in_default-clause-fault
 returns-in_default-clause-fault g c _ = fault_of_failure _ _ _ (rw c.requests.invariant.failed at c.in_default.ensures.failed)
@@ -20,3 +20,22 @@ returns-then-len-count-gt-MOST_BYTES-clause-fault g c _ =
 
 pub returns-clause-fault : goal.returns-clause-fault
 returns-clause-fault g c _ = fault_of_requests _ _ _ (omega arith)
+
+pub requests-preserved : goal.requests-preserved
+unfolding counted
+requests-preserved g c =
+    let read = c.in-Some.ensures in
+    let added = c.in_ok-extend_from_slice.ensures in
+    let given : length (take c.in-Some.count c.read.new.buf) ≡ c.in-Some.count = length-take-le _ _ read.bound in
+    record {
+      gave = rw added.items (Consumes-trans _ _ _ _ _ c.requests.invariant.gave read.gave);
+      failed = rw c.requests.invariant.failed at read.failed;
+      asked = omega (arith, read.asked);
+      moved = omega (arith, read.moved, added.len, given);
+      limit = omega (arith, added.len, given);
+      room = omega arith;
+    }
+
+pub returns-then-count-eq0-clause-counted : goal.returns-then-count-eq0-clause-counted
+unfolding counted
+returns-then-count-eq0-clause-counted g c = omega (arith, c.in-Some.ensures.moved)

@@ -1,8 +1,8 @@
 -- What was read so far is what the reader gave, and the device has counted it.
-use Rattle.std.proofs.Common.{◌≡◌, ◌≤◌, false, vec_len}
+use Rattle.std.proofs.Common.{◌≡◌, ◌≤◌, false, length, vec_len}
 use Rattle.std.specs.Io.KnownBytes.{Consumes}
 use Rattle.asset_cli.specs.Transfers.{input_limit}
-use Rattle.asset_cli.proofs.reading.read_all.Given as goal
+use Rattle.asset_cli.proofs.reading.read_into.Given as goal
 
 abbrev pub invariant-requests : goal.invariant-requests
 invariant-requests g l = record {
@@ -11,5 +11,5 @@ invariant-requests g l = record {
   asked : l.input.asked ≡ l.counter;
   moved : l.input.moved ≡ vec_len l.bytes;
   limit : vec_len l.bytes ≤ input_limit;
-  room : vec_len l.piece ≡ 65536;
+  room : length l.piece ≡ 65536;
 }
