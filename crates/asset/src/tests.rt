@@ -55,11 +55,15 @@ fn is_run_fault(alloc: Global, fault: ScriptFault, expected: &str) -> Result<boo
 
 #[test]
 fn words_give_the_capacity(rt: HostRuntime) {
-    assert_eq!(rt; capacity(&rt, &[]), Ok(10_000));
-    assert_eq!(rt; capacity(&rt, &["run"]), Ok(10_000));
-    assert_eq!(rt; capacity(&rt, &["run", "--cap", "4"]), Ok(4));
-    assert_eq!(rt; capacity(&rt, &["run", "--cap", "1"]), Ok(1));
-    assert_eq!(rt; capacity(&rt, &["run", "--cap=1000000"]), Ok(1_000_000));
+    for (texts, expected) in [
+        (&[][..], 10_000),
+        (&["run"][..], 10_000),
+        (&["run", "--cap", "4"][..], 4),
+        (&["run", "--cap", "1"][..], 1),
+        (&["run", "--cap=1000000"][..], 1_000_000),
+    ] {
+        assert_eq!(rt; capacity(&rt, texts), Ok(expected));
+    }
 }
 
 #[test]
@@ -75,42 +79,50 @@ fn capacity_out_of_range_is_refused(rt: HostRuntime) -> Result<(), Fail> {
 
 #[test]
 fn other_words_are_refused(rt: HostRuntime) -> Result<(), Fail> {
-    let unexpected =
-        "error: unexpected argument '--cap' found\n\nUsage: asset [COMMAND]\n\nFor more information, try '--help'.\n";
-    assert!(rt; tells(&rt, &["--cap", "5"], unexpected, 2)?);
-    let more =
-        "error: unexpected argument 'x' found\n\nUsage: asset run [OPTIONS]\n\nFor more information, try '--help'.\n";
-    assert!(rt; tells(&rt, &["run", "x"], more, 2)?);
-    for (word, expected) in [
+    for (texts, expected) in [
         (
-            "groups",
+            &["--cap", "5"][..],
+            "error: unexpected argument '--cap' found\n\nUsage: asset [COMMAND]\n\nFor more information, try '--help'.\n",
+        ),
+        (
+            &["run", "x"][..],
+            "error: unexpected argument 'x' found\n\nUsage: asset run [OPTIONS]\n\nFor more information, try '--help'.\n",
+        ),
+        (
+            &["groups"][..],
             "error: unrecognized subcommand 'groups'\n\nUsage: asset [COMMAND]\n\nFor more information, try '--help'.\n",
         ),
         (
-            "sources",
+            &["sources"][..],
             "error: unrecognized subcommand 'sources'\n\nUsage: asset [COMMAND]\n\nFor more information, try '--help'.\n",
         ),
         (
-            "jobs",
+            &["jobs"][..],
             "error: unrecognized subcommand 'jobs'\n\nUsage: asset [COMMAND]\n\nFor more information, try '--help'.\n",
         ),
         (
-            "prune",
+            &["prune"][..],
             "error: unrecognized subcommand 'prune'\n\n  tip: a similar subcommand exists: 'run'\n\nUsage: asset [COMMAND]\n\nFor more information, try '--help'.\n",
         ),
     ] {
-        assert!(rt; tells(&rt, &[word], expected, 2)?, "after {word}");
+        assert!(rt; tells(&rt, texts, expected, 2)?, "not {expected}");
     }
     Ok(())
 }
 
 #[test]
 fn words_that_cannot_be_read(rt: HostRuntime) -> Result<(), Fail> {
-    let no_text = "a word of the command line is no text";
-    assert!(rt; is_fault(rt.alloc(), WordsFault::NotText, no_text)?);
-    assert!(rt; is_fault(rt.alloc(), WordsFault::NoMemory, "no memory")?);
-    assert_eq!(rt; status_of_words(WordsFault::NotText), 2);
-    assert_eq!(rt; status_of_words(WordsFault::NoMemory), 1);
+    for (fault, expected, status) in [
+        (
+            WordsFault::NotText,
+            "a word of the command line is no text",
+            2,
+        ),
+        (WordsFault::NoMemory, "no memory", 1),
+    ] {
+        assert!(rt; is_fault(rt.alloc(), fault, expected)?, "not {expected}");
+        assert_eq!(rt; status_of_words(fault), status);
+    }
     Ok(())
 }
 
@@ -121,12 +133,25 @@ fn faults_of_a_run_in_text(rt: HostRuntime) -> Result<(), Fail> {
         (ScriptFault::Write, "write fault"),
         (ScriptFault::NoMemory, "no memory"),
     ] {
-        assert!(rt; is_run_fault(rt.alloc(), fault, expected)?, "{expected}");
-        assert_eq!(rt; status_of_run(Err(fault)), 1);
+        assert!(rt;
+            is_run_fault(rt.alloc(), fault, expected)?,
+            "not {expected}"
+        );
     }
-    assert_eq!(rt; status_of_run(Ok(RunEnd::Finished)), 0);
-    assert_eq!(rt; status_of_run(Ok(RunEnd::BadLine(3))), 2);
     Ok(())
+}
+
+#[test]
+fn status_says_how_a_run_ended(rt: HostRuntime) {
+    for (ended, expected) in [
+        (Ok(RunEnd::Finished), 0),
+        (Ok(RunEnd::BadLine(3)), 2),
+        (Err(ScriptFault::Read), 1),
+        (Err(ScriptFault::Write), 1),
+        (Err(ScriptFault::NoMemory), 1),
+    ] {
+        assert_eq!(rt; status_of_run(ended), expected);
+    }
 }
 
 #[test]

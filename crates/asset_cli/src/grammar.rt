@@ -12,7 +12,7 @@ const OBJECT: &[u8] = b"object";
 const LONGEST_LINE: usize = 4096;
 
 /// What a line of a script asks.
-#[derive(Clone, Copy, Debug, PartialEq, Eq)]
+#[derive(Clone, Copy)]
 pub(crate) enum Command {
     /// Adds an object with this value to the opening.
     Object((Ob, i64)),
@@ -56,7 +56,7 @@ impl Command {
 }
 
 /// What a line of a script is.
-#[derive(Clone, Copy, Debug, PartialEq, Eq)]
+#[derive(Clone, Copy)]
 pub(crate) enum Line {
     /// It says nothing.
     Blank,

@@ -5,7 +5,7 @@ use crate::words::Words;
 use asset_names::Step;
 
 /// The first word of a step line.
-#[derive(Clone, Copy, Debug, PartialEq, Eq)]
+#[derive(Clone, Copy)]
 pub(crate) enum Keyword {
     Initiate,
     Begin,
@@ -68,27 +68,43 @@ impl Keyword {
     pub(crate) fn step(self, arguments: Words<'_>) -> Option<Step>
         ensures { result ≡ step_by self arguments.entry }
     {
-        match self {
-            Keyword::Initiate => arguments
-                .txn_and_parent()
-                .map(|(t, parent)| Step::Initiate { t, parent }),
-            Keyword::Begin => arguments.one_txn().map(|t| Step::Begin { t }),
-            Keyword::Read => arguments.txn_and_object().map(|(t, x)| Step::Read { t, x }),
-            Keyword::Write => arguments
-                .txn_object_and_value()
-                .map(|(t, x, v)| Step::Write { t, x, v }),
-            Keyword::Complete => arguments.one_txn().map(|t| Step::Complete { t }),
-            Keyword::Permit => arguments.txns_ops_and_set().map(|((giver, taker), (ops, obs))| {
+        Some(match self {
+            Keyword::Initiate => {
+                let (t, parent) = arguments.txn_and_parent()?;
+                Step::Initiate { t, parent }
+            }
+            Keyword::Begin => Step::Begin {
+                t: arguments.one_txn()?,
+            },
+            Keyword::Read => {
+                let (t, x) = arguments.txn_and_object()?;
+                Step::Read { t, x }
+            }
+            Keyword::Write => {
+                let (t, x, v) = arguments.txn_object_and_value()?;
+                Step::Write { t, x, v }
+            }
+            Keyword::Complete => Step::Complete {
+                t: arguments.one_txn()?,
+            },
+            Keyword::Permit => {
+                let ((giver, taker), (ops, obs)) = arguments.txns_ops_and_set()?;
                 Step::Permit {
                     giver,
                     taker,
                     obs,
                     ops,
                 }
-            }),
-            Keyword::Commit => arguments.one_txn().map(|t| Step::Commit { t }),
-            Keyword::Abort => arguments.one_txn().map(|t| Step::Abort { t }),
-            Keyword::Wait => arguments.one_txn().map(|t| Step::WaitFor { t }),
-        }
+            }
+            Keyword::Commit => Step::Commit {
+                t: arguments.one_txn()?,
+            },
+            Keyword::Abort => Step::Abort {
+                t: arguments.one_txn()?,
+            },
+            Keyword::Wait => Step::WaitFor {
+                t: arguments.one_txn()?,
+            },
+        })
     }
 }

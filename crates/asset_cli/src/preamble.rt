@@ -12,7 +12,7 @@ use crate::grammar::{Command, Line};
 use crate::lines::split_line;
 
 /// What a line does before the first step.
-#[derive(Clone, Copy, Debug, PartialEq, Eq)]
+#[derive(Clone, Copy)]
 pub(crate) enum Taken {
     /// It is taken, and further objects may follow.
     More,

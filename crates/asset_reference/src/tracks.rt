@@ -10,7 +10,7 @@ ghost use Rattle.asset_reference.specs.Tracks.{track_of};
 use asset_names::{End, Reply, Status, Step, Txn, is_carried_out};
 
 /// What the steps that were carried out say of one name.
-#[derive(Clone, Copy, Debug, PartialEq, Eq)]
+#[derive(Clone, Copy)]
 pub struct Track {
     pub initiated: bool,
     pub begun: bool,

@@ -1,5 +1,6 @@
 //! Each public call once, on worked values, and what is left where memory runs out.
 
+use crate::again::{ask, opened};
 use crate::steps::{abort, begin, commit, complete, initiate, read, write};
 use asset_core::{Core, OpenFault};
 use asset_names::{Fault, Ob, ObList, ObSet, Op, Ops, Outcome, Refusal, Reply, Status, Step, Txn};
@@ -22,22 +23,6 @@ const FULL: Result<Outcome, Fault> = Err(Fault::Full);
 
 fn value(v: i64) -> Result<Outcome, Fault> {
     Ok(Outcome::Answer(Reply::Value(v)))
-}
-
-/// Asks a step. Where memory runs out once, nothing has changed and it is asked again.
-fn ask(core: &mut Core, step: &Step) -> Result<Outcome, Fault> {
-    let before = (core.history().len(), core.status(Txn(7)), core.value(Ob(1)));
-    match core.step(*step) {
-        Err(Fault::NoMemory) => {
-            let after = (core.history().len(), core.status(Txn(7)), core.value(Ob(1)));
-            if after == before {
-                core.step(*step)
-            } else {
-                Err(Fault::NoMemory)
-            }
-        }
-        told => told,
-    }
 }
 
 /// Whether the steps have these outcomes, one after another.
@@ -64,14 +49,6 @@ fn opening_is_refused_in_order(rt: HostRuntime) {
         (&THREE[..], 1_000_000, None),
     ] {
         assert_eq!(rt; fault(rt.alloc(), opening, capacity), told);
-    }
-}
-
-/// Opens the facility. Where memory runs out once, it is opened again.
-fn opened(alloc: Global, opening: &[(Ob, i64)], capacity: usize) -> Result<Core, OpenFault> {
-    match Core::open(alloc, opening, capacity) {
-        Err(OpenFault::NoMemory) => Core::open(alloc, opening, capacity),
-        told => told,
     }
 }
 

@@ -7,6 +7,8 @@ mod steps;
 pub use steps::{abort, begin, commit, complete, initiate, read, write};
 
 #[cfg(test)]
+mod again;
+#[cfg(test)]
 mod facility;
 #[cfg(test)]
 mod locks;

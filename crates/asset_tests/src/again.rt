@@ -1,0 +1,33 @@
+//! Calls of a facility that are made again where memory runs out once.
+
+use asset_core::{Core, OpenFault};
+use asset_names::{Fault, Ob, Outcome, Step, Txn};
+use std::alloc::Global;
+
+/// Opens the facility. Where memory runs out once, it is opened again.
+pub(crate) fn opened(
+    alloc: Global,
+    opening: &[(Ob, i64)],
+    capacity: usize,
+) -> Result<Core, OpenFault> {
+    match Core::open(alloc, opening, capacity) {
+        Err(OpenFault::NoMemory) => Core::open(alloc, opening, capacity),
+        told => told,
+    }
+}
+
+/// Asks a step. Where memory runs out once, nothing has changed and it is asked again.
+pub(crate) fn ask(core: &mut Core, step: &Step) -> Result<Outcome, Fault> {
+    let before = (core.history().len(), core.status(Txn(7)), core.value(Ob(1)));
+    match core.step(*step) {
+        Err(Fault::NoMemory) => {
+            let after = (core.history().len(), core.status(Txn(7)), core.value(Ob(1)));
+            if after == before {
+                core.step(*step)
+            } else {
+                Err(Fault::NoMemory)
+            }
+        }
+        told => told,
+    }
+}
