@@ -111,7 +111,7 @@ fn other_words_are_refused(rt: HostRuntime) -> Result<(), Fail> {
 }
 
 #[test]
-fn words_that_cannot_be_read(rt: HostRuntime) -> Result<(), Fail> {
+fn faults_of_the_words_in_text(rt: HostRuntime) -> Result<(), Fail> {
     for (fault, expected, status) in [
         (
             WordsFault::NotText,

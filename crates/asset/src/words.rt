@@ -32,11 +32,12 @@ pub fn words_given<R: Env + AllocGlobal>(rt: &R) -> Result<Vec<String>, WordsFau
 /// The most entries that a history has room for where no word says how many.
 const DEFAULT_CAPACITY: usize = 10_000;
 
-/// The capacity that was given, or else the default one.
+/// The capacity that was given, or the default one where none was given or what was given is none.
 pub fn capacity_or_default(given: Option<u32>) -> usize
     ensures capacity { IsCapacity result }
     ensures given { IfSome given (λ n. IsCapacity n → result ≡ n) }
     ensures default { IfNone given (result ≡ 10000) }
+    ensures other { IfSome given (λ n. ¬ IsCapacity n → result ≡ 10000) }
 {
     match given {
         Some(n) if n >= 1 && n <= 1_000_000 => n as usize,

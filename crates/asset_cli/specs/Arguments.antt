@@ -4,19 +4,19 @@ use Rattle.asset_names.specs.declared.names.Txn.{Txn}
 use Rattle.asset_names.specs.declared.names.Ob.{Ob}
 use Rattle.asset_cli.specs.Numbers.{number_of, value_of}
 
--- The transaction of a number.
+-- the transaction of a number
 abbrev pub txn : ℕ → Txn
 txn n = record { 0 = n }
 
--- The object of a number.
+-- the object of a number
 abbrev pub ob : ℕ → Ob
 ob n = record { 0 = n }
 
--- The transaction that a word names.
+-- the transaction that a word names
 unfoldable pub txn_of : List ℕ → Option Txn
 txn_of word = option_map txn (number_of word)
 
--- The object that a word names.
+-- the object that a word names
 unfoldable pub ob_of : List ℕ → Option Ob
 ob_of word = option_map ob (number_of word)
 
@@ -28,28 +28,28 @@ both a b = option_and_then (λ x. option_map (λ y. (x, y)) b) a
 unfoldable pub all_three : {A B C : Type 0} → Option A → Option B → Option C → Option (A × B × C)
 all_three a b c = option_and_then (λ x. option_and_then (λ y. option_map (λ z. (x, y, z)) c) b) a
 
--- One transaction.
+-- one transaction
 unfoldable pub one_txn : List (List ℕ) → Option Txn
 one_txn (t ∷ []) = txn_of t
 one_txn _ = None
 
--- A transaction, and perhaps its parent.
+-- a transaction, and perhaps its parent
 unfoldable pub txn_and_parent : List (List ℕ) → Option (Txn × Option Txn)
 txn_and_parent (t ∷ []) = both (txn_of t) (Some None)
 txn_and_parent (t ∷ parent ∷ []) = both (txn_of t) (option_map Some (txn_of parent))
 txn_and_parent _ = None
 
--- A transaction and an object.
+-- a transaction and an object
 unfoldable pub txn_and_object : List (List ℕ) → Option (Txn × Ob)
 txn_and_object (t ∷ x ∷ []) = both (txn_of t) (ob_of x)
 txn_and_object _ = None
 
--- An object and a value.
+-- an object and a value
 unfoldable pub object_and_value : List (List ℕ) → Option (Ob × ℤ)
 object_and_value (x ∷ v ∷ []) = both (ob_of x) (value_of v)
 object_and_value _ = None
 
--- A transaction, an object and a value.
+-- a transaction, an object and a value
 unfoldable pub txn_object_and_value : List (List ℕ) → Option (Txn × Ob × ℤ)
 txn_object_and_value (t ∷ x ∷ v ∷ []) = all_three (txn_of t) (ob_of x) (value_of v)
 txn_object_and_value _ = None

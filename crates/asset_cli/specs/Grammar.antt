@@ -17,7 +17,7 @@ use Rattle.asset_cli.specs.Words.{words}
 use Rattle.asset_cli.specs.Keywords.{keyword_of}
 use Rattle.asset_cli.specs.Arguments.{object_and_value, one_txn, txn_and_object, txn_and_parent, txn_object_and_value}
 
--- The step that a keyword asks for with these arguments.
+-- the step that a keyword asks for with these arguments
 unfoldable pub step_by : Keyword → List (List ℕ) → Option Step
 step_by Initiate arguments = option_map (λ (a : Txn × Option Txn). Step'.Initiate a.0 a.1) (txn_and_parent arguments)
 step_by Begin arguments = option_map Step'.Begin (one_txn arguments)
@@ -29,11 +29,11 @@ step_by Commit arguments = option_map Step'.Commit (one_txn arguments)
 step_by Abort arguments = option_map Step'.Abort (one_txn arguments)
 step_by Wait arguments = option_map Step'.WaitFor (one_txn arguments)
 
--- What the words of an object line say after the first one: the object and its value.
+-- what the words of an object line say after the first one: the object and its value
 unfoldable pub object_command : List (List ℕ) → Option Command
 object_command arguments = option_map Object (object_and_value arguments)
 
--- What the words of a step line say: a keyword and its arguments.
+-- what the words of a step line say: a keyword and its arguments
 unfoldable pub step_command : List ℕ → List (List ℕ) → Option Command
 step_command word arguments = option_and_then (λ keyword. option_map Ask (step_by keyword arguments)) (keyword_of word)
 
@@ -42,11 +42,11 @@ unfoldable pub command_from : List (List ℕ) → Option Command
 command_from [] = None
 command_from (word ∷ arguments) = cond (bytes_eq word (codes "object")) (object_command arguments) (step_command word arguments)
 
--- What a line asks.
+-- what a line asks
 unfoldable pub command_of : List ℕ → Option Command
 command_of line = command_from (words line)
 
--- A line says nothing: it is empty, or it begins with `#`.
+-- a line says nothing: it is empty, or it begins with `#`
 unfoldable pub is_blank : List ℕ → Bool
 is_blank [] = true
 is_blank (first ∷ rest) = first == 35

@@ -4,7 +4,7 @@ use Rattle.std.specs.Str.{bytes_eq}
 use Rattle.asset_cli.specs.declared.keywords.Keyword.{Keyword}
 use Rattle.asset_cli.specs.declared.keywords.Keyword.TheVariants.{Initiate, Begin, Read, Write, Complete, Permit, Commit, Abort, Wait}
 
--- How a keyword is written.
+-- how a keyword is written
 unfoldable pub keyword_text : Keyword → List ℕ
 keyword_text Initiate = codes "initiate"
 keyword_text Begin = codes "begin"
@@ -16,10 +16,10 @@ keyword_text Commit = codes "commit"
 keyword_text Abort = codes "abort"
 keyword_text Wait = codes "wait"
 
--- Every keyword.
+-- every keyword
 unfoldable pub all_keywords : List Keyword
 all_keywords = Initiate ∷ Begin ∷ Read ∷ Write ∷ Complete ∷ Permit ∷ Commit ∷ Abort ∷ Wait ∷ []
 
--- The keyword that a word writes.
+-- the keyword that a word writes
 unfoldable pub keyword_of : List ℕ → Option Keyword
 keyword_of word = find (λ keyword. bytes_eq (keyword_text keyword) word) all_keywords

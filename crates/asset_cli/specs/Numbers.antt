@@ -4,24 +4,24 @@ use Rattle.std.specs.Char.{is_ascii_digit}
 use Rattle.std.specs.List.{list_all}
 use Rattle.std.specs.Str.Parse.{digits_value}
 
--- A text is a numeral: digits, at least one, and no zero in front of another digit.
+-- a text is a numeral: digits, at least one, and no zero in front of another digit
 unfoldable pub is_numeral : List ℕ → Bool
 is_numeral [] = false
 is_numeral (first ∷ rest) = list_all is_ascii_digit (first ∷ rest) && (not (first == 48) || length rest == 0)
 
--- The number that a text writes: a numeral below 2 ^ 64.
+-- the number that a text writes: a numeral below 2 ^ 64
 unfoldable pub number_of : List ℕ → Option ℕ
 number_of text = cond (is_numeral text && nat_lt (digits_value 10 text) (2 ^ 64)) (Some (digits_value 10 text)) None
 
--- A number without a sign is a value below 2 ^ 63.
+-- a number without a sign is a value below 2 ^ 63
 unfoldable pub positive_value : ℕ → Option ℤ
 positive_value n = cond (nat_lt n (2 ^ 63)) (Some (pos n)) None
 
--- A number after a minus sign is a value from 1 to 2 ^ 63.
+-- a number after a minus sign is a value from 1 to 2 ^ 63
 unfoldable pub negative_value : ℕ → Option ℤ
 negative_value n = cond (nat_lt 0 n && nat_le n (2 ^ 63)) (Some (pos 0 -ℤ pos n)) None
 
--- The value that a text writes: a number, with a minus sign in front where it is negative.
+-- the value that a text writes: a number, with a minus sign in front where it is negative
 unfoldable pub value_of : List ℕ → Option ℤ
 value_of [] = None
 value_of (first ∷ rest) =

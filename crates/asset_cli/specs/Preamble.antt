@@ -6,7 +6,7 @@ use Rattle.asset_cli.specs.declared.preamble.Taken.{Taken}
 use Rattle.asset_cli.specs.declared.preamble.Taken.TheVariants.{More, First, Bad}
 use Rattle.asset_cli.specs.Transcript.{Told, objects_told, steps_told, stopped}
 
--- A line that was taken leaves the later lines with the new opening; the first step begins the steps; a bad line stops the run.
+-- a line that was taken leaves the later lines with the new opening; the first step begins the steps; a bad line stops the run
 unfoldable pub Takes : Taken → List ℕ → Opening → Opening → Type 0
 Takes More line old new = (more : List (List ℕ)) (n capacity : ℕ) → objects_told (line ∷ more) n old capacity ≡ objects_told more (n + 1) new capacity
 Takes First line old new = (more : List (List ℕ)) (n capacity : ℕ) → objects_told (line ∷ more) n old capacity ≡ steps_told (line ∷ more) n (opened new capacity)

@@ -31,7 +31,7 @@ pub record WroteFront {R W : Type 0} (remaining : R → Option (List ℕ)) (cont
   pub front : TookFront contents output output' (tell bytes).text
   pub failed : output'.failed ≡ true
 
--- Why a run stopped: the writer was not asked where the reader is at fault or memory ran out.
+-- why a run stopped: the writer was not asked where the reader is at fault or memory ran out
 unfoldable pub Stops : {R W : Type 0} → (R → Option (List ℕ)) → (W → Option (List ℕ)) → (List ℕ → Told) → DeviceState R → DeviceState R → DeviceState W → DeviceState W → ScriptFault → Type 0
 Stops remaining contents tell input input' output output' Read = IsReadFault remaining input input' × (output' ≡ output)
 Stops remaining contents tell input input' output output' Write = WroteFront remaining contents tell input input' output output'

@@ -9,7 +9,7 @@ use Rattle.asset_names.specs.Sets.{numbers, twice, rising}
 use Rattle.asset_cli.specs.Arguments.{ob_of}
 use Rattle.asset_cli.specs.Words.{parts}
 
--- The operations that a word writes: whether it has Read, and whether it has Write.
+-- the operations that a word writes: whether it has Read, and whether it has Write
 unfoldable pub ops_of : List ℕ → Option (Bool × Bool)
 ops_of word = cond (bytes_eq word (codes "r")) (Some (true, false)) (cond (bytes_eq word (codes "w")) (Some (false, true)) (cond (bytes_eq word (codes "rw")) (Some (true, true)) None))
 
@@ -17,19 +17,19 @@ ops_of word = cond (bytes_eq word (codes "r")) (Some (true, false)) (cond (bytes
 unfoldable pub one_more_object : List Ob → Option Ob → Option (List Ob)
 one_more_object objects x = cond (nat_lt (length objects) 16) (option_map (λ y. objects ++ y ∷ []) x) None
 
--- The objects that the parts name, after these: each names one, and there are at most 16 in all.
+-- the objects that the parts name, after these: each names one, and there are at most 16 in all
 unfoldable pub gathered : List Ob → List (List ℕ) → Option (List Ob)
 gathered objects [] = Some objects
 gathered objects (part ∷ rest) = option_and_then (λ more. gathered more rest) (one_more_object objects (ob_of part))
 
--- Whether the objects make a list: 1 to 16 of them, none of which occurs twice.
+-- whether the objects make a list: 1 to 16 of them, none of which occurs twice
 unfoldable pub is_list : List Ob → Bool
 is_list objects = nat_lt 0 (length objects) && nat_le (length objects) 16 && not (list_any (λ (x : Ob). twice (numbers objects) x.0) objects)
 
--- The set of such objects, in rising order.
+-- the set of such objects, in rising order
 unfoldable pub listed : List Ob → Option ObSet
 listed objects = cond (is_list objects) (Some (Listed (rising objects))) None
 
--- The set that a word writes: all objects, or those whose numbers stand between its commas, in any order.
+-- the set that a word writes: all objects, or those whose numbers stand between its commas, in any order
 unfoldable pub set_of : List ℕ → Option ObSet
 set_of word = cond (bytes_eq word (codes "all")) (Some All) (option_and_then listed (gathered [] (parts 44 word)))

@@ -8,11 +8,11 @@ use Rattle.asset_names.specs.declared.replies.Reply.TheVariants.{Done, Value, Co
 use Rattle.asset_names.specs.declared.replies.Outcome.{Outcome}
 use Rattle.asset_names.specs.declared.replies.Outcome.TheVariants.{Answer, Wait}
 
--- The end of a line.
+-- the end of a line
 unfoldable pub line_end : List ℕ
 line_end = 10 ∷ []
 
--- The line of a refusal: which rule it was, and the name that it is about.
+-- the line of a refusal: which rule it was, and the name that it is about
 unfoldable pub refusal_line : Refusal → List ℕ
 refusal_line (Unknown t) = codes "refused unknown " ++ decimal t.0 ++ line_end
 refusal_line (Ended t) = codes "refused ended " ++ decimal t.0 ++ line_end
@@ -29,7 +29,7 @@ unfoldable pub refused_by : List ℕ → Option ℕ → List ℕ
 refused_by rule (Some name) = codes "refused " ++ rule ++ codes " " ++ decimal name ++ line_end
 refused_by rule None = codes "refused " ++ rule ++ line_end
 
--- The line of a reply.
+-- the line of a reply
 unfoldable pub reply_line : Reply → List ℕ
 reply_line Done = codes "ok" ++ line_end
 reply_line (Value v) = signed_decimal v ++ line_end
@@ -37,15 +37,15 @@ reply_line Committed = codes "committed" ++ line_end
 reply_line Aborted = codes "aborted" ++ line_end
 reply_line (Refused refusal) = refusal_line refusal
 
--- The line of what became of a step.
+-- the line of what became of a step
 unfoldable pub outcome_line : Outcome → List ℕ
 outcome_line (Answer reply) = reply_line reply
 outcome_line Wait = codes "wait" ++ line_end
 
--- The line of a step for which the history has no room.
+-- the line of a step for which the history has no room
 unfoldable pub full_line : List ℕ
 full_line = codes "full" ++ line_end
 
--- The line that a bad line is answered with, which gives its number.
+-- the line that a bad line is answered with, which gives its number
 unfoldable pub bad_line : ℕ → List ℕ
 bad_line number = codes "line " ++ decimal number ++ codes ": bad command" ++ line_end

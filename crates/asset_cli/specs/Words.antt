@@ -6,11 +6,11 @@ use Rattle.std.specs.List.{slice_split}
 unfoldable pub parts : ℕ → List ℕ → List (List ℕ)
 parts separator text = slice_split (λ b. b == separator) text
 
--- The words of a line: what stands between its spaces.
+-- the words of a line: what stands between its spaces
 unfoldable pub words : List ℕ → List (List ℕ)
 words line = parts 32 line
 
--- The parts that are still to come: those of the rest of the text, unless the last one is gone.
+-- the parts that are still to come: those of the rest of the text, unless the last one is gone
 unfoldable pub parts_left : ℕ → Bool → List ℕ → List (List ℕ)
 parts_left separator true rest = []
 parts_left separator false rest = parts separator rest

@@ -8,7 +8,7 @@ use crate::sets::{parse_ops, parse_set};
 use crate::words::Words;
 use asset_names::{Ob, ObSet, Ops, Txn};
 
-// The transaction that a word names.
+/// The transaction that a word names.
 #[tactic(auto, unfolding(crate::specs::Arguments::txn_of))]
 fn parse_txn(word: &[u8]) -> Option<Txn>
     ensures { result ≡ txn_of word.now }

@@ -54,7 +54,7 @@ impl<D> Device<D> {
         self.asked
     }
 
-    // Notes a call that moved `count` bytes, or failed at `None`.
+    /// Notes a call that moved `count` bytes, or failed at `None`.
     #[tactic(auto, unfolding(crate::specs::Device::counted))]
     fn note(&mut self, count: Option<usize>)
         ensures inner { self.new.inner ≡ self.old.inner }

@@ -5,10 +5,10 @@ use crate::keywords::Keyword;
 use crate::words::Words;
 use asset_names::{Ob, Step};
 
-// The first word of an object line.
+/// The first word of an object line.
 const OBJECT: &[u8] = b"object";
 
-// The most bytes that a line may have.
+/// The most bytes that a line may have.
 const LONGEST_LINE: usize = 4096;
 
 /// What a line of a script asks.
@@ -23,7 +23,7 @@ pub(crate) enum Command {
 impl Command {
     ghost use Rattle.asset_cli.specs.Grammar.{command_of, object_command, step_command};
 
-    // What the words of an object line say after the first one.
+    /// What the words of an object line say after the first one.
     #[tactic(auto, unfolding(crate::specs::Grammar::object_command))]
     fn object(arguments: Words<'_>) -> Option<Command>
         ensures { result ≡ object_command arguments.entry }
@@ -31,7 +31,7 @@ impl Command {
         arguments.object_and_value().map(Command::Object)
     }
 
-    // What the words of a step line say.
+    /// What the words of a step line say.
     #[tactic(auto, unfolding(crate::specs::Grammar::step_command))]
     fn ask(word: &[u8], arguments: Words<'_>) -> Option<Command>
         ensures { result ≡ step_command word.now arguments.entry }
@@ -40,7 +40,7 @@ impl Command {
         Some(Command::Ask(step))
     }
 
-    // What a line asks.
+    /// What a line asks.
     #[tactic(auto, unfolding(crate::specs::Grammar::command_of, crate::specs::Grammar::command_from))]
     fn parse(line: &[u8]) -> Option<Command>
         ensures { result ≡ command_of line.now }
@@ -69,7 +69,7 @@ pub(crate) enum Line {
 impl Line {
     ghost use Rattle.asset_cli.specs.Grammar.{is_blank, line_of};
 
-    // Whether a line says nothing.
+    /// Whether a line says nothing.
     #[tactic(auto, unfolding(crate::specs::Grammar::is_blank))]
     fn is_blank(line: &[u8]) -> bool
         ensures { result ≡ is_blank line.now }

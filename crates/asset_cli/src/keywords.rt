@@ -34,7 +34,7 @@ impl Keyword {
         Keyword::Wait,
     ];
 
-    // How the keyword is written.
+    /// How the keyword is written.
     #[tactic(auto, unfolding(crate::specs::Keywords::keyword_text))]
     fn text(self) -> &'static [u8]
         ensures { result.now ≡ keyword_text self }

@@ -2,7 +2,7 @@
 ghost use Rattle.std.specs.Prelude.{◌≡◌, ◌==◌, ℕ, [], ◌∷◌, position, MatchOption};
 ghost use Rattle.asset_cli.specs.Lines.{IsCutAt, Lacks, lines};
 
-// The index of the first `byte`.
+/// The index of the first `byte`.
 fn place(text: &[u8], byte: u8) -> Option<usize>
     ensures { result ≡ position (λ b. b == byte) text.now }
 {

@@ -4,14 +4,14 @@ ghost use Rattle.std.specs.Char.{is_ascii_digit};
 ghost use Rattle.std.specs.List.{list_all};
 ghost use Rattle.asset_cli.specs.Numbers.{is_numeral, negative_value, number_of, positive_value, value_of};
 
-// Whether each byte is a digit.
+/// Whether each byte is a digit.
 fn all_digits(text: &[u8]) -> bool
     ensures { result ≡ list_all is_ascii_digit text.now }
 {
     text.iter().all(|byte| byte.is_ascii_digit())
 }
 
-// Whether the text has digits alone, at least one, with no zero in front of another.
+/// Whether the text has digits alone, at least one, with no zero in front of another.
 #[tactic(auto, unfolding(crate::specs::Numbers::is_numeral))]
 fn is_numeral(text: &[u8]) -> bool
     ensures { result ≡ is_numeral text.now }
@@ -36,7 +36,7 @@ pub(crate) fn parse_number(text: &[u8]) -> Option<u64>
     }
 }
 
-// The number as a value.
+/// The number as a value.
 #[tactic(auto, unfolding(crate::specs::Numbers::positive_value))]
 fn positive(number: u64) -> Option<i64>
     ensures { result ≡ positive_value number }
@@ -44,7 +44,7 @@ fn positive(number: u64) -> Option<i64>
     i64::try_from(number).ok()
 }
 
-// The number below zero as a value.
+/// The number below zero as a value.
 #[tactic(auto, unfolding(crate::specs::Numbers::negative_value))]
 fn negative(number: u64) -> Option<i64>
     ensures { result ≡ negative_value number }

@@ -9,23 +9,23 @@ use crate::faults::ScriptFault;
 use std::alloc::{AllocError, Global};
 use std::io::Read;
 
-// The most bytes that an input may have.
+/// The most bytes that an input may have.
 const MOST_BYTES: usize = 67_108_864;
 
-// The most requests in which an input is read.
+/// The most requests in which an input is read.
 const MOST_REQUESTS: u32 = 134_217_728;
 
-// How many bytes are asked for at once.
+/// How many bytes are asked for at once.
 const PIECE: usize = 65_536;
 
-// A vector of `len` zeros.
+/// A vector of `len` zeros.
 fn zeros(alloc: Global, len: usize) -> Result<Vec<u8>, AllocError>
     ensures { IfOk result (λ piece. vec_len piece ≡ len) }
 {
     vec![in alloc; 0u8; len]
 }
 
-// Adds what the reader gives to the bytes, up to its end, by pieces that are read into `piece`.
+/// Adds what the reader gives to the bytes, up to its end, by pieces that are read into `piece`.
 fn read_into<R: Read>(
     input: &mut Device<R>,
     piece: &mut [u8],

@@ -7,10 +7,7 @@ ghost use Rattle.asset_cli.specs.Sets.{ops_of, set_of, gathered, one_more_object
 use crate::arguments::parse_ob;
 use crate::words::Words;
 use arrayvec::ArrayVec;
-use asset_names::{Ob, ObList, ObSet, Ops};
-
-// The most objects that a list has.
-const MOST: usize = 16;
+use asset_names::{MOST_OBJECTS, Ob, ObList, ObSet, Ops};
 
 // The words that name operations, and the one that names all objects.
 const READ: &[u8] = b"r";
@@ -37,10 +34,10 @@ pub(crate) fn parse_ops(word: &[u8]) -> Option<Ops>
     }
 }
 
-// Puts the object that a number names to the others, and says whether it did: the number names one, and
-// there is room for it.
+/// Puts the object that a number names to the others, and says whether it did: the number names one, and
+/// there is room for it.
 #[tactic(auto, unfolding(crate::specs::Sets::one_more_object))]
-fn add(objects: &mut ArrayVec<Ob, MOST>, number: &[u8]) -> bool
+fn add(objects: &mut ArrayVec<Ob, MOST_OBJECTS>, number: &[u8]) -> bool
     ensures { one_more_object objects.old.items (ob_of number.now) ≡ cond result (Some objects.new.items) None }
 {
     match parse_ob(number) {
@@ -52,11 +49,11 @@ fn add(objects: &mut ArrayVec<Ob, MOST>, number: &[u8]) -> bool
     }
 }
 
-// The objects whose numbers stand between the commas of a word, at most 16.
-fn objects_in(word: &[u8]) -> Option<ArrayVec<Ob, MOST>>
+/// The objects whose numbers stand between the commas of a word, at most 16.
+fn objects_in(word: &[u8]) -> Option<ArrayVec<Ob, MOST_OBJECTS>>
     ensures { option_map (λ objects. objects.items) result ≡ gathered [] (parts 44 word.now) }
 {
-    let mut objects: ArrayVec<Ob, MOST> = ArrayVec::new();
+    let mut objects: ArrayVec<Ob, MOST_OBJECTS> = ArrayVec::new();
     let mut numbers = Words::between(word, b',');
     'numbers: while let Some(number) = numbers.next() {
         if !add(&mut objects, number) {
@@ -66,7 +63,7 @@ fn objects_in(word: &[u8]) -> Option<ArrayVec<Ob, MOST>>
     Some(objects)
 }
 
-// The set of these objects, if they make a list.
+/// The set of these objects, if they make a list.
 #[tactic(auto, unfolding(crate::specs::Sets::listed), using(crate::proofs::SetLemmas::makes_list, crate::proofs::SetLemmas::makes_none))]
 fn set_of_objects(objects: &[Ob]) -> Option<ObSet>
     ensures { result ≡ listed objects.now }

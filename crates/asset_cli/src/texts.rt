@@ -6,7 +6,7 @@ ghost use Rattle.asset_cli.specs.Texts.{bad_line, full_line, outcome_line, refus
 use asset_names::{Outcome, Refusal, Reply};
 use std::alloc::AllocError;
 
-// The rule that a refusal is by, in words, and the number of the name that it is about.
+/// The rule that a refusal is by, in words, and the number of the name that it is about.
 #[tactic(auto, unfolding(crate::specs::Texts::refusal_line, crate::specs::Texts::refused_by))]
 fn rule_and_name(refusal: Refusal) -> (&'static str, Option<u64>)
     ensures { refusal_line refusal ≡ refused_by result.0.now result.1 }
@@ -24,7 +24,7 @@ fn rule_and_name(refusal: Refusal) -> (&'static str, Option<u64>)
     }
 }
 
-// Appends the line of a refusal.
+/// Appends the line of a refusal.
 #[tactic(auto, unfolding(crate::specs::Texts::refused_by, crate::specs::Texts::line_end))]
 fn push_refusal(text: &mut String, refusal: Refusal) -> Result<(), AllocError>
     ensures { OnOk result (string_bytes text.new ≡ string_bytes text.old ++ refusal_line refusal) }
@@ -35,7 +35,7 @@ fn push_refusal(text: &mut String, refusal: Refusal) -> Result<(), AllocError>
     }
 }
 
-// Appends the line of a reply.
+/// Appends the line of a reply.
 #[tactic(auto, unfolding(crate::specs::Texts::reply_line, crate::specs::Texts::line_end))]
 fn push_reply(text: &mut String, reply: Reply) -> Result<(), AllocError>
     ensures { OnOk result (string_bytes text.new ≡ string_bytes text.old ++ reply_line reply) }

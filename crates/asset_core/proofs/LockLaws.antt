@@ -9,7 +9,7 @@ use Rattle.asset_names.specs.declared.operations.Op.{Op}
 use Rattle.asset_names.specs.declared.operations.Op.TheVariants as Op'
 use Rattle.asset_names.specs.Operations.{conflict, has_op, same_op}
 use Rattle.asset_locks.specs.Kept.{HaveOwners}
-use Rattle.asset_locks.specs.Table.{Lock, Holder, Table, is_of, carries, one_conflicts, both_conflict, keeps_off, is_free_in, lock_of, with_op, carried_with, beside, newcomer, granted_on, change_holder, granted_row, waiting_row, grant_in, wait_in, enrol_in, release_in, names_in}
+use Rattle.asset_locks.specs.Table.{Lock, Holder, Table, is_of, carries, one_conflicts, both_conflict, keeps_off, is_free_in, lock_of, with_op, carried_with, beside, newcomer, granted_on, change_holder, granted_holder, waiting_holder, grant_in, wait_in, enrol_in, release_in, names_in}
 
 -- whether the lock is t's and carries op
 abbrev pub carries_op : ℕ → Op → Lock → Bool
@@ -150,11 +150,11 @@ names_changed t change (holder ∷ holders) keeps = go (eqb holder.name t) (name
   go false ih = rw ih
 
 pub names_granted : (u : ℕ) (y : Ob) (o : Op) (table : Table) → names_in (grant_in u y o table) ≡ names_in table
-unfolding names_in grant_in granted_row
+unfolding names_in grant_in granted_holder
 names_granted u y o table = names_changed u _ table.holders (λ holder. refl)
 
 pub names_waiting : (u : ℕ) (y : Ob) (o : Op) (table : Table) → names_in (wait_in u y o table) ≡ names_in table
-unfolding names_in wait_in waiting_row
+unfolding names_in wait_in waiting_holder
 names_waiting u y o table = names_changed u _ table.holders (λ holder. refl)
 
 pub carries_waiting : (u : ℕ) (y : Ob) (o : Op) (table : Table) (t x : ℕ) (op : Op) → carries (wait_in u y o table) t x op ≡ carries table t x op

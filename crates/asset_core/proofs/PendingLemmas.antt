@@ -148,26 +148,26 @@ places_changed t change after [] same = refl
 places_changed t change after (holder ∷ holders) same = rw (same holder, places_changed t change after holders same)
 
 -- the places that a waiting request leaves, and those that a grant leaves
-row_waiting : (t : ℕ) (x : Ob) (op : Op) (step : Step) (holder : Locks.Holder) → place_of (cond (eqb holder.name t) (Locks.waiting_row x op holder) holder)
+holder_waiting : (t : ℕ) (x : Ob) (op : Op) (step : Step) (holder : Locks.Holder) → place_of (cond (eqb holder.name t) (Locks.waiting_holder x op holder) holder)
     ≡ cond (eqb (place_of holder).name t) (record (place_of holder) { request = Some (x, op) }) (place_of holder)
-unfolding place_of Locks.waiting_row
-row_waiting t x op step holder = go (eqb holder.name t) where
-  go : (own : Bool) → place_of (cond own (Locks.waiting_row x op holder) holder) ≡ cond own (record (place_of holder) { request = Some (x, op) }) (place_of holder)
+unfolding place_of Locks.waiting_holder
+holder_waiting t x op step holder = go (eqb holder.name t) where
+  go : (own : Bool) → place_of (cond own (Locks.waiting_holder x op holder) holder) ≡ cond own (record (place_of holder) { request = Some (x, op) }) (place_of holder)
   go true = refl
   go false = refl
 
-row_granted : (t : ℕ) (x : Ob) (lock : Option Locks.Lock) (holder : Locks.Holder) → place_of (cond (eqb holder.name t) (Locks.granted_row x lock holder) holder)
+holder_granted : (t : ℕ) (x : Ob) (lock : Option Locks.Lock) (holder : Locks.Holder) → place_of (cond (eqb holder.name t) (Locks.granted_holder x lock holder) holder)
     ≡ cond (eqb (place_of holder).name t) (record (place_of holder) { request = None }) (place_of holder)
-unfolding place_of Locks.granted_row
-row_granted t x lock holder = go (eqb holder.name t) where
-  go : (own : Bool) → place_of (cond own (Locks.granted_row x lock holder) holder) ≡ cond own (record (place_of holder) { request = None }) (place_of holder)
+unfolding place_of Locks.granted_holder
+holder_granted t x lock holder = go (eqb holder.name t) where
+  go : (own : Bool) → place_of (cond own (Locks.granted_holder x lock holder) holder) ≡ cond own (record (place_of holder) { request = None }) (place_of holder)
   go true = refl
   go false = refl
 
 waiting_places : (step : Step) (tables : Tables) → map (place_after step Wait) (places_of tables.locks) ≡ places (locks_waiting step tables)
 unfolding places_of locks_waiting Locks.wait_in place_after request_after
-waiting_places (Read t x) tables = sym (places_changed t.0 (Locks.waiting_row x Op'.Read) (place_after (Read t x) Wait) (table_of tables.locks).holders (row_waiting t.0 x Op'.Read (Read t x)))
-waiting_places (Write t x v) tables = sym (places_changed t.0 (Locks.waiting_row x Op'.Write) (place_after (Write t x v) Wait) (table_of tables.locks).holders (row_waiting t.0 x Op'.Write (Write t x v)))
+waiting_places (Read t x) tables = sym (places_changed t.0 (Locks.waiting_holder x Op'.Read) (place_after (Read t x) Wait) (table_of tables.locks).holders (holder_waiting t.0 x Op'.Read (Read t x)))
+waiting_places (Write t x v) tables = sym (places_changed t.0 (Locks.waiting_holder x Op'.Write) (place_after (Write t x v) Wait) (table_of tables.locks).holders (holder_waiting t.0 x Op'.Write (Write t x v)))
 waiting_places (Initiate t parent) tables = same_places _ _ (λ place. refl)
 waiting_places (Begin t) tables = same_places _ _ (λ place. refl)
 waiting_places (Complete t) tables = same_places _ _ (λ place. refl)
@@ -268,8 +268,8 @@ granted_places : (step : Step) (t : ℕ) (x : Ob) (op : Op) (reply : Reply) (tab
     → map (place_after step (Answer reply)) (places_of tables.locks) ≡ places (Locks.grant_in t x op (table_of tables.locks))
 unfolding places_of Locks.grant_in
 granted_places step t x op reply tables carried asked =
-    sym (places_changed t (Locks.granted_row x (Locks.lock_of t ((table_of tables.locks).locks_on x.0))) (place_after step (Answer reply)) (table_of tables.locks).holders
-    (λ holder. row_granted t x (Locks.lock_of t ((table_of tables.locks).locks_on x.0)) holder ∙ sym (asked (place_of holder) ∙ granted_place step t x op reply (place_of holder) carried)))
+    sym (places_changed t (Locks.granted_holder x (Locks.lock_of t ((table_of tables.locks).locks_on x.0))) (place_after step (Answer reply)) (table_of tables.locks).holders
+    (λ holder. holder_granted t x (Locks.lock_of t ((table_of tables.locks).locks_on x.0)) holder ∙ sym (asked (place_of holder) ∙ granted_place step t x op reply (place_of holder) carried)))
 
 -- the places after a step that was carried out
 pub places_carried : (opening : Opening) (past : List Step) (tables : Tables) (step : Step) (reply : Reply) → Stand opening past tables → carries_out step reply ≡ true

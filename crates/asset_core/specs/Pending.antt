@@ -25,7 +25,7 @@ pub record Facility : Type 0 where
 
 -- the facility before the first step
 unfoldable pub facility_of : Opening → ℕ → Facility
-facility_of opening room = record { history = opened opening room; pending = [] }
+facility_of opening capacity = record { history = opened opening capacity; pending = [] }
 
 -- what becomes of the asker's request: one that waits is kept, one that is granted empties the place, and a
 -- refused one changes nothing

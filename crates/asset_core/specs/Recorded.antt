@@ -13,11 +13,11 @@ use Rattle.asset_names.specs.Room.{fits, changes_status}
 pub record Recorded : Type 0 where
   pub opening : Opening
   pub past : List Entry
-  pub room : ℕ
+  pub capacity : ℕ
 
 -- the history of an opening, before the first entry
 unfoldable pub opened : Opening → ℕ → Recorded
-opened opening room = record { opening = opening; past = []; room = room }
+opened opening capacity = record { opening = opening; past = []; capacity = capacity }
 
 -- the history with one more entry
 unfoldable pub with_entry : Recorded → Step → Reply → Recorded
@@ -35,7 +35,7 @@ after history step Wait = history
 -- Whether there is room for what the outcome adds: its entry, and what is owed to the live names after it. A
 -- wait adds nothing.
 unfoldable pub has_room : Recorded → Step → Outcome → Bool
-has_room history step (Answer reply) = fits (deeds ((step, reply) ∷ history.past)) (length history.past + 1) history.room
+has_room history step (Answer reply) = fits (deeds ((step, reply) ∷ history.past)) (length history.past + 1) history.capacity
 has_room history step Wait = true
 
 -- whether the outcome is that of a complete, a commit or an abort that changes a status

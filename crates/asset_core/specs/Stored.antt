@@ -114,10 +114,10 @@ all_there count entries = list_all (is_there count) entries
 
 -- How a history is kept: its entries are legal and there; and the room that was taken serves for all entries, each
 -- of which may be a permit.
-pub record IsKept (opening : Opening) (entries : List Stored) (beside : List PermitEntry) (room reserved reserved_beside : ℕ) : Type 0 where
+pub record IsKept (opening : Opening) (entries : List Stored) (beside : List PermitEntry) (capacity reserved reserved_beside : ℕ) : Type 0 where
   pub legal : IsLegal opening (past_of beside entries)
   pub there : all_there (length beside) entries ≡ true
   pub fewer : length beside ≤ length entries
-  pub within : length entries ≤ room
-  pub taken : room ≤ reserved
-  pub taken_beside : room ≤ reserved_beside
+  pub within : length entries ≤ capacity
+  pub taken : capacity ≤ reserved
+  pub taken_beside : capacity ≤ reserved_beside

@@ -48,7 +48,7 @@ pub record IsAtWork (tables : Tables) (t : ℕ) : Type 0 where
   pub runs : status_in tables.trans t ≡ Status'.Running
   pub enrolled : is_some (Locks.holder_in (table_of tables.locks) t) ≡ true
 
--- a new name has no row in any table
+-- a new name has no row among the transactions, and is not enrolled for locks
 pub record IsNew (tables : Tables) (t : ℕ) : Type 0 where
   pub no_row : row_in tables.trans t ≡ None
   pub no_holder : Locks.holder_in (table_of tables.locks) t ≡ None
@@ -109,5 +109,5 @@ places_of kept = map place_of (table_of kept).holders
 pub record IsKeptBy (history : Recorded) (tables : Tables) : Type 0 where
   pub stand : Stand history.opening (deeds history.past) tables
   pub legal : IsLegal history.opening history.past
-  pub fitting : length history.past + owed (deeds history.past) ≤ history.room
-  pub capacity : history.room ≤ 1000000
+  pub fitting : length history.past + owed (deeds history.past) ≤ history.capacity
+  pub capacity : history.capacity ≤ 1000000

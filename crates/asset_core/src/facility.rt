@@ -148,9 +148,9 @@ impl Core {
         requires answer { answer_to self.now.history step.now ≡ Answer reply }
         ensures room { result ≡ has_room self.now.history step.now (Answer reply) }
         ensures ending { is_ending self.now.history step.now (Answer reply) ≡ true → result ≡ true }
-        ensures place { result ≡ true → length self.now.history.past < self.now.history.room }
+        ensures place { result ≡ true → length self.now.history.past < self.now.history.capacity }
     {
-        self.history.len() + 1 + self.owed_after(step, reply) <= self.history.room()
+        self.history.len() + 1 + self.owed_after(step, reply) <= self.history.capacity()
     }
 
     /// Records the answer to a step, if there is room for it.
@@ -200,7 +200,7 @@ impl Core {
     /// The history so far.
     pub fn history(&self) -> &History
         ensures history { result.now ≡ self.now.history }
-        ensures fits { fits (deeds self.now.history.past) (length self.now.history.past) self.now.history.room ≡ true }
+        ensures fits { fits (deeds self.now.history.past) (length self.now.history.past) self.now.history.capacity ≡ true }
     {
         &self.history
     }

@@ -14,7 +14,7 @@ pub struct History {
     opening: Vec<(Ob, i64)>,
     entries: Vec<Stored>,
     permits: Vec<PermitEntry>,
-    room: usize,
+    capacity: usize,
 }
 
 impl Model for History {
@@ -24,9 +24,9 @@ impl Model for History {
 
     ghost Value = { Recorded };
 
-    ghost view = { λ h. record { opening = h.opening.items; past = past_of h.permits.items h.entries.items; room = h.room } };
+    ghost view = { λ h. record { opening = h.opening.items; past = past_of h.permits.items h.entries.items; capacity = h.capacity } };
 
-    ghost invariant = { λ h. IsKept h.opening.items h.entries.items h.permits.items h.room (vec_capacity h.entries) (vec_capacity h.permits) };
+    ghost invariant = { λ h. IsKept h.opening.items h.entries.items h.permits.items h.capacity (vec_capacity h.entries) (vec_capacity h.permits) };
 }
 
 impl History {
@@ -40,15 +40,15 @@ impl History {
     pub(crate) fn open(
         alloc: Global,
         opening: &[(Ob, i64)],
-        room: usize,
+        capacity: usize,
     ) -> Result<History, AllocError>
-        ensures { IfOk result (λ history. history ≡ opened opening.now room) }
+        ensures { IfOk result (λ history. history ≡ opened opening.now capacity) }
     {
         Ok(History {
             opening: opening.to_vec(alloc)?,
-            entries: Vec::with_capacity(alloc, room)?,
-            permits: Vec::with_capacity(alloc, room)?,
-            room,
+            entries: Vec::with_capacity(alloc, capacity)?,
+            permits: Vec::with_capacity(alloc, capacity)?,
+            capacity,
         })
     }
 
@@ -86,17 +86,17 @@ impl History {
     }
 
     /// How many entries there is room for in all.
-    pub(crate) fn room(&self) -> usize
-        ensures { result ≡ self.now.room }
+    pub(crate) fn capacity(&self) -> usize
+        ensures { result ≡ self.now.capacity }
     {
-        self.room
+        self.capacity
     }
 
     /// Adds the step with its answer. The room was taken when the history was opened, so this takes
     /// no memory.
     pub(crate) fn append(&mut self, step: &Step, reply: Reply)
         requires answer { answer_to self.old step.now ≡ Answer reply }
-        requires room { length self.old.past < self.old.room }
+        requires room { length self.old.past < self.old.capacity }
         ensures { self.new ≡ with_entry self.old step.now reply }
     {
         let stored = Stored::of(step, reply, self.permits.len());

@@ -38,7 +38,7 @@ pub(crate) fn value_asked(step: &Step) -> i64
 impl Tables {
     ghost use Rattle.std.specs.Prelude.{◌≡◌, ℕ, ℤ, cond, not, find, List, [], ◌∷◌, ◌==◌, true, false, None, OnOk, OnErr, IfOk, IfErr};
     ghost use Rattle.asset_names.specs.declared.steps.Step.{Step as Request};
-    ghost use Rattle.asset_names.specs.declared.operations.Op.{Op as Kind};
+    ghost use Rattle.asset_names.specs.declared.operations.Op.{Op as Operation};
     ghost use Rattle.asset_names.specs.Steps.{Opening, Entry, carries_out, deeds};
     ghost use Rattle.asset_names.specs.Answers.{first_refusal, rules_for, unrefused, answer, takes_memory, unknown, ended, not_running, no_object, one_name, missing_in, no_object_of};
     ghost use Rattle.asset_objects.specs.Faults.{objects_of, IsObjectsFault};
@@ -215,7 +215,7 @@ impl Tables {
     pub fn answer(&mut self, step: &Step) -> Outcome
         ensures answer { (opening : Opening) (past : List Request) → Stand opening past self.old → result ≡ answer opening past step.now }
         ensures allowed { (opening : Opening) (past : List Request) → Stand opening past self.old →
-            (u t x : ℕ) (op : Kind) → allows_in self.old.permits u t x op ≡ reach past u t x op }
+            (u t x : ℕ) (op : Operation) → allows_in self.old.permits u t x op ≡ reach past u t x op }
         ensures same { self.new ≡ self.old }
     {
         match self.refusal(step) {
@@ -299,11 +299,11 @@ impl Tables {
     /// Takes the lock of a read that is free.
     fn read(&mut self, t: Txn, x: Ob) -> Result<(), NoMemory>
         requires work { IsAtWork self.old t.0 }
-        requires free { is_free_for self.old t.0 x.0 Kind.Read ≡ true }
+        requires free { is_free_for self.old t.0 x.0 Operation.Read ≡ true }
         ensures rows { self.new.trans ≡ self.old.trans }
         ensures permits { self.new.permits ≡ self.old.permits }
         ensures objects { cells self.new.objects ≡ cells self.old.objects }
-        ensures locks { OnOk result (table_of self.new.locks ≡ grant_in t.0 x Kind.Read (table_of self.old.locks)) }
+        ensures locks { OnOk result (table_of self.new.locks ≡ grant_in t.0 x Operation.Read (table_of self.old.locks)) }
         ensures owners { OnOk result (HaveOwners ((table_of self.old.locks).locks_on x.0)) }
         ensures unchanged { OnErr result (table_of self.new.locks ≡ table_of self.old.locks) }
     {
@@ -314,12 +314,12 @@ impl Tables {
     /// Writes what the step asks, where it is free. The record's memory is reserved before the lock is asked for.
     fn write(&mut self, t: Txn, x: Ob, step: &Step) -> Result<(), NoMemory>
         requires work { IsAtWork self.old t.0 }
-        requires free { is_free_for self.old t.0 x.0 Kind.Write ≡ true }
+        requires free { is_free_for self.old t.0 x.0 Operation.Write ≡ true }
         requires exists { has_object (cells self.old.objects) x.0 ≡ true }
         ensures rows { self.new.trans ≡ self.old.trans }
         ensures permits { self.new.permits ≡ self.old.permits }
         ensures objects { OnOk result (cells self.new.objects ≡ change_at x.0 (written t.0 (value_asked step.now)) (cells self.old.objects)) }
-        ensures locks { OnOk result (table_of self.new.locks ≡ grant_in t.0 x Kind.Write (table_of self.old.locks)) }
+        ensures locks { OnOk result (table_of self.new.locks ≡ grant_in t.0 x Operation.Write (table_of self.old.locks)) }
         ensures owners { OnOk result (HaveOwners ((table_of self.old.locks).locks_on x.0)) }
         ensures unchanged { OnErr result (ShowAlike self.new self.old) }
     {

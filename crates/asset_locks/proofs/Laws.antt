@@ -5,7 +5,7 @@ use Rattle.std.specs.Option.{option_or}
 use Rattle.std.proofs.lemmas.List.Folds.{find-append}
 use Rattle.asset_names.specs.declared.names.Ob.{Ob}
 use Rattle.asset_names.specs.declared.operations.Op.{Op}
-use Rattle.asset_locks.specs.Table.{Holder, Table, lock_of, change_holder, granted_row, waiting_row, no_locks, enrol_in, wait_in, grant_in, release_in, holder_in}
+use Rattle.asset_locks.specs.Table.{Holder, Table, lock_of, change_holder, granted_holder, waiting_holder, no_locks, enrol_in, wait_in, grant_in, release_in, holder_in}
 use Rattle.asset_locks.specs.Kept.{after_ask}
 use Rattle.asset_locks.proofs.SoundLemmas.{named, change_one, name_one, find_mapped, find_kept}
 
@@ -39,9 +39,9 @@ enrolled_changed t n change same holders = ap is_some (find_mapped n (change_one
 
 -- a request leaves who is enrolled
 pub enrolled_asked : (free : Bool) (t n : ℕ) (x : Ob) (op : Op) (table : Table) → is_some (holder_in (after_ask free t x op table) n) ≡ is_some (holder_in table n)
-unfolding holder_in after_ask grant_in wait_in granted_row waiting_row
-enrolled_asked true t n x op table = enrolled_changed t n (granted_row x (lock_of t (table.locks_on x.0))) (λ holder. refl) table.holders
-enrolled_asked false t n x op table = enrolled_changed t n (waiting_row x op) (λ holder. refl) table.holders
+unfolding holder_in after_ask grant_in wait_in granted_holder waiting_holder
+enrolled_asked true t n x op table = enrolled_changed t n (granted_holder x (lock_of t (table.locks_on x.0))) (λ holder. refl) table.holders
+enrolled_asked false t n x op table = enrolled_changed t n (waiting_holder x op) (λ holder. refl) table.holders
 
 -- a release leaves who is not released
 pub enrolled_kept : (test : ℕ → Bool) (n : ℕ) (table : Table) → test n ≡ false → is_some (holder_in (release_in test table) n) ≡ is_some (holder_in table n)

@@ -7,7 +7,7 @@ use Rattle.std.proofs.lemmas.Bool.{eqb-true, eq-eqb, or_left, or_right, true≢f
 use Rattle.std.proofs.lemmas.List.Folds.{list_any-append, find-append}
 use Rattle.asset_names.specs.declared.names.Ob.{Ob}
 use Rattle.asset_names.specs.declared.operations.Op.{Op}
-use Rattle.asset_locks.specs.Table.{Lock, Holder, Table, is_of, lock_of, granted_on, one_more, change_holder, granted_row, waiting_row, no_locks, enrol_in, wait_in, grant_in, release_in, holder_in, held_or_none, held_in, AreApart}
+use Rattle.asset_locks.specs.Table.{Lock, Holder, Table, is_of, lock_of, granted_on, one_more, change_holder, granted_holder, waiting_holder, no_locks, enrol_in, wait_in, grant_in, release_in, holder_in, held_or_none, held_in, AreApart}
 use Rattle.asset_locks.specs.Kept.{HaveOwners, lists_object, IsSound}
 use Rattle.asset_locks.proofs.ApartLemmas.{owners_granted, apart_granted, owned_granted, owners_filter, apart_filter}
 
@@ -72,9 +72,9 @@ changed_listed t u x change same grows holders h =
     subst (λ o. lists_object x (held_or_none o) ≡ true) (sym (find_mapped u (change_one t change) (name_one t change same) holders)) (held_grows t x change grows (find (named u) holders) h)
 
 pub sound_wait : (t : ℕ) (x : Ob) (op : Op) (table : Table) → IsSound table → IsSound (wait_in t x op table)
-unfolding wait_in held_in holder_in waiting_row
+unfolding wait_in held_in holder_in waiting_holder
 sound_wait t x op table sound = record {
-  listed = λ u y h. changed_listed t u y (waiting_row x op) (λ holder. refl) (λ holder held. held) table.holders (sound.listed u y h);
+  listed = λ u y h. changed_listed t u y (waiting_holder x op) (λ holder. refl) (λ holder held. held) table.holders (sound.listed u y h);
   owners = sound.owners;
   apart = sound.apart;
 }
@@ -85,8 +85,8 @@ unfolding one_more lists_object
 more_listed y x None held h = list_any-append (λ (z : Ob). eqb z.0 y) held (x ∷ []) ∙ or_left _ _ h
 more_listed y x (Some lock) held h = h
 
-new_listed : (t : ℕ) (x : Ob) (o : Option Holder) → is_some o ≡ true → ((holder : Holder) → o ≡ Some holder → eqb holder.name t ≡ true) → lists_object x.0 (held_or_none (option_map (change_one t (granted_row x None)) o)) ≡ true
-unfolding held_or_none lists_object granted_row one_more
+new_listed : (t : ℕ) (x : Ob) (o : Option Holder) → is_some o ≡ true → ((holder : Holder) → o ≡ Some holder → eqb holder.name t ≡ true) → lists_object x.0 (held_or_none (option_map (change_one t (granted_holder x None)) o)) ≡ true
+unfolding held_or_none lists_object granted_holder one_more
 new_listed t x None some is = absurd (true≢false (sym some))
 new_listed t x (Some holder) some is =
     rw (is holder refl) (list_any-append (λ (z : Ob). eqb z.0 x.0) holder.held (x ∷ []) ∙ or_right _ _ (or_left _ _ (eq-eqb x.0 x.0 refl)))
@@ -101,21 +101,21 @@ find_named t [] holder is = cc
 find_named t (first ∷ holders) holder is = find_named_at t first holder (find (named t) holders) (eqb first.name t) refl is (find_named t holders holder)
 
 -- the first lock of t on x
-first_listed : (t : ℕ) (x : Ob) (holders : List Holder) (before : Option Lock) → before ≡ None → is_some (find (named t) holders) ≡ true → lists_object x.0 (held_or_none (find (named t) (change_holder t (granted_row x before) holders))) ≡ true
-unfolding change_holder granted_row
+first_listed : (t : ℕ) (x : Ob) (holders : List Holder) (before : Option Lock) → before ≡ None → is_some (find (named t) holders) ≡ true → lists_object x.0 (held_or_none (find (named t) (change_holder t (granted_holder x before) holders))) ≡ true
+unfolding change_holder granted_holder
 first_listed t x holders None none enrolled =
-    subst (λ o. lists_object x.0 (held_or_none o) ≡ true) (sym (find_mapped t (change_one t (granted_row x None)) (name_one t (granted_row x None) (λ holder. refl)) holders))
+    subst (λ o. lists_object x.0 (held_or_none o) ≡ true) (sym (find_mapped t (change_one t (granted_holder x None)) (name_one t (granted_holder x None) (λ holder. refl)) holders))
     (new_listed t x (find (named t) holders) enrolled (find_named t holders))
 first_listed t x holders (Some lock) none enrolled = cc
 
 granted_listed : (t : ℕ) (x : Ob) (op : Op) (table : Table) → IsSound table → is_some (holder_in table t) ≡ true → (u : ℕ) → list_any (is_of u) (granted_on t op (table.locks_on x.0)) ≡ true
-    → lists_object x.0 (held_or_none (find (named u) (change_holder t (granted_row x (lock_of t (table.locks_on x.0))) table.holders))) ≡ true
-unfolding holder_in held_in granted_row
+    → lists_object x.0 (held_or_none (find (named u) (change_holder t (granted_holder x (lock_of t (table.locks_on x.0))) table.holders))) ≡ true
+unfolding holder_in held_in granted_holder
 granted_listed t x op table sound enrolled u h =
     let before = lock_of t (table.locks_on x.0) in
     elim (owned_granted t u op (table.locks_on x.0) h) [
-      | inl old ↦ changed_listed t u x.0 (granted_row x before) (λ holder. refl) (λ holder held. more_listed x.0 x before holder.held held) table.holders (sound.listed u x.0 old)
-      | inr new ↦ subst (λ n. lists_object x.0 (held_or_none (find (named n) (change_holder t (granted_row x before) table.holders))) ≡ true) (eqb-true t u new.0) (first_listed t x table.holders before new.1 enrolled)
+      | inl old ↦ changed_listed t u x.0 (granted_holder x before) (λ holder. refl) (λ holder held. more_listed x.0 x before holder.held held) table.holders (sound.listed u x.0 old)
+      | inr new ↦ subst (λ n. lists_object x.0 (held_or_none (find (named n) (change_holder t (granted_holder x before) table.holders))) ≡ true) (eqb-true t u new.0) (first_listed t x table.holders before new.1 enrolled)
     ]
 
 granted_locks : (t : ℕ) (x : Ob) (op : Op) (P : List Lock → Type 0) (locks_on : ℕ → List Lock) → ((y : ℕ) → P (locks_on y)) → ((y : ℕ) → P (granted_on t op (locks_on y))) → (y : ℕ) → (b : Bool) → P (cond b (granted_on t op (locks_on y)) (locks_on y))
@@ -123,15 +123,15 @@ granted_locks t x op P locks_on old new y true = new y
 granted_locks t x op P locks_on old new y false = old y
 
 grant_listed_at : (t : ℕ) (x : Ob) (op : Op) (table : Table) → IsSound table → is_some (holder_in table t) ≡ true → (u y : ℕ) (b : Bool) → eqb x.0 y ≡ b → list_any (is_of u) (cond b (granted_on t op (table.locks_on y)) (table.locks_on y)) ≡ true
-    → lists_object y (held_or_none (find (named u) (change_holder t (granted_row x (lock_of t (table.locks_on x.0))) table.holders))) ≡ true
-unfolding held_in holder_in granted_row
+    → lists_object y (held_or_none (find (named u) (change_holder t (granted_holder x (lock_of t (table.locks_on x.0))) table.holders))) ≡ true
+unfolding held_in holder_in granted_holder
 grant_listed_at t x op table sound enrolled u y true e h =
     let same = eqb-true x.0 y e in
-    subst (λ z. lists_object z (held_or_none (find (named u) (change_holder t (granted_row x (lock_of t (table.locks_on x.0))) table.holders))) ≡ true) same
+    subst (λ z. lists_object z (held_or_none (find (named u) (change_holder t (granted_holder x (lock_of t (table.locks_on x.0))) table.holders))) ≡ true) same
     (granted_listed t x op table sound enrolled u (subst (λ z. list_any (is_of u) (granted_on t op (table.locks_on z)) ≡ true) (sym same) h))
 grant_listed_at t x op table sound enrolled u y false e h =
     let before = lock_of t (table.locks_on x.0) in
-    changed_listed t u y (granted_row x before) (λ holder. refl) (λ holder held. more_listed y x before holder.held held) table.holders (sound.listed u y h)
+    changed_listed t u y (granted_holder x before) (λ holder. refl) (λ holder held. more_listed y x before holder.held held) table.holders (sound.listed u y h)
 
 pub sound_grant : (t : ℕ) (x : Ob) (op : Op) (table : Table) → IsSound table → is_some (holder_in table t) ≡ true → IsSound (grant_in t x op table)
 unfolding grant_in held_in holder_in

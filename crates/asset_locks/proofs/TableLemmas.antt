@@ -10,7 +10,7 @@ use Rattle.asset_names.specs.declared.names.Ob.{Ob}
 use Rattle.asset_names.specs.declared.operations.Op.{Op}
 use Rattle.asset_names.proofs.Common.{cond_same}
 use Rattle.asset_locks.specs.declared.holder.Holder.{Holder as Entry}
-use Rattle.asset_locks.specs.Table.{Lock, Holder, Table, is_of, lock_of, granted_on, one_more, change_holder, granted_row, waiting_row, no_locks, enrol_in, wait_in, grant_in, release_in, holder_in, held_or_none, held_in}
+use Rattle.asset_locks.specs.Table.{Lock, Holder, Table, is_of, lock_of, granted_on, one_more, change_holder, granted_holder, waiting_holder, no_locks, enrol_in, wait_in, grant_in, release_in, holder_in, held_or_none, held_in}
 use Rattle.asset_locks.specs.Kept.{Kept, Row, locks_or_none, locks_in, table_of, shown_holder, without, lists_object, IsSound}
 use Rattle.asset_locks.proofs.HolderLemmas.{key_is, found, changed, none_kept, removed}
 
@@ -73,10 +73,10 @@ enrolled t entries new rows w place held is =
 
 pub waited : (t : ℕ) (x : Ob) (op : Op) (entries new : List (Txn × Entry)) (rows : List Row) (v w : Entry) → Differ entries → lookup (key_is t) entries ≡ Some v
     → w.place ≡ Some (x, op) → w.held.items ≡ v.held.items → new ≡ set_value (key_is t) entries w → table_of (kept new rows) ≡ wait_in t x op (table_of (kept entries rows))
-unfolding table_of wait_in waiting_row shown_holder
+unfolding table_of wait_in waiting_holder shown_holder
 waited t x op entries new rows v w differ there place held is =
-    let h : map shown_holder new ≡ change_holder t (waiting_row x op) (map shown_holder entries) =
-    ap (map shown_holder) is ∙ changed t v w (waiting_row x op) entries differ there (λ key. λ i. record { name = key.0; place = place i; held = held i }) in
+    let h : map shown_holder new ≡ change_holder t (waiting_holder x op) (map shown_holder entries) =
+    ap (map shown_holder) is ∙ changed t v w (waiting_holder x op) entries differ there (λ key. λ i. record { name = key.0; place = place i; held = held i }) in
     λ i. record { holders = h i; locks_on = λ y. locks_in rows y }
 
 one_more_by : (x : Ob) (before : Option Lock) (held : List Ob) → cond (not (is_some before)) (held ++ x ∷ []) held ≡ one_more x before held
@@ -88,12 +88,12 @@ pub granted : (t : ℕ) (x : Ob) (op : Op) (entries new : List (Txn × Entry)) (
     → w.place ≡ None → w.held.items ≡ cond is_new (v.held.items ++ x ∷ []) v.held.items → is_new ≡ not (is_some (lock_of t (locks_in rows x.0)))
     → ((y : ℕ) → locks_in changed_rows y ≡ cond (eqb x.0 y) (granted_on t op (locks_in rows y)) (locks_in rows y)) → new ≡ set_value (key_is t) entries w
     → table_of (kept new changed_rows) ≡ grant_in t x op (table_of (kept entries rows))
-unfolding table_of grant_in granted_row shown_holder
+unfolding table_of grant_in granted_holder shown_holder
 granted t x op entries new rows changed_rows v w is_new differ there place held first l is =
     let before = lock_of t (locks_in rows x.0) in
     let held_now : w.held.items ≡ one_more x before v.held.items = held ∙ ap (λ b. cond b (v.held.items ++ x ∷ []) v.held.items) first ∙ one_more_by x before v.held.items in
-    let h : map shown_holder new ≡ change_holder t (granted_row x before) (map shown_holder entries) =
-    ap (map shown_holder) is ∙ changed t v w (granted_row x before) entries differ there (λ key. λ i. record { name = key.0; place = place i; held = held_now i }) in
+    let h : map shown_holder new ≡ change_holder t (granted_holder x before) (map shown_holder entries) =
+    ap (map shown_holder) is ∙ changed t v w (granted_holder x before) entries differ there (λ key. λ i. record { name = key.0; place = place i; held = held_now i }) in
     λ i. record { holders = h i; locks_on = λ y. l y i }
 
 -- a row that is written as it was, but for its room

@@ -93,28 +93,28 @@ unfoldable pub one_more : Ob → Option Lock → List Ob → List Ob
 one_more x None held = held ++ x ∷ []
 one_more x (Some lock) held = held
 
--- a change of the row of one name
+-- a change of one name's holder
 unfoldable pub change_holder : ℕ → (Holder → Holder) → List Holder → List Holder
 change_holder t change holders = map (λ (holder : Holder). cond (holder.name == t) (change holder) holder) holders
 
--- the row after a grant on x: nothing is pending, and x is held
-unfoldable pub granted_row : Ob → Option Lock → Holder → Holder
-granted_row x before holder = record holder { place = None; held = one_more x before holder.held }
+-- the holder after a grant on x: nothing is pending, and x is held
+unfoldable pub granted_holder : Ob → Option Lock → Holder → Holder
+granted_holder x before holder = record holder { place = None; held = one_more x before holder.held }
 
--- the row after a request that waits
-unfoldable pub waiting_row : Ob → Op → Holder → Holder
-waiting_row x op holder = record holder { place = Some (x, op) }
+-- the holder after a request that waits
+unfoldable pub waiting_holder : Ob → Op → Holder → Holder
+waiting_holder x op holder = record holder { place = Some (x, op) }
 
 -- op on x is granted to t
 unfoldable pub grant_in : ℕ → Ob → Op → Table → Table
 grant_in t x op table = record {
-  holders = change_holder t (granted_row x (lock_of t (table.locks_on x.0))) table.holders;
+  holders = change_holder t (granted_holder x (lock_of t (table.locks_on x.0))) table.holders;
   locks_on = λ y. cond (x.0 == y) (granted_on t op (table.locks_on y)) (table.locks_on y);
 }
 
 -- t's request waits
 unfoldable pub wait_in : ℕ → Ob → Op → Table → Table
-wait_in t x op table = record table { holders = change_holder t (waiting_row x op) table.holders }
+wait_in t x op table = record table { holders = change_holder t (waiting_holder x op) table.holders }
 
 -- one more name, at the end
 unfoldable pub enrol_in : ℕ → Table → Table

@@ -65,7 +65,7 @@ impl Lock {
 
     /// What becomes of the lock where `t` is granted a lock with these operations.
     #[tactic(auto, unfolding(crate::specs::Table::is_of, crate::specs::Table::beside))]
-    fn settle(&mut self, t: Txn, ops: Carried)
+    fn adjust(&mut self, t: Txn, ops: Carried)
         ensures { self.new ≡ beside t.0 ops self.old }
     {
         if self.owner == t {
@@ -159,12 +159,12 @@ pub(crate) fn is_kept_off(locks: &[Lock], t: Txn, x: Ob, op: Op, permits: &mut P
     false
 }
 
-/// Settles each of the locks where `t` is granted a lock with these operations.
-fn settle_each(locks: &mut [Lock], t: Txn, ops: Carried)
+/// Adjusts each of the locks where `t` is granted a lock with these operations.
+fn adjust_each(locks: &mut [Lock], t: Txn, ops: Carried)
     ensures { locks.new ≡ map (beside t.0 ops) locks.old }
 {
     'locks: for lock in locks.iter_mut() {
-        lock.settle(t, ops);
+        lock.adjust(t, ops);
     }
 }
 
@@ -176,7 +176,7 @@ pub(crate) fn grant_among(locks: &mut Row, t: Txn, op: Op) -> bool
 {
     let before = lock_of(locks.as_slice(), t);
     let ops = carried_with(op, before);
-    settle_each(locks.as_mut_slice(), t, ops);
+    adjust_each(locks.as_mut_slice(), t, ops);
     let is_new = before.is_none();
     if is_new {
         locks.push_reserved(Lock {

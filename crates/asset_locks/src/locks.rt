@@ -13,6 +13,7 @@ pub enum LockState {
 /// What becomes of a request.
 #[derive(Clone, Copy, Debug, PartialEq, Eq)]
 pub enum Asked {
+    /// The asker has a lock for it, and may go on.
     Granted,
     /// It waits, and stands in the asker's pending place.
     Pending,

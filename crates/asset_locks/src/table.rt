@@ -126,7 +126,7 @@ impl Locks {
     }
 
     /// The waiter of this number for `x`, in order of enrolment from 0, with the operation that it
-    /// asked for. It looks at each enrolled transaction, and takes no memory.
+    /// asked for. It looks at those enrolled up to it, and takes no memory.
     pub fn waiters(&self, x: Ob, n: usize) -> Option<(Txn, Op)>
         ensures { result ≡ slice_get (waiters_in (table_of self.now) x.0) n }
     {
@@ -142,8 +142,8 @@ impl Locks {
         None
     }
 
-    /// Takes the enrolment of `t` away, with its locks and its pending place. It looks at the objects
-    /// that `t` holds alone, and takes no memory.
+    /// Takes the enrolment of `t` away, with its locks and its pending place. It looks at the locks on
+    /// the objects that `t` holds, moves those enrolled later up, and takes no memory.
     pub fn release(&mut self, t: Txn)
         ensures { table_of self.new ≡ release_in (λ n. n == t.0) (table_of self.old) }
     {

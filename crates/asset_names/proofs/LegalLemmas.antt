@@ -181,7 +181,7 @@ orderly_more opening (Initiate t parent) past reply is carried orderly = record 
   different = (initiate_new opening past t parent reply is carried, orderly.different);
   begun_known = λ n done. or_right (eqb t.0 n) _ (orderly.begun_known n done);
   owners_known = λ n owns. or_right (eqb t.0 n) _ (orderly.owners_known n owns);
-  known = λ n done. or_right (eqb t.0 n) _ (orderly.known n done);
+  completed_known = λ n done. or_right (eqb t.0 n) _ (orderly.completed_known n done);
   permits_known = λ u v x op arrow. let both = orderly.permits_known u v x op arrow in (or_right (eqb t.0 u) _ both.0, or_right (eqb t.0 v) _ both.1);
 }
 orderly_more opening (Begin t) past reply is carried orderly = record {
@@ -191,7 +191,7 @@ orderly_more opening (Begin t) past reply is carried orderly = record {
     | inr before ↦ orderly.begun_known n before
   ];
   owners_known = orderly.owners_known;
-  known = orderly.known;
+  completed_known = orderly.completed_known;
   permits_known = orderly.permits_known;
 }
 orderly_more opening (Read t x) past reply is carried orderly = record {
@@ -201,7 +201,7 @@ orderly_more opening (Read t x) past reply is carried orderly = record {
     | inl here ↦ subst (λ m. lists (initiated past) m ≡ true) (eqb-true t.0 n here) (read_known opening past t x reply is carried)
     | inr before ↦ orderly.owners_known n before
   ];
-  known = orderly.known;
+  completed_known = orderly.completed_known;
   permits_known = orderly.permits_known;
 }
 orderly_more opening (Write t x v) past reply is carried orderly = record {
@@ -211,16 +211,16 @@ orderly_more opening (Write t x v) past reply is carried orderly = record {
     | inl here ↦ subst (λ m. lists (initiated past) m ≡ true) (eqb-true t.0 n here) (write_known opening past t x v reply is carried)
     | inr before ↦ orderly.owners_known n before
   ];
-  known = orderly.known;
+  completed_known = orderly.completed_known;
   permits_known = orderly.permits_known;
 }
 orderly_more opening (Complete t) past reply is carried orderly = record {
   different = orderly.different;
   begun_known = orderly.begun_known;
   owners_known = orderly.owners_known;
-  known = λ n done. elim (or_cases (eqb t.0 n) _ done) [
+  completed_known = λ n done. elim (or_cases (eqb t.0 n) _ done) [
     | inl here ↦ subst (λ m. lists (initiated past) m ≡ true) (eqb-true t.0 n here) ((running_parts past t.0 (complete_runs opening past t reply is carried)).0)
-    | inr before ↦ orderly.known n before
+    | inr before ↦ orderly.completed_known n before
   ];
   permits_known = orderly.permits_known;
 }
@@ -228,7 +228,7 @@ orderly_more opening (Permit giver taker obs ops) past reply is carried orderly 
   different = orderly.different;
   begun_known = orderly.begun_known;
   owners_known = orderly.owners_known;
-  known = orderly.known;
+  completed_known = orderly.completed_known;
   permits_known = λ u v x op arrow. elim (permit_arrow giver taker obs ops past x op u v arrow) [
     | inl here ↦
         let both = permit_live opening past giver taker obs ops reply is carried in
@@ -236,14 +236,14 @@ orderly_more opening (Permit giver taker obs ops) past reply is carried orderly 
     | inr before ↦ orderly.permits_known u v x op before
   ];
 }
-orderly_more opening (Commit t) past reply is carried orderly = record { different = orderly.different; begun_known = orderly.begun_known; owners_known = orderly.owners_known; known = orderly.known; permits_known = orderly.permits_known }
-orderly_more opening (Abort t) past reply is carried orderly = record { different = orderly.different; begun_known = orderly.begun_known; owners_known = orderly.owners_known; known = orderly.known; permits_known = orderly.permits_known }
-orderly_more opening (WaitFor t) past reply is carried orderly = record { different = orderly.different; begun_known = orderly.begun_known; owners_known = orderly.owners_known; known = orderly.known; permits_known = orderly.permits_known }
+orderly_more opening (Commit t) past reply is carried orderly = record { different = orderly.different; begun_known = orderly.begun_known; owners_known = orderly.owners_known; completed_known = orderly.completed_known; permits_known = orderly.permits_known }
+orderly_more opening (Abort t) past reply is carried orderly = record { different = orderly.different; begun_known = orderly.begun_known; owners_known = orderly.owners_known; completed_known = orderly.completed_known; permits_known = orderly.permits_known }
+orderly_more opening (WaitFor t) past reply is carried orderly = record { different = orderly.different; begun_known = orderly.begun_known; owners_known = orderly.owners_known; completed_known = orderly.completed_known; permits_known = orderly.permits_known }
 
 -- each legal history is orderly
 pub legal_orderly : (opening : Opening) (entries : List Entry) → IsLegal opening entries → IsOrderly (deeds entries)
 unfolding IsLegal deeds initiated begun completed lists operations permits has_arrow
-legal_orderly opening [] legal = record { different = tt; begun_known = λ n done. done; owners_known = λ n owns. owns; known = λ n done. done; permits_known = λ u t x op arrow. absurd (false≢true arrow) }
+legal_orderly opening [] legal = record { different = tt; begun_known = λ n done. done; owners_known = λ n owns. owns; completed_known = λ n done. done; permits_known = λ u t x op arrow. absurd (false≢true arrow) }
 legal_orderly opening (entry ∷ older) legal = go (carries_out entry.0 entry.1) refl (legal_orderly opening older legal.1) where
   go : (carried : Bool) → carries_out entry.0 entry.1 ≡ carried → IsOrderly (deeds older) → IsOrderly (cond carried (entry.0 ∷ deeds older) (deeds older))
   go true e orderly = orderly_more opening entry.0 (deeds older) entry.1 legal.0 e orderly

@@ -131,7 +131,7 @@ status_initiate u parent past n orderly new = rw (option_or_none (end_of past n)
   go false e = refl
   go true e =
       let absent : lists (initiated past) n ≡ false = subst (λ m. lists (initiated past) m ≡ false) (eqb-true u.0 n e) new in
-      rw (none_of n (lists (begun past) n) (orderly.begun_known n) absent, none_of n (lists (completed past) n) (orderly.known n) absent, new_not_ended past n absent) refl
+      rw (none_of n (lists (begun past) n) (orderly.begun_known n) absent, none_of n (lists (completed past) n) (orderly.completed_known n) absent, new_not_ended past n absent) refl
 
 -- a status by its parts, where they are those of a name that has begun or completed
 begun_status : (i b c : Bool) (e : Option End) → status_of i b c e ≡ Status'.Initiated → status_of i true c e ≡ Status'.Running

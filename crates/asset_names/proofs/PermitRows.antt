@@ -16,7 +16,7 @@ use Rattle.asset_names.specs.Operations.{op_of, conflict, operated, operations, 
 use Rattle.asset_names.specs.Answers.{is_unknown, has_ended, is_running, is_completed, is_committed, has_begun, unknown, ended, not_running, taken, begun_before, too_late, no_object, one_name, missing_in, missing_rule, no_object_of, rules_for, first_refusal, class_completed, commit_outcome, unrefused, outcome_unless, answer}
 use Rattle.asset_names.proofs.Rows.{t, x, Row, ok, refused}
 
--- read, write or both
+-- read and write, and read alone
 abbrev read_and_write : Bool × Bool
 read_and_write = (true, true)
 

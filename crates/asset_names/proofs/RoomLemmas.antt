@@ -104,7 +104,7 @@ pub owed_initiate : (t : Txn) (parent : _) (past : List Step) → IsOrderly past
 unfolding owed initiated initiated_by completed completed_by end_of ended_by lists owed_parts
 owed_initiate t parent past orderly new =
     let later = Initiate t parent ∷ past in
-    let incomplete = not_known (lists (completed past) t.0) (lists (initiated past) t.0) (orderly.known t.0) new in
+    let incomplete = not_known (lists (completed past) t.0) (lists (initiated past) t.0) (orderly.completed_known t.0) new in
     let alive = not_ended (end_of past t.0) (lists (initiated past) t.0) (ended_initiated past t.0) new in
     let first : owed_to (status later t.0) ≡ 2 =
     owed_by_parts later t.0 ∙ rw (or_left (eqb t.0 t.0) (lists (initiated past) t.0) (eq-eqb t.0 t.0 refl), incomplete, alive) refl in

@@ -20,28 +20,33 @@ use Rattle.asset_names.specs.Steps.{Opening, Entry, carries_out, deeds, initiate
 use Rattle.asset_names.specs.Endings.{status, same_class}
 use Rattle.asset_names.specs.Operations.{free, value, exists}
 
+-- what statuses say of a name: that it was never initiated
 unfoldable pub is_unknown : Status → Bool
 is_unknown Status'.Unknown = true
 is_unknown other = false
 
+-- that it has committed or aborted
 unfoldable pub has_ended : Status → Bool
 has_ended Status'.Committed = true
 has_ended Status'.Aborted = true
 has_ended other = false
 
+-- that it has begun and not completed
 unfoldable pub is_running : Status → Bool
 is_running Status'.Running = true
 is_running other = false
 
+-- that it has completed and not ended
 unfoldable pub is_completed : Status → Bool
 is_completed Status'.Completed = true
 is_completed other = false
 
+-- that it has committed
 unfoldable pub is_committed : Status → Bool
 is_committed Status'.Committed = true
 is_committed other = false
 
--- a live name that has begun
+-- that it is live and has begun
 unfoldable pub has_begun : Status → Bool
 has_begun Status'.Running = true
 has_begun Status'.Completed = true

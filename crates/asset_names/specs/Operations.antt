@@ -29,6 +29,7 @@ unfoldable pub op_of : Use → Op
 op_of reads = Op'.Read
 op_of (writes v) = Op'.Write
 
+-- whether two operations are one
 unfoldable pub same_op : Op → Op → Bool
 same_op Op'.Read Op'.Read = true
 same_op Op'.Write Op'.Write = true
@@ -54,6 +55,7 @@ operated (Read t x) older = record { owner = t.0; object = x.0; use_of = reads }
 operated (Write t x v) older = record { owner = t.0; object = x.0; use_of = writes v } ∷ older
 operated step older = older
 
+-- the operations of the steps that were carried out, newest first
 unfoldable pub operations : List Step → List Operation
 operations [] = []
 operations (step ∷ older) = operated step (operations older)

@@ -18,5 +18,5 @@ pub record IsOrderly (past : List Step) : Type 0 where
   pub different : Distinct (initiated past)
   pub begun_known : (n : ℕ) → lists (begun past) n ≡ true → lists (initiated past) n ≡ true
   pub owners_known : (n : ℕ) → list_any (λ (o : Operation). o.owner == n) (operations past) ≡ true → lists (initiated past) n ≡ true
-  pub known : (n : ℕ) → lists (completed past) n ≡ true → lists (initiated past) n ≡ true
+  pub completed_known : (n : ℕ) → lists (completed past) n ≡ true → lists (initiated past) n ≡ true
   pub permits_known : (u t x : ℕ) (op : Op) → has_arrow (permits past x op) u t ≡ true → (lists (initiated past) u ≡ true) × (lists (initiated past) t ≡ true)

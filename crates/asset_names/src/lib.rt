@@ -24,6 +24,6 @@ pub use refusals::{
     refusal_to_permit, refusal_to_work,
 };
 pub use replies::{Fault, NoMemory, Outcome, Refusal, Reply};
-pub use sets::{ObList, ObSet, SetFault};
+pub use sets::{MOST_OBJECTS, ObList, ObSet, SetFault};
 pub use statuses::{End, Status};
 pub use steps::{Kind, Step};

@@ -8,7 +8,9 @@ use std::marker::Model;
 /// a write conflicts with reads and with other writes.
 #[derive(Clone, Copy, Debug, PartialEq, Eq)]
 pub enum Op {
+    /// It looks at the value.
     Read,
+    /// It puts another value in its place.
     Write,
 }
 

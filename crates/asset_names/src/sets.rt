@@ -11,12 +11,12 @@ use std::marker::Model;
 use thiserror::Error;
 
 /// The most objects that a list has.
-const MOST: usize = 16;
+pub const MOST_OBJECTS: usize = 16;
 
 /// A list of 1 to 16 different objects, kept rising. Contracts see the list.
 #[derive(Clone, Copy, Debug, PartialEq, Eq)]
 pub struct ObList {
-    objects: [Ob; 16],
+    objects: [Ob; MOST_OBJECTS],
     count: usize,
 }
 
@@ -73,13 +73,13 @@ fn sort(objects: &mut [Ob])
 }
 
 /// The objects in rising order, and empty places after them.
-fn sorted(objects: &[Ob]) -> [Ob; 16]
+fn sorted(objects: &[Ob]) -> [Ob; MOST_OBJECTS]
     requires { length objects.now ≤ 16 }
     ensures permutation { IsPermutation objects.now (take (length objects.now) result) }
     ensures sorted { IsNonDecreasingBy (λ x. x.0) (take (length objects.now) result) }
     ensures rest { drop (length objects.now) result ≡ replicate (16 - length objects.now) no_object_name }
 {
-    let mut all = [Ob(0); MOST];
+    let mut all = [Ob(0); MOST_OBJECTS];
     let front = &mut all[..objects.len()];
     front.copy_from_slice(objects);
     sort(front);
@@ -114,7 +114,7 @@ impl ObList {
         if objects.is_empty() {
             return Err(SetFault::Empty);
         }
-        if objects.len() > MOST {
+        if objects.len() > MOST_OBJECTS {
             return Err(SetFault::TooMany);
         }
         if let Some(x) = least_double(objects) {

@@ -20,7 +20,9 @@ pub enum Status {
 /// How a transaction ended.
 #[derive(Clone, Copy, Debug, PartialEq, Eq)]
 pub enum End {
+    /// Its writes stand for good.
     Committed,
+    /// Its writes are undone.
     Aborted,
 }
 

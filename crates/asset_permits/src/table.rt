@@ -91,8 +91,8 @@ impl Permits {
         giver == taker || leads(&self.rows, &mut self.marks, giver, taker, x, op)
     }
 
-    /// Drops the permits that `t` has given, and those that were given to it. It looks at what these names
-    /// have in their rows alone, and takes no memory.
+    /// Drops the permits that `t` has given, and those that were given to it. It looks at the rows of `t`
+    /// and of those it shares a permit with alone, and takes no memory.
     pub fn drop_all(&mut self, t: Txn)
         ensures stands { (e : Descriptor) → stands self.new e ≡ (stands self.old e && not (e.giver == t.0) && not (e.taker == t.0)) }
         ensures covers { (u v x : ℕ) (op : Op) → one_covers self.new u v x op ≡ (one_covers self.old u v x op && not (u == t.0) && not (v == t.0)) }

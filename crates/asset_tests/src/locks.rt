@@ -136,7 +136,7 @@ impl Three {
             && self.locks.waiters(Ob(2), 0) == None
     }
 
-    /// Whether two readers hold one object, and 8 holds another once for two operations.
+    /// Whether two readers hold one object, and 8 holds another, which is listed once for two operations.
     fn readers_share(&mut self) -> bool {
         self.eight_asks(1, Op::Read) == Ok(Asked::Granted)
             && self.locks.status(Txn(7), Ob(1)) == Some(LockState::Granted)
@@ -177,7 +177,7 @@ fn waiters_come_in_order_of_enrolment(rt: HostRuntime) -> Result<(), Fail> {
 }
 
 #[test]
-fn readers_share_and_a_writer_keeps_its_place(rt: HostRuntime) -> Result<(), Fail> {
+fn readers_share_an_object(rt: HostRuntime) -> Result<(), Fail> {
     let mut three = Three::new(&rt, Op::Read)?;
     let told = three.readers_share();
     drop(three);

@@ -104,8 +104,8 @@ fn chain_may_come_back(rt: HostRuntime) {
     assert!(rt; told);
 }
 
-/// Whether a permit that is given twice is one permit, and goes with its giver.
-fn second_adds_nothing(permits: &mut Permits) -> bool {
+/// Whether a permit that is given twice goes with its giver.
+fn twice_given_goes(permits: &mut Permits) -> bool {
     let (both, Ok(same)) = (permit_both(permits), two(2, 1)) else {
         return false;
     };
@@ -117,7 +117,7 @@ fn second_adds_nothing(permits: &mut Permits) -> bool {
 #[test]
 fn permit_is_given_twice(rt: HostRuntime) {
     let mut permits = Permits::new(rt.alloc());
-    let told = second_adds_nothing(&mut permits);
+    let told = twice_given_goes(&mut permits);
     drop(permits);
     assert!(rt; told);
 }

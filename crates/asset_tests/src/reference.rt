@@ -123,9 +123,9 @@ fn drawn(number: u64) -> Step {
     }
 }
 
-#[test]
-fn facility_agrees_on_worked_histories(rt: HostRuntime) -> Result<(), Fail> {
-    let waits = [
+/// A reader waits for a writer, which aborts.
+fn one_waits() -> [Step; 8] {
+    [
         initiate(7),
         begin(7),
         initiate(8),
@@ -134,8 +134,12 @@ fn facility_agrees_on_worked_histories(rt: HostRuntime) -> Result<(), Fail> {
         read(8, 1),
         abort(7),
         read(8, 1),
-    ];
-    let stands = [
+    ]
+}
+
+/// A committed write stands under one that is aborted.
+fn one_aborts_over_another() -> [Step; 12] {
+    [
         initiate(7),
         begin(7),
         write(7, 1, 50),
@@ -148,8 +152,12 @@ fn facility_agrees_on_worked_histories(rt: HostRuntime) -> Result<(), Fail> {
         initiate(9),
         begin(9),
         read(9, 1),
-    ];
-    let room = [
+    ]
+}
+
+/// A transaction ends where there is room for its end alone.
+fn ends_find_room() -> [Step; 7] {
+    [
         initiate(7),
         begin(7),
         read(7, 1),
@@ -157,8 +165,12 @@ fn facility_agrees_on_worked_histories(rt: HostRuntime) -> Result<(), Fail> {
         abort(7),
         initiate(8),
         commit(7),
-    ];
-    let refusals = [
+    ]
+}
+
+/// Refusals by status, and steps between them.
+fn refused_by_status() -> [Step; 15] {
+    [
         begin(5),
         initiate(7),
         read(7, 4),
@@ -174,22 +186,26 @@ fn facility_agrees_on_worked_histories(rt: HostRuntime) -> Result<(), Fail> {
         begin(7),
         abort(7),
         commit(6),
-    ];
+    ]
+}
+
+#[test]
+fn facility_agrees_on_worked_histories(rt: HostRuntime) -> Result<(), Fail> {
     for (steps, capacity) in [
-        (&waits[..], 100),
-        (&stands[..], 100),
-        (&room[..], 4),
-        (&room[..], 3),
-        (&refusals[..], 100),
+        (&one_waits()[..], 100),
+        (&one_aborts_over_another()[..], 100),
+        (&ends_find_room()[..], 4),
+        (&ends_find_room()[..], 3),
+        (&refused_by_status()[..], 100),
     ] {
         assert!(rt; agree(rt.alloc(), steps, capacity)?);
     }
     Ok(())
 }
 
-#[test]
-fn facility_agrees_on_permits(rt: HostRuntime) -> Result<(), Fail> {
-    let chain = [
+/// A chain of permits from 7 to 8 and 9, and ends that break it.
+fn chain_of_three() -> [Step; 22] {
+    [
         initiate(7),
         begin(7),
         initiate(8),
@@ -212,8 +228,12 @@ fn facility_agrees_on_permits(rt: HostRuntime) -> Result<(), Fail> {
         read(9, 2),
         abort(7),
         read(9, 1),
-    ];
-    let refusals = [
+    ]
+}
+
+/// Refusals of permits, and permits between them.
+fn refused_permits() -> [Step; 10] {
+    [
         permit(5, 5, &[Ob(4)], (true, false)),
         permit(5, 6, &[Ob(4)], (true, false)),
         initiate(5),
@@ -224,8 +244,12 @@ fn facility_agrees_on_permits(rt: HostRuntime) -> Result<(), Fail> {
         permit(5, 6, &[], (false, true)),
         abort(5),
         permit(5, 6, &[], (false, true)),
-    ];
-    for steps in [&chain[..], &refusals[..]] {
+    ]
+}
+
+#[test]
+fn facility_agrees_on_permits(rt: HostRuntime) -> Result<(), Fail> {
+    for steps in [&chain_of_three()[..], &refused_permits()[..]] {
         assert!(rt; agree(rt.alloc(), steps, 100)?);
     }
     Ok(())

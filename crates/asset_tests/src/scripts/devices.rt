@@ -5,7 +5,7 @@ use std::alloc::Global;
 use std::io;
 use std::test::Fail;
 
-// Gives the bytes that are left, three at a time, and then fails.
+/// Gives the bytes that are left, three at a time, and then fails.
 #[derive(Drop)]
 struct FailingReader<'a> {
     left: &'a [u8],
@@ -24,7 +24,7 @@ impl io::Read for FailingReader<'_> {
     }
 }
 
-// Gives `#` for ever.
+/// Gives `#` for ever.
 #[derive(Drop)]
 struct EndlessReader;
 
@@ -35,7 +35,7 @@ impl io::Read for EndlessReader {
     }
 }
 
-// Takes three bytes at a time, and fails once it has been asked `left` times.
+/// Takes three bytes at a time, and fails once it has been asked `left` times.
 #[derive(Drop)]
 struct FailingWriter<'a> {
     left: u64,
@@ -58,7 +58,7 @@ impl io::Write for FailingWriter<'_> {
     }
 }
 
-// Takes nothing, and does not say why.
+/// Takes nothing, and does not say why.
 #[derive(Drop)]
 struct FullWriter;
 
@@ -72,7 +72,7 @@ impl io::Write for FullWriter {
     }
 }
 
-// Whether what the reader gives and the writer takes in pieces is read and written whole.
+/// Whether what the reader gives and the writer takes in pieces is read and written whole.
 fn is_read_and_written_whole(alloc: Global) -> bool {
     let mut taken = Vec::new(alloc);
     let mut input = Device::new(&b"begin 7\n"[..]);
@@ -94,7 +94,7 @@ fn reads_and_writes_everything(rt: HostRuntime) {
     assert!(rt; is_read_and_written_whole(rt.alloc()));
 }
 
-// Whether a run writes nothing and answers Read where its reader fails after these bytes.
+/// Whether a run writes nothing and answers Read where its reader fails after these bytes.
 fn failing_reader_is_told(alloc: Global, given: &[u8]) -> bool {
     let mut written = Vec::new(alloc);
     let mut input = Device::new(FailingReader { left: given });
@@ -120,7 +120,7 @@ fn reader_fails_past_one_piece(rt: HostRuntime) -> Result<(), Fail> {
     Ok(())
 }
 
-// Whether a run writes nothing and answers Read where its reader never ends.
+/// Whether a run writes nothing and answers Read where its reader never ends.
 fn endless_reader_is_told(alloc: Global) -> bool {
     let mut written = Vec::new(alloc);
     let mut input = Device::new(EndlessReader);
@@ -134,8 +134,8 @@ fn endless_reader_is_given_up(rt: HostRuntime) {
     assert!(rt; endless_reader_is_told(rt.alloc()));
 }
 
-// Whether a run whose writer fails at the next request after so many has written what was taken until
-// then, and answers Write where that is not the whole text.
+/// Whether a run whose writer fails at the next request after so many has written what was taken until
+/// then, and answers Write where that is not the whole text.
 fn failing_writer_is_told(alloc: Global, left: u8) -> bool {
     let text = ITS_TEXT.as_bytes();
     let front = text.len().min(3 * left as usize);

@@ -6,18 +6,18 @@ use std::alloc::Global;
 use std::process::Abort;
 use std::test::Fail;
 
-// The capacity of the history where a test names none.
+/// The capacity of the history where a test names none.
 const ROOM: usize = 10_000;
 
-// A transaction that reads, writes and commits.
+/// A transaction that reads, writes and commits.
 pub(crate) const ONE_TRANSACTION: &[u8] =
     b"object 1 100\nobject 2 200\nobject 3 300\ninitiate 7\nbegin 7\nread 7 1\nwrite 7 1 50\n\
     read 7 1\ncomplete 7\ncommit 7\n";
 
-// What it is answered.
+/// What it is answered.
 pub(crate) const ITS_TEXT: &str = "ok\nok\n100\nok\n50\nok\ncommitted\n";
 
-// Runs a script, and adds to these bytes what it writes.
+/// Runs a script, and adds to these bytes what it writes.
 fn run(
     alloc: Global,
     script: &[u8],
@@ -31,8 +31,8 @@ fn run(
     run_script(alloc, &mut input, &mut output, capacity)
 }
 
-// Runs a script, and adds to no bytes what it writes. Where memory runs out once, what is written is a front of
-// the text, and the script is run again.
+/// Runs a script, and adds to no bytes what it writes. Where memory runs out once, what is written is a front of
+/// the text, and the script is run again.
 fn run_again(
     alloc: Global,
     script: &[u8],
@@ -51,7 +51,7 @@ fn run_again(
     }
 }
 
-// Asserts what a script writes where the history has so much room, and how its run ends.
+/// Asserts what a script writes where the history has so much room, and how its run ends.
 pub(crate) fn expect_with_room(
     rt: &(impl Abort + AllocGlobal),
     script: &[u8],
@@ -68,7 +68,7 @@ pub(crate) fn expect_with_room(
     Ok(())
 }
 
-// Asserts what a script writes and how its run ends.
+/// Asserts what a script writes and how its run ends.
 pub(crate) fn expect(
     rt: &(impl Abort + AllocGlobal),
     script: &[u8],

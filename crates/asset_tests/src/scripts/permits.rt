@@ -82,13 +82,22 @@ fn committed_over_aborted(rt: HostRuntime) -> Result<(), Fail> {
     expect(&rt, script, text, RunEnd::Finished)
 }
 
-/// A refused permit changes nothing.
+/// A permit for a name that has ended is refused, and its giver goes on alone.
 #[test]
 fn refused_permit_joins(rt: HostRuntime) -> Result<(), Fail> {
     let script =
         b"object 1 100\nobject 2 200\nobject 3 300\ninitiate 7\nbegin 7\ninitiate 9\nbegin 9\n\
         abort 9\npermit 7 9 r 1\ncomplete 7\ncommit 7\n";
     let text = "ok\nok\nok\nok\naborted\nrefused ended 9\nok\ncommitted\n";
+    expect(&rt, script, text, RunEnd::Finished)
+}
+
+/// A permit that is refused for one of its objects lets nobody do anything on the others.
+#[test]
+fn refused_permit_lets_nobody_read(rt: HostRuntime) -> Result<(), Fail> {
+    let script = b"object 1 100\ninitiate 7\nbegin 7\ninitiate 8\nbegin 8\nwrite 7 1 50\n\
+        permit 7 8 r 1,9\nread 8 1\n";
+    let text = "ok\nok\nok\nok\nok\nrefused no object 9\nwait\n";
     expect(&rt, script, text, RunEnd::Finished)
 }
 

@@ -53,7 +53,7 @@ fn carriage_return(rt: HostRuntime) -> Result<(), Fail> {
     expect(&rt, script, "line 1: bad command\n", RunEnd::BadLine(1))
 }
 
-// A comment of so many bytes, and then a step.
+/// A comment of so many bytes, and then a step.
 fn after_comment(alloc: Global, length: usize) -> Result<Vec<u8>, AllocError> {
     let mut script = vec![in alloc; b'#'; length]?;
     script.extend_from_slice(b"\ninitiate 7\n")?;
@@ -83,6 +83,7 @@ fn parent_joins_nobody(rt: HostRuntime) -> Result<(), Fail> {
     )
 }
 
+/// One transaction, as it is answered where nobody else works.
 #[test]
 fn pruned_runs_alike(rt: HostRuntime) -> Result<(), Fail> {
     let script = b"object 1 100\nobject 2 200\nobject 3 300\ninitiate 9\nbegin 9\nread 9 3\n\

@@ -5,7 +5,7 @@ use std::alloc::{AllocError, Global};
 use std::process::Abort;
 use std::test::Fail;
 
-// Asserts that a script is answered with nothing but which of its lines is bad.
+/// Asserts that a script is answered with nothing but which of its lines is bad.
 pub(crate) fn expect_bad(
     rt: &(impl Abort + AllocGlobal),
     script: &str,
@@ -94,7 +94,7 @@ fn parent_of_a_transaction(rt: HostRuntime) -> Result<(), Fail> {
     expect(&rt, script, text, RunEnd::Finished)
 }
 
-// A read of an object whose name has as many digits as make the line so long, and then a step.
+/// A read of an object whose name has as many digits as make the line so long, and then a step.
 fn after_long_read(alloc: Global, length: usize) -> Result<Vec<u8>, AllocError> {
     let mut script = b"read 7 ".to_vec(alloc)?;
     script.resize(length, b'1')?;

@@ -8,13 +8,13 @@ use Rattle.asset_core.proofs.facility.Core.has_room.Goals as goal
 
 pub returns-clause-room : goal.returns-clause-room
 unfolding has_room fits
-returns-clause-room c = rw (c.len.ensures.len, c.owed_after.ensures.owed, c.room.ensures, ← c.self.view_is) refl
+returns-clause-room c = rw (c.len.ensures.len, c.owed_after.ensures.owed, c.capacity.ensures, ← c.self.view_is) refl
 
 pub returns-clause-ending : goal.returns-clause-ending
 unfolding is_ending answer_to fits
 returns-clause-ending c = λ ends.
     let history = c.self.inside.history in
-    let fitted : fits (deeds history.past) (length history.past) history.room ≡ true = le-leb _ _ c.self.invariant.fitting in
-    let found = ending_fits history.opening history.past c.args.step.now c.args.reply history.room c.self.invariant.legal fitted
+    let fitted : fits (deeds history.past) (length history.past) history.capacity ≡ true = le-leb _ _ c.self.invariant.fitting in
+    let found = ending_fits history.opening history.past c.args.step.now c.args.reply history.capacity c.self.invariant.legal fitted
     (rw (← c.self.view_is) at c.requires.answer) (rw (← c.self.view_is) at ends) in
-    rw (c.len.ensures.len, c.owed_after.ensures.owed, c.room.ensures, ← c.self.view_is) found
+    rw (c.len.ensures.len, c.owed_after.ensures.owed, c.capacity.ensures, ← c.self.view_is) found
