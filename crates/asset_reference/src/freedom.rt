@@ -12,7 +12,7 @@ use asset_names::{Ob, Op, Reply, Step, Txn, is_carried_out};
 /// Whether an operation of this owner keeps `t` from doing `op` on `x`: the owner is another, which is live and
 /// does not allow it.
 #[tactic(auto)]
-fn is_kept_off_by(entries: &[(Step, Reply)], owner: Txn, t: Txn, x: Ob, op: Op) -> bool
+fn owner_hinders(entries: &[(Step, Reply)], owner: Txn, t: Txn, x: Ob, op: Op) -> bool
     ensures { result ≡ (not (owner.0 == t.0) && live (deeds (reverse entries.now)) owner.0 && not (reach (deeds (reverse entries.now)) owner.0 t.0 x.0 op)) }
 {
     owner != t && is_live(entries, owner) && !reaches(entries, owner, t, x, op)
@@ -20,15 +20,15 @@ fn is_kept_off_by(entries: &[(Step, Reply)], owner: Txn, t: Txn, x: Ob, op: Op) 
 
 /// Whether a step that was carried out is an operation that keeps `t` from doing `op` on `x`.
 #[tactic(auto, unfolding(asset_names::specs::Operations::operated, asset_names::specs::Operations::op_of, asset_names::specs::Operations::hinders))]
-fn is_hindrance(entries: &[(Step, Reply)], step: &Step, t: Txn, x: Ob, op: Op) -> bool
+fn step_hinders(entries: &[(Step, Reply)], step: &Step, t: Txn, x: Ob, op: Op) -> bool
     ensures { result ≡ list_any (hinders (deeds (reverse entries.now)) t.0 x.0 op) (operated step.now []) }
 {
     match *step {
         Step::Read { t: owner, x: y } => {
-            y == x && Op::Read.conflicts_with(op) && is_kept_off_by(entries, owner, t, x, op)
+            y == x && Op::Read.conflicts_with(op) && owner_hinders(entries, owner, t, x, op)
         }
         Step::Write { t: owner, x: y, .. } => {
-            y == x && Op::Write.conflicts_with(op) && is_kept_off_by(entries, owner, t, x, op)
+            y == x && Op::Write.conflicts_with(op) && owner_hinders(entries, owner, t, x, op)
         }
         _ => false,
     }
@@ -36,12 +36,12 @@ fn is_hindrance(entries: &[(Step, Reply)], step: &Step, t: Txn, x: Ob, op: Op) -
 
 /// Whether the entry is an operation that keeps `t` from doing `op` on `x`.
 #[tactic(auto, using(crate::proofs::ScanLemmas::hindered_at_entry))]
-fn is_hindered_by(entries: &[(Step, Reply)], entry: &(Step, Reply), t: Txn, x: Ob, op: Op) -> bool
+fn entry_hinders(entries: &[(Step, Reply)], entry: &(Step, Reply), t: Txn, x: Ob, op: Op) -> bool
     ensures { (older : List Entry) →
         list_any (hinders (deeds (reverse entries.now)) t.0 x.0 op) (operations (deeds (entry.now ∷ older)))
         ≡ (result || list_any (hinders (deeds (reverse entries.now)) t.0 x.0 op) (operations (deeds older))) }
 {
-    is_carried_out(&entry.0, entry.1) && is_hindrance(entries, &entry.0, t, x, op)
+    is_carried_out(&entry.0, entry.1) && step_hinders(entries, &entry.0, t, x, op)
 }
 
 /// Whether the object is free for `t` to do `op` on it.
@@ -50,7 +50,7 @@ pub fn is_free(entries: &[(Step, Reply)], t: Txn, x: Ob, op: Op) -> bool
 {
     let mut hindered = false;
     'entries: for entry in entries {
-        hindered = hindered || is_hindered_by(entries, entry, t, x, op);
+        hindered = hindered || entry_hinders(entries, entry, t, x, op);
     }
     !hindered
 }

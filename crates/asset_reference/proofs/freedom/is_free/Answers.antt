@@ -17,7 +17,7 @@ entries-preserved c =
     let below : c.entries.entry-index < length c.args.entries.now = omega arith in
     rw (reverse_take_item c.args.entries.now c.entries.entry-index c.entry-item.result below c.entry-item.is) (elim c.if-hindered.branch [
       | then-hindered w ↦ w.hindered-is ∙ w.if-hindered.true ∙ sym (hindered_at_entry _ _ _ ∙ or_right _ _ (sym c.entries.invariant ∙ w.if-hindered.true))
-      | else-hindered w ↦ w.hindered-is ∙ sym (w.is_hindered_by-hindered.ensures _ ∙ or_none _ _ (sym c.entries.invariant ∙ w.if-hindered.false))
+      | else-hindered w ↦ w.hindered-is ∙ sym (w.entry_hinders-hindered.ensures _ ∙ or_none _ _ (sym c.entries.invariant ∙ w.if-hindered.false))
     ])
 
 pub returns : goal.returns
