@@ -32,7 +32,7 @@ pub fn words_given<R: Env + AllocGlobal>(rt: &R) -> Result<Vec<String>, WordsFau
 /// The most entries that a history has room for where no word says how many.
 const DEFAULT_CAPACITY: usize = 10_000;
 
-/// The capacity that was given, or the default one where none was given or what was given is none.
+/// The capacity that was given, if one from 1 to 1,000,000 was, and else the default one.
 pub fn capacity_or_default(given: Option<u32>) -> usize
     ensures capacity { IsCapacity result }
     ensures given { IfSome given (λ n. IsCapacity n → result ≡ n) }
