@@ -8,5 +8,5 @@ pub mod TableLemmas
 pub mod ReadyLemmas
 pub mod PendingLemmas
 pub mod KeptLemmas
-pub mod ToldLemmas
+pub mod TagLemmas
 pub mod StoredLemmas

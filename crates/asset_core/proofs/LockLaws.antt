@@ -9,7 +9,7 @@ use Rattle.asset_names.specs.declared.operations.Op.{Op}
 use Rattle.asset_names.specs.declared.operations.Op.TheVariants as Op'
 use Rattle.asset_names.specs.Operations.{conflict, has_op, same_op}
 use Rattle.asset_locks.specs.Kept.{HaveOwners}
-use Rattle.asset_locks.specs.Table.{Lock, Holder, Table, is_of, carries, one_conflicts, both_conflict, keeps_off, is_free_in, lock_of, with_op, carried_with, beside, newcomer, granted_on, change_holder, granted_holder, waiting_holder, grant_in, wait_in, enrol_in, release_in, names_in}
+use Rattle.asset_locks.specs.Table.{Lock, Holder, Table, is_of, carries, one_conflicts, both_conflict, hinders, is_free_in, lock_of, with_op, carried_with, beside, newcomer, granted_on, change_holder, granted_holder, waiting_holder, grant_in, wait_in, enrol_in, release_in, names_in}
 
 -- whether the lock is t's and carries op
 abbrev pub carries_op : ℕ → Op → Lock → Bool
@@ -183,31 +183,31 @@ unfolding one_conflicts
 conflicts_by ops Op'.Read op has conflicts = or_left _ _ (and_from _ _ has conflicts)
 conflicts_by ops Op'.Write op has conflicts = or_right _ _ (and_from _ _ has conflicts)
 
-one_allows : (allows : ℕ → Bool) (t : ℕ) (op : Op) (u : ℕ) (other : Op) (lock : Lock) → keeps_off allows t op lock ≡ false → carries_op u other lock ≡ true
+one_allows : (allows : ℕ → Bool) (t : ℕ) (op : Op) (u : ℕ) (other : Op) (lock : Lock) → hinders allows t op lock ≡ false → carries_op u other lock ≡ true
     → conflict other op ≡ true → u ≢ t → allows u ≡ true
-unfolding keeps_off is_of
+unfolding hinders is_of
 one_allows allows t op u other lock none held conflicts apart =
     let parts = and_parts (eqb lock.owner u) (has_op lock.ops other) held in
     let owner = eqb-true lock.owner u parts.0 in
-    let is : keeps_off allows t op lock ≡ not (allows u) = rw (conflicts_by lock.ops other op parts.1 conflicts, owner, ne_eqb u t apart) refl in
+    let is : hinders allows t op lock ≡ not (allows u) = rw (conflicts_by lock.ops other op parts.1 conflicts, owner, ne_eqb u t apart) refl in
     not-false _ (sym is ∙ none)
 
 -- a lock that keeps nobody off is of one who allows
-kept_off_none : (allows : ℕ → Bool) (t : ℕ) (op : Op) (u : ℕ) (other : Op) (locks : List Lock) → list_any (keeps_off allows t op) locks ≡ false → list_any (carries_op u other) locks ≡ true
+hindered_none : (allows : ℕ → Bool) (t : ℕ) (op : Op) (u : ℕ) (other : Op) (locks : List Lock) → list_any (hinders allows t op) locks ≡ false → list_any (carries_op u other) locks ≡ true
     → conflict other op ≡ true → u ≢ t → allows u ≡ true
-kept_off_none allows t op u other [] none held conflicts apart = absurd (false≢true held)
-kept_off_none allows t op u other (lock ∷ locks) none held conflicts apart =
-    let parts = or_parts (keeps_off allows t op lock) _ none in
+hindered_none allows t op u other [] none held conflicts apart = absurd (false≢true held)
+hindered_none allows t op u other (lock ∷ locks) none held conflicts apart =
+    let parts = or_parts (hinders allows t op lock) _ none in
     elim (or_cases (carries_op u other lock) _ held) [
       | inl here ↦ one_allows allows t op u other lock parts.0 here conflicts apart
-      | inr later ↦ kept_off_none allows t op u other locks parts.1 later conflicts apart
+      | inr later ↦ hindered_none allows t op u other locks parts.1 later conflicts apart
     ]
 
 -- a lock that keeps t off carries an operation in conflict, and is of another who does not allow it
-keeps_off_parts : (allows : ℕ → Bool) (t : ℕ) (op : Op) (lock : Lock) → keeps_off allows t op lock ≡ true
+hinders_parts : (allows : ℕ → Bool) (t : ℕ) (op : Op) (lock : Lock) → hinders allows t op lock ≡ true
     → (eqb lock.owner t ≡ false) × (one_conflicts lock.ops op ≡ true) × (allows lock.owner ≡ false)
-unfolding keeps_off is_of
-keeps_off_parts allows t op lock h =
+unfolding hinders is_of
+hinders_parts allows t op lock h =
     let last = and_parts _ (not (allows lock.owner)) h in
     let first = and_parts (not (eqb lock.owner t)) _ last.0 in
     (not-true _ first.0, first.1, not-true _ last.1)
@@ -221,19 +221,19 @@ conflicting_op ops op h = elim (or_cases _ _ h) [
 ]
 
 -- where each holder in conflict allows t, no lock keeps it off
-none_kept_off : (allows : ℕ → Bool) (t : ℕ) (op : Op) (locks : List Lock) → ((u : ℕ) (other : Op) → list_any (carries_op u other) locks ≡ true → conflict other op ≡ true → u ≢ t → allows u ≡ true)
-    → list_any (keeps_off allows t op) locks ≡ false
+none_hinders : (allows : ℕ → Bool) (t : ℕ) (op : Op) (locks : List Lock) → ((u : ℕ) (other : Op) → list_any (carries_op u other) locks ≡ true → conflict other op ≡ true → u ≢ t → allows u ≡ true)
+    → list_any (hinders allows t op) locks ≡ false
 unfolding is_of
-none_kept_off allows t op [] allowed = refl
-none_kept_off allows t op (lock ∷ locks) allowed = or_from _ _ (go (keeps_off allows t op lock) refl)
-    (none_kept_off allows t op locks (λ u other held conflicts apart. allowed u other (or_right _ _ held) conflicts apart)) where
+none_hinders allows t op [] allowed = refl
+none_hinders allows t op (lock ∷ locks) allowed = or_from _ _ (go (hinders allows t op lock) refl)
+    (none_hinders allows t op locks (λ u other held conflicts apart. allowed u other (or_right _ _ held) conflicts apart)) where
       own : (other : Op) → has_op lock.ops other ≡ true → carries_op lock.owner other lock ≡ true
       own other has = and_from _ _ (eq-eqb lock.owner lock.owner refl) has
 
-      go : (b : Bool) → keeps_off allows t op lock ≡ b → b ≡ false
+      go : (b : Bool) → hinders allows t op lock ≡ b → b ≡ false
       go false e = refl
       go true e =
-          let parts = keeps_off_parts allows t op lock e in
+          let parts = hinders_parts allows t op lock e in
           let apart = eqb-false lock.owner t parts.0 in
           let reached : allows lock.owner ≡ true = elim (conflicting_op lock.ops op parts.1) [
             | inl reading ↦ allowed lock.owner Op'.Read (or_left _ _ (own Op'.Read reading.0)) reading.1 apart
@@ -244,8 +244,8 @@ none_kept_off allows t op (lock ∷ locks) allowed = or_from _ _ (go (keeps_off 
 -- who is free by the locks, by who holds
 pub free_by_locks : (table : Table) (allows : ℕ → Bool) (t x : ℕ) (op : Op) → is_free_in table allows t x op ≡ true → (u : ℕ) (other : Op) → carries table u x other ≡ true → conflict other op ≡ true → u ≢ t → allows u ≡ true
 unfolding is_free_in carries
-free_by_locks table allows t x op is_free u other held conflicts apart = kept_off_none allows t op u other (table.locks_on x) (not-true _ is_free) held conflicts apart
+free_by_locks table allows t x op is_free u other held conflicts apart = hindered_none allows t op u other (table.locks_on x) (not-true _ is_free) held conflicts apart
 
 pub locks_by_free : (table : Table) (allows : ℕ → Bool) (t x : ℕ) (op : Op) → ((u : ℕ) (other : Op) → carries table u x other ≡ true → conflict other op ≡ true → u ≢ t → allows u ≡ true) → is_free_in table allows t x op ≡ true
 unfolding is_free_in carries
-locks_by_free table allows t x op allowed = not_from_false _ (none_kept_off allows t op (table.locks_on x) allowed)
+locks_by_free table allows t x op allowed = not_from_false _ (none_hinders allows t op (table.locks_on x) allowed)

@@ -13,7 +13,7 @@ use Rattle.asset_core.specs.declared.stored.PermitEntry.{PermitEntry}
 use Rattle.asset_core.specs.declared.stored.Stored.{Stored}
 use Rattle.asset_core.specs.declared.stored.Stored.TheVariants as Stored'
 use Rattle.asset_core.specs.Stored.{stored_as, beside_after, permit_or_wait, entry_of, past_of, is_there, all_there}
-use Rattle.asset_core.proofs.ToldLemmas.{again}
+use Rattle.asset_core.proofs.TagLemmas.{again}
 
 -- what stands beside is found as before, when one more comes
 found_before : (beside : List PermitEntry) (permit : PermitEntry) (number : ℕ) → number < length beside → slice_get (beside ++ permit ∷ []) number ≡ slice_get beside number
@@ -31,15 +31,15 @@ found_last beside permit =
 -- what was stored is the same entry, when one more permit stands beside
 entry_before : (beside : List PermitEntry) (permit : PermitEntry) (stored : Stored) → is_there (length beside) stored ≡ true → entry_of (beside ++ permit ∷ []) stored ≡ entry_of beside stored
 unfolding entry_of is_there
-entry_before beside permit (Stored'.Initiate told t parent) there = refl
-entry_before beside permit (Stored'.Begin told t) there = refl
-entry_before beside permit (Stored'.Read told t x v) there = refl
-entry_before beside permit (Stored'.Write told t x v) there = refl
-entry_before beside permit (Stored'.Complete told t) there = refl
+entry_before beside permit (Stored'.Initiate tag t parent) there = refl
+entry_before beside permit (Stored'.Begin tag t) there = refl
+entry_before beside permit (Stored'.Read tag t x v) there = refl
+entry_before beside permit (Stored'.Write tag t x v) there = refl
+entry_before beside permit (Stored'.Complete tag t) there = refl
 entry_before beside permit (Stored'.Permit number) there = ap permit_or_wait (found_before beside permit number (ltb-true number (length beside) there))
-entry_before beside permit (Stored'.Commit told t) there = refl
-entry_before beside permit (Stored'.Abort told t) there = refl
-entry_before beside permit (Stored'.WaitFor told t) there = refl
+entry_before beside permit (Stored'.Commit tag t) there = refl
+entry_before beside permit (Stored'.Abort tag t) there = refl
+entry_before beside permit (Stored'.WaitFor tag t) there = refl
 
 entries_before : (beside : List PermitEntry) (permit : PermitEntry) (entries : List Stored) → all_there (length beside) entries ≡ true
     → map (entry_of (beside ++ permit ∷ [])) entries ≡ map (entry_of beside) entries
@@ -62,7 +62,7 @@ entries_after (Commit t) reply beside entries there = refl
 entries_after (Abort t) reply beside entries there = refl
 entries_after (WaitFor t) reply beside entries there = refl
 
--- an entry that is stored is that step, and its reply told again
+-- an entry that is stored is that step, and its reply made again
 entry_again : (step : Step) (reply : Reply) (beside : List PermitEntry) → entry_of (beside_after step reply beside) (stored_as (length beside) step reply) ≡ (step, again step reply)
 unfolding entry_of stored_as beside_after permit_or_wait again
 entry_again (Initiate t parent) reply beside = refl
@@ -107,14 +107,14 @@ beside_more (WaitFor t) reply beside = (omega arith, omega arith)
 there_more : (fewer more : ℕ) (stored : Stored) → fewer ≤ more → is_there fewer stored ≡ true → is_there more stored ≡ true
 unfolding is_there
 there_more fewer more (Stored'.Permit number) le there = lt-ltb number more (omega (arith, ltb-true number fewer there))
-there_more fewer more (Stored'.Initiate told t parent) le there = refl
-there_more fewer more (Stored'.Begin told t) le there = refl
-there_more fewer more (Stored'.Read told t x v) le there = refl
-there_more fewer more (Stored'.Write told t x v) le there = refl
-there_more fewer more (Stored'.Complete told t) le there = refl
-there_more fewer more (Stored'.Commit told t) le there = refl
-there_more fewer more (Stored'.Abort told t) le there = refl
-there_more fewer more (Stored'.WaitFor told t) le there = refl
+there_more fewer more (Stored'.Initiate tag t parent) le there = refl
+there_more fewer more (Stored'.Begin tag t) le there = refl
+there_more fewer more (Stored'.Read tag t x v) le there = refl
+there_more fewer more (Stored'.Write tag t x v) le there = refl
+there_more fewer more (Stored'.Complete tag t) le there = refl
+there_more fewer more (Stored'.Commit tag t) le there = refl
+there_more fewer more (Stored'.Abort tag t) le there = refl
+there_more fewer more (Stored'.WaitFor tag t) le there = refl
 
 all_there_more : (fewer more : ℕ) (entries : List Stored) → fewer ≤ more → all_there fewer entries ≡ true → all_there more entries ≡ true
 unfolding all_there

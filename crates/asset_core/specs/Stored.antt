@@ -12,64 +12,64 @@ use Rattle.asset_names.specs.declared.replies.Reply.TheVariants as Reply'
 use Rattle.asset_names.specs.Steps.{Opening, Entry}
 use Rattle.asset_names.specs.Sets.{no_object_name}
 use Rattle.asset_names.specs.Answers.{IsLegal}
-use Rattle.asset_core.specs.declared.told.Told.{Told}
-use Rattle.asset_core.specs.declared.told.Told.TheVariants as Told'
+use Rattle.asset_core.specs.declared.reply_tag.ReplyTag.{ReplyTag}
+use Rattle.asset_core.specs.declared.reply_tag.ReplyTag.TheVariants as ReplyTag'
 use Rattle.asset_core.specs.declared.stored.PermitEntry.{PermitEntry}
 use Rattle.asset_core.specs.declared.stored.Stored.{Stored}
 use Rattle.asset_core.specs.declared.stored.Stored.TheVariants as Stored'
 
--- what a reply tells, without the name, the object and the value that it is about
-unfoldable pub told_by : Reply → Told
-told_by Reply'.Done = Told'.Done
-told_by (Reply'.Value v) = Told'.Value
-told_by Reply'.Committed = Told'.Committed
-told_by Reply'.Aborted = Told'.Aborted
-told_by (Reply'.Refused (Refusal'.Unknown t)) = Told'.Unknown
-told_by (Reply'.Refused (Refusal'.Ended t)) = Told'.Ended
-told_by (Reply'.Refused (Refusal'.NotRunning t)) = Told'.NotRunning
-told_by (Reply'.Refused (Refusal'.Taken t)) = Told'.Taken
-told_by (Reply'.Refused (Refusal'.Begun t)) = Told'.Begun
-told_by (Reply'.Refused (Refusal'.NoObject x)) = Told'.NoObject
-told_by (Reply'.Refused Refusal'.Same) = Told'.Same
-told_by (Reply'.Refused Refusal'.Cycle) = Told'.Cycle
-told_by (Reply'.Refused (Refusal'.TooLate t)) = Told'.TooLate
+-- what a reply is, without the name, the object and the value that it is about
+unfoldable pub tag_of : Reply → ReplyTag
+tag_of Reply'.Done = ReplyTag'.Done
+tag_of (Reply'.Value v) = ReplyTag'.Value
+tag_of Reply'.Committed = ReplyTag'.Committed
+tag_of Reply'.Aborted = ReplyTag'.Aborted
+tag_of (Reply'.Refused (Refusal'.Unknown t)) = ReplyTag'.Unknown
+tag_of (Reply'.Refused (Refusal'.Ended t)) = ReplyTag'.Ended
+tag_of (Reply'.Refused (Refusal'.NotRunning t)) = ReplyTag'.NotRunning
+tag_of (Reply'.Refused (Refusal'.Taken t)) = ReplyTag'.Taken
+tag_of (Reply'.Refused (Refusal'.Begun t)) = ReplyTag'.Begun
+tag_of (Reply'.Refused (Refusal'.NoObject x)) = ReplyTag'.NoObject
+tag_of (Reply'.Refused Refusal'.Same) = ReplyTag'.Same
+tag_of (Reply'.Refused Refusal'.Cycle) = ReplyTag'.Cycle
+tag_of (Reply'.Refused (Refusal'.TooLate t)) = ReplyTag'.TooLate
 
 -- the value that was read, and 0 of another reply
-unfoldable pub value_told : Reply → ℤ
-value_told (Reply'.Value v) = v
-value_told reply = pos 0
+unfoldable pub value_read : Reply → ℤ
+value_read (Reply'.Value v) = v
+value_read reply = pos 0
 
--- the reply that tells this about a name, an object and a value
-unfoldable pub reply_about : Txn → Ob → ℤ → Told → Reply
-reply_about t x v Told'.Done = Reply'.Done
-reply_about t x v Told'.Value = Reply'.Value v
-reply_about t x v Told'.Committed = Reply'.Committed
-reply_about t x v Told'.Aborted = Reply'.Aborted
-reply_about t x v Told'.Unknown = Reply'.Refused (Refusal'.Unknown t)
-reply_about t x v Told'.Ended = Reply'.Refused (Refusal'.Ended t)
-reply_about t x v Told'.NotRunning = Reply'.Refused (Refusal'.NotRunning t)
-reply_about t x v Told'.Taken = Reply'.Refused (Refusal'.Taken t)
-reply_about t x v Told'.Begun = Reply'.Refused (Refusal'.Begun t)
-reply_about t x v Told'.NoObject = Reply'.Refused (Refusal'.NoObject x)
-reply_about t x v Told'.Same = Reply'.Refused Refusal'.Same
-reply_about t x v Told'.Cycle = Reply'.Refused Refusal'.Cycle
-reply_about t x v Told'.TooLate = Reply'.Refused (Refusal'.TooLate t)
+-- the reply with this tag about a name, an object and a value
+unfoldable pub reply_about : Txn → Ob → ℤ → ReplyTag → Reply
+reply_about t x v ReplyTag'.Done = Reply'.Done
+reply_about t x v ReplyTag'.Value = Reply'.Value v
+reply_about t x v ReplyTag'.Committed = Reply'.Committed
+reply_about t x v ReplyTag'.Aborted = Reply'.Aborted
+reply_about t x v ReplyTag'.Unknown = Reply'.Refused (Refusal'.Unknown t)
+reply_about t x v ReplyTag'.Ended = Reply'.Refused (Refusal'.Ended t)
+reply_about t x v ReplyTag'.NotRunning = Reply'.Refused (Refusal'.NotRunning t)
+reply_about t x v ReplyTag'.Taken = Reply'.Refused (Refusal'.Taken t)
+reply_about t x v ReplyTag'.Begun = Reply'.Refused (Refusal'.Begun t)
+reply_about t x v ReplyTag'.NoObject = Reply'.Refused (Refusal'.NoObject x)
+reply_about t x v ReplyTag'.Same = Reply'.Refused Refusal'.Same
+reply_about t x v ReplyTag'.Cycle = Reply'.Refused Refusal'.Cycle
+reply_about t x v ReplyTag'.TooLate = Reply'.Refused (Refusal'.TooLate t)
 
 -- the reply to a step that operates on nothing
-unfoldable pub reply_of_name : Txn → Told → Reply
-reply_of_name t told = reply_about t no_object_name (pos 0) told
+unfoldable pub reply_of_name : Txn → ReplyTag → Reply
+reply_of_name t tag = reply_about t no_object_name (pos 0) tag
 
 -- an entry as it is stored, where so many permits stand beside
 unfoldable pub stored_as : ℕ → Step → Reply → Stored
-stored_as count (Initiate t parent) reply = Stored'.Initiate (told_by reply) t parent
-stored_as count (Begin t) reply = Stored'.Begin (told_by reply) t
-stored_as count (Read t x) reply = Stored'.Read (told_by reply) t x (value_told reply)
-stored_as count (Write t x v) reply = Stored'.Write (told_by reply) t x v
-stored_as count (Complete t) reply = Stored'.Complete (told_by reply) t
+stored_as count (Initiate t parent) reply = Stored'.Initiate (tag_of reply) t parent
+stored_as count (Begin t) reply = Stored'.Begin (tag_of reply) t
+stored_as count (Read t x) reply = Stored'.Read (tag_of reply) t x (value_read reply)
+stored_as count (Write t x v) reply = Stored'.Write (tag_of reply) t x v
+stored_as count (Complete t) reply = Stored'.Complete (tag_of reply) t
 stored_as count (Permit giver taker obs ops) reply = Stored'.Permit count
-stored_as count (Commit t) reply = Stored'.Commit (told_by reply) t
-stored_as count (Abort t) reply = Stored'.Abort (told_by reply) t
-stored_as count (WaitFor t) reply = Stored'.WaitFor (told_by reply) t
+stored_as count (Commit t) reply = Stored'.Commit (tag_of reply) t
+stored_as count (Abort t) reply = Stored'.Abort (tag_of reply) t
+stored_as count (WaitFor t) reply = Stored'.WaitFor (tag_of reply) t
 
 -- what stands beside, after an entry
 unfoldable pub beside_after : Step → Reply → List PermitEntry → List PermitEntry
@@ -83,20 +83,20 @@ permit_or_wait None = (WaitFor (record { 0 = 0 }), Reply'.Done)
 
 -- the entry that is stored
 unfoldable pub entry_of : List PermitEntry → Stored → Entry
-entry_of beside (Stored'.Initiate told t parent) = (Initiate t parent, reply_of_name t told)
-entry_of beside (Stored'.Begin told t) = (Begin t, reply_of_name t told)
-entry_of beside (Stored'.Read told t x v) = (Read t x, reply_about t x v told)
-entry_of beside (Stored'.Write told t x v) = (Write t x v, reply_about t x (pos 0) told)
-entry_of beside (Stored'.Complete told t) = (Complete t, reply_of_name t told)
+entry_of beside (Stored'.Initiate tag t parent) = (Initiate t parent, reply_of_name t tag)
+entry_of beside (Stored'.Begin tag t) = (Begin t, reply_of_name t tag)
+entry_of beside (Stored'.Read tag t x v) = (Read t x, reply_about t x v tag)
+entry_of beside (Stored'.Write tag t x v) = (Write t x v, reply_about t x (pos 0) tag)
+entry_of beside (Stored'.Complete tag t) = (Complete t, reply_of_name t tag)
 entry_of beside (Stored'.Permit number) = permit_or_wait (slice_get beside number)
-entry_of beside (Stored'.Commit told t) = (Commit t, reply_of_name t told)
-entry_of beside (Stored'.Abort told t) = (Abort t, reply_of_name t told)
-entry_of beside (Stored'.WaitFor told t) = (WaitFor t, reply_of_name t told)
+entry_of beside (Stored'.Commit tag t) = (Commit t, reply_of_name t tag)
+entry_of beside (Stored'.Abort tag t) = (Abort t, reply_of_name t tag)
+entry_of beside (Stored'.WaitFor tag t) = (WaitFor t, reply_of_name t tag)
 
 -- the value that a stored entry reads or writes, and 0 of another
 unfoldable pub value_stored : Stored → ℤ
-value_stored (Stored'.Read told t x v) = v
-value_stored (Stored'.Write told t x v) = v
+value_stored (Stored'.Read tag t x v) = v
+value_stored (Stored'.Write tag t x v) = v
 value_stored stored = pos 0
 
 -- the entries, newest first

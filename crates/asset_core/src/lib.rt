@@ -4,9 +4,9 @@
 
 mod facility;
 mod history;
+mod reply_tag;
 mod stored;
 mod tables;
-mod told;
 
 pub use facility::Core;
 pub use history::{History, OpenFault};

@@ -4,8 +4,8 @@
 ghost use Rattle.std.specs.Prelude.{◌≡◌, ◌<◌, ◌≤◌, length, vec_capacity};
 ghost use Rattle.asset_core.specs.Stored.{beside_after};
 
+use crate::reply_tag::{ReplyTag, value_read};
 use crate::tables::value_asked;
-use crate::told::{Told, value_told};
 use asset_names::{Ob, ObSet, Ops, Reply, Step, Txn};
 use std::mem::size_of;
 
@@ -19,33 +19,33 @@ pub(crate) struct PermitEntry {
     reply: Reply,
 }
 
-/// An entry as it is stored: the step, and what it was told. A read has the value that it was told, or 0. What
-/// was told comes first, since fields lie in this order, and so it fits beside the tag of its variant.
+/// An entry as it is stored: the step, and the tag of its reply. A read has the value that it read, or 0. The
+/// reply's tag comes first, since fields lie in this order, and so it fits beside that of the variant.
 #[derive(Clone, Copy)]
 pub(crate) enum Stored {
     Initiate {
-        told: Told,
+        tag: ReplyTag,
         t: Txn,
         parent: Option<Txn>,
     },
     Begin {
-        told: Told,
+        tag: ReplyTag,
         t: Txn,
     },
     Read {
-        told: Told,
+        tag: ReplyTag,
         t: Txn,
         x: Ob,
         v: i64,
     },
     Write {
-        told: Told,
+        tag: ReplyTag,
         t: Txn,
         x: Ob,
         v: i64,
     },
     Complete {
-        told: Told,
+        tag: ReplyTag,
         t: Txn,
     },
     /// The permit of this number among those that stand beside.
@@ -53,15 +53,15 @@ pub(crate) enum Stored {
         number: usize,
     },
     Commit {
-        told: Told,
+        tag: ReplyTag,
         t: Txn,
     },
     Abort {
-        told: Told,
+        tag: ReplyTag,
         t: Txn,
     },
     WaitFor {
-        told: Told,
+        tag: ReplyTag,
         t: Txn,
     },
 }
@@ -77,27 +77,27 @@ impl Stored {
     pub(crate) fn of(step: &Step, reply: Reply, count: usize) -> Stored
         ensures { result ≡ stored_as count step.now reply }
     {
-        let told = Told::by(reply);
+        let tag = ReplyTag::of(reply);
         match *step {
-            Step::Initiate { t, parent } => Stored::Initiate { told, t, parent },
-            Step::Begin { t } => Stored::Begin { told, t },
+            Step::Initiate { t, parent } => Stored::Initiate { tag, t, parent },
+            Step::Begin { t } => Stored::Begin { tag, t },
             Step::Read { t, x } => Stored::Read {
-                told,
+                tag,
                 t,
                 x,
-                v: value_told(reply),
+                v: value_read(reply),
             },
             Step::Write { t, x, .. } => Stored::Write {
-                told,
+                tag,
                 t,
                 x,
                 v: value_asked(step),
             },
-            Step::Complete { t } => Stored::Complete { told, t },
+            Step::Complete { t } => Stored::Complete { tag, t },
             Step::Permit { .. } => Stored::Permit { number: count },
-            Step::Commit { t } => Stored::Commit { told, t },
-            Step::Abort { t } => Stored::Abort { told, t },
-            Step::WaitFor { t } => Stored::WaitFor { told, t },
+            Step::Commit { t } => Stored::Commit { tag, t },
+            Step::Abort { t } => Stored::Abort { tag, t },
+            Step::WaitFor { t } => Stored::WaitFor { tag, t },
         }
     }
 
@@ -108,23 +108,20 @@ impl Stored {
         ensures { result ≡ entry_of beside.now self.now }
     {
         match *self {
-            Stored::Initiate { told, t, parent } => {
-                (Step::Initiate { t, parent }, told.about_name(t))
+            Stored::Initiate { tag, t, parent } => {
+                (Step::Initiate { t, parent }, tag.about_name(t))
             }
-            Stored::Begin { told, t } => (Step::Begin { t }, told.about_name(t)),
-            Stored::Read { told, t, x, .. } => (
-                Step::Read { t, x },
-                told.about(t, x, self.value()),
-            ),
-            Stored::Write { told, t, x, .. } => {
+            Stored::Begin { tag, t } => (Step::Begin { t }, tag.about_name(t)),
+            Stored::Read { tag, t, x, .. } => (Step::Read { t, x }, tag.about(t, x, self.value())),
+            Stored::Write { tag, t, x, .. } => {
                 let v = self.value();
-                (Step::Write { t, x, v }, told.about(t, x, 0))
+                (Step::Write { t, x, v }, tag.about(t, x, 0))
             }
-            Stored::Complete { told, t } => (Step::Complete { t }, told.about_name(t)),
+            Stored::Complete { tag, t } => (Step::Complete { t }, tag.about_name(t)),
             Stored::Permit { number } => beside[number].entry(),
-            Stored::Commit { told, t } => (Step::Commit { t }, told.about_name(t)),
-            Stored::Abort { told, t } => (Step::Abort { t }, told.about_name(t)),
-            Stored::WaitFor { told, t } => (Step::WaitFor { t }, told.about_name(t)),
+            Stored::Commit { tag, t } => (Step::Commit { t }, tag.about_name(t)),
+            Stored::Abort { tag, t } => (Step::Abort { t }, tag.about_name(t)),
+            Stored::WaitFor { tag, t } => (Step::WaitFor { t }, tag.about_name(t)),
         }
     }
 

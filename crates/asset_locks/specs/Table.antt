@@ -50,13 +50,13 @@ one_conflicts ops op = has_op ops Op'.Read && conflict Op'.Read op || has_op ops
 unfoldable pub both_conflict : Bool × Bool → Bool × Bool → Bool
 both_conflict ops others = has_op others Op'.Read && one_conflicts ops Op'.Read || has_op others Op'.Write && one_conflicts ops Op'.Write
 
--- whether the lock keeps t from op: it is another's who does not allow it, and conflicts with op
-unfoldable pub keeps_off : (ℕ → Bool) → ℕ → Op → Lock → Bool
-keeps_off allows t op lock = not (is_of t lock) && one_conflicts lock.ops op && not (allows lock.owner)
+-- whether the lock hinders t from op: it is of another, who does not allow it, and conflicts with op
+unfoldable pub hinders : (ℕ → Bool) → ℕ → Op → Lock → Bool
+hinders allows t op lock = not (is_of t lock) && one_conflicts lock.ops op && not (allows lock.owner)
 
 -- x is free for t to do op where each lock that conflicts with it is of somebody who allows it
 unfoldable pub is_free_in : Table → (ℕ → Bool) → ℕ → ℕ → Op → Bool
-is_free_in table allows t x op = not (list_any (keeps_off allows t op) (table.locks_on x))
+is_free_in table allows t x op = not (list_any (hinders allows t op) (table.locks_on x))
 
 -- t's lock, if it has one
 unfoldable pub lock_of : ℕ → List Lock → Option Lock

@@ -44,7 +44,7 @@ impl Default for Lock {
 impl Lock {
     ghost use Rattle.std.specs.Prelude.{◌≡◌};
     ghost use Rattle.asset_permits.specs.Descriptors.{allows_in};
-    ghost use Rattle.asset_locks.specs.Table.{is_of, keeps_off, beside, state_of};
+    ghost use Rattle.asset_locks.specs.Table.{is_of, hinders, beside, state_of};
 
     /// Whether the lock is the transaction's.
     #[tactic(auto, unfolding(crate::specs::Table::is_of))]
@@ -54,10 +54,10 @@ impl Lock {
         self.owner == t
     }
 
-    /// Whether the lock keeps `t` from doing `op` on `x`, the object that it is on.
-    #[tactic(auto, unfolding(crate::specs::Table::is_of, crate::specs::Table::keeps_off))]
-    fn keeps_off(&self, t: Txn, x: Ob, op: Op, permits: &mut Permits) -> bool
-        ensures answer { result ≡ keeps_off (λ u. allows_in permits.old u t.0 x.0 op) t.0 op self.now }
+    /// Whether the lock hinders `t` from doing `op` on `x`, the object that it is on.
+    #[tactic(auto, unfolding(crate::specs::Table::is_of, crate::specs::Table::hinders))]
+    fn hinders(&self, t: Txn, x: Ob, op: Op, permits: &mut Permits) -> bool
+        ensures answer { result ≡ hinders (λ u. allows_in permits.old u t.0 x.0 op) t.0 op self.now }
         ensures permits { permits.new ≡ permits.old }
     {
         self.owner != t && one_conflicts(self.ops, op) && !permits.allows(self.owner, t, x, op)
@@ -95,7 +95,7 @@ ghost use Rattle.smallvec.specs.SmallVec.{HasRoomFor};
 ghost use Rattle.asset_names.specs.Operations.{conflict, has_op};
 ghost use Rattle.asset_permits.specs.Descriptors.{allows_in};
 ghost use Rattle.asset_locks.specs.Kept.{without};
-ghost use Rattle.asset_locks.specs.Table.{one_conflicts, both_conflict, with_op, carried_with, keeps_off, beside, lock_of, granted_on};
+ghost use Rattle.asset_locks.specs.Table.{one_conflicts, both_conflict, with_op, carried_with, hinders, beside, lock_of, granted_on};
 
 /// Whether any of the operations conflicts with `op`.
 #[tactic(auto, unfolding(crate::specs::Table::one_conflicts, asset_names::specs::Operations::conflict))]
@@ -146,13 +146,13 @@ fn carried_with(op: Op, lock: Option<Lock>) -> Carried
     }
 }
 
-/// Whether one of the locks on `x` keeps `t` from doing `op`.
-pub(crate) fn is_kept_off(locks: &[Lock], t: Txn, x: Ob, op: Op, permits: &mut Permits) -> bool
-    ensures answer { result ≡ list_any (keeps_off (λ u. allows_in permits.old u t.0 x.0 op) t.0 op) locks.now }
+/// Whether one of the locks on `x` hinders `t` from doing `op`.
+pub(crate) fn is_hindered(locks: &[Lock], t: Txn, x: Ob, op: Op, permits: &mut Permits) -> bool
+    ensures answer { result ≡ list_any (hinders (λ u. allows_in permits.old u t.0 x.0 op) t.0 op) locks.now }
     ensures permits { permits.new ≡ permits.old }
 {
     'locks: for lock in locks {
-        if lock.keeps_off(t, x, op, permits) {
+        if lock.hinders(t, x, op, permits) {
             return true;
         }
     }

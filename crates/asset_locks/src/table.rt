@@ -5,7 +5,7 @@ ghost use Rattle.asset_locks.specs.Table.{lock_of, granted_on};
 ghost use Rattle.asset_locks.specs.Kept.{locks_in, lists_object, without};
 
 use crate::holder::Holder;
-use crate::lock::{Lock, Row, grant_among, is_kept_off, lock_of, release_among};
+use crate::lock::{Lock, Row, grant_among, is_hindered, lock_of, release_among};
 use crate::locks::{Asked, LockState};
 use asset_names::{NoMemory, Ob, Op, Txn};
 use asset_permits::Permits;
@@ -78,7 +78,7 @@ impl Locks {
         ensures owners { HaveOwners ((table_of self.now).locks_on x.0) }
         ensures permits { permits.new ≡ permits.old }
     {
-        !is_kept_off(self.locks_of(x), t, x, op, permits)
+        !is_hindered(self.locks_of(x), t, x, op, permits)
     }
 
     /// Asks for `op` on `x` for `t`, which is enrolled. Where `x` is free for it, `t` is granted a

@@ -2,7 +2,7 @@ use Rattle.std.proofs.Common.{◌≡◌, arith, length}
 use Rattle.std.proofs.lemmas.List.{length-append}
 use Rattle.asset_names.specs.Answers.{IsLegal}
 use Rattle.asset_core.specs.Recorded.{answer_to, with_entry}
-use Rattle.asset_core.proofs.ToldLemmas.{told_again}
+use Rattle.asset_core.proofs.TagLemmas.{made_again}
 use Rattle.asset_core.proofs.StoredLemmas.{past_appended, past_length, there_appended, beside_more}
 use Rattle.asset_core.proofs.history.History.append.Goals as goal
 
@@ -28,7 +28,7 @@ invariant_of-self c =
     let count : c.len.result ≡ length permits = omega (arith, c.len.ensures) in
     let below = rw (← c.self.view_is, past_length c.self.inside.permits.items c.self.inside.entries.items) at c.requires.room in
     let answered = rw (← c.self.view_is) at c.requires.answer in
-    let same = told_again _ _ step c.args.reply answered in
+    let same = made_again _ _ step c.args.reply answered in
     record {
       legal = rw (pushed, beside, stored, past_appended step c.args.reply permits c.self.inside.entries.items c.len.result same count kept.there) (answered, kept.legal);
       there = rw (pushed, beside, stored) (there_appended step c.args.reply permits c.self.inside.entries.items c.len.result count kept.there);
@@ -42,7 +42,7 @@ pub returns : goal.returns
 unfolding with_entry answer_to
 returns c =
     let count : c.len.result ≡ length c.self.inside.permits.items = omega (arith, c.len.ensures) in
-    let same = told_again _ _ c.args.step.now c.args.reply c.requires.answer in
+    let same = made_again _ _ c.args.step.now c.args.reply c.requires.answer in
     rw (
       ← c.self.view_is,
       rw c.unwrap.ensures at c.push.ensures.items,

@@ -1,0 +1,93 @@
+//! The tags of replies, one byte each.
+
+ghost use Rattle.std.specs.Prelude.{◌≡◌};
+ghost use Rattle.asset_core.specs.Stored.{value_read};
+
+use asset_names::{Ob, Refusal, Reply, Txn};
+
+/// What a reply is, without the name, the object and the value that it is about: a step's own reply is about
+/// what the step names.
+#[derive(Clone, Copy)]
+pub(crate) enum ReplyTag {
+    Done,
+    Value,
+    Committed,
+    Aborted,
+    Unknown,
+    Ended,
+    NotRunning,
+    Taken,
+    Begun,
+    NoObject,
+    Same,
+    Cycle,
+    TooLate,
+}
+
+impl ReplyTag {
+    ghost use Rattle.std.specs.Prelude.{◌≡◌, pos};
+    ghost use Rattle.asset_core.specs.Stored.{tag_of, reply_about, reply_of_name};
+
+    /// The tag of the reply.
+    #[tactic(auto, unfolding(crate::specs::Stored::tag_of))]
+    pub(crate) fn of(reply: Reply) -> ReplyTag
+        ensures { result ≡ tag_of reply }
+    {
+        match reply {
+            Reply::Done => ReplyTag::Done,
+            Reply::Value(_) => ReplyTag::Value,
+            Reply::Committed => ReplyTag::Committed,
+            Reply::Aborted => ReplyTag::Aborted,
+            Reply::Refused(Refusal::Unknown(_)) => ReplyTag::Unknown,
+            Reply::Refused(Refusal::Ended(_)) => ReplyTag::Ended,
+            Reply::Refused(Refusal::NotRunning(_)) => ReplyTag::NotRunning,
+            Reply::Refused(Refusal::Taken(_)) => ReplyTag::Taken,
+            Reply::Refused(Refusal::Begun(_)) => ReplyTag::Begun,
+            Reply::Refused(Refusal::NoObject(_)) => ReplyTag::NoObject,
+            Reply::Refused(Refusal::Same) => ReplyTag::Same,
+            Reply::Refused(Refusal::Cycle) => ReplyTag::Cycle,
+            Reply::Refused(Refusal::TooLate(_)) => ReplyTag::TooLate,
+        }
+    }
+
+    /// The reply with this tag about a name, an object and a value.
+    #[tactic(auto, unfolding(crate::specs::Stored::reply_about))]
+    pub(crate) fn about(self, t: Txn, x: Ob, v: i64) -> Reply
+        ensures { result ≡ reply_about t x v self }
+    {
+        match self {
+            ReplyTag::Done => Reply::Done,
+            ReplyTag::Value => Reply::Value(v),
+            ReplyTag::Committed => Reply::Committed,
+            ReplyTag::Aborted => Reply::Aborted,
+            ReplyTag::Unknown => Reply::Refused(Refusal::Unknown(t)),
+            ReplyTag::Ended => Reply::Refused(Refusal::Ended(t)),
+            ReplyTag::NotRunning => Reply::Refused(Refusal::NotRunning(t)),
+            ReplyTag::Taken => Reply::Refused(Refusal::Taken(t)),
+            ReplyTag::Begun => Reply::Refused(Refusal::Begun(t)),
+            ReplyTag::NoObject => Reply::Refused(Refusal::NoObject(x)),
+            ReplyTag::Same => Reply::Refused(Refusal::Same),
+            ReplyTag::Cycle => Reply::Refused(Refusal::Cycle),
+            ReplyTag::TooLate => Reply::Refused(Refusal::TooLate(t)),
+        }
+    }
+
+    /// The reply with this tag to a step that operates on nothing.
+    #[tactic(auto, unfolding(crate::specs::Stored::reply_of_name))]
+    pub(crate) fn about_name(self, t: Txn) -> Reply
+        ensures { result ≡ reply_of_name t self }
+    {
+        self.about(t, Ob::default(), 0)
+    }
+}
+
+/// The value that was read, and 0 of another reply.
+#[tactic(auto, unfolding(crate::specs::Stored::value_read))]
+pub(crate) fn value_read(reply: Reply) -> i64
+    ensures { result ≡ value_read reply }
+{
+    match reply {
+        Reply::Value(v) => v,
+        _ => 0,
+    }
+}
