@@ -1,4 +1,4 @@
--- The transcript of a script: the text that its bytes give.
+-- The transcript of a script: the text that its bytes give, and how its run ends.
 use Rattle.std.specs.Prelude.{ℕ, ◌+◌, cond, List, [], ◌∷◌, ◌++◌}
 use Rattle.asset_names.specs.declared.steps.Step.{Step}
 use Rattle.asset_names.specs.declared.replies.Outcome.{Outcome}

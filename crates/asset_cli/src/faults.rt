@@ -8,7 +8,7 @@ use thiserror::Error;
 /// Why a script was not run to its end.
 #[derive(Clone, Copy, Debug, PartialEq, Eq, Error)]
 pub enum ScriptFault {
-    /// The reader failed, gave too much, or was asked too often.
+    /// The reader failed, gave more than 67,108,864 bytes, or was asked 134,217,728 times.
     #[error("read fault")]
     Read,
     /// The writer failed.

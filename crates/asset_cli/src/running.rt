@@ -14,12 +14,12 @@ use crate::writing::write_all;
 use std::alloc::Global;
 use std::io::{Read, Write};
 
-/// Runs the script that the reader gives, over a history with room for so many entries, and writes
-/// its transcript. On Ok the transcript of all bytes that the reader gave was written, and nothing
-/// else; it ends at the first bad line, if there is one. Read is answered only where the reader
-/// failed, gave more than 67,108,864 bytes or was asked 134,217,728 times, and then, as after
-/// NoMemory, nothing was written. After Write, which says that the writer failed, a front of the
-/// transcript was.
+/// Runs the script that the reader gives, over a history with room for so many entries, from 1 to 1,000,000,
+/// and writes its transcript. Neither device was asked anything before. On Ok the transcript of all bytes
+/// that the reader gave was written, and nothing else; it ends at the first bad line, if there is one. Read
+/// is answered only where the reader failed, gave more than 67,108,864 bytes or was asked 134,217,728 times,
+/// and then, as after NoMemory, nothing was written. After Write, which says that the writer failed, a front
+/// of the transcript was.
 pub fn run_script<R: Read, W: Write>(
     alloc: Global,
     input: &mut Device<R>,

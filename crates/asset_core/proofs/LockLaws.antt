@@ -192,7 +192,7 @@ one_allows allows t op u other lock none held conflicts apart =
     let is : hinders allows t op lock ≡ not (allows u) = rw (conflicts_by lock.ops other op parts.1 conflicts, owner, ne_eqb u t apart) refl in
     not-false _ (sym is ∙ none)
 
--- a lock that keeps nobody off is of one who allows
+-- a lock that hinders nobody is of one who allows
 hindered_none : (allows : ℕ → Bool) (t : ℕ) (op : Op) (u : ℕ) (other : Op) (locks : List Lock) → list_any (hinders allows t op) locks ≡ false → list_any (carries_op u other) locks ≡ true
     → conflict other op ≡ true → u ≢ t → allows u ≡ true
 hindered_none allows t op u other [] none held conflicts apart = absurd (false≢true held)
@@ -203,7 +203,7 @@ hindered_none allows t op u other (lock ∷ locks) none held conflicts apart =
       | inr later ↦ hindered_none allows t op u other locks parts.1 later conflicts apart
     ]
 
--- a lock that keeps t off carries an operation in conflict, and is of another who does not allow it
+-- a lock that hinders t carries an operation in conflict, and is of another who does not allow it
 hinders_parts : (allows : ℕ → Bool) (t : ℕ) (op : Op) (lock : Lock) → hinders allows t op lock ≡ true
     → (eqb lock.owner t ≡ false) × (one_conflicts lock.ops op ≡ true) × (allows lock.owner ≡ false)
 unfolding hinders is_of
@@ -220,7 +220,7 @@ conflicting_op ops op h = elim (or_cases _ _ h) [
   | inr writing ↦ inr (and_parts _ _ writing)
 ]
 
--- where each holder in conflict allows t, no lock keeps it off
+-- where each holder in conflict allows t, no lock hinders it
 none_hinders : (allows : ℕ → Bool) (t : ℕ) (op : Op) (locks : List Lock) → ((u : ℕ) (other : Op) → list_any (carries_op u other) locks ≡ true → conflict other op ≡ true → u ≢ t → allows u ≡ true)
     → list_any (hinders allows t op) locks ≡ false
 unfolding is_of

@@ -26,8 +26,6 @@ names_set test status (entry ∷ rows) = go (test entry.0.0) (names_set test sta
   go true ih = ap (λ ns. entry.0.0 ∷ ns) ih
   go false ih = ap (λ ns. entry.0.0 ∷ ns) ih
 
--- both ways are one
-
 -- a row with another status, if there is one
 unfoldable pub set_row : Status → Option Row → Option Row
 set_row status None = None

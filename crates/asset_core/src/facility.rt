@@ -68,11 +68,12 @@ impl Core {
     }
 
     /// Asks one step. A step that waits is no entry, and may be asked again; a read or a write that waits
-    /// fills its asker's pending place, and a granted one, or an end, empties it. An answered step is
-    /// one more entry, refused or not. Full comes exactly where the entries with this one, and those
-    /// that live names are owed after it, exceed the capacity; a complete, a commit or an abort that
-    /// changes a status always finds room. NoMemory may come only where an initiate, a read, a
-    /// write or a permit would be carried out. After Full and NoMemory nothing has changed.
+    /// fills its asker's pending place, a granted one empties it, and a refused one leaves it. An initiate
+    /// adds an empty place, and an end takes the place away. An answered step is one more entry, refused or
+    /// not. Full comes exactly where the entries with this one, and those that live names are owed after it,
+    /// exceed the capacity; a complete, a commit or an abort that changes a status always finds room.
+    /// NoMemory may come only where an initiate, a read, a write or a permit would be carried out. After Full
+    /// and NoMemory nothing has changed.
     #[tactic(auto, unfolding(crate::specs::Recorded::after, crate::specs::Recorded::has_room, crate::specs::Recorded::is_ending, asset_names::specs::Answers::carried_out))]
     pub fn step(&mut self, step: Step) -> Result<Outcome, Fault>
         ensures answered { IfOk result (λ outcome. outcome ≡ answer_to self.old.history step) }
@@ -176,7 +177,7 @@ impl Core {
         }
     }
 
-    /// The status of a name.
+    /// The status of a name: Unknown where it was never initiated.
     pub fn status(&self, t: Txn) -> Status
         ensures { result ≡ status (deeds self.now.history.past) t.0 }
     {
@@ -190,7 +191,8 @@ impl Core {
         self.tables.objects.value(x)
     }
 
-    /// The waiter of this number for `x`, in order of initiation from 0, with the operation that it asked.
+    /// The waiter of this number for `x`, in order of initiation from 0, with the operation that it asked. None
+    /// where there are not so many.
     pub fn waiters(&self, x: Ob, number: usize) -> Option<(Txn, Op)>
         ensures { result ≡ slice_get (waiting_for x.0 self.now.pending) number }
     {

@@ -74,7 +74,7 @@ impl History {
         self.len() == 0
     }
 
-    /// The entry of this number. Entries count from 0, oldest first.
+    /// The entry of this number. Entries count from 0, oldest first; None from `len` on.
     pub fn entry(&self, number: usize) -> Option<(Step, Reply)>
         ensures entry { result ≡ slice_get (reverse self.now.past) number }
         ensures legal { IsLegal self.now.opening self.now.past }

@@ -1,11 +1,11 @@
-//! Locks on objects.
+//! The state of a lock, and what becomes of a request.
 
 /// The state of a lock.
 #[derive(Clone, Copy, Debug, PartialEq, Eq)]
 pub enum LockState {
     /// Its owner may go on.
     Granted,
-    /// A later request was granted in conflict with it. It still holds off whom its owner does not
+    /// A later request was granted in conflict with it. It still hinders whom its owner does not
     /// allow, and its owner has to ask again.
     Suspended,
 }

@@ -53,7 +53,7 @@ impl Locks {
         }
     }
 
-    /// Enrols `t`, which was not enrolled before. It holds nothing and waits for nothing. Where
+    /// Enrols `t`, which is not enrolled. It holds nothing and waits for nothing. Where
     /// memory runs out, nothing changes.
     pub fn enrol(&mut self, t: Txn) -> Result<(), NoMemory>
         requires new { holder_in (table_of self.old) t.0 ≡ None }
@@ -72,7 +72,7 @@ impl Locks {
     }
 
     /// Whether `t` may do `op` on `x` now: each lock on `x` that conflicts with `op`, granted or
-    /// suspended, is its own or of somebody who permits it. It takes no memory.
+    /// suspended, is its own or of somebody who allows it. It takes no memory.
     pub fn is_free(&self, t: Txn, x: Ob, op: Op, permits: &mut Permits) -> bool
         ensures free { result ≡ is_free_in (table_of self.now) (λ u. allows_in permits.old u t.0 x.0 op) t.0 x.0 op }
         ensures owners { HaveOwners ((table_of self.now).locks_on x.0) }
@@ -115,7 +115,8 @@ impl Locks {
         }
     }
 
-    /// The object of this number among those on which `t` has a lock, in order of first grant from 0.
+    /// The object of this number among those on which `t` has a lock, in order of first grant from 0. None where
+    /// there are not so many.
     pub fn held_by(&self, t: Txn, n: usize) -> Option<Ob>
         ensures { result ≡ slice_get (held_in (table_of self.now) t.0) n }
     {
@@ -126,7 +127,7 @@ impl Locks {
     }
 
     /// The waiter of this number for `x`, in order of enrolment from 0, with the operation that it
-    /// asked for. It looks at those enrolled up to it, and takes no memory.
+    /// asked for. None where there are not so many. It looks at those enrolled up to it, and takes no memory.
     pub fn waiters(&self, x: Ob, n: usize) -> Option<(Txn, Op)>
         ensures { result ≡ slice_get (waiters_in (table_of self.now) x.0) n }
     {

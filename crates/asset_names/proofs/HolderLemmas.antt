@@ -25,7 +25,7 @@ same_op-refl Op'.Write = refl
 abbrev held_by : ℕ → ℕ → Op → Operation → Bool
 held_by u x op o = eqb o.owner u && eqb o.object x && same_op (op_of o.use_of) op
 
--- an operation by which u holds x keeps t from op only where u does not allow it
+-- an operation by which u holds x hinders t from op only where u does not allow it
 hinders_unless : (past : List Step) (t x u : ℕ) (op other : Op) (o : Operation) → held_by u x other o ≡ true → live past u ≡ true → conflict other op ≡ true → u ≢ t → hinders past t x op o ≡ false → reach past u t x op ≡ true
 unfolding hinders
 hinders_unless past t x u op other o held alive conflicts apart free =
@@ -46,7 +46,7 @@ free_list past t x u op other (o ∷ os) none held alive conflicts apart =
       | inr later ↦ free_list past t x u op other os parts.1 later alive conflicts apart
     ]
 
--- what keeps t from op is an operation of another holder who does not allow it
+-- what hinders t from op is an operation of another holder who does not allow it
 hinders_parts : (past : List Step) (t x : ℕ) (op : Op) (o : Operation) → hinders past t x op o ≡ true
     → (held_by o.owner x (op_of o.use_of) o ≡ true) × (live past o.owner ≡ true) × (conflict (op_of o.use_of) op ≡ true) × (eqb o.owner t ≡ false) × (reach past o.owner t x op ≡ false)
 unfolding hinders

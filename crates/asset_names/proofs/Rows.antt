@@ -51,9 +51,9 @@ OneTransaction = Row
     (Initiate (t 7) None ∷ Begin (t 7) ∷ Read (t 7) (x 1) ∷ Write (t 7) (x 1) (pos 50) ∷ Read (t 7) (x 1) ∷ Complete (t 7) ∷ Commit (t 7) ∷ [])
     (ok ∷ ok ∷ Answer (Value (pos 100)) ∷ ok ∷ Answer (Value (pos 50)) ∷ ok ∷ Answer Committed ∷ [])
 
--- a writer holds off a reader and another writer until it commits
-abbrev WriterHoldsOff : Type 0
-WriterHoldsOff = Row
+-- a writer hinders a reader and another writer until it commits
+abbrev WriterHinders : Type 0
+WriterHinders = Row
     (Initiate (t 7) None ∷ Begin (t 7) ∷ Initiate (t 8) None ∷ Begin (t 8) ∷ Write (t 7) (x 1) (pos 50) ∷ Read (t 8) (x 1) ∷ Write (t 8) (x 1) (pos 60) ∷ Read (t 8) (x 2) ∷ Complete (t 7) ∷ Read (t 8) (x 1) ∷ Commit (t 7) ∷ Read (t 8) (x 1) ∷ [])
     (ok ∷ ok ∷ ok ∷ ok ∷ ok ∷ Wait ∷ Wait ∷ Answer (Value (pos 200)) ∷ ok ∷ Wait ∷ Answer Committed ∷ Answer (Value (pos 50)) ∷ [])
 
@@ -104,6 +104,6 @@ abbrev RoomIsOwed : Type 0
 RoomIsOwed = (owed (Begin (t 7) ∷ Initiate (t 7) None ∷ []) ≡ 2) × (owed (Complete (t 7) ∷ Begin (t 7) ∷ Initiate (t 7) None ∷ []) ≡ 1)
     × (owed (Abort (t 7) ∷ Initiate (t 8) None ∷ Begin (t 7) ∷ Initiate (t 7) None ∷ []) ≡ 2) × (fits (Initiate (t 7) None ∷ []) 1 3 ≡ true) × (fits (Initiate (t 7) None ∷ []) 1 2 ≡ false)
 
-rows : OneTransaction × WriterHoldsOff × ReadersShare × RefusalsInOrder × CommitWaits × ParentIsRecorded × ReaderWaitsForAbort × AfterTheEnd × CommittedUnderAborted × RoomIsOwed
+rows : OneTransaction × WriterHinders × ReadersShare × RefusalsInOrder × CommitWaits × ParentIsRecorded × ReaderWaitsForAbort × AfterTheEnd × CommittedUnderAborted × RoomIsOwed
 unfolding owed owed_to fits answer rules_for unrefused first_refusal outcome_unless unknown ended not_running taken begun_before too_late no_object is_unknown has_ended is_running is_completed is_committed has_begun class_completed commit_outcome wait_outcome free hinders reach permits conflict op_of operations operated permitted_by value value_after after_use was_aborted stands opening_value opening_at exists status status_of end_of ended_by live same_class class_arrows doom_arrows initiated begun completed initiated_by begun_by completed_by deeds carries_out among linked lists
 rows = (refl, refl, refl, refl, refl, refl, refl, refl, refl, (refl, refl, refl, refl, refl))

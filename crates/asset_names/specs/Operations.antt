@@ -79,12 +79,12 @@ permits (step ∷ older) x op = permitted_by step x op ++ permits older x op
 unfoldable pub reach : List Step → ℕ → ℕ → ℕ → Op → Bool
 reach past u t x op = linked (among (live past) (permits past x op)) u t
 
--- the operation keeps t from doing op on x: it is another live name's, conflicts with op, and its
+-- the operation hinders t from doing op on x: it is another live name's, conflicts with op, and its
 -- owner does not allow t to do op on x
 unfoldable pub hinders : List Step → ℕ → ℕ → Op → Operation → Bool
 hinders past t x op o = o.object == x && conflict (op_of o.use_of) op && not (o.owner == t) && live past o.owner && not (reach past o.owner t x op)
 
--- x is free for t to do op where no operation keeps t from it
+-- x is free for t to do op where no operation hinders it
 unfoldable pub free : List Step → ℕ → ℕ → Op → Bool
 free past t x op = not (list_any (hinders past t x op) (operations past))
 

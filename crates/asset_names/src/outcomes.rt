@@ -9,7 +9,7 @@ use crate::statuses::Status;
 use crate::steps::Step;
 
 /// The outcome of a commit of a transaction of this status, where `ready` says whether each member of its
-/// class has completed.
+/// class has completed: how the transaction ended, where it has; else Committed where it is ready, and else Wait.
 #[tactic(auto, unfolding(crate::specs::Answers::commit_outcome))]
 pub fn commit_outcome(status: Status, ready: bool) -> Outcome
     ensures { result ≡ commit_outcome status ready }
@@ -22,7 +22,8 @@ pub fn commit_outcome(status: Status, ready: bool) -> Outcome
     }
 }
 
-/// The outcome of a wait for a transaction of this status.
+/// The outcome of a wait for a transaction of this status: Done where it has completed, how it ended where it has,
+/// and else Wait.
 #[tactic(auto, unfolding(crate::specs::Answers::wait_outcome))]
 pub fn wait_outcome(status: Status) -> Outcome
     ensures { result ≡ wait_outcome status }
@@ -35,7 +36,7 @@ pub fn wait_outcome(status: Status) -> Outcome
     }
 }
 
-/// Whether a step that got this reply was carried out.
+/// Whether a step that got this reply was carried out. A wait for a transaction never is.
 #[tactic(auto, unfolding(crate::specs::Steps::carries_out))]
 pub fn is_carried_out(step: &Step, reply: Reply) -> bool
     ensures { result ≡ carries_out step.now reply }

@@ -8,7 +8,7 @@ use crate::names::{Ob, Txn};
 use crate::replies::Refusal;
 use crate::statuses::Status;
 
-/// Why a transaction of this status may not be initiated.
+/// Why a transaction of this status may not be initiated: Taken unless it is Unknown.
 #[tactic(auto, unfolding(crate::specs::Answers::first_refusal, crate::specs::Answers::is_unknown))]
 pub fn refusal_to_initiate(t: Txn, status: Status) -> Option<Refusal>
     ensures { result ≡ first_refusal ((not (is_unknown status), Refusal.Taken t) ∷ []) }
@@ -19,7 +19,8 @@ pub fn refusal_to_initiate(t: Txn, status: Status) -> Option<Refusal>
     }
 }
 
-/// Why a transaction of this status may not begin.
+/// Why a transaction of this status may not begin: Unknown; Ended where it has committed or aborted; Begun where it
+/// is Running or Completed. An Initiated one may.
 #[tactic(auto, unfolding(crate::specs::Answers::first_refusal, crate::specs::Answers::is_unknown, crate::specs::Answers::has_ended, crate::specs::Answers::has_begun))]
 pub fn refusal_to_begin(t: Txn, status: Status) -> Option<Refusal>
     ensures { result ≡ first_refusal ((is_unknown status, Refusal.Unknown t) ∷ (has_ended status, Refusal.Ended t) ∷ (has_begun status, Refusal.Begun t) ∷ []) }
@@ -32,7 +33,8 @@ pub fn refusal_to_begin(t: Txn, status: Status) -> Option<Refusal>
     }
 }
 
-/// Why a transaction of this status may not do its own work.
+/// Why a transaction of this status may not do its own work: Unknown; Ended where it has committed or aborted;
+/// NotRunning where it is Initiated or Completed. A Running one may.
 #[tactic(auto, unfolding(crate::specs::Answers::first_refusal, crate::specs::Answers::is_unknown, crate::specs::Answers::has_ended, crate::specs::Answers::is_running))]
 pub fn refusal_to_work(t: Txn, status: Status) -> Option<Refusal>
     ensures { result ≡ first_refusal ((is_unknown status, Refusal.Unknown t) ∷ (has_ended status, Refusal.Ended t) ∷ (not (is_running status), Refusal.NotRunning t) ∷ []) }
@@ -45,7 +47,8 @@ pub fn refusal_to_work(t: Txn, status: Status) -> Option<Refusal>
     }
 }
 
-/// Why a transaction of this status may not operate on the object, which may exist or not.
+/// Why a transaction of this status may not operate on the object: what `refusal_to_work` says, and else NoObject
+/// where the object does not exist.
 #[tactic(auto, unfolding(crate::specs::Answers::first_refusal, crate::specs::Answers::is_unknown, crate::specs::Answers::has_ended, crate::specs::Answers::is_running))]
 pub fn refusal_to_operate(t: Txn, status: Status, x: Ob, exists: bool) -> Option<Refusal>
     ensures { result ≡ first_refusal ((is_unknown status, Refusal.Unknown t) ∷ (has_ended status, Refusal.Ended t) ∷ (not (is_running status), Refusal.NotRunning t) ∷ (not exists, Refusal.NoObject x) ∷ []) }
@@ -57,7 +60,7 @@ pub fn refusal_to_operate(t: Txn, status: Status, x: Ob, exists: bool) -> Option
     }
 }
 
-/// Why a transaction of this status may not be committed or waited for.
+/// Why a transaction of this status may not be committed or waited for: Unknown, and nothing else.
 #[tactic(auto, unfolding(crate::specs::Answers::first_refusal, crate::specs::Answers::is_unknown))]
 pub fn refusal_to_find(t: Txn, status: Status) -> Option<Refusal>
     ensures { result ≡ first_refusal ((is_unknown status, Refusal.Unknown t) ∷ []) }
@@ -68,7 +71,7 @@ pub fn refusal_to_find(t: Txn, status: Status) -> Option<Refusal>
     }
 }
 
-/// Why a transaction of this status may not be aborted.
+/// Why a transaction of this status may not be aborted: Unknown; TooLate where it has committed.
 #[tactic(auto, unfolding(crate::specs::Answers::first_refusal, crate::specs::Answers::is_unknown, crate::specs::Answers::is_committed))]
 pub fn refusal_to_abort(t: Txn, status: Status) -> Option<Refusal>
     ensures { result ≡ first_refusal ((is_unknown status, Refusal.Unknown t) ∷ (is_committed status, Refusal.TooLate t) ∷ []) }
@@ -102,7 +105,8 @@ fn refusal_of_ended(
 }
 
 /// Why a giver of one status may not permit anything to a taker of another, where `missing` is the least
-/// object of the permit that does not exist, if there is one.
+/// object of the permit that does not exist, if there is one. In this order: Same where the two are one; Unknown of
+/// the giver, of the taker; Ended of the giver, of the taker; NoObject of `missing`.
 #[tactic(auto, unfolding(crate::specs::Answers::first_refusal))]
 pub fn refusal_to_permit(
     giver: Txn,

@@ -78,7 +78,8 @@ impl Objects {
         self.records.reserve(1).map_err(|_| NoMemory)
     }
 
-    /// Writes the value to the object. Its memory was reserved, so this takes none.
+    /// Writes the value to the object, which exists. Its memory was reserved since the last write, so this takes
+    /// none. Other objects stay as they are.
     pub fn write(&mut self, t: Txn, x: Ob, v: i64)
         requires exists { has_object (cells self.old) x.0 ≡ true }
         requires reserved { self.old.reserved ≡ true }

@@ -62,9 +62,8 @@ impl Permits {
         }
     }
 
-    /// Lets the taker do the operations on the objects, as long as the giver and the taker stay in
-    /// the table. A permit that stands already is not added again. Where memory runs out, nothing
-    /// changes.
+    /// Lets the taker do the operations on the objects, until one of the two is dropped by `drop_all`. A permit
+    /// that stands already is not added again. Where memory runs out, nothing changes.
     pub fn add(&mut self, giver: Txn, taker: Txn, objects: ObSet, ops: Ops) -> Result<(), NoMemory>
         ensures stands { OnOk result ((e : Descriptor) → stands self.new e ≡ (stands self.old e || same_descriptor (record { giver = giver.0; taker = taker.0; objects = objects; ops = ops }) e)) }
         ensures covers { OnOk result ((u t x : ℕ) (op : Op) → one_covers self.new u t x op ≡ (one_covers self.old u t x op || (u == giver.0 && t == taker.0 && in_set objects x && has_op ops op))) }

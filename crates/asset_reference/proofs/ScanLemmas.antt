@@ -21,8 +21,6 @@ at_deeds {A} f entry older = go (carries_out entry.0 entry.1) refl where
   go true e = ap f (deeds_carried entry older e)
   go false e = ap f (deeds_not_carried entry older e)
 
--- both ways are one
-
 -- nothing is added by what is false
 pub or_none : (p q : Bool) → q ≡ false → (p || q) ≡ p
 or_none p q h = grind arith

@@ -9,7 +9,7 @@ ghost use Rattle.asset_names.specs.Operations.{operations, operated, hinders, fr
 use crate::reaching::{is_live, reaches};
 use asset_names::{Ob, Op, Reply, Step, Txn, is_carried_out};
 
-/// Whether an operation of this owner keeps `t` from doing `op` on `x`: the owner is another, which is live and
+/// Whether an operation of this owner hinders `t` from doing `op` on `x`: the owner is another, which is live and
 /// does not allow it.
 #[tactic(auto)]
 fn owner_hinders(entries: &[(Step, Reply)], owner: Txn, t: Txn, x: Ob, op: Op) -> bool
@@ -18,7 +18,7 @@ fn owner_hinders(entries: &[(Step, Reply)], owner: Txn, t: Txn, x: Ob, op: Op) -
     owner != t && is_live(entries, owner) && !reaches(entries, owner, t, x, op)
 }
 
-/// Whether a step that was carried out is an operation that keeps `t` from doing `op` on `x`.
+/// Whether a step that was carried out is an operation that hinders `t` from doing `op` on `x`.
 #[tactic(auto, unfolding(asset_names::specs::Operations::operated, asset_names::specs::Operations::op_of, asset_names::specs::Operations::hinders))]
 fn step_hinders(entries: &[(Step, Reply)], step: &Step, t: Txn, x: Ob, op: Op) -> bool
     ensures { result ≡ list_any (hinders (deeds (reverse entries.now)) t.0 x.0 op) (operated step.now []) }
@@ -34,7 +34,7 @@ fn step_hinders(entries: &[(Step, Reply)], step: &Step, t: Txn, x: Ob, op: Op) -
     }
 }
 
-/// Whether the entry is an operation that keeps `t` from doing `op` on `x`.
+/// Whether the entry is an operation that hinders `t` from doing `op` on `x`.
 #[tactic(auto, using(crate::proofs::ScanLemmas::hindered_at_entry))]
 fn entry_hinders(entries: &[(Step, Reply)], entry: &(Step, Reply), t: Txn, x: Ob, op: Op) -> bool
     ensures { (older : List Entry) →

@@ -20,7 +20,7 @@ fn enrol(locks: &mut Locks, t: u64) -> Result<(), NoMemory>
     }
 }
 
-/// Asks where nobody permits anything. Where memory runs out once, the same call is made again.
+/// Asks under these permits. Where memory runs out once, the same call is made again.
 fn ask(locks: &mut Locks, t: u64, x: u64, op: Op, permits: &mut Permits) -> Result<Asked, NoMemory>
     requires { is_some (holder_in (table_of locks.old) t) ≡ true }
     ensures { (n : ℕ) → is_some (holder_in (table_of locks.new) n) ≡ is_some (holder_in (table_of locks.old) n) }
@@ -45,7 +45,7 @@ fn empty(rt: &HostRuntime) -> Locks
     Locks::new(rt.alloc())
 }
 
-/// A table in which 7, 9 and 8 are enrolled, in this order, and 7 has done an operation on 1. Nobody
+/// A table in which 7, 9 and 8 are enrolled, in this order, and 7 has done an operation on 1. At first nobody
 /// permits anything.
 #[derive(Drop)]
 struct Three {

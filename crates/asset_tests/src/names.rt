@@ -2,9 +2,9 @@
 
 use asset_names::{
     Ob, ObList, ObSet, Op, Ops, Outcome, Refusal, Reply, SetFault, Status, Step, Txn,
-    commit_outcome, endings_find_room, free_is_allowed_by_holders, is_carried_out, least_double,
-    linked_is_chain, refusal_to_abort, refusal_to_begin, refusal_to_find, refusal_to_initiate,
-    refusal_to_operate, refusal_to_permit, refusal_to_work, wait_outcome,
+    commit_outcome, is_carried_out, least_double, refusal_to_abort, refusal_to_begin,
+    refusal_to_find, refusal_to_initiate, refusal_to_operate, refusal_to_permit, refusal_to_work,
+    wait_outcome,
 };
 use std::test::Fail;
 
@@ -41,12 +41,18 @@ fn list_is_kept_rising(rt: HostRuntime) {
     assert!(rt; ObSet::All.has(Ob(3)));
 }
 
-#[test]
-fn list_has_from_one_to_sixteen_objects(rt: HostRuntime) {
+/// Seventeen objects, of which none is given twice.
+fn seventeen() -> [Ob; 17] {
     let mut objects = [Ob(0); 17];
     for (number, object) in objects.iter_mut().enumerate() {
         *object = Ob(100 - number as u64);
     }
+    objects
+}
+
+#[test]
+fn list_has_from_one_to_sixteen_objects(rt: HostRuntime) {
+    let objects = seventeen();
     for (given, told) in [
         (&NONE[..], Err(SetFault::Empty)),
         (&objects[..16], Ok(16)),
@@ -63,6 +69,11 @@ fn least_double_is_named(rt: HostRuntime) {
     for (objects, x) in [(&[Ob(1), Ob(1)][..], Ob(1)), (&twice[..], Ob(4))] {
         assert_eq!(rt; ObList::of(objects), Err(SetFault::Double(x)));
     }
+}
+
+#[test]
+fn least_double_of_objects_and_of_pairs(rt: HostRuntime) {
+    let twice = [Ob(9), Ob(4), Ob(2), Ob(9), Ob(4)];
     let pairs = [(Ob(3), 30), (Ob(1), 10), (Ob(3), -30)];
     for (told, double) in [
         (least_double(&twice), Some(Ob(4))),
@@ -71,13 +82,6 @@ fn least_double_is_named(rt: HostRuntime) {
     ] {
         assert_eq!(rt; told, double);
     }
-}
-
-#[test]
-fn laws_can_be_called() {
-    linked_is_chain();
-    endings_find_room();
-    free_is_allowed_by_holders();
 }
 
 #[test]
@@ -105,16 +109,22 @@ fn refusals_by_status(rt: HostRuntime) {
 
 #[test]
 fn outcomes_and_statuses(rt: HostRuntime) {
+    let done = Outcome::Answer(Reply::Done);
+    let committed = Outcome::Answer(Reply::Committed);
+    let aborted = Outcome::Answer(Reply::Aborted);
     for (told, outcome) in [
         (commit_outcome(Status::Running, false), Outcome::Wait),
-        (
-            wait_outcome(Status::Completed),
-            Outcome::Answer(Reply::Done),
-        ),
+        (commit_outcome(Status::Completed, true), committed),
+        (commit_outcome(Status::Committed, false), committed),
+        (commit_outcome(Status::Aborted, true), aborted),
+        (wait_outcome(Status::Running), Outcome::Wait),
+        (wait_outcome(Status::Completed), done),
+        (wait_outcome(Status::Aborted), aborted),
     ] {
         assert_eq!(rt; told, outcome);
     }
     assert!(rt; is_carried_out(&Step::Begin { t: Txn(7) }, Reply::Done));
+    assert!(rt; !is_carried_out(&Step::WaitFor { t: Txn(7) }, Reply::Done));
     assert!(rt; Op::Write.conflicts_with(Op::Read) && !Op::Read.conflicts_with(Op::Read));
     assert!(rt; Status::Unknown.is_unknown() && Status::Aborted.has_ended());
     assert!(rt; Status::Initiated.is_live() && Status::Completed.is_completed());

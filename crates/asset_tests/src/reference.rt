@@ -42,12 +42,18 @@ fn owed(entries: &[(Step, Reply)]) -> usize {
     owed
 }
 
-/// Whether the facility shows the statuses and the values that the entries give.
-fn shows(core: &Core, entries: &[(Step, Reply)]) -> bool {
+/// Whether the facility shows the statuses that the entries give.
+fn shows_statuses(core: &Core, entries: &[(Step, Reply)]) -> bool {
     let mut alike = true;
     for t in NAMES {
         alike = alike && core.status(t) == status_after(entries, t);
     }
+    alike
+}
+
+/// Whether the facility shows the values that the entries give.
+fn shows_values(core: &Core, entries: &[(Step, Reply)]) -> bool {
+    let mut alike = true;
     for x in OBJECTS {
         alike = alike && core.value(x) == value_if_any(&THREE, entries, x);
     }
@@ -87,7 +93,11 @@ fn agree_over(
             return Ok(false);
         }
     }
-    Ok(core.history().len() == entries.len() && shows(core, entries))
+    Ok(
+        core.history().len() == entries.len()
+            && shows_statuses(core, entries)
+            && shows_values(core, entries),
+    )
 }
 
 /// Whether the facility and the reference agree on these steps.
@@ -255,16 +265,22 @@ fn facility_agrees_on_permits(rt: HostRuntime) -> Result<(), Fail> {
     Ok(())
 }
 
+/// The steps that are drawn from a seed on, which goes on with them.
+fn generated(seed: &mut u64) -> [Step; 24] {
+    let mut steps = [begin(5); 24];
+    for step in steps.iter_mut() {
+        *seed = next(*seed);
+        *step = drawn(*seed);
+    }
+    steps
+}
+
 #[test]
 fn facility_agrees_on_generated_scripts(rt: HostRuntime) -> Result<(), Fail> {
     let alloc = rt.alloc();
     let mut seed = 1;
     for script in 0u64..2000 {
-        let mut steps = [begin(5); 24];
-        for step in steps.iter_mut() {
-            seed = next(seed);
-            *step = drawn(seed);
-        }
+        let steps = generated(&mut seed);
         let capacity = if script % 3 == 0 { 10 } else { 100 };
         assert!(rt; agree(alloc, &steps, capacity)?, "script {script}");
     }

@@ -43,6 +43,13 @@ fn lines_that_say_nothing_count(rt: HostRuntime) -> Result<(), Fail> {
     ] {
         expect_bad(&rt, script, number)?;
     }
+    let script = b"# a\n\nobject 1 5\n#\ninitiate 7\n\n#begin 7\nbegin 7\n\nbegin\nbegin 7\n";
+    let text = "ok\nok\nline 10: bad command\n";
+    expect(&rt, script, text, RunEnd::BadLine(10))
+}
+
+#[test]
+fn scripts_without_steps_print_nothing(rt: HostRuntime) -> Result<(), Fail> {
     for script in [
         &b"\n"[..],
         b"#",
@@ -52,9 +59,7 @@ fn lines_that_say_nothing_count(rt: HostRuntime) -> Result<(), Fail> {
     ] {
         expect(&rt, script, "", RunEnd::Finished)?;
     }
-    let script = b"# a\n\nobject 1 5\n#\ninitiate 7\n\n#begin 7\nbegin 7\n\nbegin\nbegin 7\n";
-    let text = "ok\nok\nline 10: bad command\n";
-    expect(&rt, script, text, RunEnd::BadLine(10))
+    Ok(())
 }
 
 #[test]
