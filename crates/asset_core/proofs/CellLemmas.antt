@@ -49,10 +49,10 @@ cell_undone t ends later alive is x first (o ∷ older) = go (eqb o.object x) o.
   alive_as : (u : ℕ) → eqb u t ≡ true → ends u ≡ None
   alive_as u e = rw (eqb-true u t e) alive
 
-  go : (here : Bool) (deed : Use) → cell_after later x first older ≡ undone (is_name t) (cell_after ends x first older)
-      → cond here (used (later o.owner) o.owner deed (cell_after later x first older)) (cell_after later x first older)
-      ≡ undone (is_name t) (cond here (used (ends o.owner) o.owner deed (cell_after ends x first older)) (cell_after ends x first older))
-  go false deed ih = ih
+  go : (here : Bool) (act : Use) → cell_after later x first older ≡ undone (is_name t) (cell_after ends x first older)
+      → cond here (used (later o.owner) o.owner act (cell_after later x first older)) (cell_after later x first older)
+      ≡ undone (is_name t) (cond here (used (ends o.owner) o.owner act (cell_after ends x first older)) (cell_after ends x first older))
+  go false act ih = ih
   go true reads ih = ih
   go true (writes v) ih = undone_write t o.owner v _ _ (eqb o.owner t) refl (ends o.owner) (later o.owner) (is o.owner) (alive_as o.owner) ih
 
@@ -65,22 +65,22 @@ cell_settled t ends later alive is x first (o ∷ older) = go (eqb o.object x) o
   alive_as : (u : ℕ) → eqb u t ≡ true → ends u ≡ None
   alive_as u e = rw (eqb-true u t e) alive
 
-  go : (here : Bool) (deed : Use) → cell_after later x first older ≡ settled (is_name t) (cell_after ends x first older)
-      → cond here (used (later o.owner) o.owner deed (cell_after later x first older)) (cell_after later x first older)
-      ≡ settled (is_name t) (cond here (used (ends o.owner) o.owner deed (cell_after ends x first older)) (cell_after ends x first older))
-  go false deed ih = ih
+  go : (here : Bool) (act : Use) → cell_after later x first older ≡ settled (is_name t) (cell_after ends x first older)
+      → cond here (used (later o.owner) o.owner act (cell_after later x first older)) (cell_after later x first older)
+      ≡ settled (is_name t) (cond here (used (ends o.owner) o.owner act (cell_after ends x first older)) (cell_after ends x first older))
+  go false act ih = ih
   go true reads ih = ih
   go true (writes v) ih = settled_write t o.owner v _ _ (eqb o.owner t) refl (ends o.owner) (later o.owner) (is o.owner) (alive_as o.owner) ih
 
 -- a cell shows the value of the history
-cell_shown : (past : List Step) (x : ℕ) (first : ℤ) (os : List Operation) → shown (cell_after (end_of past) x first os) ≡ value_after (stands past) x first os
+cell_shown : (steps : List Step) (x : ℕ) (first : ℤ) (os : List Operation) → shown (cell_after (end_of steps) x first os) ≡ value_after (stands steps) x first os
 unfolding cell_after used placed written fresh shown newest_or value_after after_use stands was_aborted
-cell_shown past x first [] = refl
-cell_shown past x first (o ∷ older) = go (eqb o.object x) o.use_of (end_of past o.owner) (cell_shown past x first older) where
-  go : (here : Bool) (deed : Use) (end : Option End) → shown (cell_after (end_of past) x first older) ≡ value_after (stands past) x first older
-      → shown (cond here (used end o.owner deed (cell_after (end_of past) x first older)) (cell_after (end_of past) x first older))
-      ≡ cond (here && not (was_aborted end)) (after_use deed (value_after (stands past) x first older)) (value_after (stands past) x first older)
-  go false deed end ih = ih
+cell_shown steps x first [] = refl
+cell_shown steps x first (o ∷ older) = go (eqb o.object x) o.use_of (end_of steps o.owner) (cell_shown steps x first older) where
+  go : (here : Bool) (act : Use) (end : Option End) → shown (cell_after (end_of steps) x first older) ≡ value_after (stands steps) x first older
+      → shown (cond here (used end o.owner act (cell_after (end_of steps) x first older)) (cell_after (end_of steps) x first older))
+      ≡ cond (here && not (was_aborted end)) (after_use act (value_after (stands steps) x first older)) (value_after (stands steps) x first older)
+  go false act end ih = ih
   go true reads (Some End'.Committed) ih = ih
   go true reads (Some End'.Aborted) ih = ih
   go true reads None ih = ih
@@ -89,10 +89,10 @@ cell_shown past x first (o ∷ older) = go (eqb o.object x) o.use_of (end_of pas
   go true (writes v) None ih = refl
 
 -- the value that the cells show is that of the history
-pub value_shown : (opening : Opening) (past : List Step) (x : ℕ) → option_map shown (cell_of opening past x) ≡ value_if_any opening past x
+pub value_shown : (opening : Opening) (steps : List Step) (x : ℕ) → option_map shown (cell_of opening steps x) ≡ value_if_any opening steps x
 unfolding cell_of value_if_any exists value opening_value
-value_shown opening past x = go (opening_at opening x) where
-  go : (first : Option ℤ) → option_map shown (option_map (λ v. cell_after (end_of past) x v (operations past)) first)
-      ≡ cond (is_some first) (Some (value_after (stands past) x (unwrap_or first (pos 0)) (operations past))) None
+value_shown opening steps x = go (opening_at opening x) where
+  go : (first : Option ℤ) → option_map shown (option_map (λ v. cell_after (end_of steps) x v (operations steps)) first)
+      ≡ cond (is_some first) (Some (value_after (stands steps) x (unwrap_or first (pos 0)) (operations steps))) None
   go None = refl
-  go (Some v) = ap Some (cell_shown past x v (operations past))
+  go (Some v) = ap Some (cell_shown steps x v (operations steps))

@@ -1,4 +1,4 @@
--- What a step that was carried out leaves as it was, and what it adds.
+-- What a step that took effect leaves as it was, and what it adds.
 use Rattle.std.proofs.Common.{◌≡◌, ℕ, Bool, true, false, cond, not, eqb, ◌&&◌, ◌||◌, List, [], ◌∷◌, ◌++◌, filter, reverse, refl, sym, ◌∙◌, ap, subst, arith, Some, None}
 use Rattle.std.specs.Prelude.{Option, ℤ, option_map}
 use Rattle.std.specs.List.{list_any}
@@ -71,68 +71,68 @@ cell_as opening ends later os x same = go (opening_at opening x) where
   go (Some v) = ap Some (cell_same ends later same x v os)
 
 -- what a step that initiates nobody, ends nobody, operates on nothing and permits nothing leaves
-pub record IsQuiet (later past : List Step) : Type 0 where
-  pub names : initiated later ≡ initiated past
-  pub deeds : operations later ≡ operations past
-  pub ends : (n : ℕ) → end_of later n ≡ end_of past n
-  pub arrows : (x : ℕ) (op : Op) → permits later x op ≡ permits past x op
+pub record IsQuiet (later steps : List Step) : Type 0 where
+  pub names : initiated later ≡ initiated steps
+  pub applied : operations later ≡ operations steps
+  pub ends : (n : ℕ) → end_of later n ≡ end_of steps n
+  pub arrows : (x : ℕ) (op : Op) → permits later x op ≡ permits steps x op
 
-pub live_quiet : (later past : List Step) → initiated later ≡ initiated past → ((n : ℕ) → end_of later n ≡ end_of past n) → (n : ℕ) → live later n ≡ live past n
+pub live_quiet : (later steps : List Step) → initiated later ≡ initiated steps → ((n : ℕ) → end_of later n ≡ end_of steps n) → (n : ℕ) → live later n ≡ live steps n
 unfolding live
-live_quiet later past names ends n = rw (names, ends n)
+live_quiet later steps names ends n = rw (names, ends n)
 
-pub cell_same_steps : (opening : Opening) (later past : List Step) → operations later ≡ operations past → ((n : ℕ) → end_of later n ≡ end_of past n) → (x : ℕ) → cell_of opening later x ≡ cell_of opening past x
+pub cell_same_steps : (opening : Opening) (later steps : List Step) → operations later ≡ operations steps → ((n : ℕ) → end_of later n ≡ end_of steps n) → (x : ℕ) → cell_of opening later x ≡ cell_of opening steps x
 unfolding cell_of
-cell_same_steps opening later past deeds ends x = rw deeds (cell_as opening (end_of past) (end_of later) (operations past) x ends)
+cell_same_steps opening later steps applied ends x = rw applied (cell_as opening (end_of steps) (end_of later) (operations steps) x ends)
 
-pub cell_quiet : (opening : Opening) (later past : List Step) → IsQuiet later past → (x : ℕ) → cell_of opening later x ≡ cell_of opening past x
-cell_quiet opening later past quiet x = cell_same_steps opening later past quiet.deeds quiet.ends x
+pub cell_quiet : (opening : Opening) (later steps : List Step) → IsQuiet later steps → (x : ℕ) → cell_of opening later x ≡ cell_of opening steps x
+cell_quiet opening later steps quiet x = cell_same_steps opening later steps quiet.applied quiet.ends x
 
-pub holds_same_steps : (later past : List Step) → initiated later ≡ initiated past → operations later ≡ operations past → ((n : ℕ) → end_of later n ≡ end_of past n) → (t x : ℕ) (op : Op) → holds later t x op ≡ holds past t x op
+pub holds_same_steps : (later steps : List Step) → initiated later ≡ initiated steps → operations later ≡ operations steps → ((n : ℕ) → end_of later n ≡ end_of steps n) → (t x : ℕ) (op : Op) → holds later t x op ≡ holds steps t x op
 unfolding holds
-holds_same_steps later past names deeds ends t x op = rw (deeds, live_quiet later past names ends t)
+holds_same_steps later steps names applied ends t x op = rw (applied, live_quiet later steps names ends t)
 
-pub holds_quiet : (later past : List Step) → IsQuiet later past → (t x : ℕ) (op : Op) → holds later t x op ≡ holds past t x op
-holds_quiet later past quiet t x op = holds_same_steps later past quiet.names quiet.deeds quiet.ends t x op
+pub holds_quiet : (later steps : List Step) → IsQuiet later steps → (t x : ℕ) (op : Op) → holds later t x op ≡ holds steps t x op
+holds_quiet later steps quiet t x op = holds_same_steps later steps quiet.names quiet.applied quiet.ends t x op
 
-pub enrolled_quiet : (later past : List Step) → initiated later ≡ initiated past → ((n : ℕ) → end_of later n ≡ end_of past n)
-    → filter (live later) (reverse (initiated later)) ≡ filter (live past) (reverse (initiated past))
-enrolled_quiet later past names ends = rw names (filter_same (live later) (live past) (reverse (initiated past)) (λ n listed. live_quiet later past names ends n))
+pub enrolled_quiet : (later steps : List Step) → initiated later ≡ initiated steps → ((n : ℕ) → end_of later n ≡ end_of steps n)
+    → filter (live later) (reverse (initiated later)) ≡ filter (live steps) (reverse (initiated steps))
+enrolled_quiet later steps names ends = rw names (filter_same (live later) (live steps) (reverse (initiated steps)) (λ n listed. live_quiet later steps names ends n))
 
 -- steps that are quiet
-pub begin_quiet : (t : Txn) (past : List Step) → IsQuiet (Begin t ∷ past) past
+pub begin_quiet : (t : Txn) (steps : List Step) → IsQuiet (Begin t ∷ steps) steps
 unfolding initiated initiated_by operations operated end_of ended_by permits permitted_by
-begin_quiet t past = record { names = refl; deeds = refl; arrows = λ x op. refl; ends = λ n. option_or_none (end_of past n) }
+begin_quiet t steps = record { names = refl; applied = refl; arrows = λ x op. refl; ends = λ n. option_or_none (end_of steps n) }
 
-pub complete_quiet : (t : Txn) (past : List Step) → IsQuiet (Complete t ∷ past) past
+pub complete_quiet : (t : Txn) (steps : List Step) → IsQuiet (Complete t ∷ steps) steps
 unfolding initiated initiated_by operations operated end_of ended_by permits permitted_by
-complete_quiet t past = record { names = refl; deeds = refl; arrows = λ x op. refl; ends = λ n. option_or_none (end_of past n) }
+complete_quiet t steps = record { names = refl; applied = refl; arrows = λ x op. refl; ends = λ n. option_or_none (end_of steps n) }
 
 -- a new name
-pub enrolled_initiate : (u : Txn) (parent : Option Txn) (past : List Step) → lists (initiated past) u.0 ≡ false
-    → filter (live past) (reverse (initiated past)) ++ u.0 ∷ [] ≡ filter (live (Initiate u parent ∷ past)) (reverse (initiated (Initiate u parent ∷ past)))
+pub enrolled_initiate : (u : Txn) (parent : Option Txn) (steps : List Step) → lists (initiated steps) u.0 ≡ false
+    → filter (live steps) (reverse (initiated steps)) ++ u.0 ∷ [] ≡ filter (live (Initiate u parent ∷ steps)) (reverse (initiated (Initiate u parent ∷ steps)))
 unfolding initiated initiated_by
-enrolled_initiate u parent past new =
-    let before = filter_same (live (Initiate u parent ∷ past)) (live past) (reverse (initiated past)) old_live in
-    rw (reverse-cons (initiated past) u.0, filter_pushed (live (Initiate u parent ∷ past)) (reverse (initiated past)) u.0, before, live_initiate u parent past u.0 new, eq-eqb u.0 u.0 refl) refl where
-      old_live : (n : ℕ) → lists (reverse (initiated past)) n ≡ true → live (Initiate u parent ∷ past) n ≡ live past n
+enrolled_initiate u parent steps new =
+    let before = filter_same (live (Initiate u parent ∷ steps)) (live steps) (reverse (initiated steps)) old_live in
+    rw (reverse-cons (initiated steps) u.0, filter_pushed (live (Initiate u parent ∷ steps)) (reverse (initiated steps)) u.0, before, live_initiate u parent steps u.0 new, eq-eqb u.0 u.0 refl) refl where
+      old_live : (n : ℕ) → lists (reverse (initiated steps)) n ≡ true → live (Initiate u parent ∷ steps) n ≡ live steps n
       old_live n listed =
-          let known : lists (initiated past) n ≡ true = sym (lists_reverse (initiated past) n) ∙ listed in
-          live_initiate u parent past n new ∙ rw (ne_eqb u.0 n (λ e. false≢true (sym new ∙ ap (lists (initiated past)) e ∙ known))) refl
+          let known : lists (initiated steps) n ≡ true = sym (lists_reverse (initiated steps) n) ∙ listed in
+          live_initiate u parent steps n new ∙ rw (ne_eqb u.0 n (λ e. false≢true (sym new ∙ ap (lists (initiated steps)) e ∙ known))) refl
 
-end_initiate : (u : Txn) (parent : Option Txn) (past : List Step) (n : ℕ) → end_of (Initiate u parent ∷ past) n ≡ end_of past n
+end_initiate : (u : Txn) (parent : Option Txn) (steps : List Step) (n : ℕ) → end_of (Initiate u parent ∷ steps) n ≡ end_of steps n
 unfolding end_of ended_by
-end_initiate u parent past n = option_or_none (end_of past n)
+end_initiate u parent steps n = option_or_none (end_of steps n)
 
-pub cell_initiate : (opening : Opening) (u : Txn) (parent : Option Txn) (past : List Step) (x : ℕ) → cell_of opening (Initiate u parent ∷ past) x ≡ cell_of opening past x
+pub cell_initiate : (opening : Opening) (u : Txn) (parent : Option Txn) (steps : List Step) (x : ℕ) → cell_of opening (Initiate u parent ∷ steps) x ≡ cell_of opening steps x
 unfolding cell_of operations operated
-cell_initiate opening u parent past x = cell_as opening (end_of past) (end_of (Initiate u parent ∷ past)) (operations past) x (end_initiate u parent past)
+cell_initiate opening u parent steps x = cell_as opening (end_of steps) (end_of (Initiate u parent ∷ steps)) (operations steps) x (end_initiate u parent steps)
 
 -- a new name holds nothing, since each owner of an operation was initiated
-pub holds_initiate : (u : Txn) (parent : Option Txn) (past : List Step) → lists (initiated past) u.0 ≡ false → IsOrderly past
-    → (t x : ℕ) (op : Op) → holds (Initiate u parent ∷ past) t x op ≡ holds past t x op
+pub holds_initiate : (u : Txn) (parent : Option Txn) (steps : List Step) → lists (initiated steps) u.0 ≡ false → IsOrderly steps
+    → (t x : ℕ) (op : Op) → holds (Initiate u parent ∷ steps) t x op ≡ holds steps t x op
 unfolding holds operations operated
-holds_initiate u parent past new orderly t x op = rw (live_initiate u parent past t new) (go (eqb u.0 t) refl) where
+holds_initiate u parent steps new orderly t x op = rw (live_initiate u parent steps t new) (go (eqb u.0 t) refl) where
   held : List Operation → Bool
   held os = list_any (λ (o : Operation). eqb o.owner t && eqb o.object x && same_op (op_of o.use_of) op) os
 
@@ -145,105 +145,105 @@ holds_initiate u parent past new orderly t x op = rw (live_initiate u parent pas
       let parts = or_parts (eqb o.owner t) (owned os) h in
       rw (parts.0, held_owned os parts.1) refl
 
-  not_owned : (b : Bool) → owned (operations past) ≡ b → lists (initiated past) t ≡ false → b ≡ false
+  not_owned : (b : Bool) → owned (operations steps) ≡ b → lists (initiated steps) t ≡ false → b ≡ false
   not_owned false e absent = refl
   not_owned true e absent = absurd (false≢true (sym absent ∙ orderly.owners_known t e))
 
-  go : (here : Bool) → eqb u.0 t ≡ here → ((here || live past t) && held (operations past)) ≡ (live past t && held (operations past))
+  go : (here : Bool) → eqb u.0 t ≡ here → ((here || live steps t) && held (operations steps)) ≡ (live steps t && held (operations steps))
   go false e = refl
   go true e =
-      let absent : lists (initiated past) t ≡ false = subst (λ m. lists (initiated past) m ≡ false) (eqb-true u.0 t e) new in
-      rw (held_owned (operations past) (not_owned (owned (operations past)) refl absent)) (grind arith)
+      let absent : lists (initiated steps) t ≡ false = subst (λ m. lists (initiated steps) m ≡ false) (eqb-true u.0 t e) new in
+      rw (held_owned (operations steps) (not_owned (owned (operations steps)) refl absent)) (grind arith)
 
 -- one more operation of a live name
-pub holds_operation : (step : Step) (past : List Step) (u y : ℕ) (deed : Use) → operations (step ∷ past) ≡ record { owner = u; object = y; use_of = deed } ∷ operations past
-    → initiated (step ∷ past) ≡ initiated past → ((n : ℕ) → end_of (step ∷ past) n ≡ end_of past n) → live past u ≡ true
-    → (t x : ℕ) (op : Op) → holds (step ∷ past) t x op ≡ ((eqb u t && eqb y x && same_op (op_of deed) op) || holds past t x op)
+pub holds_operation : (step : Step) (steps : List Step) (u y : ℕ) (act : Use) → operations (step ∷ steps) ≡ record { owner = u; object = y; use_of = act } ∷ operations steps
+    → initiated (step ∷ steps) ≡ initiated steps → ((n : ℕ) → end_of (step ∷ steps) n ≡ end_of steps n) → live steps u ≡ true
+    → (t x : ℕ) (op : Op) → holds (step ∷ steps) t x op ≡ ((eqb u t && eqb y x && same_op (op_of act) op) || holds steps t x op)
 unfolding holds
-holds_operation step past u y deed deeds names ends alive t x op = rw (deeds, live_quiet (step ∷ past) past names ends t) (go (eqb u t) refl) where
+holds_operation step steps u y act applied names ends alive t x op = rw (applied, live_quiet (step ∷ steps) steps names ends t) (go (eqb u t) refl) where
   held : Bool
-  held = list_any (λ (o : Operation). eqb o.owner t && eqb o.object x && same_op (op_of o.use_of) op) (operations past)
+  held = list_any (λ (o : Operation). eqb o.owner t && eqb o.object x && same_op (op_of o.use_of) op) (operations steps)
 
-  go : (own : Bool) → eqb u t ≡ own → (live past t && (own && eqb y x && same_op (op_of deed) op || held)) ≡ ((own && eqb y x && same_op (op_of deed) op) || (live past t && held))
+  go : (own : Bool) → eqb u t ≡ own → (live steps t && (own && eqb y x && same_op (op_of act) op || held)) ≡ ((own && eqb y x && same_op (op_of act) op) || (live steps t && held))
   go false e = grind arith
-  go true e = rw (subst (λ m. live past m ≡ true) (eqb-true u t e) alive) refl
+  go true e = rw (subst (λ m. live steps m ≡ true) (eqb-true u t e) alive) refl
 
 -- one name ends, and holds nothing any more
-pub holds_end : (step : Step) (past : List Step) (u : ℕ) → operations (step ∷ past) ≡ operations past → ((n : ℕ) → live (step ∷ past) n ≡ (not (eqb u n) && live past n))
-    → (t x : ℕ) (op : Op) → holds (step ∷ past) t x op ≡ (not (eqb u t) && holds past t x op)
+pub holds_end : (step : Step) (steps : List Step) (u : ℕ) → operations (step ∷ steps) ≡ operations steps → ((n : ℕ) → live (step ∷ steps) n ≡ (not (eqb u n) && live steps n))
+    → (t x : ℕ) (op : Op) → holds (step ∷ steps) t x op ≡ (not (eqb u t) && holds steps t x op)
 unfolding holds
-holds_end step past u deeds alive t x op = rw (deeds, alive t) (grind arith)
+holds_end step steps u applied alive t x op = rw (applied, alive t) (grind arith)
 
-pub enrolled_end : (later past : List Step) (u : ℕ) → initiated later ≡ initiated past → ((n : ℕ) → live later n ≡ (not (eqb u n) && live past n))
-    → filter (λ n. not (eqb n u)) (filter (live past) (reverse (initiated past))) ≡ filter (live later) (reverse (initiated later))
-enrolled_end later past u names alive =
-    rw names (filter_twice (λ n. not (eqb n u)) (live past) (reverse (initiated past))
-    ∙ filter_same (λ n. not (eqb n u) && live past n) (live later) (reverse (initiated past)) (λ n listed. rw (eqb-flip n u) (sym (alive n))))
+pub enrolled_end : (later steps : List Step) (u : ℕ) → initiated later ≡ initiated steps → ((n : ℕ) → live later n ≡ (not (eqb u n) && live steps n))
+    → filter (λ n. not (eqb n u)) (filter (live steps) (reverse (initiated steps))) ≡ filter (live later) (reverse (initiated later))
+enrolled_end later steps u names alive =
+    rw names (filter_twice (λ n. not (eqb n u)) (live steps) (reverse (initiated steps))
+    ∙ filter_same (λ n. not (eqb n u) && live steps n) (live later) (reverse (initiated steps)) (λ n listed. rw (eqb-flip n u) (sym (alive n))))
 
 -- reads and writes end nobody
-pub read_ends : (u : Txn) (y : Ob) (past : List Step) (n : ℕ) → end_of (Read u y ∷ past) n ≡ end_of past n
+pub read_ends : (u : Txn) (y : Ob) (steps : List Step) (n : ℕ) → end_of (Read u y ∷ steps) n ≡ end_of steps n
 unfolding end_of ended_by
-read_ends u y past n = option_or_none (end_of past n)
+read_ends u y steps n = option_or_none (end_of steps n)
 
-pub wait_ends : (u : Txn) (past : List Step) (n : ℕ) → end_of (WaitFor u ∷ past) n ≡ end_of past n
+pub wait_ends : (u : Txn) (steps : List Step) (n : ℕ) → end_of (WaitFor u ∷ steps) n ≡ end_of steps n
 unfolding end_of ended_by
-wait_ends u past n = option_or_none (end_of past n)
+wait_ends u steps n = option_or_none (end_of steps n)
 
-pub write_ends : (u : Txn) (y : Ob) (w : ℤ) (past : List Step) (n : ℕ) → end_of (Write u y w ∷ past) n ≡ end_of past n
+pub write_ends : (u : Txn) (y : Ob) (w : ℤ) (steps : List Step) (n : ℕ) → end_of (Write u y w ∷ steps) n ≡ end_of steps n
 unfolding end_of ended_by
-write_ends u y w past n = option_or_none (end_of past n)
+write_ends u y w steps n = option_or_none (end_of steps n)
 
 -- the cell of an object after a read: it is as it was
-pub cell_read : (opening : Opening) (u : Txn) (y : Ob) (past : List Step) (x : ℕ) → cell_of opening (Read u y ∷ past) x ≡ cell_of opening past x
+pub cell_read : (opening : Opening) (u : Txn) (y : Ob) (steps : List Step) (x : ℕ) → cell_of opening (Read u y ∷ steps) x ≡ cell_of opening steps x
 unfolding cell_of operations operated cell_after used
-cell_read opening u y past x = go (opening_at opening x) where
-  ends : (n : ℕ) → end_of (Read u y ∷ past) n ≡ end_of past n
-  ends n = read_ends u y past n
+cell_read opening u y steps x = go (opening_at opening x) where
+  ends : (n : ℕ) → end_of (Read u y ∷ steps) n ≡ end_of steps n
+  ends n = read_ends u y steps n
 
   go : (first : Option ℤ)
-      → option_map (λ v. cond (eqb y.0 x) (cell_after (end_of (Read u y ∷ past)) x v (operations past)) (cell_after (end_of (Read u y ∷ past)) x v (operations past))) first
-      ≡ option_map (λ v. cell_after (end_of past) x v (operations past)) first
+      → option_map (λ v. cond (eqb y.0 x) (cell_after (end_of (Read u y ∷ steps)) x v (operations steps)) (cell_after (end_of (Read u y ∷ steps)) x v (operations steps))) first
+      ≡ option_map (λ v. cell_after (end_of steps) x v (operations steps)) first
   go None = refl
-  go (Some v) = ap Some (cond_same (eqb y.0 x) _ ∙ cell_same (end_of past) (end_of (Read u y ∷ past)) ends x v (operations past))
+  go (Some v) = ap Some (cond_same (eqb y.0 x) _ ∙ cell_same (end_of steps) (end_of (Read u y ∷ steps)) ends x v (operations steps))
 
 -- the cell of an object after a write of a live name: one more write stands
-pub cell_write : (opening : Opening) (u : Txn) (y : Ob) (w : ℤ) (past : List Step) (x : ℕ) → live past u.0 ≡ true
-    → change_at y.0 (written u.0 w) (cell_of opening past) x ≡ cell_of opening (Write u y w ∷ past) x
+pub cell_write : (opening : Opening) (u : Txn) (y : Ob) (w : ℤ) (steps : List Step) (x : ℕ) → live steps u.0 ≡ true
+    → change_at y.0 (written u.0 w) (cell_of opening steps) x ≡ cell_of opening (Write u y w ∷ steps) x
 unfolding cell_of operations operated cell_after used placed change_at
-cell_write opening u y w past x alive = go (eqb y.0 x) (opening_at opening x) where
-  ends : (n : ℕ) → end_of (Write u y w ∷ past) n ≡ end_of past n
-  ends n = write_ends u y w past n
+cell_write opening u y w steps x alive = go (eqb y.0 x) (opening_at opening x) where
+  ends : (n : ℕ) → end_of (Write u y w ∷ steps) n ≡ end_of steps n
+  ends n = write_ends u y w steps n
 
-  none : end_of (Write u y w ∷ past) u.0 ≡ None
-  none = ends u.0 ∙ (live_parts past u.0 alive).1
+  none : end_of (Write u y w ∷ steps) u.0 ≡ None
+  none = ends u.0 ∙ (live_parts steps u.0 alive).1
 
   go : (here : Bool) (first : Option ℤ)
-      → cond here (option_map (written u.0 w) (option_map (λ v. cell_after (end_of past) x v (operations past)) first)) (option_map (λ v. cell_after (end_of past) x v (operations past)) first)
-      ≡ option_map (λ v. cond here (placed (end_of (Write u y w ∷ past) u.0) u.0 w (cell_after (end_of (Write u y w ∷ past)) x v (operations past))) (cell_after (end_of (Write u y w ∷ past)) x v (operations past))) first
+      → cond here (option_map (written u.0 w) (option_map (λ v. cell_after (end_of steps) x v (operations steps)) first)) (option_map (λ v. cell_after (end_of steps) x v (operations steps)) first)
+      ≡ option_map (λ v. cond here (placed (end_of (Write u y w ∷ steps) u.0) u.0 w (cell_after (end_of (Write u y w ∷ steps)) x v (operations steps))) (cell_after (end_of (Write u y w ∷ steps)) x v (operations steps))) first
   go true None = refl
   go false None = refl
-  go true (Some v) = rw (none, cell_same (end_of past) (end_of (Write u y w ∷ past)) ends x v (operations past)) refl
-  go false (Some v) = rw (cell_same (end_of past) (end_of (Write u y w ∷ past)) ends x v (operations past)) refl
+  go true (Some v) = rw (none, cell_same (end_of steps) (end_of (Write u y w ∷ steps)) ends x v (operations steps)) refl
+  go false (Some v) = rw (cell_same (end_of steps) (end_of (Write u y w ∷ steps)) ends x v (operations steps)) refl
 
 -- the cell of an object after a live name has ended
-pub cell_abort : (opening : Opening) (u : Txn) (past : List Step) (x : ℕ) → live past u.0 ≡ true
-    → change_each (undone (is_name u.0)) (cell_of opening past) x ≡ cell_of opening (Abort u ∷ past) x
+pub cell_abort : (opening : Opening) (u : Txn) (steps : List Step) (x : ℕ) → live steps u.0 ≡ true
+    → change_each (undone (is_name u.0)) (cell_of opening steps) x ≡ cell_of opening (Abort u ∷ steps) x
 unfolding cell_of operations operated change_each
-cell_abort opening u past x alive = go (opening_at opening x) where
-  ends : (n : ℕ) → end_of (Abort u ∷ past) n ≡ cond (eqb n u.0) (Some End'.Aborted) (end_of past n)
-  ends n = end_abort u past n alive ∙ rw (eqb-flip u.0 n) refl
+cell_abort opening u steps x alive = go (opening_at opening x) where
+  ends : (n : ℕ) → end_of (Abort u ∷ steps) n ≡ cond (eqb n u.0) (Some End'.Aborted) (end_of steps n)
+  ends n = end_abort u steps n alive ∙ rw (eqb-flip u.0 n) refl
 
-  go : (first : Option ℤ) → option_map (undone (is_name u.0)) (option_map (λ v. cell_after (end_of past) x v (operations past)) first) ≡ option_map (λ v. cell_after (end_of (Abort u ∷ past)) x v (operations past)) first
+  go : (first : Option ℤ) → option_map (undone (is_name u.0)) (option_map (λ v. cell_after (end_of steps) x v (operations steps)) first) ≡ option_map (λ v. cell_after (end_of (Abort u ∷ steps)) x v (operations steps)) first
   go None = refl
-  go (Some v) = ap Some (sym (cell_undone u.0 (end_of past) (end_of (Abort u ∷ past)) (live_parts past u.0 alive).1 ends x v (operations past)))
+  go (Some v) = ap Some (sym (cell_undone u.0 (end_of steps) (end_of (Abort u ∷ steps)) (live_parts steps u.0 alive).1 ends x v (operations steps)))
 
-pub cell_commit : (opening : Opening) (u : Txn) (past : List Step) (x : ℕ) → live past u.0 ≡ true
-    → change_each (settled (is_name u.0)) (cell_of opening past) x ≡ cell_of opening (Commit u ∷ past) x
+pub cell_commit : (opening : Opening) (u : Txn) (steps : List Step) (x : ℕ) → live steps u.0 ≡ true
+    → change_each (settled (is_name u.0)) (cell_of opening steps) x ≡ cell_of opening (Commit u ∷ steps) x
 unfolding cell_of operations operated change_each
-cell_commit opening u past x alive = go (opening_at opening x) where
-  ends : (n : ℕ) → end_of (Commit u ∷ past) n ≡ cond (eqb n u.0) (Some End'.Committed) (end_of past n)
-  ends n = end_commit u past n alive ∙ rw (eqb-flip u.0 n) refl
+cell_commit opening u steps x alive = go (opening_at opening x) where
+  ends : (n : ℕ) → end_of (Commit u ∷ steps) n ≡ cond (eqb n u.0) (Some End'.Committed) (end_of steps n)
+  ends n = end_commit u steps n alive ∙ rw (eqb-flip u.0 n) refl
 
-  go : (first : Option ℤ) → option_map (settled (is_name u.0)) (option_map (λ v. cell_after (end_of past) x v (operations past)) first) ≡ option_map (λ v. cell_after (end_of (Commit u ∷ past)) x v (operations past)) first
+  go : (first : Option ℤ) → option_map (settled (is_name u.0)) (option_map (λ v. cell_after (end_of steps) x v (operations steps)) first) ≡ option_map (λ v. cell_after (end_of (Commit u ∷ steps)) x v (operations steps)) first
   go None = refl
-  go (Some v) = ap Some (sym (cell_settled u.0 (end_of past) (end_of (Commit u ∷ past)) (live_parts past u.0 alive).1 ends x v (operations past)))
+  go (Some v) = ap Some (sym (cell_settled u.0 (end_of steps) (end_of (Commit u ∷ steps)) (live_parts steps u.0 alive).1 ends x v (operations steps)))

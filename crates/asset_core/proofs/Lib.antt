@@ -1,5 +1,5 @@
 pub mod CellLemmas
-pub mod RowLaws
+pub mod TransLaws
 pub mod LockLaws
 pub mod HistoryLemmas
 pub mod PermitLaws
@@ -7,6 +7,6 @@ pub mod ShowsLemmas
 pub mod TableLemmas
 pub mod ReadyLemmas
 pub mod PendingLemmas
-pub mod KeptLemmas
+pub mod ValidLemmas
 pub mod TagLemmas
 pub mod StoredLemmas

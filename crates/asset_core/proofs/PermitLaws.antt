@@ -25,52 +25,52 @@ IsAdded giver taker obs ops before later =
     (u n x : ℕ) (op : Op) → one_covers later u n x op ≡ (one_covers before u n x op || (eqb u giver && eqb n taker && in_set obs x && has_op ops op))
 
 -- a step that initiates nobody, ends nobody and permits nothing leaves each permit
-pub permitted_quiet : (later past : List Step) → initiated later ≡ initiated past → ((n : ℕ) → end_of later n ≡ end_of past n) → ((x : ℕ) (op : Op) → permits later x op ≡ permits past x op)
-    → (u n x : ℕ) (op : Op) → permitted later u n x op ≡ permitted past u n x op
+pub permitted_quiet : (later steps : List Step) → initiated later ≡ initiated steps → ((n : ℕ) → end_of later n ≡ end_of steps n) → ((x : ℕ) (op : Op) → permits later x op ≡ permits steps x op)
+    → (u n x : ℕ) (op : Op) → permitted later u n x op ≡ permitted steps u n x op
 unfolding permitted
-permitted_quiet later past names ends arrows u n x op = rw (live_quiet later past names ends u, live_quiet later past names ends n, arrows x op)
+permitted_quiet later steps names ends arrows u n x op = rw (live_quiet later steps names ends u, live_quiet later steps names ends n, arrows x op)
 
 -- a new name was not permitted anything, and permitted nothing
-pub permitted_initiate : (t : Txn) (parent : _) (past : List Step) → lists (initiated past) t.0 ≡ false → IsOrderly past → (u n x : ℕ) (op : Op) → permitted (Initiate t parent ∷ past) u n x op ≡ permitted past u n x op
+pub permitted_initiate : (t : Txn) (parent : _) (steps : List Step) → lists (initiated steps) t.0 ≡ false → IsOrderly steps → (u n x : ℕ) (op : Op) → permitted (Initiate t parent ∷ steps) u n x op ≡ permitted steps u n x op
 unfolding permitted permits permitted_by
-permitted_initiate t parent past new orderly u n x op =
-    rw (live_initiate t parent past u new, live_initiate t parent past n new) (go (eqb t.0 u) refl (eqb t.0 n) refl (has_arrow (permits past x op) u n) refl) where
-      absent : (m : ℕ) → eqb t.0 m ≡ true → lists (initiated past) m ≡ true → false ≡ true
-      absent m e known = sym new ∙ ap (lists (initiated past)) (eqb-true t.0 m e) ∙ known
+permitted_initiate t parent steps new orderly u n x op =
+    rw (live_initiate t parent steps u new, live_initiate t parent steps n new) (go (eqb t.0 u) refl (eqb t.0 n) refl (has_arrow (permits steps x op) u n) refl) where
+      absent : (m : ℕ) → eqb t.0 m ≡ true → lists (initiated steps) m ≡ true → false ≡ true
+      absent m e known = sym new ∙ ap (lists (initiated steps)) (eqb-true t.0 m e) ∙ known
 
-      go : (from : Bool) → eqb t.0 u ≡ from → (to : Bool) → eqb t.0 n ≡ to → (arrow : Bool) → has_arrow (permits past x op) u n ≡ arrow
-          → ((from || live past u) && (to || live past n) && arrow) ≡ (live past u && live past n && arrow)
+      go : (from : Bool) → eqb t.0 u ≡ from → (to : Bool) → eqb t.0 n ≡ to → (arrow : Bool) → has_arrow (permits steps x op) u n ≡ arrow
+          → ((from || live steps u) && (to || live steps n) && arrow) ≡ (live steps u && live steps n && arrow)
       go from e to f false h = grind arith
       go false e false f true h = refl
       go true e to f true h = absurd (false≢true (absent u e (orderly.permits_known u n x op h).0))
       go false e true f true h = absurd (false≢true (absent n f (orderly.permits_known u n x op h).1))
 
 -- one name ends, and its permits go
-pub permitted_end : (later past : List Step) (t : ℕ) → ((n : ℕ) → live later n ≡ (not (eqb t n) && live past n)) → ((x : ℕ) (op : Op) → permits later x op ≡ permits past x op)
-    → (u n x : ℕ) (op : Op) → permitted later u n x op ≡ (permitted past u n x op && not (eqb u t) && not (eqb n t))
+pub permitted_end : (later steps : List Step) (t : ℕ) → ((n : ℕ) → live later n ≡ (not (eqb t n) && live steps n)) → ((x : ℕ) (op : Op) → permits later x op ≡ permits steps x op)
+    → (u n x : ℕ) (op : Op) → permitted later u n x op ≡ (permitted steps u n x op && not (eqb u t) && not (eqb n t))
 unfolding permitted
-permitted_end later past t alive arrows u n x op = rw (alive u, alive n, arrows x op, eqb-flip u t, eqb-flip n t) (grind arith)
+permitted_end later steps t alive arrows u n x op = rw (alive u, alive n, arrows x op, eqb-flip u t, eqb-flip n t) (grind arith)
 
 -- a permit ends nobody
-pub permit_ends : (giver taker : Txn) (obs : ObSet) (ops : Bool × Bool) (past : List Step) (n : ℕ) → end_of (Permit giver taker obs ops ∷ past) n ≡ end_of past n
+pub permit_ends : (giver taker : Txn) (obs : ObSet) (ops : Bool × Bool) (steps : List Step) (n : ℕ) → end_of (Permit giver taker obs ops ∷ steps) n ≡ end_of steps n
 unfolding end_of ended_by
-permit_ends giver taker obs ops past n = option_or_none (end_of past n)
+permit_ends giver taker obs ops steps n = option_or_none (end_of steps n)
 
 -- one more permit between live names
-pub permitted_permit : (giver taker : Txn) (obs : ObSet) (ops : Bool × Bool) (past : List Step) → live past giver.0 ≡ true → live past taker.0 ≡ true
-    → (u n x : ℕ) (op : Op) → permitted (Permit giver taker obs ops ∷ past) u n x op ≡ (permitted past u n x op || (eqb u giver.0 && eqb n taker.0 && in_set obs x && has_op ops op))
+pub permitted_permit : (giver taker : Txn) (obs : ObSet) (ops : Bool × Bool) (steps : List Step) → live steps giver.0 ≡ true → live steps taker.0 ≡ true
+    → (u n x : ℕ) (op : Op) → permitted (Permit giver taker obs ops ∷ steps) u n x op ≡ (permitted steps u n x op || (eqb u giver.0 && eqb n taker.0 && in_set obs x && has_op ops op))
 unfolding permitted initiated initiated_by
-permitted_permit giver taker obs ops past gives takes u n x op =
-    let same_live : (m : ℕ) → live (Permit giver taker obs ops ∷ past) m ≡ live past m = live_quiet (Permit giver taker obs ops ∷ past) past refl (permit_ends giver taker obs ops past) in
-    rw (same_live u, same_live n, arrows_permitted giver taker obs ops past x op u n, eqb-flip u giver.0, eqb-flip n taker.0) (go (eqb giver.0 u) refl (eqb taker.0 n) refl) where
+permitted_permit giver taker obs ops steps gives takes u n x op =
+    let same_live : (m : ℕ) → live (Permit giver taker obs ops ∷ steps) m ≡ live steps m = live_quiet (Permit giver taker obs ops ∷ steps) steps refl (permit_ends giver taker obs ops steps) in
+    rw (same_live u, same_live n, arrows_permitted giver taker obs ops steps x op u n, eqb-flip u giver.0, eqb-flip n taker.0) (go (eqb giver.0 u) refl (eqb taker.0 n) refl) where
       arrow : Bool
-      arrow = has_arrow (permits past x op) u n
+      arrow = has_arrow (permits steps x op) u n
 
       covered : Bool
       covered = in_set obs x && has_op ops op
 
       go : (from : Bool) → eqb giver.0 u ≡ from → (to : Bool) → eqb taker.0 n ≡ to
-          → (live past u && live past n && ((from && to && covered) || arrow)) ≡ ((live past u && live past n && arrow) || (from && to && in_set obs x && has_op ops op))
+          → (live steps u && live steps n && ((from && to && covered) || arrow)) ≡ ((live steps u && live steps n && arrow) || (from && to && in_set obs x && has_op ops op))
       go false e to f = grind arith
       go true e false f = grind arith
-      go true e true f = rw (subst (λ m. live past m ≡ true) (eqb-true giver.0 u e) gives, subst (λ m. live past m ≡ true) (eqb-true taker.0 n f) takes) (grind arith)
+      go true e true f = rw (subst (λ m. live steps m ≡ true) (eqb-true giver.0 u e) gives, subst (λ m. live steps m ≡ true) (eqb-true taker.0 n f) takes) (grind arith)

@@ -12,15 +12,15 @@ use Rattle.asset_names.specs.declared.replies.Reply.{Reply}
 use Rattle.asset_core.specs.declared.stored.PermitEntry.{PermitEntry}
 use Rattle.asset_core.specs.declared.stored.Stored.{Stored}
 use Rattle.asset_core.specs.declared.stored.Stored.TheVariants as Stored'
-use Rattle.asset_core.specs.Stored.{stored_as, beside_after, permit_or_wait, entry_of, past_of, is_there, all_there}
+use Rattle.asset_core.specs.Stored.{stored_as, sets_after, permit_or_wait, entry_of, entries_of, is_there, all_there}
 use Rattle.asset_core.proofs.TagLemmas.{again}
 
 -- what stands beside is found as before, when one more comes
-found_before : (beside : List PermitEntry) (permit : PermitEntry) (number : ℕ) → number < length beside → slice_get (beside ++ permit ∷ []) number ≡ slice_get beside number
-found_before beside permit number below =
-    slice_get-get_or (beside ++ permit ∷ []) number permit (omega (arith, length-append beside (permit ∷ [])))
-    ∙ ap Some (get_or_append_left beside (permit ∷ []) permit number below)
-    ∙ sym (slice_get-get_or beside number permit below)
+found_before : (beside : List PermitEntry) (permit : PermitEntry) (index : ℕ) → index < length beside → slice_get (beside ++ permit ∷ []) index ≡ slice_get beside index
+found_before beside permit index below =
+    slice_get-get_or (beside ++ permit ∷ []) index permit (omega (arith, length-append beside (permit ∷ [])))
+    ∙ ap Some (get_or_append_left beside (permit ∷ []) permit index below)
+    ∙ sym (slice_get-get_or beside index permit below)
 
 -- the last of those beside is found
 found_last : (beside : List PermitEntry) (permit : PermitEntry) → slice_get (beside ++ permit ∷ []) (length beside) ≡ Some permit
@@ -36,7 +36,7 @@ entry_before beside permit (Stored'.Begin tag t) there = refl
 entry_before beside permit (Stored'.Read tag t x v) there = refl
 entry_before beside permit (Stored'.Write tag t x v) there = refl
 entry_before beside permit (Stored'.Complete tag t) there = refl
-entry_before beside permit (Stored'.Permit number) there = ap permit_or_wait (found_before beside permit number (ltb-true number (length beside) there))
+entry_before beside permit (Stored'.Permit index) there = ap permit_or_wait (found_before beside permit index (ltb-true index (length beside) there))
 entry_before beside permit (Stored'.Commit tag t) there = refl
 entry_before beside permit (Stored'.Abort tag t) there = refl
 entry_before beside permit (Stored'.WaitFor tag t) there = refl
@@ -50,8 +50,8 @@ entries_before beside permit (stored ∷ entries) there =
     rw (entry_before beside permit stored parts.0, entries_before beside permit entries parts.1)
 
 entries_after : (step : Step) (reply : Reply) (beside : List PermitEntry) (entries : List Stored) → all_there (length beside) entries ≡ true
-    → map (entry_of (beside_after step reply beside)) entries ≡ map (entry_of beside) entries
-unfolding beside_after
+    → map (entry_of (sets_after step reply beside)) entries ≡ map (entry_of beside) entries
+unfolding sets_after
 entries_after (Permit giver taker obs ops) reply beside entries there = entries_before beside _ entries there
 entries_after (Initiate t parent) reply beside entries there = refl
 entries_after (Begin t) reply beside entries there = refl
@@ -63,8 +63,8 @@ entries_after (Abort t) reply beside entries there = refl
 entries_after (WaitFor t) reply beside entries there = refl
 
 -- an entry that is stored is that step, and its reply made again
-entry_again : (step : Step) (reply : Reply) (beside : List PermitEntry) → entry_of (beside_after step reply beside) (stored_as (length beside) step reply) ≡ (step, again step reply)
-unfolding entry_of stored_as beside_after permit_or_wait again
+entry_again : (step : Step) (reply : Reply) (beside : List PermitEntry) → entry_of (sets_after step reply beside) (stored_as (length beside) step reply) ≡ (step, again step reply)
+unfolding entry_of stored_as sets_after permit_or_wait again
 entry_again (Initiate t parent) reply beside = refl
 entry_again (Begin t) reply beside = refl
 entry_again (Read t x) reply beside = refl
@@ -76,37 +76,37 @@ entry_again (Abort t) reply beside = refl
 entry_again (WaitFor t) reply beside = refl
 
 -- one more entry is the newest
-past_stored : (step : Step) (reply : Reply) (beside : List PermitEntry) (entries : List Stored) → again step reply ≡ reply → all_there (length beside) entries ≡ true
-    → past_of (beside_after step reply beside) (entries ++ stored_as (length beside) step reply ∷ []) ≡ (step, reply) ∷ past_of beside entries
-unfolding past_of
-past_stored step reply beside entries same there =
-    ap reverse (map-append (entry_of (beside_after step reply beside)) entries (stored_as (length beside) step reply ∷ []))
+entries_stored : (step : Step) (reply : Reply) (beside : List PermitEntry) (entries : List Stored) → again step reply ≡ reply → all_there (length beside) entries ≡ true
+    → entries_of (sets_after step reply beside) (entries ++ stored_as (length beside) step reply ∷ []) ≡ (step, reply) ∷ entries_of beside entries
+unfolding entries_of
+entries_stored step reply beside entries same there =
+    ap reverse (map-append (entry_of (sets_after step reply beside)) entries (stored_as (length beside) step reply ∷ []))
     ∙ rw (entries_after step reply beside entries there, entry_again step reply beside, same) (reverse-append (map (entry_of beside) entries) ((step, reply) ∷ []))
 
 -- the same, by how many stand beside
-pub past_appended : (step : Step) (reply : Reply) (beside : List PermitEntry) (entries : List Stored) (count : ℕ) → again step reply ≡ reply → count ≡ length beside → all_there (length beside) entries ≡ true
-    → past_of (beside_after step reply beside) (entries ++ stored_as count step reply ∷ []) ≡ (step, reply) ∷ past_of beside entries
-past_appended step reply beside entries count same is there = rw is (past_stored step reply beside entries same there)
+pub entries_appended : (step : Step) (reply : Reply) (beside : List PermitEntry) (entries : List Stored) (count : ℕ) → again step reply ≡ reply → count ≡ length beside → all_there (length beside) entries ≡ true
+    → entries_of (sets_after step reply beside) (entries ++ stored_as count step reply ∷ []) ≡ (step, reply) ∷ entries_of beside entries
+entries_appended step reply beside entries count same is there = rw is (entries_stored step reply beside entries same there)
 
 -- at most one more stands beside
-pub beside_more : (step : Step) (reply : Reply) (beside : List PermitEntry) → (length beside ≤ length (beside_after step reply beside)) × (length (beside_after step reply beside) ≤ length beside + 1)
-unfolding beside_after
-beside_more (Permit giver taker obs ops) reply beside =
+pub sets_more : (step : Step) (reply : Reply) (beside : List PermitEntry) → (length beside ≤ length (sets_after step reply beside)) × (length (sets_after step reply beside) ≤ length beside + 1)
+unfolding sets_after
+sets_more (Permit giver taker obs ops) reply beside =
     let more = length-append beside (record { giver = giver; taker = taker; obs = obs; ops = ops; reply = reply } ∷ []) in
     (omega (arith, more), omega (arith, more))
-beside_more (Initiate t parent) reply beside = (omega arith, omega arith)
-beside_more (Begin t) reply beside = (omega arith, omega arith)
-beside_more (Read t x) reply beside = (omega arith, omega arith)
-beside_more (Write t x v) reply beside = (omega arith, omega arith)
-beside_more (Complete t) reply beside = (omega arith, omega arith)
-beside_more (Commit t) reply beside = (omega arith, omega arith)
-beside_more (Abort t) reply beside = (omega arith, omega arith)
-beside_more (WaitFor t) reply beside = (omega arith, omega arith)
+sets_more (Initiate t parent) reply beside = (omega arith, omega arith)
+sets_more (Begin t) reply beside = (omega arith, omega arith)
+sets_more (Read t x) reply beside = (omega arith, omega arith)
+sets_more (Write t x v) reply beside = (omega arith, omega arith)
+sets_more (Complete t) reply beside = (omega arith, omega arith)
+sets_more (Commit t) reply beside = (omega arith, omega arith)
+sets_more (Abort t) reply beside = (omega arith, omega arith)
+sets_more (WaitFor t) reply beside = (omega arith, omega arith)
 
 -- what is there stays where more stand beside
 there_more : (fewer more : ℕ) (stored : Stored) → fewer ≤ more → is_there fewer stored ≡ true → is_there more stored ≡ true
 unfolding is_there
-there_more fewer more (Stored'.Permit number) le there = lt-ltb number more (omega (arith, ltb-true number fewer there))
+there_more fewer more (Stored'.Permit index) le there = lt-ltb index more (omega (arith, ltb-true index fewer there))
 there_more fewer more (Stored'.Initiate tag t parent) le there = refl
 there_more fewer more (Stored'.Begin tag t) le there = refl
 there_more fewer more (Stored'.Read tag t x v) le there = refl
@@ -124,8 +124,8 @@ all_there_more fewer more (stored ∷ entries) le there =
     rw (there_more fewer more stored le parts.0, all_there_more fewer more entries le parts.1) refl
 
 -- the entry that is stored last is there
-last_there : (step : Step) (reply : Reply) (beside : List PermitEntry) → is_there (length (beside_after step reply beside)) (stored_as (length beside) step reply) ≡ true
-unfolding is_there stored_as beside_after
+last_there : (step : Step) (reply : Reply) (beside : List PermitEntry) → is_there (length (sets_after step reply beside)) (stored_as (length beside) step reply) ≡ true
+unfolding is_there stored_as sets_after
 last_there (Permit giver taker obs ops) reply beside = lt-ltb _ _ (omega (arith, length-append beside (record { giver = giver; taker = taker; obs = obs; ops = ops; reply = reply } ∷ [])))
 last_there (Initiate t parent) reply beside = refl
 last_there (Begin t) reply beside = refl
@@ -138,29 +138,29 @@ last_there (WaitFor t) reply beside = refl
 
 -- each entry is there after one more
 there_after : (step : Step) (reply : Reply) (beside : List PermitEntry) (entries : List Stored) → all_there (length beside) entries ≡ true
-    → all_there (length (beside_after step reply beside)) (entries ++ stored_as (length beside) step reply ∷ []) ≡ true
+    → all_there (length (sets_after step reply beside)) (entries ++ stored_as (length beside) step reply ∷ []) ≡ true
 unfolding all_there
 there_after step reply beside entries there =
     list_all-append _ entries (stored_as (length beside) step reply ∷ [])
-    ∙ rw (all_there_more (length beside) (length (beside_after step reply beside)) entries (beside_more step reply beside).0 there, last_there step reply beside) refl
+    ∙ rw (all_there_more (length beside) (length (sets_after step reply beside)) entries (sets_more step reply beside).0 there, last_there step reply beside) refl
 
 pub there_appended : (step : Step) (reply : Reply) (beside : List PermitEntry) (entries : List Stored) (count : ℕ) → count ≡ length beside → all_there (length beside) entries ≡ true
-    → all_there (length (beside_after step reply beside)) (entries ++ stored_as count step reply ∷ []) ≡ true
+    → all_there (length (sets_after step reply beside)) (entries ++ stored_as count step reply ∷ []) ≡ true
 there_appended step reply beside entries count is there = rw is (there_after step reply beside entries there)
 
 -- how many entries there are
-pub past_length : (beside : List PermitEntry) (entries : List Stored) → length (past_of beside entries) ≡ length entries
-unfolding past_of
-past_length beside entries = length-reverse (map (entry_of beside) entries) ∙ length-map entries (entry_of beside)
+pub entries_length : (beside : List PermitEntry) (entries : List Stored) → length (entries_of beside entries) ≡ length entries
+unfolding entries_of
+entries_length beside entries = length-reverse (map (entry_of beside) entries) ∙ length-map entries (entry_of beside)
 
--- an entry is the one that is stored at its place
-pub entry_stored : (beside : List PermitEntry) (entries : List Stored) (number : ℕ) → slice_get (reverse (past_of beside entries)) number ≡ option_map (entry_of beside) (slice_get entries number)
-unfolding past_of
-entry_stored beside entries number = ap (λ es. slice_get es number) (reverse-reverse (map (entry_of beside) entries)) ∙ slice_get-map (entry_of beside) entries number
+-- an entry is the one that is stored at its asker
+pub entry_stored : (beside : List PermitEntry) (entries : List Stored) (index : ℕ) → slice_get (reverse (entries_of beside entries)) index ≡ option_map (entry_of beside) (slice_get entries index)
+unfolding entries_of
+entry_stored beside entries index = ap (λ es. slice_get es index) (reverse-reverse (map (entry_of beside) entries)) ∙ slice_get-map (entry_of beside) entries index
 
--- what is stored at a place is there
-pub entry_there : (count : ℕ) (entries : List Stored) (number : ℕ) (d : Stored) → number < length entries → all_there count entries ≡ true → is_there count (get_or entries number d) ≡ true
+-- what is stored at a asker is there
+pub entry_there : (count : ℕ) (entries : List Stored) (index : ℕ) (d : Stored) → index < length entries → all_there count entries ≡ true → is_there count (get_or entries index d) ≡ true
 unfolding all_there
-entry_there count [] number d below there = absurd (omega (arith, below))
+entry_there count [] index d below there = absurd (omega (arith, below))
 entry_there count (stored ∷ entries) zero d below there = (and_parts (is_there count stored) _ there).0
-entry_there count (stored ∷ entries) (suc number) d below there = entry_there count entries number d (omega (arith, below)) (and_parts (is_there count stored) _ there).1
+entry_there count (stored ∷ entries) (suc index) d below there = entry_there count entries index d (omega (arith, below)) (and_parts (is_there count stored) _ there).1

@@ -15,9 +15,9 @@ use Rattle.asset_names.specs.Answers.{unrefused, rules_for, first_refusal, unkno
 use Rattle.asset_names.proofs.LegalLemmas.{first_none}
 use Rattle.asset_permits.specs.Descriptors.{Descriptor}
 use Rattle.asset_objects.specs.Cells.{Cells, cells, value_in, has_object}
-use Rattle.asset_locks.specs.Kept.{table_of}
-use Rattle.asset_locks.specs.Table as Locks
-use Rattle.asset_trans.specs.Rows.{Entry}
+use Rattle.asset_locks.specs.Valid.{lock_table}
+use Rattle.asset_locks.specs.LockTable as Locks
+use Rattle.asset_trans.specs.TransRows.{NamedTransRow}
 use Rattle.asset_core.specs.declared.tables.Tables.{Tables}
 use Rattle.asset_core.specs.Shows.{Shows, cell_of, cell_after}
 use Rattle.asset_core.specs.Tables.{Stand, is_free_for, value_or_zero, read_outcome}
@@ -45,38 +45,38 @@ always_err (Ok x) p = tt
 always_err (Err e) p = p
 
 -- tables that are as others are stand for what the others do
-pub stand_as : (opening : Opening) (past : List Step) (later : Tables) (rows : List Entry) (objects : Cells) (table : Locks.Table) (descriptors : List Descriptor) → later.trans ≡ rows → cells later.objects ≡ objects → table_of later.locks ≡ table
-    → later.permits ≡ descriptors → Shows opening past rows objects table descriptors → Stand opening past later
-stand_as opening past later rows objects table descriptors r o l p shows = rw (r, o, l, p) shows
+pub stand_as : (opening : Opening) (steps : List Step) (later : Tables) (rows : List NamedTransRow) (objects : Cells) (table : Locks.LockTable) (descriptors : List Descriptor) → later.trans ≡ rows → cells later.objects ≡ objects → lock_table later.locks ≡ table
+    → later.permits ≡ descriptors → Shows opening steps rows objects table descriptors → Stand opening steps later
+stand_as opening steps later rows objects table descriptors r o l p shows = rw (r, o, l, p) shows
 
 -- a step that is not refused finds its object
-no_refusal : (opening : Opening) (past : List Step) (t : Txn) (x : Ob)
-    → first_refusal (unknown past t ∷ ended past t ∷ not_running past t ∷ no_object opening x ∷ []) ≡ None → (is_running (status past t.0) ≡ true) × (exists opening x.0 ≡ true)
+no_refusal : (opening : Opening) (steps : List Step) (t : Txn) (x : Ob)
+    → first_refusal (unknown steps t ∷ ended steps t ∷ not_running steps t ∷ no_object opening x ∷ []) ≡ None → (is_running (status steps t.0) ≡ true) × (exists opening x.0 ≡ true)
 unfolding not_running no_object
-no_refusal opening past t x first =
-    let one = first_none (unknown past t) _ first in
-    let two = first_none (ended past t) _ one.1 in
-    let three = first_none (not_running past t) _ two.1 in
+no_refusal opening steps t x first =
+    let one = first_none (unknown steps t) _ first in
+    let two = first_none (ended steps t) _ one.1 in
+    let three = first_none (not_running steps t) _ two.1 in
     (not-false _ three.0, not-false _ ((first_none (no_object opening x) [] three.1).0))
 
-pub read_unrefused : (opening : Opening) (past : List Step) (t : Txn) (x : Ob) → first_refusal (rules_for opening past (Read t x)) ≡ None → (is_running (status past t.0) ≡ true) × (exists opening x.0 ≡ true)
+pub read_unrefused : (opening : Opening) (steps : List Step) (t : Txn) (x : Ob) → first_refusal (rules_for opening steps (Read t x)) ≡ None → (is_running (status steps t.0) ≡ true) × (exists opening x.0 ≡ true)
 unfolding rules_for
-read_unrefused opening past t x first = no_refusal opening past t x first
+read_unrefused opening steps t x first = no_refusal opening steps t x first
 
-pub write_unrefused : (opening : Opening) (past : List Step) (t : Txn) (x : Ob) (v : _) → first_refusal (rules_for opening past (Write t x v)) ≡ None → (is_running (status past t.0) ≡ true) × (exists opening x.0 ≡ true)
+pub write_unrefused : (opening : Opening) (steps : List Step) (t : Txn) (x : Ob) (v : _) → first_refusal (rules_for opening steps (Write t x v)) ≡ None → (is_running (status steps t.0) ≡ true) × (exists opening x.0 ≡ true)
 unfolding rules_for
-write_unrefused opening past t x v first = no_refusal opening past t x first
+write_unrefused opening steps t x v first = no_refusal opening steps t x first
 
 -- an enrolment that is given back leaves the table as it was
-none_named : (t : ℕ) (holders : List Locks.Holder) → find (λ (holder : Locks.Holder). eqb holder.name t) holders ≡ None
-    → filter (λ (holder : Locks.Holder). not (eqb holder.name t)) (holders ++ record { name = t; place = None; held = [] } ∷ []) ≡ holders
+none_named : (t : ℕ) (everyone : List Locks.Enrolled) → find (λ (who : Locks.Enrolled). eqb who.name t) everyone ≡ None
+    → filter (λ (who : Locks.Enrolled). not (eqb who.name t)) (everyone ++ record { name = t; pending = None; held = [] } ∷ []) ≡ everyone
 none_named t [] none = rw (eq-eqb t t refl) refl
-none_named t (holder ∷ holders) none = go (eqb holder.name t) none (none_named t holders) where
-  go : (here : Bool) → cond here (Some holder) (find (λ (h : Locks.Holder). eqb h.name t) holders) ≡ None
-      → (find (λ (h : Locks.Holder). eqb h.name t) holders ≡ None → filter (λ (h : Locks.Holder). not (eqb h.name t)) (holders ++ record { name = t; place = None; held = [] } ∷ []) ≡ holders)
-      → cond (not here) (holder ∷ filter (λ (h : Locks.Holder). not (eqb h.name t)) (holders ++ record { name = t; place = None; held = [] } ∷ [])) (filter (λ (h : Locks.Holder). not (eqb h.name t)) (holders ++ record { name = t; place = None; held = [] } ∷ [])) ≡ holder ∷ holders
+none_named t (who ∷ everyone) none = go (eqb who.name t) none (none_named t everyone) where
+  go : (here : Bool) → cond here (Some who) (find (λ (h : Locks.Enrolled). eqb h.name t) everyone) ≡ None
+      → (find (λ (h : Locks.Enrolled). eqb h.name t) everyone ≡ None → filter (λ (h : Locks.Enrolled). not (eqb h.name t)) (everyone ++ record { name = t; pending = None; held = [] } ∷ []) ≡ everyone)
+      → cond (not here) (who ∷ filter (λ (h : Locks.Enrolled). not (eqb h.name t)) (everyone ++ record { name = t; pending = None; held = [] } ∷ [])) (filter (λ (h : Locks.Enrolled). not (eqb h.name t)) (everyone ++ record { name = t; pending = None; held = [] } ∷ [])) ≡ who ∷ everyone
   go true none rest = cc
-  go false none rest = ap (λ hs. holder ∷ hs) (rest none)
+  go false none rest = ap (λ hs. who ∷ hs) (rest none)
 
 none_owned : (t : ℕ) (locks : List Locks.Lock) → list_any (Locks.is_of t) locks ≡ false → filter (λ (lock : Locks.Lock). not (eqb lock.owner t)) locks ≡ locks
 unfolding Locks.is_of
@@ -85,28 +85,28 @@ none_owned t (lock ∷ locks) none =
     let parts = or_parts (eqb lock.owner t) (list_any (λ (l : Locks.Lock). eqb l.owner t) locks) none in
     rw (parts.0, none_owned t locks parts.1) refl
 
-pub enrolment_given_back : (t : ℕ) (table : Locks.Table) → Locks.holder_in table t ≡ None → ((x : ℕ) → list_any (Locks.is_of t) (table.locks_on x) ≡ false)
+pub enrolment_given_back : (t : ℕ) (table : Locks.LockTable) → Locks.enrolled_in table t ≡ None → ((x : ℕ) → list_any (Locks.is_of t) (table.locks_on x) ≡ false)
     → Locks.release_in (λ n. eqb n t) (Locks.enrol_in t table) ≡ table
-unfolding Locks.holder_in Locks.release_in Locks.enrol_in
-enrolment_given_back t table none unlocked = λ i. record { holders = none_named t table.holders none i; locks_on = λ x. none_owned t (table.locks_on x) (unlocked x) i }
+unfolding Locks.enrolled_in Locks.release_in Locks.enrol_in
+enrolment_given_back t table none unlocked = λ i. record { enrolled = none_named t table.enrolled none i; locks_on = λ x. none_owned t (table.locks_on x) (unlocked x) i }
 
 -- what a read is answered by the tables, it is by the history
-pub read_answered : (opening : Opening) (past : List Step) (tables : Tables) (t : Txn) (x : Ob) → Stand opening past tables → exists opening x.0 ≡ true → read_outcome tables t.0 x.0 ≡ unrefused opening past (Read t x)
+pub read_answered : (opening : Opening) (steps : List Step) (tables : Tables) (t : Txn) (x : Ob) → Stand opening steps tables → exists opening x.0 ≡ true → read_outcome tables t.0 x.0 ≡ unrefused opening steps (Read t x)
 unfolding read_outcome is_free_for value_or_zero unrefused value_if_any
-read_answered opening past tables t x stand there =
-    let shown : value_in (cells tables.objects) x.0 ≡ Some (value opening past x.0) = value_of_tables opening past _ _ _ _ x.0 stand ∙ rw there refl in
-    rw (free_shown opening past _ _ _ _ t.0 x.0 Op'.Read stand, shown) refl
+read_answered opening steps tables t x stand there =
+    let shown : value_in (cells tables.objects) x.0 ≡ Some (value opening steps x.0) = value_of_tables opening steps _ _ _ _ x.0 stand ∙ rw there refl in
+    rw (free_shown opening steps _ _ _ _ t.0 x.0 Op'.Read stand, shown) refl
 
 -- which objects exist, by the cells
-pub object_exists : (opening : Opening) (past : List Step) (tables : Tables) (x : ℕ) → Stand opening past tables → has_object (cells tables.objects) x ≡ exists opening x
+pub object_exists : (opening : Opening) (steps : List Step) (tables : Tables) (x : ℕ) → Stand opening steps tables → has_object (cells tables.objects) x ≡ exists opening x
 unfolding has_object cell_of exists
-object_exists opening past tables x stand = ap is_some (stand.cells x) ∙ go (opening_at opening x) where
-  go : (first : Option ℤ) → is_some (option_map (λ v. cell_after (end_of past) x v (operations past)) first) ≡ is_some first
+object_exists opening steps tables x stand = ap is_some (stand.cells x) ∙ go (opening_at opening x) where
+  go : (first : Option ℤ) → is_some (option_map (λ v. cell_after (end_of steps) x v (operations steps)) first) ≡ is_some first
   go None = refl
   go (Some v) = refl
 
 -- the first of some objects that has no cell is the first that does not exist
-pub missing_shown : (opening : Opening) (past : List Step) (tables : Tables) (objects : List Ob) → Stand opening past tables
+pub missing_shown : (opening : Opening) (steps : List Step) (tables : Tables) (objects : List Ob) → Stand opening steps tables
     → find (λ (x : Ob). not (has_object (cells tables.objects) x.0)) objects ≡ find (λ (x : Ob). not (exists opening x.0)) objects
-missing_shown opening past tables [] stand = refl
-missing_shown opening past tables (x ∷ objects) stand = rw (object_exists opening past tables x.0 stand, missing_shown opening past tables objects stand) refl
+missing_shown opening steps tables [] stand = refl
+missing_shown opening steps tables (x ∷ objects) stand = rw (object_exists opening steps tables x.0 stand, missing_shown opening steps tables objects stand) refl

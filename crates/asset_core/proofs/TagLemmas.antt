@@ -53,17 +53,17 @@ unfolding IsSame
 same_if make true reply same = same
 same_if make false reply same = tt
 
-refusals_same : (opening : Opening) (past : List Step) (step : Step) → AreSame (again step) (rules_for opening past step)
+refusals_same : (opening : Opening) (steps : List Step) (step : Step) → AreSame (again step) (rules_for opening steps step)
 unfolding AreSame again rules_for unknown ended not_running taken begun_before too_late no_object tag_of reply_about reply_of_name
-refusals_same opening past (Initiate t parent) = (refl, tt)
-refusals_same opening past (Begin t) = (refl, (refl, (refl, tt)))
-refusals_same opening past (Read t x) = (refl, (refl, (refl, (refl, tt))))
-refusals_same opening past (Write t x v) = (refl, (refl, (refl, (refl, tt))))
-refusals_same opening past (Complete t) = (refl, (refl, (refl, tt)))
-refusals_same opening past (Permit giver taker obs ops) = (refl, (refl, (refl, (refl, (refl, (refl, tt))))))
-refusals_same opening past (Commit t) = (refl, tt)
-refusals_same opening past (Abort t) = (refl, (refl, tt))
-refusals_same opening past (WaitFor t) = (refl, tt)
+refusals_same opening steps (Initiate t parent) = (refl, tt)
+refusals_same opening steps (Begin t) = (refl, (refl, (refl, tt)))
+refusals_same opening steps (Read t x) = (refl, (refl, (refl, (refl, tt))))
+refusals_same opening steps (Write t x v) = (refl, (refl, (refl, (refl, tt))))
+refusals_same opening steps (Complete t) = (refl, (refl, (refl, tt)))
+refusals_same opening steps (Permit giver taker obs ops) = (refl, (refl, (refl, (refl, (refl, (refl, tt))))))
+refusals_same opening steps (Commit t) = (refl, tt)
+refusals_same opening steps (Abort t) = (refl, (refl, tt))
+refusals_same opening steps (WaitFor t) = (refl, tt)
 
 commit_same : (t : Txn) (now : Status) (ready : Bool) → IsSame (λ reply. reply_of_name t (tag_of reply)) (commit_outcome now ready)
 unfolding IsSame commit_outcome tag_of reply_about reply_of_name
@@ -83,20 +83,20 @@ wait_same t Status'.Unknown = tt
 wait_same t Status'.Initiated = tt
 wait_same t Status'.Running = tt
 
-unrefused_same : (opening : Opening) (past : List Step) (step : Step) → IsSame (again step) (unrefused opening past step)
+unrefused_same : (opening : Opening) (steps : List Step) (step : Step) → IsSame (again step) (unrefused opening steps step)
 unfolding IsSame again unrefused tag_of value_read reply_about reply_of_name
-unrefused_same opening past (Initiate t parent) = refl
-unrefused_same opening past (Begin t) = refl
-unrefused_same opening past (Read t x) = same_if _ (free past t.0 x.0 Op'.Read) (Reply'.Value (value opening past x.0)) refl
-unrefused_same opening past (Write t x v) = same_if _ (free past t.0 x.0 Op'.Write) Reply'.Done refl
-unrefused_same opening past (Complete t) = refl
-unrefused_same opening past (Permit giver taker obs ops) = refl
-unrefused_same opening past (Commit t) = commit_same t (status past t.0) (class_completed past t.0)
-unrefused_same opening past (Abort t) = refl
-unrefused_same opening past (WaitFor t) = wait_same t (status past t.0)
+unrefused_same opening steps (Initiate t parent) = refl
+unrefused_same opening steps (Begin t) = refl
+unrefused_same opening steps (Read t x) = same_if _ (free steps t.0 x.0 Op'.Read) (Reply'.Value (value opening steps x.0)) refl
+unrefused_same opening steps (Write t x v) = same_if _ (free steps t.0 x.0 Op'.Write) Reply'.Done refl
+unrefused_same opening steps (Complete t) = refl
+unrefused_same opening steps (Permit giver taker obs ops) = refl
+unrefused_same opening steps (Commit t) = commit_same t (status steps t.0) (class_completed steps t.0)
+unrefused_same opening steps (Abort t) = refl
+unrefused_same opening steps (WaitFor t) = wait_same t (status steps t.0)
 
 -- the answer to a step is the same when it is made again
-pub made_again : (opening : Opening) (past : List Step) (step : Step) (reply : Reply) → answer opening past step ≡ Answer reply → again step reply ≡ reply
+pub made_again : (opening : Opening) (steps : List Step) (step : Step) (reply : Reply) → answer opening steps step ≡ Answer reply → again step reply ≡ reply
 unfolding answer IsSame
-made_again opening past step reply is =
-    subst (IsSame (again step)) is (same_unless (again step) (rules_for opening past step) (unrefused opening past step) (refusals_same opening past step) (unrefused_same opening past step))
+made_again opening steps step reply is =
+    subst (IsSame (again step)) is (same_unless (again step) (rules_for opening steps step) (unrefused opening steps step) (refusals_same opening steps step) (unrefused_same opening steps step))

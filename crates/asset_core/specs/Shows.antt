@@ -11,8 +11,8 @@ use Rattle.asset_names.specs.Operations.{Use, Operation, operations, opening_at,
 use Rattle.asset_names.specs.Operations.Use.{reads, writes}
 use Rattle.asset_objects.specs.Cells.{Cell, Cells, fresh, written}
 use Rattle.asset_permits.specs.Descriptors.{Descriptor, one_covers}
-use Rattle.asset_locks.specs.Table as Locks
-use Rattle.asset_trans.specs.Rows.{Entry, names_of, status_in, parent_in}
+use Rattle.asset_locks.specs.LockTable as Locks
+use Rattle.asset_trans.specs.TransRows.{NamedTransRow, names_of, status_in, parent_in}
 
 -- What a write makes of an object, by how its owner ended. A committed write has nothing under it, an aborted
 -- one has gone, and that of a live name stands over what was there before.
@@ -33,21 +33,21 @@ cell_after ends x first (o ∷ older) = cond (o.object == x) (used (ends o.owner
 
 -- the cell of an object after the steps, if the object exists
 unfoldable pub cell_of : Opening → List Step → ℕ → Option Cell
-cell_of opening past x = option_map (λ first. cell_after (end_of past) x first (operations past)) (opening_at opening x)
+cell_of opening steps x = option_map (λ first. cell_after (end_of steps) x first (operations steps)) (opening_at opening x)
 
 -- a permit that stands: it lets the taker do op on x, and both names are live
 unfoldable pub permitted : List Step → ℕ → ℕ → ℕ → Op → Bool
-permitted past giver taker x op = live past giver && live past taker && has_arrow (permits past x op) giver taker
+permitted steps giver taker x op = live steps giver && live steps taker && has_arrow (permits steps x op) giver taker
 
--- The tables stand for the steps that were carried out: the transactions are those that were initiated, in
+-- The tables stand for the steps that took effect: the transactions are those that were initiated, in
 -- order, each with its status and parent; the cell of each object is that of the history; the live ones are
 -- enrolled in order of initiation; a lock carries an operation exactly where its owner holds the object by it; and
 -- a descriptor covers an operation on an object exactly where a permit between live names lets it be done.
-pub record Shows (opening : Opening) (past : List Step) (rows : List Entry) (objects : Cells) (table : Locks.Table) (descriptors : List Descriptor) : Type 0 where
-  pub names : names_of rows ≡ reverse (initiated past)
-  pub statuses : (t : ℕ) → status_in rows t ≡ status past t
-  pub parents : (t : ℕ) → parent_in rows t ≡ parent_of past t
-  pub cells : (x : ℕ) → objects x ≡ cell_of opening past x
-  pub enrolled : Locks.names_in table ≡ filter (live past) (reverse (initiated past))
-  pub locks : (t x : ℕ) (op : Op) → Locks.carries table t x op ≡ holds past t x op
-  pub permits_stand : (u t x : ℕ) (op : Op) → one_covers descriptors u t x op ≡ permitted past u t x op
+pub record Shows (opening : Opening) (steps : List Step) (rows : List NamedTransRow) (objects : Cells) (table : Locks.LockTable) (descriptors : List Descriptor) : Type 0 where
+  pub names : names_of rows ≡ reverse (initiated steps)
+  pub statuses : (t : ℕ) → status_in rows t ≡ status steps t
+  pub parents : (t : ℕ) → parent_in rows t ≡ parent_of steps t
+  pub cells : (x : ℕ) → objects x ≡ cell_of opening steps x
+  pub enrolled : Locks.names_in table ≡ filter (live steps) (reverse (initiated steps))
+  pub locks : (t x : ℕ) (op : Op) → Locks.carries table t x op ≡ holds steps t x op
+  pub permits_stand : (u t x : ℕ) (op : Op) → one_covers descriptors u t x op ≡ permitted steps u t x op

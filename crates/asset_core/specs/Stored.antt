@@ -1,5 +1,5 @@
 -- How the entries of a history are stored: a refusal without the name or the object that it is about, which the
--- step names; and a permit, whose set is large, in a list beside, where its entry has its number.
+-- step names; and a permit, whose set is large, in a list beside, where its entry has its index.
 use Rattle.std.specs.Prelude.{◌≡◌, ℕ, ℤ, pos, ◌≤◌, Bool, true, nat_lt, List, [], ◌∷◌, ◌++◌, length, map, reverse, slice_get, Option, Some, None}
 use Rattle.std.specs.List.{list_all}
 use Rattle.asset_names.specs.declared.names.Txn.{Txn}
@@ -72,9 +72,9 @@ stored_as count (Abort t) reply = Stored'.Abort (tag_of reply) t
 stored_as count (WaitFor t) reply = Stored'.WaitFor (tag_of reply) t
 
 -- what stands beside, after an entry
-unfoldable pub beside_after : Step → Reply → List PermitEntry → List PermitEntry
-beside_after (Permit giver taker obs ops) reply beside = beside ++ record { giver = giver; taker = taker; obs = obs; ops = ops; reply = reply } ∷ []
-beside_after step reply beside = beside
+unfoldable pub sets_after : Step → Reply → List PermitEntry → List PermitEntry
+sets_after (Permit giver taker obs ops) reply beside = beside ++ record { giver = giver; taker = taker; obs = obs; ops = ops; reply = reply } ∷ []
+sets_after step reply beside = beside
 
 -- the permit that stands beside; where none does, which no kept history has, a wait that nobody asked
 unfoldable pub permit_or_wait : Option PermitEntry → Entry
@@ -88,7 +88,7 @@ entry_of beside (Stored'.Begin tag t) = (Begin t, reply_of_name t tag)
 entry_of beside (Stored'.Read tag t x v) = (Read t x, reply_about t x v tag)
 entry_of beside (Stored'.Write tag t x v) = (Write t x v, reply_about t x (pos 0) tag)
 entry_of beside (Stored'.Complete tag t) = (Complete t, reply_of_name t tag)
-entry_of beside (Stored'.Permit number) = permit_or_wait (slice_get beside number)
+entry_of beside (Stored'.Permit index) = permit_or_wait (slice_get beside index)
 entry_of beside (Stored'.Commit tag t) = (Commit t, reply_of_name t tag)
 entry_of beside (Stored'.Abort tag t) = (Abort t, reply_of_name t tag)
 entry_of beside (Stored'.WaitFor tag t) = (WaitFor t, reply_of_name t tag)
@@ -100,12 +100,12 @@ value_stored (Stored'.Write tag t x v) = v
 value_stored stored = pos 0
 
 -- the entries, newest first
-unfoldable pub past_of : List PermitEntry → List Stored → List Entry
-past_of beside entries = reverse (map (entry_of beside) entries)
+unfoldable pub entries_of : List PermitEntry → List Stored → List Entry
+entries_of beside entries = reverse (map (entry_of beside) entries)
 
 -- whether what is stored is in its entry, or stands beside
 unfoldable pub is_there : ℕ → Stored → Bool
-is_there count (Stored'.Permit number) = nat_lt number count
+is_there count (Stored'.Permit index) = nat_lt index count
 is_there count stored = true
 
 -- whether each entry is there, where so many permits stand beside
@@ -114,10 +114,10 @@ all_there count entries = list_all (is_there count) entries
 
 -- How a history is kept: its entries are legal and there; and the room that was taken serves for all entries, each
 -- of which may be a permit.
-pub record IsKept (opening : Opening) (entries : List Stored) (beside : List PermitEntry) (capacity reserved reserved_beside : ℕ) : Type 0 where
-  pub legal : IsLegal opening (past_of beside entries)
+pub record IsValid (opening : Opening) (entries : List Stored) (beside : List PermitEntry) (capacity reserved sets_reserved : ℕ) : Type 0 where
+  pub legal : IsLegal opening (entries_of beside entries)
   pub there : all_there (length beside) entries ≡ true
   pub fewer : length beside ≤ length entries
   pub within : length entries ≤ capacity
   pub taken : capacity ≤ reserved
-  pub taken_beside : capacity ≤ reserved_beside
+  pub reserved_sets : capacity ≤ sets_reserved

@@ -8,27 +8,27 @@ use Rattle.asset_names.specs.declared.steps.Step.TheVariants.{Initiate, Begin, R
 use Rattle.asset_names.specs.declared.replies.Reply.TheVariants as Reply'
 use Rattle.asset_names.specs.declared.replies.Outcome.{Outcome}
 use Rattle.asset_names.specs.declared.replies.Outcome.TheVariants.{Answer, Wait}
-use Rattle.asset_names.specs.Steps.{Opening, deeds}
+use Rattle.asset_names.specs.Steps.{Opening, applied}
 use Rattle.asset_names.specs.Endings.{is_live_status}
 use Rattle.asset_names.specs.Answers.{IsLegal}
 use Rattle.asset_names.specs.Room.{owed}
-use Rattle.asset_permits.specs.Descriptors.{allows_in}
+use Rattle.asset_permits.specs.Descriptors.{allows_by}
 use Rattle.asset_objects.specs.Cells.{cells, value_in, has_object}
-use Rattle.asset_locks.specs.Kept.{Kept, table_of}
-use Rattle.asset_locks.specs.Table as Locks
-use Rattle.asset_trans.specs.Rows.{row_in, status_in}
+use Rattle.asset_locks.specs.Valid.{LockRows, lock_table}
+use Rattle.asset_locks.specs.LockTable as Locks
+use Rattle.asset_trans.specs.TransRows.{row_in, status_in}
 use Rattle.asset_core.specs.declared.tables.Tables.{Tables}
 use Rattle.asset_core.specs.Recorded.{Recorded}
 use Rattle.asset_core.specs.Pending.{Pending}
 use Rattle.asset_core.specs.Shows.{Shows}
 
--- the tables stand for the steps that were carried out
+-- the tables stand for the steps that took effect
 abbrev pub Stand : Opening → List Step → Tables → Type 0
-Stand opening past tables = Shows opening past tables.trans (cells tables.objects) (table_of tables.locks) tables.permits
+Stand opening steps tables = Shows opening steps tables.trans (cells tables.objects) (lock_table tables.locks) tables.permits
 
 -- the object is free by the locks
 unfoldable pub is_free_for : Tables → ℕ → ℕ → Op → Bool
-is_free_for tables t x op = Locks.is_free_in (table_of tables.locks) (λ u. allows_in tables.permits u t x op) t x op
+is_free_for tables t x op = Locks.is_free_in (lock_table tables.locks) (λ u. allows_by tables.permits u t x op) t x op
 
 -- the value that a write asks for, and 0 of another step
 unfoldable pub value_asked : Step → ℤ
@@ -46,14 +46,14 @@ read_outcome tables t x = cond (is_free_for tables t x Op'.Read) (Answer (Reply'
 -- a running name is enrolled and runs
 pub record IsAtWork (tables : Tables) (t : ℕ) : Type 0 where
   pub runs : status_in tables.trans t ≡ Status'.Running
-  pub enrolled : is_some (Locks.holder_in (table_of tables.locks) t) ≡ true
+  pub enrolled : is_some (Locks.enrolled_in (lock_table tables.locks) t) ≡ true
 
 -- a new name has no row among the transactions, and is not enrolled for locks
 pub record IsNew (tables : Tables) (t : ℕ) : Type 0 where
   pub no_row : row_in tables.trans t ≡ None
-  pub no_holder : Locks.holder_in (table_of tables.locks) t ≡ None
+  pub not_enrolled : Locks.enrolled_in (lock_table tables.locks) t ≡ None
 
--- what a step asks of the tables, where it is to be carried out
+-- what a step asks of the tables, where it is to take effect
 abbrev pub IsReady : Step → Tables → Type 0
 IsReady (Initiate t parent) tables = IsNew tables t.0
 IsReady (Begin t) tables = status_in tables.trans t.0 ≡ Status'.Initiated
@@ -72,42 +72,42 @@ MayWait (Write t x v) tables = IsAtWork tables t.0 × (is_free_for tables t.0 x.
 MayWait step tables = Unit {0}
 
 -- who ends is released, if it was live
-unfoldable pub released : Tables → ℕ → Locks.Table
-released tables t = cond (is_live_status (status_in tables.trans t)) (Locks.release_in (λ n. n == t) (table_of tables.locks)) (table_of tables.locks)
+unfoldable pub released : Tables → ℕ → Locks.LockTable
+released tables t = cond (is_live_status (status_in tables.trans t)) (Locks.release_in (λ n. n == t) (lock_table tables.locks)) (lock_table tables.locks)
 
--- the locks after a step that was carried out
-unfoldable pub locks_after : Step → Tables → Locks.Table
-locks_after (Initiate t parent) tables = Locks.enrol_in t.0 (table_of tables.locks)
-locks_after (Read t x) tables = Locks.grant_in t.0 x Op'.Read (table_of tables.locks)
-locks_after (Write t x v) tables = Locks.grant_in t.0 x Op'.Write (table_of tables.locks)
+-- the locks after a step that took effect
+unfoldable pub locks_after : Step → Tables → Locks.LockTable
+locks_after (Initiate t parent) tables = Locks.enrol_in t.0 (lock_table tables.locks)
+locks_after (Read t x) tables = Locks.grant_in t.0 x Op'.Read (lock_table tables.locks)
+locks_after (Write t x v) tables = Locks.grant_in t.0 x Op'.Write (lock_table tables.locks)
 locks_after (Commit t) tables = released tables t.0
 locks_after (Abort t) tables = released tables t.0
-locks_after step tables = table_of tables.locks
+locks_after step tables = lock_table tables.locks
 
 -- the locks after a request that waits
-unfoldable pub locks_waiting : Step → Tables → Locks.Table
-locks_waiting (Read t x) tables = Locks.wait_in t.0 x Op'.Read (table_of tables.locks)
-locks_waiting (Write t x v) tables = Locks.wait_in t.0 x Op'.Write (table_of tables.locks)
-locks_waiting step tables = table_of tables.locks
+unfoldable pub locks_waiting : Step → Tables → Locks.LockTable
+locks_waiting (Read t x) tables = Locks.wait_in t.0 x Op'.Read (lock_table tables.locks)
+locks_waiting (Write t x v) tables = Locks.wait_in t.0 x Op'.Write (lock_table tables.locks)
+locks_waiting step tables = lock_table tables.locks
 
 -- the tables show what they did before
-pub record ShowAlike (later before : Tables) : Type 0 where
+pub record SameView (later before : Tables) : Type 0 where
   pub rows : later.trans ≡ before.trans
   pub objects : cells later.objects ≡ cells before.objects
-  pub locks : table_of later.locks ≡ table_of before.locks
+  pub locks : lock_table later.locks ≡ lock_table before.locks
   pub permits : later.permits ≡ before.permits
 
--- the pending places in the table of locks
-unfoldable pub place_of : Locks.Holder → Pending
-place_of holder = record { name = holder.name; request = holder.place }
+-- the pending requests in the table of locks
+unfoldable pub asker_of : Locks.Enrolled → Pending
+asker_of who = record { name = who.name; request = who.pending }
 
-unfoldable pub places_of : Kept → List Pending
-places_of kept = map place_of (table_of kept).holders
+unfoldable pub pending_in : LockRows → List Pending
+pending_in kept = map asker_of (lock_table kept).enrolled
 
 -- how the facility is kept: the tables stand for its history, which is legal, and the entries that are owed fit
 -- with those that are there
-pub record IsKeptBy (history : Recorded) (tables : Tables) : Type 0 where
-  pub stand : Stand history.opening (deeds history.past) tables
-  pub legal : IsLegal history.opening history.past
-  pub fitting : length history.past + owed (deeds history.past) ≤ history.capacity
+pub record IsValid (history : Recorded) (tables : Tables) : Type 0 where
+  pub stand : Stand history.opening (applied history.entries) tables
+  pub legal : IsLegal history.opening history.entries
+  pub fitting : length history.entries + owed (applied history.entries) ≤ history.capacity
   pub capacity : history.capacity ≤ 1000000

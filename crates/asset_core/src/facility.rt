@@ -2,7 +2,7 @@
 
 use crate::history::{History, OpenFault};
 use crate::tables::Tables;
-use asset_names::{Fault, Ob, Op, Outcome, Reply, Status, Step, Txn, is_carried_out};
+use asset_names::{Fault, Ob, Op, Outcome, Reply, Status, Step, Txn, takes_effect};
 use asset_objects::ObjectsFault;
 use std::alloc::Global;
 use std::marker::Model;
@@ -11,7 +11,7 @@ use std::marker::Model;
 const MOST: usize = 1_000_000;
 
 /// A history, which grows by one answered step at a time, and the tables that stand for it. Contracts see
-/// the history, and the pending place of each live name.
+/// the history, and the pending request of each live name.
 #[derive(Drop)]
 pub struct Core {
     history: History,
@@ -20,23 +20,23 @@ pub struct Core {
 
 impl Model for Core {
     ghost use Rattle.asset_core.specs.Pending.{Facility};
-    ghost use Rattle.asset_core.specs.Tables.{IsKeptBy, places_of};
+    ghost use Rattle.asset_core.specs.Tables.{IsValid, pending_in};
 
     ghost Value = { Facility };
 
-    ghost view = { λ core. record { history = core.history; pending = places_of core.tables.locks } };
+    ghost view = { λ core. record { history = core.history; pending = pending_in core.tables.locks } };
 
-    ghost invariant = { λ core. IsKeptBy core.history core.tables };
+    ghost invariant = { λ core. IsValid core.history core.tables };
 }
 
 impl Core {
     ghost use Rattle.std.specs.Prelude.{◌≡◌, ◌≢◌, ◌+◌, ◌<◌, ◌≤◌, ◌↔◌, ◌⊎◌, ◌∷◌, true, false, map, length, slice_get, IfOk, IfErr, OnOk, OnErr, IsOk, Err, IsErrOf};
-    ghost use Rattle.asset_names.specs.Steps.{carries_out, deeds};
+    ghost use Rattle.asset_names.specs.Steps.{takes_effect, applied};
     ghost use Rattle.asset_names.specs.Endings.{status};
     ghost use Rattle.asset_names.specs.Operations.{value_if_any};
     ghost use Rattle.asset_names.specs.declared.replies.Outcome.TheVariants.{Answer, Wait as Waits};
     ghost use Rattle.asset_names.specs.Room.{owed, fits};
-    ghost use Rattle.asset_names.specs.Answers.{takes_memory, carried_out};
+    ghost use Rattle.asset_names.specs.Answers.{takes_memory, outcome_takes_effect};
     ghost use Rattle.asset_core.specs.Recorded.{answer_to, after, with_entry, has_room, is_ending};
     ghost use Rattle.asset_core.specs.Pending.{facility_of, pending_after, waiting_for};
     ghost use Rattle.asset_core.specs.OpenFaults.{MayOpen, IsOpenFault};
@@ -68,19 +68,19 @@ impl Core {
     }
 
     /// Asks one step. A step that waits is no entry, and may be asked again; a read or a write that waits
-    /// fills its asker's pending place, a granted one empties it, and a refused one leaves it. An initiate
-    /// adds an empty place, and an end takes the place away. An answered step is one more entry, refused or
+    /// fills its asker's pending request, a granted one empties it, and a refused one leaves it. An initiate
+    /// adds an empty asker, and an end takes the asker away. An answered step is one more entry, refused or
     /// not. Full comes exactly where the entries with this one, and those that live names are owed after it,
     /// exceed the capacity; a complete, a commit or an abort that changes a status always finds room.
-    /// NoMemory may come only where an initiate, a read, a write or a permit would be carried out. After Full
+    /// NoMemory may come only where an initiate, a read, a write or a permit would take effect. After Full
     /// and NoMemory nothing has changed.
-    #[tactic(auto, unfolding(crate::specs::Recorded::after, crate::specs::Recorded::has_room, crate::specs::Recorded::is_ending, asset_names::specs::Answers::carried_out))]
+    #[tactic(auto, unfolding(crate::specs::Recorded::after, crate::specs::Recorded::has_room, crate::specs::Recorded::is_ending, asset_names::specs::Answers::outcome_takes_effect))]
     pub fn step(&mut self, step: Step) -> Result<Outcome, Fault>
         ensures answered { IfOk result (λ outcome. outcome ≡ answer_to self.old.history step) }
         ensures grown { IfOk result (λ outcome. self.new.history ≡ after self.old.history step outcome) }
         ensures pending { IfOk result (λ outcome. self.new.pending ≡ pending_after self.old step outcome) }
         ensures full { IsErrOf result Fault.Full ↔ (has_room self.old.history step (answer_to self.old.history step) ≡ false) }
-        ensures memory { IsErrOf result Fault.NoMemory → (takes_memory step ≡ true) × (carried_out step (answer_to self.old.history step) ≡ true) }
+        ensures memory { IsErrOf result Fault.NoMemory → (takes_memory step ≡ true) × (outcome_takes_effect step (answer_to self.old.history step) ≡ true) }
         ensures ending { is_ending self.old.history step (answer_to self.old.history step) ≡ true → IsOk result }
         ensures fault { OnErr result (self.new ≡ self.old) }
     {
@@ -110,12 +110,12 @@ impl Core {
         self.tables.wait(step);
     }
 
-    /// How many entries are owed after a step that is carried out with this reply.
-    fn owed_after_deed(&self, step: &Step, reply: Reply) -> usize
+    /// How many entries are owed after a step that takes effect with this reply.
+    fn owed_if_applied(&self, step: &Step, reply: Reply) -> usize
         requires answer { answer_to self.now.history step.now ≡ Answer reply }
-        requires carried { carries_out step.now reply ≡ true }
-        ensures owed { result ≡ owed (step.now ∷ deeds self.now.history.past) }
-        ensures bound { result ≤ owed (deeds self.now.history.past) + 2 }
+        requires carried { takes_effect step.now reply ≡ true }
+        ensures owed { result ≡ owed (step.now ∷ applied self.now.history.entries) }
+        ensures bound { result ≤ owed (applied self.now.history.entries) + 2 }
     {
         let counted = self.tables.trans.owed();
         match *step {
@@ -134,11 +134,11 @@ impl Core {
     /// How many entries are owed after an answer.
     fn owed_after(&self, step: &Step, reply: Reply) -> usize
         requires answer { answer_to self.now.history step.now ≡ Answer reply }
-        ensures owed { result ≡ owed (deeds ((step.now, reply) ∷ self.now.history.past)) }
-        ensures bound { result ≤ owed (deeds self.now.history.past) + 2 }
+        ensures owed { result ≡ owed (applied ((step.now, reply) ∷ self.now.history.entries)) }
+        ensures bound { result ≤ owed (applied self.now.history.entries) + 2 }
     {
-        if is_carried_out(step, reply) {
-            self.owed_after_deed(step, reply)
+        if takes_effect(step, reply) {
+            self.owed_if_applied(step, reply)
         } else {
             self.tables.trans.owed()
         }
@@ -149,7 +149,7 @@ impl Core {
         requires answer { answer_to self.now.history step.now ≡ Answer reply }
         ensures room { result ≡ has_room self.now.history step.now (Answer reply) }
         ensures ending { is_ending self.now.history step.now (Answer reply) ≡ true → result ≡ true }
-        ensures place { result ≡ true → length self.now.history.past < self.now.history.capacity }
+        ensures asker { result ≡ true → length self.now.history.entries < self.now.history.capacity }
     {
         self.history.len() + 1 + self.owed_after(step, reply) <= self.history.capacity()
     }
@@ -161,7 +161,7 @@ impl Core {
         ensures grown { OnOk result (self.new.history ≡ with_entry self.old.history step.now reply) }
         ensures pending { OnOk result (self.new.pending ≡ pending_after self.old step.now (Answer reply)) }
         ensures full { IsErrOf result Fault.Full ↔ (has_room self.old.history step.now (Answer reply) ≡ false) }
-        ensures memory { IsErrOf result Fault.NoMemory → (takes_memory step.now ≡ true) × (carries_out step.now reply ≡ true) }
+        ensures memory { IsErrOf result Fault.NoMemory → (takes_memory step.now ≡ true) × (takes_effect step.now reply ≡ true) }
         ensures ending { is_ending self.old.history step.now (Answer reply) ≡ true → IsOk result }
         ensures fault { OnErr result (self.new ≡ self.old) }
     {
@@ -179,30 +179,30 @@ impl Core {
 
     /// The status of a name: Unknown where it was never initiated.
     pub fn status(&self, t: Txn) -> Status
-        ensures { result ≡ status (deeds self.now.history.past) t.0 }
+        ensures { result ≡ status (applied self.now.history.entries) t.0 }
     {
         self.tables.status(t)
     }
 
     /// The value of an object, if it exists.
     pub fn value(&self, x: Ob) -> Option<i64>
-        ensures { result ≡ value_if_any self.now.history.opening (deeds self.now.history.past) x.0 }
+        ensures { result ≡ value_if_any self.now.history.opening (applied self.now.history.entries) x.0 }
     {
         self.tables.objects.value(x)
     }
 
-    /// The waiter of this number for `x`, in order of initiation from 0, with the operation that it asked. None
+    /// The waiter of this index for `x`, in order of initiation from 0, with the operation that it asked. None
     /// where there are not so many.
-    pub fn waiters(&self, x: Ob, number: usize) -> Option<(Txn, Op)>
-        ensures { result ≡ slice_get (waiting_for x.0 self.now.pending) number }
+    pub fn waiters(&self, x: Ob, index: usize) -> Option<(Txn, Op)>
+        ensures { result ≡ slice_get (waiting_for x.0 self.now.pending) index }
     {
-        self.tables.locks.waiters(x, number)
+        self.tables.locks.waiters(x, index)
     }
 
     /// The history so far.
     pub fn history(&self) -> &History
         ensures history { result.now ≡ self.now.history }
-        ensures fits { fits (deeds self.now.history.past) (length self.now.history.past) self.now.history.capacity ≡ true }
+        ensures fits { fits (applied self.now.history.entries) (length self.now.history.entries) self.now.history.capacity ≡ true }
     {
         &self.history
     }
@@ -212,7 +212,7 @@ impl Core {
         ensures { result ≡ self.history }
     {
         // The tables are dropped by name: the call's proof is then made once for each type in them, and not
-        // for all of them at each place where they go.
+        // for all of them at each asker where they go.
         let Core { history, tables } = self;
         drop(tables);
         history

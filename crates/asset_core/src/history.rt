@@ -1,6 +1,6 @@
 //! A history: what was opened, and the entries in order.
 
-use crate::stored::{PermitEntry, Stored, put_beside};
+use crate::stored::{PermitEntry, Stored, push_set};
 use asset_names::{Ob, Reply, Step};
 use std::alloc::{AllocError, Global};
 use std::marker::Model;
@@ -20,13 +20,13 @@ pub struct History {
 impl Model for History {
     ghost use Rattle.std.specs.Prelude.{vec_capacity};
     ghost use Rattle.asset_core.specs.Recorded.{Recorded};
-    ghost use Rattle.asset_core.specs.Stored.{past_of, IsKept};
+    ghost use Rattle.asset_core.specs.Stored.{entries_of, IsValid};
 
     ghost Value = { Recorded };
 
-    ghost view = { λ h. record { opening = h.opening.items; past = past_of h.permits.items h.entries.items; capacity = h.capacity } };
+    ghost view = { λ h. record { opening = h.opening.items; entries = entries_of h.permits.items h.entries.items; capacity = h.capacity } };
 
-    ghost invariant = { λ h. IsKept h.opening.items h.entries.items h.permits.items h.capacity (vec_capacity h.entries) (vec_capacity h.permits) };
+    ghost invariant = { λ h. IsValid h.opening.items h.entries.items h.permits.items h.capacity (vec_capacity h.entries) (vec_capacity h.permits) };
 }
 
 impl History {
@@ -36,7 +36,7 @@ impl History {
     ghost use Rattle.asset_core.specs.Recorded.{opened, answer_to, with_entry};
 
     /// A history of these opening values with room for so many entries, and none yet.
-    #[tactic(auto, unfolding(crate::specs::Recorded::opened, crate::specs::Stored::past_of))]
+    #[tactic(auto, unfolding(crate::specs::Recorded::opened, crate::specs::Stored::entries_of))]
     pub(crate) fn open(
         alloc: Global,
         opening: &[(Ob, i64)],
@@ -59,27 +59,27 @@ impl History {
         self.opening.as_slice()
     }
 
-    /// The number of entries.
+    /// The index of entries.
     pub fn len(&self) -> usize
-        ensures len { result ≡ length self.now.past }
-        ensures legal { IsLegal self.now.opening self.now.past }
+        ensures len { result ≡ length self.now.entries }
+        ensures legal { IsLegal self.now.opening self.now.entries }
     {
         self.entries.len()
     }
 
     /// Whether there is no entry yet.
     pub fn is_empty(&self) -> bool
-        ensures { IsTrue result ↔ (self.now.past ≡ []) }
+        ensures { IsTrue result ↔ (self.now.entries ≡ []) }
     {
         self.len() == 0
     }
 
-    /// The entry of this number. Entries count from 0, oldest first; None from `len` on.
-    pub fn entry(&self, number: usize) -> Option<(Step, Reply)>
-        ensures entry { result ≡ slice_get (reverse self.now.past) number }
-        ensures legal { IsLegal self.now.opening self.now.past }
+    /// The entry of this index. Entries count from 0, oldest first; None from `len` on.
+    pub fn entry(&self, index: usize) -> Option<(Step, Reply)>
+        ensures entry { result ≡ slice_get (reverse self.now.entries) index }
+        ensures legal { IsLegal self.now.opening self.now.entries }
     {
-        match self.entries.get(number) {
+        match self.entries.get(index) {
             Some(stored) => Some(stored.entry(&self.permits)),
             None => None,
         }
@@ -96,11 +96,11 @@ impl History {
     /// no memory.
     pub(crate) fn append(&mut self, step: &Step, reply: Reply)
         requires answer { answer_to self.old step.now ≡ Answer reply }
-        requires room { length self.old.past < self.old.capacity }
+        requires room { length self.old.entries < self.old.capacity }
         ensures { self.new ≡ with_entry self.old step.now reply }
     {
         let stored = Stored::of(step, reply, self.permits.len());
-        put_beside(&mut self.permits, step, reply);
+        push_set(&mut self.permits, step, reply);
         self.entries.push(stored).unwrap();
     }
 }

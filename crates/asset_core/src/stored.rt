@@ -1,8 +1,8 @@
 //! How entries are stored: in 32 bytes each, but that a permit, whose set is large, stands in a list beside them
-//! and its entry has its number there.
+//! and its entry has its index there.
 
 ghost use Rattle.std.specs.Prelude.{◌≡◌, ◌<◌, ◌≤◌, length, vec_capacity};
-ghost use Rattle.asset_core.specs.Stored.{beside_after};
+ghost use Rattle.asset_core.specs.Stored.{sets_after};
 
 use crate::reply_tag::{ReplyTag, value_read};
 use crate::tables::value_asked;
@@ -48,9 +48,9 @@ pub(crate) enum Stored {
         tag: ReplyTag,
         t: Txn,
     },
-    /// The permit of this number among those that stand beside.
+    /// The permit of this index among those that stand beside.
     Permit {
-        number: usize,
+        index: usize,
     },
     Commit {
         tag: ReplyTag,
@@ -94,7 +94,7 @@ impl Stored {
                 v: value_asked(step),
             },
             Step::Complete { t } => Stored::Complete { tag, t },
-            Step::Permit { .. } => Stored::Permit { number: count },
+            Step::Permit { .. } => Stored::Permit { index: count },
             Step::Commit { t } => Stored::Commit { tag, t },
             Step::Abort { t } => Stored::Abort { tag, t },
             Step::WaitFor { t } => Stored::WaitFor { tag, t },
@@ -118,7 +118,7 @@ impl Stored {
                 (Step::Write { t, x, v }, tag.about(t, x, 0))
             }
             Stored::Complete { tag, t } => (Step::Complete { t }, tag.about_name(t)),
-            Stored::Permit { number } => beside[number].entry(),
+            Stored::Permit { index } => beside[index].entry(),
             Stored::Commit { tag, t } => (Step::Commit { t }, tag.about_name(t)),
             Stored::Abort { tag, t } => (Step::Abort { t }, tag.about_name(t)),
             Stored::WaitFor { tag, t } => (Step::WaitFor { t }, tag.about_name(t)),
@@ -158,10 +158,10 @@ impl PermitEntry {
 }
 
 /// Puts a permit's entry to what stands beside. Its room was taken.
-#[tactic(auto, unfolding(crate::specs::Stored::beside_after))]
-pub(crate) fn put_beside(beside: &mut Vec<PermitEntry>, step: &Step, reply: Reply)
+#[tactic(auto, unfolding(crate::specs::Stored::sets_after))]
+pub(crate) fn push_set(beside: &mut Vec<PermitEntry>, step: &Step, reply: Reply)
     requires room { length beside.old.items < vec_capacity beside.old }
-    ensures items { beside.new.items ≡ beside_after step.now reply beside.old.items }
+    ensures items { beside.new.items ≡ sets_after step.now reply beside.old.items }
     ensures room { vec_capacity beside.old ≤ vec_capacity beside.new }
 {
     match *step {

@@ -1,4 +1,4 @@
-//! The tables together: what they answer, and how a step that is carried out changes them.
+//! The tables together: what they answer, and how a step that takes effect changes them.
 
 ghost use Rattle.std.specs.Prelude.{◌≡◌};
 ghost use Rattle.asset_core.specs.Tables.{value_asked};
@@ -6,8 +6,8 @@ ghost use Rattle.asset_core.specs.Tables.{value_asked};
 use asset_locks::Locks;
 use asset_names::{
     End, NoMemory, Ob, ObSet, Op, Ops, Outcome, Refusal, Reply, Status, Step, Txn, commit_outcome,
-    is_carried_out, refusal_to_abort, refusal_to_begin, refusal_to_find, refusal_to_initiate,
-    refusal_to_operate, refusal_to_permit, refusal_to_work, wait_outcome,
+    refusal_to_abort, refusal_to_begin, refusal_to_find, refusal_to_initiate, refusal_to_operate,
+    refusal_to_permit, refusal_to_work, takes_effect, wait_outcome,
 };
 use asset_objects::{Objects, ObjectsFault};
 use asset_permits::Permits;
@@ -23,7 +23,7 @@ pub struct Tables {
     pub trans: Trans,
 }
 
-/// The value that a write asks for, and 0 of another step. A signed number out of a step is passed on as the
+/// The value that a write asks for, and 0 of another step. A signed index out of a step is passed on as the
 /// result of a call, so that its range is known.
 #[tactic(auto, unfolding(crate::specs::Tables::value_asked))]
 pub(crate) fn value_asked(step: &Step) -> i64
@@ -39,27 +39,27 @@ impl Tables {
     ghost use Rattle.std.specs.Prelude.{◌≡◌, ℕ, ℤ, cond, not, find, List, [], ◌∷◌, ◌==◌, true, false, None, OnOk, OnErr, IfOk, IfErr};
     ghost use Rattle.asset_names.specs.declared.steps.Step.{Step as Request};
     ghost use Rattle.asset_names.specs.declared.operations.Op.{Op as Operation};
-    ghost use Rattle.asset_names.specs.Steps.{Opening, Entry, carries_out, deeds};
+    ghost use Rattle.asset_names.specs.Steps.{Opening, Entry, takes_effect, applied};
     ghost use Rattle.asset_names.specs.Answers.{first_refusal, rules_for, unrefused, answer, takes_memory, unknown, ended, not_running, no_object, one_name, missing_in, no_object_of};
     ghost use Rattle.asset_objects.specs.Faults.{objects_of, IsObjectsFault};
     ghost use Rattle.asset_names.specs.Sets.{HasNoDouble};
     ghost use Rattle.asset_objects.specs.Cells.{cells, has_object};
     ghost use Rattle.asset_objects.specs.Cells.{change_at, change_each, written, undone, settled};
-    ghost use Rattle.asset_locks.specs.Kept.{table_of, HaveOwners};
-    ghost use Rattle.asset_locks.specs.Table.{enrol_in, grant_in, wait_in, release_in};
-    ghost use Rattle.asset_trans.specs.Rows.{status_in, initiate_in, set_in};
+    ghost use Rattle.asset_locks.specs.Valid.{lock_table, HaveOwners};
+    ghost use Rattle.asset_locks.specs.LockTable.{enrol_in, grant_in, wait_in, release_in};
+    ghost use Rattle.asset_trans.specs.TransRows.{status_in, initiate_in, set_in};
     ghost use Rattle.asset_names.specs.Orderly.{IsOrderly};
     ghost use Rattle.asset_names.specs.declared.statuses.Status.{Status};
     ghost use Rattle.asset_names.specs.Endings.{is_live_status};
-    ghost use Rattle.asset_names.specs.Operations.{exists, reach};
-    ghost use Rattle.asset_permits.specs.Descriptors.{allows_in};
+    ghost use Rattle.asset_names.specs.Operations.{exists, allows};
+    ghost use Rattle.asset_permits.specs.Descriptors.{allows_by};
     ghost use Rattle.asset_core.specs.PermitChanges.{IsDropped};
-    ghost use Rattle.asset_core.specs.Tables.{value_asked, value_or_zero, read_outcome, Stand, IsReady, MayWait, IsAtWork, IsNew, is_free_for, locks_after, locks_waiting, places_of, ShowAlike};
+    ghost use Rattle.asset_core.specs.Tables.{value_asked, value_or_zero, read_outcome, Stand, IsReady, MayWait, IsAtWork, IsNew, is_free_for, locks_after, locks_waiting, pending_in, SameView};
 
     /// The tables of an opening, before the first step.
     pub fn open(alloc: Global, opening: &[(Ob, i64)]) -> Result<Tables, ObjectsFault>
         ensures stand { IfOk result (λ tables. Stand opening.now [] tables) }
-        ensures places { IfOk result (λ tables. places_of tables.locks ≡ []) }
+        ensures pending_requests { IfOk result (λ tables. pending_in tables.locks ≡ []) }
         ensures different { OnOk result (HasNoDouble (objects_of opening.now)) }
         ensures fault { IfErr result (λ fault. IsObjectsFault opening.now fault) }
     {
@@ -80,7 +80,7 @@ impl Tables {
 
     /// The first refusal of a step, if one applies.
     fn refusal(&self, step: &Step) -> Option<Refusal>
-        ensures { (opening : Opening) (past : List Request) → Stand opening past self.now → result ≡ first_refusal (rules_for opening past step.now) }
+        ensures { (opening : Opening) (steps : List Request) → Stand opening steps self.now → result ≡ first_refusal (rules_for opening steps step.now) }
     {
         match *step {
             Step::Initiate { t, .. } => refusal_to_initiate(t, self.trans.status(t)),
@@ -102,8 +102,8 @@ impl Tables {
 
     /// Why `t` may not operate on `x`, if it may not.
     fn refusal_to_use(&self, t: Txn, x: Ob) -> Option<Refusal>
-        ensures { (opening : Opening) (past : List Request) → Stand opening past self.now →
-            result ≡ first_refusal (unknown past t ∷ ended past t ∷ not_running past t ∷ no_object opening x ∷ []) }
+        ensures { (opening : Opening) (steps : List Request) → Stand opening steps self.now →
+            result ≡ first_refusal (unknown steps t ∷ ended steps t ∷ not_running steps t ∷ no_object opening x ∷ []) }
     {
         let exists = self.objects.value(x).is_some();
         refusal_to_operate(t, self.trans.status(t), x, exists)
@@ -111,8 +111,8 @@ impl Tables {
 
     /// Why the giver may not permit the taker anything on the objects, if it may not.
     fn refusal_to_permit(&self, giver: Txn, taker: Txn, obs: &ObSet) -> Option<Refusal>
-        ensures { (opening : Opening) (past : List Request) → Stand opening past self.now →
-            result ≡ first_refusal (one_name giver taker ∷ unknown past giver ∷ unknown past taker ∷ ended past giver ∷ ended past taker ∷ no_object_of opening obs.now ∷ []) }
+        ensures { (opening : Opening) (steps : List Request) → Stand opening steps self.now →
+            result ≡ first_refusal (one_name giver taker ∷ unknown steps giver ∷ unknown steps taker ∷ ended steps giver ∷ ended steps taker ∷ no_object_of opening obs.now ∷ []) }
     {
         let missing = self.missing(obs);
         refusal_to_permit(
@@ -126,7 +126,7 @@ impl Tables {
 
     /// The least object of the set that does not exist, if there is one.
     fn missing(&self, obs: &ObSet) -> Option<Ob>
-        ensures { (opening : Opening) (past : List Request) → Stand opening past self.now → result ≡ missing_in opening obs.now }
+        ensures { (opening : Opening) (steps : List Request) → Stand opening steps self.now → result ≡ missing_in opening obs.now }
     {
         match obs {
             ObSet::All => None,
@@ -178,8 +178,8 @@ impl Tables {
 
     /// The outcome of a write, of whatever value, that is not refused. Nothing changes.
     fn write_outcome(&mut self, t: Txn, x: Ob) -> Outcome
-        ensures outcome { (opening : Opening) (past : List Request) (v : ℤ) → Stand opening past self.old →
-            result ≡ unrefused opening past (Request.Write t x v) }
+        ensures outcome { (opening : Opening) (steps : List Request) (v : ℤ) → Stand opening steps self.old →
+            result ≡ unrefused opening steps (Request.Write t x v) }
         ensures same { self.new ≡ self.old }
     {
         if self.locks.is_free(t, x, Op::Write, &mut self.permits) {
@@ -191,8 +191,8 @@ impl Tables {
 
     /// The outcome of a step that is not refused. Nothing changes.
     fn unrefused(&mut self, step: &Step) -> Outcome
-        ensures outcome { (opening : Opening) (past : List Request) → Stand opening past self.old → first_refusal (rules_for opening past step.now) ≡ None →
-            result ≡ unrefused opening past step.now }
+        ensures outcome { (opening : Opening) (steps : List Request) → Stand opening steps self.old → first_refusal (rules_for opening steps step.now) ≡ None →
+            result ≡ unrefused opening steps step.now }
         ensures same { self.new ≡ self.old }
     {
         match *step {
@@ -213,9 +213,9 @@ impl Tables {
 
     /// The answer to a step. Nothing changes.
     pub fn answer(&mut self, step: &Step) -> Outcome
-        ensures answer { (opening : Opening) (past : List Request) → Stand opening past self.old → result ≡ answer opening past step.now }
-        ensures allowed { (opening : Opening) (past : List Request) → Stand opening past self.old →
-            (u t x : ℕ) (op : Operation) → allows_in self.old.permits u t x op ≡ reach past u t x op }
+        ensures answer { (opening : Opening) (steps : List Request) → Stand opening steps self.old → result ≡ answer opening steps step.now }
+        ensures allowed { (opening : Opening) (steps : List Request) → Stand opening steps self.old →
+            (u t x : ℕ) (op : Operation) → allows_by self.old.permits u t x op ≡ allows steps u t x op }
         ensures same { self.new ≡ self.old }
     {
         match self.refusal(step) {
@@ -224,28 +224,28 @@ impl Tables {
         }
     }
 
-    /// Carries a step out, if the reply says so. Where memory runs out, the tables show what they did before.
+    /// Applies a step, if the reply says so. Where memory runs out, the tables show what they did before.
     pub fn follow(&mut self, step: &Step, reply: Reply) -> Result<(), NoMemory>
-        requires ready { carries_out step.now reply ≡ true → IsReady step.now self.old }
-        ensures stand { OnOk result ((opening : Opening) (older : List Entry) → Stand opening (deeds older) self.old → IsOrderly (deeds older) → Stand opening (deeds ((step.now, reply) ∷ older)) self.new) }
-        ensures locks { OnOk result (table_of self.new.locks ≡ cond (carries_out step.now reply) (locks_after step.now self.old) (table_of self.old.locks)) }
-        ensures memory { OnErr result ((takes_memory step.now ≡ true) × (carries_out step.now reply ≡ true)) }
-        ensures unchanged { OnErr result (ShowAlike self.new self.old) }
+        requires ready { takes_effect step.now reply ≡ true → IsReady step.now self.old }
+        ensures stand { OnOk result ((opening : Opening) (older : List Entry) → Stand opening (applied older) self.old → IsOrderly (applied older) → Stand opening (applied ((step.now, reply) ∷ older)) self.new) }
+        ensures locks { OnOk result (lock_table self.new.locks ≡ cond (takes_effect step.now reply) (locks_after step.now self.old) (lock_table self.old.locks)) }
+        ensures memory { OnErr result ((takes_memory step.now ≡ true) × (takes_effect step.now reply ≡ true)) }
+        ensures unchanged { OnErr result (SameView self.new self.old) }
     {
-        if is_carried_out(step, reply) {
-            self.carry_out(step)
+        if takes_effect(step, reply) {
+            self.apply(step)
         } else {
             Ok(())
         }
     }
 
-    /// Carries a step out. Where memory runs out, the tables show what they did before.
-    pub fn carry_out(&mut self, step: &Step) -> Result<(), NoMemory>
+    /// Applies a step. Where memory runs out, the tables show what they did before.
+    pub fn apply(&mut self, step: &Step) -> Result<(), NoMemory>
         requires ready { IsReady step.now self.old }
-        ensures stand { OnOk result ((opening : Opening) (past : List Request) → Stand opening past self.old → IsOrderly past → Stand opening (step.now ∷ past) self.new) }
-        ensures locks { OnOk result (table_of self.new.locks ≡ locks_after step.now self.old) }
+        ensures stand { OnOk result ((opening : Opening) (steps : List Request) → Stand opening steps self.old → IsOrderly steps → Stand opening (step.now ∷ steps) self.new) }
+        ensures locks { OnOk result (lock_table self.new.locks ≡ locks_after step.now self.old) }
         ensures memory { OnErr result (takes_memory step.now ≡ true) }
-        ensures unchanged { OnErr result (ShowAlike self.new self.old) }
+        ensures unchanged { OnErr result (SameView self.new self.old) }
     {
         match *step {
             Step::Initiate { t, parent } => self.initiate(t, parent),
@@ -282,9 +282,9 @@ impl Tables {
         requires new { IsNew self.old t.0 }
         ensures rows { OnOk result (self.new.trans ≡ initiate_in self.old.trans t parent) }
         ensures objects { OnOk result (cells self.new.objects ≡ cells self.old.objects) }
-        ensures locks { OnOk result (table_of self.new.locks ≡ enrol_in t.0 (table_of self.old.locks)) }
+        ensures locks { OnOk result (lock_table self.new.locks ≡ enrol_in t.0 (lock_table self.old.locks)) }
         ensures permits { self.new.permits ≡ self.old.permits }
-        ensures unchanged { OnErr result (ShowAlike self.new self.old) }
+        ensures unchanged { OnErr result (SameView self.new self.old) }
     {
         self.locks.enrol(t)?;
         match self.trans.initiate(t, parent) {
@@ -303,9 +303,9 @@ impl Tables {
         ensures rows { self.new.trans ≡ self.old.trans }
         ensures permits { self.new.permits ≡ self.old.permits }
         ensures objects { cells self.new.objects ≡ cells self.old.objects }
-        ensures locks { OnOk result (table_of self.new.locks ≡ grant_in t.0 x Operation.Read (table_of self.old.locks)) }
-        ensures owners { OnOk result (HaveOwners ((table_of self.old.locks).locks_on x.0)) }
-        ensures unchanged { OnErr result (table_of self.new.locks ≡ table_of self.old.locks) }
+        ensures locks { OnOk result (lock_table self.new.locks ≡ grant_in t.0 x Operation.Read (lock_table self.old.locks)) }
+        ensures owners { OnOk result (HaveOwners ((lock_table self.old.locks).locks_on x.0)) }
+        ensures unchanged { OnErr result (lock_table self.new.locks ≡ lock_table self.old.locks) }
     {
         self.locks.ask(t, x, Op::Read, &mut self.permits)?;
         Ok(())
@@ -319,9 +319,9 @@ impl Tables {
         ensures rows { self.new.trans ≡ self.old.trans }
         ensures permits { self.new.permits ≡ self.old.permits }
         ensures objects { OnOk result (cells self.new.objects ≡ change_at x.0 (written t.0 (value_asked step.now)) (cells self.old.objects)) }
-        ensures locks { OnOk result (table_of self.new.locks ≡ grant_in t.0 x Operation.Write (table_of self.old.locks)) }
-        ensures owners { OnOk result (HaveOwners ((table_of self.old.locks).locks_on x.0)) }
-        ensures unchanged { OnErr result (ShowAlike self.new self.old) }
+        ensures locks { OnOk result (lock_table self.new.locks ≡ grant_in t.0 x Operation.Write (lock_table self.old.locks)) }
+        ensures owners { OnOk result (HaveOwners ((lock_table self.old.locks).locks_on x.0)) }
+        ensures unchanged { OnErr result (SameView self.new self.old) }
     {
         self.objects.reserve_write()?;
         self.locks.ask(t, x, Op::Write, &mut self.permits)?;
@@ -334,7 +334,7 @@ impl Tables {
         ensures live { is_live_status (status_in self.old.trans t.0) ≡ true →
             (self.new.trans ≡ set_in (λ n. n == t.0) Status.Committed self.old.trans)
             × (cells self.new.objects ≡ change_each (settled (λ n. n == t.0)) (cells self.old.objects))
-            × (table_of self.new.locks ≡ release_in (λ n. n == t.0) (table_of self.old.locks))
+            × (lock_table self.new.locks ≡ release_in (λ n. n == t.0) (lock_table self.old.locks))
             × IsDropped t.0 self.old.permits self.new.permits }
         ensures ended { is_live_status (status_in self.old.trans t.0) ≡ false → self.new ≡ self.old }
     {
@@ -351,7 +351,7 @@ impl Tables {
         ensures live { is_live_status (status_in self.old.trans t.0) ≡ true →
             (self.new.trans ≡ set_in (λ n. n == t.0) Status.Aborted self.old.trans)
             × (cells self.new.objects ≡ change_each (undone (λ n. n == t.0)) (cells self.old.objects))
-            × (table_of self.new.locks ≡ release_in (λ n. n == t.0) (table_of self.old.locks))
+            × (lock_table self.new.locks ≡ release_in (λ n. n == t.0) (lock_table self.old.locks))
             × IsDropped t.0 self.old.permits self.new.permits }
         ensures ended { is_live_status (status_in self.old.trans t.0) ≡ false → self.new ≡ self.old }
     {
@@ -363,13 +363,13 @@ impl Tables {
         }
     }
 
-    /// Keeps a request that waits in its asker's pending place. It takes no memory.
+    /// Keeps a request that waits in its asker's pending request. It takes no memory.
     pub fn wait(&mut self, step: &Step)
         requires waits { MayWait step.now self.old }
         ensures rows { self.new.trans ≡ self.old.trans }
         ensures permits { self.new.permits ≡ self.old.permits }
         ensures objects { self.new.objects ≡ self.old.objects }
-        ensures locks { table_of self.new.locks ≡ locks_waiting step.now self.old }
+        ensures locks { lock_table self.new.locks ≡ locks_waiting step.now self.old }
     {
         match *step {
             Step::Read { t, x } => self.wait_for(t, x, Op::Read),
@@ -384,14 +384,14 @@ impl Tables {
         }
     }
 
-    /// Keeps a request that is not free in the pending place of `t`.
+    /// Keeps a request that is not free in the pending request of `t`.
     fn wait_for(&mut self, t: Txn, x: Ob, op: Op)
         requires work { IsAtWork self.old t.0 }
-        requires hindered { is_free_for self.old t.0 x.0 op ≡ false }
+        requires blocked { is_free_for self.old t.0 x.0 op ≡ false }
         ensures rows { self.new.trans ≡ self.old.trans }
         ensures permits { self.new.permits ≡ self.old.permits }
         ensures objects { self.new.objects ≡ self.old.objects }
-        ensures locks { table_of self.new.locks ≡ wait_in t.0 x op (table_of self.old.locks) }
+        ensures locks { lock_table self.new.locks ≡ wait_in t.0 x op (lock_table self.old.locks) }
     {
         match self.locks.ask(t, x, op, &mut self.permits) {
             Ok(_) => {}

@@ -6,8 +6,8 @@ use Rattle.std.proofs.lemmas.Bool.{eqb-true, eq-eqb, or_cases, or_parts, or_from
 use Rattle.std.proofs.lemmas.List.Folds.{list_any-append}
 use Rattle.asset_names.specs.declared.operations.Op.{Op}
 use Rattle.asset_names.specs.Operations.{conflict}
-use Rattle.asset_locks.specs.Table.{Lock, is_of, one_conflicts, both_conflict, lock_of, carried_with, beside, newcomer, granted_on, AreApart}
-use Rattle.asset_locks.specs.Kept.{HaveOwners}
+use Rattle.asset_locks.specs.LockTable.{Lock, is_of, one_conflicts, both_conflict, lock_of, ops_with, adjusted, newcomer, granted_on, AreApart}
+use Rattle.asset_locks.specs.Valid.{HaveOwners}
 
 -- whether two locks are granted in conflict
 abbrev pub clash : Lock → Lock → Bool
@@ -33,7 +33,7 @@ conflict_pair a b c d = grind arith
 both_conflict_back : (ops others : Bool × Bool) → both_conflict ops others ≡ both_conflict others ops
 both_conflict_back ops others = conflict_pair ops.0 ops.1 others.0 others.1
 
--- a lock beside one of t, by whether it is t's own and whether it conflicts
+-- a lock adjusted one of t, by whether it is t's own and whether it conflicts
 abbrev placed : Bool → Bool → ℕ → Bool × Bool → Lock → Lock
 placed own conflicts t ops lock = cond own (record { owner = t; ops = ops; granted = true }) (cond conflicts (record lock { granted = false }) lock)
 
@@ -48,9 +48,9 @@ clash_placed false false true d t ops a b apart e f h = refl
 clash_placed false false false true t ops a b apart e f h = ap (λ r. r && both_conflict a.ops b.ops) (and_none a.granted)
 clash_placed false false false false t ops a b apart e f h = h refl refl
 
-clash_beside : (t : ℕ) (ops : Bool × Bool) (a b : Lock) → (is_of t a && is_of t b) ≡ false → (is_of t a ≡ false → is_of t b ≡ false → clash a b ≡ false) → clash (beside t ops a) (beside t ops b) ≡ false
-unfolding beside
-clash_beside t ops a b apart h = clash_placed (is_of t a) (is_of t b) (both_conflict a.ops ops) (both_conflict b.ops ops) t ops a b apart refl refl h
+clash_adjusted : (t : ℕ) (ops : Bool × Bool) (a b : Lock) → (is_of t a && is_of t b) ≡ false → (is_of t a ≡ false → is_of t b ≡ false → clash a b ≡ false) → clash (adjusted t ops a) (adjusted t ops b) ≡ false
+unfolding adjusted
+clash_adjusted t ops a b apart h = clash_placed (is_of t a) (is_of t b) (both_conflict a.ops ops) (both_conflict b.ops ops) t ops a b apart refl refl h
 
 -- two locks of different owners are not both t's
 not_both : (t : ℕ) (a b : Lock) → is_of a.owner b ≡ false → (is_of t a && is_of t b) ≡ false
@@ -68,20 +68,20 @@ owner_placed true c t ops lock e = sym (eqb-true lock.owner t e)
 owner_placed false true t ops lock e = refl
 owner_placed false false t ops lock e = refl
 
-owner_beside : (t : ℕ) (ops : Bool × Bool) (lock : Lock) → (beside t ops lock).owner ≡ lock.owner
-unfolding beside is_of
-owner_beside t ops lock = owner_placed (eqb lock.owner t) (both_conflict lock.ops ops) t ops lock refl
+owner_adjusted : (t : ℕ) (ops : Bool × Bool) (lock : Lock) → (adjusted t ops lock).owner ≡ lock.owner
+unfolding adjusted is_of
+owner_adjusted t ops lock = owner_placed (eqb lock.owner t) (both_conflict lock.ops ops) t ops lock refl
 
-pub owned_beside : (t u : ℕ) (ops : Bool × Bool) (locks : List Lock) → list_any (is_of u) (map (beside t ops) locks) ≡ list_any (is_of u) locks
+pub owned_adjusted : (t u : ℕ) (ops : Bool × Bool) (locks : List Lock) → list_any (is_of u) (map (adjusted t ops) locks) ≡ list_any (is_of u) locks
 unfolding is_of
-owned_beside t u ops [] = refl
-owned_beside t u ops (lock ∷ locks) = λ i. eqb (owner_beside t ops lock i) u || owned_beside t u ops locks i
+owned_adjusted t u ops [] = refl
+owned_adjusted t u ops (lock ∷ locks) = λ i. eqb (owner_adjusted t ops lock i) u || owned_adjusted t u ops locks i
 
-owners_beside : (t : ℕ) (ops : Bool × Bool) (locks : List Lock) → HaveOwners locks → HaveOwners (map (beside t ops) locks)
+owners_adjusted : (t : ℕ) (ops : Bool × Bool) (locks : List Lock) → HaveOwners locks → HaveOwners (map (adjusted t ops) locks)
 unfolding HaveOwners
-owners_beside t ops [] h = tt
-owners_beside t ops (lock ∷ locks) h =
-    (ap (λ u. list_any (is_of u) (map (beside t ops) locks)) (owner_beside t ops lock) ∙ owned_beside t lock.owner ops locks ∙ h.0, owners_beside t ops locks h.1)
+owners_adjusted t ops [] h = tt
+owners_adjusted t ops (lock ∷ locks) h =
+    (ap (λ u. list_any (is_of u) (map (adjusted t ops) locks)) (owner_adjusted t ops lock) ∙ owned_adjusted t lock.owner ops locks ∙ h.0, owners_adjusted t ops locks h.1)
 
 owners_push : (locks : List Lock) (new : Lock) → HaveOwners locks → list_any (is_of new.owner) locks ≡ false → HaveOwners (locks ++ new ∷ [])
 unfolding HaveOwners is_of
@@ -101,17 +101,17 @@ none_found test [] e = refl
 none_found test (x ∷ xs) e = none_at test x xs (test x) refl e (none_found test xs)
 
 -- ---- apart
-apart_head : (t : ℕ) (ops : Bool × Bool) (a : Lock) (locks : List Lock) → list_any (is_of a.owner) locks ≡ false → list_any (clash a) locks ≡ false → list_any (clash (beside t ops a)) (map (beside t ops) locks) ≡ false
+apart_head : (t : ℕ) (ops : Bool × Bool) (a : Lock) (locks : List Lock) → list_any (is_of a.owner) locks ≡ false → list_any (clash a) locks ≡ false → list_any (clash (adjusted t ops a)) (map (adjusted t ops) locks) ≡ false
 apart_head t ops a [] others none = refl
 apart_head t ops a (b ∷ locks) others none =
     let owned = or_parts (is_of a.owner b) (list_any (is_of a.owner) locks) others in
     let parts = or_parts (clash a b) (list_any (clash a) locks) none in
-    or_from _ _ (clash_beside t ops a b (not_both t a b owned.0) (λ p q. parts.0)) (apart_head t ops a locks owned.1 parts.1)
+    or_from _ _ (clash_adjusted t ops a b (not_both t a b owned.0) (λ p q. parts.0)) (apart_head t ops a locks owned.1 parts.1)
 
-apart_beside : (t : ℕ) (ops : Bool × Bool) (locks : List Lock) → HaveOwners locks → AreApart locks → AreApart (map (beside t ops) locks)
+apart_adjusted : (t : ℕ) (ops : Bool × Bool) (locks : List Lock) → HaveOwners locks → AreApart locks → AreApart (map (adjusted t ops) locks)
 unfolding HaveOwners AreApart
-apart_beside t ops [] owners h = tt
-apart_beside t ops (lock ∷ locks) owners h = (apart_head t ops lock locks owners.0 h.0, apart_beside t ops locks owners.1 h.1)
+apart_adjusted t ops [] owners h = tt
+apart_adjusted t ops (lock ∷ locks) owners h = (apart_head t ops lock locks owners.0 h.0, apart_adjusted t ops locks owners.1 h.1)
 
 apart_push : (locks : List Lock) (new : Lock) → AreApart locks → list_any (λ (lock : Lock). clash lock new) locks ≡ false → AreApart (locks ++ new ∷ [])
 unfolding AreApart
@@ -129,49 +129,49 @@ clash_first t ops true c lock other e f = absurd (true≢false (sym e ∙ other)
 clash_first t ops false true lock other e f = refl
 clash_first t ops false false lock other e f = ap (λ r. lock.granted && true && r) f ∙ and_none (lock.granted && true)
 
-apart_first : (t : ℕ) (ops : Bool × Bool) (locks : List Lock) → list_any (is_of t) locks ≡ false → list_any (λ (lock : Lock). clash lock (first_lock t ops)) (map (beside t ops) locks) ≡ false
-unfolding beside
+apart_first : (t : ℕ) (ops : Bool × Bool) (locks : List Lock) → list_any (is_of t) locks ≡ false → list_any (λ (lock : Lock). clash lock (first_lock t ops)) (map (adjusted t ops) locks) ≡ false
+unfolding adjusted
 apart_first t ops [] none = refl
 apart_first t ops (lock ∷ locks) none =
     let parts = or_parts (is_of t lock) (list_any (is_of t) locks) none in
     or_from _ _ (clash_first t ops (is_of t lock) (both_conflict lock.ops ops) lock parts.0 refl refl) (apart_first t ops locks parts.1)
 
 -- ---- a grant
-owners_by : (t : ℕ) (ops : Bool × Bool) (locks : List Lock) (before : Option Lock) → lock_of t locks ≡ before → HaveOwners locks → HaveOwners (map (beside t ops) locks ++ newcomer t ops before)
+owners_by : (t : ℕ) (ops : Bool × Bool) (locks : List Lock) (before : Option Lock) → lock_of t locks ≡ before → HaveOwners locks → HaveOwners (map (adjusted t ops) locks ++ newcomer t ops before)
 unfolding newcomer lock_of
-owners_by t ops locks None none h = owners_push (map (beside t ops) locks) (first_lock t ops) (owners_beside t ops locks h) (owned_beside t t ops locks ∙ none_found (is_of t) locks none)
-owners_by t ops locks (Some lock) there h = subst HaveOwners (sym (append-nil (map (beside t ops) locks))) (owners_beside t ops locks h)
+owners_by t ops locks None none h = owners_push (map (adjusted t ops) locks) (first_lock t ops) (owners_adjusted t ops locks h) (owned_adjusted t t ops locks ∙ none_found (is_of t) locks none)
+owners_by t ops locks (Some lock) there h = subst HaveOwners (sym (append-nil (map (adjusted t ops) locks))) (owners_adjusted t ops locks h)
 
 pub owners_granted : (t : ℕ) (op : Op) (locks : List Lock) → HaveOwners locks → HaveOwners (granted_on t op locks)
 unfolding granted_on
-owners_granted t op locks h = owners_by t (carried_with op (lock_of t locks)) locks (lock_of t locks) refl h
+owners_granted t op locks h = owners_by t (ops_with op (lock_of t locks)) locks (lock_of t locks) refl h
 
-apart_by : (t : ℕ) (ops : Bool × Bool) (locks : List Lock) (before : Option Lock) → lock_of t locks ≡ before → HaveOwners locks → AreApart locks → AreApart (map (beside t ops) locks ++ newcomer t ops before)
+apart_by : (t : ℕ) (ops : Bool × Bool) (locks : List Lock) (before : Option Lock) → lock_of t locks ≡ before → HaveOwners locks → AreApart locks → AreApart (map (adjusted t ops) locks ++ newcomer t ops before)
 unfolding newcomer lock_of
-apart_by t ops locks None none owners h = apart_push (map (beside t ops) locks) (first_lock t ops) (apart_beside t ops locks owners h) (apart_first t ops locks (none_found (is_of t) locks none))
-apart_by t ops locks (Some lock) there owners h = subst AreApart (sym (append-nil (map (beside t ops) locks))) (apart_beside t ops locks owners h)
+apart_by t ops locks None none owners h = apart_push (map (adjusted t ops) locks) (first_lock t ops) (apart_adjusted t ops locks owners h) (apart_first t ops locks (none_found (is_of t) locks none))
+apart_by t ops locks (Some lock) there owners h = subst AreApart (sym (append-nil (map (adjusted t ops) locks))) (apart_adjusted t ops locks owners h)
 
 pub apart_granted : (t : ℕ) (op : Op) (locks : List Lock) → HaveOwners locks → AreApart locks → AreApart (granted_on t op locks)
 unfolding granted_on
-apart_granted t op locks owners h = apart_by t (carried_with op (lock_of t locks)) locks (lock_of t locks) refl owners h
+apart_granted t op locks owners h = apart_by t (ops_with op (lock_of t locks)) locks (lock_of t locks) refl owners h
 
 or_none : (p : Bool) → (p || false) ≡ p
 or_none true = refl
 or_none false = refl
 
 -- who has a lock after a grant to t had one before, or is t
-owned_by : (t u : ℕ) (ops : Bool × Bool) (locks : List Lock) (before : Option Lock) → list_any (is_of u) (map (beside t ops) locks ++ newcomer t ops before) ≡ true → (list_any (is_of u) locks ≡ true) ⊎ ((eqb t u ≡ true) × (before ≡ None))
+owned_by : (t u : ℕ) (ops : Bool × Bool) (locks : List Lock) (before : Option Lock) → list_any (is_of u) (map (adjusted t ops) locks ++ newcomer t ops before) ≡ true → (list_any (is_of u) locks ≡ true) ⊎ ((eqb t u ≡ true) × (before ≡ None))
 unfolding newcomer is_of
 owned_by t u ops locks None h =
-    elim (or_cases (list_any (is_of u) (map (beside t ops) locks)) _ (sym (list_any-append (is_of u) (map (beside t ops) locks) (first_lock t ops ∷ [])) ∙ h)) [
-      | inl old ↦ inl (sym (owned_beside t u ops locks) ∙ old)
+    elim (or_cases (list_any (is_of u) (map (adjusted t ops) locks)) _ (sym (list_any-append (is_of u) (map (adjusted t ops) locks) (first_lock t ops ∷ [])) ∙ h)) [
+      | inl old ↦ inl (sym (owned_adjusted t u ops locks) ∙ old)
       | inr new ↦ inr (sym (or_none (eqb t u)) ∙ new, refl)
     ]
-owned_by t u ops locks (Some lock) h = inl (sym (owned_beside t u ops locks) ∙ ap (list_any (is_of u)) (sym (append-nil (map (beside t ops) locks))) ∙ h)
+owned_by t u ops locks (Some lock) h = inl (sym (owned_adjusted t u ops locks) ∙ ap (list_any (is_of u)) (sym (append-nil (map (adjusted t ops) locks))) ∙ h)
 
 pub owned_granted : (t u : ℕ) (op : Op) (locks : List Lock) → list_any (is_of u) (granted_on t op locks) ≡ true → (list_any (is_of u) locks ≡ true) ⊎ ((eqb t u ≡ true) × (lock_of t locks ≡ None))
 unfolding granted_on
-owned_granted t u op locks h = owned_by t u (carried_with op (lock_of t locks)) locks (lock_of t locks) h
+owned_granted t u op locks h = owned_by t u (ops_with op (lock_of t locks)) locks (lock_of t locks) h
 
 -- ---- a release, by a test of the owners
 any_filter_at : {X : Type 0} (test keep : X → Bool) (x : X) (xs : List X) (b : Bool) → keep x ≡ b → test x ≡ false → list_any test (filter keep xs) ≡ false → list_any test (cond b (x ∷ filter keep xs) (filter keep xs)) ≡ false

@@ -5,9 +5,9 @@ use Rattle.std.specs.Option.{option_or}
 use Rattle.std.proofs.lemmas.List.Folds.{find-append}
 use Rattle.asset_names.specs.declared.names.Ob.{Ob}
 use Rattle.asset_names.specs.declared.operations.Op.{Op}
-use Rattle.asset_locks.specs.Table.{Holder, Table, lock_of, change_holder, granted_holder, waiting_holder, no_locks, enrol_in, wait_in, grant_in, release_in, holder_in}
-use Rattle.asset_locks.specs.Kept.{after_ask}
-use Rattle.asset_locks.proofs.SoundLemmas.{named, change_one, name_one, find_mapped, find_kept}
+use Rattle.asset_locks.specs.LockTable.{Enrolled, LockTable, lock_of, change_enrolled, enrolled_granted, enrolled_waiting, no_locks, enrol_in, wait_in, grant_in, release_in, enrolled_in}
+use Rattle.asset_locks.specs.Valid.{after_ask}
+use Rattle.asset_locks.proofs.ValidLemmas.{named, change_one, name_one, find_mapped, find_kept}
 
 mapped_some : {X Y : Type 0} (f : X → Y) (o : Option X) → is_some (option_map f o) ≡ is_some o
 mapped_some f None = refl
@@ -22,28 +22,28 @@ if_some true x = refl
 if_some false x = refl
 
 -- nobody, at first
-pub enrolled_first : (n : ℕ) → is_some (holder_in no_locks n) ≡ false
-unfolding holder_in no_locks
+pub enrolled_first : (n : ℕ) → is_some (enrolled_in no_locks n) ≡ false
+unfolding enrolled_in no_locks
 enrolled_first n = refl
 
 -- an enrolment adds its name
-pub enrolled_more : (t n : ℕ) (table : Table) → is_some (holder_in (enrol_in t table) n) ≡ (is_some (holder_in table n) || eqb t n)
-unfolding holder_in enrol_in
+pub enrolled_more : (t n : ℕ) (table : LockTable) → is_some (enrolled_in (enrol_in t table) n) ≡ (is_some (enrolled_in table n) || eqb t n)
+unfolding enrolled_in enrol_in
 enrolled_more t n table =
-    let new : Holder = record { name = t; place = None; held = [] } in
-    ap is_some (find-append (named n) table.holders (new ∷ [])) ∙ either_some (find (named n) table.holders) (find (named n) (new ∷ [])) ∙ ap (λ b. is_some (find (named n) table.holders) || b) (if_some (eqb t n) new)
+    let new : Enrolled = record { name = t; pending = None; held = [] } in
+    ap is_some (find-append (named n) table.enrolled (new ∷ [])) ∙ either_some (find (named n) table.enrolled) (find (named n) (new ∷ [])) ∙ ap (λ b. is_some (find (named n) table.enrolled) || b) (if_some (eqb t n) new)
 
-enrolled_changed : (t n : ℕ) (change : Holder → Holder) → ((holder : Holder) → (change holder).name ≡ holder.name) → (holders : List Holder) → is_some (find (named n) (change_holder t change holders)) ≡ is_some (find (named n) holders)
-unfolding change_holder
-enrolled_changed t n change same holders = ap is_some (find_mapped n (change_one t change) (name_one t change same) holders) ∙ mapped_some _ (find (named n) holders)
+enrolled_changed : (t n : ℕ) (change : Enrolled → Enrolled) → ((who : Enrolled) → (change who).name ≡ who.name) → (everyone : List Enrolled) → is_some (find (named n) (change_enrolled t change everyone)) ≡ is_some (find (named n) everyone)
+unfolding change_enrolled
+enrolled_changed t n change same everyone = ap is_some (find_mapped n (change_one t change) (name_one t change same) everyone) ∙ mapped_some _ (find (named n) everyone)
 
 -- a request leaves who is enrolled
-pub enrolled_asked : (free : Bool) (t n : ℕ) (x : Ob) (op : Op) (table : Table) → is_some (holder_in (after_ask free t x op table) n) ≡ is_some (holder_in table n)
-unfolding holder_in after_ask grant_in wait_in granted_holder waiting_holder
-enrolled_asked true t n x op table = enrolled_changed t n (granted_holder x (lock_of t (table.locks_on x.0))) (λ holder. refl) table.holders
-enrolled_asked false t n x op table = enrolled_changed t n (waiting_holder x op) (λ holder. refl) table.holders
+pub enrolled_asked : (free : Bool) (t n : ℕ) (x : Ob) (op : Op) (table : LockTable) → is_some (enrolled_in (after_ask free t x op table) n) ≡ is_some (enrolled_in table n)
+unfolding enrolled_in after_ask grant_in wait_in enrolled_granted enrolled_waiting
+enrolled_asked true t n x op table = enrolled_changed t n (enrolled_granted x (lock_of t (table.locks_on x.0))) (λ who. refl) table.enrolled
+enrolled_asked false t n x op table = enrolled_changed t n (enrolled_waiting x op) (λ who. refl) table.enrolled
 
 -- a release leaves who is not released
-pub enrolled_kept : (test : ℕ → Bool) (n : ℕ) (table : Table) → test n ≡ false → is_some (holder_in (release_in test table) n) ≡ is_some (holder_in table n)
-unfolding holder_in release_in
-enrolled_kept test n table free = ap is_some (find_kept test n free table.holders)
+pub enrolled_kept : (test : ℕ → Bool) (n : ℕ) (table : LockTable) → test n ≡ false → is_some (enrolled_in (release_in test table) n) ≡ is_some (enrolled_in table n)
+unfolding enrolled_in release_in
+enrolled_kept test n table free = ap is_some (find_kept test n free table.enrolled)

@@ -1,7 +1,7 @@
 pub mod ListLemmas
-pub mod RowLemmas
+pub mod LockRowLemmas
 pub mod ApartLemmas
-pub mod HolderLemmas
-pub mod SoundLemmas
+pub mod EnrolledLemmas
+pub mod ValidLemmas
 pub mod TableLemmas
 pub mod Laws

@@ -1,2 +1,2 @@
-pub mod Table
-pub mod Kept
+pub mod LockTable
+pub mod Valid

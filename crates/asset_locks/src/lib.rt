@@ -1,10 +1,10 @@
 //! The table of locks: who holds which object by which operations, and who waits for it.
 #![tactic(auto)]
 
-mod holder;
+mod enrolled;
 mod lock;
-mod locks;
+mod state;
 mod table;
 
-pub use locks::{Asked, LockState};
+pub use state::{Asked, LockState};
 pub use table::Locks;

@@ -1,6 +1,6 @@
 //! One lock, and the locks of one object.
 
-use crate::locks::LockState;
+use crate::state::LockState;
 use asset_names::{Ob, Op, Txn};
 use asset_permits::Permits;
 use smallvec::SmallVec;
@@ -10,7 +10,7 @@ use std::marker::Model;
 type Carried = (bool, bool);
 
 /// The locks of one object, in order of first grant. Most objects have few.
-pub(crate) type Row = SmallVec<Lock, 4>;
+pub(crate) type ObjectLocks = SmallVec<Lock, 4>;
 
 /// A lock: its owner, the operations that it carries, and whether it is granted.
 #[derive(Clone, Copy)]
@@ -21,7 +21,7 @@ pub(crate) struct Lock {
 }
 
 impl Model for Lock {
-    ghost use Rattle.asset_locks.specs.Table.{Lock as Shown};
+    ghost use Rattle.asset_locks.specs.LockTable.{Lock as Shown};
 
     ghost Value = { Shown };
 
@@ -30,7 +30,7 @@ impl Model for Lock {
     ghost inverse = { λ shown. record { owner = record { 0 = shown.owner }; ops = shown.ops; granted = shown.granted } };
 }
 
-/// What stands in the inline places of a row that no lock fills.
+/// What stands in the inline slots of a row that no lock fills.
 impl Default for Lock {
     fn default() -> Lock {
         Lock {
@@ -43,30 +43,30 @@ impl Default for Lock {
 
 impl Lock {
     ghost use Rattle.std.specs.Prelude.{◌≡◌};
-    ghost use Rattle.asset_permits.specs.Descriptors.{allows_in};
-    ghost use Rattle.asset_locks.specs.Table.{is_of, hinders, beside, state_of};
+    ghost use Rattle.asset_permits.specs.Descriptors.{allows_by};
+    ghost use Rattle.asset_locks.specs.LockTable.{is_of, blocks, adjusted, state_of};
 
     /// Whether the lock is the transaction's.
-    #[tactic(auto, unfolding(crate::specs::Table::is_of))]
+    #[tactic(auto, unfolding(crate::specs::LockTable::is_of))]
     fn is_of(&self, t: Txn) -> bool
         ensures { result ≡ is_of t.0 self.now }
     {
         self.owner == t
     }
 
-    /// Whether the lock hinders `t` from doing `op` on `x`, the object that it is on.
-    #[tactic(auto, unfolding(crate::specs::Table::is_of, crate::specs::Table::hinders))]
-    fn hinders(&self, t: Txn, x: Ob, op: Op, permits: &mut Permits) -> bool
-        ensures answer { result ≡ hinders (λ u. allows_in permits.old u t.0 x.0 op) t.0 op self.now }
+    /// Whether the lock blocks `t` from doing `op` on `x`, the object that it is on.
+    #[tactic(auto, unfolding(crate::specs::LockTable::is_of, crate::specs::LockTable::blocks))]
+    fn blocks(&self, t: Txn, x: Ob, op: Op, permits: &mut Permits) -> bool
+        ensures answer { result ≡ blocks (λ u. allows_by permits.old u t.0 x.0 op) t.0 op self.now }
         ensures permits { permits.new ≡ permits.old }
     {
         self.owner != t && one_conflicts(self.ops, op) && !permits.allows(self.owner, t, x, op)
     }
 
     /// What becomes of the lock where `t` is granted a lock with these operations.
-    #[tactic(auto, unfolding(crate::specs::Table::is_of, crate::specs::Table::beside))]
+    #[tactic(auto, unfolding(crate::specs::LockTable::is_of, crate::specs::LockTable::adjusted))]
     fn adjust(&mut self, t: Txn, ops: Carried)
-        ensures { self.new ≡ beside t.0 ops self.old }
+        ensures { self.new ≡ adjusted t.0 ops self.old }
     {
         if self.owner == t {
             self.ops = ops;
@@ -77,7 +77,7 @@ impl Lock {
     }
 
     /// Its state.
-    #[tactic(auto, unfolding(crate::specs::Table::state_of))]
+    #[tactic(auto, unfolding(crate::specs::LockTable::state_of))]
     pub(crate) fn state(&self) -> LockState
         ensures { result ≡ state_of self.now }
     {
@@ -93,12 +93,12 @@ ghost use Rattle.std.specs.Prelude.{◌≡◌, ◌==◌, not, map, filter, is_so
 ghost use Rattle.std.specs.List.{list_any};
 ghost use Rattle.smallvec.specs.SmallVec.{HasRoomFor};
 ghost use Rattle.asset_names.specs.Operations.{conflict, has_op};
-ghost use Rattle.asset_permits.specs.Descriptors.{allows_in};
-ghost use Rattle.asset_locks.specs.Kept.{without};
-ghost use Rattle.asset_locks.specs.Table.{one_conflicts, both_conflict, with_op, carried_with, hinders, beside, lock_of, granted_on};
+ghost use Rattle.asset_permits.specs.Descriptors.{allows_by};
+ghost use Rattle.asset_locks.specs.Valid.{without};
+ghost use Rattle.asset_locks.specs.LockTable.{one_conflicts, both_conflict, with_op, ops_with, blocks, adjusted, lock_of, granted_on};
 
 /// Whether any of the operations conflicts with `op`.
-#[tactic(auto, unfolding(crate::specs::Table::one_conflicts, asset_names::specs::Operations::conflict))]
+#[tactic(auto, unfolding(crate::specs::LockTable::one_conflicts, asset_names::specs::Operations::conflict))]
 fn one_conflicts(ops: Carried, op: Op) -> bool
     ensures { result ≡ one_conflicts ops op }
 {
@@ -109,7 +109,7 @@ fn one_conflicts(ops: Carried, op: Op) -> bool
 }
 
 /// Whether any of the operations conflicts with any of the others.
-#[tactic(auto, unfolding(crate::specs::Table::both_conflict))]
+#[tactic(auto, unfolding(crate::specs::LockTable::both_conflict))]
 fn both_conflict(ops: Carried, others: Carried) -> bool
     ensures { result ≡ both_conflict ops others }
 {
@@ -117,7 +117,7 @@ fn both_conflict(ops: Carried, others: Carried) -> bool
 }
 
 /// The operations with one more.
-#[tactic(auto, unfolding(crate::specs::Table::with_op))]
+#[tactic(auto, unfolding(crate::specs::LockTable::with_op))]
 fn with_op(op: Op, ops: Carried) -> Carried
     ensures { result ≡ with_op op ops }
 {
@@ -128,7 +128,7 @@ fn with_op(op: Op, ops: Carried) -> Carried
 }
 
 /// The lock of `t`, if it has one.
-#[tactic(auto, unfolding(crate::specs::Table::lock_of))]
+#[tactic(auto, unfolding(crate::specs::LockTable::lock_of))]
 pub(crate) fn lock_of(locks: &[Lock], t: Txn) -> Option<Lock>
     ensures { result ≡ lock_of t.0 locks.now }
 {
@@ -136,9 +136,9 @@ pub(crate) fn lock_of(locks: &[Lock], t: Txn) -> Option<Lock>
 }
 
 /// The operations that a lock carries, if there is one, and `op`.
-#[tactic(auto, unfolding(crate::specs::Table::carried_with))]
-fn carried_with(op: Op, lock: Option<Lock>) -> Carried
-    ensures { result ≡ carried_with op lock }
+#[tactic(auto, unfolding(crate::specs::LockTable::ops_with))]
+fn ops_with(op: Op, lock: Option<Lock>) -> Carried
+    ensures { result ≡ ops_with op lock }
 {
     match lock {
         Some(lock) => with_op(op, lock.ops),
@@ -146,13 +146,13 @@ fn carried_with(op: Op, lock: Option<Lock>) -> Carried
     }
 }
 
-/// Whether one of the locks on `x` hinders `t` from doing `op`.
-pub(crate) fn is_hindered(locks: &[Lock], t: Txn, x: Ob, op: Op, permits: &mut Permits) -> bool
-    ensures answer { result ≡ list_any (hinders (λ u. allows_in permits.old u t.0 x.0 op) t.0 op) locks.now }
+/// Whether one of the locks on `x` blocks `t` from doing `op`.
+pub(crate) fn is_blocked(locks: &[Lock], t: Txn, x: Ob, op: Op, permits: &mut Permits) -> bool
+    ensures answer { result ≡ list_any (blocks (λ u. allows_by permits.old u t.0 x.0 op) t.0 op) locks.now }
     ensures permits { permits.new ≡ permits.old }
 {
     'locks: for lock in locks {
-        if lock.hinders(t, x, op, permits) {
+        if lock.blocks(t, x, op, permits) {
             return true;
         }
     }
@@ -161,7 +161,7 @@ pub(crate) fn is_hindered(locks: &[Lock], t: Txn, x: Ob, op: Op, permits: &mut P
 
 /// Adjusts each of the locks where `t` is granted a lock with these operations.
 fn adjust_each(locks: &mut [Lock], t: Txn, ops: Carried)
-    ensures { locks.new ≡ map (beside t.0 ops) locks.old }
+    ensures { locks.new ≡ map (adjusted t.0 ops) locks.old }
 {
     'locks: for lock in locks.iter_mut() {
         lock.adjust(t, ops);
@@ -169,13 +169,13 @@ fn adjust_each(locks: &mut [Lock], t: Txn, ops: Carried)
 }
 
 /// Grants `op` to `t` among the locks of an object, and says whether `t` had none before.
-pub(crate) fn grant_among(locks: &mut Row, t: Txn, op: Op) -> bool
+pub(crate) fn grant_among(locks: &mut ObjectLocks, t: Txn, op: Op) -> bool
     requires { HasRoomFor locks.old 1 }
     ensures granted { locks.new.items ≡ granted_on t.0 op locks.old.items }
     ensures is_new { result ≡ not (is_some (lock_of t.0 locks.old.items)) }
 {
     let before = lock_of(locks.as_slice(), t);
-    let ops = carried_with(op, before);
+    let ops = ops_with(op, before);
     adjust_each(locks.as_mut_slice(), t, ops);
     let is_new = before.is_none();
     if is_new {
@@ -189,7 +189,7 @@ pub(crate) fn grant_among(locks: &mut Row, t: Txn, op: Op) -> bool
 }
 
 /// Takes the lock of `t` away.
-pub(crate) fn release_among(locks: &mut Row, t: Txn)
+pub(crate) fn release_among(locks: &mut ObjectLocks, t: Txn)
     ensures { locks.new.items ≡ without t.0 locks.old.items }
 {
     locks.retain(

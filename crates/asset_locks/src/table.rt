@@ -1,12 +1,12 @@
 //! The table of locks.
 
 ghost use Rattle.std.specs.Prelude.{◌≡◌, ℕ, cond, ◌==◌, not, is_some, IfOk, OnOk, OnErr};
-ghost use Rattle.asset_locks.specs.Table.{lock_of, granted_on};
-ghost use Rattle.asset_locks.specs.Kept.{locks_in, lists_object, without};
+ghost use Rattle.asset_locks.specs.LockTable.{lock_of, granted_on};
+ghost use Rattle.asset_locks.specs.Valid.{locks_in, lists_object, without};
 
-use crate::holder::Holder;
-use crate::lock::{Lock, Row, grant_among, is_hindered, lock_of, release_among};
-use crate::locks::{Asked, LockState};
+use crate::enrolled::Enrolled;
+use crate::lock::{Lock, ObjectLocks, grant_among, is_blocked, lock_of, release_among};
+use crate::state::{Asked, LockState};
 use asset_names::{NoMemory, Ob, Op, Txn};
 use asset_permits::Permits;
 use indexmap::IndexMap;
@@ -15,40 +15,40 @@ use std::alloc::Global;
 use std::marker::Model;
 
 /// The locks on objects, and the enrolled transactions with what each holds and waits for. Contracts
-/// see it as `table_of` says.
+/// see it as `lock_table` says.
 #[derive(Drop)]
 pub struct Locks {
     objects: IndexMap<Ob, SmallVec<Lock, 4>>,
-    holders: IndexMap<Txn, Holder>,
+    enrolled: IndexMap<Txn, Enrolled>,
     alloc: Global,
 }
 
 impl Model for Locks {
     ghost use Rattle.std.specs.Prelude.{map};
-    ghost use Rattle.asset_locks.specs.Kept.{Kept, IsSound, table_of, shown_holder};
+    ghost use Rattle.asset_locks.specs.Valid.{LockRows, IsValid, lock_table, shown_enrolled};
 
-    ghost Value = { Kept };
+    ghost Value = { LockRows };
 
-    ghost view = { λ locks. record { holders = map shown_holder locks.holders.entries; rows = locks.objects.entries } };
+    ghost view = { λ locks. record { enrolled = map shown_enrolled locks.enrolled.entries; rows = locks.objects.entries } };
 
-    ghost invariant = { λ locks. IsSound (table_of (record { holders = map shown_holder locks.holders.entries; rows = locks.objects.entries })) };
+    ghost invariant = { λ locks. IsValid (lock_table (record { enrolled = map shown_enrolled locks.enrolled.entries; rows = locks.objects.entries })) };
 }
 
 impl Locks {
     ghost use Rattle.std.specs.Prelude.{◌≡◌, ℕ, ◌==◌, true, false, None, Some, is_some, slice_get, IsTrue, IfOk, IsErr, OnOk, OnErr};
     ghost use Rattle.std.specs.Option.{option_to_list};
     ghost use Rattle.std.specs.List.{list_any};
-    ghost use Rattle.asset_permits.specs.Descriptors.{allows_in};
-    ghost use Rattle.asset_locks.specs.Table.{is_of, no_locks, enrol_in, release_in, holder_in, is_free_in, grant_in, wait_in, status_in, held_in, waiters_in, waiting_at, AreApart, Holder as Enrolled};
-    ghost use Rattle.asset_locks.specs.Kept.{table_of, answer_where, after_ask, HaveOwners};
+    ghost use Rattle.asset_permits.specs.Descriptors.{allows_by};
+    ghost use Rattle.asset_locks.specs.LockTable.{is_of, no_locks, enrol_in, release_in, enrolled_in, is_free_in, grant_in, wait_in, status_in, held_in, waiters_in, waiting_at, AreApart, Enrolled as Shown};
+    ghost use Rattle.asset_locks.specs.Valid.{lock_table, answer_where, after_ask, HaveOwners};
 
     /// A table without locks, in which nobody is enrolled. It takes no memory.
     pub fn new(alloc: Global) -> Locks
-        ensures { table_of result ≡ no_locks }
+        ensures { lock_table result ≡ no_locks }
     {
         Locks {
             objects: IndexMap::new(alloc),
-            holders: IndexMap::new(alloc),
+            enrolled: IndexMap::new(alloc),
             alloc,
         }
     }
@@ -56,16 +56,16 @@ impl Locks {
     /// Enrols `t`, which is not enrolled. It holds nothing and waits for nothing. Where
     /// memory runs out, nothing changes.
     pub fn enrol(&mut self, t: Txn) -> Result<(), NoMemory>
-        requires new { holder_in (table_of self.old) t.0 ≡ None }
-        ensures unlocked { (x : ℕ) → list_any (is_of t.0) ((table_of self.old).locks_on x) ≡ false }
-        ensures done { OnOk result (table_of self.new ≡ enrol_in t.0 (table_of self.old)) }
-        ensures unchanged { OnErr result (table_of self.new ≡ table_of self.old) }
+        requires new { enrolled_in (lock_table self.old) t.0 ≡ None }
+        ensures unlocked { (x : ℕ) → list_any (is_of t.0) ((lock_table self.old).locks_on x) ≡ false }
+        ensures done { OnOk result (lock_table self.new ≡ enrol_in t.0 (lock_table self.old)) }
+        ensures unchanged { OnErr result (lock_table self.new ≡ lock_table self.old) }
     {
-        let holder = Holder {
-            place: None,
+        let who = Enrolled {
+            pending: None,
             held: Vec::new(self.alloc),
         };
-        match self.holders.insert(t, holder) {
+        match self.enrolled.insert(t, who) {
             Ok(_) => Ok(()),
             Err(_) => Err(NoMemory),
         }
@@ -74,25 +74,25 @@ impl Locks {
     /// Whether `t` may do `op` on `x` now: each lock on `x` that conflicts with `op`, granted or
     /// suspended, is its own or of somebody who allows it. It takes no memory.
     pub fn is_free(&self, t: Txn, x: Ob, op: Op, permits: &mut Permits) -> bool
-        ensures free { result ≡ is_free_in (table_of self.now) (λ u. allows_in permits.old u t.0 x.0 op) t.0 x.0 op }
-        ensures owners { HaveOwners ((table_of self.now).locks_on x.0) }
+        ensures free { result ≡ is_free_in (lock_table self.now) (λ u. allows_by permits.old u t.0 x.0 op) t.0 x.0 op }
+        ensures owners { HaveOwners ((lock_table self.now).locks_on x.0) }
         ensures permits { permits.new ≡ permits.old }
     {
-        !is_hindered(self.locks_of(x), t, x, op, permits)
+        !is_blocked(self.locks_of(x), t, x, op, permits)
     }
 
     /// Asks for `op` on `x` for `t`, which is enrolled. Where `x` is free for it, `t` is granted a
     /// lock that carries `op` besides what it carried, each lock of another that conflicts with it is
-    /// suspended, and `t` waits for nothing. Otherwise the request goes to the pending place of `t`.
+    /// suspended, and `t` waits for nothing. Otherwise the request goes to the pending request of `t`.
     ///
     /// Only a grant takes memory. Where there is none, nothing changes.
     pub fn ask(&mut self, t: Txn, x: Ob, op: Op, permits: &mut Permits) -> Result<Asked, NoMemory>
-        requires enrolled { is_some (holder_in (table_of self.old) t.0) ≡ true }
-        ensures answer { IfOk result (λ asked. asked ≡ answer_where (is_free_in (table_of self.old) (λ u. allows_in permits.old u t.0 x.0 op) t.0 x.0 op)) }
-        ensures done { OnOk result (table_of self.new ≡ after_ask (is_free_in (table_of self.old) (λ u. allows_in permits.old u t.0 x.0 op) t.0 x.0 op) t.0 x op (table_of self.old)) }
-        ensures owners { HaveOwners ((table_of self.old).locks_on x.0) }
-        ensures memory { IsErr result → is_free_in (table_of self.old) (λ u. allows_in permits.old u t.0 x.0 op) t.0 x.0 op ≡ true }
-        ensures unchanged { OnErr result (table_of self.new ≡ table_of self.old) }
+        requires enrolled { is_some (enrolled_in (lock_table self.old) t.0) ≡ true }
+        ensures answer { IfOk result (λ asked. asked ≡ answer_where (is_free_in (lock_table self.old) (λ u. allows_by permits.old u t.0 x.0 op) t.0 x.0 op)) }
+        ensures done { OnOk result (lock_table self.new ≡ after_ask (is_free_in (lock_table self.old) (λ u. allows_by permits.old u t.0 x.0 op) t.0 x.0 op) t.0 x op (lock_table self.old)) }
+        ensures owners { HaveOwners ((lock_table self.old).locks_on x.0) }
+        ensures memory { IsErr result → is_free_in (lock_table self.old) (λ u. allows_by permits.old u t.0 x.0 op) t.0 x.0 op ≡ true }
+        ensures unchanged { OnErr result (lock_table self.new ≡ lock_table self.old) }
         ensures permits { permits.new ≡ permits.old }
     {
         if self.is_free(t, x, op, permits) {
@@ -106,8 +106,8 @@ impl Locks {
 
     /// The state of the lock that `t` has on `x`, if it has one.
     pub fn status(&self, t: Txn, x: Ob) -> Option<LockState>
-        ensures status { result ≡ status_in (table_of self.now) t.0 x.0 }
-        ensures apart { AreApart ((table_of self.now).locks_on x.0) }
+        ensures status { result ≡ status_in (lock_table self.now) t.0 x.0 }
+        ensures apart { AreApart ((lock_table self.now).locks_on x.0) }
     {
         match lock_of(self.locks_of(x), t) {
             Some(lock) => Some(lock.state()),
@@ -115,24 +115,24 @@ impl Locks {
         }
     }
 
-    /// The object of this number among those on which `t` has a lock, in order of first grant from 0. None where
+    /// The object of this index among those on which `t` has a lock, in order of first grant from 0. None where
     /// there are not so many.
     pub fn held_by(&self, t: Txn, n: usize) -> Option<Ob>
-        ensures { result ≡ slice_get (held_in (table_of self.now) t.0) n }
+        ensures { result ≡ slice_get (held_in (lock_table self.now) t.0) n }
     {
-        match self.holders.get(&t) {
-            Some(holder) => holder.held_at(n),
+        match self.enrolled.get(&t) {
+            Some(who) => who.held_at(n),
             None => None,
         }
     }
 
-    /// The waiter of this number for `x`, in order of enrolment from 0, with the operation that it
+    /// The waiter of this index for `x`, in order of enrolment from 0, with the operation that it
     /// asked for. None where there are not so many. It looks at those enrolled up to it, and takes no memory.
     pub fn waiters(&self, x: Ob, n: usize) -> Option<(Txn, Op)>
-        ensures { result ≡ slice_get (waiters_in (table_of self.now) x.0) n }
+        ensures { result ≡ slice_get (waiters_in (lock_table self.now) x.0) n }
     {
         let mut before = n;
-        'holders: for i in 0..self.holders.len() {
+        'enrolled: for i in 0..self.enrolled.len() {
             if let Some(waiter) = self.waiter_at(i, x) {
                 if before == 0 {
                     return Some(waiter);
@@ -143,22 +143,22 @@ impl Locks {
         None
     }
 
-    /// Takes the enrolment of `t` away, with its locks and its pending place. It looks at the locks on
+    /// Takes the enrolment of `t` away, with its locks and its pending request. It looks at the locks on
     /// the objects that `t` holds, moves those enrolled later up, and takes no memory.
     pub fn release(&mut self, t: Txn)
-        ensures { table_of self.new ≡ release_in (λ n. n == t.0) (table_of self.old) }
+        ensures { lock_table self.new ≡ release_in (λ n. n == t.0) (lock_table self.old) }
     {
-        let Some(holder) = self.holders.shift_remove(&t) else {
+        let Some(who) = self.enrolled.shift_remove(&t) else {
             return;
         };
-        release_each(&mut self.objects, &holder.held, t);
+        release_each(&mut self.objects, &who.held, t);
     }
 
     /// The locks on an object.
     fn locks_of(&self, x: Ob) -> &[Lock]
-        ensures locks { result.now ≡ (table_of self.now).locks_on x.0 }
-        ensures owners { HaveOwners ((table_of self.now).locks_on x.0) }
-        ensures apart { AreApart ((table_of self.now).locks_on x.0) }
+        ensures locks { result.now ≡ (lock_table self.now).locks_on x.0 }
+        ensures owners { HaveOwners ((lock_table self.now).locks_on x.0) }
+        ensures apart { AreApart ((lock_table self.now).locks_on x.0) }
     {
         match self.objects.get(&x) {
             Some(row) => row.as_slice(),
@@ -166,30 +166,30 @@ impl Locks {
         }
     }
 
-    /// What the enrolled transaction of this number asked for on `x`, if that waits.
-    fn waiter_at(&self, number: usize, x: Ob) -> Option<(Txn, Op)>
-        ensures { (holder : Enrolled) → slice_get (table_of self.now).holders number ≡ Some holder → option_to_list result ≡ waiting_at x.0 holder.name holder.place }
+    /// What the enrolled transaction of this index asked for on `x`, if that waits.
+    fn waiter_at(&self, index: usize, x: Ob) -> Option<(Txn, Op)>
+        ensures { (who : Shown) → slice_get (lock_table self.now).enrolled index ≡ Some who → option_to_list result ≡ waiting_at x.0 who.name who.pending }
     {
-        match self.holders.get_index(number) {
-            Some((t, holder)) => holder.waiter(*t, x),
+        match self.enrolled.get_index(index) {
+            Some((t, who)) => who.waiter(*t, x),
             None => None,
         }
     }
 
-    /// Grants `op` on `x` to `t`, which is enrolled. Where memory runs out, nothing changes: the place
+    /// Grants `op` on `x` to `t`, which is enrolled. Where memory runs out, nothing changes: the pending
     /// in the list of what is held is made before anything is written.
     fn grant(&mut self, t: Txn, x: Ob, op: Op) -> Result<(), NoMemory>
-        requires enrolled { is_some (holder_in (table_of self.old) t.0) ≡ true }
-        ensures done { OnOk result (table_of self.new ≡ grant_in t.0 x op (table_of self.old)) }
-        ensures unchanged { OnErr result (table_of self.new ≡ table_of self.old) }
+        requires enrolled { is_some (enrolled_in (lock_table self.old) t.0) ≡ true }
+        ensures done { OnOk result (lock_table self.new ≡ grant_in t.0 x op (lock_table self.old)) }
+        ensures unchanged { OnErr result (lock_table self.new ≡ lock_table self.old) }
     {
-        let Some(holder) = self.holders.get_mut(&t) else {
+        let Some(who) = self.enrolled.get_mut(&t) else {
             unreachable!();
         };
-        match holder.held.reserve(1) {
+        match who.held.reserve(1) {
             Ok(()) => {
                 let is_new = grant_lock(&mut self.objects, t, x, op, self.alloc)?;
-                holder.take_grant(x, is_new);
+                who.take_grant(x, is_new);
                 Ok(())
             }
             Err(_) => Err(NoMemory),
@@ -198,20 +198,20 @@ impl Locks {
 
     /// Lets the request of `t`, which is enrolled, wait.
     fn wait(&mut self, t: Txn, x: Ob, op: Op)
-        requires enrolled { is_some (holder_in (table_of self.old) t.0) ≡ true }
-        ensures { table_of self.new ≡ wait_in t.0 x op (table_of self.old) }
+        requires enrolled { is_some (enrolled_in (lock_table self.old) t.0) ≡ true }
+        ensures { lock_table self.new ≡ wait_in t.0 x op (lock_table self.old) }
     {
-        let Some(holder) = self.holders.get_mut(&t) else {
+        let Some(who) = self.enrolled.get_mut(&t) else {
             unreachable!();
         };
-        holder.place = Some((x, op));
+        who.pending = Some((x, op));
     }
 }
 
 /// Grants `op` on `x` to `t`, and says whether `t` had no lock on it before. Where memory runs out,
 /// no lock changes.
 fn grant_lock(
-    objects: &mut IndexMap<Ob, Row>,
+    objects: &mut IndexMap<Ob, ObjectLocks>,
     t: Txn,
     x: Ob,
     op: Op,
@@ -238,7 +238,7 @@ fn grant_lock(
 }
 
 /// Takes the locks of `t` on these objects away.
-fn release_each(objects: &mut IndexMap<Ob, Row>, held: &[Ob], t: Txn)
+fn release_each(objects: &mut IndexMap<Ob, ObjectLocks>, held: &[Ob], t: Txn)
     ensures { (y : ℕ) → locks_in objects.new.entries y ≡ cond (lists_object y held.now) (without t.0 (locks_in objects.old.entries y)) (locks_in objects.old.entries y) }
 {
     'held: for x in held {
@@ -247,7 +247,7 @@ fn release_each(objects: &mut IndexMap<Ob, Row>, held: &[Ob], t: Txn)
 }
 
 /// Takes the lock of `t` on the object away.
-fn release_one(objects: &mut IndexMap<Ob, Row>, x: Ob, t: Txn)
+fn release_one(objects: &mut IndexMap<Ob, ObjectLocks>, x: Ob, t: Txn)
     ensures { (y : ℕ) → locks_in objects.new.entries y ≡ cond (x.0 == y) (without t.0 (locks_in objects.old.entries y)) (locks_in objects.old.entries y) }
 {
     if let Some(row) = objects.get_mut(&x) {

@@ -11,9 +11,9 @@ use Rattle.asset_names.specs.Endings.{class_arrows, same_class, status, status_o
 use Rattle.asset_names.specs.Answers.{is_unknown, is_completed, class_completed}
 
 -- a name that is not unknown was initiated
-initiated_known : (past : List Step) (t : ℕ) → is_unknown (status past t) ≡ false → lists (initiated past) t ≡ true
+initiated_known : (steps : List Step) (t : ℕ) → is_unknown (status steps t) ≡ false → lists (initiated steps) t ≡ true
 unfolding status is_unknown status_of
-initiated_known past t = go (lists (initiated past) t) (lists (begun past) t) (lists (completed past) t) (end_of past t) where
+initiated_known steps t = go (lists (initiated steps) t) (lists (begun steps) t) (lists (completed steps) t) (end_of steps t) where
   go : (i b c : Bool) (e : Option End) → is_unknown (status_of i b c e) ≡ false → i ≡ true
   go true b c e h = refl
   go false b c e h = sym h
@@ -45,6 +45,6 @@ all_alone test names t listed = go (test t) refl where
   go false e = one_fails test names t e listed
 
 -- the class of a name that is known has completed where the name has
-pub completed_alone : (past : List Step) (t : ℕ) → is_unknown (status past t) ≡ false → class_completed past t ≡ is_completed (status past t)
+pub completed_alone : (steps : List Step) (t : ℕ) → is_unknown (status steps t) ≡ false → class_completed steps t ≡ is_completed (status steps t)
 unfolding class_completed same_class class_arrows among linked
-completed_alone past t known = all_alone (λ n. is_completed (status past n)) (initiated past) t (initiated_known past t known)
+completed_alone steps t known = all_alone (λ n. is_completed (status steps n)) (initiated steps) t (initiated_known steps t known)

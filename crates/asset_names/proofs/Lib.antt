@@ -2,10 +2,10 @@ pub mod Common
 pub mod Arrows
 pub mod DoubleLemmas
 pub mod PermitLemmas
-pub mod Rows
-pub mod PermitRows
+pub mod Cases
+pub mod PermitCases
 pub mod Sorting
-pub mod PastLemmas
+pub mod AppliedLemmas
 pub mod LegalLemmas
 pub mod RoomLemmas
 pub mod HolderLemmas

@@ -1,4 +1,4 @@
--- Arrows that lead alike, and who reaches whom by permits.
+-- Arrows that lead alike, and who allows whom by permits.
 use Rattle.std.proofs.Common.{◌≡◌, ℕ, zero, suc, Bool, true, false, cond, eqb, ◌&&◌, ◌||◌, List, [], ◌∷◌, ◌++◌, refl, sym, ◌∙◌, arith, inl, inr}
 use Rattle.std.specs.List.{list_any, Contains}
 use Rattle.std.proofs.lemmas.Bool.{or_cases, or_left, or_right, and_from, and_parts, eqb-true, eq-eqb, false≢true}
@@ -12,7 +12,7 @@ use Rattle.asset_names.specs.InSet.{in_set}
 use Rattle.asset_names.specs.Arrows.{Arrow, linked, among, has_arrow, Chain}
 use Rattle.asset_names.specs.Arrows.Chain.{stay, along}
 use Rattle.asset_names.specs.Endings.{live}
-use Rattle.asset_names.specs.Operations.{has_op, permits, permitted_by, reach}
+use Rattle.asset_names.specs.Operations.{has_op, permits, permitted_by, allows}
 use Rattle.asset_names.proofs.Arrows.{linked_refl, linked_trans, chain_from_linked}
 
 -- an arrow that is listed leads
@@ -77,18 +77,18 @@ has_among test (arrow ∷ arrows) u v = go (eqb arrow.0 u) refl (eqb arrow.1 v) 
   go false e to f true k ih = rw (e, ih) refl
   go false e to f false k ih = ih
 
--- who reaches whom, by any arrows that lead as the permits between live names do
-pub reach_by : (past : List Step) (x : ℕ) (op : Op) (arrows : List Arrow) → ((u v : ℕ) → has_arrow arrows u v ≡ (live past u && live past v && has_arrow (permits past x op) u v))
-    → (u t : ℕ) → linked arrows u t ≡ reach past u t x op
-unfolding reach
-reach_by past x op arrows same u t = linked_same arrows (among (live past) (permits past x op)) (λ u v. same u v ∙ sym (has_among (live past) (permits past x op) u v)) u t
+-- who allows whom, by any arrows that lead as the permits between live names do
+pub allows_linked : (steps : List Step) (x : ℕ) (op : Op) (arrows : List Arrow) → ((u v : ℕ) → has_arrow arrows u v ≡ (live steps u && live steps v && has_arrow (permits steps x op) u v))
+    → (u t : ℕ) → linked arrows u t ≡ allows steps u t x op
+unfolding allows
+allows_linked steps x op arrows same u t = linked_same arrows (among (live steps) (permits steps x op)) (λ u v. same u v ∙ sym (has_among (live steps) (permits steps x op) u v)) u t
 
 -- the arrows after a permit
-pub arrows_permitted : (giver taker : Txn) (obs : ObSet) (ops : Bool × Bool) (past : List Step) (x : ℕ) (op : Op) (u v : ℕ)
-    → has_arrow (permits (Permit giver taker obs ops ∷ past) x op) u v ≡ ((eqb giver.0 u && eqb taker.0 v && (in_set obs x && has_op ops op)) || has_arrow (permits past x op) u v)
+pub arrows_permitted : (giver taker : Txn) (obs : ObSet) (ops : Bool × Bool) (steps : List Step) (x : ℕ) (op : Op) (u v : ℕ)
+    → has_arrow (permits (Permit giver taker obs ops ∷ steps) x op) u v ≡ ((eqb giver.0 u && eqb taker.0 v && (in_set obs x && has_op ops op)) || has_arrow (permits steps x op) u v)
 unfolding has_arrow permits permitted_by
-arrows_permitted giver taker obs ops past x op u v = go (in_set obs x && has_op ops op) where
-  go : (covered : Bool) → list_any (λ (arrow : Arrow). eqb arrow.0 u && eqb arrow.1 v) (cond covered ((giver.0, taker.0) ∷ []) [] ++ permits past x op)
-      ≡ ((eqb giver.0 u && eqb taker.0 v && covered) || list_any (λ (arrow : Arrow). eqb arrow.0 u && eqb arrow.1 v) (permits past x op))
+arrows_permitted giver taker obs ops steps x op u v = go (in_set obs x && has_op ops op) where
+  go : (covered : Bool) → list_any (λ (arrow : Arrow). eqb arrow.0 u && eqb arrow.1 v) (cond covered ((giver.0, taker.0) ∷ []) [] ++ permits steps x op)
+      ≡ ((eqb giver.0 u && eqb taker.0 v && covered) || list_any (λ (arrow : Arrow). eqb arrow.0 u && eqb arrow.1 v) (permits steps x op))
   go true = grind arith
   go false = grind arith

@@ -10,7 +10,7 @@ use Rattle.asset_names.specs.declared.names.Txn.{Txn}
 use Rattle.asset_names.specs.declared.steps.Step.{Step}
 use Rattle.asset_names.specs.declared.steps.Step.TheVariants.{Initiate, Begin, Read, Write, Complete, Permit, Commit, Abort, WaitFor}
 use Rattle.asset_names.specs.Arrows.{lists, linked, among}
-use Rattle.asset_names.specs.Steps.{Opening, Entry, carries_out, deeds, initiated, initiated_by, begun, completed, completed_by}
+use Rattle.asset_names.specs.Steps.{Opening, Entry, takes_effect, applied, initiated, initiated_by, begun, completed, completed_by}
 use Rattle.asset_names.specs.Endings.{class_arrows, doom_arrows, ended_by, end_of, live, status, status_of}
 use Rattle.asset_names.specs.declared.replies.Reply.{Reply}
 use Rattle.asset_names.specs.declared.replies.Outcome.TheVariants.{Answer}
@@ -53,9 +53,9 @@ owed_parts true completed (Some end) = 0
 owed_parts true true None = 1
 owed_parts true false None = 2
 
-owed_by_parts : (past : List Step) (n : ℕ) → owed_to (status past n) ≡ owed_parts (lists (initiated past) n) (lists (completed past) n) (end_of past n)
+owed_by_parts : (steps : List Step) (n : ℕ) → owed_to (status steps n) ≡ owed_parts (lists (initiated steps) n) (lists (completed steps) n) (end_of steps n)
 unfolding owed_to owed_parts status status_of
-owed_by_parts past n = go (lists (initiated past) n) (lists (begun past) n) (lists (completed past) n) (end_of past n) where
+owed_by_parts steps n = go (lists (initiated steps) n) (lists (begun steps) n) (lists (completed steps) n) (end_of steps n) where
   go : (i b c : Bool) (e : Option End) → owed_to (status_of i b c e) ≡ owed_parts i c e
   go false b c e = refl
   go true b c (Some End'.Committed) = refl
@@ -65,30 +65,30 @@ owed_by_parts past n = go (lists (initiated past) n) (lists (begun past) n) (lis
   go true false false None = refl
 
 -- the same parts are owed the same
-same_parts : (past later : List Step) (n : ℕ) → lists (initiated later) n ≡ lists (initiated past) n → lists (completed later) n ≡ lists (completed past) n → end_of later n ≡ end_of past n
-    → owed_to (status later n) ≡ owed_to (status past n)
-same_parts past later n i c e = owed_by_parts later n ∙ rw (i, c, e) (sym (owed_by_parts past n))
+same_parts : (steps later : List Step) (n : ℕ) → lists (initiated later) n ≡ lists (initiated steps) n → lists (completed later) n ≡ lists (completed steps) n → end_of later n ≡ end_of steps n
+    → owed_to (status later n) ≡ owed_to (status steps n)
+same_parts steps later n i c e = owed_by_parts later n ∙ rw (i, c, e) (sym (owed_by_parts steps n))
 
 -- a step that initiates, completes and ends nobody
-pub owed_begin : (t : Txn) (past : List Step) → owed (Begin t ∷ past) ≡ owed past
+pub owed_begin : (t : Txn) (steps : List Step) → owed (Begin t ∷ steps) ≡ owed steps
 unfolding owed initiated initiated_by completed completed_by end_of ended_by
-owed_begin t past = sum_same _ _ (initiated past) (λ n listed. same_parts past (Begin t ∷ past) n refl refl (option_or_none (end_of past n)))
+owed_begin t steps = sum_same _ _ (initiated steps) (λ n listed. same_parts steps (Begin t ∷ steps) n refl refl (option_or_none (end_of steps n)))
 
-pub owed_read : (t : Txn) (x : _) (past : List Step) → owed (Read t x ∷ past) ≡ owed past
+pub owed_read : (t : Txn) (x : _) (steps : List Step) → owed (Read t x ∷ steps) ≡ owed steps
 unfolding owed initiated initiated_by completed completed_by end_of ended_by
-owed_read t x past = sum_same _ _ (initiated past) (λ n listed. same_parts past (Read t x ∷ past) n refl refl (option_or_none (end_of past n)))
+owed_read t x steps = sum_same _ _ (initiated steps) (λ n listed. same_parts steps (Read t x ∷ steps) n refl refl (option_or_none (end_of steps n)))
 
-pub owed_write : (t : Txn) (x : _) (v : _) (past : List Step) → owed (Write t x v ∷ past) ≡ owed past
+pub owed_write : (t : Txn) (x : _) (v : _) (steps : List Step) → owed (Write t x v ∷ steps) ≡ owed steps
 unfolding owed initiated initiated_by completed completed_by end_of ended_by
-owed_write t x v past = sum_same _ _ (initiated past) (λ n listed. same_parts past (Write t x v ∷ past) n refl refl (option_or_none (end_of past n)))
+owed_write t x v steps = sum_same _ _ (initiated steps) (λ n listed. same_parts steps (Write t x v ∷ steps) n refl refl (option_or_none (end_of steps n)))
 
-pub owed_permit : (giver taker : Txn) (obs : _) (ops : _) (past : List Step) → owed (Permit giver taker obs ops ∷ past) ≡ owed past
+pub owed_permit : (giver taker : Txn) (obs : _) (ops : _) (steps : List Step) → owed (Permit giver taker obs ops ∷ steps) ≡ owed steps
 unfolding owed initiated initiated_by completed completed_by end_of ended_by
-owed_permit giver taker obs ops past = sum_same _ _ (initiated past) (λ n listed. same_parts past (Permit giver taker obs ops ∷ past) n refl refl (option_or_none (end_of past n)))
+owed_permit giver taker obs ops steps = sum_same _ _ (initiated steps) (λ n listed. same_parts steps (Permit giver taker obs ops ∷ steps) n refl refl (option_or_none (end_of steps n)))
 
-pub owed_wait : (t : Txn) (past : List Step) → owed (WaitFor t ∷ past) ≡ owed past
+pub owed_wait : (t : Txn) (steps : List Step) → owed (WaitFor t ∷ steps) ≡ owed steps
 unfolding owed initiated initiated_by completed completed_by end_of ended_by
-owed_wait t past = sum_same _ _ (initiated past) (λ n listed. same_parts past (WaitFor t ∷ past) n refl refl (option_or_none (end_of past n)))
+owed_wait t steps = sum_same _ _ (initiated steps) (λ n listed. same_parts steps (WaitFor t ∷ steps) n refl refl (option_or_none (end_of steps n)))
 
 -- what holds only of who was initiated does not hold of who was not
 not_known : (c i : Bool) → (c ≡ true → i ≡ true) → i ≡ false → c ≡ false
@@ -100,77 +100,77 @@ not_ended None i known new = refl
 not_ended (Some end) i known new = absurd (false≢true (sym new ∙ known refl))
 
 -- a new name is owed two entries
-pub owed_initiate : (t : Txn) (parent : _) (past : List Step) → IsOrderly past → lists (initiated past) t.0 ≡ false → owed (Initiate t parent ∷ past) ≡ owed past + 2
+pub owed_initiate : (t : Txn) (parent : _) (steps : List Step) → IsOrderly steps → lists (initiated steps) t.0 ≡ false → owed (Initiate t parent ∷ steps) ≡ owed steps + 2
 unfolding owed initiated initiated_by completed completed_by end_of ended_by lists owed_parts
-owed_initiate t parent past orderly new =
-    let later = Initiate t parent ∷ past in
-    let incomplete = not_known (lists (completed past) t.0) (lists (initiated past) t.0) (orderly.completed_known t.0) new in
-    let alive = not_ended (end_of past t.0) (lists (initiated past) t.0) (ended_initiated past t.0) new in
+owed_initiate t parent steps orderly new =
+    let later = Initiate t parent ∷ steps in
+    let incomplete = not_known (lists (completed steps) t.0) (lists (initiated steps) t.0) (orderly.completed_known t.0) new in
+    let alive = not_ended (end_of steps t.0) (lists (initiated steps) t.0) (ended_initiated steps t.0) new in
     let first : owed_to (status later t.0) ≡ 2 =
-    owed_by_parts later t.0 ∙ rw (or_left (eqb t.0 t.0) (lists (initiated past) t.0) (eq-eqb t.0 t.0 refl), incomplete, alive) refl in
-    let rest = sum_same (λ n. owed_to (status past n)) (λ n. owed_to (status later n)) (initiated past)
-    (λ n listed. same_parts past later n (or_right (eqb t.0 n) _ listed ∙ sym listed) refl (option_or_none (end_of past n))) in
-    omega (arith, sum_by-cons (λ n. owed_to (status later n)) t.0 (initiated past), first, rest)
+    owed_by_parts later t.0 ∙ rw (or_left (eqb t.0 t.0) (lists (initiated steps) t.0) (eq-eqb t.0 t.0 refl), incomplete, alive) refl in
+    let rest = sum_same (λ n. owed_to (status steps n)) (λ n. owed_to (status later n)) (initiated steps)
+    (λ n listed. same_parts steps later n (or_right (eqb t.0 n) _ listed ∙ sym listed) refl (option_or_none (end_of steps n))) in
+    omega (arith, sum_by-cons (λ n. owed_to (status later n)) t.0 (initiated steps), first, rest)
 
 -- who completes is owed one entry less
-pub owed_complete : (t : Txn) (past : List Step) → IsOrderly past → is_running (status past t.0) ≡ true → owed (Complete t ∷ past) + 1 ≡ owed past
+pub owed_complete : (t : Txn) (steps : List Step) → IsOrderly steps → is_running (status steps t.0) ≡ true → owed (Complete t ∷ steps) + 1 ≡ owed steps
 unfolding owed initiated initiated_by completed completed_by end_of ended_by lists owed_parts
-owed_complete t past orderly runs =
-    let later = Complete t ∷ past in
-    let parts = running_parts past t.0 runs in
-    let before : owed_to (status past t.0) ≡ 2 = owed_by_parts past t.0 ∙ rw (parts.0, parts.1, parts.2) refl in
+owed_complete t steps orderly runs =
+    let later = Complete t ∷ steps in
+    let parts = running_parts steps t.0 runs in
+    let before : owed_to (status steps t.0) ≡ 2 = owed_by_parts steps t.0 ∙ rw (parts.0, parts.1, parts.2) refl in
     let after : owed_to (status later t.0) ≡ 1 =
-    owed_by_parts later t.0 ∙ rw (parts.0, or_left (eqb t.0 t.0) (lists (completed past) t.0) (eq-eqb t.0 t.0 refl), option_or_none (end_of past t.0), parts.2) refl in
-    let change = sum_change (λ n. owed_to (status past n)) (λ n. owed_to (status later n)) (initiated past) t.0 orderly.different parts.0
-    (λ n other. same_parts past later n refl (ap (λ b. b || lists (completed past) n) (ne_eqb t.0 n (λ e. eqb-false n t.0 other (sym e)))) (option_or_none (end_of past n))) in
+    owed_by_parts later t.0 ∙ rw (parts.0, or_left (eqb t.0 t.0) (lists (completed steps) t.0) (eq-eqb t.0 t.0 refl), option_or_none (end_of steps t.0), parts.2) refl in
+    let change = sum_change (λ n. owed_to (status steps n)) (λ n. owed_to (status later n)) (initiated steps) t.0 orderly.different parts.0
+    (λ n other. same_parts steps later n refl (ap (λ b. b || lists (completed steps) n) (ne_eqb t.0 n (λ e. eqb-false n t.0 other (sym e)))) (option_or_none (end_of steps n))) in
     omega (arith, before, after, change)
 
 -- who ends is owed nothing any more
-owed_end : (how : End) (t : ℕ) (past later : List Step) → IsOrderly past → initiated later ≡ initiated past → completed later ≡ completed past
-    → ((n : ℕ) → end_of later n ≡ option_or (end_of past n) (cond (eqb t n && lists (initiated past) n) (Some how) None)) → owed later + owed_to (status past t) ≡ owed past
+owed_end : (how : End) (t : ℕ) (steps later : List Step) → IsOrderly steps → initiated later ≡ initiated steps → completed later ≡ completed steps
+    → ((n : ℕ) → end_of later n ≡ option_or (end_of steps n) (cond (eqb t n && lists (initiated steps) n) (Some how) None)) → owed later + owed_to (status steps t) ≡ owed steps
 unfolding owed owed_parts
-owed_end how t past later orderly i c ends = go (lists (initiated past) t) refl where
-  same_initiated : (n : ℕ) → lists (initiated later) n ≡ lists (initiated past) n
+owed_end how t steps later orderly i c ends = go (lists (initiated steps) t) refl where
+  same_initiated : (n : ℕ) → lists (initiated later) n ≡ lists (initiated steps) n
   same_initiated n = ap (λ names. lists names n) i
 
-  same_completed : (n : ℕ) → lists (completed later) n ≡ lists (completed past) n
+  same_completed : (n : ℕ) → lists (completed later) n ≡ lists (completed steps) n
   same_completed n = ap (λ names. lists names n) c
 
-  no_end : (n : ℕ) → (eqb t n && lists (initiated past) n) ≡ false → end_of later n ≡ end_of past n
-  no_end n h = ends n ∙ rw h (option_or_none (end_of past n))
+  no_end : (n : ℕ) → (eqb t n && lists (initiated steps) n) ≡ false → end_of later n ≡ end_of steps n
+  no_end n h = ends n ∙ rw h (option_or_none (end_of steps n))
 
-  over : sum_by (λ n. owed_to (status later n)) (initiated later) ≡ sum_by (λ n. owed_to (status later n)) (initiated past)
+  over : sum_by (λ n. owed_to (status later n)) (initiated later) ≡ sum_by (λ n. owed_to (status later n)) (initiated steps)
   over = ap (λ names. sum_by (λ n. owed_to (status later n)) names) i
 
-  some_end : (e : Option End) → owed_parts true (lists (completed past) t) (option_or e (Some how)) ≡ 0
+  some_end : (e : Option End) → owed_parts true (lists (completed steps) t) (option_or e (Some how)) ≡ 0
   some_end None = refl
   some_end (Some e) = refl
 
-  go : (known : Bool) → lists (initiated past) t ≡ known → sum_by (λ n. owed_to (status later n)) (initiated later) + owed_to (status past t) ≡ sum_by (λ n. owed_to (status past n)) (initiated past)
+  go : (known : Bool) → lists (initiated steps) t ≡ known → sum_by (λ n. owed_to (status later n)) (initiated later) + owed_to (status steps t) ≡ sum_by (λ n. owed_to (status steps n)) (initiated steps)
   go false new =
-      let nothing : owed_to (status past t) ≡ 0 = owed_by_parts past t ∙ rw new refl in
-      let rest = sum_same (λ n. owed_to (status past n)) (λ n. owed_to (status later n)) (initiated past)
-      (λ n listed. same_parts past later n (same_initiated n) (same_completed n) (no_end n (ap (λ b. b && lists (initiated past) n) (ne_eqb t n (λ e. false≢true (sym new ∙ ap (lists (initiated past)) e ∙ listed)))))) in
+      let nothing : owed_to (status steps t) ≡ 0 = owed_by_parts steps t ∙ rw new refl in
+      let rest = sum_same (λ n. owed_to (status steps n)) (λ n. owed_to (status later n)) (initiated steps)
+      (λ n listed. same_parts steps later n (same_initiated n) (same_completed n) (no_end n (ap (λ b. b && lists (initiated steps) n) (ne_eqb t n (λ e. false≢true (sym new ∙ ap (lists (initiated steps)) e ∙ listed)))))) in
       omega (arith, over, nothing, rest)
   go true known =
       let after : owed_to (status later t) ≡ 0 =
-      owed_by_parts later t ∙ rw (same_initiated t, known, same_completed t, ends t, eq-eqb t t refl, known) (some_end (end_of past t)) in
-      let change = sum_change (λ n. owed_to (status past n)) (λ n. owed_to (status later n)) (initiated past) t orderly.different known
-      (λ n other. same_parts past later n (same_initiated n) (same_completed n) (no_end n (ap (λ b. b && lists (initiated past) n) (ne_eqb t n (λ e. eqb-false n t other (sym e)))))) in
+      owed_by_parts later t ∙ rw (same_initiated t, known, same_completed t, ends t, eq-eqb t t refl, known) (some_end (end_of steps t)) in
+      let change = sum_change (λ n. owed_to (status steps n)) (λ n. owed_to (status later n)) (initiated steps) t orderly.different known
+      (λ n other. same_parts steps later n (same_initiated n) (same_completed n) (no_end n (ap (λ b. b && lists (initiated steps) n) (ne_eqb t n (λ e. eqb-false n t other (sym e)))))) in
       omega (arith, over, after, change)
 
-pub owed_commit : (t : Txn) (past : List Step) → IsOrderly past → owed (Commit t ∷ past) + owed_to (status past t.0) ≡ owed past
+pub owed_commit : (t : Txn) (steps : List Step) → IsOrderly steps → owed (Commit t ∷ steps) + owed_to (status steps t.0) ≡ owed steps
 unfolding initiated initiated_by completed completed_by end_of ended_by live class_arrows among linked
-owed_commit t past orderly = owed_end End'.Committed t.0 past (Commit t ∷ past) orderly refl refl (λ n. end_alone End'.Committed t.0 n past)
+owed_commit t steps orderly = owed_end End'.Committed t.0 steps (Commit t ∷ steps) orderly refl refl (λ n. end_alone End'.Committed t.0 n steps)
 
-pub owed_abort : (t : Txn) (past : List Step) → IsOrderly past → owed (Abort t ∷ past) + owed_to (status past t.0) ≡ owed past
+pub owed_abort : (t : Txn) (steps : List Step) → IsOrderly steps → owed (Abort t ∷ steps) + owed_to (status steps t.0) ≡ owed steps
 unfolding initiated initiated_by completed completed_by end_of ended_by live class_arrows doom_arrows among linked
-owed_abort t past orderly = owed_end End'.Aborted t.0 past (Abort t ∷ past) orderly refl refl (λ n. end_alone End'.Aborted t.0 n past)
+owed_abort t steps orderly = owed_end End'.Aborted t.0 steps (Abort t ∷ steps) orderly refl refl (λ n. end_alone End'.Aborted t.0 n steps)
 
 -- who is live is owed something
-pub owed_live : (past : List Step) (t : ℕ) → live past t ≡ true → 1 ≤ owed_to (status past t)
+pub owed_live : (steps : List Step) (t : ℕ) → live steps t ≡ true → 1 ≤ owed_to (status steps t)
 unfolding live owed_parts
-owed_live past t alive = rw (owed_by_parts past t) (go (lists (initiated past) t) (lists (completed past) t) (end_of past t) alive) where
+owed_live steps t alive = rw (owed_by_parts steps t) (go (lists (initiated steps) t) (lists (completed steps) t) (end_of steps t) alive) where
   go : (i c : Bool) (e : Option End) → (i && is_none e) ≡ true → 1 ≤ owed_parts i c e
   go false c e h = absurd (false≢true h)
   go true c (Some e) h = absurd (false≢true h)
@@ -178,26 +178,26 @@ owed_live past t alive = rw (owed_by_parts past t) (go (lists (initiated past) t
   go true false None h = omega arith
 
 -- a step that changes a status for good frees at least the entry that it takes
-owed_less : (opening : Opening) (past : List Step) (step : Step) (reply : Reply) → IsOrderly past → answer opening past step ≡ Answer reply → changes_status past step reply ≡ true → (carries_out step reply ≡ true) × (owed (step ∷ past) + 1 ≤ owed past)
+owed_less : (opening : Opening) (steps : List Step) (step : Step) (reply : Reply) → IsOrderly steps → answer opening steps step ≡ Answer reply → changes_status steps step reply ≡ true → (takes_effect step reply ≡ true) × (owed (step ∷ steps) + 1 ≤ owed steps)
 unfolding changes_status
-owed_less opening past (Complete t) reply orderly is changes = (changes, omega (arith, owed_complete t past orderly (complete_runs opening past t reply is changes)))
-owed_less opening past (Commit t) reply orderly is changes =
-    let parts = and_parts _ (live past t.0) changes in
-    (parts.0, omega (arith, owed_commit t past orderly, owed_live past t.0 parts.1))
-owed_less opening past (Abort t) reply orderly is changes =
-    let parts = and_parts _ (live past t.0) changes in
-    (parts.0, omega (arith, owed_abort t past orderly, owed_live past t.0 parts.1))
-owed_less opening past (Initiate t parent) reply orderly is changes = absurd (false≢true changes)
-owed_less opening past (Begin t) reply orderly is changes = absurd (false≢true changes)
-owed_less opening past (Read t x) reply orderly is changes = absurd (false≢true changes)
-owed_less opening past (Write t x v) reply orderly is changes = absurd (false≢true changes)
-owed_less opening past (Permit giver taker obs ops) reply orderly is changes = absurd (false≢true changes)
-owed_less opening past (WaitFor t) reply orderly is changes = absurd (false≢true changes)
+owed_less opening steps (Complete t) reply orderly is changes = (changes, omega (arith, owed_complete t steps orderly (complete_runs opening steps t reply is changes)))
+owed_less opening steps (Commit t) reply orderly is changes =
+    let parts = and_parts _ (live steps t.0) changes in
+    (parts.0, omega (arith, owed_commit t steps orderly, owed_live steps t.0 parts.1))
+owed_less opening steps (Abort t) reply orderly is changes =
+    let parts = and_parts _ (live steps t.0) changes in
+    (parts.0, omega (arith, owed_abort t steps orderly, owed_live steps t.0 parts.1))
+owed_less opening steps (Initiate t parent) reply orderly is changes = absurd (false≢true changes)
+owed_less opening steps (Begin t) reply orderly is changes = absurd (false≢true changes)
+owed_less opening steps (Read t x) reply orderly is changes = absurd (false≢true changes)
+owed_less opening steps (Write t x v) reply orderly is changes = absurd (false≢true changes)
+owed_less opening steps (Permit giver taker obs ops) reply orderly is changes = absurd (false≢true changes)
+owed_less opening steps (WaitFor t) reply orderly is changes = absurd (false≢true changes)
 
 -- such a step finds room in each legal history that fits
-pub ending_fits : (opening : Opening) (entries : List Entry) (step : Step) (reply : Reply) (room : ℕ) → IsLegal opening entries → fits (deeds entries) (length entries) room ≡ true
-    → answer opening (deeds entries) step ≡ Answer reply → changes_status (deeds entries) step reply ≡ true → fits (deeds ((step, reply) ∷ entries)) (length entries + 1) room ≡ true
-unfolding fits deeds
+pub ending_fits : (opening : Opening) (entries : List Entry) (step : Step) (reply : Reply) (room : ℕ) → IsLegal opening entries → fits (applied entries) (length entries) room ≡ true
+    → answer opening (applied entries) step ≡ Answer reply → changes_status (applied entries) step reply ≡ true → fits (applied ((step, reply) ∷ entries)) (length entries + 1) room ≡ true
+unfolding fits applied
 ending_fits opening entries step reply room legal fitted is changes =
-    let less = owed_less opening (deeds entries) step reply (legal_orderly opening entries legal) is changes in
+    let less = owed_less opening (applied entries) step reply (legal_orderly opening entries legal) is changes in
     rw less.0 (le-leb _ _ (omega (arith, leb-true _ _ fitted, less.1)))

@@ -12,7 +12,7 @@ use Rattle.asset_names.specs.declared.names.Ob.{Ob}
 use Rattle.asset_names.specs.Sets.{numbers, twice, HasNoDouble, no_object_name}
 use Rattle.asset_names.proofs.DoubleLemmas.{count_by_map}
 
--- the front of some places rises as the list that was put there
+-- the front of some slots rises as the list that was put there
 pub front_rises : (n : ℕ) (front rest : List Ob) → length front ≡ n → IsNonDecreasingBy (λ (x : Ob). x.0) front → IsNonDecreasingBy (λ (x : Ob). x.0) (take n (front ++ rest))
 front_rises n front rest e h =
     subst (IsNonDecreasingBy (λ (x : Ob). x.0)) (sym (ap (λ k. take k (front ++ rest)) (sym e) ∙ take-append_seam front rest)) h
@@ -65,10 +65,10 @@ rises objects sorted none = λ k below. rw add-one (
 pub sorted_rises : (objects kept : List Ob) → IsPermutation objects kept → IsNonDecreasingBy (λ (x : Ob). x.0) kept → HasNoDouble (numbers objects) → IsStrictlyIncreasing (numbers kept)
 sorted_rises objects kept same sorted none = rises kept sorted (no_double-permutation objects kept same none)
 
--- how many places there are, by the objects in front and the empty places after them
-pub places_all : (objects places : List Ob) → length objects ≤ 16 → IsPermutation objects (take (length objects) places) → drop (length objects) places ≡ replicate (16 - length objects) no_object_name → length places ≡ 16
-places_all objects places few same rest =
+-- how many slots there are, by the objects in front and the empty slots after them
+pub slots_all : (objects slots : List Ob) → length objects ≤ 16 → IsPermutation objects (take (length objects) slots) → drop (length objects) slots ≡ replicate (16 - length objects) no_object_name → length slots ≡ 16
+slots_all objects slots few same rest =
     let n = length objects in
-    let front = length_permutation objects (take n places) same in
+    let front = length_permutation objects (take n slots) same in
     let behind = ap length rest ∙ length-replicate (16 - n) no_object_name in
-    omega (arith, front, behind, ap length (take-append-drop n places), length-append (take n places) (drop n places))
+    omega (arith, front, behind, ap length (take-append-drop n slots), length-append (take n slots) (drop n slots))

@@ -16,7 +16,7 @@ use Rattle.asset_names.specs.declared.replies.Refusal.TheVariants as Refusal'
 use Rattle.asset_names.specs.declared.replies.Reply.TheVariants as Reply'
 use Rattle.asset_names.specs.declared.replies.Outcome.{Outcome}
 use Rattle.asset_names.specs.declared.replies.Outcome.TheVariants.{Answer, Wait}
-use Rattle.asset_names.specs.Steps.{Opening, Entry, carries_out, deeds, initiated}
+use Rattle.asset_names.specs.Steps.{Opening, Entry, takes_effect, applied, initiated}
 use Rattle.asset_names.specs.Endings.{status, same_class}
 use Rattle.asset_names.specs.Operations.{free, value, exists}
 
@@ -58,26 +58,26 @@ Rule = Bool × Refusal
 
 -- each step but an initiate is refused where t was never initiated
 unfoldable pub unknown : List Step → Txn → Rule
-unknown past t = (is_unknown (status past t.0), Refusal'.Unknown t)
+unknown steps t = (is_unknown (status steps t.0), Refusal'.Unknown t)
 
 -- a begin, a transaction's own work, and a permit by it or for it are refused where it has ended
 unfoldable pub ended : List Step → Txn → Rule
-ended past t = (has_ended (status past t.0), Refusal'.Ended t)
+ended steps t = (has_ended (status steps t.0), Refusal'.Ended t)
 
 -- a step of a transaction's own work is refused where it is not running
 unfoldable pub not_running : List Step → Txn → Rule
-not_running past t = (not (is_running (status past t.0)), Refusal'.NotRunning t)
+not_running steps t = (not (is_running (status steps t.0)), Refusal'.NotRunning t)
 
 -- a name is initiated once, and a transaction begun once
 unfoldable pub taken : List Step → Txn → Rule
-taken past t = (not (is_unknown (status past t.0)), Refusal'.Taken t)
+taken steps t = (not (is_unknown (status steps t.0)), Refusal'.Taken t)
 
 unfoldable pub begun_before : List Step → Txn → Rule
-begun_before past t = (has_begun (status past t.0), Refusal'.Begun t)
+begun_before steps t = (has_begun (status steps t.0), Refusal'.Begun t)
 
 -- a committed transaction is not aborted
 unfoldable pub too_late : List Step → Txn → Rule
-too_late past t = (is_committed (status past t.0), Refusal'.TooLate t)
+too_late steps t = (is_committed (status steps t.0), Refusal'.TooLate t)
 
 -- an operation is refused on an object that does not exist
 unfoldable pub no_object : Opening → Ob → Rule
@@ -102,15 +102,15 @@ no_object_of opening obs = missing_rule (missing_in opening obs)
 
 -- the refusals of a step, in the order in which they are looked at
 unfoldable pub rules_for : Opening → List Step → Step → List Rule
-rules_for opening past (Initiate t parent) = taken past t ∷ []
-rules_for opening past (Begin t) = unknown past t ∷ ended past t ∷ begun_before past t ∷ []
-rules_for opening past (Read t x) = unknown past t ∷ ended past t ∷ not_running past t ∷ no_object opening x ∷ []
-rules_for opening past (Write t x v) = unknown past t ∷ ended past t ∷ not_running past t ∷ no_object opening x ∷ []
-rules_for opening past (Complete t) = unknown past t ∷ ended past t ∷ not_running past t ∷ []
-rules_for opening past (Permit giver taker obs ops) = one_name giver taker ∷ unknown past giver ∷ unknown past taker ∷ ended past giver ∷ ended past taker ∷ no_object_of opening obs ∷ []
-rules_for opening past (Commit t) = unknown past t ∷ []
-rules_for opening past (Abort t) = unknown past t ∷ too_late past t ∷ []
-rules_for opening past (WaitFor t) = unknown past t ∷ []
+rules_for opening steps (Initiate t parent) = taken steps t ∷ []
+rules_for opening steps (Begin t) = unknown steps t ∷ ended steps t ∷ begun_before steps t ∷ []
+rules_for opening steps (Read t x) = unknown steps t ∷ ended steps t ∷ not_running steps t ∷ no_object opening x ∷ []
+rules_for opening steps (Write t x v) = unknown steps t ∷ ended steps t ∷ not_running steps t ∷ no_object opening x ∷ []
+rules_for opening steps (Complete t) = unknown steps t ∷ ended steps t ∷ not_running steps t ∷ []
+rules_for opening steps (Permit giver taker obs ops) = one_name giver taker ∷ unknown steps giver ∷ unknown steps taker ∷ ended steps giver ∷ ended steps taker ∷ no_object_of opening obs ∷ []
+rules_for opening steps (Commit t) = unknown steps t ∷ []
+rules_for opening steps (Abort t) = unknown steps t ∷ too_late steps t ∷ []
+rules_for opening steps (WaitFor t) = unknown steps t ∷ []
 
 -- the first refusal that applies
 unfoldable pub first_refusal : List Rule → Option Refusal
@@ -119,7 +119,7 @@ first_refusal (rule ∷ rules) = cond rule.0 (Some rule.1) (first_refusal rules)
 
 -- whether each member of t's class has completed
 unfoldable pub class_completed : List Step → ℕ → Bool
-class_completed past t = list_all (λ n. not (same_class past t n) || is_completed (status past n)) (initiated past)
+class_completed steps t = list_all (λ n. not (same_class steps t n) || is_completed (status steps n)) (initiated steps)
 
 -- A commit of a name that has ended answers how. Else the whole class commits at once when each member
 -- has completed, and waits until then.
@@ -137,25 +137,25 @@ wait_outcome other = Wait
 
 -- the outcome of a step that is not refused
 unfoldable pub unrefused : Opening → List Step → Step → Outcome
-unrefused opening past (Initiate t parent) = Answer Reply'.Done
-unrefused opening past (Begin t) = Answer Reply'.Done
-unrefused opening past (Read t x) = cond (free past t.0 x.0 Op'.Read) (Answer (Reply'.Value (value opening past x.0))) Wait
-unrefused opening past (Write t x v) = cond (free past t.0 x.0 Op'.Write) (Answer Reply'.Done) Wait
-unrefused opening past (Complete t) = Answer Reply'.Done
-unrefused opening past (Permit giver taker obs ops) = Answer Reply'.Done
-unrefused opening past (Commit t) = commit_outcome (status past t.0) (class_completed past t.0)
-unrefused opening past (Abort t) = Answer Reply'.Aborted
-unrefused opening past (WaitFor t) = wait_outcome (status past t.0)
+unrefused opening steps (Initiate t parent) = Answer Reply'.Done
+unrefused opening steps (Begin t) = Answer Reply'.Done
+unrefused opening steps (Read t x) = cond (free steps t.0 x.0 Op'.Read) (Answer (Reply'.Value (value opening steps x.0))) Wait
+unrefused opening steps (Write t x v) = cond (free steps t.0 x.0 Op'.Write) (Answer Reply'.Done) Wait
+unrefused opening steps (Complete t) = Answer Reply'.Done
+unrefused opening steps (Permit giver taker obs ops) = Answer Reply'.Done
+unrefused opening steps (Commit t) = commit_outcome (status steps t.0) (class_completed steps t.0)
+unrefused opening steps (Abort t) = Answer Reply'.Aborted
+unrefused opening steps (WaitFor t) = wait_outcome (status steps t.0)
 
 unfoldable pub outcome_unless : Option Refusal → Outcome → Outcome
 outcome_unless None outcome = outcome
 outcome_unless (Some refusal) outcome = Answer (Reply'.Refused refusal)
 
--- the one answer to a step after the steps that were carried out
+-- the one answer to a step after the steps that took effect
 unfoldable pub answer : Opening → List Step → Step → Outcome
-answer opening past step = outcome_unless (first_refusal (rules_for opening past step)) (unrefused opening past step)
+answer opening steps step = outcome_unless (first_refusal (rules_for opening steps step)) (unrefused opening steps step)
 
--- whether a step may need memory where it is carried out
+-- whether a step may need memory where it takes effect
 unfoldable pub takes_memory : Step → Bool
 takes_memory (Initiate t parent) = true
 takes_memory (Read t x) = true
@@ -163,12 +163,12 @@ takes_memory (Write t x v) = true
 takes_memory (Permit giver taker obs ops) = true
 takes_memory step = false
 
--- whether the outcome is a reply by which the step is carried out
-unfoldable pub carried_out : Step → Outcome → Bool
-carried_out step (Answer reply) = carries_out step reply
-carried_out step Wait = false
+-- whether the outcome is a reply by which the step takes effect
+unfoldable pub outcome_takes_effect : Step → Outcome → Bool
+outcome_takes_effect step (Answer reply) = takes_effect step reply
+outcome_takes_effect step Wait = false
 
 -- a history, newest entry first, is legal where each step was answered as it is after the older entries
 unfoldable pub IsLegal : Opening → List Entry → Type 0
 IsLegal opening [] = Unit {0}
-IsLegal opening (entry ∷ older) = (answer opening (deeds older) entry.0 ≡ Answer entry.1) × IsLegal opening older
+IsLegal opening (entry ∷ older) = (answer opening (applied older) entry.0 ≡ Answer entry.1) × IsLegal opening older

@@ -12,11 +12,11 @@ use Rattle.asset_names.specs.Steps.{initiated, begun, completed}
 
 -- the arrows that make classes: no step joins two names yet
 unfoldable pub class_arrows : List Step → List Arrow
-class_arrows past = []
+class_arrows steps = []
 
 -- the arrows along which an abort spreads: over a class, both ways
 unfoldable pub doom_arrows : List Step → List Arrow
-doom_arrows past = class_arrows past
+doom_arrows steps = class_arrows steps
 
 -- How a step ends t. A commit ends the whole class of a live name, and an abort all that it spreads to;
 -- `live` says who was live before it.
@@ -32,7 +32,7 @@ end_of (step ∷ older) t = option_or (end_of older t) (ended_by step (λ n. lis
 
 -- t was initiated and has not ended
 unfoldable pub live : List Step → ℕ → Bool
-live past t = lists (initiated past) t && is_none (end_of past t)
+live steps t = lists (initiated steps) t && is_none (end_of steps t)
 
 -- the status of a name by whether it was initiated, begun and completed, and how it ended
 unfoldable pub status_of : Bool → Bool → Bool → Option End → Status
@@ -44,7 +44,7 @@ status_of true true false None = Status'.Running
 status_of true false false None = Status'.Initiated
 
 unfoldable pub status : List Step → ℕ → Status
-status past t = status_of (lists (initiated past) t) (lists (begun past) t) (lists (completed past) t) (end_of past t)
+status steps t = status_of (lists (initiated steps) t) (lists (begun steps) t) (lists (completed steps) t) (end_of steps t)
 
 -- whether a transaction of this status is live
 unfoldable pub is_live_status : Status → Bool
@@ -55,4 +55,4 @@ is_live_status status = false
 
 -- two live names of one class, and each name with itself
 unfoldable pub same_class : List Step → ℕ → ℕ → Bool
-same_class past a b = linked (among (live past) (class_arrows past)) a b
+same_class steps a b = linked (among (live steps) (class_arrows steps)) a b

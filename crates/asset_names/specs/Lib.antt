@@ -1,6 +1,6 @@
 pub mod Arrows
 pub mod Sets
-pub mod Kept
+pub mod Valid
 pub mod InSet
 pub mod SetFaults
 pub mod Steps

@@ -1,4 +1,4 @@
--- Operations, who is responsible for them, who holds what, permits and who reaches whom, and the value of an object.
+-- Operations, who is responsible for them, who holds what, permits and who allows whom, and the value of an object.
 use Rattle.std.specs.Prelude.{ℕ, ℤ, pos, Bool, true, false, cond, not, ◌==◌, ◌&&◌, List, [], ◌∷◌, ◌++◌, Option, Some, None, is_some, unwrap_or, option_map, find}
 use Rattle.std.specs.List.{list_any}
 use Rattle.asset_names.specs.declared.names.Ob.{Ob}
@@ -48,21 +48,21 @@ abbrev pub has_op : Bool × Bool → Op → Bool
 has_op pair Op'.Read = pair.0
 has_op pair Op'.Write = pair.1
 
--- the operations after a step that was carried out, newest first: a read or a write adds one, for
+-- the operations after a step that took effect, newest first: a read or a write adds one, for
 -- which its transaction is responsible
 unfoldable pub operated : Step → List Operation → List Operation
 operated (Read t x) older = record { owner = t.0; object = x.0; use_of = reads } ∷ older
 operated (Write t x v) older = record { owner = t.0; object = x.0; use_of = writes v } ∷ older
 operated step older = older
 
--- the operations of the steps that were carried out, newest first
+-- the operations of the steps that took effect, newest first
 unfoldable pub operations : List Step → List Operation
 operations [] = []
 operations (step ∷ older) = operated step (operations older)
 
 -- a live name holds x by the operations on x for which it is responsible
 unfoldable pub holds : List Step → ℕ → ℕ → Op → Bool
-holds past t x op = live past t && list_any (λ (o : Operation). o.owner == t && o.object == x && same_op (op_of o.use_of) op) (operations past)
+holds steps t x op = live steps t && list_any (λ (o : Operation). o.owner == t && o.object == x && same_op (op_of o.use_of) op) (operations steps)
 
 -- the arrow from giver to taker that a permit adds, where it covers op on x
 unfoldable pub permitted_by : Step → ℕ → Op → List Arrow
@@ -76,17 +76,17 @@ permits (step ∷ older) x op = permitted_by step x op ++ permits older x op
 
 -- u allows t to do op on x: they are one name, or a chain of live names leads from u to t, each of
 -- which permits it to the next
-unfoldable pub reach : List Step → ℕ → ℕ → ℕ → Op → Bool
-reach past u t x op = linked (among (live past) (permits past x op)) u t
+unfoldable pub allows : List Step → ℕ → ℕ → ℕ → Op → Bool
+allows steps u t x op = linked (among (live steps) (permits steps x op)) u t
 
--- the operation hinders t from doing op on x: it is another live name's, conflicts with op, and its
+-- the operation blocks t from doing op on x: it is another live name's, conflicts with op, and its
 -- owner does not allow t to do op on x
-unfoldable pub hinders : List Step → ℕ → ℕ → Op → Operation → Bool
-hinders past t x op o = o.object == x && conflict (op_of o.use_of) op && not (o.owner == t) && live past o.owner && not (reach past o.owner t x op)
+unfoldable pub blocks : List Step → ℕ → ℕ → Op → Operation → Bool
+blocks steps t x op o = o.object == x && conflict (op_of o.use_of) op && not (o.owner == t) && live steps o.owner && not (allows steps o.owner t x op)
 
--- x is free for t to do op where no operation hinders it
+-- x is free for t to do op where no operation blocks it
 unfoldable pub free : List Step → ℕ → ℕ → Op → Bool
-free past t x op = not (list_any (hinders past t x op) (operations past))
+free steps t x op = not (list_any (blocks steps t x op) (operations steps))
 
 -- whether a transaction ended by an abort
 unfoldable pub was_aborted : Option End → Bool
@@ -95,7 +95,7 @@ was_aborted end = false
 
 -- an operation stands unless its owner has aborted
 unfoldable pub stands : List Step → Operation → Bool
-stands past o = not (was_aborted (end_of past o.owner))
+stands steps o = not (was_aborted (end_of steps o.owner))
 
 -- the opening value of an object, if the opening has it
 unfoldable pub opening_at : Opening → ℕ → Option ℤ
@@ -121,8 +121,8 @@ value_after counts x first (o ∷ older) = cond (o.object == x && counts o) (aft
 
 -- the value of an object: its last write that stands, else its opening value
 unfoldable pub value : Opening → List Step → ℕ → ℤ
-value opening past x = value_after (stands past) x (opening_value opening x) (operations past)
+value opening steps x = value_after (stands steps) x (opening_value opening x) (operations steps)
 
 -- the value of an object, if it exists
 unfoldable pub value_if_any : Opening → List Step → ℕ → Option ℤ
-value_if_any opening past x = cond (exists opening x) (Some (value opening past x)) None
+value_if_any opening steps x = cond (exists opening x) (Some (value opening steps x)) None

@@ -14,9 +14,9 @@ Distinct (n ∷ names) = (lists names n ≡ false) × Distinct names
 
 -- The names that were initiated are different; and who has begun, has completed, is responsible for an operation, or
 -- gives or takes a permit was initiated.
-pub record IsOrderly (past : List Step) : Type 0 where
-  pub different : Distinct (initiated past)
-  pub begun_known : (n : ℕ) → lists (begun past) n ≡ true → lists (initiated past) n ≡ true
-  pub owners_known : (n : ℕ) → list_any (λ (o : Operation). o.owner == n) (operations past) ≡ true → lists (initiated past) n ≡ true
-  pub completed_known : (n : ℕ) → lists (completed past) n ≡ true → lists (initiated past) n ≡ true
-  pub permits_known : (u t x : ℕ) (op : Op) → has_arrow (permits past x op) u t ≡ true → (lists (initiated past) u ≡ true) × (lists (initiated past) t ≡ true)
+pub record IsOrderly (steps : List Step) : Type 0 where
+  pub different : Distinct (initiated steps)
+  pub begun_known : (n : ℕ) → lists (begun steps) n ≡ true → lists (initiated steps) n ≡ true
+  pub owners_known : (n : ℕ) → list_any (λ (o : Operation). o.owner == n) (operations steps) ≡ true → lists (initiated steps) n ≡ true
+  pub completed_known : (n : ℕ) → lists (completed steps) n ≡ true → lists (initiated steps) n ≡ true
+  pub permits_known : (u t x : ℕ) (op : Op) → has_arrow (permits steps x op) u t ≡ true → (lists (initiated steps) u ≡ true) × (lists (initiated steps) t ≡ true)

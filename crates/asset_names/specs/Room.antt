@@ -5,7 +5,7 @@ use Rattle.asset_names.specs.declared.statuses.Status.{Status}
 use Rattle.asset_names.specs.declared.statuses.Status.TheVariants as Status'
 use Rattle.asset_names.specs.declared.steps.Step.TheVariants.{Complete, Commit, Abort}
 use Rattle.asset_names.specs.declared.replies.Reply.{Reply}
-use Rattle.asset_names.specs.Steps.{carries_out, initiated}
+use Rattle.asset_names.specs.Steps.{takes_effect, initiated}
 use Rattle.asset_names.specs.Endings.{live, status}
 
 -- A live name that has not completed is owed two entries, for its complete and its end; a completed one is
@@ -18,15 +18,15 @@ owed_to other = 0
 
 -- the entries that all names are owed
 unfoldable pub owed : List Step → ℕ
-owed past = sum_by (λ n. owed_to (status past n)) (initiated past)
+owed steps = sum_by (λ n. owed_to (status steps n)) (initiated steps)
 
--- so many entries, of which these steps were carried out, and the entries owed after them are within the capacity
+-- so many entries, of which these steps took effect, and the entries owed after them are within the capacity
 unfoldable pub fits : List Step → ℕ → ℕ → Bool
-fits past entries capacity = nat_le (entries + owed past) capacity
+fits steps entries capacity = nat_le (entries + owed steps) capacity
 
 -- whether an answered step is a complete, a commit or an abort that changes a status
 unfoldable pub changes_status : List Step → Step → Reply → Bool
-changes_status past (Complete t) reply = carries_out (Complete t) reply
-changes_status past (Commit t) reply = carries_out (Commit t) reply && live past t.0
-changes_status past (Abort t) reply = carries_out (Abort t) reply && live past t.0
-changes_status past step reply = false
+changes_status steps (Complete t) reply = takes_effect (Complete t) reply
+changes_status steps (Commit t) reply = takes_effect (Commit t) reply && live steps t.0
+changes_status steps (Abort t) reply = takes_effect (Abort t) reply && live steps t.0
+changes_status steps step reply = false

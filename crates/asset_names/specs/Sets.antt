@@ -23,7 +23,7 @@ abbrev pub lesser : Ob → Option Ob → Ob
 lesser x None = x
 lesser x (Some y) = cond (nat_lt y.0 x.0) y x
 
--- what stands in the places of a list that no object fills, and where a rule that does not apply names an object
+-- what stands in the slots of a list that no object fills, and where a rule that does not apply names an object
 abbrev pub no_object_name : Ob
 no_object_name = record { 0 = 0 }
 

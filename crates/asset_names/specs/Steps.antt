@@ -1,4 +1,4 @@
--- Entries of a history, and which of their steps were carried out.
+-- Entries of a history, and which of their steps took effect.
 use Rattle.std.specs.Prelude.{ℕ, ℤ, Bool, true, false, cond, ◌==◌, List, [], ◌∷◌, flat_map, Option, None}
 use Rattle.asset_names.specs.declared.names.Txn.{Txn}
 use Rattle.asset_names.specs.declared.names.Ob.{Ob}
@@ -15,22 +15,22 @@ Opening = List (Ob × ℤ)
 abbrev pub Entry : Type 0
 Entry = Step × Reply
 
--- whether a step that got this reply was carried out; a wait for a name changes nothing, whatever it answers
-unfoldable pub carries_out : Step → Reply → Bool
-carries_out (Initiate t parent) Reply'.Done = true
-carries_out (Begin t) Reply'.Done = true
-carries_out (Read t x) (Reply'.Value v) = true
-carries_out (Write t x v) Reply'.Done = true
-carries_out (Complete t) Reply'.Done = true
-carries_out (Permit giver taker obs ops) Reply'.Done = true
-carries_out (Commit t) Reply'.Committed = true
-carries_out (Abort t) Reply'.Aborted = true
-carries_out step reply = false
+-- whether a step that got this reply took effect; a wait for a name changes nothing, whatever it answers
+unfoldable pub takes_effect : Step → Reply → Bool
+takes_effect (Initiate t parent) Reply'.Done = true
+takes_effect (Begin t) Reply'.Done = true
+takes_effect (Read t x) (Reply'.Value v) = true
+takes_effect (Write t x v) Reply'.Done = true
+takes_effect (Complete t) Reply'.Done = true
+takes_effect (Permit giver taker obs ops) Reply'.Done = true
+takes_effect (Commit t) Reply'.Committed = true
+takes_effect (Abort t) Reply'.Aborted = true
+takes_effect step reply = false
 
--- the steps that were carried out, newest first as the entries are
-unfoldable pub deeds : List Entry → List Step
-deeds [] = []
-deeds (entry ∷ older) = cond (carries_out entry.0 entry.1) (entry.0 ∷ deeds older) (deeds older)
+-- the steps that took effect, newest first as the entries are
+unfoldable pub applied : List Entry → List Step
+applied [] = []
+applied (entry ∷ older) = cond (takes_effect entry.0 entry.1) (entry.0 ∷ applied older) (applied older)
 
 -- the name that the step initiates, begins or completes
 unfoldable pub initiated_by : Step → List ℕ
@@ -47,13 +47,13 @@ completed_by step = []
 
 -- the names that were initiated, begun or completed
 unfoldable pub initiated : List Step → List ℕ
-initiated past = flat_map initiated_by past
+initiated steps = flat_map initiated_by steps
 
 unfoldable pub begun : List Step → List ℕ
-begun past = flat_map begun_by past
+begun steps = flat_map begun_by steps
 
 unfoldable pub completed : List Step → List ℕ
-completed past = flat_map completed_by past
+completed steps = flat_map completed_by steps
 
 -- the parent that the step gives to t, or else the one before
 unfoldable pub parent_by : Step → ℕ → Option Txn → Option Txn

@@ -4,10 +4,10 @@ ghost use Rattle.std.specs.Prelude.{◌≡◌, ◌≢◌, ℕ, ◌+◌, ◌↔�
 ghost use Rattle.asset_names.specs.declared.steps.Step.{Step};
 ghost use Rattle.asset_names.specs.declared.replies.Reply.{Reply};
 ghost use Rattle.asset_names.specs.declared.replies.Outcome.TheVariants.{Answer};
-ghost use Rattle.asset_names.specs.Steps.{Opening, Entry, deeds};
+ghost use Rattle.asset_names.specs.Steps.{Opening, Entry, applied};
 ghost use Rattle.asset_names.specs.Answers.{IsLegal, answer};
 ghost use Rattle.asset_names.specs.declared.operations.Op.{Op};
-ghost use Rattle.asset_names.specs.Operations.{conflict, holds, reach, free};
+ghost use Rattle.asset_names.specs.Operations.{conflict, holds, allows, free};
 ghost use Rattle.asset_names.specs.Room.{fits, changes_status};
 ghost use Rattle.asset_names.specs.Arrows.{Arrow, linked, Chain};
 
@@ -20,14 +20,14 @@ pub fn linked_is_chain()
 /// entries and owed entries fit the capacity: with its own entry the history fits again.
 pub fn endings_find_room()
     ensures { (opening : Opening) (entries : List Entry) (step : Step) (reply : Reply) (capacity : ℕ) →
-        IsLegal opening entries → fits (deeds entries) (length entries) capacity ≡ true →
-        answer opening (deeds entries) step ≡ Answer reply → changes_status (deeds entries) step reply ≡ true →
-        fits (deeds ((step, reply) ∷ entries)) (length entries + 1) capacity ≡ true }
+        IsLegal opening entries → fits (applied entries) (length entries) capacity ≡ true →
+        answer opening (applied entries) step ≡ Answer reply → changes_status (applied entries) step reply ≡ true →
+        fits (applied ((step, reply) ∷ entries)) (length entries + 1) capacity ≡ true }
 {}
 
 /// An object is free for an operation exactly where each other name that holds it by an operation in
 /// conflict allows it.
 pub fn free_is_allowed_by_holders()
-    ensures { (past : List Step) (t x : ℕ) (op : Op) → (free past t x op ≡ true)
-        ↔ ((u : ℕ) (other : Op) → holds past u x other ≡ true → conflict other op ≡ true → u ≢ t → reach past u t x op ≡ true) }
+    ensures { (steps : List Step) (t x : ℕ) (op : Op) → (free steps t x op ≡ true)
+        ↔ ((u : ℕ) (other : Op) → holds steps u x other ≡ true → conflict other op ≡ true → u ≢ t → allows steps u t x op ≡ true) }
 {}

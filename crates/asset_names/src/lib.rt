@@ -18,7 +18,7 @@ pub use doubles::{NamesObject, least_double};
 pub use laws::{endings_find_room, free_is_allowed_by_holders, linked_is_chain};
 pub use names::{Ob, Txn};
 pub use operations::{Op, Ops};
-pub use outcomes::{commit_outcome, is_carried_out, wait_outcome};
+pub use outcomes::{commit_outcome, takes_effect, wait_outcome};
 pub use refusals::{
     refusal_to_abort, refusal_to_begin, refusal_to_find, refusal_to_initiate, refusal_to_operate,
     refusal_to_permit, refusal_to_work,

@@ -1,7 +1,7 @@
 //! Outcomes of steps that are not refused, by the status of their transaction.
 
 ghost use Rattle.std.specs.Prelude.{◌≡◌};
-ghost use Rattle.asset_names.specs.Steps.{carries_out};
+ghost use Rattle.asset_names.specs.Steps.{takes_effect};
 ghost use Rattle.asset_names.specs.Answers.{commit_outcome, wait_outcome};
 
 use crate::replies::{Outcome, Reply};
@@ -36,10 +36,10 @@ pub fn wait_outcome(status: Status) -> Outcome
     }
 }
 
-/// Whether a step that got this reply was carried out. A wait for a transaction never is.
-#[tactic(auto, unfolding(crate::specs::Steps::carries_out))]
-pub fn is_carried_out(step: &Step, reply: Reply) -> bool
-    ensures { result ≡ carries_out step.now reply }
+/// Whether a step that got this reply took effect. A wait for a transaction never is.
+#[tactic(auto, unfolding(crate::specs::Steps::takes_effect))]
+pub fn takes_effect(step: &Step, reply: Reply) -> bool
+    ensures { result ≡ takes_effect step.now reply }
 {
     match step {
         Step::Read { .. } => matches!(reply, Reply::Value(_)),

@@ -29,7 +29,7 @@ pub enum Refusal {
 /// A recorded reply to a step.
 #[derive(Clone, Copy, Debug, PartialEq, Eq)]
 pub enum Reply {
-    /// What was asked is done: the step was carried out, or the name that was waited for has completed.
+    /// What was asked is done: the step took effect, or the name that was waited for has completed.
     Done,
     /// The value that was read.
     Value(i64),

@@ -27,15 +27,15 @@ impl Model for ObList {
     ghost Value = { List Ob };
 
     ghost use Rattle.asset_names.specs.Sets.{no_object_name};
-    ghost use Rattle.asset_names.specs.Kept.{IsKept};
+    ghost use Rattle.asset_names.specs.Valid.{IsValid};
 
     ghost view = { λ list. take list.count list.objects };
 
-    ghost invariant = { λ list. IsKept list.objects list.count };
+    ghost invariant = { λ list. IsValid list.objects list.count };
 
     ghost inverse = { λ list. record { objects = list ++ replicate (16 - length list) no_object_name; count = length list } };
 
-    ghost use Rattle.asset_names.specs.Kept.{objects_back, count_back};
+    ghost use Rattle.asset_names.specs.Valid.{objects_back, count_back};
 
     ghost inverse_ok = { λ list kept. λ i. record { objects = objects_back list.objects list.count kept i; count = count_back list.objects list.count kept i } };
 }
@@ -72,7 +72,7 @@ fn sort(objects: &mut [Ob])
     objects.sort_unstable_by_key(|x| x.0);
 }
 
-/// The objects in rising order, and empty places after them.
+/// The objects in rising order, and empty slots after them.
 fn sorted(objects: &[Ob]) -> [Ob; MOST_OBJECTS]
     requires { length objects.now ≤ 16 }
     ensures permutation { IsPermutation objects.now (take (length objects.now) result) }

@@ -1,4 +1,4 @@
-pub mod PlaceLemmas
+pub mod SlotLemmas
 pub mod RecordLemmas
 pub mod UndoLemmas
 pub mod ScanLemmas

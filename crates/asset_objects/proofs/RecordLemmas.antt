@@ -5,7 +5,7 @@ use Rattle.std.proofs.lemmas.Bool.{eqb-true}
 use Rattle.std.proofs.lemmas.List.{append-nil}
 use Rattle.asset_objects.specs.declared.records.Record.{Record}
 use Rattle.asset_objects.specs.Cells.{Written, newest_or, written}
-use Rattle.asset_objects.specs.Records.{is_on, write_of, base_of, writes_on, cell_of, IsChained}
+use Rattle.asset_objects.specs.Records.{is_on, write_of, base_of, writes_on, recorded_cell, IsChained}
 
 -- records one after another
 pub base_append : (x : ℕ) (a b : List Record) (value : ℤ) → base_of x (a ++ b) value ≡ base_of x a (base_of x b value)
@@ -54,15 +54,15 @@ shown_in_place x (one ∷ later) value h = go (is_on x one) refl (shown_in_place
 
 -- one more record, on the object or on another
 pub cell_push_on : (x : ℕ) (records : List Record) (last : Record) (value : ℤ) → is_on x last ≡ true →
-    cell_of (records ++ last ∷ []) x value ≡ written last.owner.0 last.value (cell_of records x last.before)
-unfolding cell_of written base_of writes_on write_of
+    recorded_cell (records ++ last ∷ []) x value ≡ written last.owner.0 last.value (recorded_cell records x last.before)
+unfolding recorded_cell written base_of writes_on write_of
 cell_push_on x records last value e = λ i. record {
   base = (base_append x records (last ∷ []) value ∙ ap (λ (b : Bool). base_of x records (cond b last.before value)) e) i;
   records = (writes_append x records (last ∷ []) ∙ ap (λ (b : Bool). cond b (write_of last ∷ []) [] ++ writes_on x records) e) i;
 }
 
-pub cell_push_off : (x : ℕ) (records : List Record) (last : Record) (value : ℤ) → is_on x last ≡ false → cell_of (records ++ last ∷ []) x value ≡ cell_of records x value
-unfolding cell_of base_of writes_on
+pub cell_push_off : (x : ℕ) (records : List Record) (last : Record) (value : ℤ) → is_on x last ≡ false → recorded_cell (records ++ last ∷ []) x value ≡ recorded_cell records x value
+unfolding recorded_cell base_of writes_on
 cell_push_off x records last value e = λ i. record {
   base = (base_append x records (last ∷ []) value ∙ ap (λ (b : Bool). base_of x records (cond b last.before value)) e) i;
   records = (writes_append x records (last ∷ []) ∙ ap (λ (b : Bool). cond b (write_of last ∷ []) [] ++ writes_on x records) e) i;

@@ -10,7 +10,7 @@ use Rattle.asset_names.specs.Steps.{Opening}
 use Rattle.asset_names.specs.Operations.{opening_at}
 use Rattle.asset_objects.specs.declared.records.Record.{Record}
 use Rattle.asset_objects.specs.Cells.{Written, settled, settled_value, newer, change_each}
-use Rattle.asset_objects.specs.Records.{is_on, is_of, write_of, base_of, writes_on, cell_of, cells_of, IsChained, IsKept, elsewhere}
+use Rattle.asset_objects.specs.Records.{is_on, is_of, write_of, base_of, writes_on, recorded_cell, cells_of, IsChained, IsValid, elsewhere}
 use Rattle.asset_objects.proofs.RecordLemmas.{base_append, writes_append, chained_split, chained_join, off}
 
 -- the object itself has no record among the others'
@@ -88,9 +88,9 @@ newer_past test [] one older own = ap (λ (b : Bool). cond b [] (one ∷ newer t
 newer_past test (write ∷ writes) one older own = ap (λ (some : List Written). cond (test write.owner) [] (write ∷ some)) (newer_past test writes one older own)
 
 -- the records stay chained
-pub settled_kept : (values : Opening) (earlier : List Record) (one : Record) (later : List Record) → IsKept values (earlier ++ one ∷ later) → IsKept values (elsewhere one.object.0 earlier ++ later)
-unfolding IsKept IsChained base_of is_on
-settled_kept values earlier one later kept = λ y value e.
+pub settled_valid : (values : Opening) (earlier : List Record) (one : Record) (later : List Record) → IsValid values (earlier ++ one ∷ later) → IsValid values (elsewhere one.object.0 earlier ++ later)
+unfolding IsValid IsChained base_of is_on
+settled_valid values earlier one later kept = λ y value e.
     let parts = chained_split y earlier (one ∷ later) value (kept y value e) in
     chained_join y (elsewhere one.object.0 earlier) later value (go y value (eqb one.object.0 y) refl parts.0) parts.1.1 where
       go : (y : ℕ) (value : ℤ) (b : Bool) → eqb one.object.0 y ≡ b → IsChained y earlier (cond (eqb one.object.0 y) one.before (base_of y later value)) →
@@ -102,8 +102,8 @@ settled_kept values earlier one later kept = λ y value e.
 
 -- the object itself, once the record is the newest that passes, and without it and those before
 settled_on : (test : ℕ → Bool) (y : ℕ) (earlier : List Record) (one : Record) (later : List Record) (value : ℤ) → test one.owner.0 ≡ true → is_on y one ≡ true →
-    IsChained y (earlier ++ one ∷ later) value → settled test (cell_of (elsewhere y earlier ++ later) y value) ≡ settled test (cell_of (earlier ++ one ∷ later) y value)
-unfolding settled cell_of IsChained writes_on write_of
+    IsChained y (earlier ++ one ∷ later) value → settled test (recorded_cell (elsewhere y earlier ++ later) y value) ≡ settled test (recorded_cell (earlier ++ one ∷ later) y value)
+unfolding settled recorded_cell IsChained writes_on write_of
 settled_on test y earlier one later value own on chained = λ i. record { base = base i; records = writes i } where
   rest : writes_on y (elsewhere y earlier ++ later) ≡ writes_on y later
   rest =
@@ -137,8 +137,8 @@ settled_on test y earlier one later value own on chained = λ i. record { base =
 
 -- another object
 settled_off : (y : ℕ) (earlier : List Record) (one : Record) (later : List Record) (value : ℤ) → eqb one.object.0 y ≡ false →
-    cell_of (elsewhere one.object.0 earlier ++ later) y value ≡ cell_of (earlier ++ one ∷ later) y value
-unfolding cell_of base_of writes_on is_on
+    recorded_cell (elsewhere one.object.0 earlier ++ later) y value ≡ recorded_cell (earlier ++ one ∷ later) y value
+unfolding recorded_cell base_of writes_on is_on
 settled_off y earlier one later value apart = λ i. record { base = base i; records = writes i } where
   base : base_of y (elsewhere one.object.0 earlier ++ later) value ≡ base_of y (earlier ++ one ∷ later) value
   base =
@@ -155,19 +155,19 @@ settled_off y earlier one later value apart = λ i. record { base = base i; reco
       ∙ ap (λ (b : Bool). (writes_on y later ++ cond b (write_of one ∷ []) []) ++ writes_on y earlier) (sym apart)
       ∙ sym (writes_append y earlier (one ∷ later))
 
-pub settled_cells : (test : ℕ → Bool) (values : Opening) (earlier : List Record) (one : Record) (later : List Record) → test one.owner.0 ≡ true → IsKept values (earlier ++ one ∷ later) →
+pub settled_cells : (test : ℕ → Bool) (values : Opening) (earlier : List Record) (one : Record) (later : List Record) → test one.owner.0 ≡ true → IsValid values (earlier ++ one ∷ later) →
     (y : ℕ) → change_each (settled test) (cells_of values (elsewhere one.object.0 earlier ++ later)) y ≡ change_each (settled test) (cells_of values (earlier ++ one ∷ later)) y
-unfolding change_each cells_of IsKept is_on
+unfolding change_each cells_of IsValid is_on
 settled_cells test values earlier one later own kept y = held (opening_at values y) refl where
   same : (value : ℤ) (b : Bool) → opening_at values y ≡ Some value → eqb one.object.0 y ≡ b →
-      settled test (cell_of (elsewhere one.object.0 earlier ++ later) y value) ≡ settled test (cell_of (earlier ++ one ∷ later) y value)
+      settled test (recorded_cell (elsewhere one.object.0 earlier ++ later) y value) ≡ settled test (recorded_cell (earlier ++ one ∷ later) y value)
   same value true e on =
-      ap (λ (n : ℕ). settled test (cell_of (elsewhere n earlier ++ later) y value)) (eqb-true one.object.0 y on)
+      ap (λ (n : ℕ). settled test (recorded_cell (elsewhere n earlier ++ later) y value)) (eqb-true one.object.0 y on)
       ∙ settled_on test y earlier one later value own on (kept y value e)
   same value false e apart = ap (settled test) (settled_off y earlier one later value apart)
 
   held : (o : Option ℤ) → opening_at values y ≡ o →
-      option_map (settled test) (option_map (cell_of (elsewhere one.object.0 earlier ++ later) y) o) ≡ option_map (settled test) (option_map (cell_of (earlier ++ one ∷ later) y) o)
+      option_map (settled test) (option_map (recorded_cell (elsewhere one.object.0 earlier ++ later) y) o) ≡ option_map (settled test) (option_map (recorded_cell (earlier ++ one ∷ later) y) o)
   held None e = refl
   held (Some value) e = ap Some (same value (eqb one.object.0 y) e refl)
 
@@ -199,9 +199,9 @@ free_newer t (write ∷ writes) none =
 
 pub settled_free : (t : ℕ) (values : Opening) (records : List Record) → list_any (is_of t) records ≡ false →
     (y : ℕ) → cells_of values records y ≡ change_each (settled (λ n. eqb n t)) (cells_of values records) y
-unfolding change_each cells_of settled cell_of
+unfolding change_each cells_of settled recorded_cell
 settled_free t values records none y = go (opening_at values y) where
-  go : (held : Option ℤ) → option_map (cell_of records y) held ≡ option_map (settled (λ n. eqb n t)) (option_map (cell_of records y) held)
+  go : (held : Option ℤ) → option_map (recorded_cell records y) held ≡ option_map (settled (λ n. eqb n t)) (option_map (recorded_cell records y) held)
   go None = refl
   go (Some value) =
       let free = free_writes t y records none in

@@ -11,7 +11,7 @@ use Rattle.asset_names.specs.Operations.{opening_at}
 use Rattle.asset_names.proofs.Common.{cond_same}
 use Rattle.asset_objects.specs.declared.records.Record.{Record}
 use Rattle.asset_objects.specs.Cells.{Written, Cell, undone, change_each}
-use Rattle.asset_objects.specs.Records.{is_on, is_of, write_of, base_of, writes_on, cell_of, cells_of, put_at, IsChained, IsKept, IsReturned, handed}
+use Rattle.asset_objects.specs.Records.{is_on, is_of, write_of, base_of, writes_on, recorded_cell, cells_of, put_at, IsChained, IsValid, IsReturned, handed}
 use Rattle.asset_objects.proofs.RecordLemmas.{base_append, writes_append, chained_split, chained_join, off}
 
 -- the same record with another before-image
@@ -128,9 +128,9 @@ gone_chained y earlier gone later value h =
 
 -- what an object shows without the writes of one who passes the test, before and after a record of theirs is gone
 undone_gone : (test : ℕ → Bool) (y : ℕ) (earlier : List Record) (gone : Record) (later : List Record) (value : ℤ) → test gone.owner.0 ≡ true →
-    undone test (cell_of (earlier ++ handed gone.object.0 gone.before later) y (value_after gone.object.0 y gone.before later value))
-    ≡ undone test (cell_of (earlier ++ gone ∷ later) y value)
-unfolding undone cell_of writes_on write_of
+    undone test (recorded_cell (earlier ++ handed gone.object.0 gone.before later) y (value_after gone.object.0 y gone.before later value))
+    ≡ undone test (recorded_cell (earlier ++ gone ∷ later) y value)
+unfolding undone recorded_cell writes_on write_of
 undone_gone test y earlier gone later value own = λ i. record { base = base i; records = writes i } where
   stands : Written → Bool
   stands write = not (test write.owner)
@@ -171,10 +171,10 @@ map_map : (f : Cell → Cell) (g : ℤ → Cell) (held : Option ℤ) → option_
 map_map f g None = refl
 map_map f g (Some value) = refl
 
-pub taken_kept : (values after : Opening) (earlier : List Record) (gone : Record) (later : List Record) → IsReturned values after gone later →
-    IsKept values (earlier ++ gone ∷ later) → IsKept after (earlier ++ handed gone.object.0 gone.before later)
-unfolding IsKept put_at
-taken_kept values after earlier gone later back kept = λ y value e.
+pub taken_valid : (values after : Opening) (earlier : List Record) (gone : Record) (later : List Record) → IsReturned values after gone later →
+    IsValid values (earlier ++ gone ∷ later) → IsValid after (earlier ++ handed gone.object.0 gone.before later)
+unfolding IsValid put_at
+taken_valid values after earlier gone later back kept = λ y value e.
     let found = after_some (list_any (is_on gone.object.0) later) (eqb gone.object.0 y) (opening_at values y) gone.before value (sym (back y) ∙ e) in
     subst (IsChained y (earlier ++ handed gone.object.0 gone.before later)) (sym found.2) (gone_chained y earlier gone later found.0 (kept y found.0 found.1))
 
@@ -182,13 +182,13 @@ pub taken_cells : (test : ℕ → Bool) (values after : Opening) (earlier : List
     (y : ℕ) → change_each (undone test) (cells_of after (earlier ++ handed gone.object.0 gone.before later)) y ≡ change_each (undone test) (cells_of values (earlier ++ gone ∷ later)) y
 unfolding change_each cells_of put_at
 taken_cells test values after earlier gone later back own y =
-    map_map (undone test) (cell_of (earlier ++ handed gone.object.0 gone.before later) y) (opening_at after y)
-    ∙ ap (option_map (λ (value : ℤ). undone test (cell_of (earlier ++ handed gone.object.0 gone.before later) y value))) (back y)
+    map_map (undone test) (recorded_cell (earlier ++ handed gone.object.0 gone.before later) y) (opening_at after y)
+    ∙ ap (option_map (λ (value : ℤ). undone test (recorded_cell (earlier ++ handed gone.object.0 gone.before later) y value))) (back y)
     ∙ map_after (list_any (is_on gone.object.0) later) (eqb gone.object.0 y) (opening_at values y) gone.before
-    (λ (value : ℤ). undone test (cell_of (earlier ++ handed gone.object.0 gone.before later) y value))
-    (λ (value : ℤ). undone test (cell_of (earlier ++ gone ∷ later) y value))
+    (λ (value : ℤ). undone test (recorded_cell (earlier ++ handed gone.object.0 gone.before later) y value))
+    (λ (value : ℤ). undone test (recorded_cell (earlier ++ gone ∷ later) y value))
     (λ old. undone_gone test y earlier gone later old own)
-    ∙ sym (map_map (undone test) (cell_of (earlier ++ gone ∷ later) y) (opening_at values y))
+    ∙ sym (map_map (undone test) (recorded_cell (earlier ++ gone ∷ later) y) (opening_at values y))
 
 -- where no record is the transaction's, nothing is undone
 free_writes : (t y : ℕ) (records : List Record) → list_any (is_of t) records ≡ false → filter (λ (write : Written). not (eqb write.owner t)) (writes_on y records) ≡ writes_on y records
@@ -204,8 +204,8 @@ free_writes t y (one ∷ later) none =
 
 pub undone_free : (t : ℕ) (values : Opening) (records : List Record) → list_any (is_of t) records ≡ false →
     (y : ℕ) → cells_of values records y ≡ change_each (undone (λ n. eqb n t)) (cells_of values records) y
-unfolding change_each cells_of undone cell_of
+unfolding change_each cells_of undone recorded_cell
 undone_free t values records none y = go (opening_at values y) where
-  go : (held : Option ℤ) → option_map (cell_of records y) held ≡ option_map (undone (λ n. eqb n t)) (option_map (cell_of records y) held)
+  go : (held : Option ℤ) → option_map (recorded_cell records y) held ≡ option_map (undone (λ n. eqb n t)) (option_map (recorded_cell records y) held)
   go None = refl
   go (Some value) = λ i. Some (record { base = base_of y records value; records = sym (free_writes t y records none) i })

@@ -7,9 +7,9 @@ use Rattle.std.proofs.lemmas.List.{length-append, length-take, drop_at}
 use Rattle.asset_names.specs.Steps.{Opening}
 use Rattle.asset_objects.specs.declared.records.Record.{Record}
 use Rattle.asset_objects.specs.Cells.{undone, change_each}
-use Rattle.asset_objects.specs.Records.{is_of, cells_of, IsKept, IsReturned, handed}
+use Rattle.asset_objects.specs.Records.{is_of, cells_of, IsValid, IsReturned, handed}
 use Rattle.asset_objects.proofs.ScanLemmas.{split_at}
-use Rattle.asset_objects.proofs.UndoLemmas.{taken_kept, taken_cells, handed_owners}
+use Rattle.asset_objects.proofs.UndoLemmas.{taken_valid, taken_cells, handed_owners}
 
 module _ (t : ℕ) (values after : Opening) (old new : List Record) (i : ℕ) (gone : Record) (found : slice_get old i ≡ Some gone)
     (taken : new ≡ take i old ++ handed gone.object.0 gone.before (drop (i + 1) old)) (back : IsReturned values after gone (drop (i + 1) old)) where
@@ -36,9 +36,9 @@ module _ (t : ℕ) (values after : Opening) (old new : List Record) (i : ℕ) (g
       ∙ ap (λ (n : ℕ). list_any (is_of t) (drop n old)) (sym e)
       ∙ none
 
-  pub undo_keeps : IsKept values old → IsKept after new
+  pub undo_keeps : IsValid values old → IsValid after new
   undo_keeps kept =
-      subst (IsKept after) (sym taken) (taken_kept values after (take i old) gone (drop (i + 1) old) back (subst (IsKept values) (split_at old i gone within here) kept))
+      subst (IsValid after) (sym taken) (taken_valid values after (take i old) gone (drop (i + 1) old) back (subst (IsValid values) (split_at old i gone within here) kept))
 
   pub undo_cells : eqb gone.owner.0 t ≡ true → (y : ℕ) → change_each (undone (λ n. eqb n t)) (cells_of after new) y ≡ change_each (undone (λ n. eqb n t)) (cells_of values old) y
   undo_cells own y =

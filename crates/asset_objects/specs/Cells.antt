@@ -18,12 +18,12 @@ abbrev pub Cells : Type 0
 Cells = ℕ → Option Cell
 
 -- the objects, each with its cell, and whether there is room for one more write
-pub record Table : Type 0 where
+pub record ObjectTable : Type 0 where
   pub rows : List (ℕ × Cell)
   pub reserved : Bool
 
 -- the cells of a table
-unfoldable pub cells : Table → Cells
+unfoldable pub cells : ObjectTable → Cells
 cells table x = option_map (λ (row : ℕ × Cell). row.1) (find (λ (row : ℕ × Cell). row.0 == x) table.rows)
 
 -- an object at its opening value, without a write

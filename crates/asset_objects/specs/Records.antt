@@ -5,7 +5,7 @@ use Rattle.asset_names.specs.declared.names.Ob.{Ob}
 use Rattle.asset_names.specs.Steps.{Opening}
 use Rattle.asset_names.specs.Operations.{opening_at}
 use Rattle.asset_objects.specs.declared.records.Record.{Record}
-use Rattle.asset_objects.specs.Cells.{Written, Cell, Cells, Table}
+use Rattle.asset_objects.specs.Cells.{Written, Cell, Cells, ObjectTable}
 
 -- whether the record is one of a write to the object
 unfoldable pub is_on : ℕ → Record → Bool
@@ -30,8 +30,8 @@ writes_on x [] = []
 writes_on x (first ∷ later) = writes_on x later ++ cond (is_on x first) (write_of first ∷ []) []
 
 -- the cell of the object with this value in place
-unfoldable pub cell_of : List Record → ℕ → ℤ → Cell
-cell_of records x value = record { base = base_of x records value; records = writes_on x records }
+unfoldable pub recorded_cell : List Record → ℕ → ℤ → Cell
+recorded_cell records x value = record { base = base_of x records value; records = writes_on x records }
 
 -- each record on the object wrote what the next one found before it, and the last one what is in place
 unfoldable pub IsChained : ℕ → List Record → ℤ → Type 0
@@ -39,17 +39,17 @@ IsChained x [] value = Unit {0}
 IsChained x (first ∷ later) value = (is_on x first ≡ true → first.value ≡ base_of x later value) × IsChained x later value
 
 -- the values in place are those that the records left
-unfoldable pub IsKept : Opening → List Record → Type 0
-IsKept values records = (x : ℕ) (value : ℤ) → opening_at values x ≡ Some value → IsChained x records value
+unfoldable pub IsValid : Opening → List Record → Type 0
+IsValid values records = (x : ℕ) (value : ℤ) → opening_at values x ≡ Some value → IsChained x records value
 
 -- the cells of these values in place under these records
 unfoldable pub cells_of : Opening → List Record → Cells
-cells_of values records x = option_map (cell_of records x) (opening_at values x)
+cells_of values records x = option_map (recorded_cell records x) (opening_at values x)
 
 -- the table of these values in place and records, with room for so many records in all
-unfoldable pub table_of : Opening → List Record → ℕ → Table
-table_of values records room = record {
-  rows = map (λ (pair : Ob × ℤ). (pair.0.0, cell_of records pair.0.0 pair.1)) values;
+unfoldable pub object_table : Opening → List Record → ℕ → ObjectTable
+object_table values records room = record {
+  rows = map (λ (pair : Ob × ℤ). (pair.0.0, recorded_cell records pair.0.0 pair.1)) values;
   reserved = nat_lt (length records) room;
 }
 

@@ -6,7 +6,7 @@ ghost use Rattle.asset_names.specs.Operations.{opening_at};
 ghost use Rattle.asset_names.specs.Steps.{Opening};
 ghost use Rattle.asset_objects.specs.Cells.{undone, settled, change_each};
 ghost use Rattle.asset_objects.specs.declared.records.Record.{Record};
-ghost use Rattle.asset_objects.specs.Records.{is_on, is_of, handed, elsewhere, put_at, cells_of, IsKept, IsReturned};
+ghost use Rattle.asset_objects.specs.Records.{is_on, is_of, handed, elsewhere, put_at, cells_of, IsValid, IsReturned};
 
 use asset_names::{Ob, Txn};
 use indexmap::IndexMap;
@@ -62,8 +62,8 @@ fn take_back(values: &mut IndexMap<Ob, i64>, records: &mut Vec<Record>, index: u
 
 /// Takes the writes of the transaction away, the newest first.
 pub fn undo(values: &mut IndexMap<Ob, i64>, records: &mut Vec<Record>, t: Txn)
-    requires { IsKept values.old.entries records.old.items }
-    ensures kept { IsKept values.new.entries records.new.items }
+    requires { IsValid values.old.entries records.old.items }
+    ensures valid { IsValid values.new.entries records.new.items }
     ensures cells { (x : ℕ) → cells_of values.new.entries records.new.items x
         ≡ change_each (undone (λ n. n == t.0)) (cells_of values.old.entries records.old.items) x }
 {
@@ -109,8 +109,8 @@ fn take_out(records: &mut Vec<Record>, x: Ob, end: usize)
 
 /// Makes the newest value that the transaction wrote to each object the object's base.
 pub fn settle(records: &mut Vec<Record>, t: Txn)
-    ensures { (values : Opening) → IsKept values records.old.items →
-        IsKept values records.new.items × ((x : ℕ) → cells_of values records.new.items x ≡ change_each (settled (λ n. n == t.0)) (cells_of values records.old.items) x) }
+    ensures { (values : Opening) → IsValid values records.old.items →
+        IsValid values records.new.items × ((x : ℕ) → cells_of values records.new.items x ≡ change_each (settled (λ n. n == t.0)) (cells_of values records.old.items) x) }
 {
     'records: while let Some((newest, x)) = newest_of(records, t) {
         take_out(records, x, newest + 1);

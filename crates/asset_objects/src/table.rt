@@ -19,14 +19,14 @@ pub struct Objects {
 
 impl Model for Objects {
     ghost use Rattle.std.specs.Prelude.{vec_capacity};
-    ghost use Rattle.asset_objects.specs.Cells.{Table};
-    ghost use Rattle.asset_objects.specs.Records.{table_of, IsKept};
+    ghost use Rattle.asset_objects.specs.Cells.{ObjectTable};
+    ghost use Rattle.asset_objects.specs.Records.{object_table, IsValid};
 
-    ghost Value = { Table };
+    ghost Value = { ObjectTable };
 
-    ghost view = { λ o. table_of o.values.entries o.records.items (vec_capacity o.records) };
+    ghost view = { λ o. object_table o.values.entries o.records.items (vec_capacity o.records) };
 
-    ghost invariant = { λ o. IsKept o.values.entries o.records.items };
+    ghost invariant = { λ o. IsValid o.values.entries o.records.items };
 }
 
 /// Why no table was opened.

@@ -14,7 +14,7 @@ use Rattle.asset_names.specs.InSet.{in_set}
 use Rattle.asset_names.specs.Operations.{has_op}
 use Rattle.asset_names.proofs.Common.{eqb-flip}
 use Rattle.std.proofs.Math.Bool.{or-false}
-use Rattle.asset_permits.specs.Descriptors.{Descriptor, Given, given_by, same_given, same_objects, same_ops, same_descriptor, stands, AreDifferent, covers, lets, one_covers}
+use Rattle.asset_permits.specs.Descriptors.{Descriptor, Grant, descriptor_by, same_grant, same_objects, same_ops, same_descriptor, stands, AreDifferent, covers, lets, one_covers}
 
 -- ---- two that say the same
 beq-true : (p q : Bool) → beq p q ≡ true → p ≡ q
@@ -153,9 +153,9 @@ lets_by u t x op d =
     ∙ regrouped (eqb u d.giver) (eqb t d.taker) (in_set d.objects x) (has_op d.ops op)
 
 -- two that one name gives say the same
-pub same_by : (u : ℕ) (g h : Given) → same_descriptor (given_by u g) (given_by u h) ≡ same_given g h
-unfolding same_descriptor given_by same_given
+pub same_by : (u : ℕ) (g h : Grant) → same_descriptor (descriptor_by u g) (descriptor_by u h) ≡ same_grant g h
+unfolding same_descriptor descriptor_by same_grant
 same_by u g h = rw (eq-eqb u u refl) refl
 
-pub mapped_push : (u : ℕ) (given : List Given) (one : Given) → map (given_by u) (given ++ one ∷ []) ≡ map (given_by u) given ++ given_by u one ∷ []
-mapped_push u given one = map-append (given_by u) given (one ∷ [])
+pub mapped_push : (u : ℕ) (grants : List Grant) (one : Grant) → map (descriptor_by u) (grants ++ one ∷ []) ≡ map (descriptor_by u) grants ++ descriptor_by u one ∷ []
+mapped_push u grants one = map-append (descriptor_by u) grants (one ∷ [])

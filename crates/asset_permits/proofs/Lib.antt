@@ -2,6 +2,6 @@ pub mod ArrowLaws
 pub mod DescriptorLemmas
 pub mod MarkLemmas
 pub mod WalkLemmas
-pub mod RowLemmas
+pub mod PermitRowLemmas
 pub mod SearchLemmas
 pub mod TableLemmas

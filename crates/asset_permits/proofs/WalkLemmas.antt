@@ -45,7 +45,7 @@ walk_from arrows name_of size from to before after none expands =
     let only : after ≡ expands.more = expands.kept ∙ ap (λ (l : List ℕ). l ++ expands.more) none in
     record {
       within = λ k listed. expands.within k (ap (λ (l : List ℕ). lists l k) (sym only) ∙ listed);
-      reached = λ k listed. linked_step arrows from from (name_of k) (linked_refl arrows from) (expands.leads k (ap (λ (l : List ℕ). lists l k) (sym only) ∙ listed));
+      reached = λ k listed. linked_step arrows from from (name_of k) (linked_refl arrows from) (expands.is_linked k (ap (λ (l : List ℕ). lists l k) (sym only) ∙ listed));
       first = expands.all;
       so_far = omega arith;
       later = λ i below. absurd (omega (arith, below));
@@ -70,7 +70,7 @@ walk_on arrows name_of size from to nodes after next walked below other expands 
       ];
       reached = λ k listed. elim (or_cases (lists nodes k) (lists expands.more k) (sym (lists-append nodes expands.more k) ∙ ap (λ (l : List ℕ). lists l k) (sym kept) ∙ listed)) [
         | inl old ↦ walked.reached k old
-        | inr new ↦ linked_step arrows from (name_of (get_or nodes next 0)) (name_of k) here (expands.leads k new)
+        | inr new ↦ linked_step arrows from (name_of (get_or nodes next 0)) (name_of k) here (expands.is_linked k new)
       ];
       first = λ t arrow. still t (walked.first t arrow);
       so_far = omega (arith, size_of, more_nodes, below);

@@ -19,14 +19,14 @@ pub record Descriptor : Type 0 where
   pub ops : Bool × Bool
 
 -- a permit of a giver who is known
-pub record Given : Type 0 where
+pub record Grant : Type 0 where
   pub taker : ℕ
   pub objects : ObSet
   pub ops : Bool × Bool
 
 -- the permit of this giver
-unfoldable pub given_by : ℕ → Given → Descriptor
-given_by giver given = record { giver = giver; taker = given.taker; objects = given.objects; ops = given.ops }
+unfoldable pub descriptor_by : ℕ → Grant → Descriptor
+descriptor_by giver grant = record { giver = giver; taker = grant.taker; objects = grant.objects; ops = grant.ops }
 
 -- whether the two are the same set, said by the same list
 unfoldable pub same_objects : ObSet → ObSet → Bool
@@ -40,8 +40,8 @@ unfoldable pub same_ops : Bool × Bool → Bool × Bool → Bool
 same_ops ops others = beq ops.0 others.0 && beq ops.1 others.1
 
 -- whether the two say the same, where the giver is known
-unfoldable pub same_given : Given → Given → Bool
-same_given g h = g.taker == h.taker && same_objects g.objects h.objects && same_ops g.ops h.ops
+unfoldable pub same_grant : Grant → Grant → Bool
+same_grant g h = g.taker == h.taker && same_objects g.objects h.objects && same_ops g.ops h.ops
 
 -- whether the two say the same
 unfoldable pub same_descriptor : Descriptor → Descriptor → Bool
@@ -61,8 +61,8 @@ unfoldable pub covers : ℕ → Op → Descriptor → Bool
 covers x op d = in_set d.objects x && has_op d.ops op
 
 -- the same of a permit of a giver who is known
-unfoldable pub covers_given : ℕ → Op → Given → Bool
-covers_given x op given = in_set given.objects x && has_op given.ops op
+unfoldable pub grant_covers : ℕ → Op → Grant → Bool
+grant_covers x op grant = in_set grant.objects x && has_op grant.ops op
 
 -- whether the descriptor is of this giver for this taker, and covers op on x
 unfoldable pub lets : ℕ → ℕ → ℕ → Op → Descriptor → Bool
@@ -77,6 +77,6 @@ unfoldable pub arrows_for : List Descriptor → ℕ → Op → List Arrow
 arrows_for descriptors x op = map (λ (d : Descriptor). (d.giver, d.taker)) (filter (covers x op) descriptors)
 
 -- whether the giver allows the taker to do op on x: they are one name, or a chain of descriptors that
--- stand leads from the one to the other, each of which covers op on x
-unfoldable pub allows_in : List Descriptor → ℕ → ℕ → ℕ → Op → Bool
-allows_in descriptors giver taker x op = linked (arrows_for descriptors x op) giver taker
+-- stand is_linked from the one to the other, each of which covers op on x
+unfoldable pub allows_by : List Descriptor → ℕ → ℕ → ℕ → Op → Bool
+allows_by descriptors giver taker x op = linked (arrows_for descriptors x op) giver taker

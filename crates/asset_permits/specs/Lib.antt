@@ -1,5 +1,5 @@
 pub mod Descriptors
 pub mod Marked
-pub mod Kept
+pub mod Valid
 pub mod Searched
-pub mod Row
+pub mod PermitRow

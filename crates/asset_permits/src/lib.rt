@@ -2,7 +2,7 @@
 //! alone takes memory.
 #![tactic(auto)]
 
-mod given;
+mod grant;
 mod laws;
 mod marks;
 mod row;

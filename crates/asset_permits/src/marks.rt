@@ -4,26 +4,26 @@ use asset_names::NoMemory;
 use std::alloc::Global;
 use std::marker::Model;
 
-/// Marks on the nodes below a number, for a search that takes no memory. One count clears them.
+/// Marks on the nodes below a index, for a search that takes no memory. One count clears them.
 /// Contracts see how many nodes there are, and those that are met, in order of meeting.
 ///
-/// `order` has each node once, first those that are met, and `place` says where.
+/// `order` has each node once, first those that are met, and `position` says where.
 #[derive(Drop)]
 pub(crate) struct Marks {
     order: Vec<usize>,
-    place: Vec<usize>,
+    position: Vec<usize>,
     met: usize,
 }
 
 impl Model for Marks {
     ghost use Rattle.std.specs.Prelude.{length, take};
-    ghost use Rattle.asset_permits.specs.Marked.{Met, IsPlaced};
+    ghost use Rattle.asset_permits.specs.Marked.{Met, IsValid};
 
     ghost Value = { Met };
 
     ghost view = { λ m. record { size = length m.order.items; nodes = take m.met m.order.items } };
 
-    ghost invariant = { λ m. IsPlaced m.order.items m.place.items m.met };
+    ghost invariant = { λ m. IsValid m.order.items m.position.items m.met };
 }
 
 impl Marks {
@@ -37,7 +37,7 @@ impl Marks {
     {
         Marks {
             order: Vec::new(alloc),
-            place: Vec::new(alloc),
+            position: Vec::new(alloc),
             met: 0,
         }
     }
@@ -48,12 +48,12 @@ impl Marks {
         ensures nodes { self.new.nodes ≡ self.old.nodes }
         ensures unchanged { OnErr result (self.new ≡ self.old) }
     {
-        if self.order.reserve(1).is_err() || self.place.reserve(1).is_err() {
+        if self.order.reserve(1).is_err() || self.position.reserve(1).is_err() {
             return Err(NoMemory);
         }
         let node = self.order.len();
         self.order.push(node).unwrap();
-        self.place.push(node).unwrap();
+        self.position.push(node).unwrap();
         Ok(())
     }
 
@@ -72,13 +72,13 @@ impl Marks {
         self.met
     }
 
-    /// The node that was met at this number, from 0.
-    pub(crate) fn node(&self, number: usize) -> usize
-        requires { number < length self.now.nodes }
-        ensures node { result ≡ slice_index self.now.nodes number }
+    /// The node that was met at this index, from 0.
+    pub(crate) fn node(&self, index: usize) -> usize
+        requires { index < length self.now.nodes }
+        ensures node { result ≡ slice_index self.now.nodes index }
         ensures within { result < self.now.size }
     {
-        self.order[number]
+        self.order[index]
     }
 
     /// Meets none.
@@ -94,7 +94,7 @@ impl Marks {
         requires { node < self.now.size }
         ensures { result ≡ lists self.now.nodes node }
     {
-        self.place[node] < self.met
+        self.position[node] < self.met
     }
 
     /// Meets the node. Where it is met already, nothing changes.
@@ -103,13 +103,13 @@ impl Marks {
         ensures size { self.new.size ≡ self.old.size }
         ensures nodes { self.new.nodes ≡ cond (lists self.old.nodes node) self.old.nodes (self.old.nodes ++ node ∷ []) }
     {
-        let at = self.place[node];
+        let at = self.position[node];
         if at >= self.met {
             let other = self.order[self.met];
             self.order[at] = other;
-            self.place[other] = at;
+            self.position[other] = at;
             self.order[self.met] = node;
-            self.place[node] = self.met;
+            self.position[node] = self.met;
             self.met += 1;
         }
     }

@@ -1,46 +1,46 @@
 //! What the table keeps of one name.
 
-use crate::given::Given;
+use crate::grant::Grant;
 use asset_names::{NoMemory, Txn};
 use std::alloc::Global;
 
 /// What a name gives, and who has given it something. Where memory once ran out, a giver may be noted
 /// that gives nothing.
 #[derive(Drop)]
-pub(crate) struct Row {
-    pub given: Vec<Given>,
+pub(crate) struct PermitRow {
+    pub grants: Vec<Grant>,
     pub givers: Vec<Txn>,
 }
 
-impl Row {
+impl PermitRow {
     ghost use Rattle.std.specs.Prelude.{◌≡◌, ℕ, ◌==◌, ◌||◌, ◌++◌, ◌∷◌, [], not, filter, OnOk, OnErr};
-    ghost use Rattle.asset_permits.specs.Row.{has_given, has_giver, without_giver};
+    ghost use Rattle.asset_permits.specs.PermitRow.{has_grant, has_giver, without_giver};
 
     /// A row of a name that gives nothing, and was given nothing. It takes no memory.
-    pub(crate) fn new(alloc: Global) -> Row
-        ensures given { result.given.items ≡ [] }
+    pub(crate) fn new(alloc: Global) -> PermitRow
+        ensures grants { result.grants.items ≡ [] }
         ensures givers { result.givers.items ≡ [] }
     {
-        Row {
-            given: Vec::new(alloc),
+        PermitRow {
+            grants: Vec::new(alloc),
             givers: Vec::new(alloc),
         }
     }
 
     /// Whether it gives this.
-    pub(crate) fn gives(&self, given: &Given) -> bool
-        ensures { result ≡ has_given given.now self.now.given.items }
+    pub(crate) fn gives(&self, grant: &Grant) -> bool
+        ensures { result ≡ has_grant grant.now self.now.grants.items }
     {
-        self.given.iter().any(|one| one.is_same(given))
+        self.grants.iter().any(|one| one.is_same(grant))
     }
 
     /// One more is given. Where memory runs out, nothing changes.
-    pub(crate) fn give(&mut self, given: Given) -> Result<(), NoMemory>
-        ensures given { OnOk result (self.new.given.items ≡ self.old.given.items ++ given ∷ []) }
+    pub(crate) fn give(&mut self, grant: Grant) -> Result<(), NoMemory>
+        ensures grants { OnOk result (self.new.grants.items ≡ self.old.grants.items ++ grant ∷ []) }
         ensures givers { self.new.givers ≡ self.old.givers }
-        ensures unchanged { OnErr result (self.new.given.items ≡ self.old.given.items) }
+        ensures unchanged { OnErr result (self.new.grants.items ≡ self.old.grants.items) }
     {
-        match self.given.push(given) {
+        match self.grants.push(grant) {
             Ok(()) => Ok(()),
             Err(_) => Err(NoMemory),
         }
@@ -49,7 +49,7 @@ impl Row {
     /// Notes who has given something, if it is not noted yet. Where memory runs out, nothing changes.
     pub(crate) fn note(&mut self, giver: Txn) -> Result<(), NoMemory>
         ensures givers { OnOk result ((u : ℕ) → has_giver u self.new.givers.items ≡ (has_giver u self.old.givers.items || u == giver.0)) }
-        ensures given { self.new.given ≡ self.old.given }
+        ensures grants { self.new.grants ≡ self.old.grants }
         ensures unchanged { OnErr result (self.new.givers.items ≡ self.old.givers.items) }
     {
         if is_among(&self.givers, giver) {
@@ -63,23 +63,23 @@ impl Row {
 
     /// Takes away what is given to the taker.
     pub(crate) fn drop_taker(&mut self, taker: Txn)
-        ensures given { self.new.given.items ≡ filter (λ given. not (given.taker == taker.0)) self.old.given.items }
+        ensures grants { self.new.grants.items ≡ filter (λ grant. not (grant.taker == taker.0)) self.old.grants.items }
         ensures givers { self.new.givers ≡ self.old.givers }
     {
-        self.given.retain(|given| given.taker() != taker);
+        self.grants.retain(|grant| grant.taker() != taker);
     }
 
     /// Takes the note of the giver away.
     pub(crate) fn drop_giver(&mut self, giver: Txn)
         ensures givers { self.new.givers.items ≡ without_giver giver.0 self.old.givers.items }
-        ensures given { self.new.given ≡ self.old.given }
+        ensures grants { self.new.grants ≡ self.old.grants }
     {
         self.givers.retain(|name| *name != giver);
     }
 }
 
 ghost use Rattle.std.specs.Prelude.{◌≡◌};
-ghost use Rattle.asset_permits.specs.Row.{has_giver};
+ghost use Rattle.asset_permits.specs.PermitRow.{has_giver};
 
 /// Whether the name is among them.
 fn is_among(names: &[Txn], name: Txn) -> bool

@@ -2,31 +2,31 @@
 
 ghost use Rattle.std.specs.Prelude.{◌≡◌, ℕ, ◌+◌, ◌≤◌, cond, ◌==◌, ◌&&◌, ◌||◌, ◌++◌, ◌∷◌, [], length, None, Some, OnOk, OnErr};
 ghost use Rattle.std.specs.Map.{keys_of};
-ghost use Rattle.asset_permits.specs.Descriptors.{given_by, stands};
-ghost use Rattle.asset_permits.specs.Row.{has_giver, has_taker, without_giver};
-ghost use Rattle.asset_permits.specs.Kept.{HaveNames, row_of, given_in, givers_in, descriptors_of, without_taker};
+ghost use Rattle.asset_permits.specs.Descriptors.{descriptor_by, stands};
+ghost use Rattle.asset_permits.specs.PermitRow.{has_giver, has_taker, without_giver};
+ghost use Rattle.asset_permits.specs.Valid.{HaveNames, row_of, grants_in, givers_in, descriptors_of, without_taker};
 
-use crate::given::Given;
-use crate::row::Row;
+use crate::grant::Grant;
+use crate::row::PermitRow;
 use asset_names::{NoMemory, Txn};
 use indexmap::IndexMap;
 use std::alloc::Global;
 
 /// A row by name. A name that neither gives nor was given anything needs none.
-pub(crate) type Rows = IndexMap<Txn, Row>;
+pub(crate) type PermitRows = IndexMap<Txn, PermitRow>;
 
 /// Whether the giver gives this.
-pub(crate) fn gives(rows: &Rows, giver: Txn, given: &Given) -> bool
-    ensures { result ≡ stands (given_in rows.now.entries giver.0) (given_by giver.0 given.now) }
+pub(crate) fn gives(rows: &PermitRows, giver: Txn, grant: &Grant) -> bool
+    ensures { result ≡ stands (grants_in rows.now.entries giver.0) (descriptor_by giver.0 grant.now) }
 {
     match rows.get(&giver) {
-        Some(row) => row.gives(given),
+        Some(row) => row.gives(grant),
         None => false,
     }
 }
 
 /// Adds a row for a name that has none. Where memory runs out, nothing changes.
-fn insert(rows: &mut Rows, name: Txn, row: Row) -> Result<(), NoMemory>
+fn insert(rows: &mut PermitRows, name: Txn, row: PermitRow) -> Result<(), NoMemory>
     requires new { row_of rows.old.entries name.0 ≡ None }
     ensures added { OnOk result (rows.new.entries ≡ rows.old.entries ++ (name, row) ∷ []) }
     ensures updates { OnOk result ((u : ℕ) → row_of rows.new.entries u ≡ cond (name.0 == u) (Some row) (row_of rows.old.entries u)) }
@@ -40,28 +40,38 @@ fn insert(rows: &mut Rows, name: Txn, row: Row) -> Result<(), NoMemory>
 }
 
 /// The giver gives one more. Where memory runs out, nothing changes.
-pub(crate) fn give(rows: &mut Rows, giver: Txn, given: Given, alloc: Global) -> Result<(), NoMemory>
-    ensures given { OnOk result ((u : ℕ) → given_in rows.new.entries u ≡ cond (giver.0 == u) (given_in rows.old.entries u ++ given_by u given ∷ []) (given_in rows.old.entries u)) }
+pub(crate) fn give(
+    rows: &mut PermitRows,
+    giver: Txn,
+    grant: Grant,
+    alloc: Global,
+) -> Result<(), NoMemory>
+    ensures grants { OnOk result ((u : ℕ) → grants_in rows.new.entries u ≡ cond (giver.0 == u) (grants_in rows.old.entries u ++ descriptor_by u grant ∷ []) (grants_in rows.old.entries u)) }
     ensures givers { (t : ℕ) → givers_in rows.new.entries t ≡ givers_in rows.old.entries t }
     ensures unchanged { OnErr result (descriptors_of rows.new.entries ≡ descriptors_of rows.old.entries) }
-    ensures kept { OnErr result ((u : ℕ) → given_in rows.new.entries u ≡ given_in rows.old.entries u) }
+    ensures kept { OnErr result ((u : ℕ) → grants_in rows.new.entries u ≡ grants_in rows.old.entries u) }
     ensures names { HaveNames rows.new.entries }
     ensures len { length rows.new.entries ≤ length rows.old.entries + 1 }
 {
     match rows.get_mut(&giver) {
-        Some(row) => row.give(given),
+        Some(row) => row.give(grant),
         None => {
-            let mut row = Row::new(alloc);
-            row.give(given)?;
+            let mut row = PermitRow::new(alloc);
+            row.give(grant)?;
             insert(rows, giver, row)
         }
     }
 }
 
 /// The taker notes the giver. Where memory runs out, nothing changes.
-pub(crate) fn note(rows: &mut Rows, taker: Txn, giver: Txn, alloc: Global) -> Result<(), NoMemory>
+pub(crate) fn note(
+    rows: &mut PermitRows,
+    taker: Txn,
+    giver: Txn,
+    alloc: Global,
+) -> Result<(), NoMemory>
     ensures noted { OnOk result ((t u : ℕ) → has_giver u (givers_in rows.new.entries t) ≡ (has_giver u (givers_in rows.old.entries t) || taker.0 == t && u == giver.0)) }
-    ensures given { (u : ℕ) → given_in rows.new.entries u ≡ given_in rows.old.entries u }
+    ensures grants { (u : ℕ) → grants_in rows.new.entries u ≡ grants_in rows.old.entries u }
     ensures shown { descriptors_of rows.new.entries ≡ descriptors_of rows.old.entries }
     ensures unchanged { OnErr result ((t : ℕ) → givers_in rows.new.entries t ≡ givers_in rows.old.entries t) }
     ensures names { HaveNames rows.new.entries }
@@ -70,7 +80,7 @@ pub(crate) fn note(rows: &mut Rows, taker: Txn, giver: Txn, alloc: Global) -> Re
     match rows.get_mut(&taker) {
         Some(row) => row.note(giver),
         None => {
-            let mut row = Row::new(alloc);
+            let mut row = PermitRow::new(alloc);
             row.note(giver)?;
             insert(rows, taker, row)
         }
@@ -78,8 +88,8 @@ pub(crate) fn note(rows: &mut Rows, taker: Txn, giver: Txn, alloc: Global) -> Re
 }
 
 /// Takes away what the giver gives to the taker.
-fn drop_taker(rows: &mut Rows, giver: Txn, taker: Txn)
-    ensures given { (u : ℕ) → given_in rows.new.entries u ≡ cond (giver.0 == u) (without_taker taker.0 (given_in rows.old.entries u)) (given_in rows.old.entries u) }
+fn drop_taker(rows: &mut PermitRows, giver: Txn, taker: Txn)
+    ensures grants { (u : ℕ) → grants_in rows.new.entries u ≡ cond (giver.0 == u) (without_taker taker.0 (grants_in rows.old.entries u)) (grants_in rows.old.entries u) }
     ensures givers { (t : ℕ) → givers_in rows.new.entries t ≡ givers_in rows.old.entries t }
     ensures keys { keys_of rows.new.entries ≡ keys_of rows.old.entries }
 {
@@ -89,8 +99,8 @@ fn drop_taker(rows: &mut Rows, giver: Txn, taker: Txn)
 }
 
 /// Takes the note of the giver away that the taker has.
-fn drop_giver(rows: &mut Rows, taker: Txn, giver: Txn)
-    ensures given { (u : ℕ) → given_in rows.new.entries u ≡ given_in rows.old.entries u }
+fn drop_giver(rows: &mut PermitRows, taker: Txn, giver: Txn)
+    ensures grants { (u : ℕ) → grants_in rows.new.entries u ≡ grants_in rows.old.entries u }
     ensures givers { (t : ℕ) → givers_in rows.new.entries t ≡ cond (taker.0 == t) (without_giver giver.0 (givers_in rows.old.entries t)) (givers_in rows.old.entries t) }
     ensures keys { keys_of rows.new.entries ≡ keys_of rows.old.entries }
 {
@@ -100,8 +110,8 @@ fn drop_giver(rows: &mut Rows, taker: Txn, giver: Txn)
 }
 
 /// Takes away what each of the givers gives to the taker.
-pub(crate) fn drop_takers(rows: &mut Rows, givers: &[Txn], taker: Txn)
-    ensures given { (u : ℕ) → given_in rows.new.entries u ≡ cond (has_giver u givers.now) (without_taker taker.0 (given_in rows.old.entries u)) (given_in rows.old.entries u) }
+pub(crate) fn drop_takers(rows: &mut PermitRows, givers: &[Txn], taker: Txn)
+    ensures grants { (u : ℕ) → grants_in rows.new.entries u ≡ cond (has_giver u givers.now) (without_taker taker.0 (grants_in rows.old.entries u)) (grants_in rows.old.entries u) }
     ensures givers { (t : ℕ) → givers_in rows.new.entries t ≡ givers_in rows.old.entries t }
     ensures keys { keys_of rows.new.entries ≡ keys_of rows.old.entries }
 {
@@ -111,12 +121,12 @@ pub(crate) fn drop_takers(rows: &mut Rows, givers: &[Txn], taker: Txn)
 }
 
 /// Takes the note of the giver away from each taker to whom something is given.
-pub(crate) fn drop_givers(rows: &mut Rows, given: &[Given], giver: Txn)
-    ensures given { (u : ℕ) → given_in rows.new.entries u ≡ given_in rows.old.entries u }
-    ensures givers { (t : ℕ) → givers_in rows.new.entries t ≡ cond (has_taker t given.now) (without_giver giver.0 (givers_in rows.old.entries t)) (givers_in rows.old.entries t) }
+pub(crate) fn drop_givers(rows: &mut PermitRows, grants: &[Grant], giver: Txn)
+    ensures grants { (u : ℕ) → grants_in rows.new.entries u ≡ grants_in rows.old.entries u }
+    ensures givers { (t : ℕ) → givers_in rows.new.entries t ≡ cond (has_taker t grants.now) (without_giver giver.0 (givers_in rows.old.entries t)) (givers_in rows.old.entries t) }
     ensures keys { keys_of rows.new.entries ≡ keys_of rows.old.entries }
 {
-    'given: for one in given {
+    'grants: for one in grants {
         drop_giver(rows, one.taker(), giver);
     }
 }

@@ -1,51 +1,51 @@
 //! The search along permits.
 
 ghost use Rattle.std.specs.Prelude.{◌≡◌, ℕ, ◌<◌, ◌≤◌, ◌==◌, false, true, length, is_some};
-ghost use Rattle.asset_permits.specs.Descriptors.{arrows_for, allows_in};
-ghost use Rattle.asset_permits.specs.Row.{has_taker};
-ghost use Rattle.asset_permits.specs.Kept.{HaveNames, AreNoted, row_of, descriptors_of};
+ghost use Rattle.asset_permits.specs.Descriptors.{arrows_for, allows_by};
+ghost use Rattle.asset_permits.specs.PermitRow.{has_taker};
+ghost use Rattle.asset_permits.specs.Valid.{HaveNames, AreNoted, row_of, descriptors_of};
 ghost use Rattle.asset_permits.specs.Searched.{name_at, Meets, Expands};
 
-use crate::given::Given;
+use crate::grant::Grant;
 use crate::marks::Marks;
-use crate::rows::Rows;
+use crate::rows::PermitRows;
 use asset_names::{Ob, Op, Txn};
 
 /// Meets the row of each taker to whom something is given that covers `op` on `x`.
-fn meet_takers(rows: &Rows, given: &[Given], marks: &mut Marks, x: Ob, op: Op)
-    requires there { (t : ℕ) → has_taker t given.now ≡ true → is_some (row_of rows.now.entries t) ≡ true }
+fn meet_takers(rows: &PermitRows, grants: &[Grant], marks: &mut Marks, x: Ob, op: Op)
+    requires there { (t : ℕ) → has_taker t grants.now ≡ true → is_some (row_of rows.now.entries t) ≡ true }
     requires marked { length rows.now.entries ≤ marks.old.size }
     ensures size { marks.new.size ≡ marks.old.size }
-    ensures met { Meets rows.now.entries given.now x.0 op marks.old.nodes marks.new.nodes (length given.now) }
+    ensures met { Meets rows.now.entries grants.now x.0 op marks.old.nodes marks.new.nodes (length grants.now) }
 {
-    'given: for one in given {
+    'grants: for one in grants {
         if one.covers(x, op) {
-            if let Some(number) = rows.get_index_of(&one.taker()) {
-                marks.meet(number);
+            if let Some(index) = rows.get_index_of(&one.taker()) {
+                marks.meet(index);
             }
         }
     }
 }
 
-/// Expands the name of the row of this number.
-fn expand(rows: &Rows, number: usize, marks: &mut Marks, x: Ob, op: Op)
-    requires there { number < length rows.now.entries }
+/// Expands the name of the row of this index.
+fn expand(rows: &PermitRows, index: usize, marks: &mut Marks, x: Ob, op: Op)
+    requires there { index < length rows.now.entries }
     requires names { HaveNames rows.now.entries }
     requires noted { AreNoted rows.now.entries }
     requires marked { length rows.now.entries ≤ marks.old.size }
     ensures size { marks.new.size ≡ marks.old.size }
-    ensures expanded { Expands (arrows_for (descriptors_of rows.now.entries) x.0 op) (name_at rows.now.entries) (length rows.now.entries) (name_at rows.now.entries number) marks.old.nodes marks.new.nodes }
+    ensures expanded { Expands (arrows_for (descriptors_of rows.now.entries) x.0 op) (name_at rows.now.entries) (length rows.now.entries) (name_at rows.now.entries index) marks.old.nodes marks.new.nodes }
 {
-    match rows.get_index(number) {
-        Some((_, row)) => meet_takers(rows, &row.given, marks, x, op),
+    match rows.get_index(index) {
+        Some((_, row)) => meet_takers(rows, &row.grants, marks, x, op),
         None => unreachable!(),
     }
 }
 
-/// Whether a chain of permits that cover `op` on `x` leads from the name of the first row to that of the
+/// Whether a chain of permits that cover `op` on `x` is_linked from the name of the first row to that of the
 /// second, which is another. It looks at the permits of the names that it meets alone, and stops once
 /// it has met the second.
-fn leads_on(rows: &Rows, from: usize, to: usize, marks: &mut Marks, x: Ob, op: Op) -> bool
+fn is_linked_on(rows: &PermitRows, from: usize, to: usize, marks: &mut Marks, x: Ob, op: Op) -> bool
     requires from_there { from < length rows.now.entries }
     requires to_there { to < length rows.now.entries }
     requires names { HaveNames rows.now.entries }
@@ -53,7 +53,7 @@ fn leads_on(rows: &Rows, from: usize, to: usize, marks: &mut Marks, x: Ob, op: O
     requires marked { length rows.now.entries ≤ marks.old.size }
     requires another { (name_at rows.now.entries from == name_at rows.now.entries to) ≡ false }
     ensures size { marks.new.size ≡ marks.old.size }
-    ensures leads { result ≡ allows_in (descriptors_of rows.now.entries) (name_at rows.now.entries from) (name_at rows.now.entries to) x.0 op }
+    ensures is_linked { result ≡ allows_by (descriptors_of rows.now.entries) (name_at rows.now.entries from) (name_at rows.now.entries to) x.0 op }
 {
     marks.clear();
     expand(rows, from, marks, x, op);
@@ -69,14 +69,21 @@ fn leads_on(rows: &Rows, from: usize, to: usize, marks: &mut Marks, x: Ob, op: O
     false
 }
 
-/// Whether a chain of permits that cover `op` on `x` leads from the giver to the taker, who is another.
-pub(crate) fn leads(rows: &Rows, marks: &mut Marks, giver: Txn, taker: Txn, x: Ob, op: Op) -> bool
+/// Whether a chain of permits that cover `op` on `x` is_linked from the giver to the taker, who is another.
+pub(crate) fn is_linked(
+    rows: &PermitRows,
+    marks: &mut Marks,
+    giver: Txn,
+    taker: Txn,
+    x: Ob,
+    op: Op,
+) -> bool
     requires names { HaveNames rows.now.entries }
     requires noted { AreNoted rows.now.entries }
     requires marked { length rows.now.entries ≤ marks.old.size }
     requires another { (giver.0 == taker.0) ≡ false }
     ensures size { marks.new.size ≡ marks.old.size }
-    ensures leads { result ≡ allows_in (descriptors_of rows.now.entries) giver.0 taker.0 x.0 op }
+    ensures is_linked { result ≡ allows_by (descriptors_of rows.now.entries) giver.0 taker.0 x.0 op }
 {
     let Some(from) = rows.get_index_of(&giver) else {
         return false;
@@ -84,5 +91,5 @@ pub(crate) fn leads(rows: &Rows, marks: &mut Marks, giver: Txn, taker: Txn, x: O
     let Some(to) = rows.get_index_of(&taker) else {
         return false;
     };
-    leads_on(rows, from, to, marks, x, op)
+    is_linked_on(rows, from, to, marks, x, op)
 }

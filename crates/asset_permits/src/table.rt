@@ -2,10 +2,10 @@
 
 ghost use Rattle.std.specs.Prelude.{◌≡◌, ℕ, ◌+◌, ◌≤◌, length, OnOk};
 
-use crate::given::Given;
+use crate::grant::Grant;
 use crate::marks::Marks;
-use crate::rows::{Rows, drop_givers, drop_takers, give, gives, note};
-use crate::search::leads;
+use crate::rows::{PermitRows, drop_givers, drop_takers, give, gives, note};
+use crate::search::is_linked;
 use asset_names::{NoMemory, Ob, ObSet, Op, Ops, Txn};
 use indexmap::IndexMap;
 use std::alloc::Global;
@@ -15,7 +15,7 @@ use std::marker::Model;
 /// nothing. Each name has what it gives in a row of its own, and keeps the row until it is dropped.
 #[derive(Drop)]
 pub struct Permits {
-    rows: Rows,
+    rows: PermitRows,
     marks: Marks,
     alloc: Global,
 }
@@ -23,17 +23,17 @@ pub struct Permits {
 impl Model for Permits {
     ghost use Rattle.std.specs.Prelude.{List};
     ghost use Rattle.asset_permits.specs.Descriptors.{Descriptor};
-    ghost use Rattle.asset_permits.specs.Kept.{IsKept, descriptors_of};
+    ghost use Rattle.asset_permits.specs.Valid.{IsValid, descriptors_of};
 
     ghost Value = { List Descriptor };
 
     ghost view = { λ p. descriptors_of p.rows.entries };
 
-    ghost invariant = { λ p. IsKept p.rows.entries p.marks.size };
+    ghost invariant = { λ p. IsValid p.rows.entries p.marks.size };
 }
 
 /// Takes the memory for the mark of one more row. Where memory runs out, nothing changes.
-fn make_mark(rows: &Rows, marks: &mut Marks) -> Result<(), NoMemory>
+fn make_mark(rows: &PermitRows, marks: &mut Marks) -> Result<(), NoMemory>
     requires { length rows.now.entries ≤ marks.old.size }
     ensures size { marks.old.size ≤ marks.new.size }
     ensures made { OnOk result (length rows.now.entries + 1 ≤ marks.new.size) }
@@ -49,7 +49,7 @@ impl Permits {
     ghost use Rattle.asset_names.specs.declared.operations.Op.{Op};
     ghost use Rattle.asset_names.specs.InSet.{in_set};
     ghost use Rattle.asset_names.specs.Operations.{has_op};
-    ghost use Rattle.asset_permits.specs.Descriptors.{Descriptor, same_descriptor, stands, one_covers, allows_in, AreDifferent};
+    ghost use Rattle.asset_permits.specs.Descriptors.{Descriptor, same_descriptor, stands, one_covers, allows_by, AreDifferent};
 
     /// A table without permits. It takes no memory.
     pub fn new(alloc: Global) -> Permits
@@ -69,25 +69,25 @@ impl Permits {
         ensures covers { OnOk result ((u t x : ℕ) (op : Op) → one_covers self.new u t x op ≡ (one_covers self.old u t x op || (u == giver.0 && t == taker.0 && in_set objects x && has_op ops op))) }
         ensures unchanged { OnErr result (self.new ≡ self.old) }
     {
-        let given = Given::of(taker, objects, ops);
-        if gives(&self.rows, giver, &given) {
+        let grant = Grant::of(taker, objects, ops);
+        if gives(&self.rows, giver, &grant) {
             return Ok(());
         }
         make_mark(&self.rows, &mut self.marks)?;
         note(&mut self.rows, taker, giver, self.alloc)?;
         make_mark(&self.rows, &mut self.marks)?;
-        give(&mut self.rows, giver, given, self.alloc)
+        give(&mut self.rows, giver, grant, self.alloc)
     }
 
     /// Whether the giver allows the taker to do `op` on `x`: they are one name, or a chain of permits
-    /// leads from the one to the other, each of which has the object and the operation. It takes no
+    /// is_linked from the one to the other, each of which has the object and the operation. It takes no
     /// memory, and changes no permit.
     pub fn allows(&mut self, giver: Txn, taker: Txn, x: Ob, op: Op) -> bool
-        ensures allowed { result ≡ allows_in self.old giver.0 taker.0 x.0 op }
+        ensures allowed { result ≡ allows_by self.old giver.0 taker.0 x.0 op }
         ensures different { AreDifferent self.old }
         ensures same { self.new ≡ self.old }
     {
-        giver == taker || leads(&self.rows, &mut self.marks, giver, taker, x, op)
+        giver == taker || is_linked(&self.rows, &mut self.marks, giver, taker, x, op)
     }
 
     /// Drops the permits that `t` has given, and those that were given to it. It looks at the rows of `t`
@@ -100,6 +100,6 @@ impl Permits {
             return;
         };
         drop_takers(&mut self.rows, &row.givers, t);
-        drop_givers(&mut self.rows, &row.given, t);
+        drop_givers(&mut self.rows, &row.grants, t);
     }
 }

@@ -1,4 +1,4 @@
-pub mod PastLemmas
+pub mod AppliedLemmas
 pub mod TrackLemmas
 pub mod ScanLemmas
-pub mod ReachLemmas
+pub mod AllowLemmas

@@ -1,4 +1,4 @@
--- What the steps that were carried out say of one name.
+-- What the steps that took effect say of one name.
 use Rattle.std.specs.Prelude.{ℕ, cond, ◌==◌, ◌&&◌, ◌||◌, Some, None, List}
 use Rattle.std.specs.Option.{option_or}
 use Rattle.asset_names.specs.declared.steps.Step.{Step}
@@ -11,7 +11,7 @@ use Rattle.asset_reference.specs.declared.tracks.Track.{Track}
 
 -- whether the name was initiated, begun and completed, and how it ended
 unfoldable pub track_of : List Step → ℕ → Track
-track_of past t = record { initiated = lists (initiated past) t; begun = lists (begun past) t; completed = lists (completed past) t; end = end_of past t }
+track_of steps t = record { initiated = lists (initiated steps) t; begun = lists (begun steps) t; completed = lists (completed steps) t; end = end_of steps t }
 
 -- the same after one more step
 unfoldable pub track_after : Track → Step → ℕ → Track

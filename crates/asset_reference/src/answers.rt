@@ -1,7 +1,7 @@
 //! The one answer to a step after some entries.
 
 ghost use Rattle.std.specs.Prelude.{◌≡◌, false, None, reverse};
-ghost use Rattle.asset_names.specs.Steps.{deeds};
+ghost use Rattle.asset_names.specs.Steps.{applied};
 ghost use Rattle.asset_names.specs.Operations.{value, value_if_any};
 ghost use Rattle.asset_names.specs.Endings.{status};
 ghost use Rattle.asset_names.specs.Answers.{is_unknown, class_completed, commit_outcome, first_refusal, rules_for, unrefused, answer};
@@ -16,7 +16,7 @@ use asset_names::{Ob, Op, Outcome, Reply, Step, Txn, commit_outcome, wait_outcom
 /// The value of an object, and 0 where there is none.
 #[tactic(auto, unfolding(asset_names::specs::Operations::value, asset_names::specs::Operations::opening_value))]
 fn current_value(opening: &[(Ob, i64)], entries: &[(Step, Reply)], x: Ob) -> i64
-    ensures { result ≡ value opening.now (deeds (reverse entries.now)) x.0 }
+    ensures { result ≡ value opening.now (applied (reverse entries.now)) x.0 }
 {
     match last_value(entries, x) {
         Some(v) => v,
@@ -27,7 +27,7 @@ fn current_value(opening: &[(Ob, i64)], entries: &[(Step, Reply)], x: Ob) -> i64
 /// The value of an object, if it exists.
 #[tactic(auto, unfolding(asset_names::specs::Operations::value_if_any, asset_names::specs::Operations::exists))]
 pub fn value_if_any(opening: &[(Ob, i64)], entries: &[(Step, Reply)], x: Ob) -> Option<i64>
-    ensures { result ≡ value_if_any opening.now (deeds (reverse entries.now)) x.0 }
+    ensures { result ≡ value_if_any opening.now (applied (reverse entries.now)) x.0 }
 {
     match opening_at(opening, x) {
         Some(_) => Some(current_value(opening, entries, x)),
@@ -38,8 +38,8 @@ pub fn value_if_any(opening: &[(Ob, i64)], entries: &[(Step, Reply)], x: Ob) -> 
 /// The outcome of a commit that is not refused. Each class has one member as long as no step joins two.
 #[tactic(auto, unfolding(asset_names::specs::Answers::is_unknown), using(asset_names::proofs::ClassLemmas::completed_alone))]
 fn outcome_of_commit(entries: &[(Step, Reply)], t: Txn) -> Outcome
-    requires { is_unknown (status (deeds (reverse entries.now)) t.0) ≡ false }
-    ensures { result ≡ commit_outcome (status (deeds (reverse entries.now)) t.0) (class_completed (deeds (reverse entries.now)) t.0) }
+    requires { is_unknown (status (applied (reverse entries.now)) t.0) ≡ false }
+    ensures { result ≡ commit_outcome (status (applied (reverse entries.now)) t.0) (class_completed (applied (reverse entries.now)) t.0) }
 {
     let status = status_after(entries, t);
     commit_outcome(status, status.is_completed())
@@ -48,8 +48,8 @@ fn outcome_of_commit(entries: &[(Step, Reply)], t: Txn) -> Outcome
 /// The outcome of a step that is not refused.
 #[tactic(auto, unfolding(asset_names::specs::Answers::unrefused))]
 fn unrefused(opening: &[(Ob, i64)], entries: &[(Step, Reply)], step: &Step) -> Outcome
-    requires { first_refusal (rules_for opening.now (deeds (reverse entries.now)) step.now) ≡ None }
-    ensures { result ≡ unrefused opening.now (deeds (reverse entries.now)) step.now }
+    requires { first_refusal (rules_for opening.now (applied (reverse entries.now)) step.now) ≡ None }
+    ensures { result ≡ unrefused opening.now (applied (reverse entries.now)) step.now }
 {
     match *step {
         Step::Initiate { .. } | Step::Begin { .. } | Step::Complete { .. } | Step::Permit { .. } =>
@@ -70,7 +70,7 @@ fn unrefused(opening: &[(Ob, i64)], entries: &[(Step, Reply)], step: &Step) -> O
 /// The answer to the step after the entries.
 #[tactic(auto, unfolding(asset_names::specs::Answers::answer, asset_names::specs::Answers::outcome_unless))]
 pub fn answer(opening: &[(Ob, i64)], entries: &[(Step, Reply)], step: &Step) -> Outcome
-    ensures { result ≡ answer opening.now (deeds (reverse entries.now)) step.now }
+    ensures { result ≡ answer opening.now (applied (reverse entries.now)) step.now }
 {
     match refusal(opening, entries, step) {
         Some(refusal) => Outcome::Answer(Reply::Refused(refusal)),

@@ -2,10 +2,10 @@
 //! short: the tests compare the facility with it.
 #![tactic(auto)]
 
+mod allowing;
 mod answers;
 mod freedom;
 mod openings;
-mod reaching;
 mod refusals;
 mod tracks;
 mod values;

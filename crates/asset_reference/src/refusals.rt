@@ -1,7 +1,7 @@
 //! The first refusal of a step, if one applies.
 
 ghost use Rattle.std.specs.Prelude.{◌≡◌, reverse};
-ghost use Rattle.asset_names.specs.Steps.{deeds};
+ghost use Rattle.asset_names.specs.Steps.{applied};
 ghost use Rattle.asset_names.specs.Answers.{first_refusal, rules_for};
 
 use crate::openings::{missing_in, opening_at};
@@ -14,7 +14,7 @@ use asset_names::{
 /// The first refusal of the step that applies after these entries.
 #[tactic(auto, unfolding(asset_names::specs::Answers::rules_for, asset_names::specs::Answers::unknown, asset_names::specs::Answers::ended, asset_names::specs::Answers::not_running, asset_names::specs::Answers::taken, asset_names::specs::Answers::begun_before, asset_names::specs::Answers::too_late, asset_names::specs::Answers::no_object, asset_names::specs::Answers::one_name, asset_names::specs::Answers::no_object_of, asset_names::specs::Operations::exists))]
 pub fn refusal(opening: &[(Ob, i64)], entries: &[(Step, Reply)], step: &Step) -> Option<Refusal>
-    ensures { result ≡ first_refusal (rules_for opening.now (deeds (reverse entries.now)) step.now) }
+    ensures { result ≡ first_refusal (rules_for opening.now (applied (reverse entries.now)) step.now) }
 {
     match *step {
         Step::Initiate { t, .. } => refusal_to_initiate(t, status_after(entries, t)),

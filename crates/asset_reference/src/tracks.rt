@@ -2,14 +2,14 @@
 
 ghost use Rattle.std.specs.Prelude.{◌≡◌, List, ◌∷◌, [], reverse};
 ghost use Rattle.asset_names.specs.declared.steps.Step.{Step};
-ghost use Rattle.asset_names.specs.Steps.{deeds};
+ghost use Rattle.asset_names.specs.Steps.{applied};
 ghost use Rattle.asset_names.specs.Endings.{status, status_of, end_of};
 ghost use Rattle.asset_names.specs.Operations.{was_aborted};
 ghost use Rattle.asset_reference.specs.Tracks.{track_of};
 
-use asset_names::{End, Reply, Status, Step, Txn, is_carried_out};
+use asset_names::{End, Reply, Status, Step, Txn, takes_effect};
 
-/// What the steps that were carried out say of one name.
+/// What the steps that took effect say of one name.
 #[derive(Clone, Copy)]
 pub struct Track {
     pub initiated: bool,
@@ -22,7 +22,7 @@ impl Track {
     ghost use Rattle.std.specs.Prelude.{◌≡◌, ℕ, List, [], ◌∷◌, cond, ◌==◌, ◌&&◌, is_none};
     ghost use Rattle.std.specs.Option.{option_or};
     ghost use Rattle.asset_names.specs.declared.steps.Step.{Step};
-    ghost use Rattle.asset_names.specs.Steps.{Entry, deeds};
+    ghost use Rattle.asset_names.specs.Steps.{Entry, applied};
     ghost use Rattle.asset_names.specs.Endings.{status_of};
     ghost use Rattle.asset_reference.specs.Tracks.{track_of, track_after};
 
@@ -42,18 +42,18 @@ impl Track {
     /// The track of `t` after one more entry.
     #[tactic(auto, using(crate::proofs::TrackLemmas::track_of_entry))]
     fn after(self, entry: &(Step, Reply), t: Txn) -> Track
-        ensures { (older : List Entry) → self ≡ track_of (deeds older) t.0 → result ≡ track_of (deeds (entry.now ∷ older)) t.0 }
+        ensures { (older : List Entry) → self ≡ track_of (applied older) t.0 → result ≡ track_of (applied (entry.now ∷ older)) t.0 }
     {
-        if is_carried_out(&entry.0, entry.1) {
-            self.after_deed(&entry.0, t)
+        if takes_effect(&entry.0, entry.1) {
+            self.after_applied(&entry.0, t)
         } else {
             self
         }
     }
 
-    /// The track of `t` after one more step that was carried out.
+    /// The track of `t` after one more step that took effect.
     #[tactic(auto, unfolding(crate::specs::Tracks::track_after))]
-    fn after_deed(self, step: &Step, t: Txn) -> Track
+    fn after_applied(self, step: &Step, t: Txn) -> Track
         ensures { result ≡ track_after self step.now t.0 }
     {
         let mut next = self;
@@ -100,7 +100,7 @@ impl Track {
 
 /// What the entries say of `t`.
 fn track_entries(entries: &[(Step, Reply)], t: Txn) -> Track
-    ensures { result ≡ track_of (deeds (reverse entries.now)) t.0 }
+    ensures { result ≡ track_of (applied (reverse entries.now)) t.0 }
 {
     let mut track = Track::new();
     'entries: for entry in entries {
@@ -112,7 +112,7 @@ fn track_entries(entries: &[(Step, Reply)], t: Txn) -> Track
 /// The status of `t` after these entries.
 #[tactic(auto, unfolding(crate::specs::Tracks::track_of, asset_names::specs::Endings::status))]
 pub fn status_after(entries: &[(Step, Reply)], t: Txn) -> Status
-    ensures { result ≡ status (deeds (reverse entries.now)) t.0 }
+    ensures { result ≡ status (applied (reverse entries.now)) t.0 }
 {
     track_entries(entries, t).status()
 }
@@ -120,7 +120,7 @@ pub fn status_after(entries: &[(Step, Reply)], t: Txn) -> Status
 /// Whether `t` ended by an abort.
 #[tactic(auto, unfolding(crate::specs::Tracks::track_of, asset_names::specs::Operations::was_aborted))]
 pub fn was_aborted(entries: &[(Step, Reply)], t: Txn) -> bool
-    ensures { result ≡ was_aborted (end_of (deeds (reverse entries.now)) t.0) }
+    ensures { result ≡ was_aborted (end_of (applied (reverse entries.now)) t.0) }
 {
     matches!(track_entries(entries, t).end, Some(End::Aborted))
 }

@@ -1,17 +1,17 @@
 //! The value of an object, by going over the entries from the newest on.
 
 ghost use Rattle.std.specs.Prelude.{◌≡◌, ℤ, List, ◌∷◌, reverse, unwrap_or};
-ghost use Rattle.asset_names.specs.Steps.{Entry, deeds};
+ghost use Rattle.asset_names.specs.Steps.{Entry, applied};
 ghost use Rattle.asset_names.specs.Operations.{operations, stands, value_after};
 ghost use Rattle.asset_reference.specs.Scans.{written_by};
 
 use crate::tracks::was_aborted;
-use asset_names::{Ob, Reply, Step, is_carried_out};
+use asset_names::{Ob, Reply, Step, takes_effect};
 
-/// What a step that was carried out wrote to the object, if the write stands.
+/// What a step that took effect wrote to the object, if the write stands.
 #[tactic(auto, unfolding(crate::specs::Scans::written_by, asset_names::specs::Operations::stands))]
 fn written_by(entries: &[(Step, Reply)], step: &Step, x: Ob) -> Option<i64>
-    ensures { result ≡ written_by (stands (deeds (reverse entries.now))) step.now x.0 }
+    ensures { result ≡ written_by (stands (applied (reverse entries.now))) step.now x.0 }
 {
     match *step {
         Step::Write { t, x: y, v } if y == x && !was_aborted(entries, t) => Some(v),
@@ -23,10 +23,10 @@ fn written_by(entries: &[(Step, Reply)], step: &Step, x: Ob) -> Option<i64>
 #[tactic(auto, using(crate::proofs::ScanLemmas::value_at_entry))]
 fn standing_write(entries: &[(Step, Reply)], entry: &(Step, Reply), x: Ob) -> Option<i64>
     ensures { (older : List Entry) (first : ℤ) →
-        value_after (stands (deeds (reverse entries.now))) x.0 first (operations (deeds (entry.now ∷ older)))
-        ≡ unwrap_or result (value_after (stands (deeds (reverse entries.now))) x.0 first (operations (deeds older))) }
+        value_after (stands (applied (reverse entries.now))) x.0 first (operations (applied (entry.now ∷ older)))
+        ≡ unwrap_or result (value_after (stands (applied (reverse entries.now))) x.0 first (operations (applied older))) }
 {
-    if is_carried_out(&entry.0, entry.1) {
+    if takes_effect(&entry.0, entry.1) {
         written_by(entries, &entry.0, x)
     } else {
         None
@@ -36,7 +36,7 @@ fn standing_write(entries: &[(Step, Reply)], entry: &(Step, Reply), x: Ob) -> Op
 /// The last value that was written to the object and stands.
 pub fn last_value(entries: &[(Step, Reply)], x: Ob) -> Option<i64>
     ensures { (first : ℤ) →
-        value_after (stands (deeds (reverse entries.now))) x.0 first (operations (deeds (reverse entries.now)))
+        value_after (stands (applied (reverse entries.now))) x.0 first (operations (applied (reverse entries.now)))
         ≡ unwrap_or result first }
 {
     let mut rest = entries.len();

@@ -1,8 +1,8 @@
 //! Each public call on worked values.
 
 ghost use Rattle.std.specs.Prelude.{◌≡◌, ℕ, ◌==◌, ◌||◌, true, false, is_some, OnOk};
-ghost use Rattle.asset_locks.specs.Table.{holder_in};
-ghost use Rattle.asset_locks.specs.Kept.{table_of};
+ghost use Rattle.asset_locks.specs.LockTable.{enrolled_in};
+ghost use Rattle.asset_locks.specs.Valid.{lock_table};
 
 use asset_locks::{Asked, LockState, Locks};
 use asset_names::{NoMemory, Ob, ObSet, Op, Ops, Txn};
@@ -11,8 +11,8 @@ use std::test::Fail;
 
 /// Enrols a name that was not enrolled. Where memory runs out once, the same call is made again.
 fn enrol(locks: &mut Locks, t: u64) -> Result<(), NoMemory>
-    requires { is_some (holder_in (table_of locks.old) t) ≡ false }
-    ensures { OnOk result ((n : ℕ) → is_some (holder_in (table_of locks.new) n) ≡ (is_some (holder_in (table_of locks.old) n) || t == n)) }
+    requires { is_some (enrolled_in (lock_table locks.old) t) ≡ false }
+    ensures { OnOk result ((n : ℕ) → is_some (enrolled_in (lock_table locks.new) n) ≡ (is_some (enrolled_in (lock_table locks.old) n) || t == n)) }
 {
     match locks.enrol(Txn(t)) {
         Ok(()) => Ok(()),
@@ -22,8 +22,8 @@ fn enrol(locks: &mut Locks, t: u64) -> Result<(), NoMemory>
 
 /// Asks under these permits. Where memory runs out once, the same call is made again.
 fn ask(locks: &mut Locks, t: u64, x: u64, op: Op, permits: &mut Permits) -> Result<Asked, NoMemory>
-    requires { is_some (holder_in (table_of locks.old) t) ≡ true }
-    ensures { (n : ℕ) → is_some (holder_in (table_of locks.new) n) ≡ is_some (holder_in (table_of locks.old) n) }
+    requires { is_some (enrolled_in (lock_table locks.old) t) ≡ true }
+    ensures { (n : ℕ) → is_some (enrolled_in (lock_table locks.new) n) ≡ is_some (enrolled_in (lock_table locks.old) n) }
 {
     match locks.ask(Txn(t), Ob(x), op, permits) {
         Ok(asked) => Ok(asked),
@@ -33,14 +33,14 @@ fn ask(locks: &mut Locks, t: u64, x: u64, op: Op, permits: &mut Permits) -> Resu
 
 /// Releases a name.
 fn release(locks: &mut Locks, t: u64)
-    ensures { (n : ℕ) → (n == t) ≡ false → is_some (holder_in (table_of locks.new) n) ≡ is_some (holder_in (table_of locks.old) n) }
+    ensures { (n : ℕ) → (n == t) ≡ false → is_some (enrolled_in (lock_table locks.new) n) ≡ is_some (enrolled_in (lock_table locks.old) n) }
 {
     locks.release(Txn(t))
 }
 
 /// A table in which nobody is enrolled.
 fn empty(rt: &HostRuntime) -> Locks
-    ensures { (n : ℕ) → is_some (holder_in (table_of result) n) ≡ false }
+    ensures { (n : ℕ) → is_some (enrolled_in (lock_table result) n) ≡ false }
 {
     Locks::new(rt.alloc())
 }
@@ -51,15 +51,15 @@ fn empty(rt: &HostRuntime) -> Locks
 struct Three {
     locks: Locks,
     permits: Permits,
-    ghost eight: { is_some (holder_in (table_of locks) 8) ≡ true },
-    ghost nine: { is_some (holder_in (table_of locks) 9) ≡ true },
+    ghost eight: { is_some (enrolled_in (lock_table locks) 8) ≡ true },
+    ghost nine: { is_some (enrolled_in (lock_table locks) 9) ≡ true },
 }
 
 /// Enrols 7, 9 and 8, and 7 does an operation on 1.
 fn fill(locks: &mut Locks, permits: &mut Permits, op: Op) -> Result<(), NoMemory>
-    requires { (n : ℕ) → is_some (holder_in (table_of locks.old) n) ≡ false }
-    ensures eight { OnOk result (is_some (holder_in (table_of locks.new) 8) ≡ true) }
-    ensures nine { OnOk result (is_some (holder_in (table_of locks.new) 9) ≡ true) }
+    requires { (n : ℕ) → is_some (enrolled_in (lock_table locks.old) n) ≡ false }
+    ensures eight { OnOk result (is_some (enrolled_in (lock_table locks.new) 8) ≡ true) }
+    ensures nine { OnOk result (is_some (enrolled_in (lock_table locks.new) 9) ≡ true) }
 {
     enrol(locks, 7)?;
     enrol(locks, 9)?;

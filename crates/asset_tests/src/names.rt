@@ -2,8 +2,8 @@
 
 use asset_names::{
     Ob, ObList, ObSet, Op, Ops, Outcome, Refusal, Reply, SetFault, Status, Step, Txn,
-    commit_outcome, is_carried_out, least_double, refusal_to_abort, refusal_to_begin,
-    refusal_to_find, refusal_to_initiate, refusal_to_operate, refusal_to_permit, refusal_to_work,
+    commit_outcome, least_double, refusal_to_abort, refusal_to_begin, refusal_to_find,
+    refusal_to_initiate, refusal_to_operate, refusal_to_permit, refusal_to_work, takes_effect,
     wait_outcome,
 };
 use std::test::Fail;
@@ -123,8 +123,8 @@ fn outcomes_and_statuses(rt: HostRuntime) {
     ] {
         assert_eq!(rt; told, outcome);
     }
-    assert!(rt; is_carried_out(&Step::Begin { t: Txn(7) }, Reply::Done));
-    assert!(rt; !is_carried_out(&Step::WaitFor { t: Txn(7) }, Reply::Done));
+    assert!(rt; takes_effect(&Step::Begin { t: Txn(7) }, Reply::Done));
+    assert!(rt; !takes_effect(&Step::WaitFor { t: Txn(7) }, Reply::Done));
     assert!(rt; Op::Write.conflicts_with(Op::Read) && !Op::Read.conflicts_with(Op::Read));
     assert!(rt; Status::Unknown.is_unknown() && Status::Aborted.has_ended());
     assert!(rt; Status::Initiated.is_live() && Status::Completed.is_completed());

@@ -1,8 +1,8 @@
 //! The table of transactions.
 #![tactic(auto)]
 
-mod rows;
+mod row;
 mod table;
 
-pub use rows::Row;
+pub use row::TransRow;
 pub use table::Trans;

@@ -4,9 +4,9 @@ ghost use Rattle.std.specs.Prelude.{◌≡◌, ℕ, ◌+◌, ◌<◌, ◌^◌, t
 ghost use Rattle.std.specs.Map.{values_of};
 ghost use Rattle.asset_names.specs.declared.statuses.Status.{Status};
 ghost use Rattle.asset_names.specs.Room.{owed_to};
-ghost use Rattle.asset_trans.specs.Rows.{row_in, status_in, initiate_in, set_in, ended_as, one_if_live};
+ghost use Rattle.asset_trans.specs.TransRows.{row_in, status_in, initiate_in, set_in, ended_as, one_if_live};
 
-use crate::rows::Row;
+use crate::row::TransRow;
 use asset_names::{End, NoMemory, Status, Txn};
 use indexmap::IndexMap;
 use std::alloc::Global;
@@ -16,30 +16,30 @@ use std::marker::Model;
 /// it was given. Contracts see this list.
 #[derive(Drop)]
 pub struct Trans {
-    rows: IndexMap<Txn, Row>,
+    rows: IndexMap<Txn, TransRow>,
     live: usize,
     owed: usize,
 }
 
 impl Model for Trans {
     ghost use Rattle.std.specs.Prelude.{List};
-    ghost use Rattle.asset_trans.specs.Rows.{Entry, IsKept};
+    ghost use Rattle.asset_trans.specs.TransRows.{NamedTransRow, IsValid};
 
-    ghost Value = { List Entry };
+    ghost Value = { List NamedTransRow };
 
     ghost view = { λ trans. trans.rows.entries };
 
-    ghost invariant = { λ trans. IsKept trans.rows.entries trans.live trans.owed };
+    ghost invariant = { λ trans. IsValid trans.rows.entries trans.live trans.owed };
 }
 
 /// Adds a transaction that is not there, as Initiated.
-fn add_row(rows: &mut IndexMap<Txn, Row>, t: Txn, parent: Option<Txn>) -> Result<(), NoMemory>
+fn add_row(rows: &mut IndexMap<Txn, TransRow>, t: Txn, parent: Option<Txn>) -> Result<(), NoMemory>
     requires absent { row_in rows.old.entries t.0 ≡ None }
     ensures added { OnOk result (rows.new.entries ≡ initiate_in rows.old.entries t parent) }
     ensures small { length rows.new.entries < 2 ^ 63 }
     ensures unchanged { OnErr result (rows.new.entries ≡ rows.old.entries) }
 {
-    let row = Row {
+    let row = TransRow {
         status: Status::Initiated,
         parent,
     };
@@ -53,7 +53,7 @@ fn add_row(rows: &mut IndexMap<Txn, Row>, t: Txn, parent: Option<Txn>) -> Result
 }
 
 /// Gives a transaction that is there another status. A sum over the statuses changes by its own.
-fn set_status(rows: &mut IndexMap<Txn, Row>, t: Txn, status: Status)
+fn set_status(rows: &mut IndexMap<Txn, TransRow>, t: Txn, status: Status)
     requires there { is_some (row_in rows.old.entries t.0) ≡ true }
     ensures set { rows.new.entries ≡ set_in (λ n. n == t.0) status rows.old.entries }
     ensures counted { (f : Status → ℕ) →
@@ -66,7 +66,7 @@ fn set_status(rows: &mut IndexMap<Txn, Row>, t: Txn, status: Status)
 }
 
 /// How much a transaction of this status adds to those that are live.
-#[tactic(auto, unfolding(crate::specs::Rows::one_if_live))]
+#[tactic(auto, unfolding(crate::specs::TransRows::one_if_live))]
 fn one_if_live(status: Status) -> usize
     ensures { result ≡ one_if_live status }
 {
@@ -74,7 +74,7 @@ fn one_if_live(status: Status) -> usize
 }
 
 /// The status that an end gives.
-#[tactic(auto, unfolding(crate::specs::Rows::ended_as))]
+#[tactic(auto, unfolding(crate::specs::TransRows::ended_as))]
 fn ended_as(how: End) -> Status
     ensures { result ≡ ended_as how }
 {
@@ -88,7 +88,7 @@ impl Trans {
     ghost use Rattle.std.specs.Prelude.{◌≡◌, ◌≤◌, true, false, [], OnOk, OnErr, ◌==◌, is_some};
     ghost use Rattle.asset_names.specs.declared.statuses.Status.{Status};
     ghost use Rattle.asset_names.specs.Room.{owed_to};
-    ghost use Rattle.asset_trans.specs.Rows.{row_in, status_in, parent_in, initiate_in, set_in, ended_as, one_if_live, live_count_in, owed_in};
+    ghost use Rattle.asset_trans.specs.TransRows.{row_in, status_in, parent_in, initiate_in, set_in, ended_as, one_if_live, live_count_in, owed_in};
     ghost use Rattle.asset_names.specs.Answers.{is_unknown};
     ghost use Rattle.asset_names.specs.Endings.{is_live_status};
 

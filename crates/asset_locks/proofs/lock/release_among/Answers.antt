@@ -1,6 +1,6 @@
 use Rattle.std.proofs.Common.{not, eqb, rules}
-use Rattle.asset_locks.specs.Table.{Lock as Shown}
-use Rattle.asset_locks.specs.Kept.{without}
+use Rattle.asset_locks.specs.LockTable.{Lock as Shown}
+use Rattle.asset_locks.specs.Valid.{without}
 use Rattle.asset_locks.proofs.ListLemmas.{filter_retained}
 use Rattle.asset_locks.proofs.lock.release_among.Goals as goal
 

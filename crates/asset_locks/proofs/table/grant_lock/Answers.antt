@@ -1,6 +1,6 @@
 use Rattle.std.proofs.Common.{◌∙◌, ap, sym, not, is_some, rules}
-use Rattle.asset_locks.specs.Table.{lock_of, granted_on}
-use Rattle.asset_locks.proofs.RowLemmas.{locks_written, locks_kept, row_locks, first_row, no_locks_in, same_entries}
+use Rattle.asset_locks.specs.LockTable.{lock_of, granted_on}
+use Rattle.asset_locks.proofs.LockRowLemmas.{locks_written, locks_kept, row_locks, first_row, no_locks_in, same_entries}
 use Rattle.asset_locks.proofs.table.grant_lock.Goals as goal
 
 -- a row that is there

@@ -1,6 +1,6 @@
 use Rattle.std.proofs.Common.{cond, ◌∙◌, ap, sym, refl}
-use Rattle.asset_locks.specs.Kept.{lists_object, locks_in, without}
-use Rattle.asset_locks.proofs.RowLemmas.{lists_more, released_more}
+use Rattle.asset_locks.specs.Valid.{lists_object, locks_in, without}
+use Rattle.asset_locks.proofs.LockRowLemmas.{lists_more, released_more}
 use Rattle.asset_locks.proofs.table.release_each.Goals as goal
 
 pub held-init : goal.held-init

@@ -1,5 +1,5 @@
 use Rattle.std.proofs.Common.{◌≡◌, ℕ, cond, take}
-use Rattle.asset_locks.specs.Kept.{locks_in, lists_object, without}
+use Rattle.asset_locks.specs.Valid.{locks_in, lists_object, without}
 use Rattle.asset_locks.proofs.table.release_each.Given as goal
 
 -- the locks of t are gone from the objects so far

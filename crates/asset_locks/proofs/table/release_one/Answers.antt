@@ -1,6 +1,6 @@
 use Rattle.std.proofs.Common.{sym, rules}
-use Rattle.asset_locks.specs.Kept.{without}
-use Rattle.asset_locks.proofs.RowLemmas.{locks_written, nothing_released, same_entries}
+use Rattle.asset_locks.specs.Valid.{without}
+use Rattle.asset_locks.proofs.LockRowLemmas.{locks_written, nothing_released, same_entries}
 use Rattle.asset_locks.proofs.table.release_one.Goals as goal
 
 pub returns-in-Some : goal.returns-in-Some

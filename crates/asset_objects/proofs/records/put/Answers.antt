@@ -1,6 +1,6 @@
 use Rattle.std.proofs.Common.{refl, sym, ◌∙◌, w64, arith}
 use Rattle.std.proofs.lemmas.Int.{to_z-of_z}
-use Rattle.asset_objects.proofs.PlaceLemmas.{lookup_opening, opening_put, put_absent}
+use Rattle.asset_objects.proofs.SlotLemmas.{lookup_opening, opening_put, put_absent}
 use Rattle.asset_objects.proofs.records.put.Goals as goal
 
 pub returns-in_err-place-clause-before : goal.returns-in_err-place-clause-before

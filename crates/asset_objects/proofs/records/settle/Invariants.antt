@@ -1,13 +1,13 @@
 use Rattle.std.proofs.Common.{◌≡◌, ℕ, eqb, length}
 use Rattle.asset_names.specs.Steps.{Opening}
 use Rattle.asset_objects.specs.Cells.{settled, change_each}
-use Rattle.asset_objects.specs.Records.{cells_of, IsKept}
+use Rattle.asset_objects.specs.Records.{cells_of, IsValid}
 use Rattle.asset_objects.proofs.records.settle.Given as goal
 
 -- once the transaction is settled, the objects are as they would be at first
 abbrev pub invariant-records : goal.invariant-records
-invariant-records l = (values : Opening) → IsKept values l.fn.records.items →
-    IsKept values l.records.items × ((x : ℕ) → change_each (settled (λ n. eqb n l.t.0)) (cells_of values l.records.items) x ≡ change_each (settled (λ n. eqb n l.t.0)) (cells_of values l.fn.records.items) x)
+invariant-records l = (values : Opening) → IsValid values l.fn.records.items →
+    IsValid values l.records.items × ((x : ℕ) → change_each (settled (λ n. eqb n l.t.0)) (cells_of values l.records.items) x ≡ change_each (settled (λ n. eqb n l.t.0)) (cells_of values l.fn.records.items) x)
 
 abbrev pub decreases-records : goal.decreases-records
 decreases-records l = length l.records.items

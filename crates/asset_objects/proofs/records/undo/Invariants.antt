@@ -1,7 +1,7 @@
 use Rattle.std.proofs.Common.{◌≡◌, ◌≤◌, ℕ, eqb, false, drop, length}
 use Rattle.std.specs.List.{list_any}
 use Rattle.asset_objects.specs.Cells.{undone, change_each}
-use Rattle.asset_objects.specs.Records.{is_of, cells_of, IsKept}
+use Rattle.asset_objects.specs.Records.{is_of, cells_of, IsValid}
 use Rattle.asset_objects.proofs.records.undo.Given as goal
 
 -- none of those after is the transaction's, and without its writes the objects are as they were
@@ -9,7 +9,7 @@ abbrev pub invariant-rest : goal.invariant-rest
 invariant-rest l = record {
   within : l.rest ≤ length l.records.items;
   free : list_any (is_of l.t.0) (drop l.rest l.records.items) ≡ false;
-  kept : IsKept l.values.entries l.records.items;
+  kept : IsValid l.values.entries l.records.items;
   cells : (x : ℕ) → change_each (undone (λ n. eqb n l.t.0)) (cells_of l.values.entries l.records.items) x ≡ change_each (undone (λ n. eqb n l.t.0)) (cells_of l.fn.values.entries l.fn.records.items) x;
 }
 

@@ -1,7 +1,7 @@
 use Rattle.std.proofs.Common.{refl, sym, ◌∙◌, w64}
 use Rattle.std.proofs.lemmas.Int.{to_z-of_z}
 use Rattle.indexmap.proofs.CallerLemmas.{insert_entry-new}
-use Rattle.asset_objects.proofs.PlaceLemmas.{lookup_opening}
+use Rattle.asset_objects.proofs.SlotLemmas.{lookup_opening}
 use Rattle.asset_objects.proofs.table.add.Goals as goal
 
 pub returns-in-Ok-None-clause-added : goal.returns-in-Ok-None-clause-added

@@ -3,7 +3,7 @@ use Rattle.std.specs.Prelude.{ℤ}
 use Rattle.std.proofs.lemmas.Int.{to_z-of_z}
 use Rattle.asset_names.specs.declared.names.Ob.{Ob}
 use Rattle.asset_names.specs.Sets.{HasNoDouble, twice}
-use Rattle.asset_objects.proofs.PlaceLemmas.{no_double_pair, added_pair}
+use Rattle.asset_objects.proofs.SlotLemmas.{no_double_pair, added_pair}
 use Rattle.asset_objects.proofs.table.values_of.Goals as goal
 
 pub pairs-init : goal.pairs-init

@@ -2,7 +2,7 @@ use Rattle.std.proofs.Common.{eqb, rules, tests}
 use Rattle.std.proofs.lemmas.Iterator.{YieldsList-from_slice}
 use Rattle.std.proofs.lemmas.Iterator.Search.{any_from_yields_List}
 use Rattle.asset_names.specs.declared.names.Txn.{Txn}
-use Rattle.asset_permits.specs.Row.{has_giver}
+use Rattle.asset_permits.specs.PermitRow.{has_giver}
 use Rattle.asset_permits.proofs.row.is_among.Goals as goal
 
 pub returns : goal.returns

@@ -1,7 +1,7 @@
 use Rattle.std.proofs.Common.{◌∙◌}
 use Rattle.indexmap.proofs.CallerLemmas.{insert_entry-new}
-use Rattle.asset_permits.specs.Kept.{row_of, HaveNames}
-use Rattle.asset_permits.proofs.RowLemmas.{same_txn}
+use Rattle.asset_permits.specs.Valid.{row_of, HaveNames}
+use Rattle.asset_permits.proofs.PermitRowLemmas.{same_txn}
 use Rattle.asset_permits.proofs.rows.insert.Goals as goal
 
 pub returns-in-Ok-clause-added : goal.returns-in-Ok-clause-added

@@ -1,7 +1,7 @@
 use Rattle.std.proofs.Common.{◌≡◌, ℕ, ◌∙◌, ◌||◌, [], cond, eqb, List, sym, ap, subst, Some, rules}
-use Rattle.asset_permits.specs.Row.{has_giver}
-use Rattle.asset_permits.specs.Kept.{Entry, row_of, given_in, descriptors_of, HaveNames}
-use Rattle.asset_permits.proofs.RowLemmas.{given_kept, givers_kept, given_there, given_nowhere, givers_there, givers_nowhere, given_of_row, givers_of_row, noted_written, flat_written, flat_added, on_ok, on_err, either_way, same_entries}
+use Rattle.asset_permits.specs.PermitRow.{has_giver}
+use Rattle.asset_permits.specs.Valid.{NamedPermitRow, row_of, grants_in, descriptors_of, HaveNames}
+use Rattle.asset_permits.proofs.PermitRowLemmas.{grants_kept, givers_kept, grants_there, grants_nowhere, givers_there, givers_nowhere, grants_of_row, givers_of_row, noted_written, flat_written, flat_added, on_ok, on_err, either_way, same_entries}
 use Rattle.asset_permits.proofs.rows.note.Goals as goal
 
 pub returns-in_err-note-in-None-clause-names : goal.returns-in_err-note-in-None-clause-names
@@ -24,22 +24,22 @@ returns-in-Some-clause-noted c =
     on_ok c.note.result (λ says. noted_written old (c.get_mut.follows.lender w).entries x c.args.giver.0 w
     (λ u. says u ∙ ap (λ names. has_giver u names || eqb u c.args.giver.0) (sym there)) (λ y. written.0 (record { 0 = y }))) c.note.ensures.givers
 
-pub returns-in-Some-clause-given : goal.returns-in-Some-clause-given
+pub returns-in-Some-clause-grants : goal.returns-in-Some-clause-grants
 unfolding row_of
-returns-in-Some-clause-given c =
+returns-in-Some-clause-grants c =
     let old = c.args.rows.now.entries in
     let x = c.args.taker.0 in
     let row = c.in-Some.row.now in
     let w = c.note.new.self in
     let written = (c.get_mut.follows.holds w).3 (search rules) in
-    given_kept old (c.get_mut.follows.lender w).entries x w
-    (given_of_row x w row.given.items (λ i. (c.note.ensures.given i).items) ∙ sym (given_there old x row (sym c.in-Some.ensures.value))) (λ y. written.0 (record { 0 = y }))
+    grants_kept old (c.get_mut.follows.lender w).entries x w
+    (grants_of_row x w row.grants.items (λ i. (c.note.ensures.grants i).items) ∙ sym (grants_there old x row (sym c.in-Some.ensures.value))) (λ y. written.0 (record { 0 = y }))
 
 pub returns-in-Some-clause-shown : goal.returns-in-Some-clause-shown
 unfolding row_of
 returns-in-Some-clause-shown c =
     let w = c.note.new.self in
-    ap descriptors_of (c.get_mut.follows.holds w).0 ∙ flat_written c.args.taker.0 c.args.rows.now.entries c.in-Some.row.now w (sym c.in-Some.ensures.value) (λ i. (c.note.ensures.given i).items)
+    ap descriptors_of (c.get_mut.follows.holds w).0 ∙ flat_written c.args.taker.0 c.args.rows.now.entries c.in-Some.row.now w (sym c.in-Some.ensures.value) (λ i. (c.note.ensures.grants i).items)
 
 pub returns-in-Some-clause-unchanged : goal.returns-in-Some-clause-unchanged
 unfolding row_of
@@ -66,27 +66,27 @@ returns-in_ok-note-in-None-clause-noted c =
     let none = c.new-row.ensures.givers ∙ sym (givers_nowhere old x (sym c.in-None.ensures.value)) in
     on_ok c.insert.result (λ updates. noted_written old c.insert.new.rows.entries x c.args.giver.0 w
     (λ u. c.in_ok-note-in-None.ensures.givers u ∙ ap (λ names. has_giver u names || eqb u c.args.giver.0) none)
-    (λ y. updates y ∙ ap (λ (rows : List Entry). cond (eqb x y) (Some w) (row_of rows y)) same)) c.insert.ensures.updates
+    (λ y. updates y ∙ ap (λ (rows : List NamedPermitRow). cond (eqb x y) (Some w) (row_of rows y)) same)) c.insert.ensures.updates
 
-pub returns-in_ok-note-in-None-clause-given : goal.returns-in_ok-note-in-None-clause-given
+pub returns-in_ok-note-in-None-clause-grants : goal.returns-in_ok-note-in-None-clause-grants
 unfolding row_of
-returns-in_ok-note-in-None-clause-given c =
+returns-in_ok-note-in-None-clause-grants c =
     let old = c.args.rows.now.entries in
     let new = c.insert.new.rows.entries in
     let x = c.args.taker.0 in
     let w = c.note-in-None.new.self in
     let same = same_entries c.get_mut.follows.holds-at-none in
-    let none : w.given.items ≡ c.new-row.result.given.items = λ i. (c.note-in-None.ensures.given i).items in
-    either_way {R = (u : ℕ) → given_in new u ≡ given_in old u} c.insert.result c.insert.ensures.updates c.insert.ensures.unchanged
-    (λ updates. given_kept old new x w (given_of_row x w [] (none ∙ c.new-row.ensures.given) ∙ sym (given_nowhere old x (sym c.in-None.ensures.value)))
-    (λ y. updates y ∙ ap (λ (rows : List Entry). cond (eqb x y) (Some w) (row_of rows y)) same))
-    (λ unchanged u. ap (λ rows. given_in rows u) (unchanged ∙ same))
+    let none : w.grants.items ≡ c.new-row.result.grants.items = λ i. (c.note-in-None.ensures.grants i).items in
+    either_way {R = (u : ℕ) → grants_in new u ≡ grants_in old u} c.insert.result c.insert.ensures.updates c.insert.ensures.unchanged
+    (λ updates. grants_kept old new x w (grants_of_row x w [] (none ∙ c.new-row.ensures.grants) ∙ sym (grants_nowhere old x (sym c.in-None.ensures.value)))
+    (λ y. updates y ∙ ap (λ (rows : List NamedPermitRow). cond (eqb x y) (Some w) (row_of rows y)) same))
+    (λ unchanged u. ap (λ rows. grants_in rows u) (unchanged ∙ same))
 
 pub returns-in_ok-note-in-None-clause-shown : goal.returns-in_ok-note-in-None-clause-shown
 returns-in_ok-note-in-None-clause-shown c =
     let w = c.note-in-None.new.self in
-    let none : w.given.items ≡ c.new-row.result.given.items = λ i. (c.note-in-None.ensures.given i).items in
+    let none : w.grants.items ≡ c.new-row.result.grants.items = λ i. (c.note-in-None.ensures.grants i).items in
     let same = ap descriptors_of (same_entries c.get_mut.follows.holds-at-none) in
     either_way {R = descriptors_of c.insert.new.rows.entries ≡ descriptors_of c.args.rows.now.entries} c.insert.result c.insert.ensures.added c.insert.ensures.unchanged
-    (λ added. ap descriptors_of added ∙ flat_added c.args.taker c.get_mut.follows.lender-at-none.entries w (none ∙ c.new-row.ensures.given) ∙ same)
+    (λ added. ap descriptors_of added ∙ flat_added c.args.taker c.get_mut.follows.lender-at-none.entries w (none ∙ c.new-row.ensures.grants) ∙ same)
     (λ unchanged. ap descriptors_of unchanged ∙ same)

@@ -3,5 +3,5 @@ use Rattle.asset_permits.specs.Searched.{Meets}
 use Rattle.asset_permits.proofs.search.meet_takers.Given as goal
 
 -- the takers so far are met
-abbrev pub invariant-given : goal.invariant-given
-invariant-given l = (l.marks.size ≡ l.initial.marks.size) × Meets l.rows.entries l.given l.x.0 l.op l.initial.marks.nodes l.marks.nodes l.one-index
+abbrev pub invariant-grants : goal.invariant-grants
+invariant-grants l = (l.marks.size ≡ l.initial.marks.size) × Meets l.rows.entries l.grants l.x.0 l.op l.initial.marks.nodes l.marks.nodes l.one-index

@@ -1,11 +1,11 @@
 use Rattle.std.proofs.Common.{◌<◌, ◌≤◌, length, arith}
 use Rattle.std.proofs.lemmas.List.{take_all}
-use Rattle.asset_names.specs.Steps.{deeds}
-use Rattle.asset_reference.proofs.PastLemmas.{reverse_take_item}
+use Rattle.asset_names.specs.Steps.{applied}
+use Rattle.asset_reference.proofs.AppliedLemmas.{reverse_take_item}
 use Rattle.asset_reference.proofs.tracks.track_entries.Goals as goal
 
 pub entries-init : goal.entries-init
-unfolding deeds
+unfolding applied
 entries-init c = c.new-track.ensures c.args.t.0
 
 pub entries-preserved : goal.entries-preserved

@@ -1,7 +1,7 @@
 use Rattle.std.proofs.Common.{◌∙◌}
 use Rattle.indexmap.proofs.CallerLemmas.{insert_entry-new}
-use Rattle.asset_trans.specs.Rows.{row_in, initiate_in}
-use Rattle.asset_trans.proofs.RowLemmas.{same}
+use Rattle.asset_trans.specs.TransRows.{row_in, initiate_in}
+use Rattle.asset_trans.proofs.TransRowLemmas.{same}
 use Rattle.asset_trans.proofs.table.add_row.Goals as goal
 use Rattle.asset_trans.proofs.table.add_row.Goals.{in-Ok, in-Err}
 

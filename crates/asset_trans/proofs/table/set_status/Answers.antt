@@ -1,7 +1,7 @@
 use Rattle.std.proofs.Common.{◌≡◌, None, sym, ◌∙◌, ap, is_some}
 use Rattle.std.proofs.lemmas.Bool.{false≢true}
-use Rattle.asset_trans.specs.Rows.{row_in}
-use Rattle.asset_trans.proofs.RowLemmas.{set_one, count_set}
+use Rattle.asset_trans.specs.TransRows.{row_in}
+use Rattle.asset_trans.proofs.TransRowLemmas.{set_one, count_set}
 use Rattle.asset_trans.proofs.table.set_status.Goals as goal
 
 pub returns-in-Some-clause-set : goal.returns-in-Some-clause-set

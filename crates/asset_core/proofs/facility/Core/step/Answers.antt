@@ -1,5 +1,5 @@
 use Rattle.std.proofs.Common.{sym}
-use Rattle.asset_names.specs.Answers.{carried_out}
+use Rattle.asset_names.specs.Answers.{outcome_takes_effect}
 use Rattle.asset_core.proofs.facility.Core.step.Goals as goal
 
 pub wait-requires : goal.wait-requires
@@ -15,7 +15,7 @@ pub returns-in-Answer-clause-full : goal.returns-in-Answer-clause-full
 returns-in-Answer-clause-full c = rw (← c.in-Answer.ensures.answer, ← c.answer.ensures.same) c.record.ensures.full
 
 pub returns-in-Answer-clause-memory : goal.returns-in-Answer-clause-memory
-unfolding carried_out
+unfolding outcome_takes_effect
 returns-in-Answer-clause-memory c = rw (← c.in-Answer.ensures.answer) c.record.ensures.memory
 
 pub returns-in-Answer-clause-ending : goal.returns-in-Answer-clause-ending

@@ -2,11 +2,11 @@ use Rattle.std.proofs.Common.{◌∙◌, sym, ap}
 use Rattle.asset_objects.specs.Cells.{cells}
 use Rattle.asset_core.specs.Recorded.{answer_to, after}
 use Rattle.asset_core.specs.Pending.{pending_after}
-use Rattle.asset_core.specs.Tables.{places_of}
+use Rattle.asset_core.specs.Tables.{pending_in}
 use Rattle.asset_core.proofs.ReadyLemmas.{may_wait}
-use Rattle.asset_core.proofs.KeptLemmas.{waiting_stands}
+use Rattle.asset_core.proofs.ValidLemmas.{waiting_stands}
 use Rattle.asset_core.proofs.TableLemmas.{stand_as}
-use Rattle.asset_core.proofs.PendingLemmas.{places, places_waiting}
+use Rattle.asset_core.proofs.PendingLemmas.{pending_requests, askers_waiting}
 use Rattle.asset_core.proofs.facility.Core.wait.Goals as goal
 
 pub wait-requires : goal.wait-requires
@@ -22,5 +22,5 @@ invariant_of-self c = record {
 }
 
 pub returns-clause-pending : goal.returns-clause-pending
-unfolding places_of pending_after after
-returns-clause-pending c = rw (← c.self.view_is) (ap places c.wait.ensures.locks ∙ sym (places_waiting _ _ c.self.inside.tables c.args.step.now c.self.invariant.stand))
+unfolding pending_in pending_after after
+returns-clause-pending c = rw (← c.self.view_is) (ap pending_requests c.wait.ensures.locks ∙ sym (askers_waiting _ _ c.self.inside.tables c.args.step.now c.self.invariant.stand))

@@ -3,39 +3,39 @@ use Rattle.std.proofs.lemmas.List.{length-append}
 use Rattle.asset_names.specs.Answers.{IsLegal}
 use Rattle.asset_core.specs.Recorded.{answer_to, with_entry}
 use Rattle.asset_core.proofs.TagLemmas.{made_again}
-use Rattle.asset_core.proofs.StoredLemmas.{past_appended, past_length, there_appended, beside_more}
+use Rattle.asset_core.proofs.StoredLemmas.{entries_appended, entries_length, there_appended, sets_more}
 use Rattle.asset_core.proofs.history.History.append.Goals as goal
 
-pub put_beside-requires : goal.put_beside-requires
-put_beside-requires c = record {
-  room = omega (arith, rw (← c.self.view_is, past_length c.self.inside.permits.items c.self.inside.entries.items) at c.requires.room, c.self.invariant.fewer, c.self.invariant.taken_beside);
+pub push_set-requires : goal.push_set-requires
+push_set-requires c = record {
+  room = omega (arith, rw (← c.self.view_is, entries_length c.self.inside.permits.items c.self.inside.entries.items) at c.requires.room, c.self.invariant.fewer, c.self.invariant.reserved_sets);
 }
 
 pub unwrap-requires : goal.unwrap-requires
 unwrap-requires c =
-    let below = rw (← c.self.view_is, past_length c.self.inside.permits.items c.self.inside.entries.items) at c.requires.room in
+    let below = rw (← c.self.view_is, entries_length c.self.inside.permits.items c.self.inside.entries.items) at c.requires.room in
     c.push.ensures.succeeds (omega (arith, below, c.self.invariant.taken))
 
 pub invariant_of-self : goal.invariant_of-self
 unfolding IsLegal answer_to
 invariant_of-self c =
     let pushed = rw c.unwrap.ensures at c.push.ensures.items in
-    let beside = c.put_beside.ensures.items in
+    let beside = c.push_set.ensures.items in
     let stored = c.of-stored.ensures in
     let kept = c.self.invariant in
     let step = c.args.step.now in
     let permits = c.self.inside.permits.items in
     let count : c.len.result ≡ length permits = omega (arith, c.len.ensures) in
-    let below = rw (← c.self.view_is, past_length c.self.inside.permits.items c.self.inside.entries.items) at c.requires.room in
+    let below = rw (← c.self.view_is, entries_length c.self.inside.permits.items c.self.inside.entries.items) at c.requires.room in
     let answered = rw (← c.self.view_is) at c.requires.answer in
     let same = made_again _ _ step c.args.reply answered in
     record {
-      legal = rw (pushed, beside, stored, past_appended step c.args.reply permits c.self.inside.entries.items c.len.result same count kept.there) (answered, kept.legal);
+      legal = rw (pushed, beside, stored, entries_appended step c.args.reply permits c.self.inside.entries.items c.len.result same count kept.there) (answered, kept.legal);
       there = rw (pushed, beside, stored) (there_appended step c.args.reply permits c.self.inside.entries.items c.len.result count kept.there);
-      fewer = rw (pushed, beside, length-append) (omega (arith, kept.fewer, (beside_more step c.args.reply permits).1));
+      fewer = rw (pushed, beside, length-append) (omega (arith, kept.fewer, (sets_more step c.args.reply permits).1));
       within = rw (pushed, length-append) (omega (arith, below));
       taken = omega (arith, kept.taken, c.push.ensures.capacity);
-      taken_beside = omega (arith, kept.taken_beside, c.put_beside.ensures.room);
+      reserved_sets = omega (arith, kept.reserved_sets, c.push_set.ensures.room);
     }
 
 pub returns : goal.returns
@@ -46,7 +46,7 @@ returns c =
     rw (
       ← c.self.view_is,
       rw c.unwrap.ensures at c.push.ensures.items,
-      c.put_beside.ensures.items,
+      c.push_set.ensures.items,
       c.of-stored.ensures,
-      past_appended c.args.step.now c.args.reply c.self.inside.permits.items c.self.inside.entries.items c.len.result same count c.self.invariant.there,
+      entries_appended c.args.step.now c.args.reply c.self.inside.permits.items c.self.inside.entries.items c.len.result same count c.self.invariant.there,
     )

@@ -1,4 +1,4 @@
-use Rattle.asset_trans.specs.Rows.{ended_as}
+use Rattle.asset_trans.specs.TransRows.{ended_as}
 use Rattle.asset_core.proofs.tables.Tables.commit.Goals as goal
 
 pub returns-then-is_live-clause-live : goal.returns-then-is_live-clause-live

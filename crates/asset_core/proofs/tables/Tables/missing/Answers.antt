@@ -5,8 +5,8 @@ use Rattle.asset_core.proofs.tables.Tables.missing.Goals as goal
 
 pub returns-in-All : goal.returns-in-All
 unfolding missing_in
-returns-in-All c = λ opening past stand. rw c.in-All.is refl
+returns-in-All c = λ opening steps stand. rw c.in-All.is refl
 
 pub returns-in-Listed : goal.returns-in-Listed
 unfolding missing_in
-returns-in-Listed c = λ opening past stand. rw (c.in-Listed.is, ← c.objects.ensures.listed) (c.first_missing.ensures ∙ missing_shown opening past c.args.self.now _ stand)
+returns-in-Listed c = λ opening steps stand. rw (c.in-Listed.is, ← c.objects.ensures.listed) (c.first_missing.ensures ∙ missing_shown opening steps c.args.self.now _ stand)

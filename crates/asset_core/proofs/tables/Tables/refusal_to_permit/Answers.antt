@@ -5,8 +5,8 @@ use Rattle.asset_core.proofs.tables.Tables.refusal_to_permit.Goals as goal
 
 pub returns : goal.returns
 unfolding unknown ended one_name no_object_of
-returns c = λ opening past stand.
-    let gives : c.status.result ≡ status past c.args.giver.0 = c.status.ensures ∙ stand.statuses c.args.giver.0 in
-    let takes : c.status-2.result ≡ status past c.args.taker.0 = c.status-2.ensures ∙ stand.statuses c.args.taker.0 in
-    let missing : c.missing-missing.result ≡ missing_in opening c.args.obs.now = c.missing-missing.ensures opening past stand in
+returns c = λ opening steps stand.
+    let gives : c.status.result ≡ status steps c.args.giver.0 = c.status.ensures ∙ stand.statuses c.args.giver.0 in
+    let takes : c.status-2.result ≡ status steps c.args.taker.0 = c.status-2.ensures ∙ stand.statuses c.args.taker.0 in
+    let missing : c.missing-missing.result ≡ missing_in opening c.args.obs.now = c.missing-missing.ensures opening steps stand in
     rw (← gives, ← takes, ← missing) c.refusal_to_permit.ensures

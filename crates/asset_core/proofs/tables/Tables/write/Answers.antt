@@ -1,4 +1,4 @@
-use Rattle.asset_locks.specs.Kept.{after_ask}
+use Rattle.asset_locks.specs.Valid.{after_ask}
 use Rattle.asset_core.specs.Tables.{is_free_for}
 use Rattle.asset_core.proofs.tables.Tables.write.Goals as goal
 

@@ -7,12 +7,12 @@ use Rattle.asset_core.proofs.tables.Tables.write_outcome.Goals as goal
 
 pub returns-then-is_free-clause-outcome : goal.returns-then-is_free-clause-outcome
 unfolding unrefused
-returns-then-is_free-clause-outcome c = λ opening past v stand.
-    let is_free : free past c.args.t.0 c.args.x.0 Op'.Write ≡ true = sym (free_shown opening past _ _ _ _ c.args.t.0 c.args.x.0 Op'.Write stand) ∙ sym c.is_free.ensures.free ∙ c.if-is_free.true in
+returns-then-is_free-clause-outcome c = λ opening steps v stand.
+    let is_free : free steps c.args.t.0 c.args.x.0 Op'.Write ≡ true = sym (free_shown opening steps _ _ _ _ c.args.t.0 c.args.x.0 Op'.Write stand) ∙ sym c.is_free.ensures.free ∙ c.if-is_free.true in
     rw is_free refl
 
 pub returns-else-is_free-clause-outcome : goal.returns-else-is_free-clause-outcome
 unfolding unrefused
-returns-else-is_free-clause-outcome c = λ opening past v stand.
-    let hindered : free past c.args.t.0 c.args.x.0 Op'.Write ≡ false = sym (free_shown opening past _ _ _ _ c.args.t.0 c.args.x.0 Op'.Write stand) ∙ sym c.is_free.ensures.free ∙ c.if-is_free.false in
-    rw hindered refl
+returns-else-is_free-clause-outcome c = λ opening steps v stand.
+    let blocked : free steps c.args.t.0 c.args.x.0 Op'.Write ≡ false = sym (free_shown opening steps _ _ _ _ c.args.t.0 c.args.x.0 Op'.Write stand) ∙ sym c.is_free.ensures.free ∙ c.if-is_free.false in
+    rw blocked refl

@@ -1,28 +1,28 @@
 use Rattle.std.proofs.Common.{◌≡◌, ◌∙◌, ap, sym, subst, eqb, refl, None}
 use Rattle.indexmap.proofs.CallerLemmas.{insert_entry-new}
 use Rattle.asset_names.specs.declared.names.Txn.{Txn}
-use Rattle.asset_locks.specs.declared.holder.Holder.{Holder as Entry}
-use Rattle.asset_locks.specs.Table.{holder_in, enrol_in}
-use Rattle.asset_locks.specs.Kept.{Kept, table_of, IsSound}
+use Rattle.asset_locks.specs.declared.enrolled.Enrolled.{Enrolled as EnrolledRow}
+use Rattle.asset_locks.specs.LockTable.{enrolled_in, enrol_in}
+use Rattle.asset_locks.specs.Valid.{LockRows, lock_table, IsValid}
 use Rattle.asset_locks.proofs.TableLemmas.{new_row, enrolled}
-use Rattle.asset_locks.proofs.SoundLemmas.{sound_enrol, unlocked}
+use Rattle.asset_locks.proofs.ValidLemmas.{valid_enrol, unlocked}
 use Rattle.asset_locks.proofs.table.Locks.enrol.Goals as goal
 
 pub invariant_of-self : goal.invariant_of-self
 invariant_of-self c =
     let inside = c.self.inside in
-    let w : Entry = record { place = None; held = c.new.result } in
-    let none = new_row c.args.t.0 inside.holders.entries inside.objects.entries (subst (λ (k : Kept). holder_in (table_of k) c.args.t.0 ≡ None) (sym c.self.view_is) c.requires.new) in
-    let entries = c.in-Ok.ensures.entries ∙ insert_entry-new (λ (a b : Txn). eqb a.0 b.0) inside.holders c.args.t w none in
-    subst IsSound (sym (enrolled c.args.t inside.holders.entries c.insert.new.self.entries inside.objects.entries w refl c.new.ensures.items entries)) (sound_enrol c.args.t.0 _ c.self.invariant)
+    let w : EnrolledRow = record { pending = None; held = c.new.result } in
+    let none = new_row c.args.t.0 inside.enrolled.entries inside.objects.entries (subst (λ (k : LockRows). enrolled_in (lock_table k) c.args.t.0 ≡ None) (sym c.self.view_is) c.requires.new) in
+    let entries = c.in-Ok.ensures.entries ∙ insert_entry-new (λ (a b : Txn). eqb a.0 b.0) inside.enrolled c.args.t w none in
+    subst IsValid (sym (enrolled c.args.t inside.enrolled.entries c.insert.new.self.entries inside.objects.entries w refl c.new.ensures.items entries)) (valid_enrol c.args.t.0 _ c.self.invariant)
 
 pub returns-in-Ok-clause-done : goal.returns-in-Ok-clause-done
 returns-in-Ok-clause-done c =
     let inside = c.self.inside in
-    let w : Entry = record { place = None; held = c.new.result } in
-    let none = new_row c.args.t.0 inside.holders.entries inside.objects.entries (subst (λ (k : Kept). holder_in (table_of k) c.args.t.0 ≡ None) (sym c.self.view_is) c.requires.new) in
-    let entries = c.in-Ok.ensures.entries ∙ insert_entry-new (λ (a b : Txn). eqb a.0 b.0) inside.holders c.args.t w none in
-    enrolled c.args.t inside.holders.entries c.insert.new.self.entries inside.objects.entries w refl c.new.ensures.items entries ∙ ap (λ (k : Kept). enrol_in c.args.t.0 (table_of k)) c.self.view_is
+    let w : EnrolledRow = record { pending = None; held = c.new.result } in
+    let none = new_row c.args.t.0 inside.enrolled.entries inside.objects.entries (subst (λ (k : LockRows). enrolled_in (lock_table k) c.args.t.0 ≡ None) (sym c.self.view_is) c.requires.new) in
+    let entries = c.in-Ok.ensures.entries ∙ insert_entry-new (λ (a b : Txn). eqb a.0 b.0) inside.enrolled c.args.t w none in
+    enrolled c.args.t inside.enrolled.entries c.insert.new.self.entries inside.objects.entries w refl c.new.ensures.items entries ∙ ap (λ (k : LockRows). enrol_in c.args.t.0 (lock_table k)) c.self.view_is
 
 pub returns-in-Ok-clause-unlocked : goal.returns-in-Ok-clause-unlocked
 returns-in-Ok-clause-unlocked c = rw (← c.self.view_is) (unlocked c.args.t.0 _ c.self.invariant (rw (← c.self.view_is) at c.requires.new))

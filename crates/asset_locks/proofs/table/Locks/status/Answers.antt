@@ -1,6 +1,6 @@
 use Rattle.std.proofs.Common.{◌∙◌, ap, Some}
 use Rattle.std.specs.Prelude.{option_map}
-use Rattle.asset_locks.specs.Table.{status_in, state_of, lock_of}
+use Rattle.asset_locks.specs.LockTable.{status_in, state_of, lock_of}
 use Rattle.asset_locks.proofs.table.Locks.status.Goals as goal
 
 pub returns-in-Some-clause-status : goal.returns-in-Some-clause-status

@@ -1,7 +1,7 @@
 use Rattle.std.proofs.Common.{◌≤◌, length, arith}
 use Rattle.std.proofs.lemmas.Grind.{common_steps}
 use Rattle.asset_names.specs.Sets.{numbers}
-use Rattle.asset_names.proofs.Sorting.{sorted_rises, places_all}
+use Rattle.asset_names.proofs.Sorting.{sorted_rises, slots_all}
 use Rattle.asset_names.proofs.RisingLemmas.{kept_is_rising}
 use Rattle.asset_names.proofs.sets.ObList.of.Goals as goal
 
@@ -12,7 +12,7 @@ invariant_of-result c =
     record {
       some = grind (arith, common_steps, c.is_empty.ensures, c.if-is_empty.false);
       few = few;
-      places = places_all c.args.objects.now c.sorted.result few c.sorted.ensures.permutation c.sorted.ensures.rest;
+      slots = slots_all c.args.objects.now c.sorted.result few c.sorted.ensures.permutation c.sorted.ensures.rest;
       rising = sorted_rises c.args.objects.now _ c.sorted.ensures.permutation c.sorted.ensures.sorted c.in_default.ensures.none;
       rest = c.sorted.ensures.rest;
     }

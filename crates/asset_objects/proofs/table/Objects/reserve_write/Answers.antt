@@ -1,6 +1,6 @@
 use Rattle.std.proofs.Common.{ap, rules, tests}
 use Rattle.std.specs.Prelude.{vec_capacity}
-use Rattle.asset_objects.specs.Records.{table_of, cells_of}
+use Rattle.asset_objects.specs.Records.{object_table, cells_of}
 use Rattle.asset_objects.proofs.TableLemmas.{cells_changed}
 use Rattle.asset_objects.proofs.table.Objects.reserve_write.Goals as goal
 
@@ -11,5 +11,5 @@ returns-clause-cells c =
     (λ same. same) c.self.view_is (λ x. ap (λ records. cells_of inside.values.entries records x) c.reserve.ensures.items)
 
 pub returns-clause-reserved : goal.returns-clause-reserved
-unfolding table_of
+unfolding object_table
 returns-clause-reserved c = search (rules, tests)

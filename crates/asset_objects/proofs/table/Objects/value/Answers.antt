@@ -1,7 +1,7 @@
 use Rattle.std.proofs.Common.{refl, ap, ◌∙◌}
 use Rattle.std.specs.Prelude.{vec_capacity}
 use Rattle.asset_objects.specs.Cells.{cells, value_in}
-use Rattle.asset_objects.proofs.PlaceLemmas.{lookup_opening}
+use Rattle.asset_objects.proofs.SlotLemmas.{lookup_opening}
 use Rattle.asset_objects.proofs.TableLemmas.{value_shown}
 use Rattle.asset_objects.proofs.table.Objects.value.Goals as goal
 

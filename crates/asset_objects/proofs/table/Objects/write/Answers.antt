@@ -5,8 +5,8 @@ use Rattle.std.proofs.lemmas.Int.{to_z-of_z}
 use Rattle.asset_names.specs.Operations.{opening_at}
 use Rattle.asset_objects.specs.declared.records.Record.{Record}
 use Rattle.asset_objects.specs.Cells.{cells, has_object, written, change_at}
-use Rattle.asset_objects.specs.Records.{table_of, put_at, cells_of}
-use Rattle.asset_objects.proofs.TableLemmas.{exists_in_place, cells_changed, written_kept, written_cells}
+use Rattle.asset_objects.specs.Records.{object_table, put_at, cells_of}
+use Rattle.asset_objects.proofs.TableLemmas.{exists_in_place, cells_changed, written_valid, written_cells}
 use Rattle.asset_objects.proofs.table.Objects.write.Goals as goal
 
 pub unwrap-before-requires : goal.unwrap-before-requires
@@ -18,7 +18,7 @@ unwrap-before-requires c =
     ∙ c.requires.exists
 
 pub unwrap-requires : goal.unwrap-requires
-unfolding table_of
+unfolding object_table
 unwrap-requires c =
     let records = c.self.inside.records in
     let free : nat_lt (length records.items) (vec_capacity records) ≡ true = ap (λ table. table.reserved) c.self.view_is ∙ c.requires.reserved in
@@ -33,7 +33,7 @@ invariant_of-self c =
     let last : Record = record { owner = c.args.t; object = c.args.x; value = c.args.v; before = before } in
     let pushed : c.push.new.self.items ≡ inside.records.items ++ last ∷ [] = rw (c.unwrap.ensures, fits, wrote) at c.push.ensures.items in
     let put : (y : ℕ) → opening_at c.put.new.values.entries y ≡ put_at inside.values.entries c.args.x.0 c.args.v y = λ y. (rw wrote at (c.put.ensures.values y)) in
-    rw pushed (written_kept inside.values.entries c.put.new.values.entries inside.records.items last (sym c.put.ensures.before ∙ c.unwrap-before.ensures) put c.self.invariant)
+    rw pushed (written_valid inside.values.entries c.put.new.values.entries inside.records.items last (sym c.put.ensures.before ∙ c.unwrap-before.ensures) put c.self.invariant)
 
 pub returns : goal.returns
 returns c =

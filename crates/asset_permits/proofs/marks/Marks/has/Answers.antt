@@ -6,6 +6,6 @@ use Rattle.asset_permits.proofs.marks.Marks.has.Goals as goal
 pub returns : goal.returns
 returns c =
     let below : c.args.node < length c.self.inside.order.items = rw (← c.self.view_is) at c.requires in
-    let place = c.self.inside.place.items in
-    let read : c.index.result.now ≡ get_or place c.args.node 0 = get_or_read place c.args.node c.index.result.now (omega (arith, c.self.invariant.same_size, below)) c.index.ensures 0 in
-    rw (← c.self.view_is) (ap (λ n. ltb n c.self.inside.met) read ∙ has_mark c.self.inside.order.items place c.self.inside.met c.args.node c.self.invariant below)
+    let position = c.self.inside.position.items in
+    let read : c.index.result.now ≡ get_or position c.args.node 0 = get_or_read position c.args.node c.index.result.now (omega (arith, c.self.invariant.same_size, below)) c.index.ensures 0 in
+    rw (← c.self.view_is) (ap (λ n. ltb n c.self.inside.met) read ∙ has_mark c.self.inside.order.items position c.self.inside.met c.args.node c.self.invariant below)

@@ -1,10 +1,10 @@
 use Rattle.std.proofs.Common.{◌≡◌, ℕ, ◌∙◌, [], cond, eqb, sym, ap, subst, arith}
 use Rattle.asset_permits.specs.Descriptors.{Descriptor, stands, one_covers, same_descriptor, lets}
-use Rattle.asset_permits.specs.Row.{has_giver}
-use Rattle.asset_permits.specs.Kept.{row_of, given_in, without_taker, HaveNames}
-use Rattle.asset_permits.proofs.RowLemmas.{same_names, same_length}
+use Rattle.asset_permits.specs.PermitRow.{has_giver}
+use Rattle.asset_permits.specs.Valid.{row_of, grants_in, without_taker, HaveNames}
+use Rattle.asset_permits.proofs.PermitRowLemmas.{same_names, same_length}
 use Rattle.asset_permits.proofs.SearchLemmas.{lets_owned}
-use Rattle.asset_permits.proofs.TableLemmas.{dropped_given, absent_given, row_gone, any_dropped, kept_dropped, same_owned, same_to, lets_to}
+use Rattle.asset_permits.proofs.TableLemmas.{dropped_grants, absent_grants, row_gone, any_dropped, kept_dropped, same_owned, same_to, lets_to}
 use Rattle.asset_permits.proofs.table.Permits.drop_all.Goals as goal
 
 pub returns-in_default-clause-stands : goal.returns-in_default-clause-stands
@@ -16,7 +16,7 @@ returns-in_default-clause-stands c = λ e.
     let same : new ≡ old = c.in_default.ensures.unchanged in
     let names : HaveNames new = subst HaveNames (sym same) c.self.invariant.names in
     rw (← c.self.view_is) (any_dropped (λ (k : Descriptor). same_descriptor k e) t e.giver e.taker old new (same_owned e) (same_to e) c.self.invariant.names names
-    (absent_given t old new c.self.invariant.noted (sym c.in_default.ensures.value) same))
+    (absent_grants t old new c.self.invariant.noted (sym c.in_default.ensures.value) same))
 
 pub returns-in_default-clause-covers : goal.returns-in_default-clause-covers
 unfolding one_covers row_of
@@ -27,7 +27,7 @@ returns-in_default-clause-covers c = λ u v x op.
     let same : new ≡ old = c.in_default.ensures.unchanged in
     let names : HaveNames new = subst HaveNames (sym same) c.self.invariant.names in
     rw (← c.self.view_is) (any_dropped (lets u v x op) t u v old new (lets_owned u v x op) (lets_to u v x op) c.self.invariant.names names
-    (absent_given t old new c.self.invariant.noted (sym c.in_default.ensures.value) same))
+    (absent_grants t old new c.self.invariant.noted (sym c.in_default.ensures.value) same))
 
 pub invariant_of-self-2 : goal.invariant_of-self-2
 unfolding row_of HaveNames
@@ -41,11 +41,11 @@ invariant_of-self-2 c =
     let gone = row_gone t old cut (λ y. c.in-Some.ensures.updates.0 (record { 0 = y })) in
     let keys = c.drop_givers.ensures.keys ∙ c.drop_takers.ensures.keys in
     let names : HaveNames new = same_names cut new keys c.swap_remove.ensures.unique in
-    let given : (u : ℕ) → given_in new u ≡ cond (eqb t u) [] (without_taker t (given_in old u)) =
-    dropped_given t old cut new row c.self.invariant.noted (sym c.in-Some.ensures.value) (λ u. (gone u).0)
-    (λ u. c.drop_givers.ensures.given u ∙ c.drop_takers.ensures.given u ∙ ap (λ givers. cond (has_giver u givers) (without_taker t (given_in cut u)) (given_in cut u)) c.deref.ensures.value)
+    let grants : (u : ℕ) → grants_in new u ≡ cond (eqb t u) [] (without_taker t (grants_in old u)) =
+    dropped_grants t old cut new row c.self.invariant.noted (sym c.in-Some.ensures.value) (λ u. (gone u).0)
+    (λ u. c.drop_givers.ensures.grants u ∙ c.drop_takers.ensures.grants u ∙ ap (λ givers. cond (has_giver u givers) (without_taker t (grants_in cut u)) (grants_in cut u)) c.deref.ensures.value)
     in
-    kept_dropped t old mid new c.deref-2.result.now c.self.inside.marks.size c.self.inside.marks.size c.self.invariant names given
+    kept_dropped t old mid new c.deref-2.result.now c.self.inside.marks.size c.self.inside.marks.size c.self.invariant names grants
     (λ y. c.drop_takers.ensures.givers y ∙ (gone y).1) c.drop_givers.ensures.givers
     (omega (arith, same_length cut new keys, c.in-Some.ensures.len, c.self.invariant.marked))
 
@@ -60,11 +60,11 @@ returns-clause-stands c = λ e.
     let gone = row_gone t old cut (λ y. c.in-Some.ensures.updates.0 (record { 0 = y })) in
     let keys = c.drop_givers.ensures.keys ∙ c.drop_takers.ensures.keys in
     let names : HaveNames new = same_names cut new keys c.swap_remove.ensures.unique in
-    let given : (u : ℕ) → given_in new u ≡ cond (eqb t u) [] (without_taker t (given_in old u)) =
-    dropped_given t old cut new row c.self.invariant.noted (sym c.in-Some.ensures.value) (λ u. (gone u).0)
-    (λ u. c.drop_givers.ensures.given u ∙ c.drop_takers.ensures.given u ∙ ap (λ givers. cond (has_giver u givers) (without_taker t (given_in cut u)) (given_in cut u)) c.deref.ensures.value)
+    let grants : (u : ℕ) → grants_in new u ≡ cond (eqb t u) [] (without_taker t (grants_in old u)) =
+    dropped_grants t old cut new row c.self.invariant.noted (sym c.in-Some.ensures.value) (λ u. (gone u).0)
+    (λ u. c.drop_givers.ensures.grants u ∙ c.drop_takers.ensures.grants u ∙ ap (λ givers. cond (has_giver u givers) (without_taker t (grants_in cut u)) (grants_in cut u)) c.deref.ensures.value)
     in
-    rw (← c.self.view_is) (any_dropped (λ (k : Descriptor). same_descriptor k e) t e.giver e.taker old new (same_owned e) (same_to e) c.self.invariant.names names given)
+    rw (← c.self.view_is) (any_dropped (λ (k : Descriptor). same_descriptor k e) t e.giver e.taker old new (same_owned e) (same_to e) c.self.invariant.names names grants)
 
 pub returns-clause-covers : goal.returns-clause-covers
 unfolding one_covers row_of HaveNames
@@ -77,8 +77,8 @@ returns-clause-covers c = λ u v x op.
     let gone = row_gone t old cut (λ y. c.in-Some.ensures.updates.0 (record { 0 = y })) in
     let keys = c.drop_givers.ensures.keys ∙ c.drop_takers.ensures.keys in
     let names : HaveNames new = same_names cut new keys c.swap_remove.ensures.unique in
-    let given : (u : ℕ) → given_in new u ≡ cond (eqb t u) [] (without_taker t (given_in old u)) =
-    dropped_given t old cut new row c.self.invariant.noted (sym c.in-Some.ensures.value) (λ u. (gone u).0)
-    (λ u. c.drop_givers.ensures.given u ∙ c.drop_takers.ensures.given u ∙ ap (λ givers. cond (has_giver u givers) (without_taker t (given_in cut u)) (given_in cut u)) c.deref.ensures.value)
+    let grants : (u : ℕ) → grants_in new u ≡ cond (eqb t u) [] (without_taker t (grants_in old u)) =
+    dropped_grants t old cut new row c.self.invariant.noted (sym c.in-Some.ensures.value) (λ u. (gone u).0)
+    (λ u. c.drop_givers.ensures.grants u ∙ c.drop_takers.ensures.grants u ∙ ap (λ givers. cond (has_giver u givers) (without_taker t (grants_in cut u)) (grants_in cut u)) c.deref.ensures.value)
     in
-    rw (← c.self.view_is) (any_dropped (lets u v x op) t u v old new (lets_owned u v x op) (lets_to u v x op) c.self.invariant.names names given)
+    rw (← c.self.view_is) (any_dropped (lets u v x op) t u v old new (lets_owned u v x op) (lets_to u v x op) c.self.invariant.names names grants)

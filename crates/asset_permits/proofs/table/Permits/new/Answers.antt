@@ -1,5 +1,5 @@
 use Rattle.std.proofs.Common.{ap}
-use Rattle.asset_permits.specs.Kept.{descriptors_of}
+use Rattle.asset_permits.specs.Valid.{descriptors_of}
 use Rattle.asset_permits.proofs.TableLemmas.{kept_none}
 use Rattle.asset_permits.proofs.table.Permits.new.Goals as goal
 

@@ -1,7 +1,7 @@
 use Rattle.std.proofs.Common.{arith}
 use Rattle.asset_names.specs.Room.{owed_to}
-use Rattle.asset_trans.specs.Rows.{one_if_live, live_count_in, owed_in}
-use Rattle.asset_trans.proofs.RowLemmas.{known_set}
+use Rattle.asset_trans.specs.TransRows.{one_if_live, live_count_in, owed_in}
+use Rattle.asset_trans.proofs.TransRowLemmas.{known_set}
 use Rattle.asset_trans.proofs.table.Trans.change.Goals as goal
 
 pub overflow_sub-self : goal.overflow_sub-self

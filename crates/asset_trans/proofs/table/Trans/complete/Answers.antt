@@ -1,9 +1,9 @@
 use Rattle.std.proofs.Common.{refl, arith}
 use Rattle.asset_names.specs.Room.{owed_to}
 use Rattle.asset_names.specs.Answers.{is_unknown}
-use Rattle.asset_trans.specs.Rows.{one_if_live}
+use Rattle.asset_trans.specs.TransRows.{one_if_live}
 use Rattle.asset_names.specs.Endings.{is_live_status}
-use Rattle.asset_trans.proofs.RowLemmas.{known_there}
+use Rattle.asset_trans.proofs.TransRowLemmas.{known_there}
 use Rattle.asset_trans.proofs.table.Trans.complete.Goals as goal
 
 pub change-requires-clause-there : goal.change-requires-clause-there

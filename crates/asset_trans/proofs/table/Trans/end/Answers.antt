@@ -1,5 +1,5 @@
 use Rattle.std.proofs.Common.{refl, arith}
-use Rattle.asset_trans.proofs.RowLemmas.{known_there, live_counts, ended_counts, ended_known}
+use Rattle.asset_trans.proofs.TransRowLemmas.{known_there, live_counts, ended_counts, ended_known}
 use Rattle.asset_trans.proofs.table.Trans.end.Goals as goal
 
 pub change-requires-clause-there : goal.change-requires-clause-there

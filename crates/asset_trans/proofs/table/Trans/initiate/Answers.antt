@@ -1,6 +1,6 @@
 use Rattle.std.proofs.Common.{arith}
-use Rattle.asset_trans.specs.Rows.{initiate_in}
-use Rattle.asset_trans.proofs.RowLemmas.{initiated_counts, most_live, most_owed, unknown_absent, known_initiate}
+use Rattle.asset_trans.specs.TransRows.{initiate_in}
+use Rattle.asset_trans.proofs.TransRowLemmas.{initiated_counts, most_live, most_owed, unknown_absent, known_initiate}
 use Rattle.asset_trans.proofs.table.Trans.initiate.Goals as goal
 
 pub overflow_add-self : goal.overflow_add-self

@@ -1,5 +1,5 @@
 use Rattle.std.proofs.Common.{refl}
-use Rattle.asset_trans.specs.Rows.{live_count_in, owed_in, has_unknown}
+use Rattle.asset_trans.specs.TransRows.{live_count_in, owed_in, has_unknown}
 use Rattle.asset_trans.proofs.table.Trans.new.Goals as goal
 
 pub invariant_of-result : goal.invariant_of-result

@@ -1,5 +1,5 @@
 use Rattle.std.proofs.Common.{ap}
-use Rattle.asset_trans.specs.Rows.{row_in, parent_in, parent_or_none}
+use Rattle.asset_trans.specs.TransRows.{row_in, parent_in, parent_or_none}
 use Rattle.asset_trans.proofs.table.Trans.parent.Goals as goal
 
 pub returns-in-Some : goal.returns-in-Some

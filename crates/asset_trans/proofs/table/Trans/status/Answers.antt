@@ -1,5 +1,5 @@
 use Rattle.std.proofs.Common.{ap}
-use Rattle.asset_trans.specs.Rows.{row_in, status_in, status_or_unknown}
+use Rattle.asset_trans.specs.TransRows.{row_in, status_in, status_or_unknown}
 use Rattle.asset_trans.proofs.table.Trans.status.Goals as goal
 
 pub returns-in-Some : goal.returns-in-Some

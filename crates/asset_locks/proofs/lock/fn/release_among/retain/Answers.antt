@@ -1,5 +1,5 @@
 use Rattle.std.proofs.Common.{not, ap, refl}
-use Rattle.asset_locks.specs.Table.{is_of}
+use Rattle.asset_locks.specs.LockTable.{is_of}
 use Rattle.asset_locks.proofs.lock.fn.release_among.retain.Goals as goal
 
 pub returns : goal.returns

@@ -1,0 +1,79 @@
+-- The table of transactions: a row for each name that was initiated, in order of initiation.
+use Rattle.std.specs.Prelude.{◌≡◌, ℕ, Bool, false, cond, ◌==◌, List, [], ◌∷◌, ◌++◌, map, sum_by, Option, Some, None}
+use Rattle.std.specs.List.{list_any}
+use Rattle.std.specs.Map.{lookup, values_of}
+use Rattle.asset_names.specs.declared.names.Txn.{Txn}
+use Rattle.asset_names.specs.declared.statuses.Status.{Status}
+use Rattle.asset_names.specs.declared.statuses.Status.TheVariants as Status'
+use Rattle.asset_names.specs.declared.statuses.End.{End}
+use Rattle.asset_names.specs.declared.statuses.End.TheVariants as End'
+use Rattle.asset_names.specs.Answers.{is_unknown}
+use Rattle.asset_names.specs.Endings.{is_live_status}
+use Rattle.asset_names.specs.Room.{owed_to}
+use Rattle.asset_trans.specs.declared.row.TransRow.{TransRow}
+
+-- a name with its row
+abbrev pub NamedTransRow : Type 0
+NamedTransRow = Txn × TransRow
+
+-- the names, in order of initiation
+unfoldable pub names_of : List NamedTransRow → List ℕ
+names_of rows = map (λ (entry : NamedTransRow). entry.0.0) rows
+
+-- the row of a name, if it has one
+unfoldable pub row_in : List NamedTransRow → ℕ → Option TransRow
+row_in rows t = lookup (λ (name : Txn). t == name.0) rows
+
+unfoldable pub status_or_unknown : Option TransRow → Status
+status_or_unknown None = Status'.Unknown
+status_or_unknown (Some row) = row.status
+
+unfoldable pub parent_or_none : Option TransRow → Option Txn
+parent_or_none None = None
+parent_or_none (Some row) = row.parent
+
+-- the status of a name: a name without a row is unknown
+unfoldable pub status_in : List NamedTransRow → ℕ → Status
+status_in rows t = status_or_unknown (row_in rows t)
+
+-- the parent that the name was given, if it was given one
+unfoldable pub parent_in : List NamedTransRow → ℕ → Option Txn
+parent_in rows t = parent_or_none (row_in rows t)
+
+-- a new name comes last, and is Initiated
+unfoldable pub initiate_in : List NamedTransRow → Txn → Option Txn → List NamedTransRow
+initiate_in rows t parent = rows ++ (t, record { status = Status'.Initiated; parent = parent }) ∷ []
+
+-- each name that passes the test gets the status
+unfoldable pub set_entry : (ℕ → Bool) → Status → NamedTransRow → NamedTransRow
+set_entry test status entry = cond (test entry.0.0) (entry.0, record entry.1 { status = status }) entry
+
+unfoldable pub set_in : (ℕ → Bool) → Status → List NamedTransRow → List NamedTransRow
+set_in test status rows = map (set_entry test status) rows
+
+-- the status that an end gives
+unfoldable pub ended_as : End → Status
+ended_as End'.Committed = Status'.Committed
+ended_as End'.Aborted = Status'.Aborted
+
+-- what a transaction of this status adds to the number of those that are live
+unfoldable pub one_if_live : Status → ℕ
+one_if_live status = cond (is_live_status status) 1 0
+
+-- how many transactions are live
+unfoldable pub live_count_in : List NamedTransRow → ℕ
+live_count_in rows = sum_by (λ (row : TransRow). one_if_live row.status) (values_of rows)
+
+-- how many entries all transactions are owed
+unfoldable pub owed_in : List NamedTransRow → ℕ
+owed_in rows = sum_by (λ (row : TransRow). owed_to row.status) (values_of rows)
+
+-- whether a row has the status of a name that has none
+unfoldable pub has_unknown : List NamedTransRow → Bool
+has_unknown rows = list_any (λ (entry : NamedTransRow). is_unknown entry.1.status) rows
+
+-- how the rows are kept, and the counts beside them
+pub record IsValid (rows : List NamedTransRow) (live owed : ℕ) : Type 0 where
+  pub known : has_unknown rows ≡ false
+  pub counts_live : live ≡ live_count_in rows
+  pub counts_owed : owed ≡ owed_in rows
