@@ -1,12 +1,5 @@
 #!/usr/bin/env python3
-"""Runs the built program on the workloads, and prints steps a second, peak memory and how the time grows.
-
-usage: run.py [--program PATH] [--sizes 1000,10000,100000,1000000] [--workloads NAME,..] [--repeats 3]
-
-The exponent is that of the growth of time between the two largest sizes: 1 where ten times the steps take ten
-times the time. The best of the repeats counts. Machines are noisy: compare figures of one run alone. A
-peak below that of this interpreter (some 15 MB) shows as the interpreter's.
-"""
+"""Runs the built program on the loads, and prints steps a second, peak memory and how the time grows."""
 
 import argparse
 import math
@@ -16,53 +9,120 @@ import sys
 import tempfile
 import time
 
-from workloads import WORKLOADS
+from workloads import LOADS, described
 
 HERE = os.path.dirname(os.path.abspath(__file__))
-PROGRAM = os.path.join(HERE, "..", "crates", "asset", "out", "asset")
+PROGRAM = os.path.normpath(os.path.join(HERE, "..", "crates", "asset", "out", "asset"))
+SIZES = [1000, 10_000, 100_000, 1_000_000]
+
+AFTER_HELP = f"""loads:
+{described()}
+
+The best of the repeats counts. The exponent is that of the growth of time between the two largest sizes: 1 means that
+ten times the steps take ten times the time. Machines are noisy, so compare figures of one run alone. A peak below
+that of this interpreter (some 15 MB) shows as the interpreter's. bench/RESULTS.md has past runs.
+"""
+
+
+def fail(text):
+    sys.exit(f"run.py: {text}")
+
+
+def options():
+    parser = argparse.ArgumentParser(
+        description=__doc__, epilog=AFTER_HELP, formatter_class=argparse.RawDescriptionHelpFormatter
+    )
+    parser.error = fail
+    parser.add_argument("loads", nargs="*", metavar="LOAD", help="the loads to run (all of them)")
+    parser.add_argument("--program", default=PROGRAM, help="the program to run (crates/asset/out/asset)")
+    parser.add_argument("--sizes", help="steps, as 1000,10000 (1000 to 1000000, to 100000 for loads that grow faster)")
+    parser.add_argument("--repeats", type=int, default=3, help="runs of each script (3)")
+    given = parser.parse_args()
+    check(given)
+    return given
+
+
+def check(given):
+    for name in given.loads:
+        if name not in LOADS:
+            fail(f"there is no load {name}; --help lists them")
+    if given.repeats < 1:
+        fail("--repeats wants a number from 1")
+    if given.sizes and not all(size.isdecimal() and 40 <= int(size) <= 1_000_000 for size in given.sizes.split(",")):
+        fail("--sizes wants numbers from 40 to 1000000 with commas between them")
+    if not os.access(given.program, os.X_OK):
+        fail(f"there is no program {given.program}; ./asset builds it")
+
+
+def sizes_of(given, name):
+    """The sizes at which a load runs."""
+    if given.sizes:
+        return sorted({int(size) for size in given.sizes.split(",")})
+    _, most = LOADS[name]
+    return [size for size in SIZES if size <= most]
+
+
+def make_script(path, name, steps):
+    """Writes the script of a load; a process of its own makes it, so that this one stays small."""
+    maker = [sys.executable, os.path.join(HERE, "workloads.py"), name, str(steps)]
+    with open(path, "w") as file:
+        if subprocess.run(maker, stdout=file).returncode != 0:
+            fail(f"the script of {name} at {steps} steps was not made")
 
 
 def run(program, script, capacity):
-    """One run: seconds of wall time, and peak memory in bytes."""
+    """One run: its exit status, seconds of wall time, and peak memory in bytes."""
     with open(script, "rb") as source, open(os.devnull, "wb") as sink:
         started = time.perf_counter()
         child = subprocess.Popen([program, "run", "--cap", str(capacity)], stdin=source, stdout=sink)
         _, status, usage = os.wait4(child.pid, 0)
         seconds = time.perf_counter() - started
-    if os.waitstatus_to_exitcode(status) != 0:
-        raise SystemExit(f"{program} failed on {script}")
-    return seconds, usage.ru_maxrss * 1024
+    child.returncode = os.waitstatus_to_exitcode(status)
+    return child.returncode, seconds, usage.ru_maxrss * 1024
 
 
-def measure(program, folder, name, steps, repeats):
-    script = os.path.join(folder, f"{name}-{steps}")
-    maker = [sys.executable, os.path.join(HERE, "workloads.py"), name, str(steps)]
-    with open(script, "w") as file:
-        subprocess.run(maker, stdout=file, check=True)
-    runs = [run(program, script, steps) for _ in range(repeats)]
-    return min(seconds for seconds, _ in runs), max(memory for _, memory in runs)
+def measure(given, folder, name, steps):
+    """The least time and the greatest peak of the repeats."""
+    script = os.path.join(folder, "script")
+    make_script(script, name, steps)
+    runs = [run(given.program, script, steps) for _ in range(given.repeats)]
+    for status, _, _ in runs:
+        if status != 0:
+            fail(f"{given.program} ended with status {status} on {name} at {steps} steps")
+    return min(seconds for _, seconds, _ in runs), max(memory for _, _, memory in runs)
+
+
+def exponent(points):
+    """How the time grows between the last two points, each of steps and seconds."""
+    if len(points) < 2:
+        return ""
+    (fewer, less), (more, longer) = points[-2:]
+    return f"{math.log(longer / less) / math.log(more / fewer):.2f}"
+
+
+def run_load(given, folder, name):
+    points = []
+    sizes = sizes_of(given, name)
+    for steps in sizes:
+        seconds, memory = measure(given, folder, name, steps)
+        points.append((steps, seconds))
+        growth = exponent(points) if steps == sizes[-1] else ""
+        row = f"{name:18} {steps:9} {seconds:9.3f} {steps / seconds:10.0f} {memory / 1e6:7.1f} {growth:>8}"
+        print(row, flush=True)
 
 
 def main():
-    parser = argparse.ArgumentParser()
-    parser.add_argument("--program", default=PROGRAM)
-    parser.add_argument("--sizes", default="1000,10000,100000,1000000")
-    parser.add_argument("--workloads", default=",".join(WORKLOADS))
-    parser.add_argument("--repeats", type=int, default=3)
-    options = parser.parse_args()
-    sizes = sorted(int(size) for size in options.sizes.split(","))
-    print(f"{'workload':18} {'steps':>9} {'seconds':>9} {'steps/s':>10} {'MB':>7} {'exponent':>8}")
+    given = options()
+    print(f"{'load':18} {'steps':>9} {'seconds':>9} {'steps/s':>10} {'MB':>7} {'exponent':>8}")
     with tempfile.TemporaryDirectory() as folder:
-        for name in options.workloads.split(","):
-            before = None
-            for steps in sizes:
-                seconds, memory = measure(options.program, folder, name, steps, options.repeats)
-                exponent = ""
-                if before and steps == sizes[-1]:
-                    exponent = f"{math.log(seconds / before[1]) / math.log(steps / before[0]):.2f}"
-                before = (steps, seconds)
-                print(f"{name:18} {steps:9} {seconds:9.3f} {steps / seconds:10.0f} {memory / 1e6:7.1f} {exponent:>8}", flush=True)
+        for name in given.loads or LOADS:
+            run_load(given, folder, name)
 
 
 if __name__ == "__main__":
-    main()
+    try:
+        main()
+    except KeyboardInterrupt:
+        sys.exit(130)
+    except OSError as error:
+        fail(str(error))

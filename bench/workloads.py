@@ -1,9 +1,11 @@
 #!/usr/bin/env python3
-"""Scripts that load the facility in different ways. Each is the same for the same name, number of steps and seed.
+"""Makes the scripts that load the facility in different ways.
 
-usage: workloads.py NAME STEPS [SEED]      prints the script
+usage: workloads.py LOAD STEPS [SEED]      prints the script
+       workloads.py                        lists the loads
 
-Object lines come before the steps and are not counted. No script needs room for more entries than STEPS.
+A script is the same for the same load, number of steps and seed. Object lines are not counted as steps. A history
+with room for STEPS entries never runs full.
 """
 
 import random
@@ -11,13 +13,13 @@ import sys
 
 
 class Script:
-    """The lines of a script, with the room that the names still living need to end."""
+    """The lines of a script, and how many more step lines fit beside those that live transactions need to end."""
 
     def __init__(self, steps, seed, objects):
         self.random = random.Random(seed)
         self.objects = objects
         self.left = steps
-        self.names = 0
+        self.transactions = 0
         self.lines = [f"object {x} {10 * x}" for x in range(1, objects + 1)]
 
     def has_room(self, steps):
@@ -28,182 +30,305 @@ class Script:
         self.left -= 1
 
     def start(self):
-        """Begins a new name, and keeps room for its complete and its end."""
-        self.names += 1
-        self.say(f"initiate {self.names}")
-        self.say(f"begin {self.names}")
+        """Begins a new transaction, and keeps room for its complete and its end."""
+        self.transactions += 1
+        self.say(f"initiate {self.transactions}")
+        self.say(f"begin {self.transactions}")
         self.left -= 2
-        return self.names
+        return self.transactions
 
-    def finish(self, name, how="commit"):
+    def start_many(self, count):
+        return [self.start() for _ in range(count)]
+
+    def finish(self, t, how="commit"):
         self.left += 2
         if how == "commit":
-            self.say(f"complete {name}")
-        self.say(f"{how} {name}")
+            self.say(f"complete {t}")
+        self.say(f"{how} {t}")
+
+    def finish_some(self, transactions, aborts):
+        """Ends all of them, each by an abort with this probability."""
+        for t in transactions:
+            self.finish(t, "abort" if self.random.random() < aborts else "commit")
+
+    def finish_shuffled(self, transactions, aborts=0.0):
+        """Ends all of them, in another order than they began."""
+        order = list(transactions)
+        self.random.shuffle(order)
+        self.finish_some(order, aborts)
 
     def object(self):
         return self.random.randint(1, self.objects)
 
-    def use(self, name, x):
+    def read(self, t, x):
+        self.say(f"read {t} {x}")
+
+    def write(self, t, x):
+        self.say(f"write {t} {x} {self.random.randint(-1000, 1000)}")
+
+    def use(self, t, x):
         if self.random.random() < 0.5:
-            self.say(f"read {name} {x}")
+            self.read(t, x)
         else:
-            self.say(f"write {name} {x} {self.random.randint(-1000, 1000)}")
+            self.write(t, x)
+
+    def permit(self, giver, taker, ops, objects):
+        self.say(f"permit {giver} {taker} {ops} {objects}")
+
+
+# Transactions that share nothing.
 
 
 def one_after_another(steps, seed, objects=1000):
-    """Each transaction reads and writes twice and commits before the next begins."""
+    """Each transaction reads and writes twice, and commits before the next begins."""
     script = Script(steps, seed, objects)
     while script.has_room(8):
-        name = script.start()
+        t = script.start()
         for _ in range(2):
             x = script.object()
-            script.say(f"read {name} {x}")
-            script.say(f"write {name} {x} {script.random.randint(0, 99)}")
-        script.finish(name)
+            script.read(t, x)
+            script.write(t, x)
+        script.finish(t)
     return script
 
 
-def together(steps, seed, objects, at_once, uses, abort=0.0):
-    """So many transactions are open at a time, and take turns at random."""
+def many_objects(steps, seed):
+    """The same, with one object for every four steps."""
+    return one_after_another(steps, seed, objects=max(1, steps // 4))
+
+
+def opening(steps, seed):
+    """Two objects for every step, and one transaction: what the object lines cost."""
+    script = Script(steps, seed, 2 * steps)
+    t = script.start()
+    script.read(t, script.object())
+    script.finish(t)
+    return script
+
+
+def together(steps, seed, objects, at_once, uses, aborts=0.0):
+    """`at_once` transactions are open at a time, and take turns at random."""
     script = Script(steps, seed, objects)
-    open_names = []
+    turns = []
     while True:
-        while len(open_names) < at_once and script.has_room(5):
-            open_names.append((script.start(), uses))
-        if not open_names:
+        while len(turns) < at_once and script.has_room(5):
+            turns.append((script.start(), uses))
+        if not turns:
             return script
-        place = script.random.randrange(len(open_names))
-        name, left = open_names[place]
-        if left == 0 or not script.has_room(1):
-            open_names[place] = open_names[-1]
-            open_names.pop()
-            script.finish(name, "abort" if script.random.random() < abort else "commit")
+        position = script.random.randrange(len(turns))
+        t, left = turns[position]
+        if left > 0 and script.has_room(1):
+            turns[position] = (t, left - 1)
+            script.use(t, script.object())
         else:
-            open_names[place] = (name, left - 1)
-            script.use(name, script.object())
+            turns[position] = turns[-1]
+            turns.pop()
+            script.finish_some([t], aborts)
 
 
 def interleaved(steps, seed):
-    """32 open at a time over many objects: few of them wait."""
+    """32 transactions open at a time over 20,000 objects: few requests wait."""
     return together(steps, seed, objects=20_000, at_once=32, uses=6)
 
 
 def half_abort(steps, seed):
-    """32 open at a time over many objects, and half of them abort."""
-    return together(steps, seed, objects=20_000, at_once=32, uses=6, abort=0.5)
+    """The same, and half of them abort."""
+    return together(steps, seed, objects=20_000, at_once=32, uses=6, aborts=0.5)
 
 
 def hot_objects(steps, seed):
-    """64 open at a time over eight objects: most requests wait."""
+    """64 transactions open at a time over eight objects: most requests wait."""
     return together(steps, seed, objects=8, at_once=64, uses=8)
 
 
-def many_objects(steps, seed):
-    """One object for every four steps."""
-    return one_after_another(steps, seed, objects=max(1, steps // 4))
-
-
-def many_alive(steps, seed):
-    """Thousands of transactions live at once."""
+def many_live(steps, seed):
+    """5,000 transactions live at once over STEPS objects."""
     return together(steps, seed, objects=max(8, steps), at_once=max(2, min(5000, steps // 20)), uses=4)
 
 
-def hot_readers(steps, seed):
-    """Many transactions live at once read four objects; a writer among them waits; then all end."""
+# Readers of the same objects.
+
+
+def hot_readers(steps, seed, at_once=2000):
+    """2,000 live transactions read four objects, every fourth asks to write one and waits, and all end."""
     script = Script(steps, seed, 4)
-    names = []
-    while script.has_room(8) and len(names) < 2000:
-        name = script.start()
-        names.append(name)
-        for _ in range(2):
-            script.say(f"read {name} {script.object()}")
-        if len(names) % 4 == 0:
-            script.say(f"write {name} {script.object()} 1")
-        if len(names) == 2000:
-            for each in names:
-                script.finish(each)
-            names.clear()
-    for each in names:
-        script.finish(each)
+    while script.has_room(8):
+        readers = []
+        while script.has_room(8) and len(readers) < at_once:
+            readers.append(script.start())
+            script.read(readers[-1], script.object())
+            script.read(readers[-1], script.object())
+            if len(readers) % 4 == 0:
+                script.write(readers[-1], script.object())
+        script.finish_some(readers, 0.0)
     return script
 
 
-def permit_chains(steps, seed, length):
-    """Chains of so many names, each of which permits the next; the last writes what the first wrote, and all end."""
+def many_readers(steps, seed):
+    """A live transaction for every eight steps; each reads the same four objects, and then all end."""
+    script = Script(steps, seed, 4)
+    readers = script.start_many(steps // 8)
+    for x in range(1, 5):
+        for t in readers:
+            script.read(t, x)
+    script.finish_shuffled(readers)
+    return script
+
+
+# Permits.
+
+
+def permit_each_next(script, chain, objects):
+    for giver, taker in zip(chain, chain[1:]):
+        script.permit(giver, taker, "rw", objects)
+
+
+def permit_chains(steps, seed, length, aborts=0.0):
+    """Chains in which each transaction permits the next; the last writes what the first wrote, and all end."""
     script = Script(steps, seed, 2000)
     while script.has_room(6 * length + 4):
-        names = [script.start() for _ in range(length)]
+        chain = script.start_many(length)
         x = script.object()
-        script.say(f"write {names[0]} {x} 1")
-        for giver, taker in zip(names, names[1:]):
-            script.say(f"permit {giver} {taker} rw {x}")
-        script.say(f"write {names[-1]} {x} 2")
-        script.say(f"read {names[-1]} {x}")
-        for name in reversed(names):
-            script.finish(name)
+        script.write(chain[0], x)
+        permit_each_next(script, chain, x)
+        script.write(chain[-1], x)
+        script.read(chain[-1], x)
+        script.finish_some(reversed(chain), aborts)
     return script
 
 
 def chains_of_2(steps, seed):
+    """Chains of 2 transactions, each of which permits the next."""
     return permit_chains(steps, seed, 2)
 
 
 def chains_of_8(steps, seed):
+    """Chains of 8."""
     return permit_chains(steps, seed, 8)
 
 
 def chains_of_64(steps, seed):
+    """Chains of 64."""
     return permit_chains(steps, seed, 64)
 
 
+def chains_that_abort(steps, seed):
+    """Chains of 64, and a quarter of the transactions abort."""
+    return permit_chains(steps, seed, 64, aborts=0.25)
+
+
+def one_long_chain(steps, seed):
+    """One chain of permits through a live transaction for every six steps; five of them write, and all end."""
+    script = Script(steps, seed, 1)
+    chain = script.start_many(max(2, steps // 6))
+    permit_each_next(script, chain, 1)
+    for quarter in range(5):
+        script.write(chain[(len(chain) - 1) * quarter // 4], 1)
+    script.finish_some(chain[::2], 0.0)
+    script.finish_some(chain[1::2], 1.0)
+    return script
+
+
+def permit_pairs(script, count):
+    """Pairs of which each lets the other read, and the first lets the second write. Room for their uses is kept."""
+    pairs = []
+    while script.has_room(16) and len(pairs) < count:
+        one, other = script.start_many(2)
+        objects = sorted({script.object() for _ in range(3)})
+        script.permit(one, other, "rw", ",".join(map(str, objects)))
+        script.permit(other, one, "r", "all")
+        script.permit(one, other, "w", "all")
+        script.left -= 3
+        pairs.append((one, other, objects))
+    return pairs
+
+
 def standing_permits(steps, seed):
-    """Pairs of names, thousands of them live at once, with three permits each; one writes over what the other wrote."""
+    """5,000 live transactions in pairs with three permits each; one of a pair writes over what the other wrote."""
     script = Script(steps, seed, 20_000)
     while script.has_room(16):
-        pairs = []
-        while script.has_room(16) and len(pairs) < 2500:
-            one, other = script.start(), script.start()
-            objects = sorted({script.object() for _ in range(3)})
-            listed = ",".join(map(str, objects))
-            script.say(f"permit {one} {other} rw {listed}")
-            script.say(f"permit {other} {one} r all")
-            script.say(f"permit {one} {other} w all")
-            pairs.append((one, other, objects))
-            script.left -= 3
+        pairs = permit_pairs(script, 2500)
         for one, other, objects in pairs:
             script.left += 3
-            script.say(f"write {one} {objects[0]} 1")
-            script.say(f"write {other} {objects[0]} 2")
-            script.say(f"read {one} {objects[-1]}")
+            script.write(one, objects[0])
+            script.write(other, objects[0])
+            script.read(one, objects[-1])
         for one, other, _ in pairs:
             script.finish(one)
             script.finish(other, "abort")
     return script
 
 
-WORKLOADS = {
-    workload.__name__: workload
-    for workload in [
-        one_after_another,
-        interleaved,
-        hot_objects,
-        half_abort,
-        many_objects,
-        many_alive,
-        hot_readers,
-        chains_of_2,
-        chains_of_8,
-        chains_of_64,
-        standing_permits,
+def one_giver(steps, seed):
+    """One transaction permits a live taker for every six steps to read what it wrote; half of them abort."""
+    script = Script(steps, seed, 16)
+    giver = script.start()
+    for x in range(1, 17):
+        script.write(giver, x)
+    takers = []
+    while script.has_room(6):
+        takers.append(script.start())
+        script.permit(giver, takers[-1], "r", "all")
+        script.read(takers[-1], script.object())
+    script.finish_shuffled(takers, aborts=0.5)
+    script.finish(giver)
+    return script
+
+
+def two_writers(steps, seed):
+    """Two transactions permit each other everything and write one object in turn; one aborts, one commits."""
+    script = Script(steps, seed, 1)
+    one, other = script.start_many(2)
+    script.permit(one, other, "rw", "all")
+    script.permit(other, one, "rw", "all")
+    while script.has_room(2):
+        script.write(one, 1)
+        script.write(other, 1)
+    script.finish(one, "abort")
+    script.finish(other)
+    return script
+
+
+# Each load with the largest size that it is run at unless sizes are given. Those with a smaller one grow faster
+# than their steps, and take minutes at a million.
+LOADS = {
+    load.__name__: (load, most)
+    for load, most in [
+        (one_after_another, 1_000_000),
+        (interleaved, 1_000_000),
+        (half_abort, 1_000_000),
+        (hot_objects, 1_000_000),
+        (many_objects, 1_000_000),
+        (opening, 1_000_000),
+        (many_live, 1_000_000),
+        (hot_readers, 1_000_000),
+        (many_readers, 100_000),
+        (chains_of_2, 1_000_000),
+        (chains_of_8, 1_000_000),
+        (chains_of_64, 1_000_000),
+        (chains_that_abort, 1_000_000),
+        (one_long_chain, 100_000),
+        (standing_permits, 1_000_000),
+        (one_giver, 100_000),
+        (two_writers, 100_000),
     ]
 }
 
 
+def described():
+    """The loads with what each does, a line for each."""
+    return "\n".join(f"  {name:18} {load.__doc__}" for name, (load, _) in LOADS.items())
+
+
 def main():
-    name, steps = sys.argv[1], int(sys.argv[2])
+    if len(sys.argv) == 1:
+        print(described())
+        return
+    if len(sys.argv) not in (3, 4) or sys.argv[1] not in LOADS or not all(word.isdigit() for word in sys.argv[2:]):
+        sys.exit("workloads.py: usage: workloads.py LOAD STEPS [SEED]; without arguments it lists the loads")
+    load, _ = LOADS[sys.argv[1]]
     seed = int(sys.argv[3]) if len(sys.argv) > 3 else 1
-    print("\n".join(WORKLOADS[name](steps, seed).lines))
+    print("\n".join(load(int(sys.argv[2]), seed).lines))
 
 
 if __name__ == "__main__":
