@@ -13,6 +13,7 @@ use Rattle.asset_cli.specs.Keywords.{keyword_text, all_keywords, keyword_of}
 use Rattle.asset_cli.specs.Lines.{lines}
 use Rattle.asset_cli.specs.Numbers.{is_numeral, number_of, positive_value, negative_value, value_of}
 use Rattle.asset_cli.specs.Words.{words, parts}
+use Rattle.asset_names.specs.OpSets.{op_set}
 
 -- a line feed ends a line, and a rest is a line too; an empty line is one
 cut_lines : lines (97 ∷ 10 ∷ 10 ∷ 98 ∷ []) ≡ (97 ∷ []) ∷ [] ∷ (98 ∷ []) ∷ []
@@ -125,7 +126,7 @@ unfolding line_of is_blank
 remark_that_is_too_long = refl
 
 -- a permit's objects stand in any order, and are kept in rising order
-permit_line : line_of (codes "permit 7 8 rw 3,1,2") ≡ Line'.Command (Ask (Step'.Permit (txn 7) (txn 8) (Listed (ob 1 ∷ ob 2 ∷ ob 3 ∷ [])) (true, true)))
+permit_line : line_of (codes "permit 7 8 rw 3,1,2") ≡ Line'.Command (Ask (Step'.Permit (txn 7) (txn 8) (Listed (ob 1 ∷ ob 2 ∷ ob 3 ∷ [])) (op_set true true)))
 unfolding line_of line_by is_blank command_of command_from step_command step_by words parts keyword_of keyword_text all_keywords txns_ops_and_set both txn_of ob_of number_of is_numeral ops_of set_of gathered one_more_object listed is_list numbers twice rising put_in
 permit_line = refl
 

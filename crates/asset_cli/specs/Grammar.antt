@@ -16,6 +16,7 @@ use Rattle.asset_cli.specs.PermitArguments.{txns_ops_and_set}
 use Rattle.asset_cli.specs.Words.{words}
 use Rattle.asset_cli.specs.Keywords.{keyword_of}
 use Rattle.asset_cli.specs.Arguments.{object_and_value, one_txn, txn_and_object, txn_and_parent, txn_object_and_value}
+use Rattle.asset_names.specs.OpSets.{OpSet}
 
 -- the step that a keyword asks for with these arguments
 unfoldable pub step_by : Keyword → List (List ℕ) → Option Step
@@ -24,7 +25,7 @@ step_by Begin arguments = option_map Step'.Begin (one_txn arguments)
 step_by Read arguments = option_map (λ (a : Txn × Ob). Step'.Read a.0 a.1) (txn_and_object arguments)
 step_by Write arguments = option_map (λ (a : Txn × Ob × ℤ). Step'.Write a.0 a.1 a.2) (txn_object_and_value arguments)
 step_by Complete arguments = option_map Step'.Complete (one_txn arguments)
-step_by Permit arguments = option_map (λ (a : (Txn × Txn) × ((Bool × Bool) × ObSet)). Step'.Permit a.0.0 a.0.1 a.1.1 a.1.0) (txns_ops_and_set arguments)
+step_by Permit arguments = option_map (λ (a : (Txn × Txn) × (OpSet × ObSet)). Step'.Permit a.0.0 a.0.1 a.1.1 a.1.0) (txns_ops_and_set arguments)
 step_by Commit arguments = option_map Step'.Commit (one_txn arguments)
 step_by Abort arguments = option_map Step'.Abort (one_txn arguments)
 step_by Wait arguments = option_map Step'.WaitFor (one_txn arguments)

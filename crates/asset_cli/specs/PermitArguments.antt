@@ -4,8 +4,9 @@ use Rattle.asset_names.specs.declared.names.Txn.{Txn}
 use Rattle.asset_names.specs.declared.sets.ObSet.{ObSet}
 use Rattle.asset_cli.specs.Arguments.{txn_of, both}
 use Rattle.asset_cli.specs.Sets.{ops_of, set_of}
+use Rattle.asset_names.specs.OpSets.{OpSet}
 
 -- two transactions, operations and a set of objects
-unfoldable pub txns_ops_and_set : List (List ℕ) → Option ((Txn × Txn) × ((Bool × Bool) × ObSet))
+unfoldable pub txns_ops_and_set : List (List ℕ) → Option ((Txn × Txn) × (OpSet × ObSet))
 txns_ops_and_set (giver ∷ taker ∷ ops ∷ obs ∷ []) = both (both (txn_of giver) (txn_of taker)) (both (ops_of ops) (set_of obs))
 txns_ops_and_set _ = None

@@ -8,10 +8,11 @@ use Rattle.asset_names.specs.declared.sets.ObSet.TheVariants.{All, Listed}
 use Rattle.asset_names.specs.Sets.{numbers, twice, rising}
 use Rattle.asset_cli.specs.Arguments.{ob_of}
 use Rattle.asset_cli.specs.Words.{parts}
+use Rattle.asset_names.specs.OpSets.{OpSet, op_set}
 
 -- the operations that a word writes: whether it has Read, and whether it has Write
-unfoldable pub ops_of : List ℕ → Option (Bool × Bool)
-ops_of word = cond (bytes_eq word (codes "r")) (Some (true, false)) (cond (bytes_eq word (codes "w")) (Some (false, true)) (cond (bytes_eq word (codes "rw")) (Some (true, true)) None))
+unfoldable pub ops_of : List ℕ → Option OpSet
+ops_of word = cond (bytes_eq word (codes "r")) (Some (op_set true false)) (cond (bytes_eq word (codes "w")) (Some (op_set false true)) (cond (bytes_eq word (codes "rw")) (Some (op_set true true)) None))
 
 -- one more object, where there is room for it among 16
 unfoldable pub one_more_object : List Ob → Option Ob → Option (List Ob)

@@ -7,25 +7,29 @@ use Rattle.std.proofs.lemmas.Bool.{or_cases, or_left, or_right, or_parts, or_fro
 use Rattle.asset_names.specs.declared.names.Ob.{Ob}
 use Rattle.asset_names.specs.declared.operations.Op.{Op}
 use Rattle.asset_names.specs.declared.operations.Op.TheVariants as Op'
-use Rattle.asset_names.specs.Operations.{conflict, has_op, same_op}
+use Rattle.asset_names.specs.Operations.{conflict, same_op}
+use Rattle.asset_names.specs.OpSets.{has_op, OpSet, only_op, with_op}
 use Rattle.asset_locks.specs.Valid.{HaveOwners}
-use Rattle.asset_locks.specs.LockTable.{Lock, Enrolled, LockTable, is_of, carries, one_conflicts, both_conflict, blocks, is_free_in, lock_of, with_op, ops_with, adjusted, newcomer, granted_on, change_enrolled, enrolled_granted, enrolled_waiting, grant_in, wait_in, enrol_in, release_in, names_in}
+use Rattle.asset_locks.specs.LockTable.{Lock, Enrolled, LockTable, is_of, carries, one_conflicts, both_conflict, blocks, is_free_in, lock_of, ops_with, adjusted, newcomer, granted_on, change_enrolled, enrolled_granted, enrolled_waiting, grant_in, wait_in, enrol_in, release_in, names_in}
 
 -- whether the lock is t's and carries op
 abbrev pub carries_op : ℕ → Op → Lock → Bool
 carries_op t op lock = is_of t lock && has_op lock.ops op
 
 -- one more operation
-has_with_op : (o op : Op) (ops : Bool × Bool) → has_op (with_op o ops) op ≡ (same_op o op || has_op ops op)
+has_with_op : (o op : Op) (ops : OpSet) → has_op (with_op o ops) op ≡ (same_op o op || has_op ops op)
 unfolding with_op same_op
 has_with_op Op'.Read Op'.Read ops = refl
 has_with_op Op'.Read Op'.Write ops = refl
 has_with_op Op'.Write Op'.Read ops = refl
 has_with_op Op'.Write Op'.Write ops = refl
 
-has_nothing : (op : Op) → has_op (false, false) op ≡ false
-has_nothing Op'.Read = refl
-has_nothing Op'.Write = refl
+has_only : (o op : Op) → has_op (only_op o) op ≡ (same_op o op || false)
+unfolding only_op same_op
+has_only Op'.Read Op'.Read = refl
+has_only Op'.Read Op'.Write = refl
+has_only Op'.Write Op'.Read = refl
+has_only Op'.Write Op'.Write = refl
 
 -- whether a lock that may be there carries op
 unfoldable pub found_op : Op → Option Lock → Bool
@@ -34,11 +38,11 @@ found_op op (Some lock) = has_op lock.ops op
 
 carried_op : (o op : Op) (found : Option Lock) → has_op (ops_with o found) op ≡ (same_op o op || found_op op found)
 unfolding ops_with found_op
-carried_op o op None = has_with_op o op (false, false) ∙ ap (λ b. same_op o op || b) (has_nothing op)
+carried_op o op None = has_only o op
 carried_op o op (Some lock) = has_with_op o op lock.ops
 
 -- another's locks carry what they did
-other_adjusted : (u t : ℕ) (op : Op) (ops : Bool × Bool) (lock : Lock) → eqb u t ≡ false → carries_op t op (adjusted u ops lock) ≡ carries_op t op lock
+other_adjusted : (u t : ℕ) (op : Op) (ops : OpSet) (lock : Lock) → eqb u t ≡ false → carries_op t op (adjusted u ops lock) ≡ carries_op t op lock
 unfolding adjusted is_of
 other_adjusted u t op ops lock apart = go (eqb lock.owner u) refl (both_conflict lock.ops ops) where
   go : (own : Bool) → eqb lock.owner u ≡ own → (conflicts : Bool)
@@ -47,11 +51,11 @@ other_adjusted u t op ops lock apart = go (eqb lock.owner u) refl (both_conflict
   go false e false = refl
   go true e conflicts = rw (apart, eqb-true lock.owner u e, apart) refl
 
-other_list : (u t : ℕ) (op : Op) (ops : Bool × Bool) (locks : List Lock) → eqb u t ≡ false → list_any (carries_op t op) (map (adjusted u ops) locks) ≡ list_any (carries_op t op) locks
+other_list : (u t : ℕ) (op : Op) (ops : OpSet) (locks : List Lock) → eqb u t ≡ false → list_any (carries_op t op) (map (adjusted u ops) locks) ≡ list_any (carries_op t op) locks
 other_list u t op ops [] apart = refl
 other_list u t op ops (lock ∷ locks) apart = rw (other_adjusted u t op ops lock apart, other_list u t op ops locks apart)
 
-other_newcomer : (u t : ℕ) (op : Op) (ops : Bool × Bool) (found : Option Lock) → eqb u t ≡ false → list_any (carries_op t op) (newcomer u ops found) ≡ false
+other_newcomer : (u t : ℕ) (op : Op) (ops : OpSet) (found : Option Lock) → eqb u t ≡ false → list_any (carries_op t op) (newcomer u ops found) ≡ false
 unfolding newcomer is_of
 other_newcomer u t op ops None apart = rw apart refl
 other_newcomer u t op ops (Some lock) apart = refl
@@ -61,7 +65,7 @@ list_any-append test [] ys = refl
 list_any-append test (x ∷ xs) ys = rw (list_any-append test xs ys) (grind arith)
 
 -- one's own locks carry the operations that are granted
-own_list : (u : ℕ) (op : Op) (ops : Bool × Bool) (locks : List Lock) → list_any (carries_op u op) (map (adjusted u ops) locks) ≡ (is_some (lock_of u locks) && has_op ops op)
+own_list : (u : ℕ) (op : Op) (ops : OpSet) (locks : List Lock) → list_any (carries_op u op) (map (adjusted u ops) locks) ≡ (is_some (lock_of u locks) && has_op ops op)
 unfolding lock_of is_of adjusted
 own_list u op ops [] = refl
 own_list u op ops (lock ∷ locks) = go (eqb lock.owner u) refl (both_conflict lock.ops ops) (own_list u op ops locks) where
@@ -72,7 +76,7 @@ own_list u op ops (lock ∷ locks) = go (eqb lock.owner u) refl (both_conflict l
   go false e true ih = rw (e, ih) refl
   go false e false ih = rw (e, ih) refl
 
-own_granted : (u : ℕ) (op : Op) (ops : Bool × Bool) (found : Option Lock) → ((is_some found && has_op ops op) || list_any (carries_op u op) (newcomer u ops found)) ≡ has_op ops op
+own_granted : (u : ℕ) (op : Op) (ops : OpSet) (found : Option Lock) → ((is_some found && has_op ops op) || list_any (carries_op u op) (newcomer u ops found)) ≡ has_op ops op
 unfolding newcomer is_of
 own_granted u op ops None = rw (eq-eqb u u refl) (grind arith)
 own_granted u op ops (Some lock) = grind arith
@@ -98,7 +102,7 @@ granted_carries : (u t : ℕ) (o op : Op) (locks : List Lock) → HaveOwners loc
     → list_any (carries_op t op) (granted_on u o locks) ≡ ((eqb u t && same_op o op) || list_any (carries_op t op) locks)
 unfolding granted_on
 granted_carries u t o op locks different = list_any-append _ (map (adjusted u ops) locks) _ ∙ go (eqb u t) refl where
-  ops : Bool × Bool
+  ops : OpSet
   ops = ops_with o (lock_of u locks)
 
   go : (own : Bool) → eqb u t ≡ own → (list_any (carries_op t op) (map (adjusted u ops) locks) || list_any (carries_op t op) (newcomer u ops (lock_of u locks)))
@@ -178,7 +182,7 @@ names_released u table = go table.enrolled where
     by_name false ih = ap (λ ns. who.name ∷ ns) ih
 
 -- one of the operations conflicts with op
-conflicts_by : (ops : Bool × Bool) (other op : Op) → has_op ops other ≡ true → conflict other op ≡ true → one_conflicts ops op ≡ true
+conflicts_by : (ops : OpSet) (other op : Op) → has_op ops other ≡ true → conflict other op ≡ true → one_conflicts ops op ≡ true
 unfolding one_conflicts
 conflicts_by ops Op'.Read op has conflicts = or_left _ _ (and_from _ _ has conflicts)
 conflicts_by ops Op'.Write op has conflicts = or_right _ _ (and_from _ _ has conflicts)
@@ -213,7 +217,7 @@ blocks_parts allows t op lock h =
     (not-true _ first.0, first.1, not-true _ last.1)
 
 -- an operation of the lock that conflicts
-conflicting_op : (ops : Bool × Bool) (op : Op) → one_conflicts ops op ≡ true → ((has_op ops Op'.Read ≡ true) × (conflict Op'.Read op ≡ true)) ⊎ ((has_op ops Op'.Write ≡ true) × (conflict Op'.Write op ≡ true))
+conflicting_op : (ops : OpSet) (op : Op) → one_conflicts ops op ≡ true → ((has_op ops Op'.Read ≡ true) × (conflict Op'.Read op ≡ true)) ⊎ ((has_op ops Op'.Write ≡ true) × (conflict Op'.Write op ≡ true))
 unfolding one_conflicts
 conflicting_op ops op h = elim (or_cases _ _ h) [
   | inl reading ↦ inl (and_parts _ _ reading)

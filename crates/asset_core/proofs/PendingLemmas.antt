@@ -24,10 +24,11 @@ use Rattle.asset_trans.specs.TransRows.{status_in}
 use Rattle.asset_core.specs.declared.tables.Tables.{Tables}
 use Rattle.asset_core.specs.Recorded.{after}
 use Rattle.asset_core.specs.Pending.{Pending, asker_after, request_after, new_asker, waiter_of, waiting_for}
-use Rattle.asset_core.specs.Tables.{Stand, asker_of, pending_in, locks_after, locks_waiting, released}
+use Rattle.asset_core.specs.Tables.{values_of, asker_of, pending_in, locks_after, locks_waiting, released}
 use Rattle.asset_core.proofs.HistoryLemmas.{lists_pushed, live_quiet, begin_quiet, complete_quiet, read_ends, write_ends}
 use Rattle.asset_core.proofs.PermitLaws.{permit_ends}
 use Rattle.asset_core.proofs.ShowsLemmas.{live_shown}
+use Rattle.asset_core.specs.Shows.{Shows}
 
 -- the pending requests of a table of locks
 abbrev pub pending_requests : Locks.LockTable → List Pending
@@ -61,7 +62,7 @@ lists_live p (m ∷ names) n h = go (p m) refl (eqb m n) refl h (lists_live p na
   go true k false e h later = later (rw e at h)
   go false k here e h later = later h
 
-asker_live : (opening : Opening) (steps : List Step) (tables : Tables) → Stand opening steps tables → (n : ℕ) → lists (named (pending_in tables.locks)) n ≡ true → live steps n ≡ true
+asker_live : (opening : Opening) (steps : List Step) (tables : Tables) → Shows opening steps (values_of tables) → (n : ℕ) → lists (named (pending_in tables.locks)) n ≡ true → live steps n ≡ true
 unfolding pending_in
 asker_live opening steps tables stand n listed =
     lists_live (live steps) (reverse (initiated steps)) n (ap (λ names. lists names n) (sym stand.enrolled ∙ sym (askers_named (lock_table tables.locks))) ∙ listed)
@@ -134,7 +135,7 @@ new_unchanged (Abort t) reply none = refl
 new_unchanged (WaitFor t) reply none = refl
 
 -- the pending_requests after a step that is recorded and without effect
-pub askers_refused : (opening : Opening) (steps : List Step) (tables : Tables) (step : Step) (reply : Reply) → Stand opening steps tables → takes_effect step reply ≡ false
+pub askers_refused : (opening : Opening) (steps : List Step) (tables : Tables) (step : Step) (reply : Reply) → Shows opening steps (values_of tables) → takes_effect step reply ≡ false
     → filter (λ (asker : Pending). live steps asker.name) (map (asker_after step (Answer reply)) (pending_in tables.locks) ++ new_asker step (Answer reply)) ≡ pending_in tables.locks
 askers_refused opening steps tables step reply stand none =
     nobody_ended steps steps step (Answer reply) (pending_in tables.locks) (asker_live opening steps tables stand) (new_unchanged step reply none)
@@ -177,7 +178,7 @@ waiting_askers (Abort t) tables = same_askers _ _ (λ asker. refl)
 waiting_askers (WaitFor t) tables = same_askers _ _ (λ asker. refl)
 
 -- the pending_requests after a request that waits
-pub askers_waiting : (opening : Opening) (steps : List Step) (tables : Tables) (step : Step) → Stand opening steps tables
+pub askers_waiting : (opening : Opening) (steps : List Step) (tables : Tables) (step : Step) → Shows opening steps (values_of tables)
     → filter (λ (asker : Pending). live steps asker.name) (map (asker_after step Wait) (pending_in tables.locks) ++ new_asker step Wait) ≡ pending_requests (locks_waiting step tables)
 unfolding new_asker outcome_takes_effect
 askers_waiting opening steps tables step stand =
@@ -221,7 +222,7 @@ askers_alike p q (asker ∷ ps) same =
     rw (same asker.name (or_left _ _ (eq-eqb asker.name asker.name refl)), askers_alike p q ps (λ n listed. same n (or_right _ _ listed)))
 
 -- a name that was live has ended: its asker has gone
-ended_askers : (opening : Opening) (steps : List Step) (step : Step) (tables : Tables) (t : ℕ) → Stand opening steps tables → ((n : ℕ) → live (step ∷ steps) n ≡ (not (eqb t n) && live steps n))
+ended_askers : (opening : Opening) (steps : List Step) (step : Step) (tables : Tables) (t : ℕ) → Shows opening steps (values_of tables) → ((n : ℕ) → live (step ∷ steps) n ≡ (not (eqb t n) && live steps n))
     → filter (λ (asker : Pending). live (step ∷ steps) asker.name) (pending_in tables.locks) ≡ pending_requests (released tables t)
 unfolding pending_in released Locks.release_in
 ended_askers opening steps step tables t stand ends = go (is_live_status (status_in tables.trans t)) refl where
@@ -245,7 +246,7 @@ ended_askers opening steps step tables t stand ends = go (is_live_status (status
       ends n ∙ rw (alive, not_here n (sym (live_shown opening steps _ _ _ _ t stand) ∙ e) alive) refl)
 
 -- a new name has a asker at the end
-initiate_askers : (opening : Opening) (steps : List Step) (tables : Tables) (t : Txn) (parent : Option Txn) (reply : Reply) → Stand opening steps tables → takes_effect (Initiate t parent) reply ≡ true → lists (initiated steps) t.0 ≡ false
+initiate_askers : (opening : Opening) (steps : List Step) (tables : Tables) (t : Txn) (parent : Option Txn) (reply : Reply) → Shows opening steps (values_of tables) → takes_effect (Initiate t parent) reply ≡ true → lists (initiated steps) t.0 ≡ false
     → filter (λ (asker : Pending). live (Initiate t parent ∷ steps) asker.name) (map (asker_after (Initiate t parent) (Answer reply)) (pending_in tables.locks) ++ new_asker (Initiate t parent) (Answer reply)) ≡ pending_requests (Locks.enrol_in t.0 (lock_table tables.locks))
 unfolding new_asker outcome_takes_effect asker_after pending_in Locks.enrol_in asker_of lists
 initiate_askers opening steps tables t parent reply stand carried new =
@@ -272,7 +273,7 @@ granted_askers step t x op reply tables carried asked =
     (λ who. granted_is t x (Locks.lock_of t ((lock_table tables.locks).locks_on x.0)) who ∙ sym (asked (asker_of who) ∙ granted_asker step t x op reply (asker_of who) carried)))
 
 -- the pending_requests after a step that took effect
-pub askers_carried : (opening : Opening) (steps : List Step) (tables : Tables) (step : Step) (reply : Reply) → Stand opening steps tables → takes_effect step reply ≡ true
+pub askers_carried : (opening : Opening) (steps : List Step) (tables : Tables) (step : Step) (reply : Reply) → Shows opening steps (values_of tables) → takes_effect step reply ≡ true
     → ((t : Txn) (parent : Option Txn) → step ≡ Initiate t parent → lists (initiated steps) t.0 ≡ false)
     → filter (λ (asker : Pending). live (step ∷ steps) asker.name) (map (asker_after step (Answer reply)) (pending_in tables.locks) ++ new_asker step (Answer reply)) ≡ pending_requests (locks_after step tables)
 unfolding locks_after pending_in initiated initiated_by takes_effect new_asker asker_after

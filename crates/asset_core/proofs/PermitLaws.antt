@@ -10,7 +10,8 @@ use Rattle.asset_names.specs.InSet.{in_set}
 use Rattle.asset_names.specs.Arrows.{lists, has_arrow}
 use Rattle.asset_names.specs.Steps.{initiated, initiated_by}
 use Rattle.asset_names.specs.Endings.{live, end_of, ended_by}
-use Rattle.asset_names.specs.Operations.{has_op, permits, permitted_by}
+use Rattle.asset_names.specs.Operations.{permits, permitted_by}
+use Rattle.asset_names.specs.OpSets.{has_op, OpSet}
 use Rattle.asset_names.specs.Orderly.{IsOrderly}
 use Rattle.asset_names.proofs.LiveLemmas.{live_initiate}
 use Rattle.asset_names.proofs.PermitLemmas.{arrows_permitted}
@@ -20,7 +21,7 @@ use Rattle.asset_permits.specs.Descriptors.{Descriptor, one_covers}
 use Rattle.asset_core.proofs.HistoryLemmas.{live_quiet}
 
 -- one more descriptor covers what it says, and nothing else is covered
-abbrev pub IsAdded : ℕ → ℕ → ObSet → Bool × Bool → List Descriptor → List Descriptor → Type 0
+abbrev pub IsAdded : ℕ → ℕ → ObSet → OpSet → List Descriptor → List Descriptor → Type 0
 IsAdded giver taker obs ops before later =
     (u n x : ℕ) (op : Op) → one_covers later u n x op ≡ (one_covers before u n x op || (eqb u giver && eqb n taker && in_set obs x && has_op ops op))
 
@@ -52,12 +53,12 @@ unfolding permitted
 permitted_end later steps t alive arrows u n x op = rw (alive u, alive n, arrows x op, eqb-flip u t, eqb-flip n t) (grind arith)
 
 -- a permit ends nobody
-pub permit_ends : (giver taker : Txn) (obs : ObSet) (ops : Bool × Bool) (steps : List Step) (n : ℕ) → end_of (Permit giver taker obs ops ∷ steps) n ≡ end_of steps n
+pub permit_ends : (giver taker : Txn) (obs : ObSet) (ops : OpSet) (steps : List Step) (n : ℕ) → end_of (Permit giver taker obs ops ∷ steps) n ≡ end_of steps n
 unfolding end_of ended_by
 permit_ends giver taker obs ops steps n = option_or_none (end_of steps n)
 
 -- one more permit between live names
-pub permitted_permit : (giver taker : Txn) (obs : ObSet) (ops : Bool × Bool) (steps : List Step) → live steps giver.0 ≡ true → live steps taker.0 ≡ true
+pub permitted_permit : (giver taker : Txn) (obs : ObSet) (ops : OpSet) (steps : List Step) → live steps giver.0 ≡ true → live steps taker.0 ≡ true
     → (u n x : ℕ) (op : Op) → permitted (Permit giver taker obs ops ∷ steps) u n x op ≡ (permitted steps u n x op || (eqb u giver.0 && eqb n taker.0 && in_set obs x && has_op ops op))
 unfolding permitted initiated initiated_by
 permitted_permit giver taker obs ops steps gives takes u n x op =

@@ -20,11 +20,12 @@ use Rattle.asset_names.proofs.LiveLemmas.{live_by_status, live_parts}
 use Rattle.asset_locks.specs.Valid.{lock_table}
 use Rattle.asset_locks.specs.LockTable as Locks
 use Rattle.asset_core.specs.declared.tables.Tables.{Tables}
-use Rattle.asset_core.specs.Tables.{Stand, IsReady, MayWait, IsAtWork, is_free_for}
+use Rattle.asset_core.specs.Tables.{values_of, IsReady, MayWait, IsAtWork, is_free_for}
 use Rattle.asset_core.proofs.TransLaws.{row_absent}
 use Rattle.asset_core.proofs.HistoryLemmas.{lists_reverse}
 use Rattle.asset_core.proofs.ShowsLemmas.{free_shown, live_shown}
 use Rattle.asset_core.proofs.TableLemmas.{object_exists, read_unrefused, write_unrefused}
+use Rattle.asset_core.specs.Shows.{Shows}
 
 -- what is listed of the names that pass
 lists_filter : (p : ℕ → Bool) (names : List ℕ) (t : ℕ) → lists (filter p names) t ≡ (p t && lists names t)
@@ -49,7 +50,7 @@ enrolled_named (who ∷ everyone) t = go (eqb who.name t) (enrolled_named everyo
   go false ih = ih
 
 -- who is enrolled is live, and the other way
-pub enrolled_live : (opening : Opening) (steps : List Step) (tables : Tables) (t : ℕ) → Stand opening steps tables → is_some (Locks.enrolled_in (lock_table tables.locks) t) ≡ (live steps t && lists (initiated steps) t)
+pub enrolled_live : (opening : Opening) (steps : List Step) (tables : Tables) (t : ℕ) → Shows opening steps (values_of tables) → is_some (Locks.enrolled_in (lock_table tables.locks) t) ≡ (live steps t && lists (initiated steps) t)
 unfolding Locks.enrolled_in Locks.names_in
 enrolled_live opening steps tables t stand =
     enrolled_named (lock_table tables.locks).enrolled t ∙ ap (λ names. lists names t) stand.enrolled ∙ lists_filter (live steps) (reverse (initiated steps)) t ∙ ap (λ b. live steps t && b) (lists_reverse (initiated steps) t)
@@ -77,7 +78,7 @@ initiated_is Status'.Committed a b c = absurd (false≢true (sym b))
 initiated_is Status'.Aborted a b c = absurd (false≢true (sym b))
 
 -- who runs is at work
-at_work : (opening : Opening) (steps : List Step) (tables : Tables) (t : ℕ) → Stand opening steps tables → is_running (status steps t) ≡ true → IsAtWork tables t
+at_work : (opening : Opening) (steps : List Step) (tables : Tables) (t : ℕ) → Shows opening steps (values_of tables) → is_running (status steps t) ≡ true → IsAtWork tables t
 unfolding is_live_status live
 at_work opening steps tables t stand running =
     let runs = running_is (status steps t) running in
@@ -109,7 +110,7 @@ waits_unrefused opening steps step is = go (first_refusal (rules_for opening ste
   go None h = refl
   go (Some refusal) h = cc
 
-pub ready : (opening : Opening) (steps : List Step) (tables : Tables) (step : Step) (reply : Reply) → Stand opening steps tables → answer opening steps step ≡ Answer reply → takes_effect step reply ≡ true → IsReady step tables
+pub ready : (opening : Opening) (steps : List Step) (tables : Tables) (step : Step) (reply : Reply) → Shows opening steps (values_of tables) → answer opening steps step ≡ Answer reply → takes_effect step reply ≡ true → IsReady step tables
 unfolding rules_for unknown ended begun_before unrefused is_free_for
 ready opening steps tables (Initiate t parent) reply stand is carried =
     let new = initiate_new opening steps t parent reply is carried in
@@ -138,7 +139,7 @@ ready opening steps tables (Commit t) reply stand is carried = tt
 ready opening steps tables (Abort t) reply stand is carried = tt
 ready opening steps tables (WaitFor t) reply stand is carried = tt
 
-pub may_wait : (opening : Opening) (steps : List Step) (tables : Tables) (step : Step) → Stand opening steps tables → answer opening steps step ≡ Wait → MayWait step tables
+pub may_wait : (opening : Opening) (steps : List Step) (tables : Tables) (step : Step) → Shows opening steps (values_of tables) → answer opening steps step ≡ Wait → MayWait step tables
 unfolding unrefused is_free_for
 may_wait opening steps tables (Read t x) stand is =
     let none = waits_unrefused opening steps (Read t x) is in

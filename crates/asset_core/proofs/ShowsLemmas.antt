@@ -15,6 +15,7 @@ use Rattle.asset_names.specs.Arrows.{lists}
 use Rattle.asset_names.specs.Steps.{Opening, initiated, initiated_by, begun, begun_by, completed, completed_by, parent_of, parent_by}
 use Rattle.asset_names.specs.Endings.{live, end_of, status, status_of, is_live_status}
 use Rattle.asset_names.specs.Operations.{operations, operated, op_of, holds, permits, permitted_by, allows, free, exists, value, value_if_any}
+use Rattle.asset_names.specs.OpSets.{OpSet}
 use Rattle.asset_names.specs.Operations.Use.{reads, writes}
 use Rattle.asset_names.specs.Answers.{is_unknown}
 use Rattle.asset_names.specs.Room.{owed, owed_to}
@@ -30,7 +31,7 @@ use Rattle.asset_objects.specs.Cells.{Cell, Cells, opened, shown, value_in, writ
 use Rattle.asset_locks.specs.Valid.{HaveOwners}
 use Rattle.asset_locks.specs.LockTable as Locks
 use Rattle.asset_trans.specs.TransRows.{NamedTransRow, names_of, row_in, status_in, status_or_unknown, parent_in, parent_or_none, initiate_in, set_in, owed_in}
-use Rattle.asset_core.specs.Shows.{Shows, cell_of, cell_after, permitted}
+use Rattle.asset_core.specs.Shows.{Shows, cell_of, cell_after, permitted, table_values}
 use Rattle.asset_permits.proofs.ArrowLaws.{arrows_stand}
 use Rattle.asset_core.specs.PermitChanges.{IsDropped}
 use Rattle.asset_core.proofs.PermitLaws.{IsAdded, permitted_quiet, permitted_initiate, permitted_end, permitted_permit, permit_ends}
@@ -69,8 +70,8 @@ unfolding change_each
 changed_each change one other x same = rw same
 
 -- an initiate
-pub initiate_shows : (opening : Opening) (steps : List Step) (rows : List NamedTransRow) (objects : Cells) (table : Locks.LockTable) (descriptors : List Descriptor) (t : Txn) (parent : Option Txn) → Shows opening steps rows objects table descriptors
-    → IsOrderly steps → lists (initiated steps) t.0 ≡ false → Shows opening (Initiate t parent ∷ steps) (initiate_in rows t parent) objects (Locks.enrol_in t.0 table) descriptors
+pub initiate_shows : (opening : Opening) (steps : List Step) (rows : List NamedTransRow) (objects : Cells) (table : Locks.LockTable) (descriptors : List Descriptor) (t : Txn) (parent : Option Txn) → Shows opening steps (table_values rows objects table descriptors)
+    → IsOrderly steps → lists (initiated steps) t.0 ≡ false → Shows opening (Initiate t parent ∷ steps) (table_values (initiate_in rows t parent) objects (Locks.enrol_in t.0 table) descriptors)
 unfolding initiated initiated_by parent_of parent_by
 initiate_shows opening steps rows objects table descriptors t parent shows orderly new = record {
   names = names_initiate rows t parent ∙ rw (shows.names, reverse-cons (initiated steps) t.0);
@@ -85,8 +86,8 @@ initiate_shows opening steps rows objects table descriptors t parent shows order
   absent = row_absent rows t.0 (rw (shows.names, lists_reverse (initiated steps) t.0) new)
 
 -- a begin
-pub begin_shows : (opening : Opening) (steps : List Step) (rows : List NamedTransRow) (objects : Cells) (table : Locks.LockTable) (descriptors : List Descriptor) (t : Txn) → Shows opening steps rows objects table descriptors
-    → status steps t.0 ≡ Status'.Initiated → Shows opening (Begin t ∷ steps) (set_in (is_name t.0) Status'.Running rows) objects table descriptors
+pub begin_shows : (opening : Opening) (steps : List Step) (rows : List NamedTransRow) (objects : Cells) (table : Locks.LockTable) (descriptors : List Descriptor) (t : Txn) → Shows opening steps (table_values rows objects table descriptors)
+    → status steps t.0 ≡ Status'.Initiated → Shows opening (Begin t ∷ steps) (table_values (set_in (is_name t.0) Status'.Running rows) objects table descriptors)
 unfolding initiated initiated_by parent_of parent_by is_unknown permits permitted_by
 begin_shows opening steps rows objects table descriptors t shows before = record {
   names = names_set (is_name t.0) Status'.Running rows ∙ shows.names;
@@ -99,8 +100,8 @@ begin_shows opening steps rows objects table descriptors t shows before = record
 }
 
 -- a complete
-pub complete_shows : (opening : Opening) (steps : List Step) (rows : List NamedTransRow) (objects : Cells) (table : Locks.LockTable) (descriptors : List Descriptor) (t : Txn) → Shows opening steps rows objects table descriptors
-    → status steps t.0 ≡ Status'.Running → Shows opening (Complete t ∷ steps) (set_in (is_name t.0) Status'.Completed rows) objects table descriptors
+pub complete_shows : (opening : Opening) (steps : List Step) (rows : List NamedTransRow) (objects : Cells) (table : Locks.LockTable) (descriptors : List Descriptor) (t : Txn) → Shows opening steps (table_values rows objects table descriptors)
+    → status steps t.0 ≡ Status'.Running → Shows opening (Complete t ∷ steps) (table_values (set_in (is_name t.0) Status'.Completed rows) objects table descriptors)
 unfolding initiated initiated_by parent_of parent_by is_unknown permits permitted_by
 complete_shows opening steps rows objects table descriptors t shows before = record {
   names = names_set (is_name t.0) Status'.Completed rows ∙ shows.names;
@@ -119,8 +120,8 @@ unfolding status
 status_quiet step steps i b c ends n = rw (i, b, c, ends n)
 
 -- a read
-pub read_shows : (opening : Opening) (steps : List Step) (rows : List NamedTransRow) (objects : Cells) (table : Locks.LockTable) (descriptors : List Descriptor) (t : Txn) (y : Ob) → Shows opening steps rows objects table descriptors
-    → live steps t.0 ≡ true → HaveOwners (table.locks_on y.0) → Shows opening (Read t y ∷ steps) rows objects (Locks.grant_in t.0 y Op'.Read table) descriptors
+pub read_shows : (opening : Opening) (steps : List Step) (rows : List NamedTransRow) (objects : Cells) (table : Locks.LockTable) (descriptors : List Descriptor) (t : Txn) (y : Ob) → Shows opening steps (table_values rows objects table descriptors)
+    → live steps t.0 ≡ true → HaveOwners (table.locks_on y.0) → Shows opening (Read t y ∷ steps) (table_values rows objects (Locks.grant_in t.0 y Op'.Read table) descriptors)
 unfolding initiated initiated_by begun begun_by completed completed_by parent_of parent_by operations operated op_of permits permitted_by
 read_shows opening steps rows objects table descriptors t y shows alive different = record {
   names = shows.names;
@@ -133,8 +134,8 @@ read_shows opening steps rows objects table descriptors t y shows alive differen
 }
 
 -- a write
-pub write_shows : (opening : Opening) (steps : List Step) (rows : List NamedTransRow) (objects : Cells) (table : Locks.LockTable) (descriptors : List Descriptor) (t : Txn) (y : Ob) (v : ℤ) → Shows opening steps rows objects table descriptors
-    → live steps t.0 ≡ true → HaveOwners (table.locks_on y.0) → Shows opening (Write t y v ∷ steps) rows (change_at y.0 (written t.0 v) objects) (Locks.grant_in t.0 y Op'.Write table) descriptors
+pub write_shows : (opening : Opening) (steps : List Step) (rows : List NamedTransRow) (objects : Cells) (table : Locks.LockTable) (descriptors : List Descriptor) (t : Txn) (y : Ob) (v : ℤ) → Shows opening steps (table_values rows objects table descriptors)
+    → live steps t.0 ≡ true → HaveOwners (table.locks_on y.0) → Shows opening (Write t y v ∷ steps) (table_values rows (change_at y.0 (written t.0 v) objects) (Locks.grant_in t.0 y Op'.Write table) descriptors)
 unfolding initiated initiated_by begun begun_by completed completed_by parent_of parent_by operations operated op_of permits permitted_by
 write_shows opening steps rows objects table descriptors t y v shows alive different = record {
   names = shows.names;
@@ -159,8 +160,8 @@ live_known rows steps t is alive = go (status_in rows t) (ap is_live_status is �
   go Status'.Aborted h = refl
 
 -- a commit of a live name
-pub commit_shows : (opening : Opening) (steps : List Step) (rows : List NamedTransRow) (objects : Cells) (table : Locks.LockTable) (descriptors : List Descriptor) (t : Txn) → Shows opening steps rows objects table descriptors
-    → live steps t.0 ≡ true → (later : List Descriptor) → IsDropped t.0 descriptors later → Shows opening (Commit t ∷ steps) (set_in (is_name t.0) Status'.Committed rows) (change_each (settled (is_name t.0)) objects) (Locks.release_in (is_name t.0) table) later
+pub commit_shows : (opening : Opening) (steps : List Step) (rows : List NamedTransRow) (objects : Cells) (table : Locks.LockTable) (descriptors : List Descriptor) (t : Txn) → Shows opening steps (table_values rows objects table descriptors)
+    → live steps t.0 ≡ true → (later : List Descriptor) → IsDropped t.0 descriptors later → Shows opening (Commit t ∷ steps) (table_values (set_in (is_name t.0) Status'.Committed rows) (change_each (settled (is_name t.0)) objects) (Locks.release_in (is_name t.0) table) later)
 unfolding initiated initiated_by parent_of parent_by operations operated permits permitted_by
 commit_shows opening steps rows objects table descriptors t shows alive later dropped = record {
   names = names_set (is_name t.0) Status'.Committed rows ∙ shows.names;
@@ -173,8 +174,8 @@ commit_shows opening steps rows objects table descriptors t shows alive later dr
 }
 
 -- an abort of a live name
-pub abort_shows : (opening : Opening) (steps : List Step) (rows : List NamedTransRow) (objects : Cells) (table : Locks.LockTable) (descriptors : List Descriptor) (t : Txn) → Shows opening steps rows objects table descriptors
-    → live steps t.0 ≡ true → (later : List Descriptor) → IsDropped t.0 descriptors later → Shows opening (Abort t ∷ steps) (set_in (is_name t.0) Status'.Aborted rows) (change_each (undone (is_name t.0)) objects) (Locks.release_in (is_name t.0) table) later
+pub abort_shows : (opening : Opening) (steps : List Step) (rows : List NamedTransRow) (objects : Cells) (table : Locks.LockTable) (descriptors : List Descriptor) (t : Txn) → Shows opening steps (table_values rows objects table descriptors)
+    → live steps t.0 ≡ true → (later : List Descriptor) → IsDropped t.0 descriptors later → Shows opening (Abort t ∷ steps) (table_values (set_in (is_name t.0) Status'.Aborted rows) (change_each (undone (is_name t.0)) objects) (Locks.release_in (is_name t.0) table) later)
 unfolding initiated initiated_by parent_of parent_by operations operated permits permitted_by
 abort_shows opening steps rows objects table descriptors t shows alive later dropped = record {
   names = names_set (is_name t.0) Status'.Aborted rows ∙ shows.names;
@@ -187,9 +188,9 @@ abort_shows opening steps rows objects table descriptors t shows alive later dro
 }
 
 -- an end of a name that has ended changes nothing
-quiet_shows : (opening : Opening) (step : Step) (steps : List Step) (rows : List NamedTransRow) (objects : Cells) (table : Locks.LockTable) (descriptors : List Descriptor) → Shows opening steps rows objects table descriptors
+quiet_shows : (opening : Opening) (step : Step) (steps : List Step) (rows : List NamedTransRow) (objects : Cells) (table : Locks.LockTable) (descriptors : List Descriptor) → Shows opening steps (table_values rows objects table descriptors)
     → begun (step ∷ steps) ≡ begun steps → completed (step ∷ steps) ≡ completed steps → ((n : ℕ) → parent_of (step ∷ steps) n ≡ parent_of steps n)
-    → IsQuiet (step ∷ steps) steps → Shows opening (step ∷ steps) rows objects table descriptors
+    → IsQuiet (step ∷ steps) steps → Shows opening (step ∷ steps) (table_values rows objects table descriptors)
 quiet_shows opening step steps rows objects table descriptors shows b c p quiet = record {
   names = shows.names ∙ ap reverse (sym quiet.names);
   statuses = λ n. shows.statuses n ∙ sym (status_quiet step steps quiet.names b c quiet.ends n);
@@ -200,21 +201,21 @@ quiet_shows opening step steps rows objects table descriptors shows b c p quiet 
   permits_stand = λ u n x op. shows.permits_stand u n x op ∙ sym (permitted_quiet (step ∷ steps) steps quiet.names quiet.ends quiet.arrows u n x op);
 }
 
-pub commit_again_shows : (opening : Opening) (steps : List Step) (rows : List NamedTransRow) (objects : Cells) (table : Locks.LockTable) (descriptors : List Descriptor) (t : Txn) → Shows opening steps rows objects table descriptors
-    → live steps t.0 ≡ false → Shows opening (Commit t ∷ steps) rows objects table descriptors
+pub commit_again_shows : (opening : Opening) (steps : List Step) (rows : List NamedTransRow) (objects : Cells) (table : Locks.LockTable) (descriptors : List Descriptor) (t : Txn) → Shows opening steps (table_values rows objects table descriptors)
+    → live steps t.0 ≡ false → Shows opening (Commit t ∷ steps) (table_values rows objects table descriptors)
 unfolding initiated initiated_by begun begun_by completed completed_by parent_of parent_by operations operated permits permitted_by
 commit_again_shows opening steps rows objects table descriptors t shows dead =
     quiet_shows opening (Commit t) steps rows objects table descriptors shows refl refl (λ n. refl) (record { names = refl; applied = refl; arrows = λ x op. refl; ends = λ n. end_commit_again t steps n dead })
 
-pub abort_again_shows : (opening : Opening) (steps : List Step) (rows : List NamedTransRow) (objects : Cells) (table : Locks.LockTable) (descriptors : List Descriptor) (t : Txn) → Shows opening steps rows objects table descriptors
-    → live steps t.0 ≡ false → Shows opening (Abort t ∷ steps) rows objects table descriptors
+pub abort_again_shows : (opening : Opening) (steps : List Step) (rows : List NamedTransRow) (objects : Cells) (table : Locks.LockTable) (descriptors : List Descriptor) (t : Txn) → Shows opening steps (table_values rows objects table descriptors)
+    → live steps t.0 ≡ false → Shows opening (Abort t ∷ steps) (table_values rows objects table descriptors)
 unfolding initiated initiated_by begun begun_by completed completed_by parent_of parent_by operations operated permits permitted_by
 abort_again_shows opening steps rows objects table descriptors t shows dead =
     quiet_shows opening (Abort t) steps rows objects table descriptors shows refl refl (λ n. refl) (record { names = refl; applied = refl; arrows = λ x op. refl; ends = λ n. end_abort_again t steps n dead })
 
 -- a permit
-pub permit_shows : (opening : Opening) (steps : List Step) (rows : List NamedTransRow) (objects : Cells) (table : Locks.LockTable) (descriptors : List Descriptor) (giver taker : Txn) (obs : ObSet) (ops : Bool × Bool) → Shows opening steps rows objects table descriptors
-    → live steps giver.0 ≡ true → live steps taker.0 ≡ true → (later : List Descriptor) → IsAdded giver.0 taker.0 obs ops descriptors later → Shows opening (Permit giver taker obs ops ∷ steps) rows objects table later
+pub permit_shows : (opening : Opening) (steps : List Step) (rows : List NamedTransRow) (objects : Cells) (table : Locks.LockTable) (descriptors : List Descriptor) (giver taker : Txn) (obs : ObSet) (ops : OpSet) → Shows opening steps (table_values rows objects table descriptors)
+    → live steps giver.0 ≡ true → live steps taker.0 ≡ true → (later : List Descriptor) → IsAdded giver.0 taker.0 obs ops descriptors later → Shows opening (Permit giver taker obs ops ∷ steps) (table_values rows objects table later)
 unfolding initiated initiated_by begun begun_by completed completed_by parent_of parent_by operations operated
 permit_shows opening steps rows objects table descriptors giver taker obs ops shows gives takes later added = record {
   names = shows.names;
@@ -233,14 +234,14 @@ both_follow false false there back = refl
 both_follow false true there back = back refl
 
 -- who allows whom by the descriptors does by the history
-pub allows_shown : (opening : Opening) (steps : List Step) (rows : List NamedTransRow) (objects : Cells) (table : Locks.LockTable) (descriptors : List Descriptor) (u t x : ℕ) (op : Op) → Shows opening steps rows objects table descriptors
+pub allows_shown : (opening : Opening) (steps : List Step) (rows : List NamedTransRow) (objects : Cells) (table : Locks.LockTable) (descriptors : List Descriptor) (u t x : ℕ) (op : Op) → Shows opening steps (table_values rows objects table descriptors)
     → allows_by descriptors u t x op ≡ allows steps u t x op
 unfolding allows_by permitted
 allows_shown opening steps rows objects table descriptors u t x op shows =
     allows_linked steps x op (arrows_for descriptors x op) (λ m n. arrows_stand descriptors m n x op ∙ shows.permits_stand m n x op) u t
 
 -- who is free by the tables is free by the history
-pub free_shown : (opening : Opening) (steps : List Step) (rows : List NamedTransRow) (objects : Cells) (table : Locks.LockTable) (descriptors : List Descriptor) (t x : ℕ) (op : Op) → Shows opening steps rows objects table descriptors
+pub free_shown : (opening : Opening) (steps : List Step) (rows : List NamedTransRow) (objects : Cells) (table : Locks.LockTable) (descriptors : List Descriptor) (t x : ℕ) (op : Op) → Shows opening steps (table_values rows objects table descriptors)
     → Locks.is_free_in table (λ u. allows_by descriptors u t x op) t x op ≡ free steps t x op
 free_shown opening steps rows objects table descriptors t x op shows = both_follow _ _
     (λ is_free. allowed_free steps t x op (λ u other held conflicts apart. sym (alike u) ∙ free_by_locks table _ t x op is_free u other (shows.locks u x other ∙ held) conflicts apart))
@@ -249,7 +250,7 @@ free_shown opening steps rows objects table descriptors t x op shows = both_foll
       alike u = allows_shown opening steps rows objects table descriptors u t x op shows
 
 -- the value that the tables show is that of the history
-pub value_of_tables : (opening : Opening) (steps : List Step) (rows : List NamedTransRow) (objects : Cells) (table : Locks.LockTable) (descriptors : List Descriptor) (x : ℕ) → Shows opening steps rows objects table descriptors
+pub value_of_tables : (opening : Opening) (steps : List Step) (rows : List NamedTransRow) (objects : Cells) (table : Locks.LockTable) (descriptors : List Descriptor) (x : ℕ) → Shows opening steps (table_values rows objects table descriptors)
     → value_in objects x ≡ value_if_any opening steps x
 unfolding value_in
 value_of_tables opening steps rows objects table descriptors x shows = ap (option_map shown) (shows.cells x) ∙ value_shown opening steps x
@@ -271,7 +272,7 @@ sum_by_reverse f [] = refl
 sum_by_reverse f (n ∷ names) = rw (reverse-cons names n) (omega (arith, sum_by_push f (reverse names) n, sum_by_reverse f names, sum_by-cons f n names))
 
 -- what the table says is owed is owed
-pub owed_shown : (opening : Opening) (steps : List Step) (rows : List NamedTransRow) (objects : Cells) (table : Locks.LockTable) (descriptors : List Descriptor) → Shows opening steps rows objects table descriptors → IsOrderly steps → owed_in rows ≡ owed steps
+pub owed_shown : (opening : Opening) (steps : List Step) (rows : List NamedTransRow) (objects : Cells) (table : Locks.LockTable) (descriptors : List Descriptor) → Shows opening steps (table_values rows objects table descriptors) → IsOrderly steps → owed_in rows ≡ owed steps
 unfolding owed
 owed_shown opening steps rows objects table descriptors shows orderly =
     let names = reverse (initiated steps) in
@@ -280,7 +281,7 @@ owed_shown opening steps rows objects table descriptors shows orderly =
     ∙ rw shows.names (sum_by_reverse (λ n. owed_to (status steps n)) (initiated steps))
 
 -- which objects exist, by the tables
-pub exists_shown : (opening : Opening) (steps : List Step) (rows : List NamedTransRow) (objects : Cells) (table : Locks.LockTable) (descriptors : List Descriptor) (x : ℕ) → Shows opening steps rows objects table descriptors
+pub exists_shown : (opening : Opening) (steps : List Step) (rows : List NamedTransRow) (objects : Cells) (table : Locks.LockTable) (descriptors : List Descriptor) (x : ℕ) → Shows opening steps (table_values rows objects table descriptors)
     → is_some (value_in objects x) ≡ exists opening x
 unfolding value_if_any
 exists_shown opening steps rows objects table descriptors x shows = ap is_some (value_of_tables opening steps rows objects table descriptors x shows) ∙ go (exists opening x) where
@@ -289,7 +290,7 @@ exists_shown opening steps rows objects table descriptors x shows = ap is_some (
   go false = refl
 
 -- the tables of an opening, before the first step
-pub opened_shows : (opening : Opening) → Shows opening [] [] (opened opening) Locks.no_locks []
+pub opened_shows : (opening : Opening) → Shows opening [] (table_values [] (opened opening) Locks.no_locks [])
 unfolding one_covers permitted names_of initiated status_in row_in status_or_unknown parent_in parent_or_none parent_of opened cell_of cell_after operations Locks.names_in Locks.no_locks Locks.carries holds live end_of lists status status_of begun completed
 opened_shows opening = record {
   names = refl;
@@ -302,27 +303,27 @@ opened_shows opening = record {
 }
 
 -- a name without a row was not initiated
-pub new_name : (opening : Opening) (steps : List Step) (rows : List NamedTransRow) (objects : Cells) (table : Locks.LockTable) (descriptors : List Descriptor) (t : ℕ) → Shows opening steps rows objects table descriptors → row_in rows t ≡ None → lists (initiated steps) t ≡ false
+pub new_name : (opening : Opening) (steps : List Step) (rows : List NamedTransRow) (objects : Cells) (table : Locks.LockTable) (descriptors : List Descriptor) (t : ℕ) → Shows opening steps (table_values rows objects table descriptors) → row_in rows t ≡ None → lists (initiated steps) t ≡ false
 new_name opening steps rows objects table descriptors t shows none =
     sym (lists_reverse (initiated steps) t) ∙ ap (λ names. lists names t) (sym shows.names) ∙ sym (row_named rows t) ∙ ap is_some none
 
 -- who runs by the table is live
-pub running_live : (opening : Opening) (steps : List Step) (rows : List NamedTransRow) (objects : Cells) (table : Locks.LockTable) (descriptors : List Descriptor) (t : ℕ) → Shows opening steps rows objects table descriptors → status_in rows t ≡ Status'.Running → live steps t ≡ true
+pub running_live : (opening : Opening) (steps : List Step) (rows : List NamedTransRow) (objects : Cells) (table : Locks.LockTable) (descriptors : List Descriptor) (t : ℕ) → Shows opening steps (table_values rows objects table descriptors) → status_in rows t ≡ Status'.Running → live steps t ≡ true
 unfolding is_live_status
 running_live opening steps rows objects table descriptors t shows runs = live_by_status steps t ∙ ap is_live_status (sym (shows.statuses t) ∙ runs)
 
 -- who is live by the table is live
-pub live_shown : (opening : Opening) (steps : List Step) (rows : List NamedTransRow) (objects : Cells) (table : Locks.LockTable) (descriptors : List Descriptor) (t : ℕ) → Shows opening steps rows objects table descriptors → is_live_status (status_in rows t) ≡ live steps t
+pub live_shown : (opening : Opening) (steps : List Step) (rows : List NamedTransRow) (objects : Cells) (table : Locks.LockTable) (descriptors : List Descriptor) (t : ℕ) → Shows opening steps (table_values rows objects table descriptors) → is_live_status (status_in rows t) ≡ live steps t
 live_shown opening steps rows objects table descriptors t shows = ap is_live_status (shows.statuses t) ∙ sym (live_by_status steps t)
 
 -- a wait for a name changes nothing
-pub wait_shows : (opening : Opening) (steps : List Step) (rows : List NamedTransRow) (objects : Cells) (table : Locks.LockTable) (descriptors : List Descriptor) (t : Txn) → Shows opening steps rows objects table descriptors → Shows opening (WaitFor t ∷ steps) rows objects table descriptors
+pub wait_shows : (opening : Opening) (steps : List Step) (rows : List NamedTransRow) (objects : Cells) (table : Locks.LockTable) (descriptors : List Descriptor) (t : Txn) → Shows opening steps (table_values rows objects table descriptors) → Shows opening (WaitFor t ∷ steps) (table_values rows objects table descriptors)
 unfolding initiated initiated_by begun begun_by completed completed_by parent_of parent_by operations operated permits permitted_by
 wait_shows opening steps rows objects table descriptors t shows =
     quiet_shows opening (WaitFor t) steps rows objects table descriptors shows refl refl (λ n. refl) (record { names = refl; applied = refl; arrows = λ x op. refl; ends = λ n. wait_ends t steps n })
 
 -- a request that waits changes no lock and no enrolment
-pub waiting_shows : (opening : Opening) (steps : List Step) (rows : List NamedTransRow) (objects : Cells) (table : Locks.LockTable) (descriptors : List Descriptor) (t : ℕ) (x : Ob) (op : Op) → Shows opening steps rows objects table descriptors → Shows opening steps rows objects (Locks.wait_in t x op table) descriptors
+pub waiting_shows : (opening : Opening) (steps : List Step) (rows : List NamedTransRow) (objects : Cells) (table : Locks.LockTable) (descriptors : List Descriptor) (t : ℕ) (x : Ob) (op : Op) → Shows opening steps (table_values rows objects table descriptors) → Shows opening steps (table_values rows objects (Locks.wait_in t x op table) descriptors)
 waiting_shows opening steps rows objects table descriptors t x op shows = record {
   names = shows.names;
   statuses = shows.statuses;

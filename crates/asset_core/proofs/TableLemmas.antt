@@ -19,8 +19,8 @@ use Rattle.asset_locks.specs.Valid.{lock_table}
 use Rattle.asset_locks.specs.LockTable as Locks
 use Rattle.asset_trans.specs.TransRows.{NamedTransRow}
 use Rattle.asset_core.specs.declared.tables.Tables.{Tables}
-use Rattle.asset_core.specs.Shows.{Shows, cell_of, cell_after}
-use Rattle.asset_core.specs.Tables.{Stand, is_free_for, value_or_zero, read_outcome}
+use Rattle.asset_core.specs.Shows.{Shows, cell_of, cell_after, table_values}
+use Rattle.asset_core.specs.Tables.{values_of, is_free_for, value_or_zero, read_outcome}
 use Rattle.asset_core.proofs.ShowsLemmas.{free_shown, value_of_tables}
 
 -- what holds where a call succeeded, of what held there
@@ -46,7 +46,7 @@ always_err (Err e) p = p
 
 -- tables that are as others are stand for what the others do
 pub stand_as : (opening : Opening) (steps : List Step) (later : Tables) (rows : List NamedTransRow) (objects : Cells) (table : Locks.LockTable) (descriptors : List Descriptor) → later.trans ≡ rows → cells later.objects ≡ objects → lock_table later.locks ≡ table
-    → later.permits ≡ descriptors → Shows opening steps rows objects table descriptors → Stand opening steps later
+    → later.permits ≡ descriptors → Shows opening steps (table_values rows objects table descriptors) → Shows opening steps (values_of later)
 stand_as opening steps later rows objects table descriptors r o l p shows = rw (r, o, l, p) shows
 
 -- a step that is not refused finds its object
@@ -91,14 +91,14 @@ unfolding Locks.enrolled_in Locks.release_in Locks.enrol_in
 enrolment_given_back t table none unlocked = λ i. record { enrolled = none_named t table.enrolled none i; locks_on = λ x. none_owned t (table.locks_on x) (unlocked x) i }
 
 -- what a read is answered by the tables, it is by the history
-pub read_answered : (opening : Opening) (steps : List Step) (tables : Tables) (t : Txn) (x : Ob) → Stand opening steps tables → exists opening x.0 ≡ true → read_outcome tables t.0 x.0 ≡ unrefused opening steps (Read t x)
+pub read_answered : (opening : Opening) (steps : List Step) (tables : Tables) (t : Txn) (x : Ob) → Shows opening steps (values_of tables) → exists opening x.0 ≡ true → read_outcome tables t.0 x.0 ≡ unrefused opening steps (Read t x)
 unfolding read_outcome is_free_for value_or_zero unrefused value_if_any
 read_answered opening steps tables t x stand there =
     let shown : value_in (cells tables.objects) x.0 ≡ Some (value opening steps x.0) = value_of_tables opening steps _ _ _ _ x.0 stand ∙ rw there refl in
     rw (free_shown opening steps _ _ _ _ t.0 x.0 Op'.Read stand, shown) refl
 
 -- which objects exist, by the cells
-pub object_exists : (opening : Opening) (steps : List Step) (tables : Tables) (x : ℕ) → Stand opening steps tables → has_object (cells tables.objects) x ≡ exists opening x
+pub object_exists : (opening : Opening) (steps : List Step) (tables : Tables) (x : ℕ) → Shows opening steps (values_of tables) → has_object (cells tables.objects) x ≡ exists opening x
 unfolding has_object cell_of exists
 object_exists opening steps tables x stand = ap is_some (stand.cells x) ∙ go (opening_at opening x) where
   go : (first : Option ℤ) → is_some (option_map (λ v. cell_after (end_of steps) x v (operations steps)) first) ≡ is_some first
@@ -106,7 +106,7 @@ object_exists opening steps tables x stand = ap is_some (stand.cells x) ∙ go (
   go (Some v) = refl
 
 -- the first of some objects that has no cell is the first that does not exist
-pub missing_shown : (opening : Opening) (steps : List Step) (tables : Tables) (objects : List Ob) → Stand opening steps tables
+pub missing_shown : (opening : Opening) (steps : List Step) (tables : Tables) (objects : List Ob) → Shows opening steps (values_of tables)
     → find (λ (x : Ob). not (has_object (cells tables.objects) x.0)) objects ≡ find (λ (x : Ob). not (exists opening x.0)) objects
 missing_shown opening steps tables [] stand = refl
 missing_shown opening steps tables (x ∷ objects) stand = rw (object_exists opening steps tables x.0 stand, missing_shown opening steps tables objects stand) refl

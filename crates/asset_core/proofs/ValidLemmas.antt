@@ -20,9 +20,9 @@ use Rattle.asset_locks.specs.Valid.{lock_table}
 use Rattle.asset_trans.specs.TransRows.{owed_in}
 use Rattle.asset_core.specs.declared.tables.Tables.{Tables}
 use Rattle.asset_core.specs.Recorded.{Recorded}
-use Rattle.asset_core.specs.Shows.{Shows}
+use Rattle.asset_core.specs.Shows.{Shows, table_values}
 use Rattle.asset_core.specs.Pending.{Pending, asker_after, new_asker}
-use Rattle.asset_core.specs.Tables.{Stand, IsValid, locks_after, locks_waiting, pending_in}
+use Rattle.asset_core.specs.Tables.{values_of, IsValid, locks_after, locks_waiting, pending_in}
 use Rattle.asset_core.proofs.ShowsLemmas.{owed_shown, waiting_shows}
 use Rattle.asset_names.proofs.AppliedLemmas.{applied_with_effect, applied_without_effect}
 use Rattle.asset_core.proofs.PendingLemmas.{pending_requests, askers_carried, askers_refused}
@@ -35,7 +35,7 @@ pub valid_owed : (history : Recorded) (tables : Tables) → IsValid history tabl
 valid_owed history tables kept = owed_shown history.opening (applied history.entries) _ _ _ _ kept.stand (valid_orderly history tables kept)
 
 -- the tables stand as they did while a request waits
-pub waiting_stands : (opening : Opening) (steps : List Step) (tables : Tables) (step : Step) → Stand opening steps tables → Shows opening steps tables.trans (cells tables.objects) (locks_waiting step tables) tables.permits
+pub waiting_stands : (opening : Opening) (steps : List Step) (tables : Tables) (step : Step) → Shows opening steps (values_of tables) → Shows opening steps (table_values tables.trans (cells tables.objects) (locks_waiting step tables) tables.permits)
 unfolding locks_waiting
 waiting_stands opening steps tables (Read t x) stand = waiting_shows opening steps _ _ _ _ t.0 x Op'.Read stand
 waiting_stands opening steps tables (Write t x v) stand = waiting_shows opening steps _ _ _ _ t.0 x Op'.Write stand
@@ -66,7 +66,7 @@ new_in : (opening : Opening) (steps : List Step) (step : Step) (reply : Reply) �
 new_in opening steps step reply is carried t parent e = initiate_new opening steps t parent reply (rw e at is) (rw e at carried)
 
 -- the pending requests after an answer
-pub askers_followed : (opening : Opening) (older : List Entry) (tables : Tables) (step : Step) (reply : Reply) → Stand opening (applied older) tables → answer opening (applied older) step ≡ Answer reply
+pub askers_followed : (opening : Opening) (older : List Entry) (tables : Tables) (step : Step) (reply : Reply) → Shows opening (applied older) (values_of tables) → answer opening (applied older) step ≡ Answer reply
     → pending_requests (cond (takes_effect step reply) (locks_after step tables) (lock_table tables.locks))
     ≡ filter (λ (asker : Pending). live (applied ((step, reply) ∷ older)) asker.name) (map (asker_after step (Answer reply)) (pending_in tables.locks) ++ new_asker step (Answer reply))
 unfolding pending_in

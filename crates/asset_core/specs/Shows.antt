@@ -1,4 +1,4 @@
--- How the tables stand for a history.
+-- When the tables show a history.
 use Rattle.std.specs.Prelude.{◌≡◌, ℕ, ℤ, Bool, cond, ◌==◌, ◌&&◌, List, [], ◌∷◌, filter, reverse, Option, Some, None, option_map}
 use Rattle.asset_names.specs.declared.operations.Op.{Op}
 use Rattle.asset_names.specs.declared.statuses.End.{End}
@@ -39,15 +39,25 @@ cell_of opening steps x = option_map (λ first. cell_after (end_of steps) x firs
 unfoldable pub permitted : List Step → ℕ → ℕ → ℕ → Op → Bool
 permitted steps giver taker x op = live steps giver && live steps taker && has_arrow (permits steps x op) giver taker
 
--- The tables stand for the steps that took effect: the transactions are those that were initiated, in
--- order, each with its status and parent; the cell of each object is that of the history; the live ones are
--- enrolled in order of initiation; a lock carries an operation exactly where its owner holds the object by it; and
--- a descriptor covers an operation on an object exactly where a permit between live names lets it be done.
-pub record Shows (opening : Opening) (steps : List Step) (rows : List NamedTransRow) (objects : Cells) (table : Locks.LockTable) (descriptors : List Descriptor) : Type 0 where
-  pub names : names_of rows ≡ reverse (initiated steps)
-  pub statuses : (t : ℕ) → status_in rows t ≡ status steps t
-  pub parents : (t : ℕ) → parent_in rows t ≡ parent_of steps t
-  pub cells : (x : ℕ) → objects x ≡ cell_of opening steps x
-  pub enrolled : Locks.names_in table ≡ filter (live steps) (reverse (initiated steps))
-  pub locks : (t x : ℕ) (op : Op) → Locks.carries table t x op ≡ holds steps t x op
-  pub permits_stand : (u t x : ℕ) (op : Op) → one_covers descriptors u t x op ≡ permitted steps u t x op
+-- what the tables hold: the rows of the transactions, the cell of each object, the locks, and the permits
+pub record TableValues : Type 0 where
+  pub rows : List NamedTransRow
+  pub objects : Cells
+  pub locks : Locks.LockTable
+  pub permits : List Descriptor
+
+abbrev pub table_values : List NamedTransRow → Cells → Locks.LockTable → List Descriptor → TableValues
+table_values rows objects locks permits = record { rows = rows; objects = objects; locks = locks; permits = permits }
+
+-- The tables show the history of the steps that took effect: the transactions are those that were initiated, in order,
+-- each with its status and parent; the cell of each object is that of the history; the live ones are enrolled in order
+-- of initiation; a lock carries an operation exactly where its owner holds the object by it; and a descriptor covers an
+-- operation on an object exactly where a permit between live transactions lets it be done.
+pub record Shows (opening : Opening) (steps : List Step) (tables : TableValues) : Type 0 where
+  pub names : names_of tables.rows ≡ reverse (initiated steps)
+  pub statuses : (t : ℕ) → status_in tables.rows t ≡ status steps t
+  pub parents : (t : ℕ) → parent_in tables.rows t ≡ parent_of steps t
+  pub cells : (x : ℕ) → tables.objects x ≡ cell_of opening steps x
+  pub enrolled : Locks.names_in tables.locks ≡ filter (live steps) (reverse (initiated steps))
+  pub locks : (t x : ℕ) (op : Op) → Locks.carries tables.locks t x op ≡ holds steps t x op
+  pub permits_stand : (u t x : ℕ) (op : Op) → one_covers tables.permits u t x op ≡ permitted steps u t x op

@@ -8,7 +8,7 @@ use Rattle.asset_names.specs.declared.steps.Step.TheVariants.{Initiate, Begin, R
 use Rattle.asset_names.specs.declared.replies.Reply.TheVariants as Reply'
 use Rattle.asset_names.specs.declared.replies.Outcome.{Outcome}
 use Rattle.asset_names.specs.declared.replies.Outcome.TheVariants.{Answer, Wait}
-use Rattle.asset_names.specs.Steps.{Opening, applied}
+use Rattle.asset_names.specs.Steps.{applied}
 use Rattle.asset_names.specs.Endings.{is_live_status}
 use Rattle.asset_names.specs.Answers.{IsLegal}
 use Rattle.asset_names.specs.Room.{owed}
@@ -20,11 +20,11 @@ use Rattle.asset_trans.specs.TransRows.{row_in, status_in}
 use Rattle.asset_core.specs.declared.tables.Tables.{Tables}
 use Rattle.asset_core.specs.Recorded.{Recorded}
 use Rattle.asset_core.specs.Pending.{Pending}
-use Rattle.asset_core.specs.Shows.{Shows}
+use Rattle.asset_core.specs.Shows.{TableValues, table_values, Shows}
 
--- the tables stand for the steps that took effect
-abbrev pub Stand : Opening → List Step → Tables → Type 0
-Stand opening steps tables = Shows opening steps tables.trans (cells tables.objects) (lock_table tables.locks) tables.permits
+-- what the tables hold
+abbrev pub values_of : Tables → TableValues
+values_of tables = table_values tables.trans (cells tables.objects) (lock_table tables.locks) tables.permits
 
 -- the object is free by the locks
 unfoldable pub is_free_for : Tables → ℕ → ℕ → Op → Bool
@@ -107,7 +107,7 @@ pending_in kept = map asker_of (lock_table kept).enrolled
 -- how the facility is kept: the tables stand for its history, which is legal, and the entries that are owed fit
 -- with those that are there
 pub record IsValid (history : Recorded) (tables : Tables) : Type 0 where
-  pub stand : Stand history.opening (applied history.entries) tables
+  pub stand : Shows history.opening (applied history.entries) (values_of tables)
   pub legal : IsLegal history.opening history.entries
   pub fitting : length history.entries + owed (applied history.entries) ≤ history.capacity
   pub capacity : history.capacity ≤ 1000000

@@ -1,14 +1,25 @@
 //! The facility for one caller.
 
+ghost use Rattle.std.specs.Prelude.{◌≡◌};
+ghost use Rattle.asset_names.specs.Room.{initiates};
+
 use crate::history::{History, OpenFault};
 use crate::tables::Tables;
-use asset_names::{Fault, Ob, Op, Outcome, Reply, Status, Step, Txn, takes_effect};
+use asset_names::{Fault, NoMemory, Ob, Op, Outcome, Reply, Status, Step, Txn, takes_effect};
 use asset_objects::ObjectsFault;
 use std::alloc::Global;
 use std::marker::Model;
 
 /// The most entries that a history has room for.
 const MOST: usize = 1_000_000;
+
+/// Returns whether the step initiates a transaction.
+#[tactic(auto, unfolding(asset_names::specs::Room::initiates))]
+fn initiates(step: &Step) -> bool
+    ensures { result ≡ initiates step.now }
+{
+    matches!(step, Step::Initiate { .. })
+}
 
 /// A history, which grows by one answered step at a time, and the tables that stand for it. Contracts see
 /// the history, and the pending request of each live name.
@@ -30,20 +41,25 @@ impl Model for Core {
 }
 
 impl Core {
-    ghost use Rattle.std.specs.Prelude.{◌≡◌, ◌≢◌, ◌+◌, ◌<◌, ◌≤◌, ◌↔◌, ◌⊎◌, ◌∷◌, true, false, map, length, slice_get, IfOk, IfErr, OnOk, OnErr, IsOk, Err, IsErrOf};
+    ghost use Rattle.std.specs.Prelude.{◌≡◌, ◌≢◌, ◌+◌, ◌<◌, ◌≤◌, ◌↔◌, ◌⊎◌, [], ◌∷◌, true, false, map, length, slice_get, IfOk, IfErr, OnOk, OnErr, IsOk, Err, IsErrOf};
     ghost use Rattle.asset_names.specs.Steps.{takes_effect, applied};
-    ghost use Rattle.asset_names.specs.Endings.{status};
+    ghost use Rattle.asset_names.specs.Endings.{live, status};
     ghost use Rattle.asset_names.specs.Operations.{value_if_any};
     ghost use Rattle.asset_names.specs.declared.replies.Outcome.TheVariants.{Answer, Wait as Waits};
-    ghost use Rattle.asset_names.specs.Room.{owed, fits};
+    ghost use Rattle.asset_names.specs.Room.{initiates, owed, fits, changes_status};
     ghost use Rattle.asset_names.specs.Answers.{takes_memory, outcome_takes_effect};
-    ghost use Rattle.asset_core.specs.Recorded.{answer_to, after, with_entry, has_room, is_ending};
+    ghost use Rattle.asset_core.specs.Recorded.{objects_of, answer_to, after, with_entry, has_room, is_ending};
     ghost use Rattle.asset_core.specs.Pending.{facility_of, pending_after, waiting_for};
-    ghost use Rattle.asset_core.specs.OpenFaults.{MayOpen, IsOpenFault};
+    ghost use Rattle.asset_names.specs.Sets.{HasNoDouble};
+    ghost use Rattle.asset_core.specs.OpenFaults.{IsCapacity, MayOpen, IsOpenFault};
+    ghost use Rattle.asset_core.specs.Shows.{Shows};
+    ghost use Rattle.asset_core.specs.Tables.{values_of, pending_in};
 
-    /// Opens the facility over these objects with their values, with room for so many entries. It is
-    /// refused where the capacity is not from 1 to 1,000,000; else where an object is given twice,
-    /// with the least such object; else where memory runs out.
+    /// Opens the facility over these objects with their values, with room for `capacity` entries.
+    ///
+    /// It answers `BadCapacity` unless the capacity is from 1 to 1,000,000; otherwise `DoubleObject` with the least
+    /// object that is given twice; otherwise `NoMemory` if memory runs out. To name that object it compares each pair
+    /// of objects, also when memory ran out: `open_distinct` does not.
     pub fn open(alloc: Global, opening: &[(Ob, i64)], capacity: usize) -> Result<Core, OpenFault>
         ensures opened { IfOk result (λ core. core ≡ facility_of opening.now capacity) }
         ensures may { OnOk result (MayOpen opening.now capacity) }
@@ -57,12 +73,45 @@ impl Core {
             Err(ObjectsFault::DoubleObject(x)) => return Err(OpenFault::DoubleObject(x)),
             Err(ObjectsFault::NoMemory) => return Err(OpenFault::NoMemory),
         };
+        match Core::over(alloc, opening, capacity, tables) {
+            Ok(core) => Ok(core),
+            Err(NoMemory) => Err(OpenFault::NoMemory),
+        }
+    }
+
+    /// Opens the facility over objects that are all different, with their values and with room for `capacity`
+    /// entries, which is from 1 to 1,000,000. It fails only if memory runs out, and then at once.
+    pub fn open_distinct(
+        alloc: Global,
+        opening: &[(Ob, i64)],
+        capacity: usize,
+    ) -> Result<Core, NoMemory>
+        requires capacity { IsCapacity capacity }
+        requires distinct { HasNoDouble (objects_of opening.now) }
+        ensures { IfOk result (λ core. core ≡ facility_of opening.now capacity) }
+    {
+        let tables = Tables::open_distinct(alloc, opening)?;
+        Core::over(alloc, opening, capacity, tables)
+    }
+
+    /// Returns the facility over the tables of an opening.
+    fn over(
+        alloc: Global,
+        opening: &[(Ob, i64)],
+        capacity: usize,
+        tables: Tables,
+    ) -> Result<Core, NoMemory>
+        requires capacity { IsCapacity capacity }
+        requires shows { Shows opening.now [] (values_of tables) }
+        requires pending { pending_in tables.locks ≡ [] }
+        ensures { IfOk result (λ core. core ≡ facility_of opening.now capacity) }
+    {
         match History::open(alloc, opening, capacity) {
             Ok(history) => Ok(Core { history, tables }),
             Err(_) => {
                 // By name, as in `into_history`.
                 drop(tables);
-                Err(OpenFault::NoMemory)
+                Err(NoMemory)
             }
         }
     }
@@ -110,48 +159,64 @@ impl Core {
         self.tables.wait(step);
     }
 
-    /// How many entries are owed after a step that takes effect with this reply.
-    fn owed_if_applied(&self, step: &Step, reply: Reply) -> usize
-        requires answer { answer_to self.now.history step.now ≡ Answer reply }
-        requires carried { takes_effect step.now reply ≡ true }
-        ensures owed { result ≡ owed (step.now ∷ applied self.now.history.entries) }
-        ensures bound { result ≤ owed (applied self.now.history.entries) + 2 }
+    /// Returns whether the answer is that of a complete, a commit or an abort that changes a status; `effect` says
+    /// whether the step takes effect.
+    #[tactic(auto, unfolding(asset_names::specs::Room::changes_status))]
+    fn is_ending(&self, step: &Step, reply: Reply, effect: bool) -> bool
+        requires effect { effect ≡ takes_effect step.now reply }
+        ensures { result ≡ changes_status (applied self.now.history.entries) step.now reply }
     {
-        let counted = self.tables.trans.owed();
         match *step {
-            Step::Initiate { .. } => counted + 2,
-            Step::Complete { .. } => counted - 1,
-            Step::Commit { t } => counted - self.tables.trans.status(t).owed(),
-            Step::Abort { t } => counted - self.tables.trans.status(t).owed(),
-            Step::Begin { .. } => counted,
-            Step::Permit { .. } => counted,
-            Step::Read { .. } => counted,
-            Step::Write { .. } => counted,
-            Step::WaitFor { .. } => counted,
+            Step::Complete { .. } => effect,
+            Step::Commit { t } => effect && self.is_live(t),
+            Step::Abort { t } => effect && self.is_live(t),
+            Step::Initiate { .. } => false,
+            Step::Begin { .. } => false,
+            Step::Read { .. } => false,
+            Step::Write { .. } => false,
+            Step::Permit { .. } => false,
+            Step::WaitFor { .. } => false,
         }
     }
 
-    /// How many entries are owed after an answer.
-    fn owed_after(&self, step: &Step, reply: Reply) -> usize
+    /// Returns whether the transaction is live.
+    fn is_live(&self, t: Txn) -> bool
+        ensures { result ≡ live (applied self.now.history.entries) t.0 }
+    {
+        self.status(t).is_live()
+    }
+
+    /// Returns how many entries are owed after an answer that is no such ending; `effect` says whether the step takes
+    /// effect.
+    fn owed_after(&self, step: &Step, reply: Reply, effect: bool) -> usize
         requires answer { answer_to self.now.history step.now ≡ Answer reply }
+        requires effect { effect ≡ takes_effect step.now reply }
+        requires quiet { changes_status (applied self.now.history.entries) step.now reply ≡ false }
         ensures owed { result ≡ owed (applied ((step.now, reply) ∷ self.now.history.entries)) }
         ensures bound { result ≤ owed (applied self.now.history.entries) + 2 }
     {
-        if takes_effect(step, reply) {
-            self.owed_if_applied(step, reply)
+        let owed = self.tables.owed();
+        if effect && initiates(step) {
+            owed + 2
         } else {
-            self.tables.trans.owed()
+            owed
         }
     }
 
-    /// Whether there is room for an answer with what is owed after it.
-    fn has_room(&self, step: &Step, reply: Reply) -> bool
+    /// Returns whether there is room for an answer and for what is owed after it; `effect` says whether the step takes
+    /// effect. An ending always finds room, so nothing is counted for it.
+    fn has_room(&self, step: &Step, reply: Reply, effect: bool) -> bool
         requires answer { answer_to self.now.history step.now ≡ Answer reply }
+        requires effect { effect ≡ takes_effect step.now reply }
         ensures room { result ≡ has_room self.now.history step.now (Answer reply) }
         ensures ending { is_ending self.now.history step.now (Answer reply) ≡ true → result ≡ true }
-        ensures asker { result ≡ true → length self.now.history.entries < self.now.history.capacity }
+        ensures place { result ≡ true → length self.now.history.entries < self.now.history.capacity }
     {
-        self.history.len() + 1 + self.owed_after(step, reply) <= self.history.capacity()
+        let capacity = self.history.capacity();
+        if self.is_ending(step, reply, effect) {
+            return true;
+        }
+        self.history.len() + 1 + self.owed_after(step, reply, effect) <= capacity
     }
 
     /// Records the answer to a step, if there is room for it.
@@ -165,10 +230,11 @@ impl Core {
         ensures ending { is_ending self.old.history step.now (Answer reply) ≡ true → IsOk result }
         ensures fault { OnErr result (self.new ≡ self.old) }
     {
-        if !self.has_room(step, reply) {
+        let effect = takes_effect(step, reply);
+        if !self.has_room(step, reply, effect) {
             return Err(Fault::Full);
         }
-        match self.tables.follow(step, reply) {
+        match self.tables.apply_if(step, reply, effect) {
             Ok(()) => {
                 self.history.append(step, reply);
                 Ok(Outcome::Answer(reply))
@@ -188,7 +254,7 @@ impl Core {
     pub fn value(&self, x: Ob) -> Option<i64>
         ensures { result ≡ value_if_any self.now.history.opening (applied self.now.history.entries) x.0 }
     {
-        self.tables.objects.value(x)
+        self.tables.value(x)
     }
 
     /// The waiter of this index for `x`, in order of initiation from 0, with the operation that it asked. None
@@ -196,7 +262,7 @@ impl Core {
     pub fn waiters(&self, x: Ob, index: usize) -> Option<(Txn, Op)>
         ensures { result ≡ slice_get (waiting_for x.0 self.now.pending) index }
     {
-        self.tables.locks.waiters(x, index)
+        self.tables.waiters(x, index)
     }
 
     /// The history so far.

@@ -7,20 +7,20 @@ use asset_locks::Locks;
 use asset_names::{
     End, NoMemory, Ob, ObSet, Op, Ops, Outcome, Refusal, Reply, Status, Step, Txn, commit_outcome,
     refusal_to_abort, refusal_to_begin, refusal_to_find, refusal_to_initiate, refusal_to_operate,
-    refusal_to_permit, refusal_to_work, takes_effect, wait_outcome,
+    refusal_to_permit, refusal_to_work, wait_outcome,
 };
 use asset_objects::{Objects, ObjectsFault};
 use asset_permits::Permits;
 use asset_trans::Trans;
 use std::alloc::Global;
 
-/// The tables of objects, locks, permits and transactions. Which history they stand for, `Stand` says.
+/// The tables of objects, locks, permits and transactions. Which history they show, `Shows` says.
 #[derive(Drop)]
 pub struct Tables {
-    pub objects: Objects,
-    pub locks: Locks,
-    pub permits: Permits,
-    pub trans: Trans,
+    objects: Objects,
+    locks: Locks,
+    permits: Permits,
+    trans: Trans,
 }
 
 /// The value that a write asks for, and 0 of another step. A signed index out of a step is passed on as the
@@ -36,39 +36,60 @@ pub(crate) fn value_asked(step: &Step) -> i64
 }
 
 impl Tables {
-    ghost use Rattle.std.specs.Prelude.{◌≡◌, ℕ, ℤ, cond, not, find, List, [], ◌∷◌, ◌==◌, true, false, None, OnOk, OnErr, IfOk, IfErr};
+    ghost use Rattle.std.specs.Prelude.{◌≡◌, ℕ, ℤ, cond, not, find, slice_get, List, [], ◌∷◌, ◌==◌, true, false, None, OnOk, OnErr, IfOk, IfErr};
     ghost use Rattle.asset_names.specs.declared.steps.Step.{Step as Request};
     ghost use Rattle.asset_names.specs.declared.operations.Op.{Op as Operation};
     ghost use Rattle.asset_names.specs.Steps.{Opening, Entry, takes_effect, applied};
     ghost use Rattle.asset_names.specs.Answers.{first_refusal, rules_for, unrefused, answer, takes_memory, unknown, ended, not_running, no_object, one_name, missing_in, no_object_of};
     ghost use Rattle.asset_objects.specs.Faults.{objects_of, IsObjectsFault};
     ghost use Rattle.asset_names.specs.Sets.{HasNoDouble};
-    ghost use Rattle.asset_objects.specs.Cells.{cells, has_object};
+    ghost use Rattle.asset_objects.specs.Cells.{cells, has_object, value_in, opened};
     ghost use Rattle.asset_objects.specs.Cells.{change_at, change_each, written, undone, settled};
     ghost use Rattle.asset_locks.specs.Valid.{lock_table, HaveOwners};
-    ghost use Rattle.asset_locks.specs.LockTable.{enrol_in, grant_in, wait_in, release_in};
-    ghost use Rattle.asset_trans.specs.TransRows.{status_in, initiate_in, set_in};
+    ghost use Rattle.asset_locks.specs.LockTable.{enrol_in, grant_in, wait_in, release_in, waiters_in};
+    ghost use Rattle.asset_trans.specs.TransRows.{status_in, initiate_in, set_in, owed_in};
     ghost use Rattle.asset_names.specs.Orderly.{IsOrderly};
     ghost use Rattle.asset_names.specs.declared.statuses.Status.{Status};
     ghost use Rattle.asset_names.specs.Endings.{is_live_status};
     ghost use Rattle.asset_names.specs.Operations.{exists, allows};
     ghost use Rattle.asset_permits.specs.Descriptors.{allows_by};
     ghost use Rattle.asset_core.specs.PermitChanges.{IsDropped};
-    ghost use Rattle.asset_core.specs.Tables.{value_asked, value_or_zero, read_outcome, Stand, IsReady, MayWait, IsAtWork, IsNew, is_free_for, locks_after, locks_waiting, pending_in, SameView};
+    ghost use Rattle.asset_core.specs.Tables.{value_asked, value_or_zero, read_outcome, values_of, IsReady, MayWait, IsAtWork, IsNew, is_free_for, locks_after, locks_waiting, pending_in, SameView};
+    ghost use Rattle.asset_core.specs.Shows.{Shows};
 
-    /// The tables of an opening, before the first step.
+    /// Returns the tables of an opening, before the first step.
+    ///
+    /// It answers `DoubleObject` with the least object that is given twice; otherwise `NoMemory` if memory runs out.
     pub fn open(alloc: Global, opening: &[(Ob, i64)]) -> Result<Tables, ObjectsFault>
-        ensures stand { IfOk result (λ tables. Stand opening.now [] tables) }
-        ensures pending_requests { IfOk result (λ tables. pending_in tables.locks ≡ []) }
+        ensures shows { IfOk result (λ tables. Shows opening.now [] (values_of tables)) }
+        ensures pending { IfOk result (λ tables. pending_in tables.locks ≡ []) }
         ensures different { OnOk result (HasNoDouble (objects_of opening.now)) }
         ensures fault { IfErr result (λ fault. IsObjectsFault opening.now fault) }
     {
-        Ok(Tables {
-            objects: Objects::open(alloc, opening)?,
+        Ok(Tables::over(alloc, Objects::open(alloc, opening)?))
+    }
+
+    /// Returns the tables of an opening that gives no object twice, before the first step. It fails only if memory
+    /// runs out.
+    pub fn open_distinct(alloc: Global, opening: &[(Ob, i64)]) -> Result<Tables, NoMemory>
+        requires distinct { HasNoDouble (objects_of opening.now) }
+        ensures shows { IfOk result (λ tables. Shows opening.now [] (values_of tables)) }
+        ensures pending { IfOk result (λ tables. pending_in tables.locks ≡ []) }
+    {
+        Ok(Tables::over(alloc, Objects::open_distinct(alloc, opening)?))
+    }
+
+    /// Returns the tables over objects at their opening values.
+    fn over(alloc: Global, objects: Objects) -> Tables
+        ensures shows { (opening : Opening) → cells objects ≡ opened opening → Shows opening [] (values_of result) }
+        ensures pending { pending_in result.locks ≡ [] }
+    {
+        Tables {
+            objects,
             locks: Locks::new(alloc),
             permits: Permits::new(alloc),
             trans: Trans::new(alloc),
-        })
+        }
     }
 
     /// The status of a transaction.
@@ -78,9 +99,31 @@ impl Tables {
         self.trans.status(t)
     }
 
-    /// The first refusal of a step, if one applies.
+    /// Returns how many entries all live transactions are owed.
+    pub fn owed(&self) -> usize
+        ensures { result ≡ owed_in self.now.trans }
+    {
+        self.trans.owed()
+    }
+
+    /// Returns the value of an object, and `None` if there is no such object.
+    pub fn value(&self, x: Ob) -> Option<i64>
+        ensures { result ≡ value_in (cells self.now.objects) x.0 }
+    {
+        self.objects.value(x)
+    }
+
+    /// Returns the waiter of this index for `x`, in order of initiation from 0, with the operation that it asked for,
+    /// and `None` past the end.
+    pub fn waiters(&self, x: Ob, index: usize) -> Option<(Txn, Op)>
+        ensures { result ≡ slice_get (waiters_in (lock_table self.now.locks) x.0) index }
+    {
+        self.locks.waiters(x, index)
+    }
+
+    /// Returns the first refusal of a step, if one applies.
     fn refusal(&self, step: &Step) -> Option<Refusal>
-        ensures { (opening : Opening) (steps : List Request) → Stand opening steps self.now → result ≡ first_refusal (rules_for opening steps step.now) }
+        ensures { (opening : Opening) (steps : List Request) → Shows opening steps (values_of self.now) → result ≡ first_refusal (rules_for opening steps step.now) }
     {
         match *step {
             Step::Initiate { t, .. } => refusal_to_initiate(t, self.trans.status(t)),
@@ -102,7 +145,7 @@ impl Tables {
 
     /// Why `t` may not operate on `x`, if it may not.
     fn refusal_to_use(&self, t: Txn, x: Ob) -> Option<Refusal>
-        ensures { (opening : Opening) (steps : List Request) → Stand opening steps self.now →
+        ensures { (opening : Opening) (steps : List Request) → Shows opening steps (values_of self.now) →
             result ≡ first_refusal (unknown steps t ∷ ended steps t ∷ not_running steps t ∷ no_object opening x ∷ []) }
     {
         let exists = self.objects.value(x).is_some();
@@ -111,7 +154,7 @@ impl Tables {
 
     /// Why the giver may not permit the taker anything on the objects, if it may not.
     fn refusal_to_permit(&self, giver: Txn, taker: Txn, obs: &ObSet) -> Option<Refusal>
-        ensures { (opening : Opening) (steps : List Request) → Stand opening steps self.now →
+        ensures { (opening : Opening) (steps : List Request) → Shows opening steps (values_of self.now) →
             result ≡ first_refusal (one_name giver taker ∷ unknown steps giver ∷ unknown steps taker ∷ ended steps giver ∷ ended steps taker ∷ no_object_of opening obs.now ∷ []) }
     {
         let missing = self.missing(obs);
@@ -126,7 +169,7 @@ impl Tables {
 
     /// The least object of the set that does not exist, if there is one.
     fn missing(&self, obs: &ObSet) -> Option<Ob>
-        ensures { (opening : Opening) (steps : List Request) → Stand opening steps self.now → result ≡ missing_in opening obs.now }
+        ensures { (opening : Opening) (steps : List Request) → Shows opening steps (values_of self.now) → result ≡ missing_in opening obs.now }
     {
         match obs {
             ObSet::All => None,
@@ -178,7 +221,7 @@ impl Tables {
 
     /// The outcome of a write, of whatever value, that is not refused. Nothing changes.
     fn write_outcome(&mut self, t: Txn, x: Ob) -> Outcome
-        ensures outcome { (opening : Opening) (steps : List Request) (v : ℤ) → Stand opening steps self.old →
+        ensures outcome { (opening : Opening) (steps : List Request) (v : ℤ) → Shows opening steps (values_of self.old) →
             result ≡ unrefused opening steps (Request.Write t x v) }
         ensures same { self.new ≡ self.old }
     {
@@ -191,7 +234,7 @@ impl Tables {
 
     /// The outcome of a step that is not refused. Nothing changes.
     fn unrefused(&mut self, step: &Step) -> Outcome
-        ensures outcome { (opening : Opening) (steps : List Request) → Stand opening steps self.old → first_refusal (rules_for opening steps step.now) ≡ None →
+        ensures outcome { (opening : Opening) (steps : List Request) → Shows opening steps (values_of self.old) → first_refusal (rules_for opening steps step.now) ≡ None →
             result ≡ unrefused opening steps step.now }
         ensures same { self.new ≡ self.old }
     {
@@ -213,8 +256,8 @@ impl Tables {
 
     /// The answer to a step. Nothing changes.
     pub fn answer(&mut self, step: &Step) -> Outcome
-        ensures answer { (opening : Opening) (steps : List Request) → Stand opening steps self.old → result ≡ answer opening steps step.now }
-        ensures allowed { (opening : Opening) (steps : List Request) → Stand opening steps self.old →
+        ensures answer { (opening : Opening) (steps : List Request) → Shows opening steps (values_of self.old) → result ≡ answer opening steps step.now }
+        ensures allowed { (opening : Opening) (steps : List Request) → Shows opening steps (values_of self.old) →
             (u t x : ℕ) (op : Operation) → allows_by self.old.permits u t x op ≡ allows steps u t x op }
         ensures same { self.new ≡ self.old }
     {
@@ -224,25 +267,22 @@ impl Tables {
         }
     }
 
-    /// Applies a step, if the reply says so. Where memory runs out, the tables show what they did before.
-    pub fn follow(&mut self, step: &Step, reply: Reply) -> Result<(), NoMemory>
+    /// Applies a step if it takes effect, as `effect` says. If memory runs out, the tables show what they did before.
+    pub fn apply_if(&mut self, step: &Step, reply: Reply, effect: bool) -> Result<(), NoMemory>
+        requires effect { effect ≡ takes_effect step.now reply }
         requires ready { takes_effect step.now reply ≡ true → IsReady step.now self.old }
-        ensures stand { OnOk result ((opening : Opening) (older : List Entry) → Stand opening (applied older) self.old → IsOrderly (applied older) → Stand opening (applied ((step.now, reply) ∷ older)) self.new) }
+        ensures stand { OnOk result ((opening : Opening) (older : List Entry) → Shows opening (applied older) (values_of self.old) → IsOrderly (applied older) → Shows opening (applied ((step.now, reply) ∷ older)) (values_of self.new)) }
         ensures locks { OnOk result (lock_table self.new.locks ≡ cond (takes_effect step.now reply) (locks_after step.now self.old) (lock_table self.old.locks)) }
         ensures memory { OnErr result ((takes_memory step.now ≡ true) × (takes_effect step.now reply ≡ true)) }
         ensures unchanged { OnErr result (SameView self.new self.old) }
     {
-        if takes_effect(step, reply) {
-            self.apply(step)
-        } else {
-            Ok(())
-        }
+        if effect { self.apply(step) } else { Ok(()) }
     }
 
-    /// Applies a step. Where memory runs out, the tables show what they did before.
+    /// Applies a step. If memory runs out, the tables show what they did before.
     pub fn apply(&mut self, step: &Step) -> Result<(), NoMemory>
         requires ready { IsReady step.now self.old }
-        ensures stand { OnOk result ((opening : Opening) (steps : List Request) → Stand opening steps self.old → IsOrderly steps → Stand opening (step.now ∷ steps) self.new) }
+        ensures stand { OnOk result ((opening : Opening) (steps : List Request) → Shows opening steps (values_of self.old) → IsOrderly steps → Shows opening (step.now ∷ steps) (values_of self.new)) }
         ensures locks { OnOk result (lock_table self.new.locks ≡ locks_after step.now self.old) }
         ensures memory { OnErr result (takes_memory step.now ≡ true) }
         ensures unchanged { OnErr result (SameView self.new self.old) }

@@ -6,6 +6,7 @@ use Rattle.std.proofs.lemmas.Bool.{eqb-true, eq-eqb, or_cases, or_parts, or_from
 use Rattle.std.proofs.lemmas.List.Folds.{list_any-append}
 use Rattle.asset_names.specs.declared.operations.Op.{Op}
 use Rattle.asset_names.specs.Operations.{conflict}
+use Rattle.asset_names.specs.OpSets.{OpSet, op_set}
 use Rattle.asset_locks.specs.LockTable.{Lock, is_of, one_conflicts, both_conflict, lock_of, ops_with, adjusted, newcomer, granted_on, AreApart}
 use Rattle.asset_locks.specs.Valid.{HaveOwners}
 
@@ -26,18 +27,18 @@ and_none : (p : Bool) → (p && false) ≡ false
 and_none true = refl
 and_none false = refl
 
-conflict_pair : (a b c d : Bool) → both_conflict (a, b) (c, d) ≡ both_conflict (c, d) (a, b)
+conflict_pair : (a b c d : Bool) → both_conflict (op_set a b) (op_set c d) ≡ both_conflict (op_set c d) (op_set a b)
 unfolding both_conflict one_conflicts conflict
 conflict_pair a b c d = grind arith
 
-both_conflict_back : (ops others : Bool × Bool) → both_conflict ops others ≡ both_conflict others ops
-both_conflict_back ops others = conflict_pair ops.0 ops.1 others.0 others.1
+both_conflict_back : (ops others : OpSet) → both_conflict ops others ≡ both_conflict others ops
+both_conflict_back ops others = conflict_pair ops.read ops.write others.read others.write
 
 -- a lock adjusted one of t, by whether it is t's own and whether it conflicts
-abbrev placed : Bool → Bool → ℕ → Bool × Bool → Lock → Lock
+abbrev placed : Bool → Bool → ℕ → OpSet → Lock → Lock
 placed own conflicts t ops lock = cond own (record { owner = t; ops = ops; granted = true }) (cond conflicts (record lock { granted = false }) lock)
 
-clash_placed : (p q c d : Bool) (t : ℕ) (ops : Bool × Bool) (a b : Lock) → (p && q) ≡ false → both_conflict a.ops ops ≡ c → both_conflict b.ops ops ≡ d → (p ≡ false → q ≡ false → clash a b ≡ false)
+clash_placed : (p q c d : Bool) (t : ℕ) (ops : OpSet) (a b : Lock) → (p && q) ≡ false → both_conflict a.ops ops ≡ c → both_conflict b.ops ops ≡ d → (p ≡ false → q ≡ false → clash a b ≡ false)
     → clash (placed p c t ops a) (placed q d t ops b) ≡ false
 clash_placed true true c d t ops a b apart e f h = absurd (true≢false apart)
 clash_placed true false c true t ops a b apart e f h = refl
@@ -48,7 +49,7 @@ clash_placed false false true d t ops a b apart e f h = refl
 clash_placed false false false true t ops a b apart e f h = ap (λ r. r && both_conflict a.ops b.ops) (and_none a.granted)
 clash_placed false false false false t ops a b apart e f h = h refl refl
 
-clash_adjusted : (t : ℕ) (ops : Bool × Bool) (a b : Lock) → (is_of t a && is_of t b) ≡ false → (is_of t a ≡ false → is_of t b ≡ false → clash a b ≡ false) → clash (adjusted t ops a) (adjusted t ops b) ≡ false
+clash_adjusted : (t : ℕ) (ops : OpSet) (a b : Lock) → (is_of t a && is_of t b) ≡ false → (is_of t a ≡ false → is_of t b ≡ false → clash a b ≡ false) → clash (adjusted t ops a) (adjusted t ops b) ≡ false
 unfolding adjusted
 clash_adjusted t ops a b apart h = clash_placed (is_of t a) (is_of t b) (both_conflict a.ops ops) (both_conflict b.ops ops) t ops a b apart refl refl h
 
@@ -63,21 +64,21 @@ not_both t a b apart = go (eqb a.owner t) (eqb b.owner t) refl refl where
 
 -- ---- locks of different owners
 -- a lock keeps its owner
-owner_placed : (p c : Bool) (t : ℕ) (ops : Bool × Bool) (lock : Lock) → eqb lock.owner t ≡ p → (placed p c t ops lock).owner ≡ lock.owner
+owner_placed : (p c : Bool) (t : ℕ) (ops : OpSet) (lock : Lock) → eqb lock.owner t ≡ p → (placed p c t ops lock).owner ≡ lock.owner
 owner_placed true c t ops lock e = sym (eqb-true lock.owner t e)
 owner_placed false true t ops lock e = refl
 owner_placed false false t ops lock e = refl
 
-owner_adjusted : (t : ℕ) (ops : Bool × Bool) (lock : Lock) → (adjusted t ops lock).owner ≡ lock.owner
+owner_adjusted : (t : ℕ) (ops : OpSet) (lock : Lock) → (adjusted t ops lock).owner ≡ lock.owner
 unfolding adjusted is_of
 owner_adjusted t ops lock = owner_placed (eqb lock.owner t) (both_conflict lock.ops ops) t ops lock refl
 
-pub owned_adjusted : (t u : ℕ) (ops : Bool × Bool) (locks : List Lock) → list_any (is_of u) (map (adjusted t ops) locks) ≡ list_any (is_of u) locks
+pub owned_adjusted : (t u : ℕ) (ops : OpSet) (locks : List Lock) → list_any (is_of u) (map (adjusted t ops) locks) ≡ list_any (is_of u) locks
 unfolding is_of
 owned_adjusted t u ops [] = refl
 owned_adjusted t u ops (lock ∷ locks) = λ i. eqb (owner_adjusted t ops lock i) u || owned_adjusted t u ops locks i
 
-owners_adjusted : (t : ℕ) (ops : Bool × Bool) (locks : List Lock) → HaveOwners locks → HaveOwners (map (adjusted t ops) locks)
+owners_adjusted : (t : ℕ) (ops : OpSet) (locks : List Lock) → HaveOwners locks → HaveOwners (map (adjusted t ops) locks)
 unfolding HaveOwners
 owners_adjusted t ops [] h = tt
 owners_adjusted t ops (lock ∷ locks) h =
@@ -101,14 +102,14 @@ none_found test [] e = refl
 none_found test (x ∷ xs) e = none_at test x xs (test x) refl e (none_found test xs)
 
 -- ---- apart
-apart_head : (t : ℕ) (ops : Bool × Bool) (a : Lock) (locks : List Lock) → list_any (is_of a.owner) locks ≡ false → list_any (clash a) locks ≡ false → list_any (clash (adjusted t ops a)) (map (adjusted t ops) locks) ≡ false
+apart_head : (t : ℕ) (ops : OpSet) (a : Lock) (locks : List Lock) → list_any (is_of a.owner) locks ≡ false → list_any (clash a) locks ≡ false → list_any (clash (adjusted t ops a)) (map (adjusted t ops) locks) ≡ false
 apart_head t ops a [] others none = refl
 apart_head t ops a (b ∷ locks) others none =
     let owned = or_parts (is_of a.owner b) (list_any (is_of a.owner) locks) others in
     let parts = or_parts (clash a b) (list_any (clash a) locks) none in
     or_from _ _ (clash_adjusted t ops a b (not_both t a b owned.0) (λ p q. parts.0)) (apart_head t ops a locks owned.1 parts.1)
 
-apart_adjusted : (t : ℕ) (ops : Bool × Bool) (locks : List Lock) → HaveOwners locks → AreApart locks → AreApart (map (adjusted t ops) locks)
+apart_adjusted : (t : ℕ) (ops : OpSet) (locks : List Lock) → HaveOwners locks → AreApart locks → AreApart (map (adjusted t ops) locks)
 unfolding HaveOwners AreApart
 apart_adjusted t ops [] owners h = tt
 apart_adjusted t ops (lock ∷ locks) owners h = (apart_head t ops lock locks owners.0 h.0, apart_adjusted t ops locks owners.1 h.1)
@@ -121,15 +122,15 @@ apart_push (lock ∷ locks) new h none =
     (list_any-append (clash lock) locks (new ∷ []) ∙ or_from _ _ h.0 (or_from _ _ parts.0 refl), apart_push locks new h.1 parts.1)
 
 -- the lock that comes is granted, and each that conflicts with it is suspended
-abbrev first_lock : ℕ → Bool × Bool → Lock
+abbrev first_lock : ℕ → OpSet → Lock
 first_lock t ops = record { owner = t; ops = ops; granted = true }
 
-clash_first : (t : ℕ) (ops : Bool × Bool) (p c : Bool) (lock : Lock) → is_of t lock ≡ false → is_of t lock ≡ p → both_conflict lock.ops ops ≡ c → clash (placed p c t ops lock) (first_lock t ops) ≡ false
+clash_first : (t : ℕ) (ops : OpSet) (p c : Bool) (lock : Lock) → is_of t lock ≡ false → is_of t lock ≡ p → both_conflict lock.ops ops ≡ c → clash (placed p c t ops lock) (first_lock t ops) ≡ false
 clash_first t ops true c lock other e f = absurd (true≢false (sym e ∙ other))
 clash_first t ops false true lock other e f = refl
 clash_first t ops false false lock other e f = ap (λ r. lock.granted && true && r) f ∙ and_none (lock.granted && true)
 
-apart_first : (t : ℕ) (ops : Bool × Bool) (locks : List Lock) → list_any (is_of t) locks ≡ false → list_any (λ (lock : Lock). clash lock (first_lock t ops)) (map (adjusted t ops) locks) ≡ false
+apart_first : (t : ℕ) (ops : OpSet) (locks : List Lock) → list_any (is_of t) locks ≡ false → list_any (λ (lock : Lock). clash lock (first_lock t ops)) (map (adjusted t ops) locks) ≡ false
 unfolding adjusted
 apart_first t ops [] none = refl
 apart_first t ops (lock ∷ locks) none =
@@ -137,7 +138,7 @@ apart_first t ops (lock ∷ locks) none =
     or_from _ _ (clash_first t ops (is_of t lock) (both_conflict lock.ops ops) lock parts.0 refl refl) (apart_first t ops locks parts.1)
 
 -- ---- a grant
-owners_by : (t : ℕ) (ops : Bool × Bool) (locks : List Lock) (before : Option Lock) → lock_of t locks ≡ before → HaveOwners locks → HaveOwners (map (adjusted t ops) locks ++ newcomer t ops before)
+owners_by : (t : ℕ) (ops : OpSet) (locks : List Lock) (before : Option Lock) → lock_of t locks ≡ before → HaveOwners locks → HaveOwners (map (adjusted t ops) locks ++ newcomer t ops before)
 unfolding newcomer lock_of
 owners_by t ops locks None none h = owners_push (map (adjusted t ops) locks) (first_lock t ops) (owners_adjusted t ops locks h) (owned_adjusted t t ops locks ∙ none_found (is_of t) locks none)
 owners_by t ops locks (Some lock) there h = subst HaveOwners (sym (append-nil (map (adjusted t ops) locks))) (owners_adjusted t ops locks h)
@@ -146,7 +147,7 @@ pub owners_granted : (t : ℕ) (op : Op) (locks : List Lock) → HaveOwners lock
 unfolding granted_on
 owners_granted t op locks h = owners_by t (ops_with op (lock_of t locks)) locks (lock_of t locks) refl h
 
-apart_by : (t : ℕ) (ops : Bool × Bool) (locks : List Lock) (before : Option Lock) → lock_of t locks ≡ before → HaveOwners locks → AreApart locks → AreApart (map (adjusted t ops) locks ++ newcomer t ops before)
+apart_by : (t : ℕ) (ops : OpSet) (locks : List Lock) (before : Option Lock) → lock_of t locks ≡ before → HaveOwners locks → AreApart locks → AreApart (map (adjusted t ops) locks ++ newcomer t ops before)
 unfolding newcomer lock_of
 apart_by t ops locks None none owners h = apart_push (map (adjusted t ops) locks) (first_lock t ops) (apart_adjusted t ops locks owners h) (apart_first t ops locks (none_found (is_of t) locks none))
 apart_by t ops locks (Some lock) there owners h = subst AreApart (sym (append-nil (map (adjusted t ops) locks))) (apart_adjusted t ops locks owners h)
@@ -160,7 +161,7 @@ or_none true = refl
 or_none false = refl
 
 -- who has a lock after a grant to t had one before, or is t
-owned_by : (t u : ℕ) (ops : Bool × Bool) (locks : List Lock) (before : Option Lock) → list_any (is_of u) (map (adjusted t ops) locks ++ newcomer t ops before) ≡ true → (list_any (is_of u) locks ≡ true) ⊎ ((eqb t u ≡ true) × (before ≡ None))
+owned_by : (t u : ℕ) (ops : OpSet) (locks : List Lock) (before : Option Lock) → list_any (is_of u) (map (adjusted t ops) locks ++ newcomer t ops before) ≡ true → (list_any (is_of u) locks ≡ true) ⊎ ((eqb t u ≡ true) × (before ≡ None))
 unfolding newcomer is_of
 owned_by t u ops locks None h =
     elim (or_cases (list_any (is_of u) (map (adjusted t ops) locks)) _ (sym (list_any-append (is_of u) (map (adjusted t ops) locks) (first_lock t ops ∷ [])) ∙ h)) [

@@ -12,6 +12,7 @@ use Rattle.asset_names.specs.declared.operations.Op.{Op}
 use Rattle.asset_names.proofs.Common.{cond_same}
 use Rattle.asset_locks.specs.LockTable.{Lock, lock_of, ops_with, adjusted, newcomer, granted_on}
 use Rattle.asset_locks.specs.Valid.{LockRow, row_of, locks_or_none, locks_in, lists_object, without}
+use Rattle.asset_names.specs.OpSets.{OpSet}
 
 -- a list that is written anew by one of its length
 pub refilled : {X : Type 0} (f : X → X) (xs ys ws : List X) → ys ≡ xs → ws ≡ map f ys → refill (length xs) xs ws ≡ map f xs
@@ -20,7 +21,7 @@ refilled f xs ys ws same is =
     let long : length ws ≡ length xs = ap length all ∙ length-map xs f in
     rw (drop_all (length ws) xs (omega (arith, long)), append-nil) (take_all (length xs) ws (omega (arith, long)) ∙ all)
 
-granted_by : (t : ℕ) (op : Op) (locks : List Lock) (before : Option Lock) (ops : Bool × Bool) → before ≡ lock_of t locks → ops ≡ ops_with op before
+granted_by : (t : ℕ) (op : Op) (locks : List Lock) (before : Option Lock) (ops : OpSet) → before ≡ lock_of t locks → ops ≡ ops_with op before
     → map (adjusted t ops) locks ++ newcomer t ops before ≡ granted_on t op locks
 unfolding granted_on
 granted_by t op locks before ops found carried =
@@ -28,13 +29,13 @@ granted_by t op locks before ops found carried =
     λ i. map (adjusted t (o i)) locks ++ newcomer t (o i) (found i)
 
 -- the locks after a grant to one that had a lock, and to one that had none
-pub granted_again : (t : ℕ) (op : Op) (locks : List Lock) (before : Option Lock) (ops : Bool × Bool) → before ≡ lock_of t locks → ops ≡ ops_with op before → is_some before ≡ true
+pub granted_again : (t : ℕ) (op : Op) (locks : List Lock) (before : Option Lock) (ops : OpSet) → before ≡ lock_of t locks → ops ≡ ops_with op before → is_some before ≡ true
     → map (adjusted t ops) locks ≡ granted_on t op locks
 unfolding newcomer
 granted_again t op locks None ops found carried some = absurd (true≢false (sym some))
 granted_again t op locks (Some lock) ops found carried some = sym (append-nil (map (adjusted t ops) locks)) ∙ granted_by t op locks (Some lock) ops found carried
 
-pub granted_first : (t : ℕ) (op : Op) (locks : List Lock) (before : Option Lock) (ops : Bool × Bool) → before ≡ lock_of t locks → ops ≡ ops_with op before → is_some before ≡ false
+pub granted_first : (t : ℕ) (op : Op) (locks : List Lock) (before : Option Lock) (ops : OpSet) → before ≡ lock_of t locks → ops ≡ ops_with op before → is_some before ≡ false
     → map (adjusted t ops) locks ++ record { owner = t; ops = ops; granted = true } ∷ [] ≡ granted_on t op locks
 unfolding newcomer
 granted_first t op locks None ops found carried none = granted_by t op locks None ops found carried

@@ -1,6 +1,6 @@
 -- What the table is after a change of what is kept of it.
 use Rattle.std.proofs.Common.{◌≡◌, ℕ, Bool, true, false, cond, not, eqb, List, [], ◌∷◌, ◌++◌, map, filter, Some, None, is_some, refl, sym, ◌∙◌, ap}
-use Rattle.std.specs.Prelude.{Option, option_map}
+use Rattle.std.specs.Prelude.{Option, option_map, find, ◌||◌}
 use Rattle.std.specs.List.{IsDistinct, list_any}
 use Rattle.std.specs.Map.{lookup, set_value, remove_entry, keys_of}
 use Rattle.std.proofs.lemmas.Bool.{or_parts, true≢false}
@@ -39,6 +39,26 @@ none_from f (Some x) h = cc
 pub new_row : (t : ℕ) (entries : List (Txn × EnrolledRow)) (rows : List LockRow) → enrolled_in (lock_table (kept entries rows)) t ≡ None → lookup (key_is t) entries ≡ None
 unfolding enrolled_in lock_table
 new_row t entries rows none = none_from _ (lookup (key_is t) entries) (sym (found t entries) ∙ none)
+
+pub absent : {X : Type 0} (o : Option X) → is_some o ≡ false → o ≡ None
+absent None h = refl
+absent (Some x) h = absurd (true≢false h)
+
+-- a name is enrolled exactly where it has a row
+pub not_enrolled : (t : ℕ) (entries : List (Txn × EnrolledRow)) (rows : List LockRow) → is_some (lookup (key_is t) entries) ≡ false → is_some (enrolled_in (lock_table (kept entries rows)) t) ≡ true → ⊥
+not_enrolled t entries rows none some = true≢false (sym some ∙ enrolled_row t entries rows ∙ none)
+
+pub not_new : (t : ℕ) (entries : List (Txn × EnrolledRow)) (rows : List LockRow) → is_some (lookup (key_is t) entries) ≡ true → enrolled_in (lock_table (kept entries rows)) t ≡ None → ⊥
+not_new t entries rows some none = true≢false (sym some ∙ sym (enrolled_row t entries rows) ∙ ap is_some none)
+
+-- whether t has a lock among these
+pub lock_found : (t : ℕ) (locks : List Lock) → is_some (lock_of t locks) ≡ list_any (is_of t) locks
+unfolding lock_of
+lock_found t [] = refl
+lock_found t (lock ∷ locks) = go (is_of t lock) (lock_found t locks) where
+  go : (own : Bool) → is_some (find (is_of t) locks) ≡ list_any (is_of t) locks → is_some (cond own (Some lock) (find (is_of t) locks)) ≡ (own || list_any (is_of t) locks)
+  go true later = refl
+  go false later = later
 
 abbrev pub held_of : Option EnrolledRow → List Ob
 held_of None = []

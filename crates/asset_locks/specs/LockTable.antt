@@ -5,14 +5,15 @@ use Rattle.asset_names.specs.declared.names.Txn.{Txn}
 use Rattle.asset_names.specs.declared.names.Ob.{Ob}
 use Rattle.asset_names.specs.declared.operations.Op.{Op}
 use Rattle.asset_names.specs.declared.operations.Op.TheVariants as Op'
-use Rattle.asset_names.specs.Operations.{conflict, has_op}
+use Rattle.asset_names.specs.Operations.{conflict}
+use Rattle.asset_names.specs.OpSets.{has_op, OpSet, only_op, with_op}
 use Rattle.asset_locks.specs.declared.state.LockState.{LockState}
 use Rattle.asset_locks.specs.declared.state.LockState.TheVariants.{Granted, Suspended}
 
 -- a lock on an object: whose it is, whether it carries Read and whether it carries Write, and whether it is granted
 pub record Lock : Type 0 where
   pub owner : ℕ
-  pub ops : Bool × Bool
+  pub ops : OpSet
   pub granted : Bool
 
 -- the request that waits, if there is one
@@ -43,11 +44,11 @@ unfoldable pub carries : LockTable → ℕ → ℕ → Op → Bool
 carries table t x op = list_any (λ (lock : Lock). is_of t lock && has_op lock.ops op) (table.locks_on x)
 
 -- whether any of the operations conflicts with op
-unfoldable pub one_conflicts : Bool × Bool → Op → Bool
+unfoldable pub one_conflicts : OpSet → Op → Bool
 one_conflicts ops op = has_op ops Op'.Read && conflict Op'.Read op || has_op ops Op'.Write && conflict Op'.Write op
 
 -- whether any of the operations conflicts with any of the others
-unfoldable pub both_conflict : Bool × Bool → Bool × Bool → Bool
+unfoldable pub both_conflict : OpSet → OpSet → Bool
 both_conflict ops others = has_op others Op'.Read && one_conflicts ops Op'.Read || has_op others Op'.Write && one_conflicts ops Op'.Write
 
 -- whether the lock blocks t from op: it is of another, who does not allow it, and conflicts with op
@@ -62,23 +63,18 @@ is_free_in table allows t x op = not (list_any (blocks allows t op) (table.locks
 unfoldable pub lock_of : ℕ → List Lock → Option Lock
 lock_of t locks = find (is_of t) locks
 
--- the operations with one more
-unfoldable pub with_op : Op → Bool × Bool → Bool × Bool
-with_op Op'.Read ops = (true, ops.1)
-with_op Op'.Write ops = (ops.0, true)
-
 -- the operations that a lock carries, if there is one, and op
-unfoldable pub ops_with : Op → Option Lock → Bool × Bool
-ops_with op None = with_op op (false, false)
+unfoldable pub ops_with : Op → Option Lock → OpSet
+ops_with op None = only_op op
 ops_with op (Some lock) = with_op op lock.ops
 
 -- a lock adjusted one of t that is granted with these operations: t's own takes them, and another's that
 -- conflicts with them is suspended
-unfoldable pub adjusted : ℕ → Bool × Bool → Lock → Lock
+unfoldable pub adjusted : ℕ → OpSet → Lock → Lock
 adjusted t ops lock = cond (is_of t lock) (record { owner = t; ops = ops; granted = true }) (cond (both_conflict lock.ops ops) (record lock { granted = false }) lock)
 
 -- where t has no lock, one comes at the end
-unfoldable pub newcomer : ℕ → Bool × Bool → Option Lock → List Lock
+unfoldable pub newcomer : ℕ → OpSet → Option Lock → List Lock
 newcomer t ops None = record { owner = t; ops = ops; granted = true } ∷ []
 newcomer t ops (Some lock) = []
 

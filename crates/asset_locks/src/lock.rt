@@ -1,13 +1,10 @@
 //! One lock, and the locks of one object.
 
 use crate::state::LockState;
-use asset_names::{Ob, Op, Txn};
+use asset_names::{Ob, Op, Ops, Txn};
 use asset_permits::Permits;
 use smallvec::SmallVec;
 use std::marker::Model;
-
-/// Whether Read is among some operations, and whether Write is.
-type Carried = (bool, bool);
 
 /// The locks of one object, in order of first grant. Most objects have few.
 pub(crate) type ObjectLocks = SmallVec<Lock, 4>;
@@ -16,7 +13,7 @@ pub(crate) type ObjectLocks = SmallVec<Lock, 4>;
 #[derive(Clone, Copy)]
 pub(crate) struct Lock {
     owner: Txn,
-    ops: Carried,
+    ops: Ops,
     granted: bool,
 }
 
@@ -35,7 +32,7 @@ impl Default for Lock {
     fn default() -> Lock {
         Lock {
             owner: Txn(0),
-            ops: (false, false),
+            ops: Ops::only(Op::Read),
             granted: false,
         }
     }
@@ -65,7 +62,7 @@ impl Lock {
 
     /// What becomes of the lock where `t` is granted a lock with these operations.
     #[tactic(auto, unfolding(crate::specs::LockTable::is_of, crate::specs::LockTable::adjusted))]
-    fn adjust(&mut self, t: Txn, ops: Carried)
+    fn adjust(&mut self, t: Txn, ops: Ops)
         ensures { self.new ≡ adjusted t.0 ops self.old }
     {
         if self.owner == t {
@@ -89,42 +86,31 @@ impl Lock {
     }
 }
 
-ghost use Rattle.std.specs.Prelude.{◌≡◌, ◌==◌, not, map, filter, is_some};
+ghost use Rattle.std.specs.Prelude.{◌≡◌, ◌==◌, not, true, map, filter, is_some};
 ghost use Rattle.std.specs.List.{list_any};
 ghost use Rattle.smallvec.specs.SmallVec.{HasRoomFor};
-ghost use Rattle.asset_names.specs.Operations.{conflict, has_op};
+ghost use Rattle.asset_names.specs.Operations.{conflict};
+ghost use Rattle.asset_names.specs.OpSets.{has_op};
 ghost use Rattle.asset_permits.specs.Descriptors.{allows_by};
 ghost use Rattle.asset_locks.specs.Valid.{without};
-ghost use Rattle.asset_locks.specs.LockTable.{one_conflicts, both_conflict, with_op, ops_with, blocks, adjusted, lock_of, granted_on};
+ghost use Rattle.asset_locks.specs.LockTable.{one_conflicts, both_conflict, ops_with, blocks, adjusted, lock_of, granted_on};
 
 /// Whether any of the operations conflicts with `op`.
-#[tactic(auto, unfolding(crate::specs::LockTable::one_conflicts, asset_names::specs::Operations::conflict))]
-fn one_conflicts(ops: Carried, op: Op) -> bool
+#[tactic(auto, unfolding(crate::specs::LockTable::one_conflicts))]
+fn one_conflicts(ops: Ops, op: Op) -> bool
     ensures { result ≡ one_conflicts ops op }
 {
-    match op {
-        Op::Read => ops.1,
-        Op::Write => ops.0 || ops.1,
-    }
+    (ops.has(Op::Read) && Op::Read.conflicts_with(op))
+        || (ops.has(Op::Write) && Op::Write.conflicts_with(op))
 }
 
 /// Whether any of the operations conflicts with any of the others.
 #[tactic(auto, unfolding(crate::specs::LockTable::both_conflict))]
-fn both_conflict(ops: Carried, others: Carried) -> bool
+fn both_conflict(ops: Ops, others: Ops) -> bool
     ensures { result ≡ both_conflict ops others }
 {
-    (others.0 && one_conflicts(ops, Op::Read)) || (others.1 && one_conflicts(ops, Op::Write))
-}
-
-/// The operations with one more.
-#[tactic(auto, unfolding(crate::specs::LockTable::with_op))]
-fn with_op(op: Op, ops: Carried) -> Carried
-    ensures { result ≡ with_op op ops }
-{
-    match op {
-        Op::Read => (true, ops.1),
-        Op::Write => (ops.0, true),
-    }
+    (others.has(Op::Read) && one_conflicts(ops, Op::Read))
+        || (others.has(Op::Write) && one_conflicts(ops, Op::Write))
 }
 
 /// The lock of `t`, if it has one.
@@ -137,12 +123,12 @@ pub(crate) fn lock_of(locks: &[Lock], t: Txn) -> Option<Lock>
 
 /// The operations that a lock carries, if there is one, and `op`.
 #[tactic(auto, unfolding(crate::specs::LockTable::ops_with))]
-fn ops_with(op: Op, lock: Option<Lock>) -> Carried
+fn ops_with(op: Op, lock: Option<Lock>) -> Ops
     ensures { result ≡ ops_with op lock }
 {
     match lock {
-        Some(lock) => with_op(op, lock.ops),
-        None => with_op(op, (false, false)),
+        Some(lock) => lock.ops.with(op),
+        None => Ops::only(op),
     }
 }
 
@@ -160,7 +146,7 @@ pub(crate) fn is_blocked(locks: &[Lock], t: Txn, x: Ob, op: Op, permits: &mut Pe
 }
 
 /// Adjusts each of the locks where `t` is granted a lock with these operations.
-fn adjust_each(locks: &mut [Lock], t: Txn, ops: Carried)
+fn adjust_each(locks: &mut [Lock], t: Txn, ops: Ops)
     ensures { locks.new ≡ map (adjusted t.0 ops) locks.old }
 {
     'locks: for lock in locks.iter_mut() {
@@ -186,6 +172,15 @@ pub(crate) fn grant_among(locks: &mut ObjectLocks, t: Txn, op: Op) -> bool
         });
     }
     is_new
+}
+
+/// Grants `op` to `t` among the locks of an object, of which one is its own. It takes no memory.
+pub(crate) fn grant_again_among(locks: &mut ObjectLocks, t: Txn, op: Op)
+    requires { is_some (lock_of t.0 locks.old.items) ≡ true }
+    ensures { locks.new.items ≡ granted_on t.0 op locks.old.items }
+{
+    let ops = ops_with(op, lock_of(locks.as_slice(), t));
+    adjust_each(locks.as_mut_slice(), t, ops);
 }
 
 /// Takes the lock of `t` away.

@@ -1,11 +1,13 @@
 //! The table of locks.
 
-ghost use Rattle.std.specs.Prelude.{◌≡◌, ℕ, cond, ◌==◌, not, is_some, IfOk, OnOk, OnErr};
+ghost use Rattle.std.specs.Prelude.{◌≡◌, ℕ, cond, ◌==◌, not, true, is_some, IfOk, OnOk, OnErr};
 ghost use Rattle.asset_locks.specs.LockTable.{lock_of, granted_on};
 ghost use Rattle.asset_locks.specs.Valid.{locks_in, lists_object, without};
 
 use crate::enrolled::Enrolled;
-use crate::lock::{Lock, ObjectLocks, grant_among, is_blocked, lock_of, release_among};
+use crate::lock::{
+    Lock, ObjectLocks, grant_again_among, grant_among, is_blocked, lock_of, release_among,
+};
 use crate::state::{Asked, LockState};
 use asset_names::{NoMemory, Ob, Op, Txn};
 use asset_permits::Permits;
@@ -35,11 +37,11 @@ impl Model for Locks {
 }
 
 impl Locks {
-    ghost use Rattle.std.specs.Prelude.{◌≡◌, ℕ, ◌==◌, true, false, None, Some, is_some, slice_get, IsTrue, IfOk, IsErr, OnOk, OnErr};
+    ghost use Rattle.std.specs.Prelude.{◌≡◌, ℕ, ◌==◌, true, false, None, Some, is_some, slice_get, IsTrue, IfOk, IsOk, IsErr, OnOk, OnErr};
     ghost use Rattle.std.specs.Option.{option_to_list};
     ghost use Rattle.std.specs.List.{list_any};
     ghost use Rattle.asset_permits.specs.Descriptors.{allows_by};
-    ghost use Rattle.asset_locks.specs.LockTable.{is_of, no_locks, enrol_in, release_in, enrolled_in, is_free_in, grant_in, wait_in, status_in, held_in, waiters_in, waiting_at, AreApart, Enrolled as Shown};
+    ghost use Rattle.asset_locks.specs.LockTable.{is_of, no_locks, enrol_in, release_in, enrolled_in, is_free_in, grant_in, wait_in, lock_of, status_in, held_in, waiters_in, waiting_at, AreApart, Enrolled as Shown};
     ghost use Rattle.asset_locks.specs.Valid.{lock_table, answer_where, after_ask, HaveOwners};
 
     /// A table without locks, in which nobody is enrolled. It takes no memory.
@@ -53,14 +55,18 @@ impl Locks {
         }
     }
 
-    /// Enrols `t`, which is not enrolled. It holds nothing and waits for nothing. Where
-    /// memory runs out, nothing changes.
+    /// Enrols `t`. It comes last, holds nothing and waits for nothing. If `t` is enrolled already, nothing changes.
+    ///
+    /// If memory runs out, nothing changes.
     pub fn enrol(&mut self, t: Txn) -> Result<(), NoMemory>
-        requires new { enrolled_in (lock_table self.old) t.0 ≡ None }
-        ensures unlocked { (x : ℕ) → list_any (is_of t.0) ((lock_table self.old).locks_on x) ≡ false }
-        ensures done { OnOk result (lock_table self.new ≡ enrol_in t.0 (lock_table self.old)) }
+        ensures unlocked { enrolled_in (lock_table self.old) t.0 ≡ None → (x : ℕ) → list_any (is_of t.0) ((lock_table self.old).locks_on x) ≡ false }
+        ensures done { OnOk result (enrolled_in (lock_table self.old) t.0 ≡ None → lock_table self.new ≡ enrol_in t.0 (lock_table self.old)) }
+        ensures again { is_some (enrolled_in (lock_table self.old) t.0) ≡ true → IsOk result × (self.new ≡ self.old) }
         ensures unchanged { OnErr result (lock_table self.new ≡ lock_table self.old) }
     {
+        if self.enrolled.contains_key(&t) {
+            return Ok(());
+        }
         let who = Enrolled {
             pending: None,
             held: Vec::new(self.alloc),
@@ -85,13 +91,14 @@ impl Locks {
     /// lock that carries `op` besides what it carried, each lock of another that conflicts with it is
     /// suspended, and `t` waits for nothing. Otherwise the request goes to the pending request of `t`.
     ///
-    /// Only a grant takes memory. Where there is none, nothing changes.
+    /// Only the first grant to `t` on `x` takes memory. If memory runs out, nothing changes.
     pub fn ask(&mut self, t: Txn, x: Ob, op: Op, permits: &mut Permits) -> Result<Asked, NoMemory>
         requires enrolled { is_some (enrolled_in (lock_table self.old) t.0) ≡ true }
         ensures answer { IfOk result (λ asked. asked ≡ answer_where (is_free_in (lock_table self.old) (λ u. allows_by permits.old u t.0 x.0 op) t.0 x.0 op)) }
         ensures done { OnOk result (lock_table self.new ≡ after_ask (is_free_in (lock_table self.old) (λ u. allows_by permits.old u t.0 x.0 op) t.0 x.0 op) t.0 x op (lock_table self.old)) }
         ensures owners { HaveOwners ((lock_table self.old).locks_on x.0) }
         ensures memory { IsErr result → is_free_in (lock_table self.old) (λ u. allows_by permits.old u t.0 x.0 op) t.0 x.0 op ≡ true }
+        ensures first { IsErr result → list_any (is_of t.0) ((lock_table self.old).locks_on x.0) ≡ false }
         ensures unchanged { OnErr result (lock_table self.new ≡ lock_table self.old) }
         ensures permits { permits.new ≡ permits.old }
     {
@@ -176,9 +183,37 @@ impl Locks {
         }
     }
 
-    /// Grants `op` on `x` to `t`, which is enrolled. Where memory runs out, nothing changes: the pending
-    /// in the list of what is held is made before anything is written.
+    /// Grants `op` on `x` to `t`, which is enrolled. If memory runs out, nothing changes.
     fn grant(&mut self, t: Txn, x: Ob, op: Op) -> Result<(), NoMemory>
+        requires enrolled { is_some (enrolled_in (lock_table self.old) t.0) ≡ true }
+        ensures done { OnOk result (lock_table self.new ≡ grant_in t.0 x op (lock_table self.old)) }
+        ensures first { IsErr result → list_any (is_of t.0) ((lock_table self.old).locks_on x.0) ≡ false }
+        ensures unchanged { OnErr result (lock_table self.new ≡ lock_table self.old) }
+    {
+        if lock_of(self.locks_of(x), t).is_some() {
+            self.grant_again(t, x, op);
+            Ok(())
+        } else {
+            self.grant_first(t, x, op)
+        }
+    }
+
+    /// Grants `op` on `x` to `t`, which is enrolled and has a lock on it. It takes no memory.
+    fn grant_again(&mut self, t: Txn, x: Ob, op: Op)
+        requires enrolled { is_some (enrolled_in (lock_table self.old) t.0) ≡ true }
+        requires locked { is_some (lock_of t.0 ((lock_table self.old).locks_on x.0)) ≡ true }
+        ensures { lock_table self.new ≡ grant_in t.0 x op (lock_table self.old) }
+    {
+        let Some(who) = self.enrolled.get_mut(&t) else {
+            unreachable!();
+        };
+        who.pending = None;
+        grant_lock_again(&mut self.objects, t, x, op);
+    }
+
+    /// Grants `op` on `x` to `t`, which is enrolled. Room in the list of what it holds is made before
+    /// anything is written: if memory runs out, nothing changes.
+    fn grant_first(&mut self, t: Txn, x: Ob, op: Op) -> Result<(), NoMemory>
         requires enrolled { is_some (enrolled_in (lock_table self.old) t.0) ≡ true }
         ensures done { OnOk result (lock_table self.new ≡ grant_in t.0 x op (lock_table self.old)) }
         ensures unchanged { OnErr result (lock_table self.new ≡ lock_table self.old) }
@@ -235,6 +270,17 @@ fn grant_lock(
             }
         }
     }
+}
+
+/// Grants `op` on `x` to `t`, which has a lock on it. It takes no memory.
+fn grant_lock_again(objects: &mut IndexMap<Ob, ObjectLocks>, t: Txn, x: Ob, op: Op)
+    requires { is_some (lock_of t.0 (locks_in objects.old.entries x.0)) ≡ true }
+    ensures { (y : ℕ) → locks_in objects.new.entries y ≡ cond (x.0 == y) (granted_on t.0 op (locks_in objects.old.entries y)) (locks_in objects.old.entries y) }
+{
+    let Some(row) = objects.get_mut(&x) else {
+        unreachable!();
+    };
+    grant_again_among(row, t, op);
 }
 
 /// Takes the locks of `t` on these objects away.

@@ -8,7 +8,8 @@ use Rattle.asset_names.specs.declared.names.Ob.{Ob}
 use Rattle.asset_names.specs.declared.operations.Op.{Op}
 use Rattle.asset_names.specs.declared.sets.ObSet.{ObSet}
 use Rattle.asset_names.specs.InSet.{in_set}
-use Rattle.asset_names.specs.Operations.{operations, operated, has_op, permits, permitted_by}
+use Rattle.asset_names.specs.Operations.{operations, operated, permits, permitted_by}
+use Rattle.asset_names.specs.OpSets.{has_op, OpSet}
 use Rattle.std.specs.List.{list_any}
 use Rattle.asset_names.specs.declared.statuses.End.{End}
 use Rattle.asset_names.specs.declared.statuses.End.TheVariants as End'
@@ -150,7 +151,7 @@ live_unless steps t = go (lists (initiated steps) t) (lists (begun steps) t) (li
   go true false false None h k = refl
 
 -- a permit takes effect only between two live names
-pub permit_live : (opening : Opening) (steps : List Step) (giver taker : Txn) (obs : ObSet) (ops : Bool × Bool) (reply : Reply) → answer opening steps (Permit giver taker obs ops) ≡ Answer reply → takes_effect (Permit giver taker obs ops) reply ≡ true
+pub permit_live : (opening : Opening) (steps : List Step) (giver taker : Txn) (obs : ObSet) (ops : OpSet) (reply : Reply) → answer opening steps (Permit giver taker obs ops) ≡ Answer reply → takes_effect (Permit giver taker obs ops) reply ≡ true
     → (live steps giver.0 ≡ true) × (live steps taker.0 ≡ true)
 unfolding rules_for unknown ended
 permit_live opening steps giver taker obs ops reply is carried =
@@ -162,7 +163,7 @@ permit_live opening steps giver taker obs ops reply is carried =
     (live_unless steps giver.0 one.0 three.0, live_unless steps taker.0 two.0 four.0)
 
 -- the arrows after a permit: its own, and those before
-permit_arrow : (giver taker : Txn) (obs : ObSet) (ops : Bool × Bool) (steps : List Step) (x : ℕ) (op : Op) (u v : ℕ) → has_arrow (permits (Permit giver taker obs ops ∷ steps) x op) u v ≡ true
+permit_arrow : (giver taker : Txn) (obs : ObSet) (ops : OpSet) (steps : List Step) (x : ℕ) (op : Op) (u v : ℕ) → has_arrow (permits (Permit giver taker obs ops ∷ steps) x op) u v ≡ true
     → ((giver.0 ≡ u) × (taker.0 ≡ v)) ⊎ (has_arrow (permits steps x op) u v ≡ true)
 unfolding has_arrow permits permitted_by
 permit_arrow giver taker obs ops steps x op u v h = go (in_set obs x && has_op ops op) h where

@@ -1,5 +1,5 @@
 -- Worked rows of permits, computed on the definitions.
-use Rattle.std.specs.Prelude.{pos, Bool, true, false, List, [], ◌∷◌, ◌++◌, None, refl}
+use Rattle.std.specs.Prelude.{pos, true, false, List, [], ◌∷◌, ◌++◌, None, refl}
 use Rattle.asset_names.specs.declared.sets.ObSet.TheVariants.{All, Listed}
 use Rattle.asset_names.specs.declared.steps.Step.{Step}
 use Rattle.asset_names.specs.declared.steps.Step.TheVariants.{Initiate, Begin, Read, Write, Complete, Permit, Commit, Abort}
@@ -13,15 +13,16 @@ use Rattle.asset_names.specs.InSet.{in_set}
 use Rattle.asset_names.specs.Steps.{takes_effect, applied, initiated_by, initiated, begun_by, begun, completed_by, completed}
 use Rattle.asset_names.specs.Endings.{class_arrows, doom_arrows, ended_by, end_of, live, status_of, status, same_class}
 use Rattle.asset_names.specs.Operations.{op_of, conflict, operated, operations, permits, permitted_by, allows, blocks, free, was_aborted, stands, exists, opening_at, opening_value, after_use, value_after, value}
+use Rattle.asset_names.specs.OpSets.{OpSet, op_set}
 use Rattle.asset_names.specs.Answers.{is_unknown, has_ended, is_running, is_completed, is_committed, has_begun, unknown, ended, not_running, taken, begun_before, too_late, no_object, one_name, missing_in, missing_rule, no_object_of, rules_for, first_refusal, class_completed, commit_outcome, unrefused, outcome_unless, answer}
 use Rattle.asset_names.proofs.Cases.{t, x, Case, ok, refused}
 
 -- read and write, and read alone
-abbrev read_and_write : Bool × Bool
-read_and_write = (true, true)
+abbrev read_and_write : OpSet
+read_and_write = op_set true true
 
-abbrev read_only : Bool × Bool
-read_only = (true, false)
+abbrev read_only : OpSet
+read_only = op_set true false
 
 -- three names run
 abbrev three_run : List Step

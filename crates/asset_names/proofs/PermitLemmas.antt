@@ -12,7 +12,8 @@ use Rattle.asset_names.specs.InSet.{in_set}
 use Rattle.asset_names.specs.Arrows.{Arrow, linked, among, has_arrow, Chain}
 use Rattle.asset_names.specs.Arrows.Chain.{stay, along}
 use Rattle.asset_names.specs.Endings.{live}
-use Rattle.asset_names.specs.Operations.{has_op, permits, permitted_by, allows}
+use Rattle.asset_names.specs.Operations.{permits, permitted_by, allows}
+use Rattle.asset_names.specs.OpSets.{has_op, OpSet}
 use Rattle.asset_names.proofs.Arrows.{linked_refl, linked_trans, chain_from_linked}
 
 -- an arrow that is listed leads
@@ -84,7 +85,7 @@ unfolding allows
 allows_linked steps x op arrows same u t = linked_same arrows (among (live steps) (permits steps x op)) (λ u v. same u v ∙ sym (has_among (live steps) (permits steps x op) u v)) u t
 
 -- the arrows after a permit
-pub arrows_permitted : (giver taker : Txn) (obs : ObSet) (ops : Bool × Bool) (steps : List Step) (x : ℕ) (op : Op) (u v : ℕ)
+pub arrows_permitted : (giver taker : Txn) (obs : ObSet) (ops : OpSet) (steps : List Step) (x : ℕ) (op : Op) (u v : ℕ)
     → has_arrow (permits (Permit giver taker obs ops ∷ steps) x op) u v ≡ ((eqb giver.0 u && eqb taker.0 v && (in_set obs x && has_op ops op)) || has_arrow (permits steps x op) u v)
 unfolding has_arrow permits permitted_by
 arrows_permitted giver taker obs ops steps x op u v = go (in_set obs x && has_op ops op) where

@@ -3,7 +3,7 @@ use Rattle.std.proofs.Common.{◌≡◌, ℕ, ◌+◌, ◌≤◌, Bool, true, fa
 use Rattle.std.specs.Prelude.{Option, is_none, is_some, sum_by}
 use Rattle.std.specs.Option.{option_or}
 use Rattle.std.proofs.lemmas.List.Sums.{sum_by-cons}
-use Rattle.std.proofs.lemmas.Bool.{or_cases, or_left, or_right, eqb-true, eq-eqb, eqb-false, ne_eqb, false≢true, and_parts, leb-true, le-leb}
+use Rattle.std.proofs.lemmas.Bool.{or_cases, or_left, or_right, eqb-true, eq-eqb, eqb-false, ne_eqb, false≢true, true≢false, and_parts, leb-true, le-leb}
 use Rattle.asset_names.specs.declared.statuses.End.{End}
 use Rattle.asset_names.specs.declared.statuses.End.TheVariants as End'
 use Rattle.asset_names.specs.declared.names.Txn.{Txn}
@@ -15,8 +15,8 @@ use Rattle.asset_names.specs.Endings.{class_arrows, doom_arrows, ended_by, end_o
 use Rattle.asset_names.specs.declared.replies.Reply.{Reply}
 use Rattle.asset_names.specs.declared.replies.Outcome.TheVariants.{Answer}
 use Rattle.asset_names.specs.Answers.{is_running, answer, IsLegal}
-use Rattle.asset_names.specs.Room.{owed_to, owed, fits, changes_status}
-use Rattle.asset_names.proofs.LegalLemmas.{end_alone, running_parts, complete_runs, legal_orderly, ended_initiated}
+use Rattle.asset_names.specs.Room.{owed_to, owed, fits, changes_status, initiates}
+use Rattle.asset_names.proofs.LegalLemmas.{end_alone, initiate_new, running_parts, complete_runs, legal_orderly, ended_initiated}
 use Rattle.asset_names.specs.Orderly.{Distinct, IsOrderly}
 use Rattle.asset_names.proofs.Common.{option_or_none}
 
@@ -176,6 +176,45 @@ owed_live steps t alive = rw (owed_by_parts steps t) (go (lists (initiated steps
   go true c (Some e) h = absurd (false≢true h)
   go true true None h = omega arith
   go true false None h = omega arith
+
+-- who is not live is owed nothing
+owed_dead : (steps : List Step) (t : ℕ) → live steps t ≡ false → owed_to (status steps t) ≡ 0
+unfolding live owed_parts
+owed_dead steps t dead = rw (owed_by_parts steps t) (go (lists (initiated steps) t) (lists (completed steps) t) (end_of steps t) dead) where
+  go : (i c : Bool) (e : Option End) → (i && is_none e) ≡ false → owed_parts i c e ≡ 0
+  go false c e h = refl
+  go true c (Some e) h = refl
+  go true c None h = absurd (true≢false h)
+
+-- an initiate that took effect is owed two entries
+pub owed_new : (opening : Opening) (steps : List Step) (step : Step) (reply : Reply) → IsOrderly steps → answer opening steps step ≡ Answer reply → takes_effect step reply ≡ true → initiates step ≡ true → owed (step ∷ steps) ≡ owed steps + 2
+unfolding initiates
+owed_new opening steps (Initiate t parent) reply orderly is effect new = owed_initiate t parent steps orderly (initiate_new opening steps t parent reply is effect)
+owed_new opening steps (Begin t) reply orderly is effect new = absurd (false≢true new)
+owed_new opening steps (Read t x) reply orderly is effect new = absurd (false≢true new)
+owed_new opening steps (Write t x v) reply orderly is effect new = absurd (false≢true new)
+owed_new opening steps (Complete t) reply orderly is effect new = absurd (false≢true new)
+owed_new opening steps (Permit giver taker obs ops) reply orderly is effect new = absurd (false≢true new)
+owed_new opening steps (Commit t) reply orderly is effect new = absurd (false≢true new)
+owed_new opening steps (Abort t) reply orderly is effect new = absurd (false≢true new)
+owed_new opening steps (WaitFor t) reply orderly is effect new = absurd (false≢true new)
+
+-- a step that took effect, initiates nobody, and is no complete, commit or abort that changes a status leaves what is owed
+pub owed_stays : (steps : List Step) (step : Step) (reply : Reply) → IsOrderly steps → takes_effect step reply ≡ true → changes_status steps step reply ≡ false → initiates step ≡ false → owed (step ∷ steps) ≡ owed steps
+unfolding initiates changes_status
+owed_stays steps (Initiate t parent) reply orderly effect quiet other = absurd (true≢false other)
+owed_stays steps (Begin t) reply orderly effect quiet other = owed_begin t steps
+owed_stays steps (Read t x) reply orderly effect quiet other = owed_read t x steps
+owed_stays steps (Write t x v) reply orderly effect quiet other = owed_write t x v steps
+owed_stays steps (Complete t) reply orderly effect quiet other = absurd (true≢false (sym effect ∙ quiet))
+owed_stays steps (Permit giver taker obs ops) reply orderly effect quiet other = owed_permit giver taker obs ops steps
+owed_stays steps (Commit t) reply orderly effect quiet other =
+    let dead : live steps t.0 ≡ false = sym (ap (λ b. b && live steps t.0) effect) ∙ quiet in
+    omega (arith, owed_commit t steps orderly, owed_dead steps t.0 dead)
+owed_stays steps (Abort t) reply orderly effect quiet other =
+    let dead : live steps t.0 ≡ false = sym (ap (λ b. b && live steps t.0) effect) ∙ quiet in
+    omega (arith, owed_abort t steps orderly, owed_dead steps t.0 dead)
+owed_stays steps (WaitFor t) reply orderly effect quiet other = owed_wait t steps
 
 -- a step that changes a status for good frees at least the entry that it takes
 owed_less : (opening : Opening) (steps : List Step) (step : Step) (reply : Reply) → IsOrderly steps → answer opening steps step ≡ Answer reply → changes_status steps step reply ≡ true → (takes_effect step reply ≡ true) × (owed (step ∷ steps) + 1 ≤ owed steps)

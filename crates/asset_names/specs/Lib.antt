@@ -2,6 +2,7 @@ pub mod Arrows
 pub mod Sets
 pub mod Valid
 pub mod InSet
+pub mod OpSets
 pub mod SetFaults
 pub mod Steps
 pub mod Endings

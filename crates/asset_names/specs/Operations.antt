@@ -7,6 +7,7 @@ use Rattle.asset_names.specs.declared.operations.Op.TheVariants as Op'
 use Rattle.asset_names.specs.declared.steps.Step.{Step}
 use Rattle.asset_names.specs.declared.steps.Step.TheVariants.{Read, Write, Permit}
 use Rattle.asset_names.specs.Arrows.{Arrow, linked, among}
+use Rattle.asset_names.specs.OpSets.{has_op}
 use Rattle.asset_names.specs.InSet.{in_set}
 use Rattle.asset_names.specs.Steps.{Opening}
 use Rattle.asset_names.specs.declared.statuses.End.{End}
@@ -43,11 +44,6 @@ conflict Op'.Read Op'.Write = true
 conflict Op'.Write Op'.Read = true
 conflict Op'.Write Op'.Write = true
 
--- whether a set of operations, as whether it has Read and whether it has Write, has the operation
-abbrev pub has_op : Bool × Bool → Op → Bool
-has_op pair Op'.Read = pair.0
-has_op pair Op'.Write = pair.1
-
 -- the operations after a step that took effect, newest first: a read or a write adds one, for
 -- which its transaction is responsible
 unfoldable pub operated : Step → List Operation → List Operation
@@ -64,15 +60,16 @@ operations (step ∷ older) = operated step (operations older)
 unfoldable pub holds : List Step → ℕ → ℕ → Op → Bool
 holds steps t x op = live steps t && list_any (λ (o : Operation). o.owner == t && o.object == x && same_op (op_of o.use_of) op) (operations steps)
 
--- the arrow from giver to taker that a permit adds, where it covers op on x
-unfoldable pub permitted_by : Step → ℕ → Op → List Arrow
-permitted_by (Permit giver taker obs ops) x op = cond (in_set obs x && has_op ops op) ((giver.0, taker.0) ∷ []) []
-permitted_by step x op = []
+-- the arrows that a step adds, over the steps before it and their arrows: a permit adds the one from its giver to its
+-- taker, if it covers op on x
+unfoldable pub permitted_by : Step → List Step → List Arrow → ℕ → Op → List Arrow
+permitted_by (Permit giver taker obs ops) older arrows x op = cond (in_set obs x && has_op ops op) ((giver.0, taker.0) ∷ []) []
+permitted_by step older arrows x op = []
 
 -- the arrows from each giver to each taker whom it permits op on x
 unfoldable pub permits : List Step → ℕ → Op → List Arrow
 permits [] x op = []
-permits (step ∷ older) x op = permitted_by step x op ++ permits older x op
+permits (step ∷ older) x op = permitted_by step older (permits older x op) x op ++ permits older x op
 
 -- u allows t to do op on x: they are one name, or a chain of live names leads from u to t, each of
 -- which permits it to the next

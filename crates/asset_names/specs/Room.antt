@@ -1,9 +1,9 @@
 -- The room that live names are owed, so that each can still end.
-use Rattle.std.specs.Prelude.{ℕ, ◌+◌, Bool, false, ◌&&◌, nat_le, List, sum_by}
+use Rattle.std.specs.Prelude.{ℕ, ◌+◌, Bool, true, false, ◌&&◌, nat_le, List, sum_by}
 use Rattle.asset_names.specs.declared.steps.Step.{Step}
 use Rattle.asset_names.specs.declared.statuses.Status.{Status}
 use Rattle.asset_names.specs.declared.statuses.Status.TheVariants as Status'
-use Rattle.asset_names.specs.declared.steps.Step.TheVariants.{Complete, Commit, Abort}
+use Rattle.asset_names.specs.declared.steps.Step.TheVariants.{Initiate, Complete, Commit, Abort}
 use Rattle.asset_names.specs.declared.replies.Reply.{Reply}
 use Rattle.asset_names.specs.Steps.{takes_effect, initiated}
 use Rattle.asset_names.specs.Endings.{live, status}
@@ -20,7 +20,7 @@ owed_to other = 0
 unfoldable pub owed : List Step → ℕ
 owed steps = sum_by (λ n. owed_to (status steps n)) (initiated steps)
 
--- so many entries, of which these steps took effect, and the entries owed after them are within the capacity
+-- the entries, of which these steps took effect, and those that are owed after them are within the capacity
 unfoldable pub fits : List Step → ℕ → ℕ → Bool
 fits steps entries capacity = nat_le (entries + owed steps) capacity
 
@@ -30,3 +30,8 @@ changes_status steps (Complete t) reply = takes_effect (Complete t) reply
 changes_status steps (Commit t) reply = takes_effect (Commit t) reply && live steps t.0
 changes_status steps (Abort t) reply = takes_effect (Abort t) reply && live steps t.0
 changes_status steps step reply = false
+
+-- whether a step initiates a transaction
+unfoldable pub initiates : Step → Bool
+initiates (Initiate t parent) = true
+initiates step = false

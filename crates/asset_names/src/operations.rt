@@ -27,8 +27,7 @@ impl Op {
     }
 }
 
-/// A set of operations that is not empty. Contracts see whether it has Read, and whether it has
-/// Write.
+/// A set of operations that is not empty. Contracts see it as an `OpSet`.
 #[derive(Clone, Copy, Debug, PartialEq, Eq)]
 pub struct Ops {
     read: bool,
@@ -36,23 +35,24 @@ pub struct Ops {
 }
 
 impl Model for Ops {
-    ghost use Rattle.std.specs.Prelude.{Bool, ◌||◌, IsTrue};
+    ghost use Rattle.std.specs.Prelude.{◌||◌, IsTrue};
+    ghost use Rattle.asset_names.specs.OpSets.{OpSet};
 
-    ghost Value = { Bool × Bool };
+    ghost Value = { OpSet };
 
-    ghost view = { λ ops. (ops.read, ops.write) };
+    ghost view = { λ ops. record { read = ops.read; write = ops.write } };
 
     ghost invariant = { λ ops. IsTrue (ops.read || ops.write) };
 
-    ghost inverse = { λ pair. record { read = pair.0; write = pair.1 } };
+    ghost inverse = { λ shown. record { read = shown.read; write = shown.write } };
 }
 
 impl Ops {
-    ghost use Rattle.asset_names.specs.Operations.{has_op};
+    ghost use Rattle.asset_names.specs.OpSets.{has_op, only_op, op_set, with_op};
 
-    /// The set of the operations that are asked for. There is none where neither is.
+    /// Returns the set of the operations that are asked for, and `None` if neither is.
     pub fn new(read: bool, write: bool) -> Option<Ops>
-        ensures some { IfSome result (λ ops. ops ≡ (read, write)) }
+        ensures some { IfSome result (λ ops. ops ≡ op_set read write) }
         ensures none { IsNone result ↔ ((read || write) ≡ false) }
     {
         if read || write {
@@ -62,7 +62,38 @@ impl Ops {
         }
     }
 
-    /// Whether the operation is in the set.
+    /// Returns the set of one operation.
+    #[tactic(auto, unfolding(crate::specs::OpSets::only_op))]
+    pub fn only(op: Op) -> Ops
+        ensures { result ≡ only_op op }
+    {
+        match op {
+            Op::Read => Ops {
+                read: true,
+                write: false,
+            },
+            Op::Write => Ops {
+                read: false,
+                write: true,
+            },
+        }
+    }
+
+    /// Returns the set with one more operation.
+    #[tactic(auto, unfolding(crate::specs::OpSets::with_op))]
+    pub fn with(self, op: Op) -> Ops
+        ensures { result ≡ with_op op self }
+    {
+        match op {
+            Op::Read => Ops { read: true, ..self },
+            Op::Write => Ops {
+                write: true,
+                ..self
+            },
+        }
+    }
+
+    /// Returns whether the operation is in the set.
     pub fn has(self, op: Op) -> bool
         ensures { result ≡ has_op self op }
     {

@@ -1,8 +1,8 @@
 -- The table as callers see it, and a write to it.
-use Rattle.std.proofs.Common.{◌≡◌, ℕ, Bool, true, false, cond, eqb, List, [], ◌∷◌, ◌++◌, Option, Some, None, refl, sym, ap, subst, ◌∙◌}
+use Rattle.std.proofs.Common.{◌≡◌, ℕ, Bool, true, false, cond, eqb, List, [], ◌∷◌, ◌++◌, Option, Some, None, refl, sym, ap, subst, ◌∙◌, length, ◌<◌, ◌≤◌, arith}
 use Rattle.std.specs.Prelude.{ℤ, is_some}
 use Rattle.std.specs.Option.{option_map}
-use Rattle.std.proofs.lemmas.Bool.{eqb-true, true≢false}
+use Rattle.std.proofs.lemmas.Bool.{eqb-true, lt-ltb, ltb-true, true≢false}
 use Rattle.asset_names.specs.Steps.{Opening}
 use Rattle.asset_names.specs.Operations.{opening_at}
 use Rattle.asset_objects.specs.declared.records.Record.{Record}
@@ -13,6 +13,24 @@ use Rattle.asset_objects.proofs.RecordLemmas.{shown_in_place, chained_join, cell
 
 pub cells_same : (values : Opening) (records : List Record) (room : ℕ) → cells (object_table values records room) ≡ cells_of values records
 cells_same values records room = λ i. λ x. cells_table values records room x i
+
+-- an object exists exactly where it has a value
+pub has_value : (table : ObjectTable) (x : ℕ) → is_some (value_in (cells table) x) ≡ has_object (cells table) x
+unfolding value_in has_object
+has_value table x = go (cells table x) where
+  go : (cell : Option Cell) → is_some (option_map shown cell) ≡ is_some cell
+  go None = refl
+  go (Some cell) = refl
+
+-- a reservation is room for one more record, and stands while there are no more records in the same room
+pub reserved_room : (values : Opening) (records : List Record) (room : ℕ) (table : ObjectTable) → object_table values records room ≡ table → table.reserved ≡ true → length records < room
+unfolding object_table
+reserved_room values records room table view reserved = ltb-true (length records) room (ap (λ (t : ObjectTable). t.reserved) view ∙ reserved)
+
+pub still_reserved : (values later : Opening) (records fewer : List Record) (room same : ℕ) (table : ObjectTable) → object_table values records room ≡ table → same ≡ room → length fewer ≤ length records → table.reserved ≡ true
+    → (object_table later fewer same).reserved ≡ true
+unfolding object_table
+still_reserved values later records fewer room same table view is le reserved = lt-ltb (length fewer) same (omega (arith, reserved_room values records room table view reserved, is, le))
 
 -- what is in place is what callers see
 pub value_shown : (values : Opening) (records : List Record) (room : ℕ) → IsValid values records → (x : ℕ) → opening_at values x ≡ value_in (cells (object_table values records room)) x

@@ -1,6 +1,6 @@
 //! The records of the writes that stand, beside the values in place.
 
-ghost use Rattle.std.specs.Prelude.{◌≡◌, ◌+◌, ◌<◌, ◌≤◌, ℕ, ◌++◌, ◌==◌, drop, take, length, vec_len, Some, slice_get, IfSome, IfNone, false, true};
+ghost use Rattle.std.specs.Prelude.{◌≡◌, ◌+◌, ◌<◌, ◌≤◌, ℕ, ◌++◌, ◌==◌, drop, take, length, vec_len, vec_capacity, Some, slice_get, IfSome, IfNone, false, true};
 ghost use Rattle.std.specs.List.{list_any};
 ghost use Rattle.asset_names.specs.Operations.{opening_at};
 ghost use Rattle.asset_names.specs.Steps.{Opening};
@@ -53,6 +53,8 @@ fn take_back(values: &mut IndexMap<Ob, i64>, records: &mut Vec<Record>, index: u
         records.new.items ≡ take index records.old.items ++ handed gone.object.0 gone.before (drop (index + 1) records.old.items) }
     ensures values { (gone : Record) → slice_get records.old.items index ≡ Some gone →
         IsReturned values.old.entries values.new.entries gone (drop (index + 1) records.old.items) }
+    ensures capacity { vec_capacity records.new ≡ vec_capacity records.old }
+    ensures len { length records.new.items ≤ length records.old.items }
 {
     let gone = records.remove(index);
     if !hand_on(&mut records[index..], gone.object, gone.before) {
@@ -66,6 +68,8 @@ pub fn undo(values: &mut IndexMap<Ob, i64>, records: &mut Vec<Record>, t: Txn)
     ensures valid { IsValid values.new.entries records.new.items }
     ensures cells { (x : ℕ) → cells_of values.new.entries records.new.items x
         ≡ change_each (undone (λ n. n == t.0)) (cells_of values.old.entries records.old.items) x }
+    ensures capacity { vec_capacity records.new ≡ vec_capacity records.old }
+    ensures len { length records.new.items ≤ length records.old.items }
 {
     let mut rest = records.len();
     'rest: while rest > 0 {
@@ -94,7 +98,9 @@ fn newest_of(records: &[Record], t: Txn) -> Option<(usize, Ob)>
 /// Takes the first `end` records on the object out.
 fn take_out(records: &mut Vec<Record>, x: Ob, end: usize)
     requires { end ≤ vec_len records.old }
-    ensures { records.new.items ≡ elsewhere x.0 (take end records.old.items) ++ drop end records.old.items }
+    ensures records { records.new.items ≡ elsewhere x.0 (take end records.old.items) ++ drop end records.old.items }
+    ensures capacity { vec_capacity records.new ≡ vec_capacity records.old }
+    ensures len { length records.new.items ≤ length records.old.items }
 {
     let mut kept = 0;
     for i in 0..end {
@@ -109,8 +115,10 @@ fn take_out(records: &mut Vec<Record>, x: Ob, end: usize)
 
 /// Makes the newest value that the transaction wrote to each object the object's base.
 pub fn settle(records: &mut Vec<Record>, t: Txn)
-    ensures { (values : Opening) → IsValid values records.old.items →
+    ensures cells { (values : Opening) → IsValid values records.old.items →
         IsValid values records.new.items × ((x : ℕ) → cells_of values records.new.items x ≡ change_each (settled (λ n. n == t.0)) (cells_of values records.old.items) x) }
+    ensures capacity { vec_capacity records.new ≡ vec_capacity records.old }
+    ensures len { length records.new.items ≤ length records.old.items }
 {
     'records: while let Some((newest, x)) = newest_of(records, t) {
         take_out(records, x, newest + 1);

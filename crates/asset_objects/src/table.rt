@@ -41,41 +41,68 @@ pub enum ObjectsFault {
 }
 
 impl Objects {
-    ghost use Rattle.std.specs.Prelude.{◌≡◌, ℕ, ◌==◌, true, map, IfOk, IfErr, OnOk, OnErr};
+    ghost use Rattle.std.specs.Prelude.{◌≡◌, ℕ, ◌==◌, true, is_some, map, IfOk, IfErr, IsOk, OnOk, OnErr};
     ghost use Rattle.asset_names.specs.Sets.{HasNoDouble};
     ghost use Rattle.asset_objects.specs.Cells.{cells, opened, value_in, has_object, written, undone, settled, change_at, change_each};
     ghost use Rattle.asset_objects.specs.Faults.{objects_of, IsObjectsFault};
 
-    /// The objects at their opening values, with no write yet. It is refused with the least object
-    /// that is given twice, and fails where memory runs out.
+    /// Returns the objects at their opening values, with no write yet.
+    ///
+    /// It answers `DoubleObject` with the least object that is given twice; otherwise `NoMemory` if memory runs out.
     pub fn open(alloc: Global, opening: &[(Ob, i64)]) -> Result<Objects, ObjectsFault>
         ensures opened { IfOk result (λ objects. cells objects ≡ opened opening.now) }
         ensures different { OnOk result (HasNoDouble (objects_of opening.now)) }
         ensures fault { IfErr result (λ fault. IsObjectsFault opening.now fault) }
     {
         match values_of(alloc, opening) {
-            Some(values) => Ok(Objects {
-                values,
-                records: Vec::new(alloc),
-            }),
+            Some(values) => Ok(Objects::over(alloc, values)),
             None => Err(fault_of(opening)),
         }
     }
 
-    /// The value of an object, if it exists.
+    /// Returns the objects at their opening values, with no write yet, for a caller who knows that none is given
+    /// twice. If memory runs out, it answers at once, while `open` first compares each pair of objects.
+    pub fn open_distinct(alloc: Global, opening: &[(Ob, i64)]) -> Result<Objects, NoMemory>
+        requires distinct { HasNoDouble (objects_of opening.now) }
+        ensures { IfOk result (λ objects. cells objects ≡ opened opening.now) }
+    {
+        let Some(values) = values_of(alloc, opening) else {
+            return Err(NoMemory);
+        };
+        Ok(Objects::over(alloc, values))
+    }
+
+    /// Returns the objects at these values, with no write yet.
+    fn over(alloc: Global, values: IndexMap<Ob, i64>) -> Objects
+        ensures { cells result ≡ opened values.entries }
+    {
+        Objects {
+            values,
+            records: Vec::new(alloc),
+        }
+    }
+
+    /// Returns the value of an object, and `None` if there is no such object.
     pub fn value(&self, x: Ob) -> Option<i64>
-        ensures { result ≡ value_in (cells self.now) x.0 }
+        ensures value { result ≡ value_in (cells self.now) x.0 }
+        ensures exists { is_some result ≡ has_object (cells self.now) x.0 }
     {
         self.values.get(&x).copied()
     }
 
-    /// Takes the memory for one more write. Where memory runs out, nothing has changed.
+    /// Reserves the memory for one more write. The reservation stands until that write.
+    ///
+    /// If memory runs out, nothing changes. A reservation that stands already is answered Ok.
     pub fn reserve_write(&mut self) -> Result<(), NoMemory>
         ensures cells { cells self.new ≡ cells self.old }
         ensures reserved { OnOk result (self.new.reserved ≡ true) }
+        ensures standing { self.old.reserved ≡ true → IsOk result }
         ensures unchanged { OnErr result (self.new ≡ self.old) }
     {
-        self.records.reserve(1).map_err(|_| NoMemory)
+        match self.records.reserve(1) {
+            Ok(()) => Ok(()),
+            Err(_) => Err(NoMemory),
+        }
     }
 
     /// Writes the value to the object, which exists. Its memory was reserved since the last write, so this takes
@@ -98,7 +125,8 @@ impl Objects {
 
     /// Takes the writes of the transaction away: each object shows what it would have without them.
     pub fn undo(&mut self, t: Txn)
-        ensures { cells self.new ≡ change_each (undone (λ n. n == t.0)) (cells self.old) }
+        ensures cells { cells self.new ≡ change_each (undone (λ n. n == t.0)) (cells self.old) }
+        ensures reserved { self.old.reserved ≡ true → self.new.reserved ≡ true }
     {
         records::undo(&mut self.values, &mut self.records, t);
     }
@@ -106,7 +134,8 @@ impl Objects {
     /// Makes the writes of the transaction final: the newest of them on each object becomes the
     /// object's base, and goes with the writes before it.
     pub fn settle(&mut self, t: Txn)
-        ensures { cells self.new ≡ change_each (settled (λ n. n == t.0)) (cells self.old) }
+        ensures cells { cells self.new ≡ change_each (settled (λ n. n == t.0)) (cells self.old) }
+        ensures reserved { self.old.reserved ≡ true → self.new.reserved ≡ true }
     {
         records::settle(&mut self.records, t);
     }

@@ -11,7 +11,7 @@ use Rattle.asset_names.specs.declared.operations.Op.{Op}
 use Rattle.asset_names.specs.declared.sets.ObSet.{ObSet}
 use Rattle.asset_names.specs.declared.sets.ObSet.TheVariants.{All, Listed}
 use Rattle.asset_names.specs.InSet.{in_set}
-use Rattle.asset_names.specs.Operations.{has_op}
+use Rattle.asset_names.specs.OpSets.{has_op, OpSet}
 use Rattle.asset_names.proofs.Common.{eqb-flip}
 use Rattle.std.proofs.Math.Bool.{or-false}
 use Rattle.asset_permits.specs.Descriptors.{Descriptor, Grant, descriptor_by, same_grant, same_objects, same_ops, same_descriptor, stands, AreDifferent, covers, lets, one_covers}
@@ -53,11 +53,11 @@ unfolding same_objects
 objects_self All = refl
 objects_self (Listed xs) = lists_self xs
 
-ops_are : (p q : Bool × Bool) → same_ops p q ≡ true → p ≡ q
+ops_are : (p q : OpSet) → same_ops p q ≡ true → p ≡ q
 unfolding same_ops
 ops_are p q h =
-    let parts = and_parts (beq p.0 q.0) (beq p.1 q.1) h in
-    λ i. (beq-true p.0 q.0 parts.0 i, beq-true p.1 q.1 parts.1 i)
+    let parts = and_parts (beq p.read q.read) (beq p.write q.write) h in
+    λ i. record { read = beq-true p.read q.read parts.0 i; write = beq-true p.write q.write parts.1 i }
 
 pub same_is : (d e : Descriptor) → same_descriptor d e ≡ true → d ≡ e
 unfolding same_descriptor
@@ -74,7 +74,7 @@ same_is d e h =
 pub same_self : (d : Descriptor) → same_descriptor d d ≡ true
 unfolding same_descriptor same_ops
 same_self d =
-    and_from _ _ (and_from _ _ (and_from _ _ (eq-eqb d.giver d.giver refl) (eq-eqb d.taker d.taker refl)) (objects_self d.objects)) (and_from _ _ (beq_self d.ops.0) (beq_self d.ops.1))
+    and_from _ _ (and_from _ _ (and_from _ _ (eq-eqb d.giver d.giver refl) (eq-eqb d.taker d.taker refl)) (objects_self d.objects)) (and_from _ _ (beq_self d.ops.read) (beq_self d.ops.write))
 
 -- ---- one more
 pub any_push : (test : Descriptor → Bool) (descriptors : List Descriptor) (d : Descriptor) → list_any test (descriptors ++ d ∷ []) ≡ (list_any test descriptors || test d)

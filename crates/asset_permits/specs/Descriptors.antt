@@ -9,20 +9,20 @@ use Rattle.asset_names.specs.declared.sets.ObSet.{ObSet}
 use Rattle.asset_names.specs.declared.sets.ObSet.TheVariants.{All, Listed}
 use Rattle.asset_names.specs.Arrows.{Arrow, linked}
 use Rattle.asset_names.specs.InSet.{in_set}
-use Rattle.asset_names.specs.Operations.{has_op}
+use Rattle.asset_names.specs.OpSets.{has_op, OpSet}
 
 -- a permit: the giver lets the taker do the operations on the objects
 pub record Descriptor : Type 0 where
   pub giver : ℕ
   pub taker : ℕ
   pub objects : ObSet
-  pub ops : Bool × Bool
+  pub ops : OpSet
 
 -- a permit of a giver who is known
 pub record Grant : Type 0 where
   pub taker : ℕ
   pub objects : ObSet
-  pub ops : Bool × Bool
+  pub ops : OpSet
 
 -- the permit of this giver
 unfoldable pub descriptor_by : ℕ → Grant → Descriptor
@@ -36,8 +36,8 @@ same_objects (Listed objects) All = false
 same_objects (Listed objects) (Listed others) = pointwise (λ (x y : Ob). x.0 == y.0) objects others
 
 -- whether the two are the same operations
-unfoldable pub same_ops : Bool × Bool → Bool × Bool → Bool
-same_ops ops others = beq ops.0 others.0 && beq ops.1 others.1
+unfoldable pub same_ops : OpSet → OpSet → Bool
+same_ops ops others = beq ops.read others.read && beq ops.write others.write
 
 -- whether the two say the same, where the giver is known
 unfoldable pub same_grant : Grant → Grant → Bool

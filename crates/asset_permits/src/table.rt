@@ -48,7 +48,7 @@ impl Permits {
     ghost use Rattle.std.specs.Prelude.{◌≡◌, ℕ, ◌==◌, ◌&&◌, ◌||◌, not, [], OnOk, OnErr};
     ghost use Rattle.asset_names.specs.declared.operations.Op.{Op};
     ghost use Rattle.asset_names.specs.InSet.{in_set};
-    ghost use Rattle.asset_names.specs.Operations.{has_op};
+    ghost use Rattle.asset_names.specs.OpSets.{has_op};
     ghost use Rattle.asset_permits.specs.Descriptors.{Descriptor, same_descriptor, stands, one_covers, allows_by, AreDifferent};
 
     /// A table without permits. It takes no memory.

@@ -54,12 +54,12 @@ value_at_entry counts x first entry older =
 
 -- the permits after one more entry
 pub permits_at_entry : (test : ℕ → Bool) (x : ℕ) (op : Op) (entry : Entry) (older : List Entry) →
-    among test (permits (applied (entry ∷ older)) x op) ≡ cond (takes_effect entry.0 entry.1) (among test (permitted_by entry.0 x op)) [] ++ among test (permits (applied older) x op)
+    among test (permits (applied (entry ∷ older)) x op) ≡ cond (takes_effect entry.0 entry.1) (among test (permitted_by entry.0 (applied older) (permits (applied older) x op) x op)) [] ++ among test (permits (applied older) x op)
 unfolding permits among
 permits_at_entry test x op entry older = at_applied (λ steps. among test (permits steps x op)) entry older ∙ go (takes_effect entry.0 entry.1) where
-  go : (carried : Bool) → cond carried (among test (permitted_by entry.0 x op ++ permits (applied older) x op)) (among test (permits (applied older) x op))
-      ≡ cond carried (among test (permitted_by entry.0 x op)) [] ++ among test (permits (applied older) x op)
-  go true = filter-append (λ (arrow : Arrow). test arrow.0 && test arrow.1) (permitted_by entry.0 x op) (permits (applied older) x op)
+  go : (carried : Bool) → cond carried (among test (permitted_by entry.0 (applied older) (permits (applied older) x op) x op ++ permits (applied older) x op)) (among test (permits (applied older) x op))
+      ≡ cond carried (among test (permitted_by entry.0 (applied older) (permits (applied older) x op) x op)) [] ++ among test (permits (applied older) x op)
+  go true = filter-append (λ (arrow : Arrow). test arrow.0 && test arrow.1) (permitted_by entry.0 (applied older) (permits (applied older) x op) x op) (permits (applied older) x op)
   go false = refl
 
 -- who is blocked after one more step

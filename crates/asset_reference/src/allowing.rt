@@ -1,7 +1,8 @@
 //! Who allows whom, by going over the entries from the newest on.
 
 ghost use Rattle.std.specs.Prelude.{◌≡◌, ◌≤◌, ◌++◌, List, ◌∷◌, length, reverse, take};
-ghost use Rattle.asset_names.specs.Arrows.{among, linked};
+ghost use Rattle.asset_names.specs.Arrows.{Arrow, among, linked};
+ghost use Rattle.asset_names.specs.declared.steps.Step.{Step as Request};
 ghost use Rattle.asset_names.specs.Steps.{Entry, applied};
 ghost use Rattle.asset_names.specs.Endings.{live};
 ghost use Rattle.asset_names.specs.Operations.{permits, permitted_by, allows};
@@ -21,7 +22,7 @@ pub fn is_live(entries: &[(Step, Reply)], t: Txn) -> bool
 /// The giver and the taker of a step that permits `op` on `x`, if both are live.
 #[tactic(auto, unfolding(crate::specs::Scans::arrows_of, asset_names::specs::Operations::permitted_by, asset_names::specs::Arrows::among))]
 fn permit_by(entries: &[(Step, Reply)], step: &Step, x: Ob, op: Op) -> Option<(Txn, Txn)>
-    ensures { arrows_of result ≡ among (live (applied (reverse entries.now))) (permitted_by step.now x.0 op) }
+    ensures { (older : List Request) (arrows : List Arrow) → arrows_of result ≡ among (live (applied (reverse entries.now))) (permitted_by step.now older arrows x.0 op) }
 {
     match *step {
         Step::Permit {

@@ -27,6 +27,8 @@ rest-preserved-then-index-t c =
       free = undo_frees t values after old new i gone found taken back c.rest.rest next c.rest.invariant.free;
       kept = undo_keeps t values after old new i gone found taken back c.rest.invariant.kept;
       cells = λ x. undo_cells t values after old new i gone found taken back (eq-eqb _ _ c.if-index-t.true) x ∙ c.rest.invariant.cells x;
+      capacity = c.take_back.ensures.capacity ∙ c.rest.invariant.capacity;
+      len = omega (arith, c.take_back.ensures.len, c.rest.invariant.len);
     }
 
 pub rest-preserved : goal.rest-preserved
@@ -38,6 +40,8 @@ rest-preserved c =
           (ap (is_of c.args.t.0) (sym c.index.ensures) ∙ ne_eqb _ _ c.if-index-t.false);
       kept = c.rest.invariant.kept;
       cells = c.rest.invariant.cells;
+      capacity = c.rest.invariant.capacity;
+      len = c.rest.invariant.len;
     }
 
 pub returns-clause-cells : goal.returns-clause-cells

@@ -1,4 +1,5 @@
 use Rattle.std.proofs.Common.{◌≡◌, ◌≤◌, ℕ, eqb, false, drop, length}
+use Rattle.std.specs.Prelude.{vec_capacity}
 use Rattle.std.specs.List.{list_any}
 use Rattle.asset_objects.specs.Cells.{undone, change_each}
 use Rattle.asset_objects.specs.Records.{is_of, cells_of, IsValid}
@@ -11,6 +12,8 @@ invariant-rest l = record {
   free : list_any (is_of l.t.0) (drop l.rest l.records.items) ≡ false;
   kept : IsValid l.values.entries l.records.items;
   cells : (x : ℕ) → change_each (undone (λ n. eqb n l.t.0)) (cells_of l.values.entries l.records.items) x ≡ change_each (undone (λ n. eqb n l.t.0)) (cells_of l.fn.values.entries l.fn.records.items) x;
+  capacity : vec_capacity l.records ≡ vec_capacity l.fn.records;
+  len : length l.records.items ≤ length l.fn.records.items;
 }
 
 abbrev pub decreases-rest : goal.decreases-rest

@@ -10,9 +10,9 @@ use Rattle.asset_core.proofs.ValidLemmas.{valid_orderly, no_ending, askers_follo
 use Rattle.asset_core.proofs.PendingLemmas.{pending_requests}
 use Rattle.asset_core.proofs.facility.Core.record.Goals as goal
 
-pub follow-requires : goal.follow-requires
+pub apply_if-requires : goal.apply_if-requires
 unfolding answer_to
-follow-requires c = record { ready = λ carried. ready _ _ c.self.inside.tables c.args.step.now c.args.reply c.self.invariant.stand (rw (← c.self.view_is) at c.requires.answer) carried }
+apply_if-requires c = record { effect = c.takes_effect-effect.ensures; ready = λ carried. ready _ _ c.self.inside.tables c.args.step.now c.args.reply c.self.invariant.stand (rw (← c.self.view_is) at c.requires.answer) carried }
 
 pub invariant_of-self : goal.invariant_of-self
 unfolding with_entry answer_to IsLegal has_room fits

@@ -7,10 +7,11 @@ use Rattle.asset_names.specs.Answers.{takes_memory}
 use Rattle.asset_locks.specs.Valid.{lock_table}
 use Rattle.asset_locks.specs.LockTable as Locks
 use Rattle.asset_trans.specs.TransRows.{status_in}
-use Rattle.asset_core.specs.Tables.{value_asked, Stand, locks_after, released}
+use Rattle.asset_core.specs.Tables.{value_asked, values_of, locks_after, released}
 use Rattle.asset_core.proofs.ShowsLemmas.{initiate_shows, begin_shows, complete_shows, read_shows, write_shows, commit_shows, commit_again_shows, abort_shows, abort_again_shows, wait_shows, permit_shows, new_name, running_live, live_shown}
 use Rattle.asset_core.proofs.TableLemmas.{on_ok, on_ok_two, on_ok_three, always_ok, always_err, stand_as}
 use Rattle.asset_core.proofs.tables.Tables.apply.Goals as goal
+use Rattle.asset_core.specs.Shows.{Shows}
 
 pub returns-in-Initiate-clause-stand : goal.returns-in-Initiate-clause-stand
 returns-in-Initiate-clause-stand c = rw c.in-Initiate.is (on_ok_three c.initiate.result
@@ -77,7 +78,7 @@ returns-in-WaitFor-clause-locks c = rw c.in-WaitFor.is refl
 
 pub returns-in-Commit-clause-stand : goal.returns-in-Commit-clause-stand
 returns-in-Commit-clause-stand c = rw c.in-Commit.is (λ opening steps stand orderly. go opening steps stand (is_live_status (status_in c.args.self.now.trans c.in-Commit.t.0)) refl) where
-  go : (opening : Opening) (steps : List Step) (stand : Stand opening steps c.args.self.now) (alive : Bool) → is_live_status (status_in c.args.self.now.trans c.in-Commit.t.0) ≡ alive → Stand opening (Commit c.in-Commit.t ∷ steps) c.commit.new.self
+  go : (opening : Opening) (steps : List Step) (stand : Shows opening steps (values_of c.args.self.now)) (alive : Bool) → is_live_status (status_in c.args.self.now.trans c.in-Commit.t.0) ≡ alive → Shows opening (Commit c.in-Commit.t ∷ steps) (values_of c.commit.new.self)
   go opening steps stand true e =
       let changed = c.commit.ensures.live e in
       stand_as opening _ _ _ _ _ _ changed.0 changed.1 changed.2 refl (commit_shows opening steps _ _ _ _ c.in-Commit.t stand (sym (live_shown opening steps _ _ _ _ c.in-Commit.t.0 stand) ∙ e) _ changed.3)
@@ -94,7 +95,7 @@ returns-in-Commit-clause-locks c = rw c.in-Commit.is (go (is_live_status (status
 
 pub returns-in-Abort-clause-stand : goal.returns-in-Abort-clause-stand
 returns-in-Abort-clause-stand c = rw c.in-Abort.is (λ opening steps stand orderly. go opening steps stand (is_live_status (status_in c.args.self.now.trans c.in-Abort.t.0)) refl) where
-  go : (opening : Opening) (steps : List Step) (stand : Stand opening steps c.args.self.now) (alive : Bool) → is_live_status (status_in c.args.self.now.trans c.in-Abort.t.0) ≡ alive → Stand opening (Abort c.in-Abort.t ∷ steps) c.abort.new.self
+  go : (opening : Opening) (steps : List Step) (stand : Shows opening steps (values_of c.args.self.now)) (alive : Bool) → is_live_status (status_in c.args.self.now.trans c.in-Abort.t.0) ≡ alive → Shows opening (Abort c.in-Abort.t ∷ steps) (values_of c.abort.new.self)
   go opening steps stand true e =
       let changed = c.abort.ensures.live e in
       stand_as opening _ _ _ _ _ _ changed.0 changed.1 changed.2 refl (abort_shows opening steps _ _ _ _ c.in-Abort.t stand (sym (live_shown opening steps _ _ _ _ c.in-Abort.t.0 stand) ∙ e) _ changed.3)

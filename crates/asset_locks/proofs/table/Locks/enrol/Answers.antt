@@ -1,10 +1,10 @@
-use Rattle.std.proofs.Common.{◌≡◌, ◌∙◌, ap, sym, subst, eqb, refl, None}
+use Rattle.std.proofs.Common.{◌∙◌, ap, sym, subst, eqb, refl, None}
 use Rattle.indexmap.proofs.CallerLemmas.{insert_entry-new}
 use Rattle.asset_names.specs.declared.names.Txn.{Txn}
 use Rattle.asset_locks.specs.declared.enrolled.Enrolled.{Enrolled as EnrolledRow}
-use Rattle.asset_locks.specs.LockTable.{enrolled_in, enrol_in}
+use Rattle.asset_locks.specs.LockTable.{enrol_in}
 use Rattle.asset_locks.specs.Valid.{LockRows, lock_table, IsValid}
-use Rattle.asset_locks.proofs.TableLemmas.{new_row, enrolled}
+use Rattle.asset_locks.proofs.TableLemmas.{absent, not_enrolled, not_new, enrolled}
 use Rattle.asset_locks.proofs.ValidLemmas.{valid_enrol, unlocked}
 use Rattle.asset_locks.proofs.table.Locks.enrol.Goals as goal
 
@@ -12,20 +12,32 @@ pub invariant_of-self : goal.invariant_of-self
 invariant_of-self c =
     let inside = c.self.inside in
     let w : EnrolledRow = record { pending = None; held = c.new.result } in
-    let none = new_row c.args.t.0 inside.enrolled.entries inside.objects.entries (subst (λ (k : LockRows). enrolled_in (lock_table k) c.args.t.0 ≡ None) (sym c.self.view_is) c.requires.new) in
+    let none = absent _ (sym c.if-contains_key.ensures) in
     let entries = c.in-Ok.ensures.entries ∙ insert_entry-new (λ (a b : Txn). eqb a.0 b.0) inside.enrolled c.args.t w none in
     subst IsValid (sym (enrolled c.args.t inside.enrolled.entries c.insert.new.self.entries inside.objects.entries w refl c.new.ensures.items entries)) (valid_enrol c.args.t.0 _ c.self.invariant)
 
+pub returns-then-contains_key-clause-unlocked : goal.returns-then-contains_key-clause-unlocked
+returns-then-contains_key-clause-unlocked c = λ new. rw (← c.self.view_is) (unlocked c.args.t.0 _ c.self.invariant (rw (← c.self.view_is) at new))
+
+pub returns-then-contains_key-clause-done : goal.returns-then-contains_key-clause-done
+returns-then-contains_key-clause-done c = λ new. absurd (not_new c.args.t.0 c.self.inside.enrolled.entries c.self.inside.objects.entries (sym c.if-contains_key.ensures) (rw (← c.self.view_is) at new))
+
 pub returns-in-Ok-clause-done : goal.returns-in-Ok-clause-done
-returns-in-Ok-clause-done c =
+returns-in-Ok-clause-done c = λ new.
     let inside = c.self.inside in
     let w : EnrolledRow = record { pending = None; held = c.new.result } in
-    let none = new_row c.args.t.0 inside.enrolled.entries inside.objects.entries (subst (λ (k : LockRows). enrolled_in (lock_table k) c.args.t.0 ≡ None) (sym c.self.view_is) c.requires.new) in
+    let none = absent _ (sym c.if-contains_key.ensures) in
     let entries = c.in-Ok.ensures.entries ∙ insert_entry-new (λ (a b : Txn). eqb a.0 b.0) inside.enrolled c.args.t w none in
     enrolled c.args.t inside.enrolled.entries c.insert.new.self.entries inside.objects.entries w refl c.new.ensures.items entries ∙ ap (λ (k : LockRows). enrol_in c.args.t.0 (lock_table k)) c.self.view_is
 
 pub returns-in-Ok-clause-unlocked : goal.returns-in-Ok-clause-unlocked
-returns-in-Ok-clause-unlocked c = rw (← c.self.view_is) (unlocked c.args.t.0 _ c.self.invariant (rw (← c.self.view_is) at c.requires.new))
+returns-in-Ok-clause-unlocked c = λ new. rw (← c.self.view_is) (unlocked c.args.t.0 _ c.self.invariant (rw (← c.self.view_is) at new))
 
 pub returns-clause-unlocked : goal.returns-clause-unlocked
-returns-clause-unlocked c = rw (← c.self.view_is) (unlocked c.args.t.0 _ c.self.invariant (rw (← c.self.view_is) at c.requires.new))
+returns-clause-unlocked c = λ new. rw (← c.self.view_is) (unlocked c.args.t.0 _ c.self.invariant (rw (← c.self.view_is) at new))
+
+pub returns-in-Ok-clause-again : goal.returns-in-Ok-clause-again
+returns-in-Ok-clause-again c = λ some. absurd (not_enrolled c.args.t.0 c.self.inside.enrolled.entries c.self.inside.objects.entries (sym c.if-contains_key.ensures) (rw (← c.self.view_is) at some))
+
+pub returns-clause-again : goal.returns-clause-again
+returns-clause-again c = λ some. absurd (not_enrolled c.args.t.0 c.self.inside.enrolled.entries c.self.inside.objects.entries (sym c.if-contains_key.ensures) (rw (← c.self.view_is) at some))

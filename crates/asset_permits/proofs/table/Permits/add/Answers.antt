@@ -1,7 +1,7 @@
 use Rattle.std.proofs.Common.{◌≡◌, ◌∙◌, ◌||◌, ◌&&◌, true, false, eqb, sym, ap, arith, refl}
 use Rattle.std.proofs.lemmas.Bool.{or_left, or_right, and_from, eq-eqb}
 use Rattle.asset_names.specs.InSet.{in_set}
-use Rattle.asset_names.specs.Operations.{has_op}
+use Rattle.asset_names.specs.OpSets.{has_op}
 use Rattle.asset_permits.specs.Descriptors.{Descriptor, Grant, descriptor_by, stands, one_covers, same_descriptor, lets}
 use Rattle.asset_permits.specs.PermitRow.{has_giver}
 use Rattle.asset_permits.specs.Valid.{grants_in, givers_in, descriptors_of, IsValid}
