@@ -1,60 +1,255 @@
-//! The words of the command line: what they ask for, and the texts of help and of refusals.
+//! The program over readers and writers in memory: exit statuses, and the texts of help, of refusals and
+//! of faults.
 
-use crate::status::{status_of_error, status_of_run, status_of_words};
-use crate::words::{WordsFault, capacity_given, capacity_or_default};
+use crate::arguments::{ArgumentsFault, capacity_or_default, requested_capacity};
+use crate::exit::{status_of_arguments, status_of_run};
+use crate::program::run_program;
 use asset_cli::{RunEnd, ScriptFault};
 use std::alloc::{AllocError, Global};
+use std::io;
+use std::process::Abort;
 use std::test::Fail;
 
-/// The words, after the program's name.
-fn words(alloc: Global, texts: &[&str]) -> Result<Vec<String>, AllocError> {
-    let mut words = Vec::new(alloc);
-    words.push(String::from_str(alloc, "asset")?)?;
+/// Fails at each call.
+#[derive(Drop)]
+struct Failing;
+
+impl io::Read for Failing {
+    fn read(&mut self, _buf: &mut [u8]) -> io::Result<usize> {
+        Err(io::Error::from(io::ErrorKind::Other))
+    }
+}
+
+impl io::Write for Failing {
+    fn write(&mut self, _buf: &[u8]) -> io::Result<usize> {
+        Err(io::Error::from(io::ErrorKind::Other))
+    }
+
+    fn flush(&mut self) -> io::Result<()> {
+        Ok(())
+    }
+}
+
+/// A transaction that fills a history of four entries.
+const FULL: &[u8] = b"initiate 7\nbegin 7\ninitiate 8\ncomplete 7\ncommit 7\n";
+
+/// Returns the program's name and these arguments.
+fn list(alloc: Global, texts: &[&str]) -> Result<Vec<String>, AllocError> {
+    let mut arguments = Vec::new(alloc);
+    arguments.push(String::from_str(alloc, "asset")?)?;
     for text in texts {
-        words.push(String::from_str(alloc, text)?)?;
+        arguments.push(String::from_str(alloc, text)?)?;
     }
-    Ok(words)
+    Ok(arguments)
 }
 
-/// The capacity that the words ask for, or 0 where they are refused.
-fn capacity(rt: &HostRuntime, texts: &[&str]) -> Result<usize, AllocError> {
-    let words = words(rt.alloc(), texts)?;
-    Ok(
-        capacity_given(rt.alloc(), words.as_slice())
-            .map(capacity_or_default)
-            .unwrap_or(0),
-    )
+/// Asserts what the program writes to its output and to its errors, and its exit status.
+fn expect(
+    rt: &(impl Abort + AllocGlobal),
+    texts: &[&str],
+    script: &[u8],
+    (output, errors, status): (&str, &str, u8),
+) -> Result<(), Fail> {
+    let arguments = Ok(list(rt.alloc(), texts)?);
+    let mut input = script;
+    let mut written = Vec::new(rt.alloc());
+    let mut complaints = Vec::new(rt.alloc());
+    let ended = run_program(
+        rt.alloc(),
+        &arguments,
+        &mut input,
+        &mut written,
+        &mut complaints,
+    );
+    assert_eq!(rt; str::from_utf8(&written)?, output, "at {texts:?}");
+    assert_eq!(rt; str::from_utf8(&complaints)?, errors, "at {texts:?}");
+    assert_eq!(rt; ended, status, "at {texts:?}");
+    Ok(())
 }
 
-/// The text that the words are answered with, and the exit status.
-fn refusal(rt: &HostRuntime, texts: &[&str]) -> Result<(String, u8), Fail> {
-    let words = words(rt.alloc(), texts)?;
-    match capacity_given(rt.alloc(), words.as_slice()) {
-        Ok(_) => Err(Fail::from("the words are taken")),
-        Err(error) => Ok((error.to_string(rt.alloc())?, status_of_error(error.kind()))),
-    }
-}
-
-/// Whether the words are answered with this text, and this exit status.
-fn tells(rt: &HostRuntime, texts: &[&str], expected: &str, status: u8) -> Result<bool, Fail> {
-    let (text, told) = refusal(rt, texts)?;
-    Ok(text.as_str() == expected && told == status)
-}
-
-/// Whether a fault of the words has this text.
-fn is_fault(alloc: Global, fault: WordsFault, expected: &str) -> Result<bool, AllocError> {
-    let text = fault.to_string(alloc)?;
-    Ok(text.as_str() == expected)
-}
-
-/// Whether a fault of a run has this text.
-fn is_run_fault(alloc: Global, fault: ScriptFault, expected: &str) -> Result<bool, AllocError> {
-    let text = fault.to_string(alloc)?;
-    Ok(text.as_str() == expected)
+/// Asserts that the arguments are refused with this text, and that the script is not run.
+fn expect_refused(
+    rt: &(impl Abort + AllocGlobal),
+    texts: &[&str],
+    errors: &str,
+) -> Result<(), Fail> {
+    expect(rt, texts, b"initiate 7\n", ("", errors, 2))
 }
 
 #[test]
-fn words_give_the_capacity(rt: HostRuntime) {
+fn capacity_is_used(rt: HostRuntime) -> Result<(), Fail> {
+    let text = "ok\nok\nfull\nok\ncommitted\n";
+    expect(&rt, &["run", "--cap", "4"], FULL, (text, "", 0))
+}
+
+#[test]
+fn no_argument_is_run_with_room(rt: HostRuntime) -> Result<(), Fail> {
+    let text = "ok\nok\nok\nok\ncommitted\n";
+    expect(&rt, &[], FULL, (text, "", 0))?;
+    expect(&rt, &["run"], FULL, (text, "", 0))
+}
+
+#[test]
+fn bad_line_ends_with_two(rt: HostRuntime) -> Result<(), Fail> {
+    let text = "ok\nline 2: bad command\n";
+    expect(&rt, &["run"], b"initiate 7\nbegin\n", (text, "", 2))
+}
+
+#[test]
+fn failing_reader_ends_with_one(rt: HostRuntime) -> Result<(), Fail> {
+    let arguments = Ok(list(rt.alloc(), &["run"])?);
+    let mut written = Vec::new(rt.alloc());
+    let mut complaints = Vec::new(rt.alloc());
+    let status = run_program(
+        rt.alloc(),
+        &arguments,
+        &mut Failing,
+        &mut written,
+        &mut complaints,
+    );
+    assert_eq!(rt; str::from_utf8(&complaints)?, "asset: read fault\n");
+    assert_eq!(rt; (status, written.len()), (1, 0));
+    Ok(())
+}
+
+#[test]
+fn failing_writer_ends_with_one(rt: HostRuntime) -> Result<(), Fail> {
+    let arguments = Ok(list(rt.alloc(), &["run"])?);
+    let mut input = FULL;
+    let mut complaints = Vec::new(rt.alloc());
+    let status = run_program(
+        rt.alloc(),
+        &arguments,
+        &mut input,
+        &mut Failing,
+        &mut complaints,
+    );
+    assert_eq!(rt; str::from_utf8(&complaints)?, "asset: write fault\n");
+    assert_eq!(rt; status, 1);
+    Ok(())
+}
+
+/// Asserts what the program does if its arguments could not be read.
+fn expect_unread(
+    rt: &(impl Abort + AllocGlobal),
+    fault: ArgumentsFault,
+    errors: &str,
+    status: u8,
+) -> Result<(), Fail> {
+    let mut input = FULL;
+    let mut written = Vec::new(rt.alloc());
+    let mut complaints = Vec::new(rt.alloc());
+    let ended = run_program(
+        rt.alloc(),
+        &Err(fault),
+        &mut input,
+        &mut written,
+        &mut complaints,
+    );
+    assert_eq!(rt; str::from_utf8(&complaints)?, errors);
+    assert_eq!(rt; (ended, written.len()), (status, 0));
+    assert_eq!(rt; status_of_arguments(fault), status);
+    Ok(())
+}
+
+#[test]
+fn arguments_that_could_not_be_read(rt: HostRuntime) -> Result<(), Fail> {
+    let not_text = "asset: an argument is not valid UTF-8\n";
+    expect_unread(&rt, ArgumentsFault::NotText, not_text, 2)?;
+    expect_unread(&rt, ArgumentsFault::NoMemory, "asset: no memory\n", 1)
+}
+
+#[test]
+fn help_goes_to_the_output(rt: HostRuntime) -> Result<(), Fail> {
+    let help =
+        "ASSET, a facility of transactions that can share their work\n\nUsage: asset run [--cap <n>] < SCRIPT\n\nCommands:\n  run   Runs the script on standard input and writes its transcript (the default)\n  help  Print this message or the help of the given subcommand(s)\n\nOptions:\n  -h, --help     Print help\n  -V, --version  Print version\n\nThe transcript is written once the input has ended.\n\nExit status:\n  0  every line was looked at, or help or the version was asked for\n  1  the input or the output failed, or memory ran out\n  2  a line is bad, or an argument is refused\n";
+    expect(&rt, &["--help"], FULL, (help, "", 0))?;
+    let run_help =
+        "Runs the script on standard input and writes its transcript (the default)\n\nUsage: asset run [--cap <n>] < SCRIPT\n\nOptions:\n      --cap <n>  How many entries the history has room for, from 1 to 1000000 [default: 10000]\n  -h, --help     Print help\n\nThe transcript is written once the input has ended.\n\nExit status:\n  0  every line was looked at, or help or the version was asked for\n  1  the input or the output failed, or memory ran out\n  2  a line is bad, or an argument is refused\n";
+    expect(&rt, &["run", "--help"], FULL, (run_help, "", 0))
+}
+
+#[test]
+fn version_goes_to_the_output(rt: HostRuntime) -> Result<(), Fail> {
+    expect(&rt, &["--version"], FULL, ("asset 0.1.0\n", "", 0))?;
+    expect(&rt, &["-V"], FULL, ("asset 0.1.0\n", "", 0))
+}
+
+#[test]
+fn capacity_out_of_range_is_refused(rt: HostRuntime) -> Result<(), Fail> {
+    let low =
+        "error: invalid value '0' for '--cap <n>': 0 is not in 1..=1000000\n\nFor more information, try '--help'.\n";
+    expect_refused(&rt, &["run", "--cap", "0"], low)?;
+    let high =
+        "error: invalid value '1000001' for '--cap <n>': 1000001 is not in 1..=1000000\n\nFor more information, try '--help'.\n";
+    expect_refused(&rt, &["run", "--cap", "1000001"], high)
+}
+
+#[test]
+fn other_arguments_are_refused(rt: HostRuntime) -> Result<(), Fail> {
+    for (texts, expected) in [
+        (
+            &["--cap", "5"][..],
+            "error: unexpected argument '--cap' found\n\nUsage: asset run [--cap <n>] < SCRIPT\n\nFor more information, try '--help'.\n",
+        ),
+        (
+            &["run", "x"][..],
+            "error: unexpected argument 'x' found\n\nUsage: asset run [--cap <n>] < SCRIPT\n\nFor more information, try '--help'.\n",
+        ),
+        (
+            &["groups"][..],
+            "error: unrecognized subcommand 'groups'\n\nUsage: asset run [--cap <n>] < SCRIPT\n\nFor more information, try '--help'.\n",
+        ),
+        (
+            &["sources"][..],
+            "error: unrecognized subcommand 'sources'\n\nUsage: asset run [--cap <n>] < SCRIPT\n\nFor more information, try '--help'.\n",
+        ),
+        (
+            &["jobs"][..],
+            "error: unrecognized subcommand 'jobs'\n\nUsage: asset run [--cap <n>] < SCRIPT\n\nFor more information, try '--help'.\n",
+        ),
+        (
+            &["prune"][..],
+            "error: unrecognized subcommand 'prune'\n\n  tip: a similar subcommand exists: 'run'\n\nUsage: asset run [--cap <n>] < SCRIPT\n\nFor more information, try '--help'.\n",
+        ),
+    ] {
+        expect_refused(&rt, texts, expected)?;
+    }
+    Ok(())
+}
+
+#[test]
+fn path_is_refused_with_the_right_call(rt: HostRuntime) -> Result<(), Fail> {
+    for (texts, expected) in [
+        (
+            &["script.asset"][..],
+            "asset: a script comes on standard input: asset run < script.asset\n",
+        ),
+        (
+            &["run", "examples/waiting"][..],
+            "asset: a script comes on standard input: asset run < examples/waiting\n",
+        ),
+        (
+            &["run", "--cap", "4", "my.asset"][..],
+            "asset: a script comes on standard input: asset run < my.asset\n",
+        ),
+    ] {
+        expect_refused(&rt, texts, expected)?;
+    }
+    Ok(())
+}
+
+/// Returns the capacity that the arguments ask for, if they are taken.
+fn capacity(rt: &HostRuntime, texts: &[&str]) -> Result<Option<usize>, AllocError> {
+    let arguments = list(rt.alloc(), texts)?;
+    match requested_capacity(rt.alloc(), arguments.as_slice()) {
+        Ok(requested) => Ok(capacity_or_default(requested)),
+        Err(_) => Ok(None),
+    }
+}
+
+#[test]
+fn arguments_give_the_capacity(rt: HostRuntime) {
     for (texts, expected) in [
         (&[][..], 10_000),
         (&["run"][..], 10_000),
@@ -62,83 +257,21 @@ fn words_give_the_capacity(rt: HostRuntime) {
         (&["run", "--cap", "1"][..], 1),
         (&["run", "--cap=1000000"][..], 1_000_000),
     ] {
-        assert_eq!(rt; capacity(&rt, texts), Ok(expected));
+        assert_eq!(rt; capacity(&rt, texts), Ok(Some(expected)));
     }
 }
 
 #[test]
-fn capacity_out_of_range_is_refused(rt: HostRuntime) -> Result<(), Fail> {
-    let low =
-        "error: invalid value '0' for '--cap <n>': 0 is not in 1..=1000000\n\nFor more information, try '--help'.\n";
-    assert!(rt; tells(&rt, &["run", "--cap", "0"], low, 2)?);
-    let high =
-        "error: invalid value '1000001' for '--cap <n>': 1000001 is not in 1..=1000000\n\nFor more information, try '--help'.\n";
-    assert!(rt; tells(&rt, &["run", "--cap", "1000001"], high, 2)?);
-    Ok(())
-}
-
-#[test]
-fn other_words_are_refused(rt: HostRuntime) -> Result<(), Fail> {
-    for (texts, expected) in [
-        (
-            &["--cap", "5"][..],
-            "error: unexpected argument '--cap' found\n\nUsage: asset [COMMAND]\n\nFor more information, try '--help'.\n",
-        ),
-        (
-            &["run", "x"][..],
-            "error: unexpected argument 'x' found\n\nUsage: asset run [OPTIONS]\n\nFor more information, try '--help'.\n",
-        ),
-        (
-            &["groups"][..],
-            "error: unrecognized subcommand 'groups'\n\nUsage: asset [COMMAND]\n\nFor more information, try '--help'.\n",
-        ),
-        (
-            &["sources"][..],
-            "error: unrecognized subcommand 'sources'\n\nUsage: asset [COMMAND]\n\nFor more information, try '--help'.\n",
-        ),
-        (
-            &["jobs"][..],
-            "error: unrecognized subcommand 'jobs'\n\nUsage: asset [COMMAND]\n\nFor more information, try '--help'.\n",
-        ),
-        (
-            &["prune"][..],
-            "error: unrecognized subcommand 'prune'\n\n  tip: a similar subcommand exists: 'run'\n\nUsage: asset [COMMAND]\n\nFor more information, try '--help'.\n",
-        ),
+fn number_out_of_range_is_no_capacity(rt: HostRuntime) {
+    for (requested, expected) in [
+        (None, Some(10_000)),
+        (Some(0), None),
+        (Some(1), Some(1)),
+        (Some(1_000_000), Some(1_000_000)),
+        (Some(1_000_001), None),
     ] {
-        assert!(rt; tells(&rt, texts, expected, 2)?, "not {expected}");
+        assert_eq!(rt; capacity_or_default(requested), expected);
     }
-    Ok(())
-}
-
-#[test]
-fn faults_of_the_words_in_text(rt: HostRuntime) -> Result<(), Fail> {
-    for (fault, expected, status) in [
-        (
-            WordsFault::NotText,
-            "a word of the command line is no text",
-            2,
-        ),
-        (WordsFault::NoMemory, "no memory", 1),
-    ] {
-        assert!(rt; is_fault(rt.alloc(), fault, expected)?, "not {expected}");
-        assert_eq!(rt; status_of_words(fault), status);
-    }
-    Ok(())
-}
-
-#[test]
-fn faults_of_a_run_in_text(rt: HostRuntime) -> Result<(), Fail> {
-    for (fault, expected) in [
-        (ScriptFault::Read, "read fault"),
-        (ScriptFault::Write, "write fault"),
-        (ScriptFault::NoMemory, "no memory"),
-    ] {
-        assert!(rt;
-            is_run_fault(rt.alloc(), fault, expected)?,
-            "not {expected}"
-        );
-    }
-    Ok(())
 }
 
 #[test]
@@ -155,12 +288,8 @@ fn status_says_how_a_run_ended(rt: HostRuntime) {
 }
 
 #[test]
-fn help_is_shown(rt: HostRuntime) -> Result<(), Fail> {
-    let help =
-        "ASSET, a facility of transactions that can share their work\n\nUsage: asset [COMMAND]\n\nCommands:\n  run   Runs the script on standard input and writes its transcript (the default)\n  help  Print this message or the help of the given subcommand(s)\n\nOptions:\n  -h, --help  Print help\n";
-    assert!(rt; tells(&rt, &["--help"], help, 0)?);
-    let run_help =
-        "Runs the script on standard input and writes its transcript (the default)\n\nUsage: asset run [OPTIONS]\n\nOptions:\n      --cap <n>  How many entries the history has room for, from 1 to 1000000 [default: 10000]\n  -h, --help     Print help\n";
-    assert!(rt; tells(&rt, &["run", "--help"], run_help, 0)?);
+fn memory_fault_in_text(rt: HostRuntime) -> Result<(), Fail> {
+    let text = ScriptFault::NoMemory.to_string(rt.alloc())?;
+    assert_eq!(rt; text.as_str(), "no memory");
     Ok(())
 }
