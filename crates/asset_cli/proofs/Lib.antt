@@ -1,10 +1,5 @@
 pub mod TransferLemmas
-pub mod LineLemmas
-pub mod NumberLemmas
-mod GrammarRows
-mod NumberLaws
-pub mod ToldLemmas
-pub mod GivenLemmas
+pub mod TranscriptLemmas
+pub mod OpeningLemmas
 pub mod PreambleLemmas
 pub mod RunLemmas
-pub mod SetLemmas

@@ -1,35 +1,34 @@
--- What one object line does.
+-- What one line does before the first step.
 use Rattle.std.proofs.Common.{◌≡◌, ℕ, true, false, List, [], ◌∷◌, ◌++◌}
 use Rattle.std.specs.Prelude.{ℤ}
 use Rattle.asset_names.specs.declared.names.Ob.{Ob}
 use Rattle.asset_names.specs.declared.steps.Step.{Step}
 use Rattle.asset_names.specs.Steps.{Opening}
 use Rattle.asset_names.specs.Operations.{exists}
-use Rattle.asset_cli.specs.declared.grammar.Command.TheVariants.{Object, Ask}
-use Rattle.asset_cli.specs.declared.grammar.Line.TheVariants.{Blank, Command}
-use Rattle.asset_cli.specs.declared.grammar.Line.TheVariants as Line'
-use Rattle.asset_cli.specs.declared.preamble.Taken.TheVariants.{More, First, Bad}
-use Rattle.asset_cli.specs.Grammar.{line_of}
-use Rattle.asset_cli.specs.Transcript.{objects_told, object_line}
-use Rattle.asset_cli.specs.Preamble.{Takes}
+use Rattle.asset_grammar.specs.declared.grammar.Command.TheVariants.{Object, Ask}
+use Rattle.asset_grammar.specs.declared.grammar.Line.TheVariants.{Blank, Command}
+use Rattle.asset_grammar.specs.declared.grammar.Line.TheVariants as Line'
+use Rattle.asset_cli.specs.declared.preamble.ObjectLine.TheVariants.{More, First, Bad}
+use Rattle.asset_grammar.specs.Grammar.{line_of}
+use Rattle.asset_cli.specs.Transcript.{objects_transcript, object_line, steps_from, steps_transcript}
+use Rattle.asset_cli.specs.Preamble.{Takes, transcript_from}
 
--- What each kind of line does before the first step.
 pub takes_blank : (line : List ℕ) (opening : Opening) → line_of line ≡ Blank → Takes More line opening opening
-unfolding Takes objects_told object_line
+unfolding Takes objects_transcript object_line
 takes_blank line opening e = λ more n capacity. rw e
 
 pub takes_object : (line : List ℕ) (opening : Opening) (object : Ob × ℤ) → line_of line ≡ Command (Object object) → exists opening object.0.0 ≡ false → Takes More line opening (opening ++ object ∷ [])
-unfolding Takes objects_told object_line
+unfolding Takes objects_transcript object_line
 takes_object line opening object e new = λ more n capacity. rw (e, new)
 
 pub takes_double : (line : List ℕ) (opening opening' : Opening) (object : Ob × ℤ) → line_of line ≡ Command (Object object) → exists opening object.0.0 ≡ true → Takes Bad line opening opening'
-unfolding Takes objects_told object_line
-takes_double line opening opening' object e given = λ more n capacity. rw (e, given)
+unfolding Takes transcript_from objects_transcript object_line
+takes_double line opening opening' object e there = λ more n capacity. rw (e, there)
 
-pub takes_step : (line : List ℕ) (opening : Opening) (step : Step) → line_of line ≡ Command (Ask step) → Takes First line opening opening
-unfolding Takes objects_told object_line
+pub takes_step : (line : List ℕ) (opening : Opening) (step : Step) → line_of line ≡ Command (Ask step) → Takes (First step) line opening opening
+unfolding Takes transcript_from steps_from objects_transcript steps_transcript object_line
 takes_step line opening step e = λ more n capacity. rw e
 
 pub takes_bad : (line : List ℕ) (opening : Opening) → line_of line ≡ Line'.Bad → Takes Bad line opening opening
-unfolding Takes objects_told object_line
+unfolding Takes transcript_from objects_transcript object_line
 takes_bad line opening e = λ more n capacity. rw e

@@ -1,10 +1,10 @@
--- How a read fault and a front of a text come about.
+-- How a read fault and a prefix of a text come about.
 use Rattle.std.proofs.Common.{◌≡◌, ℕ, ◌-◌, ◌<◌, true, List, ◌++◌, length, take, drop, Option, None, Some, IfSome, inl, inr, sym, ap, ◌∙◌, append_assoc, take-append-drop, length-append, arith}
 use Rattle.std.proofs.lemmas.List.{take_rest}
 use Rattle.std.specs.Io.KnownBytes.{Appends, Consumes, Keeps}
 use Rattle.std.proofs.KnownBytes.{Appends-kept}
 use Rattle.asset_cli.specs.Device.{DeviceState}
-use Rattle.asset_cli.specs.Transfers.{IsReadFault, TookFront, input_limit, request_limit}
+use Rattle.asset_cli.specs.Transfers.{IsReadFault, TookPrefix, input_limit, request_limit}
 
 -- bytes that a reader gave were left before
 given_was_left : (before after : Option (List ℕ)) (bytes : List ℕ) (n : ℕ) → Consumes before after bytes → n < length bytes → IfSome before (λ left. n < length left)
@@ -30,14 +30,14 @@ module _ {D : Type 0} (remaining : D → Option (List ℕ)) (old new : DeviceSta
   fault_of_excess bytes gave more moved = inr (inl (record { moved = moved; had = given_was_left _ _ bytes _ gave more }))
 
 module _ {D : Type 0} (contents : D → Option (List ℕ)) (old : DeviceState D) (text : List ℕ) where
-  -- a front that stays when the writer takes nothing more
-  pub front_taken : (before new : DeviceState D) (front rest : List ℕ) → text ≡ front ++ rest → Appends (contents old.inner) (contents before.inner) front
-      → Keeps (contents before.inner) (contents new.inner) → TookFront contents old new text
-  unfolding TookFront
-  front_taken before new front rest split appended kept = (front, rest, split, Appends-kept _ _ _ _ appended kept)
+  -- a prefix that stays when the writer takes nothing more
+  pub prefix_taken : (before new : DeviceState D) (prefix rest : List ℕ) → text ≡ prefix ++ rest → Appends (contents old.inner) (contents before.inner) prefix
+      → Keeps (contents before.inner) (contents new.inner) → TookPrefix contents old new text
+  unfolding TookPrefix
+  prefix_taken before new prefix rest split appended kept = (prefix, rest, split, Appends-kept _ _ _ _ appended kept)
 
--- what a writer takes of the rest goes to the front
-pub front_grown : (text front rest : List ℕ) (n : ℕ) → text ≡ front ++ rest → text ≡ (front ++ take n rest) ++ take (length rest - n) (drop n rest)
-front_grown text front rest n split =
-    split ∙ ap (λ (l : List ℕ). front ++ l) (sym (take-append-drop n rest)) ∙ sym (append_assoc front (take n rest) (drop n rest))
-    ∙ ap (λ (l : List ℕ). (front ++ take n rest) ++ l) (sym (take_rest rest n))
+-- what a writer takes of the rest joins the prefix
+pub prefix_grown : (text prefix rest : List ℕ) (n : ℕ) → text ≡ prefix ++ rest → text ≡ (prefix ++ take n rest) ++ take (length rest - n) (drop n rest)
+prefix_grown text prefix rest n split =
+    split ∙ ap (λ (l : List ℕ). prefix ++ l) (sym (take-append-drop n rest)) ∙ sym (append_assoc prefix (take n rest) (drop n rest))
+    ∙ ap (λ (l : List ℕ). (prefix ++ take n rest) ++ l) (sym (take_rest rest n))

@@ -17,11 +17,10 @@ device_code {D = D} code =
     (λ p. record { inner = p.0; failed = p.1.0; asked = p.1.1.0; moved = p.1.1.1 })
     (λ _. refl)
 
--- no call was made of the device yet
-pub record IsFresh {D : Type 0} (d : DeviceState D) : Type 0 where
+-- the device was asked nothing, and so nothing failed
+pub record IsUnused {D : Type 0} (d : DeviceState D) : Type 0 where
   pub failed : d.failed ≡ false
   pub asked : d.asked ≡ 0
-  pub moved : d.moved ≡ 0
 
 -- a count after n more, which stays at the greatest value of a u64
 unfoldable pub counted : ℕ → ℕ → ℕ

@@ -1,15 +1,6 @@
 pub mod Device
 pub mod Transfers
-pub mod Lines
-pub mod Words
-pub mod Numbers
-pub mod Keywords
-pub mod Arguments
-pub mod Grammar
-pub mod Texts
 pub mod Transcript
-pub mod Telling
+pub mod Rendering
 pub mod Preamble
 pub mod Runs
-pub mod Sets
-pub mod PermitArguments

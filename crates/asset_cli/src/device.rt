@@ -1,13 +1,14 @@
 //! A reader or a writer that is watched: whether a call of it failed, and how much it did.
 ghost use Rattle.std.specs.Prelude.{◌≡◌, ◌<◌, ◌≤◌, ℕ, Bool, true, false, length, take, IfSome, IfNone, MatchOption, is_none, ◌||◌};
 ghost use Rattle.std.specs.Io.KnownBytes.{Appends, Consumes, IsAtEnd, Keeps};
-ghost use Rattle.asset_cli.specs.Device.{DeviceState, IsFresh, counted};
+ghost use Rattle.asset_cli.specs.Device.{DeviceState, IsUnused, counted};
 
 use std::io::{Read, Write};
 use std::marker::Model;
 
-/// A reader or a writer, with the number of calls made of it, the number of bytes that they moved,
-/// and whether one of them failed. A number stays at its greatest value.
+/// A reader or a writer, with the number of calls made of it, the number of bytes that they moved, and
+/// whether one of them failed. A number stays at its greatest value. A device that was asked nothing has
+/// moved nothing.
 #[derive(Drop)]
 pub struct Device<D> {
     inner: D,
@@ -18,19 +19,22 @@ pub struct Device<D> {
 
 impl<D> Model for Device<D> {
     ghost use Rattle.asset_cli.specs.Device.{DeviceState, device_code};
+    ghost use Rattle.std.specs.Prelude.{◌≡◌};
 
     ghost Value = { DeviceState D };
 
     ghost coded = { device_code D.code };
 
     ghost view = { λ d. record { inner = d.inner; failed = d.failed; asked = d.asked; moved = d.moved } };
+
+    ghost invariant = { λ d. d.asked ≡ 0 → d.moved ≡ 0 };
 }
 
 impl<D> Device<D> {
-    /// A device over `inner`, of which no call was made yet.
+    /// Returns a device over `inner`, which was asked nothing yet.
     pub fn new(inner: D) -> Self
         ensures inner { result.inner ≡ inner }
-        ensures fresh { IsFresh result }
+        ensures unused { IsUnused result }
     {
         Device {
             inner,
@@ -40,21 +44,21 @@ impl<D> Device<D> {
         }
     }
 
-    /// Whether a call failed, which stays true for good.
+    /// Returns whether a call failed. Once true, it stays true.
     pub fn failed(&self) -> bool
         ensures { result ≡ self.now.failed }
     {
         self.failed
     }
 
-    /// How many calls were made of the reader or the writer.
+    /// Returns how many calls were made of the reader or the writer.
     pub fn asked(&self) -> u64
         ensures { result ≡ self.now.asked }
     {
         self.asked
     }
 
-    /// Notes a call that moved `count` bytes, or failed at `None`.
+    /// Counts a call that moved `count` bytes, or failed at `None`.
     #[tactic(auto, unfolding(crate::specs::Device::counted))]
     fn note(&mut self, count: Option<usize>)
         ensures inner { self.new.inner ≡ self.old.inner }
@@ -72,11 +76,12 @@ impl<D> Device<D> {
 }
 
 impl<D: Read> Device<D> {
-    /// Asks the reader once. `None` says that it failed.
+    /// Asks the reader once, and returns how many bytes it gave. `None` if it failed.
     pub(crate) fn read(&mut self, buf: &mut [u8]) -> Option<usize>
         ensures bound { IfSome result (λ n. n ≤ length buf.new) }
         ensures gave { IfSome result (λ n.
             Consumes (D.remaining self.old.inner) (D.remaining self.new.inner) (take n buf.new)) }
+        ensures unmoved { self.old.asked ≡ 0 → self.old.moved ≡ 0 }
         ensures end { IfSome result (λ n.
             n ≡ 0 → 0 < length buf.new → IsAtEnd (D.remaining self.new.inner)) }
         ensures gave_nothing { IfNone result
@@ -93,8 +98,8 @@ impl<D: Read> Device<D> {
 }
 
 impl<D: Write> Device<D> {
-    /// Offers the writer a text once. `None` says that it failed; taking no byte of a text that is
-    /// not empty is a failure too.
+    /// Offers the writer a text once, and returns how many bytes it took. `None` if it failed; taking no
+    /// byte of a text that is not empty is a failure too.
     pub(crate) fn write(&mut self, text: &[u8]) -> Option<usize>
         ensures bound { IfSome result (λ n. n ≤ length text.now) }
         ensures progress { IfSome result (λ n. 0 < length text.now → 0 < n) }

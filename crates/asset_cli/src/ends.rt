@@ -3,7 +3,7 @@
 /// How the run of a script ends.
 #[derive(Clone, Copy, Debug, PartialEq, Eq)]
 pub enum RunEnd {
-    /// Each line was looked at.
+    /// Every line was looked at.
     Finished,
     /// The line of this number is bad, and those after it were not looked at. Lines count from 1.
     BadLine(u64),

@@ -1,23 +1,23 @@
 //! The object lines, which stand before the first step.
-ghost use Rattle.std.specs.Prelude.{◌≡◌, ℕ, ◌+◌, ◌^◌, ◌<◌, [], length, IfOk, OnOk, IfErr};
+ghost use Rattle.std.specs.Prelude.{◌≡◌, ℕ, ◌+◌, ◌^◌, ◌<◌, ◌≤◌, [], length, IfOk, OnOk, IfErr};
 ghost use Rattle.asset_names.specs.Sets.{HasNoDouble};
 ghost use Rattle.asset_core.specs.Recorded.{objects_of};
-ghost use Rattle.asset_cli.specs.Lines.{lines};
-ghost use Rattle.asset_cli.specs.Transcript.{objects_told};
-ghost use Rattle.asset_cli.specs.Preamble.{Takes, told_from};
+ghost use Rattle.asset_grammar.specs.Lines.{lines};
+ghost use Rattle.asset_cli.specs.Transcript.{objects_transcript};
+ghost use Rattle.asset_cli.specs.Preamble.{Takes, transcript_from};
 
 use crate::faults::ScriptFault;
-use crate::given::GivenObjects;
-use crate::grammar::{Command, Line};
-use crate::lines::split_line;
+use crate::opening_objects::OpeningObjects;
+use asset_grammar::{Command, Line, split_line};
+use asset_names::Step;
 
-/// What a line does before the first step.
+/// What a line is before the first step.
 #[derive(Clone, Copy)]
-pub(crate) enum Taken {
-    /// It is taken, and further objects may follow.
+pub(crate) enum ObjectLine {
+    /// It adds an object or says nothing, and further objects may follow.
     More,
-    /// It is the first step.
-    First,
+    /// It asks for the first step.
+    First(Step),
     /// It is bad.
     Bad,
 }
@@ -25,44 +25,44 @@ pub(crate) enum Taken {
 /// Where the object lines end.
 #[derive(Drop)]
 pub(crate) struct Preamble<'a> {
-    /// The number of the line at which they end.
+    /// The line at which they end: the first step or a bad line, or `More` at the end of the script.
+    pub line: ObjectLine,
+    /// The number of that line.
     pub number: u64,
-    /// That line and those after it.
+    /// The lines after it.
     pub rest: &'a [u8],
-    /// Whether that line is bad.
-    pub is_bad: bool,
 }
 
-/// Takes one line before the first step.
-fn take_line(opening: &mut GivenObjects, line: &[u8]) -> Result<Taken, ScriptFault>
+/// Takes one line before the first step into the opening.
+fn take_line(opening: &mut OpeningObjects, line: &[u8]) -> Result<ObjectLine, ScriptFault>
     ensures takes { IfOk result (λ taken. Takes taken line.now opening.old opening.new) }
     ensures different { OnOk result (HasNoDouble (objects_of opening.old) → HasNoDouble (objects_of opening.new)) }
     ensures memory { IfErr result (λ fault. fault ≡ ScriptFault.NoMemory) }
 {
     match Line::parse(line) {
-        Line::Blank => Ok(Taken::More),
+        Line::Blank => Ok(ObjectLine::More),
         Line::Command(Command::Object(object)) => {
             if opening.add(object)? {
-                Ok(Taken::More)
+                Ok(ObjectLine::More)
             } else {
-                Ok(Taken::Bad)
+                Ok(ObjectLine::Bad)
             }
         }
-        Line::Command(Command::Ask(_)) => Ok(Taken::First),
-        Line::Bad => Ok(Taken::Bad),
+        Line::Command(Command::Ask(step)) => Ok(ObjectLine::First(step)),
+        Line::Bad => Ok(ObjectLine::Bad),
     }
 }
 
-/// Takes the object lines at the front of a script into the opening, which is empty before.
+/// Takes the object lines at the start of a script into the opening, which is empty before.
 pub(crate) fn take_objects<'a>(
-    opening: &mut GivenObjects,
+    opening: &mut OpeningObjects,
     bytes: &'a [u8],
 ) -> Result<Preamble<'a>, ScriptFault>
     requires empty { opening.old ≡ [] }
     requires few { length (lines bytes.now) + 1 < 2 ^ 64 }
-    ensures told { IfOk result (λ preamble. (capacity : ℕ) →
-        objects_told (lines bytes.now) 1 [] capacity ≡ told_from preamble.is_bad (lines preamble.rest.now) preamble.number opening.new capacity) }
-    ensures few { IfOk result (λ preamble. preamble.number + length (lines preamble.rest.now) ≡ 1 + length (lines bytes.now)) }
+    ensures rendered { IfOk result (λ preamble. (capacity : ℕ) →
+        objects_transcript (lines bytes.now) 1 [] capacity ≡ transcript_from preamble.line (lines preamble.rest.now) preamble.number opening.new capacity) }
+    ensures few { IfOk result (λ preamble. preamble.number + length (lines preamble.rest.now) ≤ 1 + length (lines bytes.now)) }
     ensures different { OnOk result (HasNoDouble (objects_of opening.new)) }
     ensures memory { IfErr result (λ fault. fault ≡ ScriptFault.NoMemory) }
 {
@@ -70,24 +70,24 @@ pub(crate) fn take_objects<'a>(
     let mut number = 1;
     'lines: while let Some((line, rest)) = split_line(left) {
         match take_line(opening, line)? {
-            Taken::More => {}
-            Taken::First => return Ok(Preamble {
+            ObjectLine::More => {}
+            ObjectLine::First(step) => return Ok(Preamble {
+                line: ObjectLine::First(step),
                 number,
-                rest: left,
-                is_bad: false,
+                rest,
             }),
-            Taken::Bad => return Ok(Preamble {
+            ObjectLine::Bad => return Ok(Preamble {
+                line: ObjectLine::Bad,
                 number,
-                rest: left,
-                is_bad: true,
+                rest,
             }),
         }
         left = rest;
         number += 1;
     }
     Ok(Preamble {
+        line: ObjectLine::More,
         number,
         rest: left,
-        is_bad: false,
     })
 }

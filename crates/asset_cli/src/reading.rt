@@ -1,7 +1,7 @@
 //! Reads a whole input.
 ghost use Rattle.std.specs.Prelude.{◌≡◌, ◌≢◌, ◌≤◌, false, [], length, IfOk, OnOk, Err, vec_len};
 ghost use Rattle.std.specs.Io.KnownBytes.{Consumes, IsAtEnd};
-ghost use Rattle.asset_cli.specs.Device.{IsFresh};
+ghost use Rattle.asset_cli.specs.Device.{IsUnused};
 ghost use Rattle.asset_cli.specs.Transfers.{IsReadFault, input_limit};
 
 use crate::device::Device;
@@ -18,20 +18,20 @@ const MOST_REQUESTS: u32 = 134_217_728;
 /// How many bytes are asked for at once.
 const PIECE: usize = 65_536;
 
-/// A vector of `len` zeros.
+/// Returns a vector of `len` zeros.
 fn zeros(alloc: Global, len: usize) -> Result<Vec<u8>, AllocError>
     ensures { IfOk result (λ piece. vec_len piece ≡ len) }
 {
     vec![in alloc; 0u8; len]
 }
 
-/// Adds what the reader gives to the bytes, up to its end, by pieces that are read into `piece`.
+/// Appends all that the reader gives, up to its end, by pieces that are read into `piece`.
 fn read_into<R: Read>(
     input: &mut Device<R>,
     piece: &mut [u8],
     bytes: &mut Vec<u8>,
 ) -> Result<(), ScriptFault>
-    requires fresh { IsFresh input.old }
+    requires unused { IsUnused input.old }
     requires room { length piece.old ≡ 65536 }
     requires empty { bytes.old.items ≡ [] }
     ensures gave { OnOk result
@@ -58,13 +58,13 @@ fn read_into<R: Read>(
     Err(ScriptFault::Read)
 }
 
-/// All that the reader gives, up to its end. A reader that gives more than 67,108,864 bytes, or has
-/// no end within 134,217,728 requests, is given up.
+/// Returns all that the reader gives, up to its end. Gives up a reader that gives more than 67,108,864
+/// bytes, or has no end within 134,217,728 requests.
 pub(crate) fn read_all<R: Read>(
     alloc: Global,
     input: &mut Device<R>,
 ) -> Result<Vec<u8>, ScriptFault>
-    requires { IsFresh input.old }
+    requires { IsUnused input.old }
     ensures gave { IfOk result (λ bytes.
         Consumes (R.remaining input.old.inner) (R.remaining input.new.inner) bytes.items) }
     ensures end { OnOk result (IsAtEnd (R.remaining input.new.inner)) }

@@ -1,14 +1,14 @@
 use Rattle.std.proofs.Common.{◌≡◌, ℕ, ◌+◌, [], length}
 use Rattle.asset_names.specs.Sets.{HasNoDouble}
 use Rattle.asset_core.specs.Recorded.{objects_of}
-use Rattle.asset_cli.specs.Lines.{lines}
-use Rattle.asset_cli.specs.Transcript.{objects_told}
+use Rattle.asset_grammar.specs.Lines.{lines}
+use Rattle.asset_cli.specs.Transcript.{objects_transcript}
 use Rattle.asset_cli.proofs.preamble.take_objects.Given as goal
 
--- the lines left tell, over the opening so far, what all of them do
+-- the lines left render, over the opening so far, what all of them do
 abbrev pub invariant-lines : goal.invariant-lines
 invariant-lines l = record {
-  told : (capacity : ℕ) → objects_told (lines l.bytes) 1 [] capacity ≡ objects_told (lines l.left) l.number l.opening capacity;
+  rendered : (capacity : ℕ) → objects_transcript (lines l.bytes) 1 [] capacity ≡ objects_transcript (lines l.left) l.number l.opening capacity;
   count : l.number + length (lines l.left) ≡ 1 + length (lines l.bytes);
   different : HasNoDouble (objects_of l.opening);
 }

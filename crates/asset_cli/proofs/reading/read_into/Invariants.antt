@@ -1,4 +1,5 @@
--- What was read so far is what the reader gave, and the device has counted it.
+-- What was read so far is what the reader gave, and the device has counted it, since it had moved nothing
+-- before it was asked.
 use Rattle.std.proofs.Common.{◌≡◌, ◌≤◌, false, length, vec_len}
 use Rattle.std.specs.Io.KnownBytes.{Consumes}
 use Rattle.asset_cli.specs.Transfers.{input_limit}
@@ -9,7 +10,7 @@ invariant-requests g l = record {
   gave : Consumes (g.R.Read.remaining l.fn.input.inner) (g.R.Read.remaining l.input.inner) l.bytes.items;
   failed : l.input.failed ≡ false;
   asked : l.input.asked ≡ l.counter;
-  moved : l.input.moved ≡ vec_len l.bytes;
+  moved : (l.input.asked ≡ 0 → l.input.moved ≡ 0) → l.input.moved ≡ vec_len l.bytes;
   limit : vec_len l.bytes ≤ input_limit;
   room : length l.piece ≡ 65536;
 }

@@ -5,7 +5,7 @@ use Rattle.asset_cli.proofs.writing.write_all.Given as goal
 
 abbrev pub invariant-offers : goal.invariant-offers
 invariant-offers g l = record {
-  split : (front : List ℕ) × (l.initial.rest ≡ front ++ l.rest) × Appends (g.W.Write.contents l.initial.output.inner) (g.W.Write.contents l.output.inner) front;
+  split : (prefix : List ℕ) × (l.initial.rest ≡ prefix ++ l.rest) × Appends (g.W.Write.contents l.initial.output.inner) (g.W.Write.contents l.output.inner) prefix;
   failed : l.output.failed ≡ l.initial.output.failed;
 }
 

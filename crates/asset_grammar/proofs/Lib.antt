@@ -1,0 +1,5 @@
+pub mod LineLemmas
+pub mod NumberLemmas
+mod GrammarCases
+mod NumberLaws
+pub mod SetLemmas

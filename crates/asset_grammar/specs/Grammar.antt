@@ -1,0 +1,62 @@
+-- What a line of a script says.
+use Rattle.std.specs.Prelude.{ℕ, ◌==◌, Bool, true, cond, nat_lt, List, [], ◌∷◌, length, Option, None, Some, option_and_then, option_map, ℤ, codes}
+use Rattle.std.specs.Str.{bytes_eq}
+use Rattle.asset_names.specs.declared.names.Txn.{Txn}
+use Rattle.asset_names.specs.declared.names.Ob.{Ob}
+use Rattle.asset_names.specs.declared.sets.ObSet.{ObSet}
+use Rattle.asset_names.specs.OpSets.{OpSet}
+use Rattle.asset_names.specs.declared.steps.Step.{Step}
+use Rattle.asset_names.specs.declared.steps.Step.TheVariants as Step'
+use Rattle.asset_grammar.specs.declared.keywords.Keyword.{Keyword}
+use Rattle.asset_grammar.specs.declared.keywords.Keyword.TheVariants.{Initiate, Begin, Read, Write, Complete, Permit, Commit, Abort, Wait}
+use Rattle.asset_grammar.specs.declared.grammar.Command.{Command}
+use Rattle.asset_grammar.specs.declared.grammar.Command.TheVariants.{Object, Ask}
+use Rattle.asset_grammar.specs.declared.grammar.Line.{Line}
+use Rattle.asset_grammar.specs.declared.grammar.Line.TheVariants as Line'
+use Rattle.asset_grammar.specs.PermitOperands.{txns_ops_and_set}
+use Rattle.asset_grammar.specs.Words.{words}
+use Rattle.asset_grammar.specs.Keywords.{keyword_of}
+use Rattle.asset_grammar.specs.Operands.{object_and_value, one_txn, txn_and_object, txn_and_parent, txn_object_and_value}
+
+-- the step that a keyword asks for with these operands
+unfoldable pub step_by : Keyword → List (List ℕ) → Option Step
+step_by Initiate operands = option_map (λ (a : Txn × Option Txn). Step'.Initiate a.0 a.1) (txn_and_parent operands)
+step_by Begin operands = option_map Step'.Begin (one_txn operands)
+step_by Read operands = option_map (λ (a : Txn × Ob). Step'.Read a.0 a.1) (txn_and_object operands)
+step_by Write operands = option_map (λ (a : Txn × Ob × ℤ). Step'.Write a.0 a.1 a.2) (txn_object_and_value operands)
+step_by Complete operands = option_map Step'.Complete (one_txn operands)
+step_by Permit operands = option_map (λ (a : (Txn × Txn) × (OpSet × ObSet)). Step'.Permit a.0.0 a.0.1 a.1.1 a.1.0) (txns_ops_and_set operands)
+step_by Commit operands = option_map Step'.Commit (one_txn operands)
+step_by Abort operands = option_map Step'.Abort (one_txn operands)
+step_by Wait operands = option_map Step'.WaitFor (one_txn operands)
+
+-- what the words of an object line say after the first one: the object and its value
+unfoldable pub object_command : List (List ℕ) → Option Command
+object_command operands = option_map Object (object_and_value operands)
+
+-- what the words of a step line say: a keyword and its operands
+unfoldable pub step_command : List ℕ → List (List ℕ) → Option Command
+step_command word operands = option_and_then (λ keyword. option_map Ask (step_by keyword operands)) (keyword_of word)
+
+-- What the words of a line say. The first one tells object lines from step lines.
+unfoldable pub command_from : List (List ℕ) → Option Command
+command_from [] = None
+command_from (word ∷ operands) = cond (bytes_eq word (codes "object")) (object_command operands) (step_command word operands)
+
+-- what a line asks
+unfoldable pub command_of : List ℕ → Option Command
+command_of line = command_from (words line)
+
+-- a line says nothing: it is empty, or it begins with `#`
+unfoldable pub is_blank : List ℕ → Bool
+is_blank [] = true
+is_blank (first ∷ rest) = first == 35
+
+-- a line that asks something, or a bad one
+unfoldable pub line_by : Option Command → Line
+line_by None = Line'.Bad
+line_by (Some command) = Line'.Command command
+
+-- What a line is. One of more than 4,096 bytes is bad, whatever it begins with.
+unfoldable pub line_of : List ℕ → Line
+line_of line = cond (nat_lt 4096 (length line)) Line'.Bad (cond (is_blank line) Line'.Blank (line_by (command_of line)))

@@ -1,0 +1,9 @@
+pub mod Lines
+pub mod Words
+pub mod Numbers
+pub mod Keywords
+pub mod Operands
+pub mod PermitOperands
+pub mod Sets
+pub mod Grammar
+pub mod Texts

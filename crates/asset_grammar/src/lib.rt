@@ -1,0 +1,16 @@
+//! The lines of a script: what each of them says, and the lines of text that answer them. Reads and writes
+//! nothing, and asks no facility.
+#![tactic(auto)]
+
+mod grammar;
+mod keywords;
+mod lines;
+mod numbers;
+mod operands;
+mod sets;
+mod texts;
+mod words;
+
+pub use grammar::{Command, Line};
+pub use lines::split_line;
+pub use texts::{push_bad_line, push_full, push_outcome};
