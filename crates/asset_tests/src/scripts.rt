@@ -3,5 +3,7 @@ mod devices;
 mod lines;
 mod memory;
 mod permits;
+mod requests;
 mod rows;
 mod runs;
+mod sizes;

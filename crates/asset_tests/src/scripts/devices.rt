@@ -17,8 +17,8 @@ impl io::Read for FailingReader<'_> {
         if count == 0 {
             return Err(io::Error::from(io::ErrorKind::Other));
         }
-        let (front, rest) = self.left.split_at(count);
-        buf[..count].copy_from_slice(front);
+        let (piece, rest) = self.left.split_at(count);
+        buf[..count].copy_from_slice(piece);
         self.left = rest;
         Ok(count)
     }
@@ -72,7 +72,7 @@ impl io::Write for FullWriter {
     }
 }
 
-/// Whether what the reader gives and the writer takes in pieces is read and written whole.
+/// Returns whether what the reader gives and the writer takes in pieces is read and written whole.
 fn is_read_and_written_whole(alloc: Global) -> bool {
     let mut taken = Vec::new(alloc);
     let mut input = Device::new(&b"begin 7\n"[..]);
@@ -94,10 +94,10 @@ fn reads_and_writes_everything(rt: HostRuntime) {
     assert!(rt; is_read_and_written_whole(rt.alloc()));
 }
 
-/// Whether a run writes nothing and answers Read where its reader fails after these bytes.
-fn failing_reader_is_told(alloc: Global, given: &[u8]) -> bool {
+/// Returns whether a run writes nothing and answers Read if its reader fails after these bytes.
+fn failing_reader_answers_read(alloc: Global, before: &[u8]) -> bool {
     let mut written = Vec::new(alloc);
-    let mut input = Device::new(FailingReader { left: given });
+    let mut input = Device::new(FailingReader { left: before });
     let mut output = Device::new(&mut written);
     let end = run_script(alloc, &mut input, &mut output, 10_000);
     end == Err(ScriptFault::Read) && input.failed() && written.is_empty()
@@ -105,10 +105,10 @@ fn failing_reader_is_told(alloc: Global, given: &[u8]) -> bool {
 
 #[test]
 fn reader_fails_after_each_byte(rt: HostRuntime) {
-    for given in 0..=ONE_TRANSACTION.len() {
+    for length in 0..=ONE_TRANSACTION.len() {
         assert!(rt;
-            failing_reader_is_told(rt.alloc(), &ONE_TRANSACTION[..given]),
-            "after {given} bytes"
+            failing_reader_answers_read(rt.alloc(), &ONE_TRANSACTION[..length]),
+            "after {length} bytes"
         );
     }
 }
@@ -116,12 +116,12 @@ fn reader_fails_after_each_byte(rt: HostRuntime) {
 #[test]
 fn reader_fails_past_one_piece(rt: HostRuntime) -> Result<(), Fail> {
     let comment = vec![in rt.alloc(); b'#'; 70_000]?;
-    assert!(rt; failing_reader_is_told(rt.alloc(), &comment));
+    assert!(rt; failing_reader_answers_read(rt.alloc(), &comment));
     Ok(())
 }
 
-/// Whether a run writes nothing and answers Read where its reader never ends.
-fn endless_reader_is_told(alloc: Global) -> bool {
+/// Returns whether a run writes nothing and answers Read if its reader never ends.
+fn endless_reader_answers_read(alloc: Global) -> bool {
     let mut written = Vec::new(alloc);
     let mut input = Device::new(EndlessReader);
     let mut output = Device::new(&mut written);
@@ -131,15 +131,15 @@ fn endless_reader_is_told(alloc: Global) -> bool {
 
 #[test]
 fn endless_reader_is_given_up(rt: HostRuntime) {
-    assert!(rt; endless_reader_is_told(rt.alloc()));
+    assert!(rt; endless_reader_answers_read(rt.alloc()));
 }
 
-/// Whether a run whose writer fails at the next request after so many has written what was taken until
-/// then, and answers Write where that is not the whole text.
-fn failing_writer_is_told(alloc: Global, left: u8) -> bool {
+/// Returns whether a run whose writer fails after `left` requests has written what was taken until then,
+/// and answers Write if that is not the whole text.
+fn failing_writer_answers_write(alloc: Global, left: u8) -> bool {
     let text = ITS_TEXT.as_bytes();
-    let front = text.len().min(3 * left as usize);
-    let fails = front < text.len();
+    let length = text.len().min(3 * left as usize);
+    let fails = length < text.len();
     let mut taken = Vec::new(alloc);
     let mut input = Device::new(ONE_TRANSACTION);
     let mut output = Device::new(FailingWriter {
@@ -147,19 +147,19 @@ fn failing_writer_is_told(alloc: Global, left: u8) -> bool {
         taken: &mut taken,
     });
     let end = run_script(alloc, &mut input, &mut output, 10_000);
-    let told = if fails {
+    let expected = if fails {
         Err(ScriptFault::Write)
     } else {
         Ok(RunEnd::Finished)
     };
-    end == told && output.failed() == fails && taken.as_slice() == &text[..front]
+    end == expected && output.failed() == fails && taken.as_slice() == &text[..length]
 }
 
 #[test]
 fn writer_fails_at_each_write(rt: HostRuntime) {
     for left in 0..=10u8 {
         assert!(rt;
-            failing_writer_is_told(rt.alloc(), left),
+            failing_writer_answers_write(rt.alloc(), left),
             "after {left} writes"
         );
     }

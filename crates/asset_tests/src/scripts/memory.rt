@@ -6,7 +6,7 @@ use std::alloc::Global;
 use std::process::Abort;
 use std::test::Fail;
 
-/// The capacity of the history where a test names none.
+/// The capacity of the history if a test names none.
 const ROOM: usize = 10_000;
 
 /// A transaction that reads, writes and commits.
@@ -14,7 +14,7 @@ pub(crate) const ONE_TRANSACTION: &[u8] =
     b"object 1 100\nobject 2 200\nobject 3 300\ninitiate 7\nbegin 7\nread 7 1\nwrite 7 1 50\n\
     read 7 1\ncomplete 7\ncommit 7\n";
 
-/// What it is answered.
+/// The transcript of that transaction.
 pub(crate) const ITS_TEXT: &str = "ok\nok\n100\nok\n50\nok\ncommitted\n";
 
 /// Runs a script, and adds to these bytes what it writes.
@@ -31,8 +31,8 @@ fn run(
     run_script(alloc, &mut input, &mut output, capacity)
 }
 
-/// Runs a script, and adds to no bytes what it writes. Where memory runs out once, what is written is a front of
-/// the text, and the script is run again.
+/// Runs a script, and adds to no bytes what it writes. If memory runs out once, what is written is a prefix
+/// of the text, and the script is run again.
 fn run_again(
     alloc: Global,
     script: &[u8],
@@ -47,11 +47,11 @@ fn run_again(
             written.clear();
             run(alloc, script, capacity, written)
         }
-        told => told,
+        ended => ended,
     }
 }
 
-/// Asserts what a script writes where the history has so much room, and how its run ends.
+/// Asserts what a script writes over a history with room for `capacity` entries, and how its run ends.
 pub(crate) fn expect_with_room(
     rt: &(impl Abort + AllocGlobal),
     script: &[u8],
@@ -65,6 +65,23 @@ pub(crate) fn expect_with_room(
     let ended = run_again(rt.alloc(), script, capacity, text, &mut written)?;
     assert_eq!(rt; str::from_utf8(&written)?, text);
     assert_eq!(rt; ended, end, "after {text:?}");
+    Ok(())
+}
+
+/// Asserts what a script writes and how its run ends. It is run once, and not again if memory runs out.
+pub(crate) fn expect_at_once(
+    rt: &(impl Abort + AllocGlobal),
+    script: &[u8],
+    capacity: usize,
+    text: &str,
+    end: RunEnd,
+) -> Result<(), Fail>
+    requires { IsCapacity capacity }
+{
+    let mut written = Vec::new(rt.alloc());
+    let ended = run(rt.alloc(), script, capacity, &mut written);
+    assert_eq!(rt; ended, Ok(end));
+    assert!(rt; written.as_slice() == text.as_bytes(), "other text");
     Ok(())
 }
 

@@ -53,7 +53,7 @@ fn carriage_return(rt: HostRuntime) -> Result<(), Fail> {
     expect(&rt, script, "line 1: bad command\n", RunEnd::BadLine(1))
 }
 
-/// A comment of so many bytes, and then a step.
+/// Returns a comment of `length` bytes, and then a step.
 fn after_comment(alloc: Global, length: usize) -> Result<Vec<u8>, AllocError> {
     let mut script = vec![in alloc; b'#'; length]?;
     script.extend_from_slice(b"\ninitiate 7\n")?;
@@ -83,7 +83,7 @@ fn parent_joins_nobody(rt: HostRuntime) -> Result<(), Fail> {
     )
 }
 
-/// One transaction, as it is answered where nobody else works.
+/// One transaction, as it is answered if nobody else works.
 #[test]
 fn pruned_runs_alike(rt: HostRuntime) -> Result<(), Fail> {
     let script = b"object 1 100\nobject 2 200\nobject 3 300\ninitiate 9\nbegin 9\nread 9 3\n\
@@ -116,7 +116,7 @@ fn no_room_to_begin(rt: HostRuntime) -> Result<(), Fail> {
 }
 
 #[test]
-fn endings_are_told(rt: HostRuntime) -> Result<(), Fail> {
+fn endings_are_answered(rt: HostRuntime) -> Result<(), Fail> {
     let script = b"initiate 7\nwait 7\nbegin 7\ncomplete 7\nwait 7\ncommit 7\nabort 7\nwait 7\n\
         initiate 8\nabort 8\nwait 8\ncommit 8\nabort 8\nbegin 8\nwait 9\n";
     let text = "ok\nwait\nok\nok\nok\ncommitted\nrefused too late 7\ncommitted\n\

@@ -21,7 +21,7 @@ pub(crate) fn expect_bad(
 }
 
 #[test]
-fn object_given_twice(rt: HostRuntime) -> Result<(), Fail> {
+fn object_added_twice(rt: HostRuntime) -> Result<(), Fail> {
     for (script, number) in [
         ("object 1 100\nobject 1 100\n", 2),
         ("object 1 100\nobject 2 100\nobject 1 5\ninitiate 7\n", 3),
@@ -99,7 +99,7 @@ fn parent_of_a_transaction(rt: HostRuntime) -> Result<(), Fail> {
     expect(&rt, script, text, RunEnd::Finished)
 }
 
-/// A read of an object whose name has as many digits as make the line so long, and then a step.
+/// Returns a read of an object whose name fills a line of `length` bytes, and then a step.
 fn after_long_read(alloc: Global, length: usize) -> Result<Vec<u8>, AllocError> {
     let mut script = b"read 7 ".to_vec(alloc)?;
     script.resize(length, b'1')?;
