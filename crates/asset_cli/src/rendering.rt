@@ -3,7 +3,7 @@
 ghost use Rattle.std.specs.Bool.{OnTrue, OnFalse};
 ghost use Rattle.std.specs.Prelude.{◌≡◌, ℕ, ◌+◌, ◌^◌, ◌<◌, ◌≤◌, List, ◌∷◌, ◌++◌, length, IfOk, OnOk, IfErr, string_bytes};
 ghost use Rattle.asset_names.specs.Sets.{HasNoDouble};
-ghost use Rattle.asset_core.specs.Recorded.{answer_to, opened, objects_of};
+ghost use Rattle.asset_core.specs.Recorded.{answer_to, objects_of};
 ghost use Rattle.asset_core.specs.OpenFaults.{IsCapacity};
 ghost use Rattle.asset_grammar.specs.Lines.{lines};
 ghost use Rattle.asset_cli.specs.Transfers.{input_limit};
@@ -15,9 +15,9 @@ use crate::ends::RunEnd;
 use crate::faults::ScriptFault;
 use crate::opening_objects::OpeningObjects;
 use crate::preamble::{ObjectLine, Preamble, take_objects};
-use asset_core::{Core, OpenFault};
+use asset_core::Core;
 use asset_grammar::{Command, Line, push_bad_line, push_full, push_outcome, split_line};
-use asset_names::{Fault, Ob, Step};
+use asset_names::{Fault, NoMemory, Ob, Step};
 use std::alloc::Global;
 
 /// Asks one step, and appends the line of its outcome to the text.
@@ -90,22 +90,6 @@ fn render_steps(
     Ok(RunEnd::Finished)
 }
 
-/// Opens the facility over objects of which none comes twice.
-#[tactic(auto, unfolding(asset_core::specs::Pending::facility_of))]
-fn open_over(alloc: Global, opening: &[(Ob, i64)], capacity: usize) -> Result<Core, ScriptFault>
-    requires capacity { IsCapacity capacity }
-    requires different { HasNoDouble (objects_of opening.now) }
-    ensures opened { IfOk result (λ core. core.history ≡ opened opening.now capacity) }
-    ensures memory { IfErr result (λ fault. fault ≡ ScriptFault.NoMemory) }
-{
-    match Core::open(alloc, opening, capacity) {
-        Ok(core) => Ok(core),
-        Err(OpenFault::NoMemory) => Err(ScriptFault::NoMemory),
-        Err(OpenFault::BadCapacity) => unreachable!(),
-        Err(OpenFault::DoubleObject(_)) => unreachable!(),
-    }
-}
-
 /// Renders what follows the object lines, over the objects that they added.
 fn render_from(
     alloc: Global,
@@ -126,14 +110,14 @@ fn render_from(
             push_bad_line(text, preamble.number)?;
             Ok(RunEnd::BadLine(preamble.number))
         }
-        ObjectLine::First(step) => match open_over(alloc, opening, capacity) {
+        ObjectLine::First(step) => match Core::open_distinct(alloc, opening, capacity) {
             Ok(mut core) => {
                 let end = render_steps(&mut core, text, step, preamble.number, preamble.rest);
                 // Drops the tables in that call, so that the history alone is dropped here.
                 core.into_history();
                 end
             }
-            Err(fault) => Err(fault),
+            Err(NoMemory) => Err(ScriptFault::NoMemory),
         },
     }
 }
