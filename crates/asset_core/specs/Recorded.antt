@@ -32,7 +32,7 @@ unfoldable pub after : Recorded → Step → Outcome → Recorded
 after history step (Answer reply) = with_entry history step reply
 after history step Wait = history
 
--- Whether there is room for what the outcome adds: its entry, and what is owed to the live names after it. A
+-- Whether there is room for what the outcome adds: its entry, and what is owed to live transactions after it. A
 -- wait adds nothing.
 unfoldable pub has_room : Recorded → Step → Outcome → Bool
 has_room history step (Answer reply) = fits (applied ((step, reply) ∷ history.entries)) (length history.entries + 1) history.capacity

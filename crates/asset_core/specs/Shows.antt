@@ -15,7 +15,7 @@ use Rattle.asset_locks.specs.LockTable as Locks
 use Rattle.asset_trans.specs.TransRows.{NamedTransRow, names_of, status_in, parent_in}
 
 -- What a write makes of an object, by how its owner ended. A committed write has nothing under it, an aborted
--- one has gone, and that of a live name stands over what was there before.
+-- one has gone, and that of a live transaction stands over what was there before.
 unfoldable pub placed : Option End → ℕ → ℤ → Cell → Cell
 placed (Some End'.Committed) owner v cell = fresh v
 placed (Some End'.Aborted) owner v cell = cell
@@ -26,7 +26,8 @@ unfoldable pub used : Option End → ℕ → Use → Cell → Cell
 used end owner reads cell = cell
 used end owner (writes v) cell = placed end owner v cell
 
--- the cell of x after the operations, newest first, over its first value; `ends` says how each name ended
+-- the cell of x after the operations, newest first, over its first value; `ends` says how each transaction
+-- ended
 unfoldable pub cell_after : (ℕ → Option End) → ℕ → ℤ → List Operation → Cell
 cell_after ends x first [] = fresh first
 cell_after ends x first (o ∷ older) = cond (o.object == x) (used (ends o.owner) o.owner o.use_of (cell_after ends x first older)) (cell_after ends x first older)
@@ -35,7 +36,7 @@ cell_after ends x first (o ∷ older) = cond (o.object == x) (used (ends o.owner
 unfoldable pub cell_of : Opening → List Step → ℕ → Option Cell
 cell_of opening steps x = option_map (λ first. cell_after (end_of steps) x first (operations steps)) (opening_at opening x)
 
--- a permit that stands: it lets the taker do op on x, and both names are live
+-- a permit that stands: it lets the taker do op on x, and both transactions are live
 unfoldable pub permitted : List Step → ℕ → ℕ → ℕ → Op → Bool
 permitted steps giver taker x op = live steps giver && live steps taker && has_arrow (permits steps x op) giver taker
 

@@ -35,7 +35,7 @@ unfoldable pub value_asked : Step → ℤ
 value_asked (Write t x v) = v
 value_asked step = pos 0
 
--- the value of an object, and 0 where there is none
+-- the value of an object, and 0 if there is no such object
 unfoldable pub value_or_zero : Tables → ℕ → ℤ
 value_or_zero tables x = unwrap_or (value_in (cells tables.objects) x) (pos 0)
 
@@ -43,17 +43,17 @@ value_or_zero tables x = unwrap_or (value_in (cells tables.objects) x) (pos 0)
 unfoldable pub read_outcome : Tables → ℕ → ℕ → Outcome
 read_outcome tables t x = cond (is_free_for tables t x Op'.Read) (Answer (Reply'.Value (value_or_zero tables x))) Wait
 
--- a running name is enrolled and runs
+-- a transaction at work runs and is enrolled for locks
 pub record IsAtWork (tables : Tables) (t : ℕ) : Type 0 where
   pub runs : status_in tables.trans t ≡ Status'.Running
   pub enrolled : is_some (Locks.enrolled_in (lock_table tables.locks) t) ≡ true
 
--- a new name has no row among the transactions, and is not enrolled for locks
+-- a new transaction has no row, and is not enrolled for locks
 pub record IsNew (tables : Tables) (t : ℕ) : Type 0 where
   pub no_row : row_in tables.trans t ≡ None
   pub not_enrolled : Locks.enrolled_in (lock_table tables.locks) t ≡ None
 
--- what a step asks of the tables, where it is to take effect
+-- what a step that is to take effect asks of the tables
 abbrev pub IsReady : Step → Tables → Type 0
 IsReady (Initiate t parent) tables = IsNew tables t.0
 IsReady (Begin t) tables = status_in tables.trans t.0 ≡ Status'.Initiated
@@ -65,7 +65,7 @@ IsReady (Commit t) tables = Unit {0}
 IsReady (Abort t) tables = Unit {0}
 IsReady (WaitFor t) tables = Unit {0}
 
--- what a request asks of the tables, where it is to wait
+-- what a request that is to wait asks of the tables
 abbrev pub MayWait : Step → Tables → Type 0
 MayWait (Read t x) tables = IsAtWork tables t.0 × (is_free_for tables t.0 x.0 Op'.Read ≡ false)
 MayWait (Write t x v) tables = IsAtWork tables t.0 × (is_free_for tables t.0 x.0 Op'.Write ≡ false)
@@ -90,7 +90,7 @@ locks_waiting (Read t x) tables = Locks.wait_in t.0 x Op'.Read (lock_table table
 locks_waiting (Write t x v) tables = Locks.wait_in t.0 x Op'.Write (lock_table tables.locks)
 locks_waiting step tables = lock_table tables.locks
 
--- the tables show what they did before
+-- the tables show the same as before
 pub record SameView (later before : Tables) : Type 0 where
   pub rows : later.trans ≡ before.trans
   pub objects : cells later.objects ≡ cells before.objects
@@ -104,8 +104,8 @@ asker_of who = record { name = who.name; request = who.pending }
 unfoldable pub pending_in : LockRows → List Pending
 pending_in kept = map asker_of (lock_table kept).enrolled
 
--- how the facility is kept: the tables stand for its history, which is legal, and the entries that are owed fit
--- with those that are there
+-- the facility is valid: its tables show its history, which is legal, and the entries that are owed fit with
+-- those that are there
 pub record IsValid (history : Recorded) (tables : Tables) : Type 0 where
   pub stand : Shows history.opening (applied history.entries) (values_of tables)
   pub legal : IsLegal history.opening history.entries

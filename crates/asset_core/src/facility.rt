@@ -10,7 +10,7 @@ use asset_objects::ObjectsFault;
 use std::alloc::Global;
 use std::marker::Model;
 
-/// The most entries that a history has room for.
+/// The greatest capacity of a history.
 const MOST: usize = 1_000_000;
 
 /// Returns whether the step initiates a transaction.
@@ -21,8 +21,8 @@ fn initiates(step: &Step) -> bool
     matches!(step, Step::Initiate { .. })
 }
 
-/// A history, which grows by one answered step at a time, and the tables that stand for it. Contracts see
-/// the history, and the pending request of each live name.
+/// A history, which grows by one answered step at a time, and the tables that show it. Contracts see the
+/// history, and the pending request of each live transaction.
 #[derive(Drop)]
 pub struct Core {
     history: History,
@@ -109,20 +109,21 @@ impl Core {
         match History::open(alloc, opening, capacity) {
             Ok(history) => Ok(Core { history, tables }),
             Err(_) => {
-                // By name, as in `into_history`.
+                // Dropped by name, as in `into_history`.
                 drop(tables);
                 Err(NoMemory)
             }
         }
     }
 
-    /// Asks one step. A step that waits is no entry, and may be asked again; a read or a write that waits
-    /// fills its asker's pending request, a granted one empties it, and a refused one leaves it. An initiate
-    /// adds an empty asker, and an end takes the asker away. An answered step is one more entry, refused or
-    /// not. Full comes exactly where the entries with this one, and those that live names are owed after it,
-    /// exceed the capacity; a complete, a commit or an abort that changes a status always finds room.
-    /// NoMemory may come only where an initiate, a read, a write or a permit would take effect. After Full
-    /// and NoMemory nothing has changed.
+    /// Asks for one step. An answered step, refused or not, becomes an entry of the history. A step that waits
+    /// does not, and may be asked again: a read or a write that waits becomes its transaction's pending
+    /// request, until the next one that is granted.
+    ///
+    /// It answers `Full` exactly if the entries with this one, together with those that live transactions are
+    /// owed after it, exceed the capacity. A complete, a commit or an abort that changes a status always finds
+    /// room. `NoMemory` can come only if an initiate, a read, a write or a permit would take effect. After
+    /// `Full` and `NoMemory` nothing has changed.
     #[tactic(auto, unfolding(crate::specs::Recorded::after, crate::specs::Recorded::has_room, crate::specs::Recorded::is_ending, asset_names::specs::Answers::outcome_takes_effect))]
     pub fn step(&mut self, step: Step) -> Result<Outcome, Fault>
         ensures answered { IfOk result (λ outcome. outcome ≡ answer_to self.old.history step) }
@@ -142,7 +143,7 @@ impl Core {
         }
     }
 
-    /// The answer to a step. Nothing changes.
+    /// Returns the answer to a step. Nothing changes.
     fn answer(&mut self, step: &Step) -> Outcome
         ensures answer { result ≡ answer_to self.old.history step.now }
         ensures same { self.new ≡ self.old }
@@ -150,7 +151,7 @@ impl Core {
         self.tables.answer(step)
     }
 
-    /// Keeps a request that waits.
+    /// Keeps a request that waits as pending.
     fn wait(&mut self, step: &Step)
         requires waits { answer_to self.old.history step.now ≡ Waits }
         ensures history { self.new.history ≡ self.old.history }
@@ -243,29 +244,29 @@ impl Core {
         }
     }
 
-    /// The status of a name: Unknown where it was never initiated.
+    /// Returns the status of a transaction: Unknown if it was never initiated.
     pub fn status(&self, t: Txn) -> Status
         ensures { result ≡ status (applied self.now.history.entries) t.0 }
     {
         self.tables.status(t)
     }
 
-    /// The value of an object, if it exists.
+    /// Returns the value of an object, and `None` if there is no such object.
     pub fn value(&self, x: Ob) -> Option<i64>
         ensures { result ≡ value_if_any self.now.history.opening (applied self.now.history.entries) x.0 }
     {
         self.tables.value(x)
     }
 
-    /// The waiter of this index for `x`, in order of initiation from 0, with the operation that it asked. None
-    /// where there are not so many.
+    /// Returns the waiter at the index among the live transactions whose pending request is on `x`, in order of
+    /// initiation from 0, with the operation that it asked for, and `None` past the end.
     pub fn waiters(&self, x: Ob, index: usize) -> Option<(Txn, Op)>
         ensures { result ≡ slice_get (waiting_for x.0 self.now.pending) index }
     {
         self.tables.waiters(x, index)
     }
 
-    /// The history so far.
+    /// Returns the history so far.
     pub fn history(&self) -> &History
         ensures history { result.now ≡ self.now.history }
         ensures fits { fits (applied self.now.history.entries) (length self.now.history.entries) self.now.history.capacity ≡ true }
@@ -273,12 +274,12 @@ impl Core {
         &self.history
     }
 
-    /// The history, where no further step is asked.
+    /// Returns the history and drops the tables.
     pub fn into_history(self) -> History
         ensures { result ≡ self.history }
     {
-        // The tables are dropped by name: the call's proof is then made once for each type in them, and not
-        // for all of them at each asker where they go.
+        // The tables are dropped by name: the proof of the drop is then made once for each type in them, and
+        // not for all of them at each place where they go.
         let Core { history, tables } = self;
         drop(tables);
         history

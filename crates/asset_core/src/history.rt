@@ -1,4 +1,4 @@
-//! A history: what was opened, and the entries in order.
+//! A history: the opening, and the entries in order.
 
 use crate::stored::{PermitEntry, Stored, push_set};
 use asset_names::{Ob, Reply, Step};
@@ -6,9 +6,9 @@ use std::alloc::{AllocError, Global};
 use std::marker::Model;
 use thiserror::Error;
 
-/// The opening values of the objects and the entries, each a step with the reply that it got. It is
-/// always legal: the facility would answer each step as it did, after the entries before it. Contracts
-/// see the opening, the entries with the newest first, and how many entries there is room for in all.
+/// The opening values of the objects, and the entries: each is a step with its reply. A history is always
+/// legal: each reply is the one answer to its step after the entries before it. Contracts see the opening, the
+/// entries with the newest first, and the capacity.
 #[derive(Drop)]
 pub struct History {
     opening: Vec<(Ob, i64)>,
@@ -35,7 +35,7 @@ impl History {
     ghost use Rattle.asset_names.specs.declared.replies.Outcome.TheVariants.{Answer};
     ghost use Rattle.asset_core.specs.Recorded.{opened, answer_to, with_entry};
 
-    /// A history of these opening values with room for so many entries, and none yet.
+    /// Returns a history of these opening values without entries, with room for `capacity` of them.
     #[tactic(auto, unfolding(crate::specs::Recorded::opened, crate::specs::Stored::entries_of))]
     pub(crate) fn open(
         alloc: Global,
@@ -52,14 +52,14 @@ impl History {
         })
     }
 
-    /// The objects with their opening values, in the order in which they were given.
+    /// Returns the objects with their opening values, in the order in which they were given.
     pub fn opening(&self) -> &[(Ob, i64)]
         ensures { result.now ≡ self.now.opening }
     {
         self.opening.as_slice()
     }
 
-    /// The index of entries.
+    /// Returns the number of entries.
     pub fn len(&self) -> usize
         ensures len { result ≡ length self.now.entries }
         ensures legal { IsLegal self.now.opening self.now.entries }
@@ -67,14 +67,14 @@ impl History {
         self.entries.len()
     }
 
-    /// Whether there is no entry yet.
+    /// Returns whether there is no entry.
     pub fn is_empty(&self) -> bool
         ensures { IsTrue result ↔ (self.now.entries ≡ []) }
     {
         self.len() == 0
     }
 
-    /// The entry of this index. Entries count from 0, oldest first; None from `len` on.
+    /// Returns the entry at the index, oldest first from 0, and `None` past the end.
     pub fn entry(&self, index: usize) -> Option<(Step, Reply)>
         ensures entry { result ≡ slice_get (reverse self.now.entries) index }
         ensures legal { IsLegal self.now.opening self.now.entries }
@@ -85,15 +85,15 @@ impl History {
         }
     }
 
-    /// How many entries there is room for in all.
+    /// Returns how many entries there is room for in all.
     pub(crate) fn capacity(&self) -> usize
         ensures { result ≡ self.now.capacity }
     {
         self.capacity
     }
 
-    /// Adds the step with its answer. The room was taken when the history was opened, so this takes
-    /// no memory.
+    /// Appends the step with its answer. The room was reserved when the history was opened, so it does not
+    /// allocate.
     pub(crate) fn append(&mut self, step: &Step, reply: Reply)
         requires answer { answer_to self.old step.now ≡ Answer reply }
         requires room { length self.old.entries < self.old.capacity }
@@ -105,13 +105,13 @@ impl History {
     }
 }
 
-/// Why nothing was opened.
+/// Why the facility was not opened.
 #[derive(Clone, Copy, Debug, PartialEq, Eq, Error)]
 pub enum OpenFault {
     /// The capacity is not from 1 to 1,000,000.
     #[error("the capacity has to be from 1 to 1,000,000")]
     BadCapacity,
-    /// The least object that was given twice.
+    /// An object was given twice; this is the least such object.
     #[error("object {} was given twice", .0.0)]
     DoubleObject(Ob),
     /// Memory ran out.

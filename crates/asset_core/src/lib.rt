@@ -1,5 +1,5 @@
-//! The facility for one caller: a history of answered steps that is always legal, and the step that
-//! adds the one answer to it.
+//! The facility for one caller: a history of answered steps that is always legal, and the step that appends the
+//! one answer to it.
 #![tactic(auto)]
 
 mod facility;

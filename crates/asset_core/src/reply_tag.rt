@@ -5,8 +5,8 @@ ghost use Rattle.asset_core.specs.Stored.{value_read};
 
 use asset_names::{Ob, Refusal, Reply, Txn};
 
-/// What a reply is, without the name, the object and the value that it is about: a step's own reply is about
-/// what the step names.
+/// The kind of a reply, without the transaction, the object and the value that it is about: those stand in the
+/// step.
 #[derive(Clone, Copy)]
 pub(crate) enum ReplyTag {
     Done,
@@ -28,7 +28,7 @@ impl ReplyTag {
     ghost use Rattle.std.specs.Prelude.{◌≡◌, pos};
     ghost use Rattle.asset_core.specs.Stored.{tag_of, reply_about, reply_of_name};
 
-    /// The tag of the reply.
+    /// Returns the tag of the reply.
     #[tactic(auto, unfolding(crate::specs::Stored::tag_of))]
     pub(crate) fn of(reply: Reply) -> ReplyTag
         ensures { result ≡ tag_of reply }
@@ -50,7 +50,7 @@ impl ReplyTag {
         }
     }
 
-    /// The reply with this tag about a name, an object and a value.
+    /// Returns the reply with this tag about a transaction, an object and a value.
     #[tactic(auto, unfolding(crate::specs::Stored::reply_about))]
     pub(crate) fn about(self, t: Txn, x: Ob, v: i64) -> Reply
         ensures { result ≡ reply_about t x v self }
@@ -72,7 +72,7 @@ impl ReplyTag {
         }
     }
 
-    /// The reply with this tag to a step that operates on nothing.
+    /// Returns the reply with this tag to a step that names no object.
     #[tactic(auto, unfolding(crate::specs::Stored::reply_of_name))]
     pub(crate) fn about_name(self, t: Txn) -> Reply
         ensures { result ≡ reply_of_name t self }
@@ -81,7 +81,7 @@ impl ReplyTag {
     }
 }
 
-/// The value that was read, and 0 of another reply.
+/// Returns the value that was read, and 0 for any other reply.
 #[tactic(auto, unfolding(crate::specs::Stored::value_read))]
 pub(crate) fn value_read(reply: Reply) -> i64
     ensures { result ≡ value_read reply }

@@ -23,8 +23,8 @@ pub struct Tables {
     trans: Trans,
 }
 
-/// The value that a write asks for, and 0 of another step. A signed index out of a step is passed on as the
-/// result of a call, so that its range is known.
+/// Returns the value that a write asks for, and 0 for any other step. A signed number from a step is passed on
+/// as the result of a call, so that the proof knows its range.
 #[tactic(auto, unfolding(crate::specs::Tables::value_asked))]
 pub(crate) fn value_asked(step: &Step) -> i64
     ensures { result ≡ value_asked step.now }
@@ -92,7 +92,7 @@ impl Tables {
         }
     }
 
-    /// The status of a transaction.
+    /// Returns the status of a transaction.
     pub fn status(&self, t: Txn) -> Status
         ensures { result ≡ status_in self.now.trans t.0 }
     {
@@ -143,7 +143,7 @@ impl Tables {
         }
     }
 
-    /// Why `t` may not operate on `x`, if it may not.
+    /// Returns why `t` may not read or write `x`, and `None` if it may.
     fn refusal_to_use(&self, t: Txn, x: Ob) -> Option<Refusal>
         ensures { (opening : Opening) (steps : List Request) → Shows opening steps (values_of self.now) →
             result ≡ first_refusal (unknown steps t ∷ ended steps t ∷ not_running steps t ∷ no_object opening x ∷ []) }
@@ -152,7 +152,7 @@ impl Tables {
         refusal_to_operate(t, self.trans.status(t), x, exists)
     }
 
-    /// Why the giver may not permit the taker anything on the objects, if it may not.
+    /// Returns why the giver may not permit the taker anything on the objects, and `None` if it may.
     fn refusal_to_permit(&self, giver: Txn, taker: Txn, obs: &ObSet) -> Option<Refusal>
         ensures { (opening : Opening) (steps : List Request) → Shows opening steps (values_of self.now) →
             result ≡ first_refusal (one_name giver taker ∷ unknown steps giver ∷ unknown steps taker ∷ ended steps giver ∷ ended steps taker ∷ no_object_of opening obs.now ∷ []) }
@@ -167,7 +167,7 @@ impl Tables {
         )
     }
 
-    /// The least object of the set that does not exist, if there is one.
+    /// Returns the least object of the set that does not exist, if there is one.
     fn missing(&self, obs: &ObSet) -> Option<Ob>
         ensures { (opening : Opening) (steps : List Request) → Shows opening steps (values_of self.now) → result ≡ missing_in opening obs.now }
     {
@@ -177,14 +177,14 @@ impl Tables {
         }
     }
 
-    /// The first of the objects that does not exist, if there is one.
+    /// Returns the first of the objects that does not exist, if there is one.
     fn first_missing(&self, objects: &[Ob]) -> Option<Ob>
         ensures { result ≡ find (λ x. not (has_object (cells self.now.objects) x.0)) objects.now }
     {
         objects.iter().copied().find(|x| self.is_missing(*x))
     }
 
-    /// Whether the object does not exist.
+    /// Returns whether there is no such object.
     #[tactic(auto, unfolding(asset_objects::specs::Cells::has_object, asset_objects::specs::Cells::value_in))]
     fn is_missing(&self, x: Ob) -> bool
         ensures { result ≡ not (has_object (cells self.now.objects) x.0) }
@@ -195,7 +195,7 @@ impl Tables {
         }
     }
 
-    /// The value of an object, and 0 where there is none.
+    /// Returns the value of an object, and 0 if there is no such object.
     #[tactic(auto, unfolding(crate::specs::Tables::value_or_zero))]
     fn value_or_zero(&self, x: Ob) -> i64
         ensures { result ≡ value_or_zero self.now x.0 }
@@ -206,7 +206,7 @@ impl Tables {
         }
     }
 
-    /// The outcome of a read that is not refused. Nothing changes.
+    /// Returns the outcome of a read that is not refused. Nothing changes.
     #[tactic(auto, unfolding(crate::specs::Tables::is_free_for, crate::specs::Tables::read_outcome))]
     fn read_outcome(&mut self, t: Txn, x: Ob) -> Outcome
         ensures outcome { result ≡ read_outcome self.old t.0 x.0 }
@@ -219,7 +219,7 @@ impl Tables {
         }
     }
 
-    /// The outcome of a write, of whatever value, that is not refused. Nothing changes.
+    /// Returns the outcome of a write, of any value, that is not refused. Nothing changes.
     fn write_outcome(&mut self, t: Txn, x: Ob) -> Outcome
         ensures outcome { (opening : Opening) (steps : List Request) (v : ℤ) → Shows opening steps (values_of self.old) →
             result ≡ unrefused opening steps (Request.Write t x v) }
@@ -232,7 +232,7 @@ impl Tables {
         }
     }
 
-    /// The outcome of a step that is not refused. Nothing changes.
+    /// Returns the outcome of a step that is not refused. Nothing changes.
     fn unrefused(&mut self, step: &Step) -> Outcome
         ensures outcome { (opening : Opening) (steps : List Request) → Shows opening steps (values_of self.old) → first_refusal (rules_for opening steps step.now) ≡ None →
             result ≡ unrefused opening steps step.now }
@@ -254,7 +254,7 @@ impl Tables {
         }
     }
 
-    /// The answer to a step. Nothing changes.
+    /// Returns the answer to a step. Nothing changes.
     pub fn answer(&mut self, step: &Step) -> Outcome
         ensures answer { (opening : Opening) (steps : List Request) → Shows opening steps (values_of self.old) → result ≡ answer opening steps step.now }
         ensures allowed { (opening : Opening) (steps : List Request) → Shows opening steps (values_of self.old) →
@@ -317,7 +317,7 @@ impl Tables {
         }
     }
 
-    /// Initiates a new name. Its enrolment goes again where its row finds no memory.
+    /// Initiates a new transaction. If memory runs out for its row, its enrolment is given back.
     fn initiate(&mut self, t: Txn, parent: Option<Txn>) -> Result<(), NoMemory>
         requires new { IsNew self.old t.0 }
         ensures rows { OnOk result (self.new.trans ≡ initiate_in self.old.trans t parent) }
@@ -336,7 +336,7 @@ impl Tables {
         }
     }
 
-    /// Takes the lock of a read that is free.
+    /// Takes the lock for a read of an object that is free.
     fn read(&mut self, t: Txn, x: Ob) -> Result<(), NoMemory>
         requires work { IsAtWork self.old t.0 }
         requires free { is_free_for self.old t.0 x.0 Operation.Read ≡ true }
@@ -351,7 +351,8 @@ impl Tables {
         Ok(())
     }
 
-    /// Writes what the step asks, where it is free. The record's memory is reserved before the lock is asked for.
+    /// Writes what the step asks to an object that is free. The memory for its record is reserved before the
+    /// lock is asked for.
     fn write(&mut self, t: Txn, x: Ob, step: &Step) -> Result<(), NoMemory>
         requires work { IsAtWork self.old t.0 }
         requires free { is_free_for self.old t.0 x.0 Operation.Write ≡ true }
@@ -369,7 +370,7 @@ impl Tables {
         Ok(())
     }
 
-    /// Commits `t`, where it is live: its writes stand for good, and its locks and permits go.
+    /// Commits `t` if it is live: its writes stand for good, and its locks and permits go.
     fn commit(&mut self, t: Txn)
         ensures live { is_live_status (status_in self.old.trans t.0) ≡ true →
             (self.new.trans ≡ set_in (λ n. n == t.0) Status.Committed self.old.trans)
@@ -386,7 +387,7 @@ impl Tables {
         }
     }
 
-    /// Aborts `t`, where it is live: its writes are undone, and its locks and permits go.
+    /// Aborts `t` if it is live: its writes are undone, and its locks and permits go.
     fn abort(&mut self, t: Txn)
         ensures live { is_live_status (status_in self.old.trans t.0) ≡ true →
             (self.new.trans ≡ set_in (λ n. n == t.0) Status.Aborted self.old.trans)
@@ -403,7 +404,7 @@ impl Tables {
         }
     }
 
-    /// Keeps a request that waits in its asker's pending request. It takes no memory.
+    /// Makes a request that waits its transaction's pending request. It does not allocate.
     pub fn wait(&mut self, step: &Step)
         requires waits { MayWait step.now self.old }
         ensures rows { self.new.trans ≡ self.old.trans }
@@ -424,7 +425,7 @@ impl Tables {
         }
     }
 
-    /// Keeps a request that is not free in the pending request of `t`.
+    /// Makes a request for an object that is not free the pending request of `t`.
     fn wait_for(&mut self, t: Txn, x: Ob, op: Op)
         requires work { IsAtWork self.old t.0 }
         requires blocked { is_free_for self.old t.0 x.0 op ≡ false }

@@ -1,4 +1,5 @@
--- The table of locks: of each object its locks, and of each enrolled name its pending request and the objects it holds.
+-- The table of locks: of each object its locks, and of each enrolled transaction its pending request and the
+-- objects that it holds.
 use Rattle.std.specs.Prelude.{◌≡◌, ℕ, Bool, true, false, cond, not, ◌==◌, ◌&&◌, ◌||◌, List, [], ◌∷◌, ◌++◌, map, filter, find, flat_map, Option, Some, None, option_map}
 use Rattle.std.specs.List.{list_any}
 use Rattle.asset_names.specs.declared.names.Txn.{Txn}
@@ -26,7 +27,7 @@ pub record Enrolled : Type 0 where
   pub pending : PendingRequest
   pub held : List Ob
 
--- the enrolled names in order of enrolment, and the locks on each object
+-- the enrolled transactions in order of enrolment, and the locks on each object
 pub record LockTable : Type 0 where
   pub enrolled : List Enrolled
   pub locks_on : ℕ → List Lock
@@ -55,7 +56,7 @@ both_conflict ops others = has_op others Op'.Read && one_conflicts ops Op'.Read 
 unfoldable pub blocks : (ℕ → Bool) → ℕ → Op → Lock → Bool
 blocks allows t op lock = not (is_of t lock) && one_conflicts lock.ops op && not (allows lock.owner)
 
--- x is free for t to do op where each lock that conflicts with it is of somebody who allows it
+-- x is free for t to do op if no lock on it blocks t
 unfoldable pub is_free_in : LockTable → (ℕ → Bool) → ℕ → ℕ → Op → Bool
 is_free_in table allows t x op = not (list_any (blocks allows t op) (table.locks_on x))
 
@@ -73,7 +74,7 @@ ops_with op (Some lock) = with_op op lock.ops
 unfoldable pub adjusted : ℕ → OpSet → Lock → Lock
 adjusted t ops lock = cond (is_of t lock) (record { owner = t; ops = ops; granted = true }) (cond (both_conflict lock.ops ops) (record lock { granted = false }) lock)
 
--- where t has no lock, one comes at the end
+-- if t has no lock, one comes at the end
 unfoldable pub newcomer : ℕ → OpSet → Option Lock → List Lock
 newcomer t ops None = record { owner = t; ops = ops; granted = true } ∷ []
 newcomer t ops (Some lock) = []
@@ -84,7 +85,7 @@ granted_on t op locks =
     let ops = ops_with op (lock_of t locks) in
     map (adjusted t ops) locks ++ newcomer t ops (lock_of t locks)
 
--- one more object is held where t has no lock on it
+-- one more object is held if t had no lock on it
 unfoldable pub one_more : Ob → Option Lock → List Ob → List Ob
 one_more x None held = held ++ x ∷ []
 one_more x (Some lock) held = held
@@ -123,7 +124,7 @@ release_in test table = record {
   locks_on = λ x. filter (λ (lock : Lock). not (test lock.owner)) (table.locks_on x);
 }
 
--- the names that are enrolled, in order
+-- the names of the enrolled transactions, in order
 unfoldable pub names_in : LockTable → List ℕ
 names_in table = map (λ (who : Enrolled). who.name) table.enrolled
 

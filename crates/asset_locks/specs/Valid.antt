@@ -1,4 +1,5 @@
--- How the table of locks is kept: the enrolled names in order, and a row of locks for each object that ever had one.
+-- The rows of the table of locks: the enrolled transactions in order, and the locks of each object that ever
+-- had one.
 use Rattle.std.specs.Prelude.{◌≡◌, ℕ, Bool, true, false, ◌==◌, List, [], ◌∷◌, Option, Some, None, filter, not}
 use Rattle.std.specs.List.{list_any}
 use Rattle.std.specs.Map.{lookup}
@@ -29,7 +30,7 @@ locks_or_none (Some row) = row.items
 abbrev pub row_of : List LockRow → ℕ → Option (SmallVec Lock)
 row_of rows x = lookup (λ (y : Ob). x == y.0) rows
 
--- the locks of an object: none where it has no row
+-- the locks of an object: none if it has no row
 unfoldable pub locks_in : List LockRow → ℕ → List Lock
 locks_in rows x = locks_or_none (row_of rows x)
 
@@ -37,7 +38,7 @@ locks_in rows x = locks_or_none (row_of rows x)
 unfoldable pub lock_table : LockRows → LockTable
 lock_table kept = record { enrolled = kept.enrolled; locks_on = λ x. locks_in kept.rows x }
 
--- an enrolled name with what is kept of it
+-- an enrolled transaction by its row
 unfoldable pub shown_enrolled : Txn × EnrolledRow → Enrolled
 shown_enrolled entry = record { name = entry.0.0; pending = entry.1.pending; held = entry.1.held.items }
 

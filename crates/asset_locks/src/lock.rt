@@ -6,7 +6,7 @@ use asset_permits::Permits;
 use smallvec::SmallVec;
 use std::marker::Model;
 
-/// The locks of one object, in order of first grant. Most objects have few.
+/// The locks of one object, in order of first grant. Four fit without an allocation.
 pub(crate) type ObjectLocks = SmallVec<Lock, 4>;
 
 /// A lock: its owner, the operations that it carries, and whether it is granted.
@@ -27,7 +27,7 @@ impl Model for Lock {
     ghost inverse = { λ shown. record { owner = record { 0 = shown.owner }; ops = shown.ops; granted = shown.granted } };
 }
 
-/// What stands in the inline slots of a row that no lock fills.
+/// Fills the inline slots that have no lock.
 impl Default for Lock {
     fn default() -> Lock {
         Lock {
@@ -43,7 +43,7 @@ impl Lock {
     ghost use Rattle.asset_permits.specs.Descriptors.{allows_by};
     ghost use Rattle.asset_locks.specs.LockTable.{is_of, blocks, adjusted, state_of};
 
-    /// Whether the lock is the transaction's.
+    /// Returns whether the lock is the transaction's.
     #[tactic(auto, unfolding(crate::specs::LockTable::is_of))]
     fn is_of(&self, t: Txn) -> bool
         ensures { result ≡ is_of t.0 self.now }
@@ -51,7 +51,7 @@ impl Lock {
         self.owner == t
     }
 
-    /// Whether the lock blocks `t` from doing `op` on `x`, the object that it is on.
+    /// Returns whether the lock, which is on `x`, blocks `t` from doing `op`.
     #[tactic(auto, unfolding(crate::specs::LockTable::is_of, crate::specs::LockTable::blocks))]
     fn blocks(&self, t: Txn, x: Ob, op: Op, permits: &mut Permits) -> bool
         ensures answer { result ≡ blocks (λ u. allows_by permits.old u t.0 x.0 op) t.0 op self.now }
@@ -60,7 +60,8 @@ impl Lock {
         self.owner != t && one_conflicts(self.ops, op) && !permits.allows(self.owner, t, x, op)
     }
 
-    /// What becomes of the lock where `t` is granted a lock with these operations.
+    /// Adjusts the lock to a grant of a lock with these operations to `t`: the lock of `t` takes them, and
+    /// another's that conflicts is suspended.
     #[tactic(auto, unfolding(crate::specs::LockTable::is_of, crate::specs::LockTable::adjusted))]
     fn adjust(&mut self, t: Txn, ops: Ops)
         ensures { self.new ≡ adjusted t.0 ops self.old }
@@ -73,7 +74,7 @@ impl Lock {
         }
     }
 
-    /// Its state.
+    /// Returns the state of the lock.
     #[tactic(auto, unfolding(crate::specs::LockTable::state_of))]
     pub(crate) fn state(&self) -> LockState
         ensures { result ≡ state_of self.now }
@@ -95,7 +96,7 @@ ghost use Rattle.asset_permits.specs.Descriptors.{allows_by};
 ghost use Rattle.asset_locks.specs.Valid.{without};
 ghost use Rattle.asset_locks.specs.LockTable.{one_conflicts, both_conflict, ops_with, blocks, adjusted, lock_of, granted_on};
 
-/// Whether any of the operations conflicts with `op`.
+/// Returns whether any of the operations conflicts with `op`.
 #[tactic(auto, unfolding(crate::specs::LockTable::one_conflicts))]
 fn one_conflicts(ops: Ops, op: Op) -> bool
     ensures { result ≡ one_conflicts ops op }
@@ -104,7 +105,7 @@ fn one_conflicts(ops: Ops, op: Op) -> bool
         || (ops.has(Op::Write) && Op::Write.conflicts_with(op))
 }
 
-/// Whether any of the operations conflicts with any of the others.
+/// Returns whether any of the operations conflicts with any of the others.
 #[tactic(auto, unfolding(crate::specs::LockTable::both_conflict))]
 fn both_conflict(ops: Ops, others: Ops) -> bool
     ensures { result ≡ both_conflict ops others }
@@ -113,7 +114,7 @@ fn both_conflict(ops: Ops, others: Ops) -> bool
         || (others.has(Op::Write) && one_conflicts(ops, Op::Write))
 }
 
-/// The lock of `t`, if it has one.
+/// Returns the lock of `t`, if it has one.
 #[tactic(auto, unfolding(crate::specs::LockTable::lock_of))]
 pub(crate) fn lock_of(locks: &[Lock], t: Txn) -> Option<Lock>
     ensures { result ≡ lock_of t.0 locks.now }
@@ -121,7 +122,7 @@ pub(crate) fn lock_of(locks: &[Lock], t: Txn) -> Option<Lock>
     locks.iter().copied().find(|lock| lock.is_of(t))
 }
 
-/// The operations that a lock carries, if there is one, and `op`.
+/// Returns `op` together with the operations that the lock carries, if there is one.
 #[tactic(auto, unfolding(crate::specs::LockTable::ops_with))]
 fn ops_with(op: Op, lock: Option<Lock>) -> Ops
     ensures { result ≡ ops_with op lock }
@@ -132,7 +133,7 @@ fn ops_with(op: Op, lock: Option<Lock>) -> Ops
     }
 }
 
-/// Whether one of the locks on `x` blocks `t` from doing `op`.
+/// Returns whether one of the locks on `x` blocks `t` from doing `op`.
 pub(crate) fn is_blocked(locks: &[Lock], t: Txn, x: Ob, op: Op, permits: &mut Permits) -> bool
     ensures answer { result ≡ list_any (blocks (λ u. allows_by permits.old u t.0 x.0 op) t.0 op) locks.now }
     ensures permits { permits.new ≡ permits.old }
@@ -145,7 +146,7 @@ pub(crate) fn is_blocked(locks: &[Lock], t: Txn, x: Ob, op: Op, permits: &mut Pe
     false
 }
 
-/// Adjusts each of the locks where `t` is granted a lock with these operations.
+/// Adjusts each of the locks to a grant of a lock with these operations to `t`.
 fn adjust_each(locks: &mut [Lock], t: Txn, ops: Ops)
     ensures { locks.new ≡ map (adjusted t.0 ops) locks.old }
 {
@@ -154,7 +155,7 @@ fn adjust_each(locks: &mut [Lock], t: Txn, ops: Ops)
     }
 }
 
-/// Grants `op` to `t` among the locks of an object, and says whether `t` had none before.
+/// Grants `op` to `t` among the locks of an object; returns whether `t` had none before.
 pub(crate) fn grant_among(locks: &mut ObjectLocks, t: Txn, op: Op) -> bool
     requires { HasRoomFor locks.old 1 }
     ensures granted { locks.new.items ≡ granted_on t.0 op locks.old.items }
@@ -174,7 +175,7 @@ pub(crate) fn grant_among(locks: &mut ObjectLocks, t: Txn, op: Op) -> bool
     is_new
 }
 
-/// Grants `op` to `t` among the locks of an object, of which one is its own. It takes no memory.
+/// Grants `op` to `t`, which has one of the locks of the object already. It does not allocate.
 pub(crate) fn grant_again_among(locks: &mut ObjectLocks, t: Txn, op: Op)
     requires { is_some (lock_of t.0 locks.old.items) ≡ true }
     ensures { locks.new.items ≡ granted_on t.0 op locks.old.items }
@@ -183,7 +184,7 @@ pub(crate) fn grant_again_among(locks: &mut ObjectLocks, t: Txn, op: Op)
     adjust_each(locks.as_mut_slice(), t, ops);
 }
 
-/// Takes the lock of `t` away.
+/// Removes the lock of `t`.
 pub(crate) fn release_among(locks: &mut ObjectLocks, t: Txn)
     ensures { locks.new.items ≡ without t.0 locks.old.items }
 {

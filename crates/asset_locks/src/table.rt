@@ -1,4 +1,4 @@
-//! The table of locks.
+//! The table of locks and its calls.
 
 ghost use Rattle.std.specs.Prelude.{◌≡◌, ℕ, cond, ◌==◌, not, true, is_some, IfOk, OnOk, OnErr};
 ghost use Rattle.asset_locks.specs.LockTable.{lock_of, granted_on};
@@ -16,8 +16,8 @@ use smallvec::SmallVec;
 use std::alloc::Global;
 use std::marker::Model;
 
-/// The locks on objects, and the enrolled transactions with what each holds and waits for. Contracts
-/// see it as `lock_table` says.
+/// The locks on objects, and the enrolled transactions with what each holds and waits for. Contracts see it as
+/// a `LockTable`.
 #[derive(Drop)]
 pub struct Locks {
     objects: IndexMap<Ob, SmallVec<Lock, 4>>,
@@ -44,7 +44,7 @@ impl Locks {
     ghost use Rattle.asset_locks.specs.LockTable.{is_of, no_locks, enrol_in, release_in, enrolled_in, is_free_in, grant_in, wait_in, lock_of, status_in, held_in, waiters_in, waiting_at, AreApart, Enrolled as Shown};
     ghost use Rattle.asset_locks.specs.Valid.{lock_table, answer_where, after_ask, HaveOwners};
 
-    /// A table without locks, in which nobody is enrolled. It takes no memory.
+    /// Returns a table without locks, in which nobody is enrolled. It does not allocate.
     pub fn new(alloc: Global) -> Locks
         ensures { lock_table result ≡ no_locks }
     {
@@ -55,7 +55,8 @@ impl Locks {
         }
     }
 
-    /// Enrols `t`. It comes last, holds nothing and waits for nothing. If `t` is enrolled already, nothing changes.
+    /// Enrols `t`: it comes last, holds nothing and waits for nothing. If `t` is enrolled already, nothing
+    /// changes and the answer is Ok.
     ///
     /// If memory runs out, nothing changes.
     pub fn enrol(&mut self, t: Txn) -> Result<(), NoMemory>
@@ -77,8 +78,8 @@ impl Locks {
         }
     }
 
-    /// Whether `t` may do `op` on `x` now: each lock on `x` that conflicts with `op`, granted or
-    /// suspended, is its own or of somebody who allows it. It takes no memory.
+    /// Returns whether `x` is free for `t` to do `op`: each lock on `x` that conflicts with `op`, granted or
+    /// suspended, is its own or belongs to a transaction that allows it. It looks at each lock on `x`.
     pub fn is_free(&self, t: Txn, x: Ob, op: Op, permits: &mut Permits) -> bool
         ensures free { result ≡ is_free_in (lock_table self.now) (λ u. allows_by permits.old u t.0 x.0 op) t.0 x.0 op }
         ensures owners { HaveOwners ((lock_table self.now).locks_on x.0) }
@@ -87,11 +88,11 @@ impl Locks {
         !is_blocked(self.locks_of(x), t, x, op, permits)
     }
 
-    /// Asks for `op` on `x` for `t`, which is enrolled. Where `x` is free for it, `t` is granted a
-    /// lock that carries `op` besides what it carried, each lock of another that conflicts with it is
-    /// suspended, and `t` waits for nothing. Otherwise the request goes to the pending request of `t`.
+    /// Asks for `op` on `x` for `t`, which is enrolled. If `x` is free for it, `t` is granted a lock that
+    /// carries `op` besides what it carried, each conflicting lock of another is suspended, and `t` has no
+    /// pending request. Otherwise the request becomes the pending request of `t`.
     ///
-    /// Only the first grant to `t` on `x` takes memory. If memory runs out, nothing changes.
+    /// Only the first grant to `t` on `x` can answer `NoMemory`, and then nothing changes.
     pub fn ask(&mut self, t: Txn, x: Ob, op: Op, permits: &mut Permits) -> Result<Asked, NoMemory>
         requires enrolled { is_some (enrolled_in (lock_table self.old) t.0) ≡ true }
         ensures answer { IfOk result (λ asked. asked ≡ answer_where (is_free_in (lock_table self.old) (λ u. allows_by permits.old u t.0 x.0 op) t.0 x.0 op)) }
@@ -111,7 +112,7 @@ impl Locks {
         }
     }
 
-    /// The state of the lock that `t` has on `x`, if it has one.
+    /// Returns the state of the lock that `t` has on `x`, if it has one.
     pub fn status(&self, t: Txn, x: Ob) -> Option<LockState>
         ensures status { result ≡ status_in (lock_table self.now) t.0 x.0 }
         ensures apart { AreApart ((lock_table self.now).locks_on x.0) }
@@ -122,8 +123,8 @@ impl Locks {
         }
     }
 
-    /// The object of this index among those on which `t` has a lock, in order of first grant from 0. None where
-    /// there are not so many.
+    /// Returns the object at the index among those on which `t` has a lock, in order of first grant from 0, and
+    /// `None` past the end.
     pub fn held_by(&self, t: Txn, n: usize) -> Option<Ob>
         ensures { result ≡ slice_get (held_in (lock_table self.now) t.0) n }
     {
@@ -133,8 +134,9 @@ impl Locks {
         }
     }
 
-    /// The waiter of this index for `x`, in order of enrolment from 0, with the operation that it
-    /// asked for. None where there are not so many. It looks at those enrolled up to it, and takes no memory.
+    /// Returns the waiter at the index among those whose pending request is on `x`, in order of enrolment from
+    /// 0, with the operation that it asked for, and `None` past the end. It looks at the transactions enrolled
+    /// up to it.
     pub fn waiters(&self, x: Ob, n: usize) -> Option<(Txn, Op)>
         ensures { result ≡ slice_get (waiters_in (lock_table self.now) x.0) n }
     {
@@ -150,8 +152,8 @@ impl Locks {
         None
     }
 
-    /// Takes the enrolment of `t` away, with its locks and its pending request. It looks at the locks on
-    /// the objects that `t` holds, moves those enrolled later up, and takes no memory.
+    /// Ends the enrolment of `t`, with its locks and its pending request. It looks at the locks on the objects
+    /// that `t` holds, and moves up those who were enrolled later.
     pub fn release(&mut self, t: Txn)
         ensures { lock_table self.new ≡ release_in (λ n. n == t.0) (lock_table self.old) }
     {
@@ -161,7 +163,7 @@ impl Locks {
         release_each(&mut self.objects, &who.held, t);
     }
 
-    /// The locks on an object.
+    /// Returns the locks on an object.
     fn locks_of(&self, x: Ob) -> &[Lock]
         ensures locks { result.now ≡ (lock_table self.now).locks_on x.0 }
         ensures owners { HaveOwners ((lock_table self.now).locks_on x.0) }
@@ -173,7 +175,8 @@ impl Locks {
         }
     }
 
-    /// What the enrolled transaction of this index asked for on `x`, if that waits.
+    /// Returns the enrolled transaction at the index with the operation that it asked for, if its pending
+    /// request is on `x`.
     fn waiter_at(&self, index: usize, x: Ob) -> Option<(Txn, Op)>
         ensures { (who : Shown) → slice_get (lock_table self.now).enrolled index ≡ Some who → option_to_list result ≡ waiting_at x.0 who.name who.pending }
     {
@@ -198,7 +201,7 @@ impl Locks {
         }
     }
 
-    /// Grants `op` on `x` to `t`, which is enrolled and has a lock on it. It takes no memory.
+    /// Grants `op` on `x` to `t`, which is enrolled and has a lock on it. It does not allocate.
     fn grant_again(&mut self, t: Txn, x: Ob, op: Op)
         requires enrolled { is_some (enrolled_in (lock_table self.old) t.0) ≡ true }
         requires locked { is_some (lock_of t.0 ((lock_table self.old).locks_on x.0)) ≡ true }
@@ -211,8 +214,8 @@ impl Locks {
         grant_lock_again(&mut self.objects, t, x, op);
     }
 
-    /// Grants `op` on `x` to `t`, which is enrolled. Room in the list of what it holds is made before
-    /// anything is written: if memory runs out, nothing changes.
+    /// Grants `op` on `x` to `t`, which is enrolled. It makes room in the list of what `t` holds before it
+    /// changes anything: if memory runs out, nothing changes.
     fn grant_first(&mut self, t: Txn, x: Ob, op: Op) -> Result<(), NoMemory>
         requires enrolled { is_some (enrolled_in (lock_table self.old) t.0) ≡ true }
         ensures done { OnOk result (lock_table self.new ≡ grant_in t.0 x op (lock_table self.old)) }
@@ -231,7 +234,7 @@ impl Locks {
         }
     }
 
-    /// Lets the request of `t`, which is enrolled, wait.
+    /// Makes the request the pending request of `t`, which is enrolled.
     fn wait(&mut self, t: Txn, x: Ob, op: Op)
         requires enrolled { is_some (enrolled_in (lock_table self.old) t.0) ≡ true }
         ensures { lock_table self.new ≡ wait_in t.0 x op (lock_table self.old) }
@@ -243,8 +246,8 @@ impl Locks {
     }
 }
 
-/// Grants `op` on `x` to `t`, and says whether `t` had no lock on it before. Where memory runs out,
-/// no lock changes.
+/// Grants `op` on `x` to `t`; returns whether `t` had no lock on it before. If memory runs out, no lock
+/// changes.
 fn grant_lock(
     objects: &mut IndexMap<Ob, ObjectLocks>,
     t: Txn,
@@ -272,7 +275,7 @@ fn grant_lock(
     }
 }
 
-/// Grants `op` on `x` to `t`, which has a lock on it. It takes no memory.
+/// Grants `op` on `x` to `t`, which has a lock on it. It does not allocate.
 fn grant_lock_again(objects: &mut IndexMap<Ob, ObjectLocks>, t: Txn, x: Ob, op: Op)
     requires { is_some (lock_of t.0 (locks_in objects.old.entries x.0)) ≡ true }
     ensures { (y : ℕ) → locks_in objects.new.entries y ≡ cond (x.0 == y) (granted_on t.0 op (locks_in objects.old.entries y)) (locks_in objects.old.entries y) }
@@ -283,7 +286,7 @@ fn grant_lock_again(objects: &mut IndexMap<Ob, ObjectLocks>, t: Txn, x: Ob, op: 
     grant_again_among(row, t, op);
 }
 
-/// Takes the locks of `t` on these objects away.
+/// Removes the locks of `t` on these objects.
 fn release_each(objects: &mut IndexMap<Ob, ObjectLocks>, held: &[Ob], t: Txn)
     ensures { (y : ℕ) → locks_in objects.new.entries y ≡ cond (lists_object y held.now) (without t.0 (locks_in objects.old.entries y)) (locks_in objects.old.entries y) }
 {
@@ -292,7 +295,7 @@ fn release_each(objects: &mut IndexMap<Ob, ObjectLocks>, held: &[Ob], t: Txn)
     }
 }
 
-/// Takes the lock of `t` on the object away.
+/// Removes the lock of `t` on the object.
 fn release_one(objects: &mut IndexMap<Ob, ObjectLocks>, x: Ob, t: Txn)
     ensures { (y : ℕ) → locks_in objects.new.entries y ≡ cond (x.0 == y) (without t.0 (locks_in objects.old.entries y)) (locks_in objects.old.entries y) }
 {

@@ -20,33 +20,33 @@ use Rattle.asset_names.specs.Steps.{Opening, Entry, takes_effect, applied, initi
 use Rattle.asset_names.specs.Endings.{status, same_class}
 use Rattle.asset_names.specs.Operations.{free, value, exists}
 
--- what statuses say of a name: that it was never initiated
+-- the transaction was never initiated
 unfoldable pub is_unknown : Status → Bool
 is_unknown Status'.Unknown = true
 is_unknown other = false
 
--- that it has committed or aborted
+-- the transaction has committed or aborted
 unfoldable pub has_ended : Status → Bool
 has_ended Status'.Committed = true
 has_ended Status'.Aborted = true
 has_ended other = false
 
--- that it has begun and not completed
+-- the transaction has begun and not completed
 unfoldable pub is_running : Status → Bool
 is_running Status'.Running = true
 is_running other = false
 
--- that it has completed and not ended
+-- the transaction has completed and not ended
 unfoldable pub is_completed : Status → Bool
 is_completed Status'.Completed = true
 is_completed other = false
 
--- that it has committed
+-- the transaction has committed
 unfoldable pub is_committed : Status → Bool
 is_committed Status'.Committed = true
 is_committed other = false
 
--- that it is live and has begun
+-- the transaction is live and has begun
 unfoldable pub has_begun : Status → Bool
 has_begun Status'.Running = true
 has_begun Status'.Completed = true
@@ -56,15 +56,15 @@ has_begun other = false
 abbrev pub Rule : Type 0
 Rule = Bool × Refusal
 
--- each step but an initiate is refused where t was never initiated
+-- each step but an initiate is refused if t was never initiated
 unfoldable pub unknown : List Step → Txn → Rule
 unknown steps t = (is_unknown (status steps t.0), Refusal'.Unknown t)
 
--- a begin, a transaction's own work, and a permit by it or for it are refused where it has ended
+-- a begin, a transaction's own work, and a permit by it or for it are refused if it has ended
 unfoldable pub ended : List Step → Txn → Rule
 ended steps t = (has_ended (status steps t.0), Refusal'.Ended t)
 
--- a step of a transaction's own work is refused where it is not running
+-- a transaction's own work is refused if it is not running
 unfoldable pub not_running : List Step → Txn → Rule
 not_running steps t = (not (is_running (status steps t.0)), Refusal'.NotRunning t)
 
@@ -83,7 +83,7 @@ too_late steps t = (is_committed (status steps t.0), Refusal'.TooLate t)
 unfoldable pub no_object : Opening → Ob → Rule
 no_object opening x = (not (exists opening x.0), Refusal'.NoObject x)
 
--- a permit is refused where both its names are one
+-- a permit is refused if its giver is its taker
 unfoldable pub one_name : Txn → Txn → Rule
 one_name giver taker = (giver.0 == taker.0, Refusal'.Same)
 
@@ -121,14 +121,14 @@ first_refusal (rule ∷ rules) = cond rule.0 (Some rule.1) (first_refusal rules)
 unfoldable pub class_completed : List Step → ℕ → Bool
 class_completed steps t = list_all (λ n. not (same_class steps t n) || is_completed (status steps n)) (initiated steps)
 
--- A commit of a name that has ended answers how. Else the whole class commits at once when each member
--- has completed, and waits until then.
+-- A commit of a transaction that has ended answers how it ended. Otherwise the whole class commits at once when
+-- each member has completed, and waits until then.
 unfoldable pub commit_outcome : Status → Bool → Outcome
 commit_outcome Status'.Committed ready = Answer Reply'.Committed
 commit_outcome Status'.Aborted ready = Answer Reply'.Aborted
 commit_outcome other ready = cond ready (Answer Reply'.Committed) Wait
 
--- a wait for a name ends when the name has completed or ended, and says which
+-- a wait for a transaction ends when it has completed or ended, and says which
 unfoldable pub wait_outcome : Status → Outcome
 wait_outcome Status'.Completed = Answer Reply'.Done
 wait_outcome Status'.Committed = Answer Reply'.Committed
@@ -155,7 +155,7 @@ outcome_unless (Some refusal) outcome = Answer (Reply'.Refused refusal)
 unfoldable pub answer : Opening → List Step → Step → Outcome
 answer opening steps step = outcome_unless (first_refusal (rules_for opening steps step)) (unrefused opening steps step)
 
--- whether a step may need memory where it takes effect
+-- whether a step that takes effect may need memory
 unfoldable pub takes_memory : Step → Bool
 takes_memory (Initiate t parent) = true
 takes_memory (Read t x) = true
@@ -168,7 +168,7 @@ unfoldable pub outcome_takes_effect : Step → Outcome → Bool
 outcome_takes_effect step (Answer reply) = takes_effect step reply
 outcome_takes_effect step Wait = false
 
--- a history, newest entry first, is legal where each step was answered as it is after the older entries
+-- a history, newest entry first, is legal if the reply to each step is its answer after the older entries
 unfoldable pub IsLegal : Opening → List Entry → Type 0
 IsLegal opening [] = Unit {0}
 IsLegal opening (entry ∷ older) = (answer opening (applied older) entry.0 ≡ Answer entry.1) × IsLegal opening older

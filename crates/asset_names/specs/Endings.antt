@@ -10,7 +10,7 @@ use Rattle.asset_names.specs.declared.statuses.Status.TheVariants as Status'
 use Rattle.asset_names.specs.Arrows.{Arrow, lists, linked, among}
 use Rattle.asset_names.specs.Steps.{initiated, begun, completed}
 
--- the arrows that make classes: no step joins two names yet
+-- the arrows that make classes: no step joins two transactions yet
 unfoldable pub class_arrows : List Step → List Arrow
 class_arrows steps = []
 
@@ -34,7 +34,7 @@ end_of (step ∷ older) t = option_or (end_of older t) (ended_by step (λ n. lis
 unfoldable pub live : List Step → ℕ → Bool
 live steps t = lists (initiated steps) t && is_none (end_of steps t)
 
--- the status of a name by whether it was initiated, begun and completed, and how it ended
+-- the status of a transaction by whether it was initiated, begun and completed, and how it ended
 unfoldable pub status_of : Bool → Bool → Bool → Option End → Status
 status_of false begun completed end = Status'.Unknown
 status_of true begun completed (Some End'.Committed) = Status'.Committed
@@ -53,6 +53,6 @@ is_live_status Status'.Running = true
 is_live_status Status'.Completed = true
 is_live_status status = false
 
--- two live names of one class, and each name with itself
+-- two live transactions are of one class, and each is of its own
 unfoldable pub same_class : List Step → ℕ → ℕ → Bool
 same_class steps a b = linked (among (live steps) (class_arrows steps)) a b

@@ -56,7 +56,7 @@ unfoldable pub operations : List Step → List Operation
 operations [] = []
 operations (step ∷ older) = operated step (operations older)
 
--- a live name holds x by the operations on x for which it is responsible
+-- a live transaction holds x by the operations on x for which it is responsible
 unfoldable pub holds : List Step → ℕ → ℕ → Op → Bool
 holds steps t x op = live steps t && list_any (λ (o : Operation). o.owner == t && o.object == x && same_op (op_of o.use_of) op) (operations steps)
 
@@ -71,17 +71,17 @@ unfoldable pub permits : List Step → ℕ → Op → List Arrow
 permits [] x op = []
 permits (step ∷ older) x op = permitted_by step older (permits older x op) x op ++ permits older x op
 
--- u allows t to do op on x: they are one name, or a chain of live names leads from u to t, each of
--- which permits it to the next
+-- u allows t to do op on x: they are one, or a chain of live transactions leads from u to t, each of which
+-- permits it to the next
 unfoldable pub allows : List Step → ℕ → ℕ → ℕ → Op → Bool
 allows steps u t x op = linked (among (live steps) (permits steps x op)) u t
 
--- the operation blocks t from doing op on x: it is another live name's, conflicts with op, and its
--- owner does not allow t to do op on x
+-- the operation blocks t from doing op on x: it is another live transaction's, conflicts with op, and its owner
+-- does not allow t to do op on x
 unfoldable pub blocks : List Step → ℕ → ℕ → Op → Operation → Bool
 blocks steps t x op o = o.object == x && conflict (op_of o.use_of) op && not (o.owner == t) && live steps o.owner && not (allows steps o.owner t x op)
 
--- x is free for t to do op where no operation blocks it
+-- x is free for t to do op if no operation blocks it
 unfoldable pub free : List Step → ℕ → ℕ → Op → Bool
 free steps t x op = not (list_any (blocks steps t x op) (operations steps))
 
@@ -102,7 +102,7 @@ opening_at opening x = option_map (λ (pair : Ob × ℤ). pair.1) (find (λ (pai
 unfoldable pub exists : Opening → ℕ → Bool
 exists opening x = is_some (opening_at opening x)
 
--- the opening value of x, and 0 where there is no such object
+-- the opening value of x, and 0 if there is no such object
 unfoldable pub opening_value : Opening → ℕ → ℤ
 opening_value opening x = unwrap_or (opening_at opening x) (pos 0)
 

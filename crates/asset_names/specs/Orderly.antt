@@ -1,4 +1,4 @@
--- What the steps of a legal history say of the names in them.
+-- What the steps of a legal history say of the transactions in them.
 use Rattle.std.specs.Prelude.{◌≡◌, ℕ, ◌==◌, true, false, List, [], ◌∷◌}
 use Rattle.std.specs.List.{list_any}
 use Rattle.asset_names.specs.declared.operations.Op.{Op}
@@ -12,8 +12,8 @@ abbrev pub Distinct : List ℕ → Type 0
 Distinct [] = Unit {0}
 Distinct (n ∷ names) = (lists names n ≡ false) × Distinct names
 
--- The names that were initiated are different; and who has begun, has completed, is responsible for an operation, or
--- gives or takes a permit was initiated.
+-- The transactions that were initiated are different; and whoever has begun, has completed, is responsible for
+-- an operation, or gives or takes a permit was initiated.
 pub record IsOrderly (steps : List Step) : Type 0 where
   pub different : Distinct (initiated steps)
   pub begun_known : (n : ℕ) → lists (begun steps) n ≡ true → lists (initiated steps) n ≡ true

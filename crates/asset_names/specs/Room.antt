@@ -1,4 +1,4 @@
--- The room that live names are owed, so that each can still end.
+-- The room that live transactions are owed, so that each can still end.
 use Rattle.std.specs.Prelude.{ℕ, ◌+◌, Bool, true, false, ◌&&◌, nat_le, List, sum_by}
 use Rattle.asset_names.specs.declared.steps.Step.{Step}
 use Rattle.asset_names.specs.declared.statuses.Status.{Status}
@@ -8,15 +8,15 @@ use Rattle.asset_names.specs.declared.replies.Reply.{Reply}
 use Rattle.asset_names.specs.Steps.{takes_effect, initiated}
 use Rattle.asset_names.specs.Endings.{live, status}
 
--- A live name that has not completed is owed two entries, for its complete and its end; a completed one is
--- owed one, for its end.
+-- A live transaction that has not completed is owed two entries, for its complete and its end; a completed one
+-- is owed one, for its end.
 unfoldable pub owed_to : Status → ℕ
 owed_to Status'.Initiated = 2
 owed_to Status'.Running = 2
 owed_to Status'.Completed = 1
 owed_to other = 0
 
--- the entries that all names are owed
+-- the entries that all transactions are owed
 unfoldable pub owed : List Step → ℕ
 owed steps = sum_by (λ n. owed_to (status steps n)) (initiated steps)
 

@@ -23,7 +23,7 @@ abbrev pub lesser : Ob → Option Ob → Ob
 lesser x None = x
 lesser x (Some y) = cond (nat_lt y.0 x.0) y x
 
--- what stands in the slots of a list that no object fills, and where a rule that does not apply names an object
+-- the object in the empty slots of a list, and in a rule that does not apply
 abbrev pub no_object_name : Ob
 no_object_name = record { 0 = 0 }
 

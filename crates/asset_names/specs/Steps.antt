@@ -15,7 +15,7 @@ Opening = List (Ob × ℤ)
 abbrev pub Entry : Type 0
 Entry = Step × Reply
 
--- whether a step that got this reply took effect; a wait for a name changes nothing, whatever it answers
+-- whether a step with this reply took effect; a wait for a transaction changes nothing, whatever it answers
 unfoldable pub takes_effect : Step → Reply → Bool
 takes_effect (Initiate t parent) Reply'.Done = true
 takes_effect (Begin t) Reply'.Done = true
@@ -32,7 +32,7 @@ unfoldable pub applied : List Entry → List Step
 applied [] = []
 applied (entry ∷ older) = cond (takes_effect entry.0 entry.1) (entry.0 ∷ applied older) (applied older)
 
--- the name that the step initiates, begins or completes
+-- the transaction that the step initiates, begins or completes
 unfoldable pub initiated_by : Step → List ℕ
 initiated_by (Initiate t parent) = t.0 ∷ []
 initiated_by step = []
@@ -45,7 +45,7 @@ unfoldable pub completed_by : Step → List ℕ
 completed_by (Complete t) = t.0 ∷ []
 completed_by step = []
 
--- the names that were initiated, begun or completed
+-- the transactions that were initiated, begun or completed
 unfoldable pub initiated : List Step → List ℕ
 initiated steps = flat_map initiated_by steps
 

@@ -1,4 +1,4 @@
--- How a list of objects is kept: in rising order, at the front of its slots.
+-- A valid list of objects has them in rising order, in its first slots.
 use Rattle.std.specs.Prelude.{◌≡◌, ℕ, ◌<◌, ◌≤◌, ◌-◌, List, ◌++◌, length, take, drop, replicate}
 use Rattle.std.specs.List.Sorted.{IsStrictlyIncreasing}
 use Rattle.std.proofs.Common.{arith}

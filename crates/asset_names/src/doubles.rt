@@ -1,16 +1,16 @@
-//! Which object a list has twice.
+//! Finds an object that a list names twice.
 
 ghost use Rattle.std.specs.Prelude.{◌≡◌, ℕ, ◌==◌, map, IfSome, IfNone, count_by};
 ghost use Rattle.asset_names.specs.Sets.{IsLeastDouble, HasNoDouble, lesser};
 
 use crate::names::Ob;
 
-/// What names an object, as the items of a list do.
+/// An item that names an object.
 pub trait NamesObject {
-    /// The number of the object.
+    /// The number of the object that the item names.
     ghost object_of: { Self → ℕ };
 
-    /// The object.
+    /// Returns the object that the item names.
     fn object(&self) -> Ob
         ensures { result.0 ≡ object_of self.now };
 }
@@ -32,7 +32,8 @@ impl NamesObject for (Ob, i64) {
     }
 }
 
-/// The least object that the items name at least twice. It looks at each pair, and takes no memory.
+/// Returns the least object that the items name at least twice. It compares each pair of items, and takes no
+/// memory.
 pub fn least_double<I: NamesObject>(items: &[I]) -> Option<Ob>
     ensures found { IfSome result (λ x. IsLeastDouble (map I.object_of items.now) x.0) }
     ensures none { IfNone result (HasNoDouble (map I.object_of items.now)) }
@@ -47,14 +48,14 @@ pub fn least_double<I: NamesObject>(items: &[I]) -> Option<Ob>
     found
 }
 
-/// How often the items name the object.
+/// Returns how often the items name the object.
 fn occurrences<I: NamesObject>(items: &[I], x: Ob) -> usize
     ensures { result ≡ count_by (λ item. I.object_of item == x.0) items.now }
 {
     items.iter().filter(|item| item.object().0 == x.0).count()
 }
 
-/// The lesser of an object and of one that may be there.
+/// Returns the lesser of an object and an optional other one.
 fn lesser(x: Ob, other: Option<Ob>) -> Ob
     ensures { result ≡ lesser x other }
 {

@@ -11,13 +11,13 @@ ghost use Rattle.asset_names.specs.Operations.{conflict, holds, allows, free};
 ghost use Rattle.asset_names.specs.Room.{fits, changes_status};
 ghost use Rattle.asset_names.specs.Arrows.{Arrow, linked, Chain};
 
-/// A name is linked to another exactly where a chain of arrows leads from the one to the other.
+/// Two names are linked exactly if a chain of arrows leads from the first to the second.
 pub fn linked_is_chain()
     ensures { (arrows : List Arrow) (a b : ℕ) → (linked arrows a b ≡ true) ↔ Chain arrows a b }
 {}
 
-/// A complete, a commit or an abort that changes a status finds room in each legal history whose
-/// entries and owed entries fit the capacity: with its own entry the history fits again.
+/// A complete, a commit or an abort that changes a status finds room in every legal history whose entries and
+/// owed entries fit the capacity: with its entry added, they fit again.
 pub fn endings_find_room()
     ensures { (opening : Opening) (entries : List Entry) (step : Step) (reply : Reply) (capacity : ℕ) →
         IsLegal opening entries → fits (applied entries) (length entries) capacity ≡ true →
@@ -25,8 +25,8 @@ pub fn endings_find_room()
         fits (applied ((step, reply) ∷ entries)) (length entries + 1) capacity ≡ true }
 {}
 
-/// An object is free for an operation exactly where each other name that holds it by an operation in
-/// conflict allows it.
+/// An object is free for an operation exactly if every other transaction that holds it by a conflicting
+/// operation allows it.
 pub fn free_is_allowed_by_holders()
     ensures { (steps : List Step) (t x : ℕ) (op : Op) → (free steps t x op ≡ true)
         ↔ ((u : ℕ) (other : Op) → holds steps u x other ≡ true → conflict other op ≡ true → u ≢ t → allows steps u t x op ≡ true) }

@@ -1,6 +1,6 @@
-//! The words of the facility: names of transactions and objects, operations, sets of objects, the
-//! steps that clients ask and the replies that they get. `specs/` says what a history of answered
-//! steps means. Nothing in this crate takes memory.
+//! The vocabulary of the facility: names of transactions and objects, operations, sets of objects, the steps
+//! that clients ask for and the replies that they get. `specs/` defines what a history of answered steps means.
+//! No call of this crate allocates.
 #![tactic(auto)]
 
 mod doubles;

@@ -4,13 +4,13 @@ ghost use Rattle.std.specs.Prelude.{◌≡◌, ◌||◌, ◌↔◌, false, true,
 
 use std::marker::Model;
 
-/// What a transaction does to an object: it reads or writes the whole value. Reads go together;
-/// a write conflicts with reads and with other writes.
+/// What a transaction does to an object: it reads or writes the whole value. A write conflicts with reads and
+/// with other writes; two reads do not conflict.
 #[derive(Clone, Copy, Debug, PartialEq, Eq)]
 pub enum Op {
-    /// It looks at the value.
+    /// Reads the value.
     Read,
-    /// It puts another value in its place.
+    /// Replaces the value.
     Write,
 }
 
@@ -18,7 +18,7 @@ impl Op {
     ghost use Rattle.std.specs.Prelude.{◌≡◌};
     ghost use Rattle.asset_names.specs.Operations.{conflict};
 
-    /// Whether the two operations conflict.
+    /// Returns whether the two operations conflict.
     #[tactic(auto, unfolding(crate::specs::Operations::conflict))]
     pub fn conflicts_with(self, other: Op) -> bool
         ensures { result ≡ conflict self other }
@@ -27,7 +27,7 @@ impl Op {
     }
 }
 
-/// A set of operations that is not empty. Contracts see it as an `OpSet`.
+/// A set of operations, which is never empty. Contracts see it as an `OpSet`.
 #[derive(Clone, Copy, Debug, PartialEq, Eq)]
 pub struct Ops {
     read: bool,
@@ -50,7 +50,7 @@ impl Model for Ops {
 impl Ops {
     ghost use Rattle.asset_names.specs.OpSets.{has_op, only_op, op_set, with_op};
 
-    /// Returns the set of the operations that are asked for, and `None` if neither is.
+    /// Returns the set of the operations whose flag is true, and `None` if both are false.
     pub fn new(read: bool, write: bool) -> Option<Ops>
         ensures some { IfSome result (λ ops. ops ≡ op_set read write) }
         ensures none { IsNone result ↔ ((read || write) ≡ false) }
@@ -84,12 +84,9 @@ impl Ops {
     pub fn with(self, op: Op) -> Ops
         ensures { result ≡ with_op op self }
     {
-        match op {
-            Op::Read => Ops { read: true, ..self },
-            Op::Write => Ops {
-                write: true,
-                ..self
-            },
+        Ops {
+            read: self.read || op == Op::Read,
+            write: self.write || op == Op::Write,
         }
     }
 

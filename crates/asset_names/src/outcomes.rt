@@ -8,8 +8,8 @@ use crate::replies::{Outcome, Reply};
 use crate::statuses::Status;
 use crate::steps::Step;
 
-/// The outcome of a commit of a transaction of this status, where `ready` says whether each member of its
-/// class has completed: how the transaction ended, where it has; else Committed where it is ready, and else Wait.
+/// Returns the outcome of a commit of a transaction with this status. If it has ended, the outcome says how.
+/// Otherwise it is Committed if `ready`, that is, if each member of its class has completed, and Wait if not.
 #[tactic(auto, unfolding(crate::specs::Answers::commit_outcome))]
 pub fn commit_outcome(status: Status, ready: bool) -> Outcome
     ensures { result ≡ commit_outcome status ready }
@@ -22,8 +22,8 @@ pub fn commit_outcome(status: Status, ready: bool) -> Outcome
     }
 }
 
-/// The outcome of a wait for a transaction of this status: Done where it has completed, how it ended where it has,
-/// and else Wait.
+/// Returns the outcome of a wait for a transaction with this status: Done if it has completed, how it ended if
+/// it has ended, and Wait otherwise.
 #[tactic(auto, unfolding(crate::specs::Answers::wait_outcome))]
 pub fn wait_outcome(status: Status) -> Outcome
     ensures { result ≡ wait_outcome status }
@@ -36,7 +36,8 @@ pub fn wait_outcome(status: Status) -> Outcome
     }
 }
 
-/// Whether a step that got this reply took effect. A wait for a transaction never is.
+/// Returns whether a step with this reply takes effect, that is, changes something. A wait for a transaction
+/// never does.
 #[tactic(auto, unfolding(crate::specs::Steps::takes_effect))]
 pub fn takes_effect(step: &Step, reply: Reply) -> bool
     ensures { result ≡ takes_effect step.now reply }

@@ -1,5 +1,5 @@
-//! Why a transaction may not do what it asks, by its status: each answers the first refusal that applies, if
-//! one does.
+//! The refusals of each step. Each function returns the first refusal that applies, and `None` if the step is
+//! not refused.
 
 ghost use Rattle.std.specs.Prelude.{◌≡◌, ◌==◌, not, [], ◌∷◌};
 ghost use Rattle.asset_names.specs.Answers.{is_unknown, has_ended, has_begun, is_running, is_committed, missing_rule, first_refusal};
@@ -8,7 +8,7 @@ use crate::names::{Ob, Txn};
 use crate::replies::Refusal;
 use crate::statuses::Status;
 
-/// Why a transaction of this status may not be initiated: Taken unless it is Unknown.
+/// Returns why a transaction with this status may not be initiated: Taken unless it is Unknown.
 #[tactic(auto, unfolding(crate::specs::Answers::first_refusal, crate::specs::Answers::is_unknown))]
 pub fn refusal_to_initiate(t: Txn, status: Status) -> Option<Refusal>
     ensures { result ≡ first_refusal ((not (is_unknown status), Refusal.Taken t) ∷ []) }
@@ -19,8 +19,8 @@ pub fn refusal_to_initiate(t: Txn, status: Status) -> Option<Refusal>
     }
 }
 
-/// Why a transaction of this status may not begin: Unknown; Ended where it has committed or aborted; Begun where it
-/// is Running or Completed. An Initiated one may.
+/// Returns why a transaction with this status may not begin: Unknown; Ended if it has committed or aborted;
+/// Begun if it is Running or Completed. An Initiated one may begin.
 #[tactic(auto, unfolding(crate::specs::Answers::first_refusal, crate::specs::Answers::is_unknown, crate::specs::Answers::has_ended, crate::specs::Answers::has_begun))]
 pub fn refusal_to_begin(t: Txn, status: Status) -> Option<Refusal>
     ensures { result ≡ first_refusal ((is_unknown status, Refusal.Unknown t) ∷ (has_ended status, Refusal.Ended t) ∷ (has_begun status, Refusal.Begun t) ∷ []) }
@@ -33,8 +33,8 @@ pub fn refusal_to_begin(t: Txn, status: Status) -> Option<Refusal>
     }
 }
 
-/// Why a transaction of this status may not do its own work: Unknown; Ended where it has committed or aborted;
-/// NotRunning where it is Initiated or Completed. A Running one may.
+/// Returns why a transaction with this status may not work: Unknown; Ended if it has committed or aborted;
+/// NotRunning if it is Initiated or Completed. A Running one may work.
 #[tactic(auto, unfolding(crate::specs::Answers::first_refusal, crate::specs::Answers::is_unknown, crate::specs::Answers::has_ended, crate::specs::Answers::is_running))]
 pub fn refusal_to_work(t: Txn, status: Status) -> Option<Refusal>
     ensures { result ≡ first_refusal ((is_unknown status, Refusal.Unknown t) ∷ (has_ended status, Refusal.Ended t) ∷ (not (is_running status), Refusal.NotRunning t) ∷ []) }
@@ -47,8 +47,8 @@ pub fn refusal_to_work(t: Txn, status: Status) -> Option<Refusal>
     }
 }
 
-/// Why a transaction of this status may not operate on the object: what `refusal_to_work` says, and else NoObject
-/// where the object does not exist.
+/// Returns why a transaction with this status may not read or write the object: the refusal of
+/// `refusal_to_work`, otherwise NoObject if the object does not exist.
 #[tactic(auto, unfolding(crate::specs::Answers::first_refusal, crate::specs::Answers::is_unknown, crate::specs::Answers::has_ended, crate::specs::Answers::is_running))]
 pub fn refusal_to_operate(t: Txn, status: Status, x: Ob, exists: bool) -> Option<Refusal>
     ensures { result ≡ first_refusal ((is_unknown status, Refusal.Unknown t) ∷ (has_ended status, Refusal.Ended t) ∷ (not (is_running status), Refusal.NotRunning t) ∷ (not exists, Refusal.NoObject x) ∷ []) }
@@ -60,7 +60,7 @@ pub fn refusal_to_operate(t: Txn, status: Status, x: Ob, exists: bool) -> Option
     }
 }
 
-/// Why a transaction of this status may not be committed or waited for: Unknown, and nothing else.
+/// Returns why a transaction with this status may not be committed or waited for: only if it is Unknown.
 #[tactic(auto, unfolding(crate::specs::Answers::first_refusal, crate::specs::Answers::is_unknown))]
 pub fn refusal_to_find(t: Txn, status: Status) -> Option<Refusal>
     ensures { result ≡ first_refusal ((is_unknown status, Refusal.Unknown t) ∷ []) }
@@ -71,7 +71,7 @@ pub fn refusal_to_find(t: Txn, status: Status) -> Option<Refusal>
     }
 }
 
-/// Why a transaction of this status may not be aborted: Unknown; TooLate where it has committed.
+/// Returns why a transaction with this status may not be aborted: Unknown; TooLate if it has committed.
 #[tactic(auto, unfolding(crate::specs::Answers::first_refusal, crate::specs::Answers::is_unknown, crate::specs::Answers::is_committed))]
 pub fn refusal_to_abort(t: Txn, status: Status) -> Option<Refusal>
     ensures { result ≡ first_refusal ((is_unknown status, Refusal.Unknown t) ∷ (is_committed status, Refusal.TooLate t) ∷ []) }
@@ -83,8 +83,8 @@ pub fn refusal_to_abort(t: Txn, status: Status) -> Option<Refusal>
     }
 }
 
-/// Why a giver and a taker that are known may not share objects: one of them has ended, or an object does not
-/// exist, of which `missing` is the least.
+/// Returns why a giver and a taker that were initiated may not share objects: one of them has ended, or an
+/// object does not exist; `missing` is the least such object.
 #[tactic(auto, unfolding(crate::specs::Answers::first_refusal, crate::specs::Answers::has_ended, crate::specs::Answers::missing_rule))]
 fn refusal_of_ended(
     giver: Txn,
@@ -104,9 +104,9 @@ fn refusal_of_ended(
     }
 }
 
-/// Why a giver of one status may not permit anything to a taker of another, where `missing` is the least
-/// object of the permit that does not exist, if there is one. In this order: Same where the two are one; Unknown of
-/// the giver, of the taker; Ended of the giver, of the taker; NoObject of `missing`.
+/// Returns why the giver may not permit anything to the taker; `missing` is the least object of the permit that
+/// does not exist, if there is one. The refusals in order: Same if the two are one transaction; Unknown of the
+/// giver, then of the taker; Ended of the giver, then of the taker; NoObject of `missing`.
 #[tactic(auto, unfolding(crate::specs::Answers::first_refusal))]
 pub fn refusal_to_permit(
     giver: Txn,

@@ -1,9 +1,9 @@
-//! What the facility answers.
+//! The answers of the facility.
 
 use crate::names::{Ob, Txn};
 use thiserror::Error;
 
-/// Why a step was refused. A refusal is a recorded reply, and changes nothing else.
+/// Why a step was refused. A refusal is a reply: it is recorded, and changes nothing else.
 #[derive(Clone, Copy, Debug, PartialEq, Eq)]
 pub enum Refusal {
     /// No transaction of this name was initiated.
@@ -18,7 +18,7 @@ pub enum Refusal {
     Begun(Txn),
     /// There is no such object.
     NoObject(Ob),
-    /// Two names that have to differ are one.
+    /// Two transactions that have to differ are one.
     Same,
     /// The dependency would close a cycle.
     Cycle,
@@ -26,10 +26,10 @@ pub enum Refusal {
     TooLate(Txn),
 }
 
-/// A recorded reply to a step.
+/// A reply to a step, which is recorded in the history.
 #[derive(Clone, Copy, Debug, PartialEq, Eq)]
 pub enum Reply {
-    /// What was asked is done: the step took effect, or the name that was waited for has completed.
+    /// The step took effect, or the transaction that was waited for has completed.
     Done,
     /// The value that was read.
     Value(i64),
@@ -41,19 +41,19 @@ pub enum Reply {
     Refused(Refusal),
 }
 
-/// What becomes of a step that met no fault: a reply, which is recorded, or a wait, which is not.
+/// The outcome of a step that met no fault: a reply, which is recorded, or a wait, which is not.
 #[derive(Clone, Copy, Debug, PartialEq, Eq)]
 pub enum Outcome {
     /// The reply, which is an entry of the history.
     Answer(Reply),
-    /// Not yet: the client may ask again.
+    /// Not yet: the client may ask again later.
     Wait,
 }
 
-/// Why a step got no answer. A fault is not recorded, and nothing has changed.
+/// Why a step got no answer. A fault is not recorded, and nothing changes.
 #[derive(Clone, Copy, Debug, PartialEq, Eq, Error)]
 pub enum Fault {
-    /// The history has no room for the entry and for those that live names are owed after it.
+    /// The history has no room for the entry together with those that live transactions are owed after it.
     #[error("the history has no room")]
     Full,
     /// Memory ran out.
@@ -61,7 +61,7 @@ pub enum Fault {
     NoMemory,
 }
 
-/// Memory ran out. Nothing has changed.
+/// Memory ran out. Nothing changes.
 #[derive(Clone, Copy, Debug, PartialEq, Eq, Error)]
 #[error("no memory")]
 pub struct NoMemory;

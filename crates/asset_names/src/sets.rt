@@ -10,10 +10,10 @@ use crate::names::Ob;
 use std::marker::Model;
 use thiserror::Error;
 
-/// The most objects that a list has.
+/// The greatest number of objects in a list.
 pub const MOST_OBJECTS: usize = 16;
 
-/// A list of 1 to 16 different objects, kept rising. Contracts see the list.
+/// A list of 1 to 16 different objects in rising order. Contracts see the list.
 #[derive(Clone, Copy, Debug, PartialEq, Eq)]
 pub struct ObList {
     objects: [Ob; MOST_OBJECTS],
@@ -49,21 +49,21 @@ pub enum ObSet {
     Listed(ObList),
 }
 
-/// Why a list of objects is no [`ObList`].
+/// Why objects cannot be made into an [`ObList`].
 #[derive(Clone, Copy, Debug, PartialEq, Eq, Error)]
 pub enum SetFault {
-    /// The list is empty.
+    /// There is no object.
     #[error("a list of objects may not be empty")]
     Empty,
-    /// The list has more than 16 objects.
+    /// There are more than 16 objects.
     #[error("a list has at most 16 objects")]
     TooMany,
-    /// The least object that the list has twice.
+    /// An object is given twice; this is the least such object.
     #[error("object {} is listed twice", .0.0)]
     Double(Ob),
 }
 
-/// Puts the objects into rising order.
+/// Sorts the objects into rising order.
 fn sort(objects: &mut [Ob])
     ensures permutation { IsPermutation objects.old objects.new }
     ensures len { length objects.new ≡ length objects.old }
@@ -72,7 +72,7 @@ fn sort(objects: &mut [Ob])
     objects.sort_unstable_by_key(|x| x.0);
 }
 
-/// The objects in rising order, and empty slots after them.
+/// Returns the objects in rising order, followed by empty slots.
 fn sorted(objects: &[Ob]) -> [Ob; MOST_OBJECTS]
     requires { length objects.now ≤ 16 }
     ensures permutation { IsPermutation objects.now (take (length objects.now) result) }
@@ -86,7 +86,7 @@ fn sorted(objects: &[Ob]) -> [Ob; MOST_OBJECTS]
     all
 }
 
-/// Whether the object is listed.
+/// Returns whether the object is listed.
 fn is_listed(objects: &[Ob], x: Ob) -> bool
     ensures { result ≡ list_any (λ o. o.0 == x.0) objects.now }
 {
@@ -100,8 +100,10 @@ impl ObList {
     ghost use Rattle.asset_names.specs.Sets.{numbers, rising, HasNoDouble};
     ghost use Rattle.asset_names.specs.SetFaults.{IsSetFault};
 
-    /// The list of these objects. It is refused where there is none; else where there are more than
-    /// 16; else where one occurs twice, with the least such object.
+    /// Returns the list of these objects.
+    ///
+    /// It answers `Empty` if there is no object; otherwise `TooMany` if there are more than 16; otherwise
+    /// `Double` with the least object that occurs twice, if one does.
     #[tactic(auto, unfolding(crate::specs::Sets::numbers))]
     pub fn of(objects: &[Ob]) -> Result<ObList, SetFault>
         ensures kept { IfOk result (λ list. IsPermutation objects.now list) }
@@ -126,7 +128,7 @@ impl ObList {
         })
     }
 
-    /// The objects of the list, of which there are 1 to 16, in rising order.
+    /// Returns the 1 to 16 objects of the list in rising order.
     pub fn objects(&self) -> &[Ob]
         ensures listed { result.now ≡ self.now }
         ensures some { 0 < length self.now }
@@ -136,7 +138,7 @@ impl ObList {
         &self.objects[..self.count]
     }
 
-    /// Whether the object is in the list.
+    /// Returns whether the object is in the list.
     #[tactic(auto, using(crate::proofs::DoubleLemmas::lists_numbers))]
     pub fn has(&self, x: Ob) -> bool
         ensures { result ≡ lists (numbers self.now) x.0 }
@@ -149,7 +151,7 @@ impl ObSet {
     ghost use Rattle.std.specs.Prelude.{◌≡◌};
     ghost use Rattle.asset_names.specs.InSet.{in_set};
 
-    /// Whether the object is in the set.
+    /// Returns whether the object is in the set.
     #[tactic(auto, unfolding(crate::specs::InSet::in_set))]
     pub fn has(&self, x: Ob) -> bool
         ensures { result ≡ in_set self.now x.0 }

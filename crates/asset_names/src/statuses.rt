@@ -1,15 +1,15 @@
-//! How far a transaction has come.
+//! The status of a transaction.
 
-/// The status of a name. A transaction is live while it is Initiated, Running or Completed.
+/// The status of a transaction. It is live while it is Initiated, Running or Completed.
 #[derive(Clone, Copy, Debug, PartialEq, Eq)]
 pub enum Status {
     /// No transaction of this name was initiated.
     Unknown,
-    /// Registered, and not started.
+    /// It is registered and not started.
     Initiated,
-    /// Started: it may read and write.
+    /// It is started, and may read and write.
     Running,
-    /// It has done its work, and is not yet committed.
+    /// It has done its work and has not ended.
     Completed,
     /// It ended by a commit.
     Committed,
@@ -32,7 +32,7 @@ impl Status {
     ghost use Rattle.asset_names.specs.Answers.{is_unknown, has_ended, is_completed};
     ghost use Rattle.asset_names.specs.Room.{owed_to};
 
-    /// Whether a transaction of this status is live.
+    /// Returns whether a transaction with this status is live.
     #[tactic(auto, unfolding(crate::specs::Endings::is_live_status))]
     pub fn is_live(self) -> bool
         ensures { result ≡ is_live_status self }
@@ -43,7 +43,7 @@ impl Status {
         )
     }
 
-    /// Whether no transaction of the name was initiated.
+    /// Returns whether no transaction of the name was initiated.
     #[tactic(auto, unfolding(crate::specs::Answers::is_unknown))]
     pub fn is_unknown(self) -> bool
         ensures { result ≡ is_unknown self }
@@ -51,7 +51,7 @@ impl Status {
         matches!(self, Status::Unknown)
     }
 
-    /// Whether a transaction of this status has committed or aborted.
+    /// Returns whether a transaction with this status has committed or aborted.
     #[tactic(auto, unfolding(crate::specs::Answers::has_ended))]
     pub fn has_ended(self) -> bool
         ensures { result ≡ has_ended self }
@@ -59,7 +59,7 @@ impl Status {
         matches!(self, Status::Committed | Status::Aborted)
     }
 
-    /// Whether a transaction of this status has completed and not yet ended.
+    /// Returns whether a transaction with this status has completed and not ended.
     #[tactic(auto, unfolding(crate::specs::Answers::is_completed))]
     pub fn is_completed(self) -> bool
         ensures { result ≡ is_completed self }
@@ -67,7 +67,7 @@ impl Status {
         matches!(self, Status::Completed)
     }
 
-    /// How many entries a transaction of this status is owed, so that it can still end: 0 to 2.
+    /// Returns how many entries a transaction with this status is owed, so that it can still end: 0 to 2.
     #[tactic(auto, unfolding(crate::specs::Room::owed_to))]
     pub fn owed(self) -> usize
         ensures { result ≡ owed_to self }

@@ -1,4 +1,4 @@
-//! The steps that clients ask.
+//! The steps that clients ask for.
 
 use crate::names::{Ob, Txn};
 use crate::operations::Ops;
@@ -7,18 +7,18 @@ use crate::sets::ObSet;
 /// A kind of dependency between two transactions.
 #[derive(Clone, Copy, Debug, PartialEq, Eq)]
 pub enum Kind {
-    /// Commit dependency: the dependent one commits only after its source has ended.
+    /// Commit dependency: the dependent transaction commits only after its source has ended.
     Cd,
-    /// Abort dependency: an abort of the source aborts the dependent one.
+    /// Abort dependency: an abort of the source aborts the dependent transaction.
     Ad,
-    /// Group commit: both commit or neither does.
+    /// Group commit: both commit, or neither does.
     Gc,
 }
 
-/// One step that a client asks of the facility.
+/// A step that a client asks for.
 #[derive(Clone, Copy, Debug, PartialEq, Eq)]
 pub enum Step {
-    /// Registers the transaction `t`. A parent may be named, whatever it is: nothing depends on it.
+    /// Registers the transaction `t`. The parent is recorded and never looked up.
     Initiate {
         t: Txn,
         parent: Option<Txn>,
@@ -38,11 +38,11 @@ pub enum Step {
         x: Ob,
         v: i64,
     },
-    /// `t` has done its work.
+    /// Says that `t` has done its work.
     Complete {
         t: Txn,
     },
-    /// The giver lets the taker do the operations on the objects although they conflict with its own.
+    /// Lets the taker do the operations on the objects although they conflict with the giver's own.
     Permit {
         giver: Txn,
         taker: Txn,

@@ -46,7 +46,7 @@ IsValid values records = (x : ℕ) (value : ℤ) → opening_at values x ≡ Som
 unfoldable pub cells_of : Opening → List Record → Cells
 cells_of values records x = option_map (recorded_cell records x) (opening_at values x)
 
--- the table of these values in place and records, with room for so many records in all
+-- the table of these current values and records, with room for `room` records in all
 unfoldable pub object_table : Opening → List Record → ℕ → ObjectTable
 object_table values records room = record {
   rows = map (λ (pair : Ob × ℤ). (pair.0.0, recorded_cell records pair.0.0 pair.1)) values;
@@ -57,12 +57,13 @@ object_table values records room = record {
 unfoldable pub put_at : Opening → ℕ → ℤ → ℕ → Option ℤ
 put_at values x value y = cond (x == y) (option_map (λ (old : ℤ). value) (opening_at values y)) (opening_at values y)
 
--- the values after the record is gone: where no later record on its object takes its before-image, it is put in place
+-- the values after the record is gone: if no later record of its object takes over its before-image, that
+-- becomes the value
 abbrev pub IsReturned : Opening → Opening → Record → List Record → Type 0
 IsReturned values after gone later =
     (y : ℕ) → opening_at after y ≡ cond (list_any (is_on gone.object.0) later) (opening_at values y) (put_at values gone.object.0 gone.before y)
 
--- the records, where the first on the object has this before-image
+-- the records, with this before-image in the first one of the object
 unfoldable pub handed : ℕ → ℤ → List Record → List Record
 handed x before [] = []
 handed x before (first ∷ later) = cond (is_on x first) (record first { before = before } ∷ later) (first ∷ handed x before later)

@@ -1,6 +1,6 @@
-//! The table of objects: values in place, and the records by which writes are undone. A table is
-//! opened with the objects that exist; `write` needs room that `reserve_write` took before, and
-//! neither `undo` nor `settle` takes memory.
+//! The table of objects: the current values, and the update records by which writes are undone. A table is
+//! opened with the objects that exist. `write` uses room that `reserve_write` reserved before; `undo` and
+//! `settle` do not allocate.
 #![tactic(auto)]
 
 mod records;

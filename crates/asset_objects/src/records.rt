@@ -1,4 +1,4 @@
-//! The records of the writes that stand, beside the values in place.
+//! The update records of the writes that stand.
 
 ghost use Rattle.std.specs.Prelude.{◌≡◌, ◌+◌, ◌<◌, ◌≤◌, ℕ, ◌++◌, ◌==◌, drop, take, length, vec_len, vec_capacity, Some, slice_get, IfSome, IfNone, false, true};
 ghost use Rattle.std.specs.List.{list_any};
@@ -11,7 +11,8 @@ ghost use Rattle.asset_objects.specs.Records.{is_on, is_of, handed, elsewhere, p
 use asset_names::{Ob, Txn};
 use indexmap::IndexMap;
 
-/// A write that stands: whose it is, its object, what it wrote, and what the object held before it.
+/// The update record of a write that stands: its owner, its object, the value that it wrote, and its
+/// before-image.
 #[derive(Clone, Copy)]
 pub struct Record {
     pub owner: Txn,
@@ -20,7 +21,7 @@ pub struct Record {
     pub before: i64,
 }
 
-/// Puts the value in place, if the object exists, and gives the value before it.
+/// Sets the value of the object and returns the value before it, and `None` if there is no such object.
 pub fn put(values: &mut IndexMap<Ob, i64>, x: Ob, value: i64) -> Option<i64>
     ensures before { result ≡ opening_at values.old.entries x.0 }
     ensures values { (y : ℕ) → opening_at values.new.entries y ≡ put_at values.old.entries x.0 value y }
@@ -31,7 +32,7 @@ pub fn put(values: &mut IndexMap<Ob, i64>, x: Ob, value: i64) -> Option<i64>
     Some(before)
 }
 
-/// The first of the records on the object gets the before-image. Whether there is one.
+/// Passes the before-image on to the first record of `x`; returns whether there was one.
 fn hand_on(later: &mut [Record], x: Ob, before: i64) -> bool
     ensures found { result ≡ list_any (is_on x.0) later.old }
     ensures records { later.new ≡ handed x.0 before later.old }
@@ -45,8 +46,8 @@ fn hand_on(later: &mut [Record], x: Ob, before: i64) -> bool
     false
 }
 
-/// Takes the record at the index out. The next record on its object takes over its before-image;
-/// where there is none, the before-image becomes the value in place.
+/// Removes the record at the index. The next record of its object takes over its before-image; if there is
+/// none, the before-image becomes the value of the object.
 fn take_back(values: &mut IndexMap<Ob, i64>, records: &mut Vec<Record>, index: usize)
     requires { index < vec_len records.old }
     ensures records { (gone : Record) → slice_get records.old.items index ≡ Some gone →
@@ -62,7 +63,7 @@ fn take_back(values: &mut IndexMap<Ob, i64>, records: &mut Vec<Record>, index: u
     }
 }
 
-/// Takes the writes of the transaction away, the newest first.
+/// Takes back the writes of the transaction, the newest first.
 pub fn undo(values: &mut IndexMap<Ob, i64>, records: &mut Vec<Record>, t: Txn)
     requires { IsValid values.old.entries records.old.items }
     ensures valid { IsValid values.new.entries records.new.items }
@@ -80,7 +81,7 @@ pub fn undo(values: &mut IndexMap<Ob, i64>, records: &mut Vec<Record>, t: Txn)
     }
 }
 
-/// The newest record of the transaction: its index and its object.
+/// Returns the index and the object of the transaction's newest record.
 fn newest_of(records: &[Record], t: Txn) -> Option<(usize, Ob)>
     ensures some { IfSome result (λ found. ((one : Record) × (slice_get records.now found.0 ≡ Some one) × (is_of t.0 one ≡ true) × (one.object ≡ found.1))) }
     ensures none { IfNone result (list_any (is_of t.0) records.now ≡ false) }
@@ -95,7 +96,7 @@ fn newest_of(records: &[Record], t: Txn) -> Option<(usize, Ob)>
     None
 }
 
-/// Takes the first `end` records on the object out.
+/// Removes the records of the object among the first `end`.
 fn take_out(records: &mut Vec<Record>, x: Ob, end: usize)
     requires { end ≤ vec_len records.old }
     ensures records { records.new.items ≡ elsewhere x.0 (take end records.old.items) ++ drop end records.old.items }
@@ -113,7 +114,7 @@ fn take_out(records: &mut Vec<Record>, x: Ob, end: usize)
     records.drain(kept..end);
 }
 
-/// Makes the newest value that the transaction wrote to each object the object's base.
+/// Makes the newest value that the transaction wrote to each object the base of the object.
 pub fn settle(records: &mut Vec<Record>, t: Txn)
     ensures cells { (values : Opening) → IsValid values records.old.items →
         IsValid values records.new.items × ((x : ℕ) → cells_of values records.new.items x ≡ change_each (settled (λ n. n == t.0)) (cells_of values records.old.items) x) }

@@ -1,4 +1,4 @@
-//! The table of objects: the values in place, and the records of the writes that stand.
+//! The table of objects and its calls.
 
 use crate::records;
 use crate::records::Record;
@@ -8,9 +8,9 @@ use std::alloc::Global;
 use std::marker::Model;
 use thiserror::Error;
 
-/// The objects with their values, and a record of each write that may still be undone. Contracts see
-/// of each object its base and the writes that stand over it, newest first; its value is that of the
-/// newest write, or else the base.
+/// The objects with their values, and an update record of each write that may still be undone. Contracts see
+/// each object as its base and the writes that stand over it, newest first. Its value is that of the newest
+/// write, or the base if there is none.
 #[derive(Drop)]
 pub struct Objects {
     values: IndexMap<Ob, i64>,
@@ -29,10 +29,10 @@ impl Model for Objects {
     ghost invariant = { λ o. IsValid o.values.entries o.records.items };
 }
 
-/// Why no table was opened.
+/// Why a table was not opened.
 #[derive(Clone, Copy, Debug, PartialEq, Eq, Error)]
 pub enum ObjectsFault {
-    /// The least object that was given twice.
+    /// An object was given twice; this is the least such object.
     #[error("object {} was given twice", .0.0)]
     DoubleObject(Ob),
     /// Memory ran out.
@@ -105,8 +105,8 @@ impl Objects {
         }
     }
 
-    /// Writes the value to the object, which exists. Its memory was reserved since the last write, so this takes
-    /// none. Other objects stay as they are.
+    /// Writes the value to the object, which exists. It uses the memory that `reserve_write` reserved. Other
+    /// objects do not change.
     pub fn write(&mut self, t: Txn, x: Ob, v: i64)
         requires exists { has_object (cells self.old) x.0 ≡ true }
         requires reserved { self.old.reserved ≡ true }
@@ -123,7 +123,8 @@ impl Objects {
             .unwrap();
     }
 
-    /// Takes the writes of the transaction away: each object shows what it would have without them.
+    /// Takes back the writes of the transaction: each object is as it would be without them. Its time grows
+    /// with the number of records that stand.
     pub fn undo(&mut self, t: Txn)
         ensures cells { cells self.new ≡ change_each (undone (λ n. n == t.0)) (cells self.old) }
         ensures reserved { self.old.reserved ≡ true → self.new.reserved ≡ true }
@@ -131,8 +132,8 @@ impl Objects {
         records::undo(&mut self.values, &mut self.records, t);
     }
 
-    /// Makes the writes of the transaction final: the newest of them on each object becomes the
-    /// object's base, and goes with the writes before it.
+    /// Makes the writes of the transaction final: on each object the newest of them becomes the base, and its
+    /// record is dropped together with all before it. Its time grows with the number of records that stand.
     pub fn settle(&mut self, t: Txn)
         ensures cells { cells self.new ≡ change_each (settled (λ n. n == t.0)) (cells self.old) }
         ensures reserved { self.old.reserved ≡ true → self.new.reserved ≡ true }
@@ -147,8 +148,8 @@ ghost use Rattle.asset_names.specs.Operations.{opening_at};
 ghost use Rattle.asset_names.specs.Sets.{HasNoDouble};
 ghost use Rattle.asset_objects.specs.Faults.{objects_of, IsObjectsFault};
 
-/// The values by object, in the order of the opening. There are none where an object is given twice
-/// or memory runs out.
+/// Returns the values by object, in the order of the opening, and `None` if an object is given twice or memory
+/// runs out.
 fn values_of(alloc: Global, opening: &[(Ob, i64)]) -> Option<IndexMap<Ob, i64>>
     ensures values { IfSome result (λ values. values.entries ≡ opening.now) }
     ensures different { OnSome result (HasNoDouble (objects_of opening.now)) }
@@ -164,7 +165,8 @@ fn values_of(alloc: Global, opening: &[(Ob, i64)]) -> Option<IndexMap<Ob, i64>>
     Some(values)
 }
 
-/// Adds an object with its value, unless it is there already or memory runs out. Whether it was added.
+/// Adds an object with its value; returns whether it was added. It is not if it is there already or memory runs
+/// out.
 fn add(values: &mut IndexMap<Ob, i64>, x: Ob, value: i64) -> bool
     ensures added { OnTrue result (values.new.entries ≡ values.old.entries ++ (x, value) ∷ []) }
     ensures different { OnTrue result (opening_at values.old.entries x.0 ≡ None) }
@@ -176,8 +178,8 @@ fn add(values: &mut IndexMap<Ob, i64>, x: Ob, value: i64) -> bool
     }
 }
 
-/// Why there is no table of these objects: one is given twice, or else memory ran out. It looks at
-/// each pair.
+/// Returns why there is no table of these objects: one is given twice, or else memory ran out. It compares each
+/// pair.
 fn fault_of(opening: &[(Ob, i64)]) -> ObjectsFault
     ensures { IsObjectsFault opening.now result }
 {

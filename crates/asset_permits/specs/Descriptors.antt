@@ -18,7 +18,7 @@ pub record Descriptor : Type 0 where
   pub objects : ObSet
   pub ops : OpSet
 
--- a permit of a giver who is known
+-- a permit without its giver
 pub record Grant : Type 0 where
   pub taker : ℕ
   pub objects : ObSet
@@ -39,7 +39,7 @@ same_objects (Listed objects) (Listed others) = pointwise (λ (x y : Ob). x.0 ==
 unfoldable pub same_ops : OpSet → OpSet → Bool
 same_ops ops others = beq ops.read others.read && beq ops.write others.write
 
--- whether the two say the same, where the giver is known
+-- whether two grants are the same
 unfoldable pub same_grant : Grant → Grant → Bool
 same_grant g h = g.taker == h.taker && same_objects g.objects h.objects && same_ops g.ops h.ops
 
@@ -60,7 +60,7 @@ AreDifferent (d ∷ descriptors) = (stands descriptors d ≡ false) × AreDiffer
 unfoldable pub covers : ℕ → Op → Descriptor → Bool
 covers x op d = in_set d.objects x && has_op d.ops op
 
--- the same of a permit of a giver who is known
+-- the same of a grant
 unfoldable pub grant_covers : ℕ → Op → Grant → Bool
 grant_covers x op grant = in_set grant.objects x && has_op grant.ops op
 
@@ -76,7 +76,7 @@ one_covers descriptors giver taker x op = list_any (lets giver taker x op) descr
 unfoldable pub arrows_for : List Descriptor → ℕ → Op → List Arrow
 arrows_for descriptors x op = map (λ (d : Descriptor). (d.giver, d.taker)) (filter (covers x op) descriptors)
 
--- whether the giver allows the taker to do op on x: they are one name, or a chain of descriptors that
--- stand is_linked from the one to the other, each of which covers op on x
+-- whether the giver allows the taker to do op on x: they are one, or a chain of descriptors that stand leads
+-- from the one to the other, each of which covers op on x
 unfoldable pub allows_by : List Descriptor → ℕ → ℕ → ℕ → Op → Bool
 allows_by descriptors giver taker x op = linked (arrows_for descriptors x op) giver taker

@@ -1,4 +1,4 @@
--- What a row has: what its name gives, and who it has noted.
+-- What a row has: the grants of its transaction, and the givers that it has noted.
 use Rattle.std.specs.Prelude.{ℕ, Bool, not, ◌==◌, List, filter}
 use Rattle.std.specs.List.{list_any}
 use Rattle.asset_names.specs.declared.names.Txn.{Txn}
@@ -8,7 +8,7 @@ use Rattle.asset_permits.specs.Descriptors.{Grant, same_grant}
 unfoldable pub has_giver : ℕ → List Txn → Bool
 has_giver u names = list_any (λ (name : Txn). name.0 == u) names
 
--- the names but this one
+-- the names without this one
 unfoldable pub without_giver : ℕ → List Txn → List Txn
 without_giver u names = filter (λ (name : Txn). not (name.0 == u)) names
 

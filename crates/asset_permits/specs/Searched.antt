@@ -10,8 +10,8 @@ use Rattle.asset_permits.specs.Valid.{NamedPermitRow}
 unfoldable pub name_at : List NamedPermitRow → ℕ → ℕ
 name_at rows k = unwrap_or (option_map (λ (entry : NamedPermitRow). entry.0.0) (slice_get rows k)) 0
 
--- how a name is expanded, where each node below the size stands for a name: what was met stays first,
--- and nodes come to whose names an arrow is_linked from it; then each name to which an arrow is_linked is met
+-- how a name is expanded, if each node below the size has a name: what was met stays first, and then come nodes
+-- to whose names an arrow leads from it; afterwards each name to which an arrow leads is met
 pub record Expands (arrows : List Arrow) (name_of : ℕ → ℕ) (size name : ℕ) (before after : List ℕ) : Type 0 where
   pub more : List ℕ
   pub kept : after ≡ before ++ more
@@ -19,8 +19,8 @@ pub record Expands (arrows : List Arrow) (name_of : ℕ → ℕ) (size name : �
   pub is_linked : (k : ℕ) → lists more k ≡ true → has_arrow arrows name (name_of k) ≡ true
   pub all : (t : ℕ) → has_arrow arrows name t ≡ true → (k : ℕ) × (lists after k ≡ true) × (name_of k ≡ t)
 
--- the takers of the first few that are given are met, where what is given covers op on x: what was met
--- stays first, and rows come
+-- the takers of the first grants, up to the end, that cover op on x are met: what was met stays first, and rows
+-- come
 pub record Meets (rows : List NamedPermitRow) (grants : List Grant) (x : ℕ) (op : Op) (before after : List ℕ) (end : ℕ) : Type 0 where
   pub more : List ℕ
   pub kept : after ≡ before ++ more

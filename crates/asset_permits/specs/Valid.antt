@@ -1,4 +1,4 @@
--- How the table is kept: a row for each name that gives a permit or was given one.
+-- A valid table of permits has a row for each transaction that gives a permit or was given one.
 use Rattle.std.specs.Prelude.{◌≡◌, ℕ, ◌≤◌, Bool, true, ◌==◌, List, [], length, not, map, filter, flat_map, Option, Some, None}
 use Rattle.std.specs.List.{list_any, IsDistinct}
 use Rattle.std.specs.Map.{lookup, keys_of}
@@ -15,12 +15,12 @@ NamedPermitRow = Txn × PermitRow
 unfoldable pub row_of : List NamedPermitRow → ℕ → Option PermitRow
 row_of rows u = lookup (λ (name : Txn). u == name.0) rows
 
--- what a name gives by its row, if it has one
+-- the permits of a transaction by its row, if it has one
 unfoldable pub grants_or_none : ℕ → Option PermitRow → List Descriptor
 grants_or_none u None = []
 grants_or_none u (Some row) = map (descriptor_by u) row.grants.items
 
--- what a name gives
+-- the permits that a transaction gives
 unfoldable pub grants_in : List NamedPermitRow → ℕ → List Descriptor
 grants_in rows u = grants_or_none u (row_of rows u)
 
@@ -57,7 +57,7 @@ HaveNames rows = IsDistinct (λ (a b : Txn). a.0 == b.0) (keys_of rows)
 unfoldable pub AreNoted : List NamedPermitRow → Type 0
 AreNoted rows = (u t : ℕ) → list_any (is_to t) (grants_in rows u) ≡ true → has_giver u (givers_in rows t) ≡ true
 
--- no name has two rows, none gives the same twice, takers have noted their givers, and each row has a mark
+-- no transaction has two rows or gives the same twice, takers have noted their givers, and each row has a mark
 pub record IsValid (rows : List NamedPermitRow) (size : ℕ) : Type 0 where
   pub names : HaveNames rows
   pub different : (u : ℕ) → AreDifferent (grants_in rows u)

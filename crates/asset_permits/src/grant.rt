@@ -1,9 +1,9 @@
-//! What a name gives.
+//! A grant: a permit without its giver.
 
 use asset_names::{Ob, ObSet, Op, Ops, Txn};
 use std::marker::Model;
 
-/// A permit of a giver who is known: the taker may do the operations on the objects.
+/// A permit without its giver: the taker may do the operations on the objects.
 #[derive(Clone, Copy)]
 pub(crate) struct Grant {
     pub taker: Txn,
@@ -25,7 +25,7 @@ impl Grant {
     ghost use Rattle.std.specs.Prelude.{◌≡◌};
     ghost use Rattle.asset_permits.specs.Descriptors.{same_grant, grant_covers};
 
-    /// What is given to the taker by these parts.
+    /// Returns the grant with these parts.
     pub(crate) fn of(taker: Txn, objects: ObSet, ops: Ops) -> Grant
         ensures { result ≡ record { taker = taker.0; objects = objects; ops = ops } }
     {
@@ -36,14 +36,14 @@ impl Grant {
         }
     }
 
-    /// For whom it is.
+    /// Returns the taker.
     pub(crate) fn taker(&self) -> Txn
         ensures { result.0 ≡ self.now.taker }
     {
         self.taker
     }
 
-    /// Whether the two say the same.
+    /// Returns whether the two are the same.
     #[tactic(auto, unfolding(crate::specs::Descriptors::same_grant))]
     pub(crate) fn is_same(&self, other: &Grant) -> bool
         ensures { result ≡ same_grant self.now other.now }
@@ -53,7 +53,7 @@ impl Grant {
             && same_ops(self.ops, other.ops)
     }
 
-    /// Whether it has the object and the operation.
+    /// Returns whether the grant has the object and the operation.
     #[tactic(auto, unfolding(crate::specs::Descriptors::grant_covers))]
     pub(crate) fn covers(&self, x: Ob, op: Op) -> bool
         ensures { result ≡ grant_covers x.0 op self.now }
@@ -65,7 +65,7 @@ impl Grant {
 ghost use Rattle.std.specs.Prelude.{◌≡◌};
 ghost use Rattle.asset_permits.specs.Descriptors.{same_objects, same_ops};
 
-/// Whether the two are the same set, said by the same list.
+/// Returns whether both are all objects, or the same list.
 #[tactic(auto, unfolding(crate::specs::Descriptors::same_objects))]
 fn same_objects(objects: &ObSet, others: &ObSet) -> bool
     ensures { result ≡ same_objects objects.now others.now }
@@ -77,7 +77,7 @@ fn same_objects(objects: &ObSet, others: &ObSet) -> bool
     }
 }
 
-/// Whether the two are the same operations.
+/// Returns whether the two are the same operations.
 #[tactic(auto, unfolding(crate::specs::Descriptors::same_ops))]
 fn same_ops(ops: Ops, others: Ops) -> bool
     ensures { result ≡ same_ops ops others }

@@ -1,12 +1,12 @@
-//! Laws of who allows whom, each on the contract of a function that does nothing.
+//! A law of who allows whom, on the contract of a function that does nothing.
 
 ghost use Rattle.std.specs.Prelude.{◌≡◌, ℕ, ◌↔◌, true, List};
 ghost use Rattle.asset_names.specs.declared.operations.Op.{Op};
 ghost use Rattle.asset_names.specs.Arrows.{Chain};
 ghost use Rattle.asset_permits.specs.Descriptors.{Descriptor, arrows_for, one_covers, allows_by};
 
-/// A name allows another exactly where a chain of permits is_linked from the one to the other, each of which
-/// covers the operation and the object. So who allows whom depends on what is covered alone, and on no order.
+/// A transaction allows another exactly if a chain of permits leads from the one to the other, each of which
+/// covers the operation on the object. So only what is covered matters, and no order.
 pub fn allowed_is_chain()
     ensures chain { (descriptors : List Descriptor) (u t x : ℕ) (op : Op) → (allows_by descriptors u t x op ≡ true) ↔ Chain (arrows_for descriptors x op) u t }
     ensures covered { (descriptors others : List Descriptor) (x : ℕ) (op : Op) → ((u t : ℕ) → one_covers descriptors u t x op ≡ one_covers others u t x op) →

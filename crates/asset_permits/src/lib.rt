@@ -1,5 +1,5 @@
-//! The table of permits: who lets whom do what on which objects, and who allows whom by them. `add`
-//! alone takes memory.
+//! The table of permits: who lets whom do what on which objects, and who allows whom by them. Only `add` can
+//! run out of memory.
 #![tactic(auto)]
 
 mod grant;

@@ -1,13 +1,13 @@
-//! Which nodes a search has met.
+//! The nodes that a search has met.
 
 use asset_names::NoMemory;
 use std::alloc::Global;
 use std::marker::Model;
 
-/// Marks on the nodes below a index, for a search that takes no memory. One count clears them.
-/// Contracts see how many nodes there are, and those that are met, in order of meeting.
+/// Marks on the nodes below a number, for a search that does not allocate. They are cleared by setting one
+/// counter to 0. Contracts see how many nodes there are, and those that are met, in order of meeting.
 ///
-/// `order` has each node once, first those that are met, and `position` says where.
+/// `order` has each node once, those that are met first, and `position` says where each node stands in it.
 #[derive(Drop)]
 pub(crate) struct Marks {
     order: Vec<usize>,
@@ -30,7 +30,7 @@ impl Marks {
     ghost use Rattle.std.specs.Prelude.{◌≡◌, ℕ, ◌+◌, ◌<◌, ◌≤◌, cond, [], ◌∷◌, ◌++◌, length, slice_index, OnOk, OnErr};
     ghost use Rattle.asset_names.specs.Arrows.{lists};
 
-    /// No node. It takes no memory.
+    /// Returns marks without a node. It does not allocate.
     pub(crate) fn new(alloc: Global) -> Marks
         ensures size { result.size ≡ 0 }
         ensures nodes { result.nodes ≡ [] }
@@ -42,7 +42,7 @@ impl Marks {
         }
     }
 
-    /// One more node, which is not met. Where memory runs out, nothing changes.
+    /// Adds a node, which is not met. If memory runs out, nothing changes.
     pub(crate) fn grow(&mut self) -> Result<(), NoMemory>
         ensures size { OnOk result (self.new.size ≡ self.old.size + 1) }
         ensures nodes { self.new.nodes ≡ self.old.nodes }
@@ -57,14 +57,14 @@ impl Marks {
         Ok(())
     }
 
-    /// How many nodes there are.
+    /// Returns how many nodes there are.
     pub(crate) fn size(&self) -> usize
         ensures { result ≡ self.now.size }
     {
         self.order.len()
     }
 
-    /// How many nodes are met.
+    /// Returns how many nodes are met.
     pub(crate) fn len(&self) -> usize
         ensures len { result ≡ length self.now.nodes }
         ensures within { length self.now.nodes ≤ self.now.size }
@@ -72,7 +72,7 @@ impl Marks {
         self.met
     }
 
-    /// The node that was met at this index, from 0.
+    /// Returns the node at the index among those that are met, from 0.
     pub(crate) fn node(&self, index: usize) -> usize
         requires { index < length self.now.nodes }
         ensures node { result ≡ slice_index self.now.nodes index }
@@ -81,7 +81,7 @@ impl Marks {
         self.order[index]
     }
 
-    /// Meets none.
+    /// Forgets which nodes are met.
     pub(crate) fn clear(&mut self)
         ensures size { self.new.size ≡ self.old.size }
         ensures nodes { self.new.nodes ≡ [] }
@@ -89,7 +89,7 @@ impl Marks {
         self.met = 0;
     }
 
-    /// Whether the node is met.
+    /// Returns whether the node is met.
     pub(crate) fn has(&self, node: usize) -> bool
         requires { node < self.now.size }
         ensures { result ≡ lists self.now.nodes node }
@@ -97,7 +97,7 @@ impl Marks {
         self.position[node] < self.met
     }
 
-    /// Meets the node. Where it is met already, nothing changes.
+    /// Meets the node. If it is met already, nothing changes.
     pub(crate) fn meet(&mut self, node: usize)
         requires { node < self.old.size }
         ensures size { self.new.size ≡ self.old.size }

@@ -1,11 +1,11 @@
-//! What the table keeps of one name.
+//! The row of a transaction in the table of permits.
 
 use crate::grant::Grant;
 use asset_names::{NoMemory, Txn};
 use std::alloc::Global;
 
-/// What a name gives, and who has given it something. Where memory once ran out, a giver may be noted
-/// that gives nothing.
+/// What a transaction gives, and who has given it something. If memory once ran out, a giver may be noted that
+/// gives nothing.
 #[derive(Drop)]
 pub(crate) struct PermitRow {
     pub grants: Vec<Grant>,
@@ -16,7 +16,7 @@ impl PermitRow {
     ghost use Rattle.std.specs.Prelude.{◌≡◌, ℕ, ◌==◌, ◌||◌, ◌++◌, ◌∷◌, [], not, filter, OnOk, OnErr};
     ghost use Rattle.asset_permits.specs.PermitRow.{has_grant, has_giver, without_giver};
 
-    /// A row of a name that gives nothing, and was given nothing. It takes no memory.
+    /// Returns the row of a transaction that gives nothing and was given nothing. It does not allocate.
     pub(crate) fn new(alloc: Global) -> PermitRow
         ensures grants { result.grants.items ≡ [] }
         ensures givers { result.givers.items ≡ [] }
@@ -27,14 +27,14 @@ impl PermitRow {
         }
     }
 
-    /// Whether it gives this.
+    /// Returns whether the transaction gives this.
     pub(crate) fn gives(&self, grant: &Grant) -> bool
         ensures { result ≡ has_grant grant.now self.now.grants.items }
     {
         self.grants.iter().any(|one| one.is_same(grant))
     }
 
-    /// One more is given. Where memory runs out, nothing changes.
+    /// Adds a grant. If memory runs out, nothing changes.
     pub(crate) fn give(&mut self, grant: Grant) -> Result<(), NoMemory>
         ensures grants { OnOk result (self.new.grants.items ≡ self.old.grants.items ++ grant ∷ []) }
         ensures givers { self.new.givers ≡ self.old.givers }
@@ -46,7 +46,7 @@ impl PermitRow {
         }
     }
 
-    /// Notes who has given something, if it is not noted yet. Where memory runs out, nothing changes.
+    /// Notes a giver, unless it is noted already. If memory runs out, nothing changes.
     pub(crate) fn note(&mut self, giver: Txn) -> Result<(), NoMemory>
         ensures givers { OnOk result ((u : ℕ) → has_giver u self.new.givers.items ≡ (has_giver u self.old.givers.items || u == giver.0)) }
         ensures grants { self.new.grants ≡ self.old.grants }
@@ -61,7 +61,7 @@ impl PermitRow {
         }
     }
 
-    /// Takes away what is given to the taker.
+    /// Removes the grants to the taker.
     pub(crate) fn drop_taker(&mut self, taker: Txn)
         ensures grants { self.new.grants.items ≡ filter (λ grant. not (grant.taker == taker.0)) self.old.grants.items }
         ensures givers { self.new.givers ≡ self.old.givers }
@@ -69,7 +69,7 @@ impl PermitRow {
         self.grants.retain(|grant| grant.taker() != taker);
     }
 
-    /// Takes the note of the giver away.
+    /// Removes the note of the giver.
     pub(crate) fn drop_giver(&mut self, giver: Txn)
         ensures givers { self.new.givers.items ≡ without_giver giver.0 self.old.givers.items }
         ensures grants { self.new.grants ≡ self.old.grants }
@@ -81,7 +81,7 @@ impl PermitRow {
 ghost use Rattle.std.specs.Prelude.{◌≡◌};
 ghost use Rattle.asset_permits.specs.PermitRow.{has_giver};
 
-/// Whether the name is among them.
+/// Returns whether the name is among them.
 fn is_among(names: &[Txn], name: Txn) -> bool
     ensures { result ≡ has_giver name.0 names.now }
 {

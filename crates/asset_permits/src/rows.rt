@@ -1,4 +1,4 @@
-//! The rows of the table by name.
+//! The rows of the table of permits, by the name of the transaction.
 
 ghost use Rattle.std.specs.Prelude.{◌≡◌, ℕ, ◌+◌, ◌≤◌, cond, ◌==◌, ◌&&◌, ◌||◌, ◌++◌, ◌∷◌, [], length, None, Some, OnOk, OnErr};
 ghost use Rattle.std.specs.Map.{keys_of};
@@ -12,10 +12,10 @@ use asset_names::{NoMemory, Txn};
 use indexmap::IndexMap;
 use std::alloc::Global;
 
-/// A row by name. A name that neither gives nor was given anything needs none.
+/// The rows by name. A transaction that neither gives nor was given anything needs none.
 pub(crate) type PermitRows = IndexMap<Txn, PermitRow>;
 
-/// Whether the giver gives this.
+/// Returns whether the giver gives this.
 pub(crate) fn gives(rows: &PermitRows, giver: Txn, grant: &Grant) -> bool
     ensures { result ≡ stands (grants_in rows.now.entries giver.0) (descriptor_by giver.0 grant.now) }
 {
@@ -25,7 +25,7 @@ pub(crate) fn gives(rows: &PermitRows, giver: Txn, grant: &Grant) -> bool
     }
 }
 
-/// Adds a row for a name that has none. Where memory runs out, nothing changes.
+/// Adds a row for a name that has none. If memory runs out, nothing changes.
 fn insert(rows: &mut PermitRows, name: Txn, row: PermitRow) -> Result<(), NoMemory>
     requires new { row_of rows.old.entries name.0 ≡ None }
     ensures added { OnOk result (rows.new.entries ≡ rows.old.entries ++ (name, row) ∷ []) }
@@ -39,7 +39,7 @@ fn insert(rows: &mut PermitRows, name: Txn, row: PermitRow) -> Result<(), NoMemo
     }
 }
 
-/// The giver gives one more. Where memory runs out, nothing changes.
+/// Adds a grant of the giver. If memory runs out, no grant changes.
 pub(crate) fn give(
     rows: &mut PermitRows,
     giver: Txn,
@@ -63,7 +63,7 @@ pub(crate) fn give(
     }
 }
 
-/// The taker notes the giver. Where memory runs out, nothing changes.
+/// Notes the giver in the row of the taker. If memory runs out, nothing changes.
 pub(crate) fn note(
     rows: &mut PermitRows,
     taker: Txn,
@@ -87,7 +87,7 @@ pub(crate) fn note(
     }
 }
 
-/// Takes away what the giver gives to the taker.
+/// Removes the grants of the giver to the taker.
 fn drop_taker(rows: &mut PermitRows, giver: Txn, taker: Txn)
     ensures grants { (u : ℕ) → grants_in rows.new.entries u ≡ cond (giver.0 == u) (without_taker taker.0 (grants_in rows.old.entries u)) (grants_in rows.old.entries u) }
     ensures givers { (t : ℕ) → givers_in rows.new.entries t ≡ givers_in rows.old.entries t }
@@ -98,7 +98,7 @@ fn drop_taker(rows: &mut PermitRows, giver: Txn, taker: Txn)
     }
 }
 
-/// Takes the note of the giver away that the taker has.
+/// Removes the note of the giver from the row of the taker.
 fn drop_giver(rows: &mut PermitRows, taker: Txn, giver: Txn)
     ensures grants { (u : ℕ) → grants_in rows.new.entries u ≡ grants_in rows.old.entries u }
     ensures givers { (t : ℕ) → givers_in rows.new.entries t ≡ cond (taker.0 == t) (without_giver giver.0 (givers_in rows.old.entries t)) (givers_in rows.old.entries t) }
@@ -109,7 +109,7 @@ fn drop_giver(rows: &mut PermitRows, taker: Txn, giver: Txn)
     }
 }
 
-/// Takes away what each of the givers gives to the taker.
+/// Removes the grants of each of the givers to the taker.
 pub(crate) fn drop_takers(rows: &mut PermitRows, givers: &[Txn], taker: Txn)
     ensures grants { (u : ℕ) → grants_in rows.new.entries u ≡ cond (has_giver u givers.now) (without_taker taker.0 (grants_in rows.old.entries u)) (grants_in rows.old.entries u) }
     ensures givers { (t : ℕ) → givers_in rows.new.entries t ≡ givers_in rows.old.entries t }
@@ -120,7 +120,7 @@ pub(crate) fn drop_takers(rows: &mut PermitRows, givers: &[Txn], taker: Txn)
     }
 }
 
-/// Takes the note of the giver away from each taker to whom something is given.
+/// Removes the note of the giver from the row of each taker of the grants.
 pub(crate) fn drop_givers(rows: &mut PermitRows, grants: &[Grant], giver: Txn)
     ensures grants { (u : ℕ) → grants_in rows.new.entries u ≡ grants_in rows.old.entries u }
     ensures givers { (t : ℕ) → givers_in rows.new.entries t ≡ cond (has_taker t grants.now) (without_giver giver.0 (givers_in rows.old.entries t)) (givers_in rows.old.entries t) }

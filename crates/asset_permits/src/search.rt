@@ -11,7 +11,7 @@ use crate::marks::Marks;
 use crate::rows::PermitRows;
 use asset_names::{Ob, Op, Txn};
 
-/// Meets the row of each taker to whom something is given that covers `op` on `x`.
+/// Meets the row of each taker of a grant that covers `op` on `x`.
 fn meet_takers(rows: &PermitRows, grants: &[Grant], marks: &mut Marks, x: Ob, op: Op)
     requires there { (t : ℕ) → has_taker t grants.now ≡ true → is_some (row_of rows.now.entries t) ≡ true }
     requires marked { length rows.now.entries ≤ marks.old.size }
@@ -27,7 +27,7 @@ fn meet_takers(rows: &PermitRows, grants: &[Grant], marks: &mut Marks, x: Ob, op
     }
 }
 
-/// Expands the name of the row of this index.
+/// Meets the rows of all to whom the transaction at the index permits `op` on `x`.
 fn expand(rows: &PermitRows, index: usize, marks: &mut Marks, x: Ob, op: Op)
     requires there { index < length rows.now.entries }
     requires names { HaveNames rows.now.entries }
@@ -42,9 +42,9 @@ fn expand(rows: &PermitRows, index: usize, marks: &mut Marks, x: Ob, op: Op)
     }
 }
 
-/// Whether a chain of permits that cover `op` on `x` is_linked from the name of the first row to that of the
-/// second, which is another. It looks at the permits of the names that it meets alone, and stops once
-/// it has met the second.
+/// Returns whether a chain of permits that cover `op` on `x` leads from the transaction of the first row to
+/// that of the second, which is another. It looks only at the permits of transactions that it meets, and stops
+/// once it has met the second.
 fn is_linked_on(rows: &PermitRows, from: usize, to: usize, marks: &mut Marks, x: Ob, op: Op) -> bool
     requires from_there { from < length rows.now.entries }
     requires to_there { to < length rows.now.entries }
@@ -69,7 +69,8 @@ fn is_linked_on(rows: &PermitRows, from: usize, to: usize, marks: &mut Marks, x:
     false
 }
 
-/// Whether a chain of permits that cover `op` on `x` is_linked from the giver to the taker, who is another.
+/// Returns whether a chain of permits that cover `op` on `x` leads from the giver to the taker, which is
+/// another.
 pub(crate) fn is_linked(
     rows: &PermitRows,
     marks: &mut Marks,

@@ -1,4 +1,4 @@
-//! The table of permits.
+//! The table of permits and its calls.
 
 ghost use Rattle.std.specs.Prelude.{◌≡◌, ℕ, ◌+◌, ◌≤◌, length, OnOk};
 
@@ -11,8 +11,9 @@ use indexmap::IndexMap;
 use std::alloc::Global;
 use std::marker::Model;
 
-/// The permits that stand. Contracts see them as descriptors, none of which stands twice; their order says
-/// nothing. Each name has what it gives in a row of its own, and keeps the row until it is dropped.
+/// The permits that stand. Contracts see them as descriptors, none of which stands twice; their order means
+/// nothing. Each transaction has what it gives in a row of its own, which stays until the transaction is
+/// dropped.
 #[derive(Drop)]
 pub struct Permits {
     rows: PermitRows,
@@ -32,7 +33,7 @@ impl Model for Permits {
     ghost invariant = { λ p. IsValid p.rows.entries p.marks.size };
 }
 
-/// Takes the memory for the mark of one more row. Where memory runs out, nothing changes.
+/// Makes room for the mark of one more row. If memory runs out, nothing changes.
 fn make_mark(rows: &PermitRows, marks: &mut Marks) -> Result<(), NoMemory>
     requires { length rows.now.entries ≤ marks.old.size }
     ensures size { marks.old.size ≤ marks.new.size }
@@ -51,7 +52,7 @@ impl Permits {
     ghost use Rattle.asset_names.specs.OpSets.{has_op};
     ghost use Rattle.asset_permits.specs.Descriptors.{Descriptor, same_descriptor, stands, one_covers, allows_by, AreDifferent};
 
-    /// A table without permits. It takes no memory.
+    /// Returns a table without permits. It does not allocate.
     pub fn new(alloc: Global) -> Permits
         ensures { result ≡ [] }
     {
@@ -63,7 +64,9 @@ impl Permits {
     }
 
     /// Lets the taker do the operations on the objects, until one of the two is dropped by `drop_all`. A permit
-    /// that stands already is not added again. Where memory runs out, nothing changes.
+    /// that stands already is not added again.
+    ///
+    /// If memory runs out, nothing changes.
     pub fn add(&mut self, giver: Txn, taker: Txn, objects: ObSet, ops: Ops) -> Result<(), NoMemory>
         ensures stands { OnOk result ((e : Descriptor) → stands self.new e ≡ (stands self.old e || same_descriptor (record { giver = giver.0; taker = taker.0; objects = objects; ops = ops }) e)) }
         ensures covers { OnOk result ((u t x : ℕ) (op : Op) → one_covers self.new u t x op ≡ (one_covers self.old u t x op || (u == giver.0 && t == taker.0 && in_set objects x && has_op ops op))) }
@@ -79,9 +82,9 @@ impl Permits {
         give(&mut self.rows, giver, grant, self.alloc)
     }
 
-    /// Whether the giver allows the taker to do `op` on `x`: they are one name, or a chain of permits
-    /// is_linked from the one to the other, each of which has the object and the operation. It takes no
-    /// memory, and changes no permit.
+    /// Returns whether the giver allows the taker to do `op` on `x`: they are one transaction, or a chain of
+    /// permits leads from the one to the other, each of which covers the operation on the object. No permit
+    /// changes.
     pub fn allows(&mut self, giver: Txn, taker: Txn, x: Ob, op: Op) -> bool
         ensures allowed { result ≡ allows_by self.old giver.0 taker.0 x.0 op }
         ensures different { AreDifferent self.old }
@@ -90,8 +93,8 @@ impl Permits {
         giver == taker || is_linked(&self.rows, &mut self.marks, giver, taker, x, op)
     }
 
-    /// Drops the permits that `t` has given, and those that were given to it. It looks at the rows of `t`
-    /// and of those it shares a permit with alone, and takes no memory.
+    /// Drops the permits that `t` has given, and those that were given to it. It looks at the row of `t`, and
+    /// at those of the transactions that share a permit with it.
     pub fn drop_all(&mut self, t: Txn)
         ensures stands { (e : Descriptor) → stands self.new e ≡ (stands self.old e && not (e.giver == t.0) && not (e.taker == t.0)) }
         ensures covers { (u v x : ℕ) (op : Op) → one_covers self.new u v x op ≡ (one_covers self.old u v x op && not (u == t.0) && not (v == t.0)) }

@@ -9,7 +9,7 @@ use Rattle.asset_names.specs.Steps.{initiated, begun, completed}
 use Rattle.asset_names.specs.Endings.{end_of}
 use Rattle.asset_reference.specs.declared.tracks.Track.{Track}
 
--- whether the name was initiated, begun and completed, and how it ended
+-- whether the transaction was initiated, begun and completed, and how it ended
 unfoldable pub track_of : List Step → ℕ → Track
 track_of steps t = record { initiated = lists (initiated steps) t; begun = lists (begun steps) t; completed = lists (completed steps) t; end = end_of steps t }
 

@@ -11,7 +11,7 @@ ghost use Rattle.asset_reference.specs.Scans.{arrows_of};
 use crate::tracks::status_after;
 use asset_names::{Ob, Op, Reply, Step, Txn, takes_effect};
 
-/// Whether the transaction is live.
+/// Returns whether the transaction is live.
 #[tactic(auto, using(asset_names::proofs::LiveLemmas::live_by_status))]
 pub fn is_live(entries: &[(Step, Reply)], t: Txn) -> bool
     ensures { result ≡ live (applied (reverse entries.now)) t.0 }
@@ -19,7 +19,7 @@ pub fn is_live(entries: &[(Step, Reply)], t: Txn) -> bool
     status_after(entries, t).is_live()
 }
 
-/// The giver and the taker of a step that permits `op` on `x`, if both are live.
+/// Returns the giver and the taker of a step that permits `op` on `x`, if both are live.
 #[tactic(auto, unfolding(crate::specs::Scans::arrows_of, asset_names::specs::Operations::permitted_by, asset_names::specs::Arrows::among))]
 fn permit_by(entries: &[(Step, Reply)], step: &Step, x: Ob, op: Op) -> Option<(Txn, Txn)>
     ensures { (older : List Request) (arrows : List Arrow) → arrows_of result ≡ among (live (applied (reverse entries.now))) (permitted_by step.now older arrows x.0 op) }
@@ -37,7 +37,7 @@ fn permit_by(entries: &[(Step, Reply)], step: &Step, x: Ob, op: Op) -> Option<(T
     }
 }
 
-/// The giver and the taker of an entry that permits `op` on `x`, if both are live.
+/// Returns the giver and the taker of an entry that permits `op` on `x`, if both are live.
 #[tactic(auto, unfolding(crate::specs::Scans::arrows_of), using(crate::proofs::ScanLemmas::permits_at_entry))]
 fn permit_of(entries: &[(Step, Reply)], entry: &(Step, Reply), x: Ob, op: Op) -> Option<(Txn, Txn)>
     ensures { (older : List Entry) →
@@ -51,8 +51,8 @@ fn permit_of(entries: &[(Step, Reply)], entry: &(Step, Reply), x: Ob, op: Op) ->
     }
 }
 
-/// Whether one allows another by the permits of the first entries of this number: without the newest of them, or
-/// by going along it once.
+/// Returns whether the first of the two transactions allows the second by the permits among the first `count`
+/// entries: without the newest of them, or by going along it once.
 fn allows_within(entries: &[(Step, Reply)], count: usize, ends: (Txn, Txn), x: Ob, op: Op) -> bool
     requires { count ≤ length entries.now }
     ensures { result ≡ linked (among (live (applied (reverse entries.now))) (permits (applied (reverse (take count entries.now))) x.0 op)) ends.0.0 ends.1.0 }
@@ -71,7 +71,7 @@ fn allows_within(entries: &[(Step, Reply)], count: usize, ends: (Txn, Txn), x: O
     }
 }
 
-/// Whether `u` allows `t` to do `op` on `x`.
+/// Returns whether `u` allows `t` to do `op` on `x`.
 #[tactic(auto, unfolding(asset_names::specs::Operations::allows))]
 pub fn allows(entries: &[(Step, Reply)], u: Txn, t: Txn, x: Ob, op: Op) -> bool
     ensures { result ≡ allows (applied (reverse entries.now)) u.0 t.0 x.0 op }

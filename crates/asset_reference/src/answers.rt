@@ -13,7 +13,7 @@ use crate::tracks::status_after;
 use crate::values::last_value;
 use asset_names::{Ob, Op, Outcome, Reply, Step, Txn, commit_outcome, wait_outcome};
 
-/// The value of an object, and 0 where there is none.
+/// Returns the value of an object, and 0 if there is no such object.
 #[tactic(auto, unfolding(asset_names::specs::Operations::value, asset_names::specs::Operations::opening_value))]
 fn current_value(opening: &[(Ob, i64)], entries: &[(Step, Reply)], x: Ob) -> i64
     ensures { result ≡ value opening.now (applied (reverse entries.now)) x.0 }
@@ -24,7 +24,7 @@ fn current_value(opening: &[(Ob, i64)], entries: &[(Step, Reply)], x: Ob) -> i64
     }
 }
 
-/// The value of an object, if it exists.
+/// Returns the value of an object, and `None` if there is no such object.
 #[tactic(auto, unfolding(asset_names::specs::Operations::value_if_any, asset_names::specs::Operations::exists))]
 pub fn value_if_any(opening: &[(Ob, i64)], entries: &[(Step, Reply)], x: Ob) -> Option<i64>
     ensures { result ≡ value_if_any opening.now (applied (reverse entries.now)) x.0 }
@@ -35,7 +35,7 @@ pub fn value_if_any(opening: &[(Ob, i64)], entries: &[(Step, Reply)], x: Ob) -> 
     }
 }
 
-/// The outcome of a commit that is not refused. Each class has one member as long as no step joins two.
+/// Returns the outcome of a commit that is not refused. Each class has one member as long as no step joins two.
 #[tactic(auto, unfolding(asset_names::specs::Answers::is_unknown), using(asset_names::proofs::ClassLemmas::completed_alone))]
 fn outcome_of_commit(entries: &[(Step, Reply)], t: Txn) -> Outcome
     requires { is_unknown (status (applied (reverse entries.now)) t.0) ≡ false }
@@ -45,7 +45,7 @@ fn outcome_of_commit(entries: &[(Step, Reply)], t: Txn) -> Outcome
     commit_outcome(status, status.is_completed())
 }
 
-/// The outcome of a step that is not refused.
+/// Returns the outcome of a step that is not refused.
 #[tactic(auto, unfolding(asset_names::specs::Answers::unrefused))]
 fn unrefused(opening: &[(Ob, i64)], entries: &[(Step, Reply)], step: &Step) -> Outcome
     requires { first_refusal (rules_for opening.now (applied (reverse entries.now)) step.now) ≡ None }
@@ -67,7 +67,7 @@ fn unrefused(opening: &[(Ob, i64)], entries: &[(Step, Reply)], step: &Step) -> O
     }
 }
 
-/// The answer to the step after the entries.
+/// Returns the answer to the step after the entries.
 #[tactic(auto, unfolding(asset_names::specs::Answers::answer, asset_names::specs::Answers::outcome_unless))]
 pub fn answer(opening: &[(Ob, i64)], entries: &[(Step, Reply)], step: &Step) -> Outcome
     ensures { result ≡ answer opening.now (applied (reverse entries.now)) step.now }

@@ -9,8 +9,8 @@ ghost use Rattle.asset_names.specs.Operations.{operations, operated, blocks, fre
 use crate::allowing::{allows, is_live};
 use asset_names::{Ob, Op, Reply, Step, Txn, takes_effect};
 
-/// Whether an operation of this owner blocks `t` from doing `op` on `x`: the owner is another, which is live and
-/// does not allow it.
+/// Returns whether an operation of this owner blocks `t` from doing `op` on `x`: the owner is another live
+/// transaction that does not allow it.
 #[tactic(auto)]
 fn owner_blocks(entries: &[(Step, Reply)], owner: Txn, t: Txn, x: Ob, op: Op) -> bool
     ensures { result ≡ (not (owner.0 == t.0) && live (applied (reverse entries.now)) owner.0 && not (allows (applied (reverse entries.now)) owner.0 t.0 x.0 op)) }
@@ -18,7 +18,7 @@ fn owner_blocks(entries: &[(Step, Reply)], owner: Txn, t: Txn, x: Ob, op: Op) ->
     owner != t && is_live(entries, owner) && !allows(entries, owner, t, x, op)
 }
 
-/// Whether a step that took effect is an operation that blocks `t` from doing `op` on `x`.
+/// Returns whether a step that took effect is an operation that blocks `t` from doing `op` on `x`.
 #[tactic(auto, unfolding(asset_names::specs::Operations::operated, asset_names::specs::Operations::op_of, asset_names::specs::Operations::blocks))]
 fn step_blocks(entries: &[(Step, Reply)], step: &Step, t: Txn, x: Ob, op: Op) -> bool
     ensures { result ≡ list_any (blocks (applied (reverse entries.now)) t.0 x.0 op) (operated step.now []) }
@@ -34,7 +34,7 @@ fn step_blocks(entries: &[(Step, Reply)], step: &Step, t: Txn, x: Ob, op: Op) ->
     }
 }
 
-/// Whether the entry is an operation that blocks `t` from doing `op` on `x`.
+/// Returns whether the entry is an operation that blocks `t` from doing `op` on `x`.
 #[tactic(auto, using(crate::proofs::ScanLemmas::blocked_at_entry))]
 fn entry_blocks(entries: &[(Step, Reply)], entry: &(Step, Reply), t: Txn, x: Ob, op: Op) -> bool
     ensures { (older : List Entry) →
@@ -44,7 +44,7 @@ fn entry_blocks(entries: &[(Step, Reply)], entry: &(Step, Reply), t: Txn, x: Ob,
     takes_effect(&entry.0, entry.1) && step_blocks(entries, &entry.0, t, x, op)
 }
 
-/// Whether the object is free for `t` to do `op` on it.
+/// Returns whether the object is free for `t` to do `op`.
 pub fn is_free(entries: &[(Step, Reply)], t: Txn, x: Ob, op: Op) -> bool
     ensures { result ≡ free (applied (reverse entries.now)) t.0 x.0 op }
 {

@@ -1,5 +1,5 @@
-//! The answers of the facility, found by going over the entries of a history again and again. Slow, and
-//! short: the tests compare the facility with it.
+//! The answers of the facility, found by going over the entries of a history again and again. It is slow and
+//! short: tests compare the facility with it.
 #![tactic(auto)]
 
 mod allowing;

@@ -1,4 +1,4 @@
-//! Which objects exist, and their opening values.
+//! The objects that exist, and their opening values.
 
 ghost use Rattle.std.specs.Prelude.{◌≡◌, not, find};
 ghost use Rattle.asset_names.specs.Operations.{opening_at, exists};
@@ -6,7 +6,7 @@ ghost use Rattle.asset_names.specs.Answers.{missing_in};
 
 use asset_names::{Ob, ObSet};
 
-/// The opening value of an object, if it exists.
+/// Returns the opening value of an object, and `None` if there is no such object.
 #[tactic(auto, unfolding(asset_names::specs::Operations::opening_at))]
 pub fn opening_at(opening: &[(Ob, i64)], x: Ob) -> Option<i64>
     ensures { result ≡ opening_at opening.now x.0 }
@@ -17,7 +17,7 @@ pub fn opening_at(opening: &[(Ob, i64)], x: Ob) -> Option<i64>
         .map(|pair| pair.1)
 }
 
-/// Whether the object does not exist.
+/// Returns whether there is no such object.
 #[tactic(auto, unfolding(asset_names::specs::Operations::exists))]
 fn is_missing(opening: &[(Ob, i64)], x: Ob) -> bool
     ensures { result ≡ not (exists opening.now x.0) }
@@ -28,14 +28,14 @@ fn is_missing(opening: &[(Ob, i64)], x: Ob) -> bool
     }
 }
 
-/// The first of the objects that does not exist, if there is one.
+/// Returns the first of the objects that does not exist, if there is one.
 fn first_missing(opening: &[(Ob, i64)], objects: &[Ob]) -> Option<Ob>
     ensures { result ≡ find (λ x. not (exists opening.now x.0)) objects.now }
 {
     objects.iter().copied().find(|x| is_missing(opening, *x))
 }
 
-/// The least object of the set that does not exist, if there is one.
+/// Returns the least object of the set that does not exist, if there is one.
 #[tactic(auto, unfolding(asset_names::specs::Answers::missing_in))]
 pub fn missing_in(opening: &[(Ob, i64)], obs: &ObSet) -> Option<Ob>
     ensures { result ≡ missing_in opening.now obs.now }

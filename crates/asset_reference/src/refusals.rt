@@ -11,7 +11,7 @@ use asset_names::{
     refusal_to_initiate, refusal_to_operate, refusal_to_permit, refusal_to_work,
 };
 
-/// The first refusal of the step that applies after these entries.
+/// Returns the first refusal of the step that applies after these entries.
 #[tactic(auto, unfolding(asset_names::specs::Answers::rules_for, asset_names::specs::Answers::unknown, asset_names::specs::Answers::ended, asset_names::specs::Answers::not_running, asset_names::specs::Answers::taken, asset_names::specs::Answers::begun_before, asset_names::specs::Answers::too_late, asset_names::specs::Answers::no_object, asset_names::specs::Answers::one_name, asset_names::specs::Answers::no_object_of, asset_names::specs::Operations::exists))]
 pub fn refusal(opening: &[(Ob, i64)], entries: &[(Step, Reply)], step: &Step) -> Option<Refusal>
     ensures { result ≡ first_refusal (rules_for opening.now (applied (reverse entries.now)) step.now) }

@@ -1,4 +1,4 @@
-//! The status of a name, by going over the entries.
+//! The status of a transaction, by going over the entries.
 
 ghost use Rattle.std.specs.Prelude.{◌≡◌, List, ◌∷◌, [], reverse};
 ghost use Rattle.asset_names.specs.declared.steps.Step.{Step};
@@ -9,7 +9,7 @@ ghost use Rattle.asset_reference.specs.Tracks.{track_of};
 
 use asset_names::{End, Reply, Status, Step, Txn, takes_effect};
 
-/// What the steps that took effect say of one name.
+/// What the steps that took effect say of one transaction.
 #[derive(Clone, Copy)]
 pub struct Track {
     pub initiated: bool,
@@ -26,7 +26,7 @@ impl Track {
     ghost use Rattle.asset_names.specs.Endings.{status_of};
     ghost use Rattle.asset_reference.specs.Tracks.{track_of, track_after};
 
-    /// The track of a name that no step names.
+    /// Returns the track of a transaction that no step names.
     #[tactic(auto, unfolding(crate::specs::Tracks::track_of, asset_names::specs::Arrows::lists, asset_names::specs::Steps::initiated, asset_names::specs::Steps::begun, asset_names::specs::Steps::completed, asset_names::specs::Endings::end_of))]
     pub fn new() -> Track
         ensures { (t : ℕ) → result ≡ track_of [] t }
@@ -39,7 +39,7 @@ impl Track {
         }
     }
 
-    /// The track of `t` after one more entry.
+    /// Returns the track of `t` after one more entry.
     #[tactic(auto, using(crate::proofs::TrackLemmas::track_of_entry))]
     fn after(self, entry: &(Step, Reply), t: Txn) -> Track
         ensures { (older : List Entry) → self ≡ track_of (applied older) t.0 → result ≡ track_of (applied (entry.now ∷ older)) t.0 }
@@ -51,7 +51,7 @@ impl Track {
         }
     }
 
-    /// The track of `t` after one more step that took effect.
+    /// Returns the track of `t` after one more step that took effect.
     #[tactic(auto, unfolding(crate::specs::Tracks::track_after))]
     fn after_applied(self, step: &Step, t: Txn) -> Track
         ensures { result ≡ track_after self step.now t.0 }
@@ -69,7 +69,7 @@ impl Track {
         next
     }
 
-    /// How `t` has ended after `named` was ended in this way.
+    /// Returns how `t` has ended after `named` was ended in this way.
     fn ended(self, named: Txn, t: Txn, how: End) -> Option<End>
         ensures { result ≡ option_or self.end (cond (named.0 == t.0 && self.initiated) (Some how) None) }
     {
@@ -80,7 +80,7 @@ impl Track {
         }
     }
 
-    /// The status that the track says.
+    /// Returns the status by the track.
     #[tactic(auto, unfolding(asset_names::specs::Endings::status_of))]
     pub fn status(self) -> Status
         ensures { result ≡ status_of self.initiated self.begun self.completed self.end }
@@ -98,7 +98,7 @@ impl Track {
     }
 }
 
-/// What the entries say of `t`.
+/// Returns what the entries say of `t`.
 fn track_entries(entries: &[(Step, Reply)], t: Txn) -> Track
     ensures { result ≡ track_of (applied (reverse entries.now)) t.0 }
 {
@@ -109,7 +109,7 @@ fn track_entries(entries: &[(Step, Reply)], t: Txn) -> Track
     track
 }
 
-/// The status of `t` after these entries.
+/// Returns the status of `t` after these entries.
 #[tactic(auto, unfolding(crate::specs::Tracks::track_of, asset_names::specs::Endings::status))]
 pub fn status_after(entries: &[(Step, Reply)], t: Txn) -> Status
     ensures { result ≡ status (applied (reverse entries.now)) t.0 }
@@ -117,7 +117,7 @@ pub fn status_after(entries: &[(Step, Reply)], t: Txn) -> Status
     track_entries(entries, t).status()
 }
 
-/// Whether `t` ended by an abort.
+/// Returns whether `t` ended by an abort.
 #[tactic(auto, unfolding(crate::specs::Tracks::track_of, asset_names::specs::Operations::was_aborted))]
 pub fn was_aborted(entries: &[(Step, Reply)], t: Txn) -> bool
     ensures { result ≡ was_aborted (end_of (applied (reverse entries.now)) t.0) }

@@ -8,7 +8,7 @@ ghost use Rattle.asset_reference.specs.Scans.{written_by};
 use crate::tracks::was_aborted;
 use asset_names::{Ob, Reply, Step, takes_effect};
 
-/// What a step that took effect wrote to the object, if the write stands.
+/// Returns what a step that took effect wrote to the object, if the write stands.
 #[tactic(auto, unfolding(crate::specs::Scans::written_by, asset_names::specs::Operations::stands))]
 fn written_by(entries: &[(Step, Reply)], step: &Step, x: Ob) -> Option<i64>
     ensures { result ≡ written_by (stands (applied (reverse entries.now))) step.now x.0 }
@@ -19,7 +19,7 @@ fn written_by(entries: &[(Step, Reply)], step: &Step, x: Ob) -> Option<i64>
     }
 }
 
-/// What the entry wrote to the object, if it is a write that stands.
+/// Returns what the entry wrote to the object, if it is a write that stands.
 #[tactic(auto, using(crate::proofs::ScanLemmas::value_at_entry))]
 fn standing_write(entries: &[(Step, Reply)], entry: &(Step, Reply), x: Ob) -> Option<i64>
     ensures { (older : List Entry) (first : ℤ) →
@@ -33,7 +33,7 @@ fn standing_write(entries: &[(Step, Reply)], entry: &(Step, Reply), x: Ob) -> Op
     }
 }
 
-/// The last value that was written to the object and stands.
+/// Returns the last value that was written to the object and stands.
 pub fn last_value(entries: &[(Step, Reply)], x: Ob) -> Option<i64>
     ensures { (first : ℤ) →
         value_after (stands (applied (reverse entries.now))) x.0 first (operations (applied (reverse entries.now)))

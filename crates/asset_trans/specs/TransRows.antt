@@ -1,4 +1,4 @@
--- The table of transactions: a row for each name that was initiated, in order of initiation.
+-- The table of transactions: a row for each that was initiated, in order of initiation.
 use Rattle.std.specs.Prelude.{◌≡◌, ℕ, Bool, false, cond, ◌==◌, List, [], ◌∷◌, ◌++◌, map, sum_by, Option, Some, None}
 use Rattle.std.specs.List.{list_any}
 use Rattle.std.specs.Map.{lookup, values_of}
@@ -32,19 +32,19 @@ unfoldable pub parent_or_none : Option TransRow → Option Txn
 parent_or_none None = None
 parent_or_none (Some row) = row.parent
 
--- the status of a name: a name without a row is unknown
+-- the status of a transaction: one without a row is unknown
 unfoldable pub status_in : List NamedTransRow → ℕ → Status
 status_in rows t = status_or_unknown (row_in rows t)
 
--- the parent that the name was given, if it was given one
+-- the parent that the transaction was given, if any
 unfoldable pub parent_in : List NamedTransRow → ℕ → Option Txn
 parent_in rows t = parent_or_none (row_in rows t)
 
--- a new name comes last, and is Initiated
+-- a new transaction comes last, and is Initiated
 unfoldable pub initiate_in : List NamedTransRow → Txn → Option Txn → List NamedTransRow
 initiate_in rows t parent = rows ++ (t, record { status = Status'.Initiated; parent = parent }) ∷ []
 
--- each name that passes the test gets the status
+-- each transaction that passes the test gets the status
 unfoldable pub set_entry : (ℕ → Bool) → Status → NamedTransRow → NamedTransRow
 set_entry test status entry = cond (test entry.0.0) (entry.0, record entry.1 { status = status }) entry
 
@@ -68,11 +68,11 @@ live_count_in rows = sum_by (λ (row : TransRow). one_if_live row.status) (value
 unfoldable pub owed_in : List NamedTransRow → ℕ
 owed_in rows = sum_by (λ (row : TransRow). owed_to row.status) (values_of rows)
 
--- whether a row has the status of a name that has none
+-- whether a row has the status Unknown
 unfoldable pub has_unknown : List NamedTransRow → Bool
 has_unknown rows = list_any (λ (entry : NamedTransRow). is_unknown entry.1.status) rows
 
--- how the rows are kept, and the counts beside them
+-- no row is Unknown, and the counters are the sums over the rows
 pub record IsValid (rows : List NamedTransRow) (live owed : ℕ) : Type 0 where
   pub known : has_unknown rows ≡ false
   pub counts_live : live ≡ live_count_in rows

@@ -1,12 +1,12 @@
-//! What the table has of one transaction.
+//! The row of a transaction.
 
 use asset_names::{Status, Txn};
 
-/// The status of a transaction, and the parent that it was given.
+/// The status of a transaction, and its parent.
 #[derive(Clone, Copy, Debug, PartialEq, Eq)]
 pub struct TransRow {
-    /// Its status, which is not Unknown.
+    /// The status, which is not Unknown.
     pub status: Status,
-    /// The name that its initiation gave as its parent, if it gave one.
+    /// The parent that its initiation named, if any.
     pub parent: Option<Txn>,
 }

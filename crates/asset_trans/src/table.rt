@@ -1,4 +1,4 @@
-//! The table of transactions.
+//! The table of transactions and its calls.
 
 ghost use Rattle.std.specs.Prelude.{◌≡◌, ℕ, ◌+◌, ◌<◌, ◌^◌, true, ◌==◌, length, None, is_some, sum_by, OnOk, OnErr};
 ghost use Rattle.std.specs.Map.{values_of};
@@ -12,8 +12,8 @@ use indexmap::IndexMap;
 use std::alloc::Global;
 use std::marker::Model;
 
-/// The transactions that were initiated, in order of initiation, each with its status and the parent that
-/// it was given. Contracts see this list.
+/// The transactions that were initiated, in order of initiation, each with its status and parent. Contracts see
+/// this list.
 #[derive(Drop)]
 pub struct Trans {
     rows: IndexMap<Txn, TransRow>,
@@ -32,7 +32,7 @@ impl Model for Trans {
     ghost invariant = { λ trans. IsValid trans.rows.entries trans.live trans.owed };
 }
 
-/// Adds a transaction that is not there, as Initiated.
+/// Adds a transaction that has no row, as Initiated.
 fn add_row(rows: &mut IndexMap<Txn, TransRow>, t: Txn, parent: Option<Txn>) -> Result<(), NoMemory>
     requires absent { row_in rows.old.entries t.0 ≡ None }
     ensures added { OnOk result (rows.new.entries ≡ initiate_in rows.old.entries t parent) }
@@ -47,12 +47,12 @@ fn add_row(rows: &mut IndexMap<Txn, TransRow>, t: Txn, parent: Option<Txn>) -> R
         Ok(_) => Ok(()),
         Err(_) => Err(NoMemory),
     };
-    // the contract of `len` bounds the number of rows
+    // The contract of `len` bounds the number of rows.
     let _len = rows.len();
     added
 }
 
-/// Gives a transaction that is there another status. A sum over the statuses changes by its own.
+/// Changes the status of a transaction that has a row. A sum over the statuses changes by its part alone.
 fn set_status(rows: &mut IndexMap<Txn, TransRow>, t: Txn, status: Status)
     requires there { is_some (row_in rows.old.entries t.0) ≡ true }
     ensures set { rows.new.entries ≡ set_in (λ n. n == t.0) status rows.old.entries }
@@ -65,7 +65,7 @@ fn set_status(rows: &mut IndexMap<Txn, TransRow>, t: Txn, status: Status)
     }
 }
 
-/// How much a transaction of this status adds to those that are live.
+/// Returns 1 for a status that is live, and 0 for any other.
 #[tactic(auto, unfolding(crate::specs::TransRows::one_if_live))]
 fn one_if_live(status: Status) -> usize
     ensures { result ≡ one_if_live status }
@@ -73,7 +73,7 @@ fn one_if_live(status: Status) -> usize
     if status.is_live() { 1 } else { 0 }
 }
 
-/// The status that an end gives.
+/// Returns the status after an end.
 #[tactic(auto, unfolding(crate::specs::TransRows::ended_as))]
 fn ended_as(how: End) -> Status
     ensures { result ≡ ended_as how }
@@ -92,7 +92,7 @@ impl Trans {
     ghost use Rattle.asset_names.specs.Answers.{is_unknown};
     ghost use Rattle.asset_names.specs.Endings.{is_live_status};
 
-    /// A table without transactions. It takes no memory.
+    /// Returns a table without transactions. It does not allocate.
     pub fn new(alloc: Global) -> Trans
         ensures { result ≡ [] }
     {
@@ -103,8 +103,9 @@ impl Trans {
         }
     }
 
-    /// Registers `t`, which is Unknown, as Initiated, with the parent that it was given. Where
-    /// memory runs out nothing has changed.
+    /// Registers `t`, which is Unknown, as Initiated.
+    ///
+    /// If memory runs out, nothing changes.
     pub fn initiate(&mut self, t: Txn, parent: Option<Txn>) -> Result<(), NoMemory>
         requires new { status_in self.old t.0 ≡ Status.Unknown }
         ensures done { OnOk result (self.new ≡ initiate_in self.old t parent) }
@@ -116,7 +117,7 @@ impl Trans {
         Ok(())
     }
 
-    /// The status of a transaction. One that was never registered is Unknown.
+    /// Returns the status of a transaction. One that was never registered is Unknown.
     pub fn status(&self, t: Txn) -> Status
         ensures { result ≡ status_in self.now t.0 }
     {
@@ -126,7 +127,7 @@ impl Trans {
         }
     }
 
-    /// The parent that a transaction was given, if it was given one.
+    /// Returns the parent that a transaction was given, if any.
     pub fn parent(&self, t: Txn) -> Option<Txn>
         ensures { result ≡ parent_in self.now t.0 }
     {
@@ -136,7 +137,7 @@ impl Trans {
         }
     }
 
-    /// Gives `t`, which is there, a status that is owed no more entries.
+    /// Changes the status of `t`, which has a row, to one that is owed no more entries than before.
     fn change(&mut self, t: Txn, status: Status)
         requires there { is_some (row_in self.old t.0) ≡ true }
         requires known { is_unknown status ≡ false }
@@ -150,7 +151,7 @@ impl Trans {
         self.owed -= before.owed() - status.owed();
     }
 
-    /// Starts `t`, which is Initiated. It takes no memory.
+    /// Starts `t`, which is Initiated.
     pub fn begin(&mut self, t: Txn)
         requires initiated { status_in self.old t.0 ≡ Status.Initiated }
         ensures { self.new ≡ set_in (λ n. n == t.0) Status.Running self.old }
@@ -158,7 +159,7 @@ impl Trans {
         self.change(t, Status::Running);
     }
 
-    /// Completes `t`, which is Running. It takes no memory.
+    /// Completes `t`, which is Running.
     pub fn complete(&mut self, t: Txn)
         requires running { status_in self.old t.0 ≡ Status.Running }
         ensures { self.new ≡ set_in (λ n. n == t.0) Status.Completed self.old }
@@ -166,7 +167,7 @@ impl Trans {
         self.change(t, Status::Completed);
     }
 
-    /// Ends `t`, which is live. It takes no memory.
+    /// Ends `t`, which is live.
     pub fn end(&mut self, t: Txn, how: End)
         requires live { is_live_status (status_in self.old t.0) ≡ true }
         ensures { self.new ≡ set_in (λ n. n == t.0) (ended_as how) self.old }
@@ -174,14 +175,15 @@ impl Trans {
         self.change(t, ended_as(how));
     }
 
-    /// How many transactions are live. It looks at none of them.
+    /// Returns how many transactions are live. It is a counter: no row is looked at.
     pub fn live_count(&self) -> usize
         ensures { result ≡ live_count_in self.now }
     {
         self.live
     }
 
-    /// How many entries all live transactions are owed, so that each can still end. It looks at none of them.
+    /// Returns how many entries all live transactions are owed, so that each can still end. It is a counter: no
+    /// row is looked at.
     pub fn owed(&self) -> usize
         ensures { result ≡ owed_in self.now }
     {
