@@ -23,4 +23,6 @@ mod reference;
 #[cfg(test)]
 mod scripts;
 #[cfg(test)]
+mod sizes;
+#[cfg(test)]
 mod trans;

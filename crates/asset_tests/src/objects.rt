@@ -9,7 +9,7 @@ const TWO: [(Ob, i64); 2] = [(Ob(1), 100), (Ob(2), 200)];
 
 /// Reserves a write and writes, to an object that exists.
 #[tactic(auto, using(asset_objects::proofs::TableLemmas::exists_by_value))]
-fn write_once(objects: &mut Objects, t: u64, x: u64, v: i64) -> Result<(), NoMemory> {
+pub(crate) fn write_once(objects: &mut Objects, t: u64, x: u64, v: i64) -> Result<(), NoMemory> {
     if objects.value(Ob(x)).is_some() {
         objects.reserve_write()?;
         objects.write(Txn(t), Ob(x), v);

@@ -17,7 +17,7 @@ const NAMES: [Txn; 5] = [Txn(5), Txn(6), Txn(7), Txn(8), Txn(9)];
 const OBJECTS: [Ob; 4] = [Ob(1), Ob(2), Ob(3), Ob(4)];
 
 /// A permit of one for another, on all objects where none is given.
-fn permit(giver: u64, taker: u64, objects: &[Ob], (read, write): (bool, bool)) -> Step {
+pub(crate) fn permit(giver: u64, taker: u64, objects: &[Ob], (read, write): (bool, bool)) -> Step {
     let obs = match ObList::of(objects) {
         Ok(list) => ObSet::Listed(list),
         Err(_) => ObSet::All,

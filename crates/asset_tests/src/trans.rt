@@ -6,7 +6,7 @@ use std::alloc::Global;
 use std::test::Fail;
 
 /// Initiates a transaction that is Unknown, and says whether it was.
-fn initiate(trans: &mut Trans, t: Txn, parent: Option<Txn>) -> Result<bool, NoMemory> {
+pub(crate) fn initiate(trans: &mut Trans, t: Txn, parent: Option<Txn>) -> Result<bool, NoMemory> {
     match trans.status(t) {
         Status::Unknown => {
             trans.initiate(t, parent)?;
@@ -40,7 +40,7 @@ fn with_one(alloc: Global, t: Txn, parent: Option<Txn>) -> Result<Trans, NoMemor
 }
 
 /// Begins a transaction that is Initiated, and says whether it was.
-fn begin(trans: &mut Trans, t: Txn) -> bool {
+pub(crate) fn begin(trans: &mut Trans, t: Txn) -> bool {
     match trans.status(t) {
         Status::Initiated => {
             trans.begin(t);
@@ -51,7 +51,7 @@ fn begin(trans: &mut Trans, t: Txn) -> bool {
 }
 
 /// Completes a transaction that is Running, and says whether it was.
-fn complete(trans: &mut Trans, t: Txn) -> bool {
+pub(crate) fn complete(trans: &mut Trans, t: Txn) -> bool {
     match trans.status(t) {
         Status::Running => {
             trans.complete(t);
@@ -62,7 +62,7 @@ fn complete(trans: &mut Trans, t: Txn) -> bool {
 }
 
 /// Ends a transaction that is live, and says whether it was.
-fn end(trans: &mut Trans, t: Txn, how: End) -> bool {
+pub(crate) fn end(trans: &mut Trans, t: Txn, how: End) -> bool {
     if trans.status(t).is_live() {
         trans.end(t, how);
         true
@@ -72,7 +72,7 @@ fn end(trans: &mut Trans, t: Txn, how: End) -> bool {
 }
 
 /// Whether a transaction has this status, and so much is owed to so many live ones.
-fn shows(trans: &Trans, t: u64, status: Status, owed: usize, live: usize) -> bool {
+pub(crate) fn shows(trans: &Trans, t: u64, status: Status, owed: usize, live: usize) -> bool {
     trans.status(Txn(t)) == status && trans.owed() == owed && trans.live_count() == live
 }
 

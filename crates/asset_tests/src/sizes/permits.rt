@@ -1,0 +1,103 @@
+//! Two hundred permits of one giver, and two hundred for one taker.
+
+use asset_names::{NoMemory, Ob, ObList, ObSet, Op, Ops, Txn};
+use asset_permits::Permits;
+
+/// The first of the two hundred transactions that share a permit with 7.
+pub(crate) const FIRST: u64 = 1_000;
+
+/// One of them, in the middle.
+const MIDDLE: u64 = 1_100;
+
+/// One past the last of them.
+pub(crate) const END: u64 = 1_200;
+
+/// The transaction that shares a permit with each of the others.
+pub(crate) const ONE: u64 = 7;
+
+/// What 7 is in each permit.
+#[derive(Clone, Copy)]
+pub(crate) enum Side {
+    Giver,
+    Taker,
+}
+
+/// Returns the giver and the taker of the permit that 7 shares with `t`.
+pub(crate) fn pair(side: Side, t: u64) -> (u64, u64) {
+    match side {
+        Side::Giver => (ONE, t),
+        Side::Taker => (t, ONE),
+    }
+}
+
+/// Adds a permit to read and write one object.
+fn add(permits: &mut Permits, giver: u64, taker: u64, x: u64) -> Result<(), NoMemory> {
+    match (ObList::of(&[Ob(x)]), Ops::new(true, true)) {
+        (Ok(list), Some(ops)) => permits.add(Txn(giver), Txn(taker), ObSet::Listed(list), ops),
+        _ => Err(NoMemory),
+    }
+}
+
+/// Adds a permit for each of the others, on the object of the same number. Returns the first that is not added.
+fn first_not_added(permits: &mut Permits, side: Side) -> Option<u64> {
+    for t in FIRST..END {
+        let (giver, taker) = pair(side, t);
+        if add(permits, giver, taker, t) != Ok(()) {
+            return Some(t);
+        }
+    }
+    None
+}
+
+/// Returns the first of the others, but `dropped`, whose permit does not allow just what it says, or `dropped` if
+/// its permit still does.
+fn first_wrong(permits: &mut Permits, side: Side, dropped: u64) -> Option<u64> {
+    for t in FIRST..END {
+        let (giver, taker) = pair(side, t);
+        let allowed = permits.allows(Txn(giver), Txn(taker), Ob(t), Op::Write);
+        let elsewhere = permits.allows(Txn(giver), Txn(taker), Ob(t + 1), Op::Write);
+        let back = permits.allows(Txn(taker), Txn(giver), Ob(t), Op::Read);
+        if allowed == (t == dropped) || elsewhere || back {
+            return Some(t);
+        }
+    }
+    None
+}
+
+/// Returns the first of the others whose permit still allows something.
+fn first_left(permits: &mut Permits, side: Side) -> Option<u64> {
+    for t in FIRST..END {
+        let (giver, taker) = pair(side, t);
+        if permits.allows(Txn(giver), Txn(taker), Ob(t), Op::Read) {
+            return Some(t);
+        }
+    }
+    None
+}
+
+/// Returns the first transaction that is wrong after the permits were added, and then after one of the others and
+/// 7 have ended.
+fn wrong_ones(permits: &mut Permits, side: Side) -> [Option<u64>; 4] {
+    let not_added = first_not_added(permits, side);
+    let not_allowed = first_wrong(permits, side, END);
+    permits.drop_all(Txn(MIDDLE));
+    let after_one = first_wrong(permits, side, MIDDLE);
+    permits.drop_all(Txn(ONE));
+    [not_added, not_allowed, after_one, first_left(permits, side)]
+}
+
+#[test]
+fn one_giver_permits_two_hundred(rt: HostRuntime) {
+    let mut permits = Permits::new(rt.alloc());
+    let wrong = wrong_ones(&mut permits, Side::Giver);
+    drop(permits);
+    assert_eq!(rt; wrong, [None; 4]);
+}
+
+#[test]
+fn two_hundred_permit_one_taker(rt: HostRuntime) {
+    let mut permits = Permits::new(rt.alloc());
+    let wrong = wrong_ones(&mut permits, Side::Taker);
+    drop(permits);
+    assert_eq!(rt; wrong, [None; 4]);
+}
