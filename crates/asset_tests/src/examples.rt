@@ -1,0 +1,195 @@
+//! The example scripts of the repository, each with its transcript, as the folder `examples` has them.
+ghost use Rattle.asset_core.specs.OpenFaults.{IsCapacity};
+
+use asset_cli::{Device, RunEnd, ScriptFault, run_script};
+use std::alloc::Global;
+use std::process::Abort;
+use std::test::Fail;
+
+/// The capacity of a history if a run names none.
+const CAPACITY: usize = 10_000;
+
+/// Runs a script, and adds its transcript to `written`.
+fn run(
+    alloc: Global,
+    script: &str,
+    capacity: usize,
+    written: &mut Vec<u8>,
+) -> Result<RunEnd, ScriptFault>
+    requires { IsCapacity capacity }
+{
+    let mut input = Device::new(script.as_bytes());
+    let mut output = Device::new(written);
+    run_script(alloc, &mut input, &mut output, capacity)
+}
+
+/// Asserts that a script runs to its end and has this transcript.
+fn expect(rt: &(impl Abort + AllocGlobal), script: &str, transcript: &str) -> Result<(), Fail> {
+    let mut written = Vec::new(rt.alloc());
+    let end = run(rt.alloc(), script, CAPACITY, &mut written)?;
+    assert_eq!(rt; str::from_utf8(&written)?, transcript);
+    assert_eq!(rt; end, RunEnd::Finished);
+    Ok(())
+}
+
+/// The script `first.asset`.
+const FIRST: &str = "\
+# A first script. Empty lines and lines that begin with # are skipped.
+
+# Objects come first, each with its number and its opening value.
+object 1 100
+object 2 200
+
+# Transaction 7 is registered, and then started.
+initiate 7
+begin 7
+
+# It reads 100 from object 1, writes 50 over it, and reads its own 50.
+read 7 1
+write 7 1 50
+read 7 1
+
+# It has done its work, and commits.
+complete 7
+commit 7
+";
+
+/// Its transcript.
+const FIRST_OUT: &str = "\
+ok
+ok
+100
+ok
+50
+ok
+committed
+";
+
+/// The script `permits.asset`.
+const PERMITS: &str = "\
+# Two transactions work on one object. Transaction 7 lets 8 read and write it.
+object 1 100
+initiate 7
+begin 7
+initiate 8
+begin 8
+write 7 1 50
+permit 7 8 rw 1
+
+# 8 reads the unfinished 50 and writes over it. From then on 8 blocks 7, because 8 permits nothing.
+read 8 1
+write 8 1 60
+read 7 1
+
+# The abort of 7 takes back the write of 7 alone: the write of 8 stands.
+abort 7
+read 8 1
+complete 8
+commit 8
+";
+
+/// Its transcript.
+const PERMITS_OUT: &str = "\
+ok
+ok
+ok
+ok
+ok
+ok
+50
+ok
+wait
+aborted
+60
+ok
+committed
+";
+
+/// The script `refusals.asset`.
+const REFUSALS: &str = "\
+# A refusal is an answer: the history records it, and nothing else changes.
+object 1 100
+begin 5
+initiate 7
+read 7 1
+begin 7
+begin 7
+initiate 7
+read 7 9
+permit 7 7 rw all
+complete 7
+write 7 1 5
+commit 7
+abort 7
+begin 7
+";
+
+/// Its transcript.
+const REFUSALS_OUT: &str = "\
+refused unknown 5
+ok
+refused not running 7
+ok
+refused begun 7
+refused taken 7
+refused no object 9
+refused same
+ok
+refused not running 7
+committed
+refused too late 7
+refused ended 7
+";
+
+/// The script `waiting.asset`.
+const WAITING: &str = "\
+# Transaction 8 may not see what 7 wrote until 7 has ended.
+object 1 100
+initiate 7
+begin 7
+initiate 8
+begin 8
+write 7 1 50
+# This waits: it is not answered, and the client asks again later.
+read 8 1
+# 7 aborts, and its write is undone.
+abort 7
+# Now 8 reads the opening value.
+read 8 1
+complete 8
+commit 8
+";
+
+/// Its transcript.
+const WAITING_OUT: &str = "\
+ok
+ok
+ok
+ok
+ok
+wait
+aborted
+100
+ok
+committed
+";
+
+#[test]
+fn first_example_has_its_transcript(rt: HostRuntime) -> Result<(), Fail> {
+    expect(&rt, FIRST, FIRST_OUT)
+}
+
+#[test]
+fn permits_example_has_its_transcript(rt: HostRuntime) -> Result<(), Fail> {
+    expect(&rt, PERMITS, PERMITS_OUT)
+}
+
+#[test]
+fn refusals_example_has_its_transcript(rt: HostRuntime) -> Result<(), Fail> {
+    expect(&rt, REFUSALS, REFUSALS_OUT)
+}
+
+#[test]
+fn waiting_example_has_its_transcript(rt: HostRuntime) -> Result<(), Fail> {
+    expect(&rt, WAITING, WAITING_OUT)
+}
