@@ -1,48 +1,54 @@
-//! Each public call on worked values.
+//! Each public call on worked values, and what is left if memory runs out.
 
-ghost use Rattle.std.specs.Prelude.{◌≡◌, ℕ, ◌==◌, ◌||◌, true, false, is_some, OnOk};
+ghost use Rattle.std.specs.Prelude.{◌≡◌, true, is_some, OnOk};
 ghost use Rattle.asset_locks.specs.LockTable.{enrolled_in};
 ghost use Rattle.asset_locks.specs.Valid.{lock_table};
 
 use asset_locks::{Asked, LockState, Locks};
 use asset_names::{NoMemory, Ob, ObSet, Op, Ops, Txn};
 use asset_permits::Permits;
+use std::alloc::Global;
 use std::test::Fail;
 
-/// Enrols a name that was not enrolled. Where memory runs out once, the same call is made again.
-fn enrol(locks: &mut Locks, t: u64) -> Result<(), NoMemory>
-    requires { is_some (enrolled_in (lock_table locks.old) t) ≡ false }
-    ensures { OnOk result ((n : ℕ) → is_some (enrolled_in (lock_table locks.new) n) ≡ (is_some (enrolled_in (lock_table locks.old) n) || t == n)) }
+/// Enrols a transaction. An enrolled one stays as it is.
+fn enrol_once(locks: &mut Locks, t: u64) -> Result<(), NoMemory>
+    ensures { OnOk result (is_some (enrolled_in (lock_table locks.new) t) ≡ true) }
 {
-    match locks.enrol(Txn(t)) {
+    locks.enrol(Txn(t))
+}
+
+/// Enrols a transaction, unless it is enrolled, and asks for an operation under these permits.
+pub(crate) fn ask_once(
+    locks: &mut Locks,
+    t: u64,
+    x: u64,
+    op: Op,
+    permits: &mut Permits,
+) -> Result<Asked, NoMemory> {
+    enrol_once(locks, t)?;
+    locks.ask(Txn(t), Ob(x), op, permits)
+}
+
+/// Enrols as `enrol_once` does. If memory runs out once, the same call is made again.
+fn enrol(locks: &mut Locks, t: u64) -> Result<(), NoMemory> {
+    match enrol_once(locks, t) {
         Ok(()) => Ok(()),
-        Err(NoMemory) => locks.enrol(Txn(t)),
+        Err(NoMemory) => enrol_once(locks, t),
     }
 }
 
-/// Asks under these permits. Where memory runs out once, the same call is made again.
-fn ask(locks: &mut Locks, t: u64, x: u64, op: Op, permits: &mut Permits) -> Result<Asked, NoMemory>
-    requires { is_some (enrolled_in (lock_table locks.old) t) ≡ true }
-    ensures { (n : ℕ) → is_some (enrolled_in (lock_table locks.new) n) ≡ is_some (enrolled_in (lock_table locks.old) n) }
-{
-    match locks.ask(Txn(t), Ob(x), op, permits) {
+/// Asks as `ask_once` does. If memory runs out once, the same call is made again.
+fn ask(
+    locks: &mut Locks,
+    t: u64,
+    x: u64,
+    op: Op,
+    permits: &mut Permits,
+) -> Result<Asked, NoMemory> {
+    match ask_once(locks, t, x, op, permits) {
         Ok(asked) => Ok(asked),
-        Err(NoMemory) => locks.ask(Txn(t), Ob(x), op, permits),
+        Err(NoMemory) => ask_once(locks, t, x, op, permits),
     }
-}
-
-/// Releases a name.
-fn release(locks: &mut Locks, t: u64)
-    ensures { (n : ℕ) → (n == t) ≡ false → is_some (enrolled_in (lock_table locks.new) n) ≡ is_some (enrolled_in (lock_table locks.old) n) }
-{
-    locks.release(Txn(t))
-}
-
-/// A table in which nobody is enrolled.
-fn empty(rt: &HostRuntime) -> Locks
-    ensures { (n : ℕ) → is_some (enrolled_in (lock_table result) n) ≡ false }
-{
-    Locks::new(rt.alloc())
 }
 
 /// A table in which 7, 9 and 8 are enrolled, in this order, and 7 has done an operation on 1. At first nobody
@@ -51,16 +57,10 @@ fn empty(rt: &HostRuntime) -> Locks
 struct Three {
     locks: Locks,
     permits: Permits,
-    ghost eight: { is_some (enrolled_in (lock_table locks) 8) ≡ true },
-    ghost nine: { is_some (enrolled_in (lock_table locks) 9) ≡ true },
 }
 
-/// Enrols 7, 9 and 8, and 7 does an operation on 1.
-fn fill(locks: &mut Locks, permits: &mut Permits, op: Op) -> Result<(), NoMemory>
-    requires { (n : ℕ) → is_some (enrolled_in (lock_table locks.old) n) ≡ false }
-    ensures eight { OnOk result (is_some (enrolled_in (lock_table locks.new) 8) ≡ true) }
-    ensures nine { OnOk result (is_some (enrolled_in (lock_table locks.new) 9) ≡ true) }
-{
+/// Enrols 7, 9 and 8, and lets 7 do an operation on 1.
+fn fill(locks: &mut Locks, permits: &mut Permits, op: Op) -> Result<(), NoMemory> {
     enrol(locks, 7)?;
     enrol(locks, 9)?;
     enrol(locks, 8)?;
@@ -69,9 +69,9 @@ fn fill(locks: &mut Locks, permits: &mut Permits, op: Op) -> Result<(), NoMemory
 }
 
 impl Three {
-    fn new(rt: &HostRuntime, op: Op) -> Result<Three, NoMemory> {
-        let mut permits = Permits::new(rt.alloc());
-        let mut locks = empty(rt);
+    fn new(alloc: Global, op: Op) -> Result<Three, NoMemory> {
+        let mut permits = Permits::new(alloc);
+        let mut locks = Locks::new(alloc);
         fill(&mut locks, &mut permits, op)?;
         Ok(Three { locks, permits })
     }
@@ -88,26 +88,20 @@ impl Three {
         self.locks.is_free(Txn(7), Ob(1), op, &mut self.permits)
     }
 
-    /// Lets 8 do everything that 7 may do. Where memory runs out once, the same call is made again.
-    fn seven_permits_eight(&mut self) -> Result<(), NoMemory> {
-        match Ops::new(true, true) {
-            Some(ops) => match self.permits.add(Txn(7), Txn(8), ObSet::All, ops) {
-                Ok(()) => Ok(()),
-                Err(NoMemory) => self.permits.add(Txn(7), Txn(8), ObSet::All, ops),
-            },
-            None => Ok(()),
-        }
-    }
-
-    fn release_seven(&mut self) {
-        release(&mut self.locks, 7)
-    }
-
     fn is_free_for_eight(&mut self, op: Op) -> bool {
         self.locks.is_free(Txn(8), Ob(1), op, &mut self.permits)
     }
 
-    /// Whether 8 waits for 7, the writer.
+    /// Lets 8 do everything that 7 may do. If memory runs out once, the same call is made again.
+    fn seven_permits_eight(&mut self) -> Result<(), NoMemory> {
+        let ops = Ops::only(Op::Read).with(Op::Write);
+        match self.permits.add(Txn(7), Txn(8), ObSet::All, ops) {
+            Ok(()) => Ok(()),
+            Err(NoMemory) => self.permits.add(Txn(7), Txn(8), ObSet::All, ops),
+        }
+    }
+
+    /// Returns whether 8 waits for 7, the writer.
     fn eight_waits(&mut self) -> bool {
         self.eight_asks(1, Op::Read) == Ok(Asked::Pending)
             && self.locks.waiters(Ob(1), 0) == Some((Txn(8), Op::Read))
@@ -119,15 +113,15 @@ impl Three {
             && !self.is_free_for_eight(Op::Read)
     }
 
-    /// Whether 8 gets its lock when 7 is released.
+    /// Returns whether 8 gets its lock when 7 is released.
     fn eight_goes_on(&mut self) -> bool {
-        self.release_seven();
+        self.locks.release(Txn(7));
         self.is_free_for_eight(Op::Read)
             && self.eight_asks(1, Op::Read) == Ok(Asked::Granted)
             && self.locks.waiters(Ob(1), 0) == None
     }
 
-    /// Whether 9, which was enrolled before 8, comes before it.
+    /// Returns whether 9, which was enrolled before 8, comes before it.
     fn nine_comes_first(&mut self) -> bool {
         self.eight_asks(1, Op::Write) == Ok(Asked::Pending)
             && self.nine_asks(1, Op::Write) == Ok(Asked::Pending)
@@ -136,7 +130,19 @@ impl Three {
             && self.locks.waiters(Ob(2), 0) == None
     }
 
-    /// Whether two readers hold one object, and 8 holds another, which is listed once for two operations.
+    /// Returns whether a second enrolment of 9 leaves what 9 holds, its request, and its turn before 8.
+    fn nine_stays_enrolled(&mut self) -> bool {
+        self.nine_asks(2, Op::Write) == Ok(Asked::Granted)
+            && self.eight_asks(1, Op::Write) == Ok(Asked::Pending)
+            && self.nine_asks(1, Op::Write) == Ok(Asked::Pending)
+            && self.locks.enrol(Txn(9)) == Ok(())
+            && self.locks.held_by(Txn(9), 0) == Some(Ob(2))
+            && self.locks.status(Txn(9), Ob(2)) == Some(LockState::Granted)
+            && self.locks.waiters(Ob(1), 0) == Some((Txn(9), Op::Write))
+            && self.locks.waiters(Ob(1), 1) == Some((Txn(8), Op::Write))
+    }
+
+    /// Returns whether two readers hold one object, and 8 holds another, which is listed once for two operations.
     fn readers_share(&mut self) -> bool {
         self.eight_asks(1, Op::Read) == Ok(Asked::Granted)
             && self.locks.status(Txn(7), Ob(1)) == Some(LockState::Granted)
@@ -147,7 +153,7 @@ impl Three {
             && self.locks.held_by(Txn(8), 2) == None
     }
 
-    /// Whether 8, whom 7 permits, suspends the lock of 7, and 9 still waits.
+    /// Returns whether 8, whom 7 permits, suspends the lock of 7, and 9 still waits.
     fn eight_suspends_seven(&mut self) -> bool {
         self.seven_permits_eight() == Ok(())
             && self.eight_asks(1, Op::Write) == Ok(Asked::Granted)
@@ -160,36 +166,45 @@ impl Three {
 
 #[test]
 fn waiter_goes_on_after_release(rt: HostRuntime) -> Result<(), Fail> {
-    let mut three = Three::new(&rt, Op::Write)?;
-    let told = three.eight_waits() && three.eight_goes_on();
+    let mut three = Three::new(rt.alloc(), Op::Write)?;
+    let goes_on = three.eight_waits() && three.eight_goes_on();
     drop(three);
-    assert!(rt; told);
+    assert!(rt; goes_on);
     Ok(())
 }
 
 #[test]
 fn waiters_come_in_order_of_enrolment(rt: HostRuntime) -> Result<(), Fail> {
-    let mut three = Three::new(&rt, Op::Read)?;
-    let told = three.nine_comes_first();
+    let mut three = Three::new(rt.alloc(), Op::Read)?;
+    let in_order = three.nine_comes_first();
     drop(three);
-    assert!(rt; told);
+    assert!(rt; in_order);
+    Ok(())
+}
+
+#[test]
+fn enrolled_transaction_is_not_enrolled_again(rt: HostRuntime) -> Result<(), Fail> {
+    let mut three = Three::new(rt.alloc(), Op::Write)?;
+    let unchanged = three.nine_stays_enrolled();
+    drop(three);
+    assert!(rt; unchanged);
     Ok(())
 }
 
 #[test]
 fn readers_share_an_object(rt: HostRuntime) -> Result<(), Fail> {
-    let mut three = Three::new(&rt, Op::Read)?;
-    let told = three.readers_share();
+    let mut three = Three::new(rt.alloc(), Op::Read)?;
+    let shared = three.readers_share();
     drop(three);
-    assert!(rt; told);
+    assert!(rt; shared);
     Ok(())
 }
 
 #[test]
 fn permitted_writer_suspends_the_giver(rt: HostRuntime) -> Result<(), Fail> {
-    let mut three = Three::new(&rt, Op::Write)?;
-    let told = three.eight_suspends_seven();
+    let mut three = Three::new(rt.alloc(), Op::Write)?;
+    let suspended = three.eight_suspends_seven();
     drop(three);
-    assert!(rt; told);
+    assert!(rt; suspended);
     Ok(())
 }
