@@ -1,10 +1,10 @@
-//! Calls of a facility that are made again where memory runs out once.
+//! Calls of a facility that are made again if memory runs out once.
 
 use asset_core::{Core, OpenFault};
 use asset_names::{Fault, Ob, Outcome, Step, Txn};
 use std::alloc::Global;
 
-/// Opens the facility. Where memory runs out once, it is opened again.
+/// Opens the facility. If memory runs out once, it is opened again.
 pub(crate) fn opened(
     alloc: Global,
     opening: &[(Ob, i64)],
@@ -12,11 +12,11 @@ pub(crate) fn opened(
 ) -> Result<Core, OpenFault> {
     match Core::open(alloc, opening, capacity) {
         Err(OpenFault::NoMemory) => Core::open(alloc, opening, capacity),
-        told => told,
+        opened => opened,
     }
 }
 
-/// Asks a step. Where memory runs out once, nothing has changed and it is asked again.
+/// Asks a step. If memory runs out once, nothing has changed and it is asked again.
 pub(crate) fn ask(core: &mut Core, step: &Step) -> Result<Outcome, Fault> {
     let before = (core.history().len(), core.status(Txn(7)), core.value(Ob(1)));
     match core.step(*step) {
@@ -28,6 +28,6 @@ pub(crate) fn ask(core: &mut Core, step: &Step) -> Result<Outcome, Fault> {
                 Err(Fault::NoMemory)
             }
         }
-        told => told,
+        answer => answer,
     }
 }

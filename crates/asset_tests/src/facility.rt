@@ -1,4 +1,4 @@
-//! Each public call once, on worked values, and what is left where memory runs out.
+//! Each public call once, on worked values, and what is left if memory runs out.
 
 use crate::again::{ask, opened};
 use crate::steps::{abort, begin, commit, complete, initiate, read, write};
@@ -10,6 +10,12 @@ use std::test::Fail;
 const THREE: [(Ob, i64); 3] = [(Ob(1), 100), (Ob(2), 200), (Ob(3), 300)];
 
 const NONE: [(Ob, i64); 0] = [];
+
+/// The greatest capacity.
+const MOST_ENTRIES: usize = 1_000_000;
+
+/// Room for more entries than a test asks for.
+const ROOM: usize = 100;
 
 const OK: Result<Outcome, Fault> = Ok(Outcome::Answer(Reply::Done));
 
@@ -25,16 +31,16 @@ fn value(v: i64) -> Result<Outcome, Fault> {
     Ok(Outcome::Answer(Reply::Value(v)))
 }
 
-/// Whether the steps have these outcomes, one after another.
+/// Returns whether the steps have these outcomes, one after another.
 fn plays(core: &mut Core, script: &[(Step, Result<Outcome, Fault>)]) -> bool {
     let mut alike = true;
-    for asked in script {
-        alike = ask(core, &asked.0) == asked.1 && alike;
+    for (step, outcome) in script {
+        alike = ask(core, step) == *outcome && alike;
     }
     alike
 }
 
-/// Why nothing is opened over these objects, if nothing is.
+/// Returns why nothing is opened over these objects, if nothing is.
 fn fault(alloc: Global, opening: &[(Ob, i64)], capacity: usize) -> Option<OpenFault> {
     opened(alloc, opening, capacity).err()
 }
@@ -42,17 +48,17 @@ fn fault(alloc: Global, opening: &[(Ob, i64)], capacity: usize) -> Option<OpenFa
 #[test]
 fn opening_is_refused_in_order(rt: HostRuntime) {
     let double = [(Ob(1), 1), (Ob(1), 2)];
-    for (opening, capacity, told) in [
+    for (opening, capacity, expected) in [
         (&double[..], 0, Some(OpenFault::BadCapacity)),
-        (&THREE[..], 1_000_001, Some(OpenFault::BadCapacity)),
-        (&double[..], 5, Some(OpenFault::DoubleObject(Ob(1)))),
-        (&THREE[..], 1_000_000, None),
+        (&THREE[..], MOST_ENTRIES + 1, Some(OpenFault::BadCapacity)),
+        (&double[..], ROOM, Some(OpenFault::DoubleObject(Ob(1)))),
+        (&THREE[..], MOST_ENTRIES, None),
     ] {
-        assert_eq!(rt; fault(rt.alloc(), opening, capacity), told);
+        assert_eq!(rt; fault(rt.alloc(), opening, capacity), expected);
     }
 }
 
-/// Whether the check holds of a facility that is opened.
+/// Returns whether the check holds of a facility that is opened.
 fn holds<F: FnOnce(&mut Core) -> bool>(
     alloc: Global,
     opening: &[(Ob, i64)],
@@ -63,15 +69,15 @@ fn holds<F: FnOnce(&mut Core) -> bool>(
 {
     match opened(alloc, opening, capacity) {
         Ok(mut core) => {
-            let told = check(&mut core);
+            let held = check(&mut core);
             drop(core);
-            told
+            held
         }
         Err(_) => false,
     }
 }
 
-/// Whether a begin of an unknown name fills a history with room for one entry.
+/// Returns whether a begin of an unknown transaction fills a history with room for one entry.
 fn unknown_begin_stands(core: &mut Core) -> bool {
     let unknown = Reply::Refused(Refusal::Unknown(Txn(7)));
     let script = [(begin(7), Ok(Outcome::Answer(unknown))), (begin(7), FULL)];
@@ -82,11 +88,11 @@ fn unknown_begin_stands(core: &mut Core) -> bool {
 }
 
 #[test]
-fn begin_of_an_unknown_name_is_recorded(rt: HostRuntime) {
+fn begin_of_an_unknown_transaction_is_recorded(rt: HostRuntime) {
     assert!(rt; holds(rt.alloc(), &NONE, 1, unknown_begin_stands));
 }
 
-/// Whether each call tells of a transaction before it commits.
+/// Returns whether each call shows a transaction before it commits.
 fn transaction_works(core: &mut Core) -> bool {
     let script = [
         (initiate(7), OK),
@@ -104,7 +110,7 @@ fn transaction_works(core: &mut Core) -> bool {
         && core.value(Ob(9)) == None
 }
 
-/// Whether each call tells of a transaction to its commit.
+/// Returns whether each call shows a transaction up to its commit.
 fn transaction_commits(core: &mut Core) -> bool {
     transaction_works(core)
         && plays(core, &[(commit(7), COMMITTED)])
@@ -112,16 +118,16 @@ fn transaction_commits(core: &mut Core) -> bool {
 }
 
 #[test]
-fn one_transaction_is_told_by_each_call(rt: HostRuntime) -> Result<(), Fail> {
-    let mut core = opened(rt.alloc(), &THREE, 10)?;
-    let told = transaction_commits(&mut core);
+fn one_transaction_is_shown_by_each_call(rt: HostRuntime) -> Result<(), Fail> {
+    let mut core = opened(rt.alloc(), &THREE, ROOM)?;
+    let shown = transaction_commits(&mut core);
     let history = core.into_history();
-    assert!(rt; told);
+    assert!(rt; shown);
     assert!(rt; history.len() == 8 && history.opening().len() == 3);
     Ok(())
 }
 
-/// Whether a reader waits for a writer, and goes on when the writer has aborted.
+/// Returns whether a reader waits for a writer, and goes on when the writer has aborted.
 fn reader_waits(core: &mut Core) -> bool {
     let waiting = [
         (initiate(7), OK),
@@ -141,36 +147,35 @@ fn reader_waits(core: &mut Core) -> bool {
 
 #[test]
 fn reader_waits_for_abort(rt: HostRuntime) {
-    assert!(rt; holds(rt.alloc(), &THREE, 20, reader_waits));
+    assert!(rt; holds(rt.alloc(), &THREE, ROOM, reader_waits));
 }
 
-/// A permit of 7 for 8 to read and write these objects, if they make a list.
+/// Returns a permit of 7 for 8 to read and write these objects, if they make a list.
 fn permit(objects: &[Ob]) -> Option<Step> {
     let list = ObList::of(objects).ok()?;
-    let ops = Ops::new(true, true)?;
     Some(Step::Permit {
         giver: Txn(7),
         taker: Txn(8),
         obs: ObSet::Listed(list),
-        ops,
+        ops: Ops::only(Op::Read).with(Op::Write),
     })
 }
 
-/// Whether the entry of this number is the step with the reply.
-fn recorded(core: &Core, number: usize, step: &Step, reply: Reply) -> bool {
-    match core.history().entry(number) {
-        Some((asked, told)) => asked == *step && told == reply,
+/// Returns whether the entry of this index is the step with the reply.
+fn recorded(core: &Core, index: usize, step: &Step, reply: Reply) -> bool {
+    match core.history().entry(index) {
+        Some((asked, answer)) => asked == *step && answer == reply,
         None => false,
     }
 }
 
-/// Whether the entries are these, none of which waits or meets a fault.
+/// Returns whether the entries are these, none of which waits or meets a fault.
 fn stands(core: &Core, script: &[(Step, Result<Outcome, Fault>)]) -> bool {
     let mut alike = core.history().len() == script.len();
-    for (number, (step, told)) in script.iter().enumerate() {
+    for (index, (step, outcome)) in script.iter().enumerate() {
         alike = alike
-            && match told {
-                Ok(Outcome::Answer(reply)) => recorded(core, number, step, *reply),
+            && match outcome {
+                Ok(Outcome::Answer(reply)) => recorded(core, index, step, *reply),
                 _ => false,
             };
     }
@@ -181,7 +186,8 @@ fn refused(refusal: Refusal) -> Result<Outcome, Fault> {
     Ok(Outcome::Answer(Reply::Refused(refusal)))
 }
 
-/// Whether entries of each kind but permits, with each refusal that they can get, stand as they were answered.
+/// Returns whether entries of each kind but permits, with each refusal that they can get, stand as they were
+/// answered.
 fn entries_stand(core: &mut Core) -> bool {
     let child = Step::Initiate {
         t: Txn(8),
@@ -213,11 +219,12 @@ fn entries_stand(core: &mut Core) -> bool {
 }
 
 #[test]
-fn entries_are_told_whole(rt: HostRuntime) {
-    assert!(rt; holds(rt.alloc(), &THREE, 40, entries_stand));
+fn entries_are_shown_whole(rt: HostRuntime) {
+    assert!(rt; holds(rt.alloc(), &THREE, ROOM, entries_stand));
 }
 
-/// Whether permits are answered as they must be, and stand whole: a list with a missing object, and one without.
+/// Returns whether permits are answered as they must be, and stand whole: a list with a missing object, and one
+/// without.
 fn permits_stand(core: &mut Core) -> bool {
     let (Some(one), Some(four)) = (permit(&[Ob(2), Ob(1)]), permit(&[Ob(4), Ob(3)])) else {
         return false;
@@ -244,5 +251,5 @@ fn permits_stand(core: &mut Core) -> bool {
 
 #[test]
 fn permits_are_entries_with_their_objects(rt: HostRuntime) {
-    assert!(rt; holds(rt.alloc(), &THREE, 20, permits_stand));
+    assert!(rt; holds(rt.alloc(), &THREE, ROOM, permits_stand));
 }

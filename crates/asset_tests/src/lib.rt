@@ -1,5 +1,5 @@
-//! The tests of the libraries, through their public calls. They stand in one crate, since a test build
-//! proves again all of the crate that it belongs to.
+//! The tests of the libraries, through their public calls. They stand in one crate, because a test build
+//! proves again the whole crate that it belongs to.
 #![tactic(auto)]
 
 mod steps;

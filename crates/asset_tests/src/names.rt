@@ -10,6 +10,9 @@ use std::test::Fail;
 
 const NONE: [Ob; 0] = [];
 
+/// One object more than a list has.
+const TOO_MANY: usize = 17;
+
 #[test]
 fn sets_of_operations(rt: HostRuntime) -> Result<(), Fail> {
     assert!(rt; Ops::new(false, false).is_none());
@@ -20,6 +23,17 @@ fn sets_of_operations(rt: HostRuntime) -> Result<(), Fail> {
     let both = Ops::new(true, true).ok_or("both")?;
     assert!(rt; both.has(Op::Read) && both.has(Op::Write));
     Ok(())
+}
+
+#[test]
+fn sets_of_operations_grow(rt: HostRuntime) {
+    let (reads, writes) = (Ops::only(Op::Read), Ops::only(Op::Write));
+    assert!(rt; reads.has(Op::Read) && !reads.has(Op::Write));
+    assert!(rt; writes.has(Op::Write) && !writes.has(Op::Read));
+    assert!(rt; reads.with(Op::Read) == reads && writes.with(Op::Write) == writes);
+    for both in [reads.with(Op::Write), writes.with(Op::Read)] {
+        assert!(rt; both.has(Op::Read) && both.has(Op::Write));
+    }
 }
 
 #[test]
@@ -41,25 +55,28 @@ fn list_is_kept_rising(rt: HostRuntime) {
     assert!(rt; ObSet::All.has(Ob(3)));
 }
 
-/// Seventeen objects, of which none is given twice.
-fn seventeen() -> [Ob; 17] {
-    let mut objects = [Ob(0); 17];
-    for (number, object) in objects.iter_mut().enumerate() {
-        *object = Ob(100 - number as u64);
+/// Returns one object more than a list has, of which none is given twice.
+fn one_too_many() -> [Ob; TOO_MANY] {
+    let mut objects = [Ob(0); TOO_MANY];
+    for (index, object) in objects.iter_mut().enumerate() {
+        *object = Ob(100 - index as u64);
     }
     objects
 }
 
 #[test]
 fn list_has_from_one_to_sixteen_objects(rt: HostRuntime) {
-    let objects = seventeen();
-    for (given, told) in [
+    let objects = one_too_many();
+    for (given, expected) in [
         (&NONE[..], Err(SetFault::Empty)),
         (&objects[..16], Ok(16)),
         (&objects[..], Err(SetFault::TooMany)),
-        (&[Ob(1); 17][..], Err(SetFault::TooMany)),
+        (&[Ob(1); TOO_MANY][..], Err(SetFault::TooMany)),
     ] {
-        assert_eq!(rt; ObList::of(given).map(|list| list.objects().len()), told);
+        assert_eq!(rt;
+            ObList::of(given).map(|list| list.objects().len()),
+            expected
+        );
     }
 }
 
@@ -75,12 +92,12 @@ fn least_double_is_named(rt: HostRuntime) {
 fn least_double_of_objects_and_of_pairs(rt: HostRuntime) {
     let twice = [Ob(9), Ob(4), Ob(2), Ob(9), Ob(4)];
     let pairs = [(Ob(3), 30), (Ob(1), 10), (Ob(3), -30)];
-    for (told, double) in [
+    for (found, double) in [
         (least_double(&twice), Some(Ob(4))),
         (least_double(&pairs), Some(Ob(3))),
         (least_double(&NONE), None),
     ] {
-        assert_eq!(rt; told, double);
+        assert_eq!(rt; found, double);
     }
 }
 
@@ -88,7 +105,7 @@ fn least_double_of_objects_and_of_pairs(rt: HostRuntime) {
 fn refusals_by_status(rt: HostRuntime) {
     let (t, u, x) = (Txn(7), Txn(8), Ob(1));
     let ended = refusal_to_permit(t, Status::Running, u, Status::Aborted, Some(x));
-    for (told, refusal) in [
+    for (answer, refusal) in [
         (refusal_to_initiate(t, Status::Initiated), Refusal::Taken(t)),
         (refusal_to_begin(t, Status::Running), Refusal::Begun(t)),
         (
@@ -103,7 +120,7 @@ fn refusals_by_status(rt: HostRuntime) {
         (refusal_to_find(t, Status::Unknown), Refusal::Unknown(t)),
         (refusal_to_abort(t, Status::Committed), Refusal::TooLate(t)),
     ] {
-        assert_eq!(rt; told, Some(refusal));
+        assert_eq!(rt; answer, Some(refusal));
     }
 }
 
@@ -112,7 +129,7 @@ fn outcomes_and_statuses(rt: HostRuntime) {
     let done = Outcome::Answer(Reply::Done);
     let committed = Outcome::Answer(Reply::Committed);
     let aborted = Outcome::Answer(Reply::Aborted);
-    for (told, outcome) in [
+    for (answer, outcome) in [
         (commit_outcome(Status::Running, false), Outcome::Wait),
         (commit_outcome(Status::Completed, true), committed),
         (commit_outcome(Status::Committed, false), committed),
@@ -121,7 +138,7 @@ fn outcomes_and_statuses(rt: HostRuntime) {
         (wait_outcome(Status::Completed), done),
         (wait_outcome(Status::Aborted), aborted),
     ] {
-        assert_eq!(rt; told, outcome);
+        assert_eq!(rt; answer, outcome);
     }
     assert!(rt; takes_effect(&Step::Begin { t: Txn(7) }, Reply::Done));
     assert!(rt; !takes_effect(&Step::WaitFor { t: Txn(7) }, Reply::Done));

@@ -1,4 +1,4 @@
-//! Each public call once, on worked values, and what is left where memory runs out.
+//! Each public call once, on worked values, and what is left if memory runs out.
 
 use asset_names::{NoMemory, Ob, Txn};
 use asset_objects::{Objects, ObjectsFault};
@@ -7,7 +7,7 @@ use std::test::Fail;
 
 const TWO: [(Ob, i64); 2] = [(Ob(1), 100), (Ob(2), 200)];
 
-/// Reserves a write and writes, to an object that exists.
+/// Reserves a write, and writes to an object if it exists.
 #[tactic(auto, using(asset_objects::proofs::TableLemmas::exists_by_value))]
 pub(crate) fn write_once(objects: &mut Objects, t: u64, x: u64, v: i64) -> Result<(), NoMemory> {
     if objects.value(Ob(x)).is_some() {
@@ -17,20 +17,20 @@ pub(crate) fn write_once(objects: &mut Objects, t: u64, x: u64, v: i64) -> Resul
     Ok(())
 }
 
-/// Writes as `write_once` does. Where memory runs out, nothing has changed, and the same call is made again.
+/// Writes as `write_once` does. If memory runs out, nothing has changed, and the same call is made again.
 fn write(objects: &mut Objects, t: u64, x: u64, v: i64) -> Result<(), NoMemory> {
     let before = objects.value(Ob(x));
     match write_once(objects, t, x, v) {
         Err(NoMemory) if objects.value(Ob(x)) == before => write_once(objects, t, x, v),
-        told => told,
+        written => written,
     }
 }
 
-/// Opens these objects. Where memory runs out once, they are opened again.
+/// Opens these objects. If memory runs out once, they are opened again.
 fn opened(alloc: Global, opening: &[(Ob, i64)]) -> Result<Objects, ObjectsFault> {
     match Objects::open(alloc, opening) {
         Err(ObjectsFault::NoMemory) => Objects::open(alloc, opening),
-        told => told,
+        opened => opened,
     }
 }
 
@@ -40,14 +40,14 @@ fn write_twice(objects: &mut Objects) -> Result<(), NoMemory> {
     write(objects, 8, 1, 60)
 }
 
-/// Whether the objects have these values.
+/// Returns whether the two objects have these values.
 fn shows(objects: &Objects, first: i64, second: i64) -> bool {
     objects.value(Ob(1)) == Some(first)
         && objects.value(Ob(2)) == Some(second)
         && objects.value(Ob(9)) == None
 }
 
-/// The two objects, where 7 and then 8 have written to the first.
+/// Returns the two objects after 7 and then 8 have written to the first.
 fn written_twice(rt: &HostRuntime) -> Result<Objects, Fail> {
     let mut objects = opened(rt.alloc(), &TWO)?;
     write_twice(&mut objects)?;
@@ -57,9 +57,9 @@ fn written_twice(rt: &HostRuntime) -> Result<Objects, Fail> {
 #[test]
 fn opening_values_are_shown(rt: HostRuntime) -> Result<(), Fail> {
     let objects = opened(rt.alloc(), &TWO)?;
-    let told = shows(&objects, 100, 200);
+    let shown = shows(&objects, 100, 200);
     drop(objects);
-    assert!(rt; told);
+    assert!(rt; shown);
     Ok(())
 }
 
@@ -73,7 +73,7 @@ fn double_object_is_refused(rt: HostRuntime) -> Result<(), Fail> {
     Ok(())
 }
 
-/// Whether undo of 7 mends the record of 8, which wrote later.
+/// Returns whether undo of 7 mends the record of 8, which wrote later.
 fn undo_mends(objects: &mut Objects) -> bool {
     let before = shows(objects, 60, 200);
     objects.undo(Txn(7));
@@ -85,13 +85,13 @@ fn undo_mends(objects: &mut Objects) -> bool {
 #[test]
 fn undo_mends_the_later_record(rt: HostRuntime) -> Result<(), Fail> {
     let mut objects = written_twice(&rt)?;
-    let told = undo_mends(&mut objects);
+    let mended = undo_mends(&mut objects);
     drop(objects);
-    assert!(rt; told);
+    assert!(rt; mended);
     Ok(())
 }
 
-/// Whether nothing of 7 is left to undo when 8, which wrote later, has settled.
+/// Returns whether nothing of 7 is left to undo when 8, which wrote later, has settled.
 fn settle_drops(objects: &mut Objects) -> bool {
     objects.settle(Txn(8));
     let between = shows(objects, 60, 200);
@@ -102,13 +102,13 @@ fn settle_drops(objects: &mut Objects) -> bool {
 #[test]
 fn settle_drops_earlier_records(rt: HostRuntime) -> Result<(), Fail> {
     let mut objects = written_twice(&rt)?;
-    let told = settle_drops(&mut objects);
+    let dropped = settle_drops(&mut objects);
     drop(objects);
-    assert!(rt; told);
+    assert!(rt; dropped);
     Ok(())
 }
 
-/// Whether undo of 7 takes its writes to both objects away, however they were mixed.
+/// Returns whether undo of 7 takes its writes to both objects away, however they were mixed.
 fn undo_takes_all(objects: &mut Objects) -> bool {
     let written = write(objects, 7, 2, 1) == Ok(())
         && write(objects, 7, 1, 2) == Ok(())
@@ -121,13 +121,13 @@ fn undo_takes_all(objects: &mut Objects) -> bool {
 #[test]
 fn undo_of_several_objects(rt: HostRuntime) -> Result<(), Fail> {
     let mut objects = written_twice(&rt)?;
-    let told = undo_takes_all(&mut objects);
+    let undone = undo_takes_all(&mut objects);
     drop(objects);
-    assert!(rt; told);
+    assert!(rt; undone);
     Ok(())
 }
 
-/// Whether a write that finds no memory changes nothing, and can be asked again.
+/// Returns whether a write that runs out of memory changes nothing, and can be asked again.
 fn write_is_asked_again(objects: &mut Objects) -> bool {
     let reserved = match objects.reserve_write() {
         Ok(()) => true,
@@ -137,10 +137,10 @@ fn write_is_asked_again(objects: &mut Objects) -> bool {
 }
 
 #[test]
-fn want_of_memory_changes_nothing(rt: HostRuntime) -> Result<(), Fail> {
+fn out_of_memory_changes_nothing(rt: HostRuntime) -> Result<(), Fail> {
     let mut objects = opened(rt.alloc(), &TWO)?;
-    let told = write_is_asked_again(&mut objects);
+    let written = write_is_asked_again(&mut objects);
     drop(objects);
-    assert!(rt; told);
+    assert!(rt; written);
     Ok(())
 }

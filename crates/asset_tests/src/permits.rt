@@ -1,14 +1,14 @@
-//! Each public call on worked permits, and what is left where memory runs out.
+//! Each public call on worked permits, and what is left if memory runs out.
 
 use asset_names::{NoMemory, Ob, ObList, ObSet, Op, Ops, SetFault, Txn};
 use asset_permits::Permits;
 
-/// The set of two objects.
+/// Returns the set of two objects.
 fn two(first: u64, second: u64) -> Result<ObSet, SetFault> {
     Ok(ObSet::Listed(ObList::of(&[Ob(first), Ob(second)])?))
 }
 
-/// Adds a permit to read, and to write where `write` says so.
+/// Adds a permit to read, and to write if `write` says so.
 fn add_once(
     permits: &mut Permits,
     u: u64,
@@ -16,13 +16,12 @@ fn add_once(
     objects: &ObSet,
     write: bool,
 ) -> Result<(), NoMemory> {
-    match Ops::new(true, write) {
-        Some(ops) => permits.add(Txn(u), Txn(t), *objects, ops),
-        None => Ok(()),
-    }
+    let reads = Ops::only(Op::Read);
+    let ops = if write { reads.with(Op::Write) } else { reads };
+    permits.add(Txn(u), Txn(t), *objects, ops)
 }
 
-/// Adds a permit as `add_once` does, and says whether it could. Where memory runs out, nothing has changed and the
+/// Adds a permit as `add_once` does, and returns whether it could. If memory runs out, nothing has changed and the
 /// same call is made again.
 fn add(permits: &mut Permits, u: u64, t: u64, objects: &ObSet, write: bool) -> bool {
     let before = reads(permits, u, t, 2);
@@ -34,23 +33,23 @@ fn add(permits: &mut Permits, u: u64, t: u64, objects: &ObSet, write: bool) -> b
     }
 }
 
-/// Seven lets eight read and write 1 and 2, and eight lets nine read 2 and 3.
+/// Lets 7 permit 8 to read and write 1 and 2, and 8 permit 9 to read 2 and 3.
 fn permit_both(permits: &mut Permits) -> Result<bool, SetFault> {
     let (low, high) = (two(1, 2)?, two(2, 3)?);
     Ok(add(permits, 7, 8, &low, true) && add(permits, 8, 9, &high, false))
 }
 
-/// Whether a name allows another to read an object.
+/// Returns whether a transaction allows another to read an object.
 fn reads(permits: &mut Permits, u: u64, t: u64, x: u64) -> bool {
     permits.allows(Txn(u), Txn(t), Ob(x), Op::Read)
 }
 
-/// Whether a name allows another to write an object.
+/// Returns whether a transaction allows another to write an object.
 fn writes(permits: &mut Permits, u: u64, t: u64, x: u64) -> bool {
     permits.allows(Txn(u), Txn(t), Ob(x), Op::Write)
 }
 
-/// Whether a chain that is given lets its end do what each of its permits has, and no more.
+/// Returns whether a chain lets its end do what each of its permits has, and no more.
 fn chain_allows(permits: &mut Permits) -> bool {
     permit_both(permits) == Ok(true)
         && reads(permits, 7, 9, 2)
@@ -63,12 +62,12 @@ fn chain_allows(permits: &mut Permits) -> bool {
 #[test]
 fn chain_allows_what_each_permit_has(rt: HostRuntime) {
     let mut permits = Permits::new(rt.alloc());
-    let told = chain_allows(&mut permits);
+    let allowed = chain_allows(&mut permits);
     drop(permits);
-    assert!(rt; told);
+    assert!(rt; allowed);
 }
 
-/// Whether nothing is left of a chain that is given when its middle has ended, and seven can permit nine by itself.
+/// Returns whether nothing is left of a chain when its middle has ended, and 7 can permit 9 by itself.
 fn chain_ends(permits: &mut Permits) -> bool {
     let both = permit_both(permits);
     permits.drop_all(Txn(8));
@@ -83,12 +82,12 @@ fn chain_ends(permits: &mut Permits) -> bool {
 #[test]
 fn chain_ends_with_its_members(rt: HostRuntime) {
     let mut permits = Permits::new(rt.alloc());
-    let told = chain_ends(&mut permits);
+    let ended = chain_ends(&mut permits);
     drop(permits);
-    assert!(rt; told);
+    assert!(rt; ended);
 }
 
-/// Whether a chain that is given may come back to its start.
+/// Returns whether a chain may come back to its start.
 fn chain_comes_back(permits: &mut Permits) -> bool {
     permit_both(permits) == Ok(true)
         && add(permits, 9, 7, &ObSet::All, false)
@@ -99,12 +98,12 @@ fn chain_comes_back(permits: &mut Permits) -> bool {
 #[test]
 fn chain_may_come_back(rt: HostRuntime) {
     let mut permits = Permits::new(rt.alloc());
-    let told = chain_comes_back(&mut permits);
+    let back = chain_comes_back(&mut permits);
     drop(permits);
-    assert!(rt; told);
+    assert!(rt; back);
 }
 
-/// Whether a permit that is given twice goes with its giver.
+/// Returns whether a permit that is given twice goes with its giver.
 fn twice_given_goes(permits: &mut Permits) -> bool {
     let (both, Ok(same)) = (permit_both(permits), two(2, 1)) else {
         return false;
@@ -117,7 +116,7 @@ fn twice_given_goes(permits: &mut Permits) -> bool {
 #[test]
 fn permit_is_given_twice(rt: HostRuntime) {
     let mut permits = Permits::new(rt.alloc());
-    let told = twice_given_goes(&mut permits);
+    let gone = twice_given_goes(&mut permits);
     drop(permits);
-    assert!(rt; told);
+    assert!(rt; gone);
 }

@@ -1,4 +1,4 @@
-//! The facility gets the answers of the reference, on worked histories and on generated scripts.
+//! The facility and the reference give the same answers, on worked histories and on generated scripts.
 
 use crate::again::{ask, opened};
 use crate::steps::{abort, begin, commit, complete, initiate, read, write};
@@ -10,13 +10,25 @@ use std::test::Fail;
 
 const THREE: [(Ob, i64); 3] = [(Ob(1), 100), (Ob(2), 200), (Ob(3), 300)];
 
-/// The names that the scripts use.
-const NAMES: [Txn; 5] = [Txn(5), Txn(6), Txn(7), Txn(8), Txn(9)];
+/// The transactions that the scripts use.
+const TRANSACTIONS: [Txn; 5] = [Txn(5), Txn(6), Txn(7), Txn(8), Txn(9)];
+
+/// How many scripts are generated.
+const SCRIPTS: u64 = 2_000;
+
+/// How many steps a generated script has.
+const STEPS: usize = 24;
+
+/// Room for all entries of a script.
+const ROOM: usize = 100;
+
+/// Room for fewer entries than a generated script has.
+const LITTLE_ROOM: usize = 10;
 
 /// The objects that the scripts use; the last does not exist.
 const OBJECTS: [Ob; 4] = [Ob(1), Ob(2), Ob(3), Ob(4)];
 
-/// A permit of one for another, on all objects where none is given.
+/// Returns a permit of one transaction for another, on all objects if none is given.
 pub(crate) fn permit(giver: u64, taker: u64, objects: &[Ob], (read, write): (bool, bool)) -> Step {
     let obs = match ObList::of(objects) {
         Ok(list) => ObSet::Listed(list),
@@ -33,25 +45,25 @@ pub(crate) fn permit(giver: u64, taker: u64, objects: &[Ob], (read, write): (boo
     }
 }
 
-/// How many entries the names are owed after these.
+/// Returns how many entries the transactions are owed after these.
 fn owed(entries: &[(Step, Reply)]) -> usize {
     let mut owed = 0usize;
-    for t in NAMES {
+    for t in TRANSACTIONS {
         owed = owed.saturating_add(status_after(entries, t).owed());
     }
     owed
 }
 
-/// Whether the facility shows the statuses that the entries give.
+/// Returns whether the facility shows the statuses that the entries give.
 fn shows_statuses(core: &Core, entries: &[(Step, Reply)]) -> bool {
     let mut alike = true;
-    for t in NAMES {
+    for t in TRANSACTIONS {
         alike = alike && core.status(t) == status_after(entries, t);
     }
     alike
 }
 
-/// Whether the facility shows the values that the entries give.
+/// Returns whether the facility shows the values that the entries give.
 fn shows_values(core: &Core, entries: &[(Step, Reply)]) -> bool {
     let mut alike = true;
     for x in OBJECTS {
@@ -60,8 +72,8 @@ fn shows_values(core: &Core, entries: &[(Step, Reply)]) -> bool {
     alike
 }
 
-/// What the reference says of a step, where there is room for so many entries. An answer that has room is
-/// added to the entries.
+/// Returns what the reference answers to a step over a history with room for `capacity` entries. Appends the answer
+/// to the entries, unless the step waits or finds no room.
 fn expected(
     entries: &mut Vec<(Step, Reply)>,
     step: Step,
@@ -80,7 +92,8 @@ fn expected(
     }
 }
 
-/// Whether a facility without entries and the reference agree on each step, and on what they show after the last.
+/// Returns whether a facility without entries and the reference agree on each step, and on what they show after
+/// the last.
 fn agree_over(
     core: &mut Core,
     entries: &mut Vec<(Step, Reply)>,
@@ -88,8 +101,8 @@ fn agree_over(
     capacity: usize,
 ) -> Result<bool, Fail> {
     for step in steps {
-        let told = expected(entries, *step, capacity)?;
-        if ask(core, step) != told {
+        let answer = expected(entries, *step, capacity)?;
+        if ask(core, step) != answer {
             return Ok(false);
         }
     }
@@ -100,7 +113,7 @@ fn agree_over(
     )
 }
 
-/// Whether the facility and the reference agree on these steps.
+/// Returns whether the facility and the reference agree on these steps.
 fn agree(alloc: Global, steps: &[Step], capacity: usize) -> Result<bool, Fail> {
     let mut core = opened(alloc, &THREE, capacity)?;
     let agreed = agree_over(&mut core, &mut Vec::new(alloc), steps, capacity);
@@ -108,13 +121,13 @@ fn agree(alloc: Global, steps: &[Step], capacity: usize) -> Result<bool, Fail> {
     agreed
 }
 
-/// The next of a sequence of numbers that look random.
+/// Returns the next of a sequence of numbers that look random.
 fn next(seed: u64) -> u64 {
     seed.wrapping_mul(6_364_136_223_846_793_005)
         .wrapping_add(1_442_695_040_888_963_407)
 }
 
-/// The step that a number stands for.
+/// Returns the step that a number stands for.
 fn drawn(number: u64) -> Step {
     let t = 5 + (number >> 40) % 5;
     let x = 1 + (number >> 20) % 4;
@@ -133,7 +146,7 @@ fn drawn(number: u64) -> Step {
     }
 }
 
-/// A reader waits for a writer, which aborts.
+/// Returns steps in which a reader waits for a writer, which aborts.
 fn one_waits() -> [Step; 8] {
     [
         initiate(7),
@@ -147,7 +160,7 @@ fn one_waits() -> [Step; 8] {
     ]
 }
 
-/// A committed write stands under one that is aborted.
+/// Returns steps in which a committed write stands under one that is aborted.
 fn one_aborts_over_another() -> [Step; 12] {
     [
         initiate(7),
@@ -165,7 +178,7 @@ fn one_aborts_over_another() -> [Step; 12] {
     ]
 }
 
-/// A transaction ends where there is room for its end alone.
+/// Returns steps in which a transaction ends when there is room for its end alone.
 fn ends_find_room() -> [Step; 7] {
     [
         initiate(7),
@@ -178,7 +191,7 @@ fn ends_find_room() -> [Step; 7] {
     ]
 }
 
-/// Refusals by status, and steps between them.
+/// Returns steps that are refused by status, and steps between them.
 fn refused_by_status() -> [Step; 15] {
     [
         begin(5),
@@ -202,18 +215,18 @@ fn refused_by_status() -> [Step; 15] {
 #[test]
 fn facility_agrees_on_worked_histories(rt: HostRuntime) -> Result<(), Fail> {
     for (steps, capacity) in [
-        (&one_waits()[..], 100),
-        (&one_aborts_over_another()[..], 100),
+        (&one_waits()[..], ROOM),
+        (&one_aborts_over_another()[..], ROOM),
         (&ends_find_room()[..], 4),
         (&ends_find_room()[..], 3),
-        (&refused_by_status()[..], 100),
+        (&refused_by_status()[..], ROOM),
     ] {
         assert!(rt; agree(rt.alloc(), steps, capacity)?);
     }
     Ok(())
 }
 
-/// A chain of permits from 7 to 8 and 9, and ends that break it.
+/// Returns steps with a chain of permits from 7 to 8 and 9, and ends that break it.
 fn chain_of_three() -> [Step; 22] {
     [
         initiate(7),
@@ -241,7 +254,7 @@ fn chain_of_three() -> [Step; 22] {
     ]
 }
 
-/// Refusals of permits, and permits between them.
+/// Returns permits that are refused, and permits between them.
 fn refused_permits() -> [Step; 10] {
     [
         permit(5, 5, &[Ob(4)], (true, false)),
@@ -260,14 +273,14 @@ fn refused_permits() -> [Step; 10] {
 #[test]
 fn facility_agrees_on_permits(rt: HostRuntime) -> Result<(), Fail> {
     for steps in [&chain_of_three()[..], &refused_permits()[..]] {
-        assert!(rt; agree(rt.alloc(), steps, 100)?);
+        assert!(rt; agree(rt.alloc(), steps, ROOM)?);
     }
     Ok(())
 }
 
-/// The steps that are drawn from a seed on, which goes on with them.
-fn generated(seed: &mut u64) -> [Step; 24] {
-    let mut steps = [begin(5); 24];
+/// Draws the steps of a script from a seed on, and leaves the seed of the next script.
+fn generated(seed: &mut u64) -> [Step; STEPS] {
+    let mut steps = [begin(5); STEPS];
     for step in steps.iter_mut() {
         *seed = next(*seed);
         *step = drawn(*seed);
@@ -279,9 +292,9 @@ fn generated(seed: &mut u64) -> [Step; 24] {
 fn facility_agrees_on_generated_scripts(rt: HostRuntime) -> Result<(), Fail> {
     let alloc = rt.alloc();
     let mut seed = 1;
-    for script in 0u64..2000 {
+    for script in 0..SCRIPTS {
         let steps = generated(&mut seed);
-        let capacity = if script % 3 == 0 { 10 } else { 100 };
+        let capacity = if script % 3 == 0 { LITTLE_ROOM } else { ROOM };
         assert!(rt; agree(alloc, &steps, capacity)?, "script {script}");
     }
     Ok(())

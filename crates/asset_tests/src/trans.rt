@@ -1,11 +1,14 @@
-//! Each public call, on worked values.
+//! Each public call on worked values, and what is left if memory runs out.
 
 use asset_names::{End, NoMemory, Status, Txn};
 use asset_trans::Trans;
 use std::alloc::Global;
 use std::test::Fail;
 
-/// Initiates a transaction that is Unknown, and says whether it was.
+/// How many transactions are initiated if memory runs out once.
+const COUNT: u64 = 20;
+
+/// Initiates a transaction if it is Unknown, and returns whether it was.
 pub(crate) fn initiate(trans: &mut Trans, t: Txn, parent: Option<Txn>) -> Result<bool, NoMemory> {
     match trans.status(t) {
         Status::Unknown => {
@@ -16,7 +19,7 @@ pub(crate) fn initiate(trans: &mut Trans, t: Txn, parent: Option<Txn>) -> Result
     }
 }
 
-/// Initiates as `initiate` does. Where memory runs out, nothing has changed, and the same call is made again.
+/// Initiates as `initiate` does. If memory runs out, nothing has changed, and the same call is made again.
 fn initiate_again(trans: &mut Trans, t: Txn, parent: Option<Txn>) -> Result<bool, NoMemory> {
     let before = (trans.owed(), trans.live_count());
     match initiate(trans, t, parent) {
@@ -32,14 +35,14 @@ fn initiate_again(trans: &mut Trans, t: Txn, parent: Option<Txn>) -> Result<bool
     }
 }
 
-/// A table with one transaction, which is Initiated.
+/// Returns a table with one transaction, which is Initiated.
 fn with_one(alloc: Global, t: Txn, parent: Option<Txn>) -> Result<Trans, NoMemory> {
     let mut trans = Trans::new(alloc);
     initiate_again(&mut trans, t, parent)?;
     Ok(trans)
 }
 
-/// Begins a transaction that is Initiated, and says whether it was.
+/// Begins a transaction if it is Initiated, and returns whether it was.
 pub(crate) fn begin(trans: &mut Trans, t: Txn) -> bool {
     match trans.status(t) {
         Status::Initiated => {
@@ -50,7 +53,7 @@ pub(crate) fn begin(trans: &mut Trans, t: Txn) -> bool {
     }
 }
 
-/// Completes a transaction that is Running, and says whether it was.
+/// Completes a transaction if it is Running, and returns whether it was.
 pub(crate) fn complete(trans: &mut Trans, t: Txn) -> bool {
     match trans.status(t) {
         Status::Running => {
@@ -61,7 +64,7 @@ pub(crate) fn complete(trans: &mut Trans, t: Txn) -> bool {
     }
 }
 
-/// Ends a transaction that is live, and says whether it was.
+/// Ends a transaction if it is live, and returns whether it was.
 pub(crate) fn end(trans: &mut Trans, t: Txn, how: End) -> bool {
     if trans.status(t).is_live() {
         trans.end(t, how);
@@ -71,12 +74,12 @@ pub(crate) fn end(trans: &mut Trans, t: Txn, how: End) -> bool {
     }
 }
 
-/// Whether a transaction has this status, and so much is owed to so many live ones.
+/// Returns whether `t` has this status, and `live` transactions are owed `owed` entries.
 pub(crate) fn shows(trans: &Trans, t: u64, status: Status, owed: usize, live: usize) -> bool {
     trans.status(Txn(t)) == status && trans.owed() == owed && trans.live_count() == live
 }
 
-/// Whether each change of the one transaction, 7, is shown, to its commit.
+/// Returns whether each change of the one transaction, 7, is shown, up to its commit.
 fn changes_are_shown(trans: &mut Trans) -> bool {
     shows(trans, 7, Status::Initiated, 2, 1)
         && begin(trans, Txn(7))
@@ -91,13 +94,13 @@ fn changes_are_shown(trans: &mut Trans) -> bool {
 #[test]
 fn statuses_and_what_is_owed(rt: HostRuntime) -> Result<(), Fail> {
     let mut trans = with_one(rt.alloc(), Txn(7), None)?;
-    let told = changes_are_shown(&mut trans);
+    let shown = changes_are_shown(&mut trans);
     drop(trans);
-    assert!(rt; told);
+    assert!(rt; shown);
     Ok(())
 }
 
-/// Whether 8 has its parent, 7, which is no transaction, and can abort.
+/// Returns whether 8 has its parent, 7, which is no transaction, and can abort.
 fn parent_stands(trans: &mut Trans) -> bool {
     trans.parent(Txn(8)) == Some(Txn(7))
         && trans.parent(Txn(7)) == None
@@ -109,18 +112,18 @@ fn parent_stands(trans: &mut Trans) -> bool {
 #[test]
 fn parent_is_recorded(rt: HostRuntime) -> Result<(), Fail> {
     let mut trans = with_one(rt.alloc(), Txn(8), Some(Txn(7)))?;
-    let told = parent_stands(&mut trans);
+    let recorded = parent_stands(&mut trans);
     drop(trans);
-    assert!(rt; told);
+    assert!(rt; recorded);
     Ok(())
 }
 
-/// Whether 20 transactions are initiated, one after another, and none twice.
-fn twenty_are_initiated(trans: &mut Trans) -> bool {
+/// Returns whether `COUNT` transactions are initiated, one after another, and none twice.
+fn all_are_initiated(trans: &mut Trans) -> bool {
     let mut alike = true;
-    for n in 0..20 {
-        alike = initiate_again(trans, Txn(n), None) == Ok(true)
-            && trans.status(Txn(n)) == Status::Initiated
+    for t in 0..COUNT {
+        alike = initiate_again(trans, Txn(t), None) == Ok(true)
+            && trans.status(Txn(t)) == Status::Initiated
             && alike;
     }
     alike
@@ -129,9 +132,9 @@ fn twenty_are_initiated(trans: &mut Trans) -> bool {
 }
 
 #[test]
-fn want_of_memory_changes_nothing(rt: HostRuntime) {
+fn out_of_memory_changes_nothing(rt: HostRuntime) {
     let mut trans = Trans::new(rt.alloc());
-    let told = twenty_are_initiated(&mut trans);
+    let initiated = all_are_initiated(&mut trans);
     drop(trans);
-    assert!(rt; told);
+    assert!(rt; initiated);
 }

@@ -32,9 +32,12 @@ pub(crate) fn pair(side: Side, t: u64) -> (u64, u64) {
 
 /// Adds a permit to read and write one object.
 fn add(permits: &mut Permits, giver: u64, taker: u64, x: u64) -> Result<(), NoMemory> {
-    match (ObList::of(&[Ob(x)]), Ops::new(true, true)) {
-        (Ok(list), Some(ops)) => permits.add(Txn(giver), Txn(taker), ObSet::Listed(list), ops),
-        _ => Err(NoMemory),
+    match ObList::of(&[Ob(x)]) {
+        Ok(list) => {
+            let ops = Ops::only(Op::Read).with(Op::Write);
+            permits.add(Txn(giver), Txn(taker), ObSet::Listed(list), ops)
+        }
+        Err(_) => Err(NoMemory),
     }
 }
 
