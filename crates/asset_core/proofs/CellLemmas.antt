@@ -1,12 +1,12 @@
 -- The cell of an object, as names end and as it is shown.
 use Rattle.std.proofs.Common.{◌≡◌, ℕ, Bool, true, false, cond, not, eqb, List, [], ◌∷◌, refl, ap, Some, None}
 use Rattle.std.specs.Prelude.{ℤ, pos, Option, option_map, is_some, unwrap_or, ◌&&◌}
-use Rattle.std.proofs.lemmas.Bool.{eqb-true}
 use Rattle.asset_names.specs.declared.statuses.End.{End}
 use Rattle.asset_names.specs.declared.statuses.End.TheVariants as End'
 use Rattle.asset_names.specs.declared.steps.Step.{Step}
 use Rattle.asset_names.specs.Steps.{Opening}
 use Rattle.asset_names.specs.Endings.{end_of}
+use Rattle.asset_names.proofs.EndLemmas.{Ending}
 use Rattle.asset_names.specs.Operations.{Use, Operation, operations, opening_at, opening_value, exists, value_after, after_use, stands, was_aborted, value, value_if_any}
 use Rattle.asset_names.specs.Operations.Use.{reads, writes}
 use Rattle.asset_objects.specs.Cells.{Cell, fresh, shown, newest_or, written, undone, settled, settled_value, newer}
@@ -22,55 +22,49 @@ unfolding cell_after
 cell_same ends later same x first [] = refl
 cell_same ends later same x first (o ∷ older) = rw (same o.owner, cell_same ends later same x first older)
 
--- one more write of a name that aborts
-undone_write : (t u : ℕ) (v : ℤ) (older later : Cell) (same : Bool) → eqb u t ≡ same → (end ended : Option End) → ended ≡ cond same (Some End'.Aborted) end → (same ≡ true → end ≡ None)
-    → later ≡ undone (is_name t) older → placed ended u v later ≡ undone (is_name t) (placed end u v older)
+-- one more write, if its owner may be one of those who abort
+undone_write : (test : ℕ → Bool) (u : ℕ) (v : ℤ) (older later : Cell) (gone : Bool) → test u ≡ gone → (end ended : Option End) → ended ≡ cond gone (Some End'.Aborted) end → (gone ≡ true → end ≡ None)
+    → later ≡ undone test older → placed ended u v later ≡ undone test (placed end u v older)
 unfolding placed written undone fresh
-undone_write t u v older later true e end ended is alive ih = rw (is, alive refl, e) ih
-undone_write t u v older later false e (Some End'.Committed) ended is alive ih = rw is refl
-undone_write t u v older later false e (Some End'.Aborted) ended is alive ih = rw is ih
-undone_write t u v older later false e None ended is alive ih = rw (is, e, ih) refl
+undone_write test u v older later true e end ended is alive ih = rw (is, alive refl, e) ih
+undone_write test u v older later false e (Some End'.Committed) ended is alive ih = rw is refl
+undone_write test u v older later false e (Some End'.Aborted) ended is alive ih = rw is ih
+undone_write test u v older later false e None ended is alive ih = rw (is, e, ih) refl
 
--- one more write of a name that commits
-settled_write : (t u : ℕ) (v : ℤ) (older later : Cell) (same : Bool) → eqb u t ≡ same → (end ended : Option End) → ended ≡ cond same (Some End'.Committed) end → (same ≡ true → end ≡ None)
-    → later ≡ settled (is_name t) older → placed ended u v later ≡ settled (is_name t) (placed end u v older)
+-- one more write, if its owner may be one of those who commit
+settled_write : (test : ℕ → Bool) (u : ℕ) (v : ℤ) (older later : Cell) (gone : Bool) → test u ≡ gone → (end ended : Option End) → ended ≡ cond gone (Some End'.Committed) end → (gone ≡ true → end ≡ None)
+    → later ≡ settled test older → placed ended u v later ≡ settled test (placed end u v older)
 unfolding placed written settled settled_value newer fresh
-settled_write t u v older later true e end ended is alive ih = rw (is, alive refl, e) refl
-settled_write t u v older later false e (Some End'.Committed) ended is alive ih = rw is refl
-settled_write t u v older later false e (Some End'.Aborted) ended is alive ih = rw is ih
-settled_write t u v older later false e None ended is alive ih = rw (is, e, ih) refl
+settled_write test u v older later true e end ended is alive ih = rw (is, alive refl, e) refl
+settled_write test u v older later false e (Some End'.Committed) ended is alive ih = rw is refl
+settled_write test u v older later false e (Some End'.Aborted) ended is alive ih = rw is ih
+settled_write test u v older later false e None ended is alive ih = rw (is, e, ih) refl
 
--- the cell after a live name has aborted
-pub cell_undone : (t : ℕ) (ends later : ℕ → Option End) → ends t ≡ None → ((n : ℕ) → later n ≡ cond (eqb n t) (Some End'.Aborted) (ends n))
-    → (x : ℕ) (first : ℤ) (os : List Operation) → cell_after later x first os ≡ undone (is_name t) (cell_after ends x first os)
+-- the cell after some live transactions have aborted
+pub cell_undone : (test : ℕ → Bool) (ends later : ℕ → Option End) → ((n : ℕ) → test n ≡ true → ends n ≡ None) → Ending test End'.Aborted ends later
+    → (x : ℕ) (first : ℤ) (os : List Operation) → cell_after later x first os ≡ undone test (cell_after ends x first os)
 unfolding cell_after used fresh undone
-cell_undone t ends later alive is x first [] = refl
-cell_undone t ends later alive is x first (o ∷ older) = go (eqb o.object x) o.use_of (cell_undone t ends later alive is x first older) where
-  alive_as : (u : ℕ) → eqb u t ≡ true → ends u ≡ None
-  alive_as u e = rw (eqb-true u t e) alive
-
-  go : (here : Bool) (act : Use) → cell_after later x first older ≡ undone (is_name t) (cell_after ends x first older)
+cell_undone test ends later alive is x first [] = refl
+cell_undone test ends later alive is x first (o ∷ older) = go (eqb o.object x) o.use_of (cell_undone test ends later alive is x first older) where
+  go : (here : Bool) (act : Use) → cell_after later x first older ≡ undone test (cell_after ends x first older)
       → cond here (used (later o.owner) o.owner act (cell_after later x first older)) (cell_after later x first older)
-      ≡ undone (is_name t) (cond here (used (ends o.owner) o.owner act (cell_after ends x first older)) (cell_after ends x first older))
+      ≡ undone test (cond here (used (ends o.owner) o.owner act (cell_after ends x first older)) (cell_after ends x first older))
   go false act ih = ih
   go true reads ih = ih
-  go true (writes v) ih = undone_write t o.owner v _ _ (eqb o.owner t) refl (ends o.owner) (later o.owner) (is o.owner) (alive_as o.owner) ih
+  go true (writes v) ih = undone_write test o.owner v _ _ (test o.owner) refl (ends o.owner) (later o.owner) (is o.owner) (alive o.owner) ih
 
--- the cell after a live name has committed
-pub cell_settled : (t : ℕ) (ends later : ℕ → Option End) → ends t ≡ None → ((n : ℕ) → later n ≡ cond (eqb n t) (Some End'.Committed) (ends n))
-    → (x : ℕ) (first : ℤ) (os : List Operation) → cell_after later x first os ≡ settled (is_name t) (cell_after ends x first os)
+-- the cell after some live transactions have committed
+pub cell_settled : (test : ℕ → Bool) (ends later : ℕ → Option End) → ((n : ℕ) → test n ≡ true → ends n ≡ None) → Ending test End'.Committed ends later
+    → (x : ℕ) (first : ℤ) (os : List Operation) → cell_after later x first os ≡ settled test (cell_after ends x first os)
 unfolding cell_after used fresh settled settled_value newer
-cell_settled t ends later alive is x first [] = refl
-cell_settled t ends later alive is x first (o ∷ older) = go (eqb o.object x) o.use_of (cell_settled t ends later alive is x first older) where
-  alive_as : (u : ℕ) → eqb u t ≡ true → ends u ≡ None
-  alive_as u e = rw (eqb-true u t e) alive
-
-  go : (here : Bool) (act : Use) → cell_after later x first older ≡ settled (is_name t) (cell_after ends x first older)
+cell_settled test ends later alive is x first [] = refl
+cell_settled test ends later alive is x first (o ∷ older) = go (eqb o.object x) o.use_of (cell_settled test ends later alive is x first older) where
+  go : (here : Bool) (act : Use) → cell_after later x first older ≡ settled test (cell_after ends x first older)
       → cond here (used (later o.owner) o.owner act (cell_after later x first older)) (cell_after later x first older)
-      ≡ settled (is_name t) (cond here (used (ends o.owner) o.owner act (cell_after ends x first older)) (cell_after ends x first older))
+      ≡ settled test (cond here (used (ends o.owner) o.owner act (cell_after ends x first older)) (cell_after ends x first older))
   go false act ih = ih
   go true reads ih = ih
-  go true (writes v) ih = settled_write t o.owner v _ _ (eqb o.owner t) refl (ends o.owner) (later o.owner) (is o.owner) (alive_as o.owner) ih
+  go true (writes v) ih = settled_write test o.owner v _ _ (test o.owner) refl (ends o.owner) (later o.owner) (is o.owner) (alive o.owner) ih
 
 -- a cell shows the value of the history
 cell_shown : (steps : List Step) (x : ℕ) (first : ℤ) (os : List Operation) → shown (cell_after (end_of steps) x first os) ≡ value_after (stands steps) x first os

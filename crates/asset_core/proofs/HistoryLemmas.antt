@@ -8,7 +8,6 @@ use Rattle.asset_names.specs.declared.names.Txn.{Txn}
 use Rattle.asset_names.specs.declared.names.Ob.{Ob}
 use Rattle.asset_names.specs.declared.operations.Op.{Op}
 use Rattle.asset_names.specs.declared.statuses.End.{End}
-use Rattle.asset_names.specs.declared.statuses.End.TheVariants as End'
 use Rattle.asset_names.specs.declared.steps.Step.{Step}
 use Rattle.asset_names.specs.declared.steps.Step.TheVariants.{Initiate, Begin, Read, Write, Complete, Commit, Abort, WaitFor}
 use Rattle.asset_names.specs.Arrows.{lists}
@@ -16,11 +15,12 @@ use Rattle.asset_names.specs.Steps.{Opening, initiated, initiated_by}
 use Rattle.asset_names.specs.Endings.{live, end_of, ended_by}
 use Rattle.asset_names.specs.Operations.{Use, Operation, operations, operated, opening_at, op_of, same_op, holds, permits, permitted_by}
 use Rattle.asset_names.specs.Orderly.{IsOrderly}
-use Rattle.asset_names.proofs.LiveLemmas.{live_initiate, live_parts, end_commit, end_abort}
-use Rattle.asset_names.proofs.Common.{eqb-flip, cond_same, option_or_none}
+use Rattle.asset_names.proofs.LiveLemmas.{live_initiate}
+use Rattle.asset_names.proofs.EndLemmas.{live_parts, commits, aborts, commits_live, aborts_live, commit_ends, abort_ends}
+use Rattle.asset_names.proofs.Common.{cond_same, option_or_none}
 use Rattle.asset_objects.specs.Cells.{change_at, change_each, written, undone, settled}
 use Rattle.asset_core.specs.Shows.{placed, used, cell_after, cell_of}
-use Rattle.asset_core.proofs.CellLemmas.{is_name, cell_same, cell_undone, cell_settled}
+use Rattle.asset_core.proofs.CellLemmas.{cell_same, cell_undone, cell_settled}
 
 -- filters by tests that agree on what is listed
 pub filter_same : (p q : ℕ → Bool) (names : List ℕ) → ((n : ℕ) → lists names n ≡ true → p n ≡ q n) → filter p names ≡ filter q names
@@ -168,17 +168,17 @@ holds_operation step steps u y act applied names ends alive t x op = rw (applied
   go false e = grind arith
   go true e = rw (subst (λ m. live steps m ≡ true) (eqb-true u t e) alive) refl
 
--- one name ends, and holds nothing any more
-pub holds_end : (step : Step) (steps : List Step) (u : ℕ) → operations (step ∷ steps) ≡ operations steps → ((n : ℕ) → live (step ∷ steps) n ≡ (not (eqb u n) && live steps n))
-    → (t x : ℕ) (op : Op) → holds (step ∷ steps) t x op ≡ (not (eqb u t) && holds steps t x op)
+-- some end, and hold nothing any more
+pub holds_end : (step : Step) (steps : List Step) (test : ℕ → Bool) → operations (step ∷ steps) ≡ operations steps → ((n : ℕ) → live (step ∷ steps) n ≡ (not (test n) && live steps n))
+    → (t x : ℕ) (op : Op) → holds (step ∷ steps) t x op ≡ (not (test t) && holds steps t x op)
 unfolding holds
-holds_end step steps u applied alive t x op = rw (applied, alive t) (grind arith)
+holds_end step steps test applied alive t x op = rw (applied, alive t) (grind arith)
 
-pub enrolled_end : (later steps : List Step) (u : ℕ) → initiated later ≡ initiated steps → ((n : ℕ) → live later n ≡ (not (eqb u n) && live steps n))
-    → filter (λ n. not (eqb n u)) (filter (live steps) (reverse (initiated steps))) ≡ filter (live later) (reverse (initiated later))
-enrolled_end later steps u names alive =
-    rw names (filter_twice (λ n. not (eqb n u)) (live steps) (reverse (initiated steps))
-    ∙ filter_same (λ n. not (eqb n u) && live steps n) (live later) (reverse (initiated steps)) (λ n listed. rw (eqb-flip n u) (sym (alive n))))
+pub enrolled_end : (later steps : List Step) (test : ℕ → Bool) → initiated later ≡ initiated steps → ((n : ℕ) → live later n ≡ (not (test n) && live steps n))
+    → filter (λ n. not (test n)) (filter (live steps) (reverse (initiated steps))) ≡ filter (live later) (reverse (initiated later))
+enrolled_end later steps test names alive =
+    rw names (filter_twice (λ n. not (test n)) (live steps) (reverse (initiated steps))
+    ∙ filter_same (λ n. not (test n) && live steps n) (live later) (reverse (initiated steps)) (λ n listed. sym (alive n)))
 
 -- reads and writes end nobody
 pub read_ends : (u : Txn) (y : Ob) (steps : List Step) (n : ℕ) → end_of (Read u y ∷ steps) n ≡ end_of steps n
@@ -225,25 +225,23 @@ cell_write opening u y w steps x alive = go (eqb y.0 x) (opening_at opening x) w
   go true (Some v) = rw (none, cell_same (end_of steps) (end_of (Write u y w ∷ steps)) ends x v (operations steps)) refl
   go false (Some v) = rw (cell_same (end_of steps) (end_of (Write u y w ∷ steps)) ends x v (operations steps)) refl
 
--- the cell of an object after a live name has ended
-pub cell_abort : (opening : Opening) (u : Txn) (steps : List Step) (x : ℕ) → live steps u.0 ≡ true
-    → change_each (undone (is_name u.0)) (cell_of opening steps) x ≡ cell_of opening (Abort u ∷ steps) x
+-- the cell of an object after an end
+pub cell_abort : (opening : Opening) (t : Txn) (steps : List Step) (x : ℕ) → change_each (undone (aborts steps t.0)) (cell_of opening steps) x ≡ cell_of opening (Abort t ∷ steps) x
 unfolding cell_of operations operated change_each
-cell_abort opening u steps x alive = go (opening_at opening x) where
-  ends : (n : ℕ) → end_of (Abort u ∷ steps) n ≡ cond (eqb n u.0) (Some End'.Aborted) (end_of steps n)
-  ends n = end_abort u steps n alive ∙ rw (eqb-flip u.0 n) refl
+cell_abort opening t steps x = go (opening_at opening x) where
+  alive : (n : ℕ) → aborts steps t.0 n ≡ true → end_of steps n ≡ None
+  alive n ends = (live_parts steps n (aborts_live steps t.0 n ends)).1
 
-  go : (first : Option ℤ) → option_map (undone (is_name u.0)) (option_map (λ v. cell_after (end_of steps) x v (operations steps)) first) ≡ option_map (λ v. cell_after (end_of (Abort u ∷ steps)) x v (operations steps)) first
+  go : (first : Option ℤ) → option_map (undone (aborts steps t.0)) (option_map (λ v. cell_after (end_of steps) x v (operations steps)) first) ≡ option_map (λ v. cell_after (end_of (Abort t ∷ steps)) x v (operations steps)) first
   go None = refl
-  go (Some v) = ap Some (sym (cell_undone u.0 (end_of steps) (end_of (Abort u ∷ steps)) (live_parts steps u.0 alive).1 ends x v (operations steps)))
+  go (Some v) = ap Some (sym (cell_undone (aborts steps t.0) (end_of steps) (end_of (Abort t ∷ steps)) alive (abort_ends t steps) x v (operations steps)))
 
-pub cell_commit : (opening : Opening) (u : Txn) (steps : List Step) (x : ℕ) → live steps u.0 ≡ true
-    → change_each (settled (is_name u.0)) (cell_of opening steps) x ≡ cell_of opening (Commit u ∷ steps) x
+pub cell_commit : (opening : Opening) (t : Txn) (steps : List Step) (x : ℕ) → change_each (settled (commits steps t.0)) (cell_of opening steps) x ≡ cell_of opening (Commit t ∷ steps) x
 unfolding cell_of operations operated change_each
-cell_commit opening u steps x alive = go (opening_at opening x) where
-  ends : (n : ℕ) → end_of (Commit u ∷ steps) n ≡ cond (eqb n u.0) (Some End'.Committed) (end_of steps n)
-  ends n = end_commit u steps n alive ∙ rw (eqb-flip u.0 n) refl
+cell_commit opening t steps x = go (opening_at opening x) where
+  alive : (n : ℕ) → commits steps t.0 n ≡ true → end_of steps n ≡ None
+  alive n ends = (live_parts steps n (commits_live steps t.0 n ends)).1
 
-  go : (first : Option ℤ) → option_map (settled (is_name u.0)) (option_map (λ v. cell_after (end_of steps) x v (operations steps)) first) ≡ option_map (λ v. cell_after (end_of (Commit u ∷ steps)) x v (operations steps)) first
+  go : (first : Option ℤ) → option_map (settled (commits steps t.0)) (option_map (λ v. cell_after (end_of steps) x v (operations steps)) first) ≡ option_map (λ v. cell_after (end_of (Commit t ∷ steps)) x v (operations steps)) first
   go None = refl
-  go (Some v) = ap Some (sym (cell_settled u.0 (end_of steps) (end_of (Commit u ∷ steps)) (live_parts steps u.0 alive).1 ends x v (operations steps)))
+  go (Some v) = ap Some (sym (cell_settled (commits steps t.0) (end_of steps) (end_of (Commit t ∷ steps)) alive (commit_ends t steps) x v (operations steps)))

@@ -121,22 +121,22 @@ carries_granted u y o table t x op different = go (eqb y.0 x) refl where
   go true e = rw (granted_carries u t o op (table.locks_on x) (subst (λ n. HaveOwners (table.locks_on n)) (eqb-true y.0 x e) different)) (grind arith)
 
 -- who carries what after a release
-released_carries : (u t : ℕ) (op : Op) (locks : List Lock) → list_any (carries_op t op) (filter (λ (lock : Lock). not (eqb lock.owner u)) locks) ≡ (not (eqb u t) && list_any (carries_op t op) locks)
+released_carries : (test : ℕ → Bool) (t : ℕ) (op : Op) (locks : List Lock) → list_any (carries_op t op) (filter (λ (lock : Lock). not (test lock.owner)) locks) ≡ (not (test t) && list_any (carries_op t op) locks)
 unfolding is_of
-released_carries u t op [] = grind arith
-released_carries u t op (lock ∷ locks) = go (eqb lock.owner u) refl (eqb lock.owner t) refl (released_carries u t op locks) where
-  go : (gone : Bool) → eqb lock.owner u ≡ gone → (own : Bool) → eqb lock.owner t ≡ own
-      → list_any (carries_op t op) (filter (λ (l : Lock). not (eqb l.owner u)) locks) ≡ (not (eqb u t) && list_any (carries_op t op) locks)
-      → list_any (carries_op t op) (cond (not gone) (lock ∷ filter (λ (l : Lock). not (eqb l.owner u)) locks) (filter (λ (l : Lock). not (eqb l.owner u)) locks))
-      ≡ (not (eqb u t) && ((own && has_op lock.ops op) || list_any (carries_op t op) locks))
+released_carries test t op [] = grind arith
+released_carries test t op (lock ∷ locks) = go (test lock.owner) refl (eqb lock.owner t) refl (released_carries test t op locks) where
+  go : (gone : Bool) → test lock.owner ≡ gone → (own : Bool) → eqb lock.owner t ≡ own
+      → list_any (carries_op t op) (filter (λ (l : Lock). not (test l.owner)) locks) ≡ (not (test t) && list_any (carries_op t op) locks)
+      → list_any (carries_op t op) (cond (not gone) (lock ∷ filter (λ (l : Lock). not (test l.owner)) locks) (filter (λ (l : Lock). not (test l.owner)) locks))
+      ≡ (not (test t) && ((own && has_op lock.ops op) || list_any (carries_op t op) locks))
   go true e false w ih = ih
-  go true e true w ih = rw (ih, eq-eqb u t (sym (eqb-true lock.owner u e) ∙ eqb-true lock.owner t w)) refl
+  go true e true w ih = rw (ih, sym (ap test (eqb-true lock.owner t w)) ∙ e) refl
   go false e false w ih = rw (w, ih) refl
-  go false e true w ih = rw (w, ih, ne_eqb u t (λ same. eqb-false lock.owner u e (eqb-true lock.owner t w ∙ sym same))) refl
+  go false e true w ih = rw (w, ih, sym (ap test (eqb-true lock.owner t w)) ∙ e) refl
 
-pub carries_released : (u : ℕ) (table : LockTable) (t x : ℕ) (op : Op) → carries (release_in (λ n. eqb n u) table) t x op ≡ (not (eqb u t) && carries table t x op)
+pub carries_released : (test : ℕ → Bool) (table : LockTable) (t x : ℕ) (op : Op) → carries (release_in test table) t x op ≡ (not (test t) && carries table t x op)
 unfolding carries release_in
-carries_released u table t x op = released_carries u t op (table.locks_on x)
+carries_released test table t x op = released_carries test t op (table.locks_on x)
 
 pub carries_enrolled : (u : ℕ) (table : LockTable) (t x : ℕ) (op : Op) → carries (enrol_in u table) t x op ≡ carries table t x op
 unfolding carries enrol_in
@@ -169,15 +169,15 @@ pub names_enrolled : (u : ℕ) (table : LockTable) → names_in (enrol_in u tabl
 unfolding names_in enrol_in
 names_enrolled u table = map-append (λ (who : Enrolled). who.name) table.enrolled _
 
-pub names_released : (u : ℕ) (table : LockTable) → names_in (release_in (λ n. eqb n u) table) ≡ filter (λ n. not (eqb n u)) (names_in table)
+pub names_released : (test : ℕ → Bool) (table : LockTable) → names_in (release_in test table) ≡ filter (λ n. not (test n)) (names_in table)
 unfolding names_in release_in
-names_released u table = go table.enrolled where
-  go : (everyone : List Enrolled) → map (λ (who : Enrolled). who.name) (filter (λ (who : Enrolled). not (eqb who.name u)) everyone) ≡ filter (λ n. not (eqb n u)) (map (λ (who : Enrolled). who.name) everyone)
+names_released test table = go table.enrolled where
+  go : (everyone : List Enrolled) → map (λ (who : Enrolled). who.name) (filter (λ (who : Enrolled). not (test who.name)) everyone) ≡ filter (λ n. not (test n)) (map (λ (who : Enrolled). who.name) everyone)
   go [] = refl
-  go (who ∷ everyone) = by_name (eqb who.name u) (go everyone) where
-    by_name : (gone : Bool) → map (λ (h : Enrolled). h.name) (filter (λ (h : Enrolled). not (eqb h.name u)) everyone) ≡ filter (λ n. not (eqb n u)) (map (λ (h : Enrolled). h.name) everyone)
-        → map (λ (h : Enrolled). h.name) (cond (not gone) (who ∷ filter (λ (h : Enrolled). not (eqb h.name u)) everyone) (filter (λ (h : Enrolled). not (eqb h.name u)) everyone))
-        ≡ cond (not gone) (who.name ∷ filter (λ n. not (eqb n u)) (map (λ (h : Enrolled). h.name) everyone)) (filter (λ n. not (eqb n u)) (map (λ (h : Enrolled). h.name) everyone))
+  go (who ∷ everyone) = by_name (test who.name) (go everyone) where
+    by_name : (gone : Bool) → map (λ (h : Enrolled). h.name) (filter (λ (h : Enrolled). not (test h.name)) everyone) ≡ filter (λ n. not (test n)) (map (λ (h : Enrolled). h.name) everyone)
+        → map (λ (h : Enrolled). h.name) (cond (not gone) (who ∷ filter (λ (h : Enrolled). not (test h.name)) everyone) (filter (λ (h : Enrolled). not (test h.name)) everyone))
+        ≡ cond (not gone) (who.name ∷ filter (λ n. not (test n)) (map (λ (h : Enrolled). h.name) everyone)) (filter (λ n. not (test n)) (map (λ (h : Enrolled). h.name) everyone))
     by_name true ih = ih
     by_name false ih = ap (λ ns. who.name ∷ ns) ih
 

@@ -17,6 +17,8 @@ use Rattle.asset_names.specs.Steps.{Opening, takes_effect, initiated, initiated_
 use Rattle.asset_names.specs.Endings.{live, is_live_status}
 use Rattle.asset_names.specs.Answers.{outcome_takes_effect}
 use Rattle.asset_names.proofs.LiveLemmas.{live_initiate, live_commit, live_abort}
+use Rattle.asset_names.proofs.EndLemmas.{commits, aborts, commits_nobody, aborts_nobody}
+use Rattle.asset_names.proofs.ClassLemmas.{commits_alone, aborts_alone}
 use Rattle.asset_names.proofs.Common.{eqb-flip}
 use Rattle.asset_locks.specs.Valid.{LockRows, lock_table}
 use Rattle.asset_locks.specs.LockTable as Locks
@@ -134,21 +136,21 @@ new_unchanged (Commit t) reply none = refl
 new_unchanged (Abort t) reply none = refl
 new_unchanged (WaitFor t) reply none = refl
 
--- the pending_requests after a step that is recorded and without effect
+-- the pending requests after a step that is recorded and without effect
 pub askers_refused : (opening : Opening) (steps : List Step) (tables : Tables) (step : Step) (reply : Reply) → Shows opening steps (values_of tables) → takes_effect step reply ≡ false
     → filter (λ (asker : Pending). live steps asker.name) (map (asker_after step (Answer reply)) (pending_in tables.locks) ++ new_asker step (Answer reply)) ≡ pending_in tables.locks
 askers_refused opening steps tables step reply stand none =
     nobody_ended steps steps step (Answer reply) (pending_in tables.locks) (asker_live opening steps tables stand) (new_unchanged step reply none)
     ∙ same_askers (asker_after step (Answer reply)) (pending_in tables.locks) (λ asker. asker_unchanged step reply asker none)
 
--- the pending_requests after a change of one row
+-- the pending requests after a change of one row
 askers_changed : (t : ℕ) (change : Locks.Enrolled → Locks.Enrolled) (after : Pending → Pending) (everyone : List Locks.Enrolled)
     → ((who : Locks.Enrolled) → asker_of (cond (eqb who.name t) (change who) who) ≡ after (asker_of who)) → map asker_of (Locks.change_enrolled t change everyone) ≡ map after (map asker_of everyone)
 unfolding Locks.change_enrolled
 askers_changed t change after [] same = refl
 askers_changed t change after (who ∷ everyone) same = rw (same who, askers_changed t change after everyone same)
 
--- the pending_requests that a waiting request leaves, and those that a grant leaves
+-- the pending requests that a waiting request leaves, and those that a grant leaves
 waiting_is : (t : ℕ) (x : Ob) (op : Op) (step : Step) (who : Locks.Enrolled) → asker_of (cond (eqb who.name t) (Locks.enrolled_waiting x op who) who)
     ≡ cond (eqb (asker_of who).name t) (record (asker_of who) { request = Some (x, op) }) (asker_of who)
 unfolding asker_of Locks.enrolled_waiting
@@ -177,7 +179,7 @@ waiting_askers (Commit t) tables = same_askers _ _ (λ asker. refl)
 waiting_askers (Abort t) tables = same_askers _ _ (λ asker. refl)
 waiting_askers (WaitFor t) tables = same_askers _ _ (λ asker. refl)
 
--- the pending_requests after a request that waits
+-- the pending requests after a request that waits
 pub askers_waiting : (opening : Opening) (steps : List Step) (tables : Tables) (step : Step) → Shows opening steps (values_of tables)
     → filter (λ (asker : Pending). live steps asker.name) (map (asker_after step Wait) (pending_in tables.locks) ++ new_asker step Wait) ≡ pending_requests (locks_waiting step tables)
 unfolding new_asker outcome_takes_effect
@@ -197,55 +199,50 @@ askers_waiting opening steps tables step stand =
       go : (s : Step) → map (asker_after s Wait) (pending_in tables.locks) ≡ pending_requests (locks_waiting s tables)
       go s = waiting_askers s tables
 
--- the asker that a grant leaves its asker
+-- what a grant leaves pending for its transaction
 granted_asker : (step : Step) (t : ℕ) (x : Ob) (op : Op) (reply : Reply) (asker : Pending) → takes_effect step reply ≡ true
     → cond (eqb asker.name t) (record asker { request = request_after step x op (Answer reply) asker.request }) asker ≡ cond (eqb asker.name t) (record asker { request = None }) asker
 unfolding request_after
 granted_asker step t x op reply asker carried = rw carried refl
 
--- the pending_requests without those of one name
-askers_without : (t : ℕ) (everyone : List Locks.Enrolled) → map asker_of (filter (λ (who : Locks.Enrolled). not (eqb who.name t)) everyone) ≡ filter (λ (asker : Pending). not (eqb asker.name t)) (map asker_of everyone)
+-- the pending requests without those of some
+askers_without : (test : ℕ → Bool) (everyone : List Locks.Enrolled) → map asker_of (filter (λ (who : Locks.Enrolled). not (test who.name)) everyone) ≡ filter (λ (asker : Pending). not (test asker.name)) (map asker_of everyone)
 unfolding asker_of
-askers_without t [] = refl
-askers_without t (who ∷ everyone) = go (eqb who.name t) (askers_without t everyone) where
-  go : (gone : Bool) → map asker_of (filter (λ (h : Locks.Enrolled). not (eqb h.name t)) everyone) ≡ filter (λ (asker : Pending). not (eqb asker.name t)) (map asker_of everyone)
-      → map asker_of (cond (not gone) (who ∷ filter (λ (h : Locks.Enrolled). not (eqb h.name t)) everyone) (filter (λ (h : Locks.Enrolled). not (eqb h.name t)) everyone))
-      ≡ cond (not gone) (asker_of who ∷ filter (λ (asker : Pending). not (eqb asker.name t)) (map asker_of everyone)) (filter (λ (asker : Pending). not (eqb asker.name t)) (map asker_of everyone))
+askers_without test [] = refl
+askers_without test (who ∷ everyone) = go (test who.name) (askers_without test everyone) where
+  go : (gone : Bool) → map asker_of (filter (λ (h : Locks.Enrolled). not (test h.name)) everyone) ≡ filter (λ (asker : Pending). not (test asker.name)) (map asker_of everyone)
+      → map asker_of (cond (not gone) (who ∷ filter (λ (h : Locks.Enrolled). not (test h.name)) everyone) (filter (λ (h : Locks.Enrolled). not (test h.name)) everyone))
+      ≡ cond (not gone) (asker_of who ∷ filter (λ (asker : Pending). not (test asker.name)) (map asker_of everyone)) (filter (λ (asker : Pending). not (test asker.name)) (map asker_of everyone))
   go true ih = ih
   go false ih = ap (λ ps. asker_of who ∷ ps) ih
 
--- filters of pending_requests by tests that agree on their names
+-- filters of pending requests by tests that agree on their names
 askers_alike : (p q : ℕ → Bool) (ps : List Pending) → ((n : ℕ) → lists (named ps) n ≡ true → p n ≡ q n) → filter (λ (asker : Pending). p asker.name) ps ≡ filter (λ (asker : Pending). q asker.name) ps
 unfolding lists
 askers_alike p q [] same = refl
 askers_alike p q (asker ∷ ps) same =
     rw (same asker.name (or_left _ _ (eq-eqb asker.name asker.name refl)), askers_alike p q ps (λ n listed. same n (or_right _ _ listed)))
 
--- a name that was live has ended: its asker has gone
-ended_askers : (opening : Opening) (steps : List Step) (step : Step) (tables : Tables) (t : ℕ) → Shows opening steps (values_of tables) → ((n : ℕ) → live (step ∷ steps) n ≡ (not (eqb t n) && live steps n))
+-- after an end the pending requests of those whom it ends have gone
+ended_askers : (opening : Opening) (steps : List Step) (step : Step) (tables : Tables) (t : ℕ) (test : ℕ → Bool) → Shows opening steps (values_of tables) → ((n : ℕ) → live (step ∷ steps) n ≡ (not (test n) && live steps n))
+    → ((n : ℕ) → live steps t ≡ true → test n ≡ eqb t n) → ((n : ℕ) → live steps t ≡ false → test n ≡ false)
     → filter (λ (asker : Pending). live (step ∷ steps) asker.name) (pending_in tables.locks) ≡ pending_requests (released tables t)
 unfolding pending_in released Locks.release_in
-ended_askers opening steps step tables t stand ends = go (is_live_status (status_in tables.trans t)) refl where
+ended_askers opening steps step tables t test stand ends alone nobody = go (is_live_status (status_in tables.trans t)) refl where
   ps : List Pending
   ps = pending_in tables.locks
-
-  not_here : (n : ℕ) → live steps t ≡ false → live steps n ≡ true → eqb t n ≡ false
-  not_here n dead alive = apart (eqb t n) refl where
-    apart : (b : Bool) → eqb t n ≡ b → b ≡ false
-    apart false e = refl
-    apart true e = absurd (false≢true (sym dead ∙ ap (live steps) (eqb-true t n e) ∙ alive))
 
   go : (alive : Bool) → is_live_status (status_in tables.trans t) ≡ alive
       → filter (λ (asker : Pending). live (step ∷ steps) asker.name) ps ≡ pending_requests (cond alive (Locks.release_in (λ n. eqb n t) (lock_table tables.locks)) (lock_table tables.locks))
   go true e =
-      askers_alike (live (step ∷ steps)) (λ n. not (eqb n t)) ps (λ n listed. ends n ∙ rw (asker_live opening steps tables stand n listed, eqb-flip t n) (grind arith))
-      ∙ sym (askers_without t (lock_table tables.locks).enrolled)
+      let alive = sym (live_shown opening steps _ _ _ _ t stand) ∙ e in
+      askers_alike (live (step ∷ steps)) (λ n. not (eqb n t)) ps (λ n listed. ends n ∙ rw (asker_live opening steps tables stand n listed, alone n alive, eqb-flip t n) (grind arith))
+      ∙ sym (askers_without (λ n. eqb n t) (lock_table tables.locks).enrolled)
   go false e =
-      all_stay (live (step ∷ steps)) ps (λ n listed.
-      let alive = asker_live opening steps tables stand n listed in
-      ends n ∙ rw (alive, not_here n (sym (live_shown opening steps _ _ _ _ t stand) ∙ e) alive) refl)
+      let dead = sym (live_shown opening steps _ _ _ _ t stand) ∙ e in
+      all_stay (live (step ∷ steps)) ps (λ n listed. ends n ∙ rw (nobody n dead, asker_live opening steps tables stand n listed) refl)
 
--- a new name has a asker at the end
+-- a new transaction has the last pending request, and it is empty
 initiate_askers : (opening : Opening) (steps : List Step) (tables : Tables) (t : Txn) (parent : Option Txn) (reply : Reply) → Shows opening steps (values_of tables) → takes_effect (Initiate t parent) reply ≡ true → lists (initiated steps) t.0 ≡ false
     → filter (λ (asker : Pending). live (Initiate t parent ∷ steps) asker.name) (map (asker_after (Initiate t parent) (Answer reply)) (pending_in tables.locks) ++ new_asker (Initiate t parent) (Answer reply)) ≡ pending_requests (Locks.enrol_in t.0 (lock_table tables.locks))
 unfolding new_asker outcome_takes_effect asker_after pending_in Locks.enrol_in asker_of lists
@@ -263,7 +260,7 @@ initiate_askers opening steps tables t parent reply stand carried new =
       known n (inl before) = or_right (eqb t.0 n) _ (asker_live opening steps tables stand n before)
       known n (inr here) = or_left _ (live steps n) here
 
--- a grant empties its asker's asker
+-- a grant leaves nothing pending for its transaction
 granted_askers : (step : Step) (t : ℕ) (x : Ob) (op : Op) (reply : Reply) (tables : Tables) → takes_effect step reply ≡ true
     → ((asker : Pending) → asker_after step (Answer reply) asker ≡ cond (eqb asker.name t) (record asker { request = request_after step x op (Answer reply) asker.request }) asker)
     → map (asker_after step (Answer reply)) (pending_in tables.locks) ≡ pending_requests (Locks.grant_in t x op (lock_table tables.locks))
@@ -272,7 +269,7 @@ granted_askers step t x op reply tables carried asked =
     sym (askers_changed t (Locks.enrolled_granted x (Locks.lock_of t ((lock_table tables.locks).locks_on x.0))) (asker_after step (Answer reply)) (lock_table tables.locks).enrolled
     (λ who. granted_is t x (Locks.lock_of t ((lock_table tables.locks).locks_on x.0)) who ∙ sym (asked (asker_of who) ∙ granted_asker step t x op reply (asker_of who) carried)))
 
--- the pending_requests after a step that took effect
+-- the pending requests after a step that took effect
 pub askers_carried : (opening : Opening) (steps : List Step) (tables : Tables) (step : Step) (reply : Reply) → Shows opening steps (values_of tables) → takes_effect step reply ≡ true
     → ((t : Txn) (parent : Option Txn) → step ≡ Initiate t parent → lists (initiated steps) t.0 ≡ false)
     → filter (λ (asker : Pending). live (step ∷ steps) asker.name) (map (asker_after step (Answer reply)) (pending_in tables.locks) ++ new_asker step (Answer reply)) ≡ pending_requests (locks_after step tables)
@@ -294,9 +291,9 @@ askers_carried opening steps tables (Permit giver taker obs ops) reply stand car
     nobody_ended (Permit giver taker obs ops ∷ steps) steps (Permit giver taker obs ops) (Answer reply) (pending_in tables.locks) (λ n listed. live_quiet (Permit giver taker obs ops ∷ steps) steps refl (permit_ends giver taker obs ops steps) n ∙ asker_live opening steps tables stand n listed) refl
     ∙ same_askers _ _ (λ asker. refl)
 askers_carried opening steps tables (Commit t) reply stand carried new =
-    ap (λ ps. filter (λ (asker : Pending). live (Commit t ∷ steps) asker.name) ps) (append-nil _ ∙ same_askers _ _ (λ asker. refl)) ∙ ended_askers opening steps (Commit t) tables t.0 stand (live_commit t steps)
+    ap (λ ps. filter (λ (asker : Pending). live (Commit t ∷ steps) asker.name) ps) (append-nil _ ∙ same_askers _ _ (λ asker. refl)) ∙ ended_askers opening steps (Commit t) tables t.0 (commits steps t.0) stand (live_commit t steps) (λ n. commits_alone steps t.0 n) (λ n. commits_nobody steps t.0 n)
 askers_carried opening steps tables (Abort t) reply stand carried new =
-    ap (λ ps. filter (λ (asker : Pending). live (Abort t ∷ steps) asker.name) ps) (append-nil _ ∙ same_askers _ _ (λ asker. refl)) ∙ ended_askers opening steps (Abort t) tables t.0 stand (live_abort t steps)
+    ap (λ ps. filter (λ (asker : Pending). live (Abort t ∷ steps) asker.name) ps) (append-nil _ ∙ same_askers _ _ (λ asker. refl)) ∙ ended_askers opening steps (Abort t) tables t.0 (aborts steps t.0) stand (live_abort t steps) (λ n. aborts_alone steps t.0 n) (λ n. aborts_nobody steps t.0 n)
 askers_carried opening steps tables (WaitFor t) reply stand carried new = absurd (false≢true carried)
 
 -- who waits for an object, by the table and by the pending_requests

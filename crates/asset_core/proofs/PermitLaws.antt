@@ -46,11 +46,11 @@ permitted_initiate t parent steps new orderly u n x op =
       go true e to f true h = absurd (false≢true (absent u e (orderly.permits_known u n x op h).0))
       go false e true f true h = absurd (false≢true (absent n f (orderly.permits_known u n x op h).1))
 
--- one name ends, and its permits go
-pub permitted_end : (later steps : List Step) (t : ℕ) → ((n : ℕ) → live later n ≡ (not (eqb t n) && live steps n)) → ((x : ℕ) (op : Op) → permits later x op ≡ permits steps x op)
-    → (u n x : ℕ) (op : Op) → permitted later u n x op ≡ (permitted steps u n x op && not (eqb u t) && not (eqb n t))
+-- some end, and their permits go
+pub permitted_end : (later steps : List Step) (test : ℕ → Bool) → ((n : ℕ) → live later n ≡ (not (test n) && live steps n)) → ((x : ℕ) (op : Op) → permits later x op ≡ permits steps x op)
+    → (u n x : ℕ) (op : Op) → permitted later u n x op ≡ (permitted steps u n x op && not (test u) && not (test n))
 unfolding permitted
-permitted_end later steps t alive arrows u n x op = rw (alive u, alive n, arrows x op, eqb-flip u t, eqb-flip n t) (grind arith)
+permitted_end later steps test alive arrows u n x op = rw (alive u, alive n, arrows x op) (grind arith)
 
 -- a permit ends nobody
 pub permit_ends : (giver taker : Txn) (obs : ObSet) (ops : OpSet) (steps : List Step) (n : ℕ) → end_of (Permit giver taker obs ops ∷ steps) n ≡ end_of steps n

@@ -16,7 +16,8 @@ use Rattle.asset_names.specs.Steps.{Opening, takes_effect, initiated}
 use Rattle.asset_names.specs.Endings.{live, status, is_live_status}
 use Rattle.asset_names.specs.Answers.{answer, outcome_unless, unrefused, rules_for, first_refusal, unknown, ended, begun_before, is_unknown, has_ended, has_begun, is_running}
 use Rattle.asset_names.proofs.LegalLemmas.{effect_unrefused, first_none, initiate_new, complete_runs, permit_live}
-use Rattle.asset_names.proofs.LiveLemmas.{live_by_status, live_parts}
+use Rattle.asset_names.proofs.LiveLemmas.{live_by_status}
+use Rattle.asset_names.proofs.EndLemmas.{live_parts}
 use Rattle.asset_locks.specs.Valid.{lock_table}
 use Rattle.asset_locks.specs.LockTable as Locks
 use Rattle.asset_core.specs.declared.tables.Tables.{Tables}

@@ -20,7 +20,9 @@ use Rattle.asset_names.specs.Operations.Use.{reads, writes}
 use Rattle.asset_names.specs.Answers.{is_unknown}
 use Rattle.asset_names.specs.Room.{owed, owed_to}
 use Rattle.asset_names.specs.Orderly.{IsOrderly, Distinct}
-use Rattle.asset_names.proofs.LiveLemmas.{live_by_status, status_initiate, status_begin, status_complete, status_commit, status_abort, live_commit, live_abort, end_commit_again, end_abort_again}
+use Rattle.asset_names.proofs.LiveLemmas.{live_by_status, status_initiate, status_begin, status_complete, status_commit, status_abort, live_commit, live_abort}
+use Rattle.asset_names.proofs.EndLemmas.{commits, aborts, commits_live, aborts_live, commits_nobody, aborts_nobody, commit_ends, abort_ends}
+use Rattle.asset_names.proofs.ClassLemmas.{commits_alone, aborts_alone}
 use Rattle.asset_names.proofs.HolderLemmas.{free_allowed, allowed_free}
 use Rattle.asset_names.proofs.RoomLemmas.{sum_same}
 use Rattle.asset_names.specs.declared.sets.ObSet.{ObSet}
@@ -147,45 +149,66 @@ write_shows opening steps rows objects table descriptors t y v shows alive diffe
   permits_stand = λ u n x op. shows.permits_stand u n x op ∙ sym (permitted_quiet (Write t y v ∷ steps) steps refl (write_ends t y v steps) (λ y o. refl) u n x op);
 }
 
--- a live name has a known status
-live_known : (rows : List NamedTransRow) (steps : List Step) (t : ℕ) → status_in rows t ≡ status steps t → live steps t ≡ true → is_unknown (status_in rows t) ≡ false
+-- some live transactions get a status
+set_known : (test : ℕ → Bool) (after : Status) (rows : List NamedTransRow) (steps : List Step) → ((n : ℕ) → test n ≡ true → live steps n ≡ true) → (n : ℕ) → status_in rows n ≡ status steps n
+    → status_in (set_in test after rows) n ≡ cond (test n) after (status steps n)
 unfolding is_unknown is_live_status
-live_known rows steps t is alive = go (status_in rows t) (ap is_live_status is ∙ sym (live_by_status steps t) ∙ alive) where
-  go : (status : Status) → is_live_status status ≡ true → is_unknown status ≡ false
-  go Status'.Unknown h = sym h
-  go Status'.Initiated h = refl
-  go Status'.Running h = refl
-  go Status'.Completed h = refl
-  go Status'.Committed h = refl
-  go Status'.Aborted h = refl
+set_known test after rows steps alive n is = status_set test after rows n ∙ rw is (go (test n) refl) where
+  known : (status : Status) → is_live_status status ≡ true → is_unknown status ≡ false
+  known Status'.Unknown h = sym h
+  known Status'.Initiated h = refl
+  known Status'.Running h = refl
+  known Status'.Completed h = refl
+  known Status'.Committed h = refl
+  known Status'.Aborted h = refl
 
--- a commit of a live name
-pub commit_shows : (opening : Opening) (steps : List Step) (rows : List NamedTransRow) (objects : Cells) (table : Locks.LockTable) (descriptors : List Descriptor) (t : Txn) → Shows opening steps (table_values rows objects table descriptors)
-    → live steps t.0 ≡ true → (later : List Descriptor) → IsDropped t.0 descriptors later → Shows opening (Commit t ∷ steps) (table_values (set_in (is_name t.0) Status'.Committed rows) (change_each (settled (is_name t.0)) objects) (Locks.release_in (is_name t.0) table) later)
+  go : (ends : Bool) → test n ≡ ends → cond (ends && is_some (row_in rows n)) after (status steps n) ≡ cond ends after (status steps n)
+  go false e = refl
+  go true e = rw (row_known rows n (known (status_in rows n) (ap is_live_status is ∙ sym (live_by_status steps n) ∙ alive n e))) refl
+
+-- a commit: the tables after it, by the test of those whom it ends
+pub commit_shows : (opening : Opening) (steps : List Step) (rows : List NamedTransRow) (objects : Cells) (table : Locks.LockTable) (descriptors : List Descriptor) (t : Txn) → Shows opening steps (table_values rows objects table descriptors) → (later : List Descriptor) → IsDropped (commits steps t.0) descriptors later
+    → Shows opening (Commit t ∷ steps) (table_values (set_in (commits steps t.0) Status'.Committed rows) (change_each (settled (commits steps t.0)) objects) (Locks.release_in (commits steps t.0) table) later)
 unfolding initiated initiated_by parent_of parent_by operations operated permits permitted_by
-commit_shows opening steps rows objects table descriptors t shows alive later dropped = record {
-  names = names_set (is_name t.0) Status'.Committed rows ∙ shows.names;
-  statuses = λ n. set_alone rows t.0 Status'.Committed (live_known rows steps t.0 (shows.statuses t.0) alive) n ∙ changed_as rows steps t.0 Status'.Committed n (shows.statuses n) ∙ sym (status_commit t steps n alive);
-  parents = λ n. parent_set (is_name t.0) Status'.Committed rows n ∙ shows.parents n;
-  cells = λ x. changed_each (settled (is_name t.0)) objects (cell_of opening steps) x (shows.cells x) ∙ cell_commit opening t steps x alive;
-  enrolled = names_released t.0 table ∙ rw shows.enrolled (enrolled_end (Commit t ∷ steps) steps t.0 refl (live_commit t steps));
-  locks = λ n x op. carries_released t.0 table n x op ∙ rw (shows.locks n x op) (sym (holds_end (Commit t) steps t.0 refl (live_commit t steps) n x op));
-  permits_stand = λ u n x op. dropped u n x op ∙ rw (shows.permits_stand u n x op) (sym (permitted_end (Commit t ∷ steps) steps t.0 (live_commit t steps) (λ y o. refl) u n x op));
+commit_shows opening steps rows objects table descriptors t shows later dropped = record {
+  names = names_set (commits steps t.0) Status'.Committed rows ∙ shows.names;
+  statuses = λ n. set_known (commits steps t.0) Status'.Committed rows steps (commits_live steps t.0) n (shows.statuses n) ∙ sym (status_commit t steps n);
+  parents = λ n. parent_set (commits steps t.0) Status'.Committed rows n ∙ shows.parents n;
+  cells = λ x. changed_each (settled (commits steps t.0)) objects (cell_of opening steps) x (shows.cells x) ∙ cell_commit opening t steps x;
+  enrolled = names_released (commits steps t.0) table ∙ rw shows.enrolled (enrolled_end (Commit t ∷ steps) steps (commits steps t.0) refl (live_commit t steps));
+  locks = λ n x op. carries_released (commits steps t.0) table n x op ∙ rw (shows.locks n x op) (sym (holds_end (Commit t) steps (commits steps t.0) refl (live_commit t steps) n x op));
+  permits_stand = λ u n x op. dropped u n x op ∙ rw (shows.permits_stand u n x op) (sym (permitted_end (Commit t ∷ steps) steps (commits steps t.0) (live_commit t steps) (λ y o. refl) u n x op));
 }
 
--- an abort of a live name
-pub abort_shows : (opening : Opening) (steps : List Step) (rows : List NamedTransRow) (objects : Cells) (table : Locks.LockTable) (descriptors : List Descriptor) (t : Txn) → Shows opening steps (table_values rows objects table descriptors)
-    → live steps t.0 ≡ true → (later : List Descriptor) → IsDropped t.0 descriptors later → Shows opening (Abort t ∷ steps) (table_values (set_in (is_name t.0) Status'.Aborted rows) (change_each (undone (is_name t.0)) objects) (Locks.release_in (is_name t.0) table) later)
+-- the same for a live transaction that ends alone
+pub commit_alone_shows : (opening : Opening) (steps : List Step) (rows : List NamedTransRow) (objects : Cells) (table : Locks.LockTable) (descriptors : List Descriptor) (t : Txn) → Shows opening steps (table_values rows objects table descriptors) → live steps t.0 ≡ true → (later : List Descriptor) → IsDropped (is_name t.0) descriptors later
+    → Shows opening (Commit t ∷ steps) (table_values (set_in (is_name t.0) Status'.Committed rows) (change_each (settled (is_name t.0)) objects) (Locks.release_in (is_name t.0) table) later)
+commit_alone_shows opening steps rows objects table descriptors t shows alive later dropped =
+    let alone : commits steps t.0 ≡ is_name t.0 = λ i. λ n. (commits_alone steps t.0 n alive ∙ eqb-flip t.0 n) i in
+    subst (λ (test : ℕ → Bool). Shows opening (Commit t ∷ steps) (table_values (set_in test Status'.Committed rows) (change_each (settled test) objects) (Locks.release_in test table) later)) alone
+    (commit_shows opening steps rows objects table descriptors t shows later (subst (λ (test : ℕ → Bool). IsDropped test descriptors later) (sym alone) dropped))
+
+-- an abort: the tables after it, by the test of those whom it ends
+pub abort_shows : (opening : Opening) (steps : List Step) (rows : List NamedTransRow) (objects : Cells) (table : Locks.LockTable) (descriptors : List Descriptor) (t : Txn) → Shows opening steps (table_values rows objects table descriptors) → (later : List Descriptor) → IsDropped (aborts steps t.0) descriptors later
+    → Shows opening (Abort t ∷ steps) (table_values (set_in (aborts steps t.0) Status'.Aborted rows) (change_each (undone (aborts steps t.0)) objects) (Locks.release_in (aborts steps t.0) table) later)
 unfolding initiated initiated_by parent_of parent_by operations operated permits permitted_by
-abort_shows opening steps rows objects table descriptors t shows alive later dropped = record {
-  names = names_set (is_name t.0) Status'.Aborted rows ∙ shows.names;
-  statuses = λ n. set_alone rows t.0 Status'.Aborted (live_known rows steps t.0 (shows.statuses t.0) alive) n ∙ changed_as rows steps t.0 Status'.Aborted n (shows.statuses n) ∙ sym (status_abort t steps n alive);
-  parents = λ n. parent_set (is_name t.0) Status'.Aborted rows n ∙ shows.parents n;
-  cells = λ x. changed_each (undone (is_name t.0)) objects (cell_of opening steps) x (shows.cells x) ∙ cell_abort opening t steps x alive;
-  enrolled = names_released t.0 table ∙ rw shows.enrolled (enrolled_end (Abort t ∷ steps) steps t.0 refl (live_abort t steps));
-  locks = λ n x op. carries_released t.0 table n x op ∙ rw (shows.locks n x op) (sym (holds_end (Abort t) steps t.0 refl (live_abort t steps) n x op));
-  permits_stand = λ u n x op. dropped u n x op ∙ rw (shows.permits_stand u n x op) (sym (permitted_end (Abort t ∷ steps) steps t.0 (live_abort t steps) (λ y o. refl) u n x op));
+abort_shows opening steps rows objects table descriptors t shows later dropped = record {
+  names = names_set (aborts steps t.0) Status'.Aborted rows ∙ shows.names;
+  statuses = λ n. set_known (aborts steps t.0) Status'.Aborted rows steps (aborts_live steps t.0) n (shows.statuses n) ∙ sym (status_abort t steps n);
+  parents = λ n. parent_set (aborts steps t.0) Status'.Aborted rows n ∙ shows.parents n;
+  cells = λ x. changed_each (undone (aborts steps t.0)) objects (cell_of opening steps) x (shows.cells x) ∙ cell_abort opening t steps x;
+  enrolled = names_released (aborts steps t.0) table ∙ rw shows.enrolled (enrolled_end (Abort t ∷ steps) steps (aborts steps t.0) refl (live_abort t steps));
+  locks = λ n x op. carries_released (aborts steps t.0) table n x op ∙ rw (shows.locks n x op) (sym (holds_end (Abort t) steps (aborts steps t.0) refl (live_abort t steps) n x op));
+  permits_stand = λ u n x op. dropped u n x op ∙ rw (shows.permits_stand u n x op) (sym (permitted_end (Abort t ∷ steps) steps (aborts steps t.0) (live_abort t steps) (λ y o. refl) u n x op));
 }
+
+-- the same for a live transaction that ends alone
+pub abort_alone_shows : (opening : Opening) (steps : List Step) (rows : List NamedTransRow) (objects : Cells) (table : Locks.LockTable) (descriptors : List Descriptor) (t : Txn) → Shows opening steps (table_values rows objects table descriptors) → live steps t.0 ≡ true → (later : List Descriptor) → IsDropped (is_name t.0) descriptors later
+    → Shows opening (Abort t ∷ steps) (table_values (set_in (is_name t.0) Status'.Aborted rows) (change_each (undone (is_name t.0)) objects) (Locks.release_in (is_name t.0) table) later)
+abort_alone_shows opening steps rows objects table descriptors t shows alive later dropped =
+    let alone : aborts steps t.0 ≡ is_name t.0 = λ i. λ n. (aborts_alone steps t.0 n alive ∙ eqb-flip t.0 n) i in
+    subst (λ (test : ℕ → Bool). Shows opening (Abort t ∷ steps) (table_values (set_in test Status'.Aborted rows) (change_each (undone test) objects) (Locks.release_in test table) later)) alone
+    (abort_shows opening steps rows objects table descriptors t shows later (subst (λ (test : ℕ → Bool). IsDropped test descriptors later) (sym alone) dropped))
 
 -- an end of a name that has ended changes nothing
 quiet_shows : (opening : Opening) (step : Step) (steps : List Step) (rows : List NamedTransRow) (objects : Cells) (table : Locks.LockTable) (descriptors : List Descriptor) → Shows opening steps (table_values rows objects table descriptors)
@@ -205,13 +228,13 @@ pub commit_again_shows : (opening : Opening) (steps : List Step) (rows : List Na
     → live steps t.0 ≡ false → Shows opening (Commit t ∷ steps) (table_values rows objects table descriptors)
 unfolding initiated initiated_by begun begun_by completed completed_by parent_of parent_by operations operated permits permitted_by
 commit_again_shows opening steps rows objects table descriptors t shows dead =
-    quiet_shows opening (Commit t) steps rows objects table descriptors shows refl refl (λ n. refl) (record { names = refl; applied = refl; arrows = λ x op. refl; ends = λ n. end_commit_again t steps n dead })
+    quiet_shows opening (Commit t) steps rows objects table descriptors shows refl refl (λ n. refl) (record { names = refl; applied = refl; arrows = λ x op. refl; ends = λ n. commit_ends t steps n ∙ rw (commits_nobody steps t.0 n dead) refl })
 
 pub abort_again_shows : (opening : Opening) (steps : List Step) (rows : List NamedTransRow) (objects : Cells) (table : Locks.LockTable) (descriptors : List Descriptor) (t : Txn) → Shows opening steps (table_values rows objects table descriptors)
     → live steps t.0 ≡ false → Shows opening (Abort t ∷ steps) (table_values rows objects table descriptors)
 unfolding initiated initiated_by begun begun_by completed completed_by parent_of parent_by operations operated permits permitted_by
 abort_again_shows opening steps rows objects table descriptors t shows dead =
-    quiet_shows opening (Abort t) steps rows objects table descriptors shows refl refl (λ n. refl) (record { names = refl; applied = refl; arrows = λ x op. refl; ends = λ n. end_abort_again t steps n dead })
+    quiet_shows opening (Abort t) steps rows objects table descriptors shows refl refl (λ n. refl) (record { names = refl; applied = refl; arrows = λ x op. refl; ends = λ n. abort_ends t steps n ∙ rw (aborts_nobody steps t.0 n dead) refl })
 
 -- a permit
 pub permit_shows : (opening : Opening) (steps : List Step) (rows : List NamedTransRow) (objects : Cells) (table : Locks.LockTable) (descriptors : List Descriptor) (giver taker : Txn) (obs : ObSet) (ops : OpSet) → Shows opening steps (table_values rows objects table descriptors)

@@ -376,7 +376,7 @@ impl Tables {
             (self.new.trans ≡ set_in (λ n. n == t.0) Status.Committed self.old.trans)
             × (cells self.new.objects ≡ change_each (settled (λ n. n == t.0)) (cells self.old.objects))
             × (lock_table self.new.locks ≡ release_in (λ n. n == t.0) (lock_table self.old.locks))
-            × IsDropped t.0 self.old.permits self.new.permits }
+            × IsDropped (λ n. n == t.0) self.old.permits self.new.permits }
         ensures ended { is_live_status (status_in self.old.trans t.0) ≡ false → self.new ≡ self.old }
     {
         if self.trans.status(t).is_live() {
@@ -393,7 +393,7 @@ impl Tables {
             (self.new.trans ≡ set_in (λ n. n == t.0) Status.Aborted self.old.trans)
             × (cells self.new.objects ≡ change_each (undone (λ n. n == t.0)) (cells self.old.objects))
             × (lock_table self.new.locks ≡ release_in (λ n. n == t.0) (lock_table self.old.locks))
-            × IsDropped t.0 self.old.permits self.new.permits }
+            × IsDropped (λ n. n == t.0) self.old.permits self.new.permits }
         ensures ended { is_live_status (status_in self.old.trans t.0) ≡ false → self.new ≡ self.old }
     {
         if self.trans.status(t).is_live() {

@@ -7,8 +7,9 @@ use Rattle.asset_names.specs.declared.statuses.End.{End}
 use Rattle.asset_names.specs.declared.steps.Step.{Step}
 use Rattle.asset_names.specs.Arrows.{lists, linked, among}
 use Rattle.asset_names.specs.Steps.{initiated, begun, completed}
-use Rattle.asset_names.specs.Endings.{class_arrows, same_class, status, status_of, end_of}
+use Rattle.asset_names.specs.Endings.{class_arrows, doom_arrows, live, same_class, status, status_of, end_of}
 use Rattle.asset_names.specs.Answers.{is_unknown, is_completed, class_completed}
+use Rattle.asset_names.proofs.EndLemmas.{commits, aborts}
 
 -- a name that is not unknown was initiated
 initiated_known : (steps : List Step) (t : ℕ) → is_unknown (status steps t) ≡ false → lists (initiated steps) t ≡ true
@@ -48,3 +49,12 @@ all_alone test names t listed = go (test t) refl where
 pub completed_alone : (steps : List Step) (t : ℕ) → is_unknown (status steps t) ≡ false → class_completed steps t ≡ is_completed (status steps t)
 unfolding class_completed same_class class_arrows among linked
 completed_alone steps t known = all_alone (λ n. is_completed (status steps n)) (initiated steps) t (initiated_known steps t known)
+
+-- who ends alone, as long as no step joins two
+pub commits_alone : (steps : List Step) (t n : ℕ) → live steps t ≡ true → commits steps t n ≡ eqb t n
+unfolding commits class_arrows among linked
+commits_alone steps t n alive = rw alive refl
+
+pub aborts_alone : (steps : List Step) (t n : ℕ) → live steps t ≡ true → aborts steps t n ≡ eqb t n
+unfolding aborts class_arrows doom_arrows among linked
+aborts_alone steps t n alive = rw alive refl

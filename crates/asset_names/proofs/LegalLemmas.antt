@@ -1,7 +1,6 @@
 -- What a legal history says of the steps that took effect in it.
-use Rattle.std.proofs.Common.{◌≡◌, ℕ, Bool, true, false, cond, eqb, ◌&&◌, List, [], ◌∷◌, ◌++◌, Some, None, refl, sym, ◌∙◌, ap, subst, arith, ◌⊎◌, inl, inr}
+use Rattle.std.proofs.Common.{◌≡◌, ℕ, Bool, true, false, cond, eqb, ◌&&◌, List, [], ◌∷◌, ◌++◌, Some, None, refl, sym, ◌∙◌, ap, subst, ◌⊎◌, inl, inr}
 use Rattle.std.specs.Prelude.{ℤ, Option, is_none, is_some}
-use Rattle.std.specs.Option.{option_or}
 use Rattle.std.proofs.lemmas.Bool.{or_cases, or_right, and_parts, eqb-true, not-false, false≢true}
 use Rattle.asset_names.specs.declared.names.Txn.{Txn}
 use Rattle.asset_names.specs.declared.names.Ob.{Ob}
@@ -19,22 +18,13 @@ use Rattle.asset_names.specs.declared.replies.Refusal.{Refusal}
 use Rattle.asset_names.specs.declared.replies.Reply.{Reply}
 use Rattle.asset_names.specs.declared.replies.Reply.TheVariants as Reply'
 use Rattle.asset_names.specs.declared.replies.Outcome.TheVariants.{Answer}
-use Rattle.asset_names.specs.Arrows.{Arrow, lists, linked, among, has_arrow}
+use Rattle.asset_names.specs.Arrows.{Arrow, lists, has_arrow}
 use Rattle.asset_names.specs.Steps.{Opening, Entry, takes_effect, applied, initiated, initiated_by, begun, begun_by, completed, completed_by}
-use Rattle.asset_names.specs.Endings.{class_arrows, doom_arrows, ended_by, end_of, live, status, status_of}
+use Rattle.asset_names.specs.Endings.{ended_by, end_of, live, status, status_of}
 use Rattle.asset_names.specs.Answers.{Rule, is_unknown, has_ended, is_running, unknown, ended, not_running, one_name, taken, rules_for, first_refusal, unrefused, outcome_unless, answer, IsLegal}
 use Rattle.asset_names.proofs.Common.{option_or_none}
+use Rattle.asset_names.proofs.EndLemmas.{live_parts, commits, aborts, commits_live, aborts_live, commit_ends, abort_ends}
 use Rattle.asset_names.specs.Orderly.{IsOrderly}
-
--- an end of u ends n where they are one live name
-pub end_alone : (how : End) (u n : ℕ) (steps : List Step) → option_or (end_of steps n) (cond ((lists (initiated steps) u && is_none (end_of steps u)) && eqb u n) (Some how) None)
-    ≡ option_or (end_of steps n) (cond (eqb u n && lists (initiated steps) n) (Some how) None)
-end_alone how u n steps = go (eqb u n) refl (end_of steps n) refl where
-  go : (same : Bool) → eqb u n ≡ same → (end : Option End) → end_of steps n ≡ end
-      → option_or end (cond ((lists (initiated steps) u && is_none (end_of steps u)) && same) (Some how) None) ≡ option_or end (cond (same && lists (initiated steps) n) (Some how) None)
-  go same e (Some end) q = refl
-  go false e None q = grind arith
-  go true e None q = rw (eqb-true u n e, q) (grind arith)
 
 -- a step that got a reply by which it took effect was not refused
 pub effect_unrefused : (opening : Opening) (steps : List Step) (step : Step) (reply : Reply) → answer opening steps step ≡ Answer reply → takes_effect step reply ≡ true
@@ -250,19 +240,17 @@ legal_orderly opening (entry ∷ older) legal = go (takes_effect entry.0 entry.1
   go true e orderly = orderly_more opening entry.0 (applied older) entry.1 legal.0 e orderly
   go false e orderly = orderly
 
--- who ends by a step was initiated, if who had ended before was
-ended_more : (how : End) (u n : ℕ) (steps : List Step) → (is_some (end_of steps n) ≡ true → lists (initiated steps) n ≡ true)
-    → is_some (option_or (end_of steps n) (cond (eqb u n && lists (initiated steps) n) (Some how) None)) ≡ true → lists (initiated steps) n ≡ true
-ended_more how u n steps before h = go (end_of steps n) (eqb u n) (lists (initiated steps) n) before h where
-  go : (end : Option End) (same i : Bool) → (is_some end ≡ true → i ≡ true) → is_some (option_or end (cond (same && i) (Some how) None)) ≡ true → i ≡ true
-  go (Some end) same i before h = before refl
-  go None false i before h = absurd (false≢true h)
-  go None true true before h = refl
-  go None true false before h = h
+-- who has ended after an end of live transactions was initiated, if who had ended before was
+ended_more : (how : End) (steps : List Step) (test : ℕ → Bool) (n : ℕ) → (test n ≡ true → live steps n ≡ true) → (is_some (end_of steps n) ≡ true → lists (initiated steps) n ≡ true)
+    → is_some (cond (test n) (Some how) (end_of steps n)) ≡ true → lists (initiated steps) n ≡ true
+ended_more how steps test n alive before = go (test n) refl where
+  go : (here : Bool) → test n ≡ here → is_some (cond here (Some how) (end_of steps n)) ≡ true → lists (initiated steps) n ≡ true
+  go true e h = (live_parts steps n (alive e)).0
+  go false e h = before h
 
 -- who has ended was initiated
 pub ended_initiated : (steps : List Step) (n : ℕ) → is_some (end_of steps n) ≡ true → lists (initiated steps) n ≡ true
-unfolding end_of ended_by class_arrows doom_arrows among linked initiated initiated_by lists
+unfolding end_of ended_by initiated initiated_by lists
 ended_initiated [] n h = h
 ended_initiated (Initiate t parent ∷ steps) n h = or_right (eqb t.0 n) _ (ended_initiated steps n (subst (λ (e : Option End). is_some e ≡ true) (option_or_none (end_of steps n)) h))
 ended_initiated (Begin t ∷ steps) n h = ended_initiated steps n (subst (λ (e : Option End). is_some e ≡ true) (option_or_none (end_of steps n)) h)
@@ -270,6 +258,6 @@ ended_initiated (Read t x ∷ steps) n h = ended_initiated steps n (subst (λ (e
 ended_initiated (Write t x v ∷ steps) n h = ended_initiated steps n (subst (λ (e : Option End). is_some e ≡ true) (option_or_none (end_of steps n)) h)
 ended_initiated (Complete t ∷ steps) n h = ended_initiated steps n (subst (λ (e : Option End). is_some e ≡ true) (option_or_none (end_of steps n)) h)
 ended_initiated (Permit giver taker obs ops ∷ steps) n h = ended_initiated steps n (subst (λ (e : Option End). is_some e ≡ true) (option_or_none (end_of steps n)) h)
-ended_initiated (Commit t ∷ steps) n h = ended_more End'.Committed t.0 n steps (ended_initiated steps n) (subst (λ (e : Option End). is_some e ≡ true) (end_alone End'.Committed t.0 n steps) h)
-ended_initiated (Abort t ∷ steps) n h = ended_more End'.Aborted t.0 n steps (ended_initiated steps n) (subst (λ (e : Option End). is_some e ≡ true) (end_alone End'.Aborted t.0 n steps) h)
+ended_initiated (Commit t ∷ steps) n h = ended_more End'.Committed steps (commits steps t.0) n (commits_live steps t.0 n) (ended_initiated steps n) (subst (λ (e : Option End). is_some e ≡ true) (commit_ends t steps n) h)
+ended_initiated (Abort t ∷ steps) n h = ended_more End'.Aborted steps (aborts steps t.0) n (aborts_live steps t.0 n) (ended_initiated steps n) (subst (λ (e : Option End). is_some e ≡ true) (abort_ends t steps n) h)
 ended_initiated (WaitFor t ∷ steps) n h = ended_initiated steps n (subst (λ (e : Option End). is_some e ≡ true) (option_or_none (end_of steps n)) h)

@@ -6,6 +6,7 @@ pub mod Cases
 pub mod PermitCases
 pub mod Sorting
 pub mod AppliedLemmas
+pub mod EndLemmas
 pub mod LegalLemmas
 pub mod RoomLemmas
 pub mod HolderLemmas

@@ -1,7 +1,6 @@
 -- Who is live, how that changes with a step, and statuses after a step.
-use Rattle.std.proofs.Common.{◌≡◌, ℕ, Bool, true, false, cond, not, eqb, ◌&&◌, ◌||◌, List, ◌∷◌, refl, sym, ◌∙◌, ap, subst, arith, None, Some}
+use Rattle.std.proofs.Common.{◌≡◌, ℕ, Bool, true, false, cond, not, eqb, ◌&&◌, ◌||◌, List, ◌∷◌, refl, sym, ◌∙◌, ap, subst, None, Some}
 use Rattle.std.specs.Prelude.{Option, is_none, is_some}
-use Rattle.std.specs.Option.{option_or}
 use Rattle.std.proofs.lemmas.Bool.{eqb-true, false≢true}
 use Rattle.asset_names.specs.declared.names.Txn.{Txn}
 use Rattle.asset_names.specs.declared.statuses.Status.{Status}
@@ -10,12 +9,13 @@ use Rattle.asset_names.specs.declared.statuses.End.{End}
 use Rattle.asset_names.specs.declared.statuses.End.TheVariants as End'
 use Rattle.asset_names.specs.declared.steps.Step.{Step}
 use Rattle.asset_names.specs.declared.steps.Step.TheVariants.{Initiate, Begin, Complete, Commit, Abort}
-use Rattle.asset_names.specs.Arrows.{lists, linked, among}
+use Rattle.asset_names.specs.Arrows.{lists}
 use Rattle.asset_names.specs.Steps.{initiated, initiated_by, begun, begun_by, completed, completed_by}
-use Rattle.asset_names.specs.Endings.{class_arrows, doom_arrows, ended_by, live, status, status_of, is_live_status, end_of}
-use Rattle.asset_names.proofs.LegalLemmas.{end_alone, ended_initiated}
+use Rattle.asset_names.specs.Endings.{ended_by, live, status, status_of, is_live_status, end_of}
+use Rattle.asset_names.proofs.LegalLemmas.{ended_initiated}
 use Rattle.asset_names.specs.Orderly.{IsOrderly}
 use Rattle.asset_names.proofs.Common.{option_or_none}
+use Rattle.asset_names.proofs.EndLemmas.{live_parts, commits, aborts, commits_live, aborts_live, Ending, commit_ends, abort_ends}
 
 -- who is live, by the status
 pub live_by_status : (steps : List Step) (t : ℕ) → live steps t ≡ is_live_status (status steps t)
@@ -28,15 +28,6 @@ live_by_status steps t = go (lists (initiated steps) t) (lists (begun steps) t) 
   go true b true None = refl
   go true true false None = refl
   go true false false None = refl
-
--- a live name has not ended, and was initiated
-pub live_parts : (steps : List Step) (t : ℕ) → live steps t ≡ true → (lists (initiated steps) t ≡ true) × (end_of steps t ≡ None)
-unfolding live
-live_parts steps t = go (lists (initiated steps) t) (end_of steps t) where
-  go : (i : Bool) (e : Option End) → (i && is_none e) ≡ true → (i ≡ true) × (e ≡ None)
-  go true None h = (refl, refl)
-  go true (Some e) h = absurd (false≢true h)
-  go false e h = absurd (false≢true h)
 
 -- which steps end nobody
 unfoldable pub EndsNobody : Step → Type 0
@@ -62,60 +53,22 @@ live_initiate u parent steps n new = rw (option_or_none (end_of steps n)) (go (e
   go false e = refl
   go true e = ap is_none (new_not_ended steps n (subst (λ m. lists (initiated steps) m ≡ false) (eqb-true u.0 n e) new))
 
--- one name ends, and the others stay live
-live_less : (how : End) (u n : ℕ) (steps : List Step) →
-    (lists (initiated steps) n && is_none (option_or (end_of steps n) (cond (eqb u n && lists (initiated steps) n) (Some how) None))) ≡ (not (eqb u n) && live steps n)
+-- who is live after some have ended: who was live and is none of them
+pub live_after : (test : ℕ → Bool) (how : End) (steps later : List Step) → initiated later ≡ initiated steps → Ending test how (end_of steps) (end_of later) → (n : ℕ) → live later n ≡ (not (test n) && live steps n)
 unfolding live
-live_less how u n steps = go (lists (initiated steps) n) (end_of steps n) (eqb u n) where
-  go : (i : Bool) (e : Option End) (same : Bool) → (i && is_none (option_or e (cond (same && i) (Some how) None))) ≡ (not same && (i && is_none e))
-  go false e same = grind arith
-  go true (Some e) same = grind arith
-  go true None true = refl
-  go true None false = refl
+live_after test how steps later names ends n = rw (names, ends n) (go (test n) (lists (initiated steps) n) (end_of steps n)) where
+  go : (gone i : Bool) (e : Option End) → (i && is_none (cond gone (Some how) e)) ≡ (not gone && (i && is_none e))
+  go true true e = refl
+  go true false e = refl
+  go false i e = refl
 
-pub live_commit : (u : Txn) (steps : List Step) (n : ℕ) → live (Commit u ∷ steps) n ≡ (not (eqb u.0 n) && live steps n)
-unfolding live initiated initiated_by end_of ended_by class_arrows among linked
-live_commit u steps n = rw (end_alone End'.Committed u.0 n steps) (live_less End'.Committed u.0 n steps)
+pub live_commit : (t : Txn) (steps : List Step) (n : ℕ) → live (Commit t ∷ steps) n ≡ (not (commits steps t.0 n) && live steps n)
+unfolding initiated initiated_by
+live_commit t steps n = live_after (commits steps t.0) End'.Committed steps (Commit t ∷ steps) refl (commit_ends t steps) n
 
-pub live_abort : (u : Txn) (steps : List Step) (n : ℕ) → live (Abort u ∷ steps) n ≡ (not (eqb u.0 n) && live steps n)
-unfolding live initiated initiated_by end_of ended_by class_arrows doom_arrows among linked
-live_abort u steps n = rw (end_alone End'.Aborted u.0 n steps) (live_less End'.Aborted u.0 n steps)
-
--- how each ended, after a live name has ended
-ends_one : (how : End) (u n : ℕ) (steps : List Step) → live steps u ≡ true
-    → option_or (end_of steps n) (cond (eqb u n && lists (initiated steps) n) (Some how) None) ≡ cond (eqb u n) (Some how) (end_of steps n)
-ends_one how u n steps alive = go (eqb u n) refl where
-  parts : (lists (initiated steps) u ≡ true) × (end_of steps u ≡ None)
-  parts = live_parts steps u alive
-
-  go : (same : Bool) → eqb u n ≡ same → option_or (end_of steps n) (cond (same && lists (initiated steps) n) (Some how) None) ≡ cond same (Some how) (end_of steps n)
-  go false e = option_or_none (end_of steps n)
-  go true e =
-      let known : lists (initiated steps) n ≡ true = subst (λ m. lists (initiated steps) m ≡ true) (eqb-true u n e) parts.0 in
-      let none : end_of steps n ≡ None = subst (λ m. end_of steps m ≡ None) (eqb-true u n e) parts.1 in
-      rw (known, none) refl
-
-pub end_commit : (u : Txn) (steps : List Step) (n : ℕ) → live steps u.0 ≡ true → end_of (Commit u ∷ steps) n ≡ cond (eqb u.0 n) (Some End'.Committed) (end_of steps n)
-unfolding end_of ended_by class_arrows among linked
-end_commit u steps n alive = end_alone End'.Committed u.0 n steps ∙ ends_one End'.Committed u.0 n steps alive
-
-pub end_abort : (u : Txn) (steps : List Step) (n : ℕ) → live steps u.0 ≡ true → end_of (Abort u ∷ steps) n ≡ cond (eqb u.0 n) (Some End'.Aborted) (end_of steps n)
-unfolding end_of ended_by class_arrows doom_arrows among linked
-end_abort u steps n alive = end_alone End'.Aborted u.0 n steps ∙ ends_one End'.Aborted u.0 n steps alive
-
--- an end of a name that is not live changes nothing
-end_nobody : (how : End) (u n : ℕ) (steps : List Step) → live steps u ≡ false
-    → option_or (end_of steps n) (cond ((lists (initiated steps) u && is_none (end_of steps u)) && eqb u n) (Some how) None) ≡ end_of steps n
-unfolding live
-end_nobody how u n steps dead = rw dead (option_or_none (end_of steps n))
-
-pub end_commit_again : (u : Txn) (steps : List Step) (n : ℕ) → live steps u.0 ≡ false → end_of (Commit u ∷ steps) n ≡ end_of steps n
-unfolding end_of ended_by class_arrows among linked
-end_commit_again u steps n dead = end_nobody End'.Committed u.0 n steps dead
-
-pub end_abort_again : (u : Txn) (steps : List Step) (n : ℕ) → live steps u.0 ≡ false → end_of (Abort u ∷ steps) n ≡ end_of steps n
-unfolding end_of ended_by class_arrows doom_arrows among linked
-end_abort_again u steps n dead = end_nobody End'.Aborted u.0 n steps dead
+pub live_abort : (t : Txn) (steps : List Step) (n : ℕ) → live (Abort t ∷ steps) n ≡ (not (aborts steps t.0 n) && live steps n)
+unfolding initiated initiated_by
+live_abort t steps n = live_after (aborts steps t.0) End'.Aborted steps (Abort t ∷ steps) refl (abort_ends t steps) n
 
 -- statuses after a step
 pub status_initiate : (u : Txn) (parent : _) (steps : List Step) (n : ℕ) → IsOrderly steps → lists (initiated steps) u.0 ≡ false
@@ -178,20 +131,20 @@ unfolding status_of ended_status
 status_ended End'.Committed b c = refl
 status_ended End'.Aborted b c = refl
 
--- a live name ends in this way, and the others keep their statuses
-status_end : (how : End) (u n : ℕ) (steps : List Step) (later : Option End) → live steps u ≡ true → later ≡ cond (eqb u n) (Some how) (end_of steps n)
-    → status_of (lists (initiated steps) n) (lists (begun steps) n) (lists (completed steps) n) later ≡ cond (eqb u n) (ended_status how) (status steps n)
+-- some live transactions end in this way, and the others keep their statuses
+status_end : (test : ℕ → Bool) (how : End) (steps : List Step) → ((n : ℕ) → test n ≡ true → live steps n ≡ true) → (n : ℕ) (later : Option End) → later ≡ cond (test n) (Some how) (end_of steps n)
+    → status_of (lists (initiated steps) n) (lists (begun steps) n) (lists (completed steps) n) later ≡ cond (test n) (ended_status how) (status steps n)
 unfolding status
-status_end how u n steps later alive is = rw is (go (eqb u n) refl) where
-  go : (here : Bool) → eqb u n ≡ here → status_of (lists (initiated steps) n) (lists (begun steps) n) (lists (completed steps) n) (cond here (Some how) (end_of steps n))
+status_end test how steps alive n later is = rw is (go (test n) refl) where
+  go : (here : Bool) → test n ≡ here → status_of (lists (initiated steps) n) (lists (begun steps) n) (lists (completed steps) n) (cond here (Some how) (end_of steps n))
       ≡ cond here (ended_status how) (status_of (lists (initiated steps) n) (lists (begun steps) n) (lists (completed steps) n) (end_of steps n))
   go false e = refl
-  go true e = rw (subst (λ m. lists (initiated steps) m ≡ true) (eqb-true u n e) (live_parts steps u alive).0) (status_ended how (lists (begun steps) n) (lists (completed steps) n))
+  go true e = rw (live_parts steps n (alive n e)).0 (status_ended how (lists (begun steps) n) (lists (completed steps) n))
 
-pub status_commit : (u : Txn) (steps : List Step) (n : ℕ) → live steps u.0 ≡ true → status (Commit u ∷ steps) n ≡ cond (eqb u.0 n) Status'.Committed (status steps n)
+pub status_commit : (t : Txn) (steps : List Step) (n : ℕ) → status (Commit t ∷ steps) n ≡ cond (commits steps t.0 n) Status'.Committed (status steps n)
 unfolding status initiated initiated_by begun begun_by completed completed_by ended_status
-status_commit u steps n alive = status_end End'.Committed u.0 n steps (end_of (Commit u ∷ steps) n) alive (end_commit u steps n alive)
+status_commit t steps n = status_end (commits steps t.0) End'.Committed steps (commits_live steps t.0) n (end_of (Commit t ∷ steps) n) (commit_ends t steps n)
 
-pub status_abort : (u : Txn) (steps : List Step) (n : ℕ) → live steps u.0 ≡ true → status (Abort u ∷ steps) n ≡ cond (eqb u.0 n) Status'.Aborted (status steps n)
+pub status_abort : (t : Txn) (steps : List Step) (n : ℕ) → status (Abort t ∷ steps) n ≡ cond (aborts steps t.0 n) Status'.Aborted (status steps n)
 unfolding status initiated initiated_by begun begun_by completed completed_by ended_status
-status_abort u steps n alive = status_end End'.Aborted u.0 n steps (end_of (Abort u ∷ steps) n) alive (end_abort u steps n alive)
+status_abort t steps n = status_end (aborts steps t.0) End'.Aborted steps (aborts_live steps t.0) n (end_of (Abort t ∷ steps) n) (abort_ends t steps n)

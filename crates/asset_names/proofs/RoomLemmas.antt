@@ -1,7 +1,6 @@
 -- How the entries that are owed change with a step.
 use Rattle.std.proofs.Common.{◌≡◌, ℕ, ◌+◌, ◌≤◌, Bool, true, false, cond, eqb, ◌&&◌, ◌||◌, List, [], ◌∷◌, length, Some, None, refl, sym, ◌∙◌, ap, subst, arith, ◌⊎◌, inl, inr}
 use Rattle.std.specs.Prelude.{Option, is_none, is_some, sum_by}
-use Rattle.std.specs.Option.{option_or}
 use Rattle.std.proofs.lemmas.List.Sums.{sum_by-cons}
 use Rattle.std.proofs.lemmas.Bool.{or_cases, or_left, or_right, eqb-true, eq-eqb, eqb-false, ne_eqb, false≢true, true≢false, and_parts, leb-true, le-leb}
 use Rattle.asset_names.specs.declared.statuses.End.{End}
@@ -9,16 +8,17 @@ use Rattle.asset_names.specs.declared.statuses.End.TheVariants as End'
 use Rattle.asset_names.specs.declared.names.Txn.{Txn}
 use Rattle.asset_names.specs.declared.steps.Step.{Step}
 use Rattle.asset_names.specs.declared.steps.Step.TheVariants.{Initiate, Begin, Read, Write, Complete, Permit, Commit, Abort, WaitFor}
-use Rattle.asset_names.specs.Arrows.{lists, linked, among}
+use Rattle.asset_names.specs.Arrows.{lists}
 use Rattle.asset_names.specs.Steps.{Opening, Entry, takes_effect, applied, initiated, initiated_by, begun, completed, completed_by}
-use Rattle.asset_names.specs.Endings.{class_arrows, doom_arrows, ended_by, end_of, live, status, status_of}
+use Rattle.asset_names.specs.Endings.{ended_by, end_of, live, status, status_of}
 use Rattle.asset_names.specs.declared.replies.Reply.{Reply}
 use Rattle.asset_names.specs.declared.replies.Outcome.TheVariants.{Answer}
 use Rattle.asset_names.specs.Answers.{is_running, answer, IsLegal}
 use Rattle.asset_names.specs.Room.{owed_to, owed, fits, changes_status, initiates}
-use Rattle.asset_names.proofs.LegalLemmas.{end_alone, initiate_new, running_parts, complete_runs, legal_orderly, ended_initiated}
+use Rattle.asset_names.proofs.LegalLemmas.{initiate_new, running_parts, complete_runs, legal_orderly, ended_initiated}
 use Rattle.asset_names.specs.Orderly.{Distinct, IsOrderly}
 use Rattle.asset_names.proofs.Common.{option_or_none}
+use Rattle.asset_names.proofs.EndLemmas.{live_parts, commits, aborts, commits_itself, aborts_itself, commits_nobody, aborts_nobody, Ending, commit_ends, abort_ends}
 
 -- sums of what is the same for each listed name
 pub sum_same : (f g : ℕ → ℕ) (names : List ℕ) → ((n : ℕ) → lists names n ≡ true → g n ≡ f n) → sum_by g names ≡ sum_by f names
@@ -125,48 +125,6 @@ owed_complete t steps orderly runs =
     (λ n other. same_parts steps later n refl (ap (λ b. b || lists (completed steps) n) (ne_eqb t.0 n (λ e. eqb-false n t.0 other (sym e)))) (option_or_none (end_of steps n))) in
     omega (arith, before, after, change)
 
--- who ends is owed nothing any more
-owed_end : (how : End) (t : ℕ) (steps later : List Step) → IsOrderly steps → initiated later ≡ initiated steps → completed later ≡ completed steps
-    → ((n : ℕ) → end_of later n ≡ option_or (end_of steps n) (cond (eqb t n && lists (initiated steps) n) (Some how) None)) → owed later + owed_to (status steps t) ≡ owed steps
-unfolding owed owed_parts
-owed_end how t steps later orderly i c ends = go (lists (initiated steps) t) refl where
-  same_initiated : (n : ℕ) → lists (initiated later) n ≡ lists (initiated steps) n
-  same_initiated n = ap (λ names. lists names n) i
-
-  same_completed : (n : ℕ) → lists (completed later) n ≡ lists (completed steps) n
-  same_completed n = ap (λ names. lists names n) c
-
-  no_end : (n : ℕ) → (eqb t n && lists (initiated steps) n) ≡ false → end_of later n ≡ end_of steps n
-  no_end n h = ends n ∙ rw h (option_or_none (end_of steps n))
-
-  over : sum_by (λ n. owed_to (status later n)) (initiated later) ≡ sum_by (λ n. owed_to (status later n)) (initiated steps)
-  over = ap (λ names. sum_by (λ n. owed_to (status later n)) names) i
-
-  some_end : (e : Option End) → owed_parts true (lists (completed steps) t) (option_or e (Some how)) ≡ 0
-  some_end None = refl
-  some_end (Some e) = refl
-
-  go : (known : Bool) → lists (initiated steps) t ≡ known → sum_by (λ n. owed_to (status later n)) (initiated later) + owed_to (status steps t) ≡ sum_by (λ n. owed_to (status steps n)) (initiated steps)
-  go false new =
-      let nothing : owed_to (status steps t) ≡ 0 = owed_by_parts steps t ∙ rw new refl in
-      let rest = sum_same (λ n. owed_to (status steps n)) (λ n. owed_to (status later n)) (initiated steps)
-      (λ n listed. same_parts steps later n (same_initiated n) (same_completed n) (no_end n (ap (λ b. b && lists (initiated steps) n) (ne_eqb t n (λ e. false≢true (sym new ∙ ap (lists (initiated steps)) e ∙ listed)))))) in
-      omega (arith, over, nothing, rest)
-  go true known =
-      let after : owed_to (status later t) ≡ 0 =
-      owed_by_parts later t ∙ rw (same_initiated t, known, same_completed t, ends t, eq-eqb t t refl, known) (some_end (end_of steps t)) in
-      let change = sum_change (λ n. owed_to (status steps n)) (λ n. owed_to (status later n)) (initiated steps) t orderly.different known
-      (λ n other. same_parts steps later n (same_initiated n) (same_completed n) (no_end n (ap (λ b. b && lists (initiated steps) n) (ne_eqb t n (λ e. eqb-false n t other (sym e)))))) in
-      omega (arith, over, after, change)
-
-pub owed_commit : (t : Txn) (steps : List Step) → IsOrderly steps → owed (Commit t ∷ steps) + owed_to (status steps t.0) ≡ owed steps
-unfolding initiated initiated_by completed completed_by end_of ended_by live class_arrows among linked
-owed_commit t steps orderly = owed_end End'.Committed t.0 steps (Commit t ∷ steps) orderly refl refl (λ n. end_alone End'.Committed t.0 n steps)
-
-pub owed_abort : (t : Txn) (steps : List Step) → IsOrderly steps → owed (Abort t ∷ steps) + owed_to (status steps t.0) ≡ owed steps
-unfolding initiated initiated_by completed completed_by end_of ended_by live class_arrows doom_arrows among linked
-owed_abort t steps orderly = owed_end End'.Aborted t.0 steps (Abort t ∷ steps) orderly refl refl (λ n. end_alone End'.Aborted t.0 n steps)
-
 -- who is live is owed something
 pub owed_live : (steps : List Step) (t : ℕ) → live steps t ≡ true → 1 ≤ owed_to (status steps t)
 unfolding live owed_parts
@@ -177,14 +135,59 @@ owed_live steps t alive = rw (owed_by_parts steps t) (go (lists (initiated steps
   go true true None h = omega arith
   go true false None h = omega arith
 
--- who is not live is owed nothing
-owed_dead : (steps : List Step) (t : ℕ) → live steps t ≡ false → owed_to (status steps t) ≡ 0
-unfolding live owed_parts
-owed_dead steps t dead = rw (owed_by_parts steps t) (go (lists (initiated steps) t) (lists (completed steps) t) (end_of steps t) dead) where
-  go : (i c : Bool) (e : Option End) → (i && is_none e) ≡ false → owed_parts i c e ≡ 0
-  go false c e h = refl
-  go true c (Some e) h = refl
-  go true c None h = absurd (true≢false h)
+-- no part of a sum grows, and that of one listed name falls: so the sum falls
+sum_grows_not : (f g : ℕ → ℕ) (names : List ℕ) → ((n : ℕ) → g n ≤ f n) → sum_by g names ≤ sum_by f names
+sum_grows_not f g [] le = omega arith
+sum_grows_not f g (n ∷ names) le = omega (arith, sum_by-cons f n names, sum_by-cons g n names, le n, sum_grows_not f g names le)
+
+sum_falls : (f g : ℕ → ℕ) (names : List ℕ) (t : ℕ) → ((n : ℕ) → g n ≤ f n) → lists names t ≡ true → g t + 1 ≤ f t → sum_by g names + 1 ≤ sum_by f names
+unfolding lists
+sum_falls f g [] t le listed less = absurd (false≢true listed)
+sum_falls f g (n ∷ names) t le listed less = elim (or_cases (eqb n t) (lists names t) listed) [
+  | inl here ↦
+      let is = eqb-true n t here in
+      omega (arith, sum_by-cons f n names, sum_by-cons g n names, ap f is, ap g is, less, sum_grows_not f g names le)
+  | inr later ↦ omega (arith, sum_by-cons f n names, sum_by-cons g n names, le n, sum_falls f g names t le later less)
+]
+
+-- who ends is owed nothing any more, and the others what they were
+owed_ended : (test : ℕ → Bool) (how : End) (steps later : List Step) → initiated later ≡ initiated steps → completed later ≡ completed steps → Ending test how (end_of steps) (end_of later)
+    → (n : ℕ) → owed_to (status later n) ≡ cond (test n) 0 (owed_to (status steps n))
+unfolding owed_parts
+owed_ended test how steps later names done ends n = owed_by_parts later n ∙ rw (names, done, ends n, owed_by_parts steps n) (go (test n) (lists (initiated steps) n) (lists (completed steps) n) (end_of steps n)) where
+  go : (gone i c : Bool) (e : Option End) → owed_parts i c (cond gone (Some how) e) ≡ cond gone 0 (owed_parts i c e)
+  go true true c e = refl
+  go true false c e = refl
+  go false i c e = refl
+
+-- an end of a live transaction frees at least one entry, and one that ends nobody frees none
+owed_end : (test : ℕ → Bool) (how : End) (steps later : List Step) → initiated later ≡ initiated steps → completed later ≡ completed steps → Ending test how (end_of steps) (end_of later)
+    → (t : ℕ) → test t ≡ true → live steps t ≡ true → owed later + 1 ≤ owed steps
+unfolding owed
+owed_end test how steps later names done ends t here alive =
+    let after = owed_ended test how steps later names done ends in
+    let over : sum_by (λ n. owed_to (status later n)) (initiated later) ≡ sum_by (λ n. owed_to (status later n)) (initiated steps) = ap (λ ns. sum_by (λ n. owed_to (status later n)) ns) names in
+    let none : owed_to (status later t) ≡ 0 = after t ∙ rw here refl in
+    omega (arith, over, sum_falls (λ n. owed_to (status steps n)) (λ n. owed_to (status later n)) (initiated steps) t (λ n. no_more (test n) _ _ (after n)) (live_parts steps t alive).0 (omega (arith, none, owed_live steps t alive)))
+  where
+    no_more : (gone : Bool) (one other : ℕ) → one ≡ cond gone 0 other → one ≤ other
+    no_more true one other is = omega (arith, is)
+    no_more false one other is = omega (arith, is)
+
+owed_unended : (test : ℕ → Bool) (how : End) (steps later : List Step) → initiated later ≡ initiated steps → completed later ≡ completed steps → Ending test how (end_of steps) (end_of later)
+    → ((n : ℕ) → test n ≡ false) → owed later ≡ owed steps
+unfolding owed
+owed_unended test how steps later names done ends nobody =
+    ap (λ ns. sum_by (λ n. owed_to (status later n)) ns) names
+    ∙ sum_same (λ n. owed_to (status steps n)) (λ n. owed_to (status later n)) (initiated steps) (λ n listed. owed_ended test how steps later names done ends n ∙ rw (nobody n) refl)
+
+pub owed_commit : (t : Txn) (steps : List Step) → live steps t.0 ≡ true → owed (Commit t ∷ steps) + 1 ≤ owed steps
+unfolding initiated initiated_by completed completed_by
+owed_commit t steps alive = owed_end (commits steps t.0) End'.Committed steps (Commit t ∷ steps) refl refl (commit_ends t steps) t.0 (commits_itself steps t.0 alive) alive
+
+pub owed_abort : (t : Txn) (steps : List Step) → live steps t.0 ≡ true → owed (Abort t ∷ steps) + 1 ≤ owed steps
+unfolding initiated initiated_by completed completed_by
+owed_abort t steps alive = owed_end (aborts steps t.0) End'.Aborted steps (Abort t ∷ steps) refl refl (abort_ends t steps) t.0 (aborts_itself steps t.0 alive) alive
 
 -- an initiate that took effect is owed two entries
 pub owed_new : (opening : Opening) (steps : List Step) (step : Step) (reply : Reply) → IsOrderly steps → answer opening steps step ≡ Answer reply → takes_effect step reply ≡ true → initiates step ≡ true → owed (step ∷ steps) ≡ owed steps + 2
@@ -201,7 +204,7 @@ owed_new opening steps (WaitFor t) reply orderly is effect new = absurd (false�
 
 -- a step that took effect, initiates nobody, and is no complete, commit or abort that changes a status leaves what is owed
 pub owed_stays : (steps : List Step) (step : Step) (reply : Reply) → IsOrderly steps → takes_effect step reply ≡ true → changes_status steps step reply ≡ false → initiates step ≡ false → owed (step ∷ steps) ≡ owed steps
-unfolding initiates changes_status
+unfolding initiates changes_status initiated initiated_by completed completed_by
 owed_stays steps (Initiate t parent) reply orderly effect quiet other = absurd (true≢false other)
 owed_stays steps (Begin t) reply orderly effect quiet other = owed_begin t steps
 owed_stays steps (Read t x) reply orderly effect quiet other = owed_read t x steps
@@ -210,10 +213,10 @@ owed_stays steps (Complete t) reply orderly effect quiet other = absurd (true≢
 owed_stays steps (Permit giver taker obs ops) reply orderly effect quiet other = owed_permit giver taker obs ops steps
 owed_stays steps (Commit t) reply orderly effect quiet other =
     let dead : live steps t.0 ≡ false = sym (ap (λ b. b && live steps t.0) effect) ∙ quiet in
-    omega (arith, owed_commit t steps orderly, owed_dead steps t.0 dead)
+    owed_unended (commits steps t.0) End'.Committed steps (Commit t ∷ steps) refl refl (commit_ends t steps) (λ n. commits_nobody steps t.0 n dead)
 owed_stays steps (Abort t) reply orderly effect quiet other =
     let dead : live steps t.0 ≡ false = sym (ap (λ b. b && live steps t.0) effect) ∙ quiet in
-    omega (arith, owed_abort t steps orderly, owed_dead steps t.0 dead)
+    owed_unended (aborts steps t.0) End'.Aborted steps (Abort t ∷ steps) refl refl (abort_ends t steps) (λ n. aborts_nobody steps t.0 n dead)
 owed_stays steps (WaitFor t) reply orderly effect quiet other = owed_wait t steps
 
 -- a step that changes a status for good frees at least the entry that it takes
@@ -222,10 +225,10 @@ unfolding changes_status
 owed_less opening steps (Complete t) reply orderly is changes = (changes, omega (arith, owed_complete t steps orderly (complete_runs opening steps t reply is changes)))
 owed_less opening steps (Commit t) reply orderly is changes =
     let parts = and_parts _ (live steps t.0) changes in
-    (parts.0, omega (arith, owed_commit t steps orderly, owed_live steps t.0 parts.1))
+    (parts.0, owed_commit t steps parts.1)
 owed_less opening steps (Abort t) reply orderly is changes =
     let parts = and_parts _ (live steps t.0) changes in
-    (parts.0, omega (arith, owed_abort t steps orderly, owed_live steps t.0 parts.1))
+    (parts.0, owed_abort t steps parts.1)
 owed_less opening steps (Initiate t parent) reply orderly is changes = absurd (false≢true changes)
 owed_less opening steps (Begin t) reply orderly is changes = absurd (false≢true changes)
 owed_less opening steps (Read t x) reply orderly is changes = absurd (false≢true changes)

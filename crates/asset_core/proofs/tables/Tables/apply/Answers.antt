@@ -8,7 +8,7 @@ use Rattle.asset_locks.specs.Valid.{lock_table}
 use Rattle.asset_locks.specs.LockTable as Locks
 use Rattle.asset_trans.specs.TransRows.{status_in}
 use Rattle.asset_core.specs.Tables.{value_asked, values_of, locks_after, released}
-use Rattle.asset_core.proofs.ShowsLemmas.{initiate_shows, begin_shows, complete_shows, read_shows, write_shows, commit_shows, commit_again_shows, abort_shows, abort_again_shows, wait_shows, permit_shows, new_name, running_live, live_shown}
+use Rattle.asset_core.proofs.ShowsLemmas.{initiate_shows, begin_shows, complete_shows, read_shows, write_shows, commit_alone_shows, commit_again_shows, abort_alone_shows, abort_again_shows, wait_shows, permit_shows, new_name, running_live, live_shown}
 use Rattle.asset_core.proofs.TableLemmas.{on_ok, on_ok_two, on_ok_three, always_ok, always_err, stand_as}
 use Rattle.asset_core.proofs.tables.Tables.apply.Goals as goal
 use Rattle.asset_core.specs.Shows.{Shows}
@@ -81,7 +81,7 @@ returns-in-Commit-clause-stand c = rw c.in-Commit.is (λ opening steps stand ord
   go : (opening : Opening) (steps : List Step) (stand : Shows opening steps (values_of c.args.self.now)) (alive : Bool) → is_live_status (status_in c.args.self.now.trans c.in-Commit.t.0) ≡ alive → Shows opening (Commit c.in-Commit.t ∷ steps) (values_of c.commit.new.self)
   go opening steps stand true e =
       let changed = c.commit.ensures.live e in
-      stand_as opening _ _ _ _ _ _ changed.0 changed.1 changed.2 refl (commit_shows opening steps _ _ _ _ c.in-Commit.t stand (sym (live_shown opening steps _ _ _ _ c.in-Commit.t.0 stand) ∙ e) _ changed.3)
+      stand_as opening _ _ _ _ _ _ changed.0 changed.1 changed.2 refl (commit_alone_shows opening steps _ _ _ _ c.in-Commit.t stand (sym (live_shown opening steps _ _ _ _ c.in-Commit.t.0 stand) ∙ e) _ changed.3)
   go opening steps stand false e =
       rw (c.commit.ensures.ended e) (commit_again_shows opening steps _ _ _ _ c.in-Commit.t stand (sym (live_shown opening steps _ _ _ _ c.in-Commit.t.0 stand) ∙ e))
 
@@ -98,7 +98,7 @@ returns-in-Abort-clause-stand c = rw c.in-Abort.is (λ opening steps stand order
   go : (opening : Opening) (steps : List Step) (stand : Shows opening steps (values_of c.args.self.now)) (alive : Bool) → is_live_status (status_in c.args.self.now.trans c.in-Abort.t.0) ≡ alive → Shows opening (Abort c.in-Abort.t ∷ steps) (values_of c.abort.new.self)
   go opening steps stand true e =
       let changed = c.abort.ensures.live e in
-      stand_as opening _ _ _ _ _ _ changed.0 changed.1 changed.2 refl (abort_shows opening steps _ _ _ _ c.in-Abort.t stand (sym (live_shown opening steps _ _ _ _ c.in-Abort.t.0 stand) ∙ e) _ changed.3)
+      stand_as opening _ _ _ _ _ _ changed.0 changed.1 changed.2 refl (abort_alone_shows opening steps _ _ _ _ c.in-Abort.t stand (sym (live_shown opening steps _ _ _ _ c.in-Abort.t.0 stand) ∙ e) _ changed.3)
   go opening steps stand false e =
       rw (c.abort.ensures.ended e) (abort_again_shows opening steps _ _ _ _ c.in-Abort.t stand (sym (live_shown opening steps _ _ _ _ c.in-Abort.t.0 stand) ∙ e))
 
