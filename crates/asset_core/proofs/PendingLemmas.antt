@@ -92,7 +92,7 @@ asker_keeps (Commit t) outcome asker = refl
 asker_keeps (Abort t) outcome asker = refl
 asker_keeps (WaitFor t) outcome asker = refl
 
--- where nobody who had a asker has ended, the pending_requests are those that the step makes
+-- if nobody has ended, the pending requests are those that the step makes
 nobody_ended : (later steps : List Step) (step : Step) (outcome : Outcome) (ps : List Pending)
     → ((n : ℕ) → lists (named ps) n ≡ true → live later n ≡ true) → new_asker step outcome ≡ []
     → filter (λ (asker : Pending). live later asker.name) (map (asker_after step outcome) ps ++ new_asker step outcome) ≡ map (asker_after step outcome) ps
@@ -105,7 +105,7 @@ same_askers : (change : Pending → Pending) (ps : List Pending) → ((asker : P
 same_askers change [] same = refl
 same_askers change (asker ∷ ps) same = rw (same asker, same_askers change ps same)
 
--- a refusal, and a wait for a name, leave each asker
+-- a refusal, and a wait for a transaction, leave each pending request
 asker_unchanged : (step : Step) (reply : Reply) (asker : Pending) → takes_effect step reply ≡ false → asker_after step (Answer reply) asker ≡ asker
 unfolding asker_after request_after
 asker_unchanged (Read t x) reply asker none = rw none (go (eqb asker.name t.0)) where

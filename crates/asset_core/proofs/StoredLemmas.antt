@@ -153,12 +153,12 @@ pub entries_length : (beside : List PermitEntry) (entries : List Stored) → len
 unfolding entries_of
 entries_length beside entries = length-reverse (map (entry_of beside) entries) ∙ length-map entries (entry_of beside)
 
--- an entry is the one that is stored at its asker
+-- an entry is the one that is stored at its index
 pub entry_stored : (beside : List PermitEntry) (entries : List Stored) (index : ℕ) → slice_get (reverse (entries_of beside entries)) index ≡ option_map (entry_of beside) (slice_get entries index)
 unfolding entries_of
 entry_stored beside entries index = ap (λ es. slice_get es index) (reverse-reverse (map (entry_of beside) entries)) ∙ slice_get-map (entry_of beside) entries index
 
--- what is stored at a asker is there
+-- what is stored at an index is there
 pub entry_there : (count : ℕ) (entries : List Stored) (index : ℕ) (d : Stored) → index < length entries → all_there count entries ≡ true → is_there count (get_or entries index d) ≡ true
 unfolding all_there
 entry_there count [] index d below there = absurd (omega (arith, below))

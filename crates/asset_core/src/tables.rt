@@ -294,7 +294,7 @@ impl Tables {
                 Ok(())
             }
             Step::Read { t, x } => self.read(t, x),
-            Step::Write { t, x, .. } => self.write(t, x, step),
+            Step::Write { t, x, .. } => self.write(t, x, value_asked(step)),
             Step::Complete { t } => {
                 self.trans.complete(t);
                 Ok(())
@@ -351,22 +351,22 @@ impl Tables {
         Ok(())
     }
 
-    /// Writes what the step asks to an object that is free. The memory for its record is reserved before the
-    /// lock is asked for.
-    fn write(&mut self, t: Txn, x: Ob, step: &Step) -> Result<(), NoMemory>
+    /// Writes the value to an object that is free. The memory for its record is reserved before the lock is asked
+    /// for.
+    fn write(&mut self, t: Txn, x: Ob, v: i64) -> Result<(), NoMemory>
         requires work { IsAtWork self.old t.0 }
         requires free { is_free_for self.old t.0 x.0 Operation.Write ≡ true }
         requires exists { has_object (cells self.old.objects) x.0 ≡ true }
         ensures rows { self.new.trans ≡ self.old.trans }
         ensures permits { self.new.permits ≡ self.old.permits }
-        ensures objects { OnOk result (cells self.new.objects ≡ change_at x.0 (written t.0 (value_asked step.now)) (cells self.old.objects)) }
+        ensures objects { OnOk result (cells self.new.objects ≡ change_at x.0 (written t.0 v) (cells self.old.objects)) }
         ensures locks { OnOk result (lock_table self.new.locks ≡ grant_in t.0 x Operation.Write (lock_table self.old.locks)) }
         ensures owners { OnOk result (HaveOwners ((lock_table self.old.locks).locks_on x.0)) }
         ensures unchanged { OnErr result (SameView self.new self.old) }
     {
         self.objects.reserve_write()?;
         self.locks.ask(t, x, Op::Write, &mut self.permits)?;
-        self.objects.write(t, x, value_asked(step));
+        self.objects.write(t, x, v);
         Ok(())
     }
 

@@ -1,4 +1,5 @@
-use Rattle.std.proofs.Common.{◌≡◌, Bool, true, false, cond, eqb, List, ◌∷◌, refl, sym, ◌∙◌}
+use Rattle.std.proofs.Common.{◌≡◌, Bool, true, false, cond, eqb, List, ◌∷◌, refl, sym, ◌∙◌, w64, to_z, of_z, arith}
+use Rattle.std.proofs.lemmas.Int.{to_z-of_z}
 use Rattle.asset_names.specs.declared.steps.Step.{Step}
 use Rattle.asset_names.specs.declared.steps.Step.TheVariants.{Commit, Abort}
 use Rattle.asset_names.specs.Steps.{Opening}
@@ -51,10 +52,13 @@ returns-in-Read-clause-memory c = rw c.in-Read.is (always_err c.read.result refl
 
 pub returns-in-Write-clause-stand : goal.returns-in-Write-clause-stand
 unfolding value_asked
-returns-in-Write-clause-stand c = rw c.in-Write.is (on_ok_three c.write.result
+returns-in-Write-clause-stand c =
+    let fits : to_z w64 (of_z w64 c.value_asked.result) ≡ c.value_asked.result = grind (arith, to_z-of_z) in
+    let asked : c.value_asked.result ≡ c.in-Write.v = rw c.in-Write.is at c.value_asked.ensures in
+    rw c.in-Write.is (on_ok_three c.write.result
     (λ objects locks owners. λ opening steps stand orderly. stand_as opening _ _ _ _ _ _ c.write.ensures.rows objects locks c.write.ensures.permits
     (write_shows opening steps _ _ _ _ c.in-Write.t c.in-Write.x c.in-Write.v stand (running_live opening steps _ _ _ _ c.in-Write.t.0 stand (rw c.in-Write.is at c.requires.ready).0.runs) owners))
-    (rw c.in-Write.is at c.write.ensures.objects) c.write.ensures.locks c.write.ensures.owners)
+    (rw (fits, asked) at c.write.ensures.objects) c.write.ensures.locks c.write.ensures.owners)
 
 pub returns-in-Write-clause-locks : goal.returns-in-Write-clause-locks
 unfolding locks_after
