@@ -3,7 +3,10 @@
 use crate::again::{ask, opened};
 use crate::steps::{abort, begin, commit, complete, initiate, read, write};
 use asset_core::{Core, OpenFault};
-use asset_names::{Fault, Ob, ObList, ObSet, Op, Ops, Outcome, Refusal, Reply, Status, Step, Txn};
+use asset_names::{
+    Fault, NoMemory, Ob, ObList, ObSet, Op, Ops, Outcome, Refusal, Reply, Status, Step, Txn,
+    least_double,
+};
 use std::alloc::Global;
 use std::test::Fail;
 
@@ -56,6 +59,26 @@ fn opening_is_refused_in_order(rt: HostRuntime) {
     ] {
         assert_eq!(rt; fault(rt.alloc(), opening, capacity), expected);
     }
+}
+
+/// Opens the facility over these objects if they are all different, and asks once.
+fn opened_distinct(alloc: Global, opening: &[(Ob, i64)]) -> Result<Core, OpenFault> {
+    match least_double(opening) {
+        Some(x) => Err(OpenFault::DoubleObject(x)),
+        None => match Core::open_distinct(alloc, opening, ROOM) {
+            Ok(core) => Ok(core),
+            Err(NoMemory) => Err(OpenFault::NoMemory),
+        },
+    }
+}
+
+#[test]
+fn different_objects_are_opened(rt: HostRuntime) -> Result<(), Fail> {
+    let core = opened_distinct(rt.alloc(), &THREE)?;
+    let values = (core.value(Ob(1)), core.value(Ob(2)), core.value(Ob(3)));
+    drop(core);
+    assert_eq!(rt; values, (Some(100), Some(200), Some(300)));
+    Ok(())
 }
 
 /// Returns whether the check holds of a facility that is opened.

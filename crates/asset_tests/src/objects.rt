@@ -1,6 +1,6 @@
 //! Each public call once, on worked values, and what is left if memory runs out.
 
-use asset_names::{NoMemory, Ob, Txn};
+use asset_names::{NoMemory, Ob, Txn, least_double};
 use asset_objects::{Objects, ObjectsFault};
 use std::alloc::Global;
 use std::test::Fail;
@@ -8,7 +8,6 @@ use std::test::Fail;
 const TWO: [(Ob, i64); 2] = [(Ob(1), 100), (Ob(2), 200)];
 
 /// Reserves a write, and writes to an object if it exists.
-#[tactic(auto, using(asset_objects::proofs::TableLemmas::exists_by_value))]
 pub(crate) fn write_once(objects: &mut Objects, t: u64, x: u64, v: i64) -> Result<(), NoMemory> {
     if objects.value(Ob(x)).is_some() {
         objects.reserve_write()?;
@@ -124,6 +123,61 @@ fn undo_of_several_objects(rt: HostRuntime) -> Result<(), Fail> {
     let undone = undo_takes_all(&mut objects);
     drop(objects);
     assert!(rt; undone);
+    Ok(())
+}
+
+/// Opens these objects if they are all different, and asks once.
+fn opened_distinct(alloc: Global, opening: &[(Ob, i64)]) -> Result<Objects, ObjectsFault> {
+    match least_double(opening) {
+        Some(x) => Err(ObjectsFault::DoubleObject(x)),
+        None => match Objects::open_distinct(alloc, opening) {
+            Ok(objects) => Ok(objects),
+            Err(NoMemory) => Err(ObjectsFault::NoMemory),
+        },
+    }
+}
+
+#[test]
+fn different_objects_are_opened(rt: HostRuntime) -> Result<(), Fail> {
+    let objects = opened_distinct(rt.alloc(), &TWO)?;
+    let shown = shows(&objects, 100, 200);
+    drop(objects);
+    assert!(rt; shown);
+    Ok(())
+}
+
+/// Reserves a write before 7 and 8 end, and lets 9 write to the first object after that.
+fn write_after_ends_once(objects: &mut Objects) -> Result<(), NoMemory> {
+    objects.reserve_write()?;
+    objects.undo(Txn(7));
+    objects.settle(Txn(8));
+    if objects.value(Ob(1)).is_some() {
+        objects.write(Txn(9), Ob(1), 70);
+    }
+    Ok(())
+}
+
+/// Writes as `write_after_ends_once` does. If memory runs out once, the same call is made again.
+fn write_after_ends(objects: &mut Objects) -> Result<(), NoMemory> {
+    match write_after_ends_once(objects) {
+        Ok(()) => Ok(()),
+        Err(NoMemory) => write_after_ends_once(objects),
+    }
+}
+
+/// Returns whether 9 writes with a reservation from before the ends of 7 and 8, and can be undone.
+fn reservation_stands(objects: &mut Objects) -> bool {
+    let written = write_after_ends(objects) == Ok(()) && shows(objects, 70, 200);
+    objects.undo(Txn(9));
+    written && shows(objects, 60, 200)
+}
+
+#[test]
+fn reservation_outlives_ends(rt: HostRuntime) -> Result<(), Fail> {
+    let mut objects = written_twice(&rt)?;
+    let stands = reservation_stands(&mut objects);
+    drop(objects);
+    assert!(rt; stands);
     Ok(())
 }
 
