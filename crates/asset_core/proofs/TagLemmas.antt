@@ -1,6 +1,7 @@
 -- The reply to a step is about what the step names.
-use Rattle.std.proofs.Common.{◌≡◌, Bool, true, false, cond, List, [], ◌∷◌, refl, subst}
-use Rattle.std.specs.Prelude.{pos, Some}
+use Rattle.std.proofs.Common.{◌≡◌, suc, Bool, true, false, cond, eqb, List, [], ◌∷◌, refl, sym, ◌∙◌, ap, subst, None}
+use Rattle.std.specs.Prelude.{pos, Some, Option, find, slice_get, unwrap_or}
+use Rattle.std.proofs.lemmas.Bool.{eqb-true, eq-eqb, false≢true, true≢false}
 use Rattle.asset_names.specs.declared.names.Txn.{Txn}
 use Rattle.asset_names.specs.declared.operations.Op.TheVariants as Op'
 use Rattle.asset_names.specs.declared.statuses.Status.{Status}
@@ -14,8 +15,15 @@ use Rattle.asset_names.specs.declared.replies.Outcome.TheVariants.{Answer, Wait}
 use Rattle.asset_names.specs.Steps.{Opening}
 use Rattle.asset_names.specs.Endings.{status}
 use Rattle.asset_names.specs.Operations.{free, value}
-use Rattle.asset_names.specs.Answers.{Rule, rules_for, first_refusal, class_completed, commit_outcome, wait_outcome, unrefused, outcome_unless, answer, unknown, ended, not_running, taken, begun_before, too_late, no_object}
-use Rattle.asset_core.specs.Stored.{tag_of, value_read, reply_about, reply_of_name}
+use Rattle.asset_names.specs.Answers.{Rule, rules_for, first_refusal, class_completed, commit_outcome, wait_outcome, unrefused, outcome_unless, answer, unknown, ended, not_running, taken, begun_before, too_late, no_object, one_name, missing_in, missing_rule, no_object_of}
+use Rattle.asset_names.specs.declared.names.Ob.{Ob}
+use Rattle.asset_names.specs.declared.sets.ObSet.{ObSet}
+use Rattle.asset_names.specs.declared.sets.ObSet.TheVariants.{All, Listed}
+use Rattle.asset_names.specs.declared.replies.Refusal.TheVariants as Refusal'
+use Rattle.asset_names.specs.OpSets.{OpSet}
+use Rattle.asset_names.specs.Sets.{no_object_name}
+use Rattle.asset_core.specs.declared.reply_tag.ReplyTag.TheVariants as ReplyTag'
+use Rattle.asset_core.specs.Stored.{tag_of, tag_of_two, value_read, reply_about, reply_of_name, reply_of_two, position, missing_at, object_at}
 
 -- a reply to the step, made again from its tag and what the step names
 unfoldable pub again : Step → Reply → Reply
@@ -24,15 +32,15 @@ again (Begin t) reply = reply_of_name t (tag_of reply)
 again (Read t x) reply = reply_about t x (value_read reply) (tag_of reply)
 again (Write t x v) reply = reply_about t x (pos 0) (tag_of reply)
 again (Complete t) reply = reply_of_name t (tag_of reply)
-again (Permit giver taker obs ops) reply = reply
+again (Permit giver taker obs ops) reply = reply_of_two giver taker (object_at obs (missing_at obs reply)) (tag_of_two giver reply)
 again (Commit t) reply = reply_of_name t (tag_of reply)
 again (Abort t) reply = reply_of_name t (tag_of reply)
 again (WaitFor t) reply = reply_of_name t (tag_of reply)
 
--- each refusal is the same when it is made again
+-- each refusal that applies is the same when it is made again
 AreSame : (Reply → Reply) → List Rule → Type 0
 AreSame make [] = Unit {0}
-AreSame make (rule ∷ rules) = (make (Reply'.Refused rule.1) ≡ Reply'.Refused rule.1) × AreSame make rules
+AreSame make (rule ∷ rules) = (rule.0 ≡ true → make (Reply'.Refused rule.1) ≡ Reply'.Refused rule.1) × AreSame make rules
 
 -- the reply is the same when it is made again, if there is one
 IsSame : (Reply → Reply) → Outcome → Type 0
@@ -42,10 +50,10 @@ IsSame make Wait = Unit {0}
 same_unless : (make : Reply → Reply) (rules : List Rule) (outcome : Outcome) → AreSame make rules → IsSame make outcome → IsSame make (outcome_unless (first_refusal rules) outcome)
 unfolding outcome_unless first_refusal AreSame IsSame
 same_unless make [] outcome refusals same = same
-same_unless make (rule ∷ rules) outcome refusals same = go rule.0 (same_unless make rules outcome refusals.1 same) where
-  go : (applies : Bool) → IsSame make (outcome_unless (first_refusal rules) outcome) → IsSame make (outcome_unless (cond applies (Some rule.1) (first_refusal rules)) outcome)
-  go true later = refusals.0
-  go false later = later
+same_unless make (rule ∷ rules) outcome refusals same = go rule.0 refl (same_unless make rules outcome refusals.1 same) where
+  go : (applies : Bool) → rule.0 ≡ applies → IsSame make (outcome_unless (first_refusal rules) outcome) → IsSame make (outcome_unless (cond applies (Some rule.1) (first_refusal rules)) outcome)
+  go true e later = refusals.0 e
+  go false e later = later
 
 -- a reply that may still have to wait
 same_if : (make : Reply → Reply) (ready : Bool) (reply : Reply) → make reply ≡ reply → IsSame make (cond ready (Answer reply) Wait)
@@ -53,17 +61,84 @@ unfolding IsSame
 same_if make true reply same = same
 same_if make false reply same = tt
 
+-- an object that is found in a list stands at its position
+found_at : (test : Ob → Bool) (objects : List Ob) (x : Ob) → find test objects ≡ Some x → unwrap_or (slice_get objects (position x objects)) no_object_name ≡ x
+unfolding position
+found_at test [] x found = cc
+found_at test (y ∷ objects) x found = by_test (test y) found (found_at test objects x) where
+  one_name : eqb y.0 x.0 ≡ true → y ≡ x
+  one_name e = λ i. record { 0 = eqb-true y.0 x.0 e i }
+
+  here : (same : Bool) → eqb y.0 x.0 ≡ same → (same ≡ false → unwrap_or (slice_get objects (position x objects)) no_object_name ≡ x)
+      → unwrap_or (slice_get (y ∷ objects) (cond same 0 (suc (position x objects)))) no_object_name ≡ x
+  here true e later = one_name e
+  here false e later = later refl
+
+  by_test : (passes : Bool) → cond passes (Some y) (find test objects) ≡ Some x → (find test objects ≡ Some x → unwrap_or (slice_get objects (position x objects)) no_object_name ≡ x)
+      → unwrap_or (slice_get (y ∷ objects) (cond (eqb y.0 x.0) 0 (suc (position x objects)))) no_object_name ≡ x
+  by_test true is later = let same : y ≡ x = cc in here (eqb y.0 x.0) refl (λ other. absurd (true≢false (sym (eq-eqb y.0 x.0 (ap (λ (o : Ob). o.0) same)) ∙ other)))
+  by_test false is later = here (eqb y.0 x.0) refl (λ other. later is)
+
+missing_same : (opening : Opening) (giver taker : Txn) (obs : ObSet) (ops : OpSet) (missing : Option Ob) → missing_in opening obs ≡ missing → (missing_rule missing).0 ≡ true
+    → again (Permit giver taker obs ops) (Reply'.Refused (missing_rule missing).1) ≡ Reply'.Refused (missing_rule missing).1
+unfolding missing_in missing_rule again tag_of_two tag_of reply_of_two reply_about missing_at object_at
+missing_same opening giver taker obs ops None is applies = absurd (false≢true applies)
+missing_same opening giver taker All ops (Some x) is applies = cc
+missing_same opening giver taker (Listed objects) ops (Some x) is applies = ap (λ y. Reply'.Refused (Refusal'.NoObject y)) (found_at _ objects x is)
+
+-- which of two transactions a refusal is about is found again
+first_unknown : (giver taker : Txn) (obs : ObSet) (ops : OpSet) → again (Permit giver taker obs ops) (Reply'.Refused (Refusal'.Unknown giver)) ≡ Reply'.Refused (Refusal'.Unknown giver)
+unfolding again tag_of_two reply_of_two reply_about missing_at
+first_unknown giver taker obs ops = rw (eq-eqb giver.0 giver.0 refl) refl
+
+first_ended : (giver taker : Txn) (obs : ObSet) (ops : OpSet) → again (Permit giver taker obs ops) (Reply'.Refused (Refusal'.Ended giver)) ≡ Reply'.Refused (Refusal'.Ended giver)
+unfolding again tag_of_two reply_of_two reply_about missing_at
+first_ended giver taker obs ops = rw (eq-eqb giver.0 giver.0 refl) refl
+
+second_unknown : (giver taker : Txn) (obs : ObSet) (ops : OpSet) → again (Permit giver taker obs ops) (Reply'.Refused (Refusal'.Unknown taker)) ≡ Reply'.Refused (Refusal'.Unknown taker)
+unfolding again tag_of_two reply_of_two reply_about missing_at
+second_unknown giver taker obs ops = go (eqb taker.0 giver.0) refl where
+  go : (same : Bool) → eqb taker.0 giver.0 ≡ same → reply_of_two giver taker (object_at obs (missing_at obs (Reply'.Refused (Refusal'.Unknown taker)))) (cond same ReplyTag'.Unknown ReplyTag'.SecondUnknown) ≡ Reply'.Refused (Refusal'.Unknown taker)
+  go true e = λ i. Reply'.Refused (Refusal'.Unknown (record { 0 = sym (eqb-true taker.0 giver.0 e) i }))
+  go false e = refl
+
+second_ended : (giver taker : Txn) (obs : ObSet) (ops : OpSet) → again (Permit giver taker obs ops) (Reply'.Refused (Refusal'.Ended taker)) ≡ Reply'.Refused (Refusal'.Ended taker)
+unfolding again tag_of_two reply_of_two reply_about missing_at
+second_ended giver taker obs ops = go (eqb taker.0 giver.0) refl where
+  go : (same : Bool) → eqb taker.0 giver.0 ≡ same → reply_of_two giver taker (object_at obs (missing_at obs (Reply'.Refused (Refusal'.Ended taker)))) (cond same ReplyTag'.Ended ReplyTag'.SecondEnded) ≡ Reply'.Refused (Refusal'.Ended taker)
+  go true e = λ i. Reply'.Refused (Refusal'.Ended (record { 0 = sym (eqb-true taker.0 giver.0 e) i }))
+  go false e = refl
+
+one_name_same : (giver taker : Txn) (obs : ObSet) (ops : OpSet) → again (Permit giver taker obs ops) (Reply'.Refused Refusal'.Same) ≡ Reply'.Refused Refusal'.Same
+unfolding again tag_of_two tag_of reply_of_two reply_about
+one_name_same giver taker obs ops = refl
+
 refusals_same : (opening : Opening) (steps : List Step) (step : Step) → AreSame (again step) (rules_for opening steps step)
-unfolding AreSame again rules_for unknown ended not_running taken begun_before too_late no_object tag_of reply_about reply_of_name
-refusals_same opening steps (Initiate t parent) = (refl, tt)
-refusals_same opening steps (Begin t) = (refl, (refl, (refl, tt)))
-refusals_same opening steps (Read t x) = (refl, (refl, (refl, (refl, tt))))
-refusals_same opening steps (Write t x v) = (refl, (refl, (refl, (refl, tt))))
-refusals_same opening steps (Complete t) = (refl, (refl, (refl, tt)))
-refusals_same opening steps (Permit giver taker obs ops) = (refl, (refl, (refl, (refl, (refl, (refl, tt))))))
-refusals_same opening steps (Commit t) = (refl, tt)
-refusals_same opening steps (Abort t) = (refl, (refl, tt))
-refusals_same opening steps (WaitFor t) = (refl, tt)
+unfolding AreSame again rules_for unknown ended not_running taken begun_before too_late no_object one_name no_object_of tag_of reply_about reply_of_name
+refusals_same opening steps (Initiate t parent) = (λ _. refl, tt)
+refusals_same opening steps (Begin t) = (λ _. refl, (λ _. refl, (λ _. refl, tt)))
+refusals_same opening steps (Read t x) = (λ _. refl, (λ _. refl, (λ _. refl, (λ _. refl, tt))))
+refusals_same opening steps (Write t x v) = (λ _. refl, (λ _. refl, (λ _. refl, (λ _. refl, tt))))
+refusals_same opening steps (Complete t) = (λ _. refl, (λ _. refl, (λ _. refl, tt)))
+refusals_same opening steps (Permit giver taker obs ops) = (
+  λ _. one_name_same giver taker obs ops,
+  (
+    λ _. first_unknown giver taker obs ops,
+    (
+      λ _. second_unknown giver taker obs ops,
+      (
+        λ _. first_ended giver taker obs ops,
+        (
+          λ _. second_ended giver taker obs ops,
+          (λ applies. missing_same opening giver taker obs ops (missing_in opening obs) refl applies, tt),
+        ),
+      ),
+    ),
+  ),
+)
+refusals_same opening steps (Commit t) = (λ _. refl, tt)
+refusals_same opening steps (Abort t) = (λ _. refl, (λ _. refl, tt))
+refusals_same opening steps (WaitFor t) = (λ _. refl, tt)
 
 commit_same : (t : Txn) (now : Status) (ready : Bool) → IsSame (λ reply. reply_of_name t (tag_of reply)) (commit_outcome now ready)
 unfolding IsSame commit_outcome tag_of reply_about reply_of_name
@@ -84,7 +159,7 @@ wait_same t Status'.Initiated = tt
 wait_same t Status'.Running = tt
 
 unrefused_same : (opening : Opening) (steps : List Step) (step : Step) → IsSame (again step) (unrefused opening steps step)
-unfolding IsSame again unrefused tag_of value_read reply_about reply_of_name
+unfolding IsSame again unrefused tag_of tag_of_two value_read reply_about reply_of_name reply_of_two
 unrefused_same opening steps (Initiate t parent) = refl
 unrefused_same opening steps (Begin t) = refl
 unrefused_same opening steps (Read t x) = same_if _ (free steps t.0 x.0 Op'.Read) (Reply'.Value (value opening steps x.0)) refl

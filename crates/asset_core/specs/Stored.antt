@@ -1,9 +1,11 @@
--- How the entries of a history are stored: a refusal without the name or the object that it is about, which the
--- step names; and a permit, whose set is large, in a list beside, where its entry has its index.
-use Rattle.std.specs.Prelude.{◌≡◌, ℕ, ℤ, pos, ◌≤◌, Bool, true, nat_lt, List, [], ◌∷◌, ◌++◌, length, map, reverse, slice_get, Option, Some, None}
+-- How the entries of a history are stored: a reply as a tag, since the step has what the reply is about; and the set of
+-- objects of a permit, which is large, in a list of sets, with its index in the entry.
+use Rattle.std.specs.Prelude.{◌≡◌, ℕ, suc, ℤ, pos, ◌≤◌, ◌==◌, Bool, true, cond, nat_lt, List, [], ◌∷◌, ◌++◌, length, map, reverse, slice_get, unwrap_or, Option, Some, None}
 use Rattle.std.specs.List.{list_all}
 use Rattle.asset_names.specs.declared.names.Txn.{Txn}
 use Rattle.asset_names.specs.declared.names.Ob.{Ob}
+use Rattle.asset_names.specs.declared.sets.ObSet.{ObSet}
+use Rattle.asset_names.specs.declared.sets.ObSet.TheVariants.{All, Listed}
 use Rattle.asset_names.specs.declared.steps.Step.{Step}
 use Rattle.asset_names.specs.declared.steps.Step.TheVariants.{Initiate, Begin, Read, Write, Complete, Permit, Commit, Abort, WaitFor}
 use Rattle.asset_names.specs.declared.replies.Refusal.TheVariants as Refusal'
@@ -11,10 +13,11 @@ use Rattle.asset_names.specs.declared.replies.Reply.{Reply}
 use Rattle.asset_names.specs.declared.replies.Reply.TheVariants as Reply'
 use Rattle.asset_names.specs.Steps.{Opening, Entry}
 use Rattle.asset_names.specs.Sets.{no_object_name}
+use Rattle.asset_names.specs.OpSets.{OpSet}
 use Rattle.asset_names.specs.Answers.{IsLegal}
 use Rattle.asset_core.specs.declared.reply_tag.ReplyTag.{ReplyTag}
 use Rattle.asset_core.specs.declared.reply_tag.ReplyTag.TheVariants as ReplyTag'
-use Rattle.asset_core.specs.declared.stored.PermitEntry.{PermitEntry}
+use Rattle.asset_core.specs.declared.stored_set.StoredSet.{StoredSet}
 use Rattle.asset_core.specs.declared.stored.Stored.{Stored}
 use Rattle.asset_core.specs.declared.stored.Stored.TheVariants as Stored'
 
@@ -54,70 +57,102 @@ reply_about t x v ReplyTag'.NoObject = Reply'.Refused (Refusal'.NoObject x)
 reply_about t x v ReplyTag'.Same = Reply'.Refused Refusal'.Same
 reply_about t x v ReplyTag'.Cycle = Reply'.Refused Refusal'.Cycle
 reply_about t x v ReplyTag'.TooLate = Reply'.Refused (Refusal'.TooLate t)
+reply_about t x v ReplyTag'.SecondUnknown = Reply'.Refused (Refusal'.Unknown t)
+reply_about t x v ReplyTag'.SecondEnded = Reply'.Refused (Refusal'.Ended t)
 
 -- the reply to a step that operates on nothing
 unfoldable pub reply_of_name : Txn → ReplyTag → Reply
 reply_of_name t tag = reply_about t no_object_name (pos 0) tag
 
--- an entry as it is stored, where so many permits stand beside
+-- the tag of a reply to a step of two transactions, by the first of them: it says which of the two a refusal is about
+unfoldable pub tag_of_two : Txn → Reply → ReplyTag
+tag_of_two first (Reply'.Refused (Refusal'.Unknown t)) = cond (t.0 == first.0) ReplyTag'.Unknown ReplyTag'.SecondUnknown
+tag_of_two first (Reply'.Refused (Refusal'.Ended t)) = cond (t.0 == first.0) ReplyTag'.Ended ReplyTag'.SecondEnded
+tag_of_two first reply = tag_of reply
+
+-- the reply with this tag to a step of two transactions, about an object
+unfoldable pub reply_of_two : Txn → Txn → Ob → ReplyTag → Reply
+reply_of_two first second x ReplyTag'.SecondUnknown = Reply'.Refused (Refusal'.Unknown second)
+reply_of_two first second x ReplyTag'.SecondEnded = Reply'.Refused (Refusal'.Ended second)
+reply_of_two first second x tag = reply_about first x (pos 0) tag
+
+-- the index of an object in a list
+unfoldable pub position : Ob → List Ob → ℕ
+position x [] = 0
+position x (y ∷ objects) = cond (y.0 == x.0) 0 (suc (position x objects))
+
+-- the index in its set of the object that a refusal says is missing, and 0 for any other reply
+unfoldable pub missing_at : ObSet → Reply → ℕ
+missing_at (Listed objects) (Reply'.Refused (Refusal'.NoObject x)) = position x objects
+missing_at obs reply = 0
+
+-- the object at an index of a set
+unfoldable pub object_at : ObSet → ℕ → Ob
+object_at All index = no_object_name
+object_at (Listed objects) index = unwrap_or (slice_get objects index) no_object_name
+
+-- an entry as it is stored, if `count` sets are stored
 unfoldable pub stored_as : ℕ → Step → Reply → Stored
 stored_as count (Initiate t parent) reply = Stored'.Initiate (tag_of reply) t parent
 stored_as count (Begin t) reply = Stored'.Begin (tag_of reply) t
 stored_as count (Read t x) reply = Stored'.Read (tag_of reply) t x (value_read reply)
 stored_as count (Write t x v) reply = Stored'.Write (tag_of reply) t x v
 stored_as count (Complete t) reply = Stored'.Complete (tag_of reply) t
-stored_as count (Permit giver taker obs ops) reply = Stored'.Permit count
+stored_as count (Permit giver taker obs ops) reply = Stored'.Permit (tag_of_two giver reply) (missing_at obs reply) ops count giver taker
 stored_as count (Commit t) reply = Stored'.Commit (tag_of reply) t
 stored_as count (Abort t) reply = Stored'.Abort (tag_of reply) t
 stored_as count (WaitFor t) reply = Stored'.WaitFor (tag_of reply) t
 
--- what stands beside, after an entry
-unfoldable pub sets_after : Step → Reply → List PermitEntry → List PermitEntry
-sets_after (Permit giver taker obs ops) reply beside = beside ++ record { giver = giver; taker = taker; obs = obs; ops = ops; reply = reply } ∷ []
-sets_after step reply beside = beside
+-- the stored sets after an entry
+unfoldable pub sets_after : Step → List StoredSet → List StoredSet
+sets_after (Permit giver taker obs ops) sets = sets ++ record { obs = obs } ∷ []
+sets_after step sets = sets
 
--- the permit that stands beside; where none does, which no kept history has, a wait that nobody asked
-unfoldable pub permit_or_wait : Option PermitEntry → Entry
-permit_or_wait (Some entry) = (Permit entry.giver entry.taker entry.obs entry.ops, entry.reply)
-permit_or_wait None = (WaitFor (record { 0 = 0 }), Reply'.Done)
+-- a stored set; all objects if there is none, which no valid history has
+unfoldable pub set_or_all : Option StoredSet → ObSet
+set_or_all (Some stored) = stored.obs
+set_or_all None = All
+
+-- the entry of a permit by its set
+unfoldable pub permit_entry : ReplyTag → ℕ → OpSet → Txn → Txn → ObSet → Entry
+permit_entry tag missing ops giver taker obs = (Permit giver taker obs ops, reply_of_two giver taker (object_at obs missing) tag)
 
 -- the entry that is stored
-unfoldable pub entry_of : List PermitEntry → Stored → Entry
-entry_of beside (Stored'.Initiate tag t parent) = (Initiate t parent, reply_of_name t tag)
-entry_of beside (Stored'.Begin tag t) = (Begin t, reply_of_name t tag)
-entry_of beside (Stored'.Read tag t x v) = (Read t x, reply_about t x v tag)
-entry_of beside (Stored'.Write tag t x v) = (Write t x v, reply_about t x (pos 0) tag)
-entry_of beside (Stored'.Complete tag t) = (Complete t, reply_of_name t tag)
-entry_of beside (Stored'.Permit index) = permit_or_wait (slice_get beside index)
-entry_of beside (Stored'.Commit tag t) = (Commit t, reply_of_name t tag)
-entry_of beside (Stored'.Abort tag t) = (Abort t, reply_of_name t tag)
-entry_of beside (Stored'.WaitFor tag t) = (WaitFor t, reply_of_name t tag)
+unfoldable pub entry_of : List StoredSet → Stored → Entry
+entry_of sets (Stored'.Initiate tag t parent) = (Initiate t parent, reply_of_name t tag)
+entry_of sets (Stored'.Begin tag t) = (Begin t, reply_of_name t tag)
+entry_of sets (Stored'.Read tag t x v) = (Read t x, reply_about t x v tag)
+entry_of sets (Stored'.Write tag t x v) = (Write t x v, reply_about t x (pos 0) tag)
+entry_of sets (Stored'.Complete tag t) = (Complete t, reply_of_name t tag)
+entry_of sets (Stored'.Permit tag missing ops set giver taker) = permit_entry tag missing ops giver taker (set_or_all (slice_get sets set))
+entry_of sets (Stored'.Commit tag t) = (Commit t, reply_of_name t tag)
+entry_of sets (Stored'.Abort tag t) = (Abort t, reply_of_name t tag)
+entry_of sets (Stored'.WaitFor tag t) = (WaitFor t, reply_of_name t tag)
 
--- the value that a stored entry reads or writes, and 0 of another
+-- the value that a stored entry reads or writes, and 0 for any other
 unfoldable pub value_stored : Stored → ℤ
 value_stored (Stored'.Read tag t x v) = v
 value_stored (Stored'.Write tag t x v) = v
 value_stored stored = pos 0
 
 -- the entries, newest first
-unfoldable pub entries_of : List PermitEntry → List Stored → List Entry
-entries_of beside entries = reverse (map (entry_of beside) entries)
+unfoldable pub entries_of : List StoredSet → List Stored → List Entry
+entries_of sets entries = reverse (map (entry_of sets) entries)
 
--- whether what is stored is in its entry, or stands beside
-unfoldable pub is_there : ℕ → Stored → Bool
-is_there count (Stored'.Permit index) = nat_lt index count
-is_there count stored = true
+-- whether the set of a stored entry, if it has one, is among `count` stored sets
+unfoldable pub has_set : ℕ → Stored → Bool
+has_set count (Stored'.Permit tag missing ops set giver taker) = nat_lt set count
+has_set count stored = true
 
--- whether each entry is there, where so many permits stand beside
-unfoldable pub all_there : ℕ → List Stored → Bool
-all_there count entries = list_all (is_there count) entries
+unfoldable pub all_have_sets : ℕ → List Stored → Bool
+all_have_sets count entries = list_all (has_set count) entries
 
--- How a history is kept: its entries are legal and there; and the room that was taken serves for all entries, each
--- of which may be a permit.
-pub record IsValid (opening : Opening) (entries : List Stored) (beside : List PermitEntry) (capacity reserved sets_reserved : ℕ) : Type 0 where
-  pub legal : IsLegal opening (entries_of beside entries)
-  pub there : all_there (length beside) entries ≡ true
-  pub fewer : length beside ≤ length entries
+-- a stored history is valid: its entries are legal, and their sets are there; and the room that was reserved is enough
+-- for all entries, each of which may have a set
+pub record IsValid (opening : Opening) (entries : List Stored) (sets : List StoredSet) (capacity reserved reserved_sets : ℕ) : Type 0 where
+  pub legal : IsLegal opening (entries_of sets entries)
+  pub there : all_have_sets (length sets) entries ≡ true
+  pub fewer : length sets ≤ length entries
   pub within : length entries ≤ capacity
   pub taken : capacity ≤ reserved
-  pub reserved_sets : capacity ≤ sets_reserved
+  pub taken_sets : capacity ≤ reserved_sets

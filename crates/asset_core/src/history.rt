@@ -1,6 +1,7 @@
 //! A history: the opening, and the entries in order.
 
-use crate::stored::{PermitEntry, Stored, push_set};
+use crate::stored::Stored;
+use crate::stored_set::{StoredSet, push_set};
 use asset_names::{Ob, Reply, Step};
 use std::alloc::{AllocError, Global};
 use std::marker::Model;
@@ -13,7 +14,7 @@ use thiserror::Error;
 pub struct History {
     opening: Vec<(Ob, i64)>,
     entries: Vec<Stored>,
-    permits: Vec<PermitEntry>,
+    sets: Vec<StoredSet>,
     capacity: usize,
 }
 
@@ -24,9 +25,9 @@ impl Model for History {
 
     ghost Value = { Recorded };
 
-    ghost view = { λ h. record { opening = h.opening.items; entries = entries_of h.permits.items h.entries.items; capacity = h.capacity } };
+    ghost view = { λ h. record { opening = h.opening.items; entries = entries_of h.sets.items h.entries.items; capacity = h.capacity } };
 
-    ghost invariant = { λ h. IsValid h.opening.items h.entries.items h.permits.items h.capacity (vec_capacity h.entries) (vec_capacity h.permits) };
+    ghost invariant = { λ h. IsValid h.opening.items h.entries.items h.sets.items h.capacity (vec_capacity h.entries) (vec_capacity h.sets) };
 }
 
 impl History {
@@ -47,7 +48,7 @@ impl History {
         Ok(History {
             opening: opening.to_vec(alloc)?,
             entries: Vec::with_capacity(alloc, capacity)?,
-            permits: Vec::with_capacity(alloc, capacity)?,
+            sets: Vec::with_capacity(alloc, capacity)?,
             capacity,
         })
     }
@@ -80,7 +81,7 @@ impl History {
         ensures legal { IsLegal self.now.opening self.now.entries }
     {
         match self.entries.get(index) {
-            Some(stored) => Some(stored.entry(&self.permits)),
+            Some(stored) => Some(stored.entry(&self.sets)),
             None => None,
         }
     }
@@ -99,8 +100,8 @@ impl History {
         requires room { length self.old.entries < self.old.capacity }
         ensures { self.new ≡ with_entry self.old step.now reply }
     {
-        let stored = Stored::of(step, reply, self.permits.len());
-        push_set(&mut self.permits, step, reply);
+        let stored = Stored::of(step, reply, self.sets.len());
+        push_set(&mut self.sets, step);
         self.entries.push(stored).unwrap();
     }
 }

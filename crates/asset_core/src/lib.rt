@@ -6,6 +6,7 @@ mod facility;
 mod history;
 mod reply_tag;
 mod stored;
+mod stored_set;
 mod tables;
 
 pub use facility::Core;

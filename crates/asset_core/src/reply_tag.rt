@@ -22,11 +22,15 @@ pub(crate) enum ReplyTag {
     Same,
     Cycle,
     TooLate,
+    /// Unknown, of the second of two transactions.
+    SecondUnknown,
+    /// Ended, of the second of two transactions.
+    SecondEnded,
 }
 
 impl ReplyTag {
     ghost use Rattle.std.specs.Prelude.{◌≡◌, pos};
-    ghost use Rattle.asset_core.specs.Stored.{tag_of, reply_about, reply_of_name};
+    ghost use Rattle.asset_core.specs.Stored.{tag_of, tag_of_two, reply_about, reply_of_name, reply_of_two};
 
     /// Returns the tag of the reply.
     #[tactic(auto, unfolding(crate::specs::Stored::tag_of))]
@@ -69,6 +73,55 @@ impl ReplyTag {
             ReplyTag::Same => Reply::Refused(Refusal::Same),
             ReplyTag::Cycle => Reply::Refused(Refusal::Cycle),
             ReplyTag::TooLate => Reply::Refused(Refusal::TooLate(t)),
+            ReplyTag::SecondUnknown => Reply::Refused(Refusal::Unknown(t)),
+            ReplyTag::SecondEnded => Reply::Refused(Refusal::Ended(t)),
+        }
+    }
+
+    /// Returns the tag of the reply to a step of two transactions, by the first of them: it says which of the two a
+    /// refusal is about.
+    #[tactic(auto, unfolding(crate::specs::Stored::tag_of_two, crate::specs::Stored::tag_of))]
+    pub(crate) fn of_two(first: Txn, reply: Reply) -> ReplyTag
+        ensures { result ≡ tag_of_two first reply }
+    {
+        match reply {
+            Reply::Refused(Refusal::Unknown(t)) => {
+                if t.0 == first.0 {
+                    ReplyTag::Unknown
+                } else {
+                    ReplyTag::SecondUnknown
+                }
+            }
+            Reply::Refused(Refusal::Ended(t)) => {
+                if t.0 == first.0 {
+                    ReplyTag::Ended
+                } else {
+                    ReplyTag::SecondEnded
+                }
+            }
+            Reply::Done => ReplyTag::Done,
+            Reply::Value(_) => ReplyTag::Value,
+            Reply::Committed => ReplyTag::Committed,
+            Reply::Aborted => ReplyTag::Aborted,
+            Reply::Refused(Refusal::NotRunning(_)) => ReplyTag::NotRunning,
+            Reply::Refused(Refusal::Taken(_)) => ReplyTag::Taken,
+            Reply::Refused(Refusal::Begun(_)) => ReplyTag::Begun,
+            Reply::Refused(Refusal::NoObject(_)) => ReplyTag::NoObject,
+            Reply::Refused(Refusal::Same) => ReplyTag::Same,
+            Reply::Refused(Refusal::Cycle) => ReplyTag::Cycle,
+            Reply::Refused(Refusal::TooLate(_)) => ReplyTag::TooLate,
+        }
+    }
+
+    /// Returns the reply with this tag to a step of two transactions, about an object.
+    #[tactic(auto, unfolding(crate::specs::Stored::reply_of_two))]
+    pub(crate) fn about_two(self, first: Txn, second: Txn, x: Ob) -> Reply
+        ensures { result ≡ reply_of_two first second x self }
+    {
+        match self {
+            ReplyTag::SecondUnknown => Reply::Refused(Refusal::Unknown(second)),
+            ReplyTag::SecondEnded => Reply::Refused(Refusal::Ended(second)),
+            _ => self.about(first, x, 0),
         }
     }
 

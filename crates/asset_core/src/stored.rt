@@ -1,26 +1,14 @@
-//! How entries are stored: in 32 bytes each, but that a permit, whose set is large, stands in a list beside them
-//! and its entry has its index there.
-
-ghost use Rattle.std.specs.Prelude.{◌≡◌, ◌<◌, ◌≤◌, length, vec_capacity};
-ghost use Rattle.asset_core.specs.Stored.{sets_after};
+//! How entries are stored: in 32 bytes each. The set of objects of a permit, which is large, stands in a list of sets,
+//! and the entry has its index.
 
 use crate::reply_tag::{ReplyTag, value_read};
+use crate::stored_set::{StoredSet, missing_at, object_at};
 use crate::tables::value_asked;
-use asset_names::{Ob, ObSet, Ops, Reply, Step, Txn};
+use asset_names::{Ob, Ops, Reply, Step, Txn};
 use std::mem::size_of;
 
-/// The entry of a permit: what it asks, and the reply.
-#[derive(Clone, Copy)]
-pub(crate) struct PermitEntry {
-    giver: Txn,
-    taker: Txn,
-    obs: ObSet,
-    ops: Ops,
-    reply: Reply,
-}
-
-/// An entry as it is stored: the step, and the tag of its reply. A read has the value that it read, or 0. The
-/// reply's tag comes first, since fields lie in this order, and so it fits beside that of the variant.
+/// An entry as it is stored: the step, and the tag of its reply. A read has the value that it read, or 0. The tag comes
+/// first, because fields lie in this order, and so it fits beside that of the variant.
 #[derive(Clone, Copy)]
 pub(crate) enum Stored {
     Initiate {
@@ -48,9 +36,15 @@ pub(crate) enum Stored {
         tag: ReplyTag,
         t: Txn,
     },
-    /// The permit of this index among those that stand beside.
+    /// Its set is the stored one at the index `set`; a refusal may say that the object at the index `missing` of that
+    /// set does not exist.
     Permit {
-        index: usize,
+        tag: ReplyTag,
+        missing: u8,
+        ops: Ops,
+        set: usize,
+        giver: Txn,
+        taker: Txn,
     },
     Commit {
         tag: ReplyTag,
@@ -70,9 +64,9 @@ const _: () = prove!(size_of::<Stored>() == 32);
 
 impl Stored {
     ghost use Rattle.std.specs.Prelude.{◌≡◌, true, length};
-    ghost use Rattle.asset_core.specs.Stored.{stored_as, entry_of, value_stored, is_there};
+    ghost use Rattle.asset_core.specs.Stored.{stored_as, entry_of, permit_entry, value_stored, has_set};
 
-    /// The entry as it is stored, where so many permits stand beside.
+    /// Returns the entry as it is stored, if `count` sets are stored.
     #[tactic(auto, unfolding(crate::specs::Stored::stored_as, crate::specs::Tables::value_asked))]
     pub(crate) fn of(step: &Step, reply: Reply, count: usize) -> Stored
         ensures { result ≡ stored_as count step.now reply }
@@ -94,18 +88,30 @@ impl Stored {
                 v: value_asked(step),
             },
             Step::Complete { t } => Stored::Complete { tag, t },
-            Step::Permit { .. } => Stored::Permit { index: count },
+            Step::Permit {
+                giver,
+                taker,
+                obs,
+                ops,
+            } => Stored::Permit {
+                tag: ReplyTag::of_two(giver, reply),
+                missing: missing_at(&obs, reply),
+                ops,
+                set: count,
+                giver,
+                taker,
+            },
             Step::Commit { t } => Stored::Commit { tag, t },
             Step::Abort { t } => Stored::Abort { tag, t },
             Step::WaitFor { t } => Stored::WaitFor { tag, t },
         }
     }
 
-    /// The entry that is stored, here or beside.
-    #[tactic(auto, unfolding(crate::specs::Stored::entry_of, crate::specs::Stored::value_stored, crate::specs::Stored::permit_or_wait, crate::specs::Stored::is_there))]
-    pub(crate) fn entry(&self, beside: &[PermitEntry]) -> (Step, Reply)
-        requires there { is_there (length beside.now) self.now ≡ true }
-        ensures { result ≡ entry_of beside.now self.now }
+    /// Returns the entry, whose set, if it has one, is among the stored sets.
+    #[tactic(auto, unfolding(crate::specs::Stored::entry_of, crate::specs::Stored::value_stored, crate::specs::Stored::permit_entry, crate::specs::Stored::set_or_all, crate::specs::Stored::has_set))]
+    pub(crate) fn entry(&self, sets: &[StoredSet]) -> (Step, Reply)
+        requires there { has_set (length sets.now) self.now ≡ true }
+        ensures { result ≡ entry_of sets.now self.now }
     {
         match *self {
             Stored::Initiate { tag, t, parent } => {
@@ -118,14 +124,31 @@ impl Stored {
                 (Step::Write { t, x, v }, tag.about(t, x, 0))
             }
             Stored::Complete { tag, t } => (Step::Complete { t }, tag.about_name(t)),
-            Stored::Permit { index } => beside[index].entry(),
+            Stored::Permit {
+                tag,
+                missing,
+                ops,
+                set,
+                giver,
+                taker,
+            } => {
+                let obs = sets[set].set();
+                let reply = tag.about_two(giver, taker, object_at(&obs, missing));
+                let step = Step::Permit {
+                    giver,
+                    taker,
+                    obs,
+                    ops,
+                };
+                (step, reply)
+            }
             Stored::Commit { tag, t } => (Step::Commit { t }, tag.about_name(t)),
             Stored::Abort { tag, t } => (Step::Abort { t }, tag.about_name(t)),
             Stored::WaitFor { tag, t } => (Step::WaitFor { t }, tag.about_name(t)),
         }
     }
 
-    /// The value that a stored entry reads or writes, and 0 of another.
+    /// Returns the value that a stored entry reads or writes, and 0 for any other.
     #[tactic(auto, unfolding(crate::specs::Stored::value_stored))]
     fn value(&self) -> i64
         ensures { result ≡ value_stored self.now }
@@ -135,51 +158,5 @@ impl Stored {
             Stored::Write { v, .. } => v,
             _ => 0,
         }
-    }
-}
-
-impl PermitEntry {
-    ghost use Rattle.std.specs.Prelude.{◌≡◌, Some};
-    ghost use Rattle.asset_core.specs.Stored.{permit_or_wait};
-
-    /// The permit's step, and the reply.
-    #[tactic(auto, unfolding(crate::specs::Stored::permit_or_wait))]
-    fn entry(&self) -> (Step, Reply)
-        ensures { result ≡ permit_or_wait (Some self.now) }
-    {
-        let step = Step::Permit {
-            giver: self.giver,
-            taker: self.taker,
-            obs: self.obs,
-            ops: self.ops,
-        };
-        (step, self.reply)
-    }
-}
-
-/// Puts a permit's entry to what stands beside. Its room was taken.
-#[tactic(auto, unfolding(crate::specs::Stored::sets_after))]
-pub(crate) fn push_set(beside: &mut Vec<PermitEntry>, step: &Step, reply: Reply)
-    requires room { length beside.old.items < vec_capacity beside.old }
-    ensures items { beside.new.items ≡ sets_after step.now reply beside.old.items }
-    ensures room { vec_capacity beside.old ≤ vec_capacity beside.new }
-{
-    match *step {
-        Step::Permit {
-            giver,
-            taker,
-            obs,
-            ops,
-        } => {
-            let entry = PermitEntry {
-                giver,
-                taker,
-                obs,
-                ops,
-                reply,
-            };
-            beside.push(entry).unwrap();
-        }
-        _ => {}
     }
 }

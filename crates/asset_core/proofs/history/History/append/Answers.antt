@@ -8,12 +8,12 @@ use Rattle.asset_core.proofs.history.History.append.Goals as goal
 
 pub push_set-requires : goal.push_set-requires
 push_set-requires c = record {
-  room = omega (arith, rw (← c.self.view_is, entries_length c.self.inside.permits.items c.self.inside.entries.items) at c.requires.room, c.self.invariant.fewer, c.self.invariant.reserved_sets);
+  room = omega (arith, rw (← c.self.view_is, entries_length c.self.inside.sets.items c.self.inside.entries.items) at c.requires.room, c.self.invariant.fewer, c.self.invariant.taken_sets);
 }
 
 pub unwrap-requires : goal.unwrap-requires
 unwrap-requires c =
-    let below = rw (← c.self.view_is, entries_length c.self.inside.permits.items c.self.inside.entries.items) at c.requires.room in
+    let below = rw (← c.self.view_is, entries_length c.self.inside.sets.items c.self.inside.entries.items) at c.requires.room in
     c.push.ensures.succeeds (omega (arith, below, c.self.invariant.taken))
 
 pub invariant_of-self : goal.invariant_of-self
@@ -24,29 +24,29 @@ invariant_of-self c =
     let stored = c.of-stored.ensures in
     let kept = c.self.invariant in
     let step = c.args.step.now in
-    let permits = c.self.inside.permits.items in
+    let permits = c.self.inside.sets.items in
     let count : c.len.result ≡ length permits = omega (arith, c.len.ensures) in
-    let below = rw (← c.self.view_is, entries_length c.self.inside.permits.items c.self.inside.entries.items) at c.requires.room in
+    let below = rw (← c.self.view_is, entries_length c.self.inside.sets.items c.self.inside.entries.items) at c.requires.room in
     let answered = rw (← c.self.view_is) at c.requires.answer in
     let same = made_again _ _ step c.args.reply answered in
     record {
       legal = rw (pushed, beside, stored, entries_appended step c.args.reply permits c.self.inside.entries.items c.len.result same count kept.there) (answered, kept.legal);
       there = rw (pushed, beside, stored) (there_appended step c.args.reply permits c.self.inside.entries.items c.len.result count kept.there);
-      fewer = rw (pushed, beside, length-append) (omega (arith, kept.fewer, (sets_more step c.args.reply permits).1));
+      fewer = rw (pushed, beside, length-append) (omega (arith, kept.fewer, (sets_more step permits).1));
       within = rw (pushed, length-append) (omega (arith, below));
       taken = omega (arith, kept.taken, c.push.ensures.capacity);
-      reserved_sets = omega (arith, kept.reserved_sets, c.push_set.ensures.room);
+      taken_sets = omega (arith, kept.taken_sets, c.push_set.ensures.room);
     }
 
 pub returns : goal.returns
 unfolding with_entry answer_to
 returns c =
-    let count : c.len.result ≡ length c.self.inside.permits.items = omega (arith, c.len.ensures) in
+    let count : c.len.result ≡ length c.self.inside.sets.items = omega (arith, c.len.ensures) in
     let same = made_again _ _ c.args.step.now c.args.reply c.requires.answer in
     rw (
       ← c.self.view_is,
       rw c.unwrap.ensures at c.push.ensures.items,
       c.push_set.ensures.items,
       c.of-stored.ensures,
-      entries_appended c.args.step.now c.args.reply c.self.inside.permits.items c.self.inside.entries.items c.len.result same count c.self.invariant.there,
+      entries_appended c.args.step.now c.args.reply c.self.inside.sets.items c.self.inside.entries.items c.len.result same count c.self.invariant.there,
     )

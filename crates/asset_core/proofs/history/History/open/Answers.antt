@@ -1,10 +1,10 @@
 use Rattle.std.proofs.Common.{arith, refl}
 use Rattle.asset_names.specs.Answers.{IsLegal}
-use Rattle.asset_core.specs.Stored.{entries_of, all_there}
+use Rattle.asset_core.specs.Stored.{entries_of, all_have_sets}
 use Rattle.asset_core.proofs.history.History.open.Goals as goal
 
 pub invariant_of-result : goal.invariant_of-result
-unfolding IsLegal entries_of all_there
+unfolding IsLegal entries_of all_have_sets
 invariant_of-result c =
     let taken = c.in_ok-with_capacity.ensures in
     let beside = c.in_ok-with_capacity-2.ensures in
@@ -14,5 +14,5 @@ invariant_of-result c =
       fewer = rw (taken.items, beside.items) (omega arith);
       within = rw taken.items (omega arith);
       taken = taken.capacity;
-      reserved_sets = beside.capacity;
+      taken_sets = beside.capacity;
     }
