@@ -1,0 +1,5 @@
+pub mod KeyLemmas
+pub mod Laws
+pub mod RowLemmas
+pub mod SoundLemmas
+pub mod StoreLemmas

@@ -1,0 +1,71 @@
+use Rattle.std.proofs.Common.{◌≡◌, ◌+◌, ◌<◌, length, set, ap, ◌∙◌, arith, add-one}
+use Rattle.std.specs.Prelude.{None}
+use Rattle.std.proofs.lemmas.List.{get_or_read, length-set}
+use Rattle.asset_chains.specs.Chained.{chain_of, home_of, pushed}
+use Rattle.asset_chains.specs.declared.links.Link.{Link}
+use Rattle.asset_chains.specs.declared.heads.Head.{Head}
+use Rattle.asset_chains.specs.Linked.{head_at, no_head, seen}
+use Rattle.asset_chains.proofs.StoreLemmas.{seen_is, push_leaves, valid_from, last_within, listed_within, count_fits}
+use Rattle.asset_chains.proofs.table.Chains.push.Goals as goal
+
+pub set_after-requires : goal.set_after-requires
+set_after-requires c =
+    let links = c.self.inside.links.items in
+    let heads = c.self.inside.heads.items in
+    let table = seen links heads in
+    let stores = c.self.invariant.stored in
+    let chain : c.args.chain < length table.chains = rw (← c.self.view_is) at c.requires.chain in
+    let read : c.index-head.result.now ≡ head_at heads c.args.chain = get_or_read heads c.args.chain c.index-head.result.now (omega (arith, chain, stores.chains)) c.index-head.ensures no_head in
+    omega (
+      arith,
+      ap (λ (h : Head). h.last) (read ∙ stores.ends c.args.chain),
+      last_within (chain_of table c.args.chain) (length links) (listed_within links heads table stores c.args.chain),
+    )
+
+pub with_last-requires : goal.with_last-requires
+with_last-requires c =
+    let links = c.self.inside.links.items in
+    let heads = c.self.inside.heads.items in
+    let table = seen links heads in
+    let stores = c.self.invariant.stored in
+    let chain : c.args.chain < length table.chains = rw (← c.self.view_is) at c.requires.chain in
+    let key : c.args.key < length table.homes = rw (← c.self.view_is) at c.requires.key in
+    let free : home_of table c.args.key ≡ None = rw (← c.self.view_is) at c.requires.free in
+    let read : c.index-head.result.now ≡ head_at heads c.args.chain = get_or_read heads c.args.chain c.index-head.result.now (omega (arith, chain, stores.chains)) c.index-head.ensures no_head in
+    omega (arith, ap (λ (h : Head). h.count) (read ∙ stores.ends c.args.chain), count_fits links heads table stores c.args.chain c.args.key chain key free, c.self.invariant.few_keys)
+
+pub invariant_of-self : goal.invariant_of-self
+invariant_of-self c =
+    let links = c.self.inside.links.items in
+    let heads = c.self.inside.heads.items in
+    let table = seen links heads in
+    let stores = c.self.invariant.stored in
+    let chain : c.args.chain < length table.chains = rw (← c.self.view_is) at c.requires.chain in
+    let key : c.args.key < length table.homes = rw (← c.self.view_is) at c.requires.key in
+    let free : home_of table c.args.key ≡ None = rw (← c.self.view_is) at c.requires.free in
+    let was = c.index-head.result.now in
+    let read : was ≡ head_at heads c.args.chain = get_or_read heads c.args.chain was (omega (arith, chain, stores.chains)) c.index-head.ensures no_head in
+    let between = c.set_after.new.links.items in
+    let link : Link = record { home = c.args.chain + 1; before = was.last; after = 0 } in
+    let left = push_leaves links between heads table c.args.chain c.args.key (c.args.key + 1) link was c.with_last.result stores chain key free read
+    (add-one c.args.key) (ap (λ n. record { home = n; before = was.last; after = 0 }) (add-one c.args.chain)) c.set_after.ensures.size c.set_after.ensures.linked c.with_last.ensures in
+    valid_from (set between c.args.key link) (set heads c.args.chain c.with_last.result) (pushed c.args.chain c.args.key table) left
+    (omega (arith, length-set between c.args.key link, c.set_after.ensures.size, c.self.invariant.few_keys))
+    (omega (arith, length-set heads c.args.chain c.with_last.result, c.self.invariant.few_chains))
+
+pub returns : goal.returns
+returns c =
+    let links = c.self.inside.links.items in
+    let heads = c.self.inside.heads.items in
+    let table = seen links heads in
+    let stores = c.self.invariant.stored in
+    let chain : c.args.chain < length table.chains = rw (← c.self.view_is) at c.requires.chain in
+    let key : c.args.key < length table.homes = rw (← c.self.view_is) at c.requires.key in
+    let free : home_of table c.args.key ≡ None = rw (← c.self.view_is) at c.requires.free in
+    let was = c.index-head.result.now in
+    let read : was ≡ head_at heads c.args.chain = get_or_read heads c.args.chain was (omega (arith, chain, stores.chains)) c.index-head.ensures no_head in
+    let between = c.set_after.new.links.items in
+    let link : Link = record { home = c.args.chain + 1; before = was.last; after = 0 } in
+    let left = push_leaves links between heads table c.args.chain c.args.key (c.args.key + 1) link was c.with_last.result stores chain key free read
+    (add-one c.args.key) (ap (λ n. record { home = n; before = was.last; after = 0 }) (add-one c.args.chain)) c.set_after.ensures.size c.set_after.ensures.linked c.with_last.ensures in
+    seen_is (set between c.args.key link) (set heads c.args.chain c.with_last.result) (pushed c.args.chain c.args.key table) left ∙ ap (pushed c.args.chain c.args.key) c.self.view_is

@@ -1,0 +1,10 @@
+//! Keys in doubly linked chains, which stand beside a slab. A key is in one chain at most, and is taken out of it in
+//! constant time. Only `add_key` and `add_chain` can run out of memory.
+#![tactic(auto)]
+
+mod heads;
+mod links;
+mod table;
+mod writes;
+
+pub use table::Chains;
