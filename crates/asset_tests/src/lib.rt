@@ -9,6 +9,8 @@ pub use steps::{abort, begin, commit, complete, initiate, read, write};
 #[cfg(test)]
 mod again;
 #[cfg(test)]
+mod chains;
+#[cfg(test)]
 mod examples;
 #[cfg(test)]
 mod facility;

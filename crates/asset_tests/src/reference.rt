@@ -122,7 +122,7 @@ fn agree(alloc: Global, steps: &[Step], capacity: usize) -> Result<bool, Fail> {
 }
 
 /// Returns the next of a sequence of numbers that look random.
-fn next(seed: u64) -> u64 {
+pub(crate) fn next(seed: u64) -> u64 {
     seed.wrapping_mul(6_364_136_223_846_793_005)
         .wrapping_add(1_442_695_040_888_963_407)
 }
