@@ -1,8 +1,8 @@
 -- Links and heads store chains, before a call and after it.
-use Rattle.std.proofs.Common.{◌≡◌, ℕ, ◌+◌, ◌-◌, ◌^◌, ◌<◌, ◌≤◌, true, false, eqb, List, [], ◌∷◌, ◌++◌, length, set, map, Option, Some, None, unwrap_or, refl, sym, ap, subst, ◌∙◌, arith, zero, suc, inl, inr}
+use Rattle.std.proofs.Common.{◌≡◌, ℕ, ◌+◌, ◌-◌, ◌^◌, ◌<◌, ◌≤◌, true, false, eqb, List, [], ◌∷◌, ◌++◌, length, get_or, set, map, Option, Some, None, unwrap_or, refl, sym, ap, subst, ◌∙◌, arith, zero, suc, inl, inr}
 use Rattle.std.specs.List.{IsDistinct}
 use Rattle.std.proofs.lemmas.Bool.{or_parts, or_left, or_right, eqb-false, eq-eqb, false_from_ne_true, both_ways, cases_eq, cond-false}
-use Rattle.std.proofs.lemmas.List.{length-set, length-map, get_or-set_same, get_or-set_other, ext_get_or, length-append}
+use Rattle.std.proofs.lemmas.List.{get_or_read, length-set, length-map, get_or-set_same, get_or-set_other, ext_get_or, length-append}
 use Rattle.std.proofs.Math.ListN.{get_or-map}
 use Rattle.asset_chains.specs.Chained.{Chained, chain_of, home_of, last_of, behind, ahead, without, lists, pushed, unlinked, one_key_more, one_chain_more}
 use Rattle.asset_chains.specs.declared.links.Link.{Link}
@@ -10,7 +10,7 @@ use Rattle.asset_chains.specs.declared.heads.Head.{Head}
 use Rattle.asset_chains.specs.Linked.{decoded, no_link, no_head, link_at, head_at, with_after, with_before, first_code, last_code, head_of, IsRow, walk, seen, Stores, IsValid}
 use Rattle.asset_chains.proofs.KeyLemmas.{lists-append, distinct_head, distinct_tail, distinct_parts, listed_apart, split_at_key, without_key, last_listed}
 use Rattle.asset_chains.proofs.RowLemmas.{last_code-cons, row_split, row_join, row_frame, row_after, row_before, walk_row, beside, not_last, not_first}
-use Rattle.asset_chains.proofs.Laws.{is_pushed, is_unlinked, read_more, key_more-chain, key_more-home, key_more-keys, key_more-chains, chain_more-chain, chain_more-home, chain_more-chains, chain_more-keys, chain_within, key_within, chain_bound}
+use Rattle.asset_chains.proofs.Laws.{is_pushed, is_unlinked, read_more, key_more-chain, key_more-home, key_more-keys, key_more-chains, chain_more-chain, chain_more-home, chain_more-chains, chain_more-keys, chain_within, home_within, key_within, chain_bound}
 use Rattle.asset_chains.proofs.SoundLemmas.{unlisted, listed_once, homes_apart, sound_pushed, sound_unlinked, sound_same, sound_nothing, no_chain_of}
 
 -- ---- what is stored is what is seen
@@ -315,3 +315,15 @@ unlink_leaves links first second heads table c k link was head stores home is_li
     (λ i. linked_after i ∙ ap (λ (n : ℕ). with_after n link.after (link_at links) i) before ∙ ap (λ (n : ℕ). with_after (last_code 0 (ahead k keys)) n (link_at links) i) after)
     (λ i. linked_before i ∙ ap (λ (n : ℕ). with_before n link.before (link_at first) i) after ∙ ap (λ (n : ℕ). with_before (first_code (behind k keys) 0) n (link_at first) i) before)
     (without (ahead k keys) (behind k keys) k (read ∙ stores.ends c ∙ ap head_of cut) before after)
+
+-- ---- what is read
+pub read_head : (links : List Link) (heads : List Head) (table : Chained) → Stores links heads table → (c : ℕ) (head : Head) → c < length table.chains → head ≡ get_or heads c head → head ≡ head_at heads c
+read_head links heads table stores c head chain read = get_or_read heads c head (omega (arith, chain, stores.chains)) read no_head
+
+-- the link of a key with a home, and where its home is
+pub read_link : (links : List Link) (heads : List Head) (table : Chained) → Stores links heads table → (k : ℕ) (link : Link) → k < length table.homes → link ≡ get_or links k link → 0 < link.home
+    → (link ≡ link_at links k) × (home_of table k ≡ Some (link.home - 1)) × (link.home - 1 < length table.chains)
+read_link links heads table stores k link key read some =
+    let is = get_or_read links k link (omega (arith, key, stores.keys)) read no_link in
+    let home = stored_home_is links heads table stores k link is some in
+    (is, home, (home_within k (link.home - 1) table stores.sound home).1)

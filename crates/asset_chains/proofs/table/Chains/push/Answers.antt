@@ -1,11 +1,11 @@
 use Rattle.std.proofs.Common.{◌≡◌, ◌+◌, ◌<◌, length, set, ap, ◌∙◌, arith, add-one}
 use Rattle.std.specs.Prelude.{None}
-use Rattle.std.proofs.lemmas.List.{get_or_read, length-set}
+use Rattle.std.proofs.lemmas.List.{length-set}
 use Rattle.asset_chains.specs.Chained.{chain_of, home_of, pushed}
 use Rattle.asset_chains.specs.declared.links.Link.{Link}
 use Rattle.asset_chains.specs.declared.heads.Head.{Head}
-use Rattle.asset_chains.specs.Linked.{head_at, no_head, seen}
-use Rattle.asset_chains.proofs.StoreLemmas.{seen_is, push_leaves, valid_from, last_within, listed_within, count_fits}
+use Rattle.asset_chains.specs.Linked.{seen}
+use Rattle.asset_chains.proofs.StoreLemmas.{seen_is, push_leaves, read_head, valid_from, last_within, listed_within, count_fits}
 use Rattle.asset_chains.proofs.table.Chains.push.Goals as goal
 
 pub set_after-requires : goal.set_after-requires
@@ -14,8 +14,7 @@ set_after-requires c =
     let heads = c.self.inside.heads.items in
     let table = seen links heads in
     let stores = c.self.invariant.stored in
-    let chain : c.args.chain < length table.chains = rw (← c.self.view_is) at c.requires.chain in
-    let read : c.index-head.result.now ≡ head_at heads c.args.chain = get_or_read heads c.args.chain c.index-head.result.now (omega (arith, chain, stores.chains)) c.index-head.ensures no_head in
+    let read = read_head links heads table stores c.args.chain c.index-head.result.now (rw (← c.self.view_is) at c.requires.chain) c.index-head.ensures in
     omega (
       arith,
       ap (λ (h : Head). h.last) (read ∙ stores.ends c.args.chain),
@@ -31,7 +30,7 @@ with_last-requires c =
     let chain : c.args.chain < length table.chains = rw (← c.self.view_is) at c.requires.chain in
     let key : c.args.key < length table.homes = rw (← c.self.view_is) at c.requires.key in
     let free : home_of table c.args.key ≡ None = rw (← c.self.view_is) at c.requires.free in
-    let read : c.index-head.result.now ≡ head_at heads c.args.chain = get_or_read heads c.args.chain c.index-head.result.now (omega (arith, chain, stores.chains)) c.index-head.ensures no_head in
+    let read = read_head links heads table stores c.args.chain c.index-head.result.now chain c.index-head.ensures in
     omega (arith, ap (λ (h : Head). h.count) (read ∙ stores.ends c.args.chain), count_fits links heads table stores c.args.chain c.args.key chain key free, c.self.invariant.few_keys)
 
 pub invariant_of-self : goal.invariant_of-self
@@ -44,10 +43,10 @@ invariant_of-self c =
     let key : c.args.key < length table.homes = rw (← c.self.view_is) at c.requires.key in
     let free : home_of table c.args.key ≡ None = rw (← c.self.view_is) at c.requires.free in
     let was = c.index-head.result.now in
-    let read : was ≡ head_at heads c.args.chain = get_or_read heads c.args.chain was (omega (arith, chain, stores.chains)) c.index-head.ensures no_head in
     let between = c.set_after.new.links.items in
     let link : Link = record { home = c.args.chain + 1; before = was.last; after = 0 } in
-    let left = push_leaves links between heads table c.args.chain c.args.key (c.args.key + 1) link was c.with_last.result stores chain key free read
+    let left = push_leaves links between heads table c.args.chain c.args.key (c.args.key + 1) link was c.with_last.result stores chain key free
+    (read_head links heads table stores c.args.chain was chain c.index-head.ensures)
     (add-one c.args.key) (ap (λ n. record { home = n; before = was.last; after = 0 }) (add-one c.args.chain)) c.set_after.ensures.size c.set_after.ensures.linked c.with_last.ensures in
     valid_from (set between c.args.key link) (set heads c.args.chain c.with_last.result) (pushed c.args.chain c.args.key table) left
     (omega (arith, length-set between c.args.key link, c.set_after.ensures.size, c.self.invariant.few_keys))
@@ -63,9 +62,9 @@ returns c =
     let key : c.args.key < length table.homes = rw (← c.self.view_is) at c.requires.key in
     let free : home_of table c.args.key ≡ None = rw (← c.self.view_is) at c.requires.free in
     let was = c.index-head.result.now in
-    let read : was ≡ head_at heads c.args.chain = get_or_read heads c.args.chain was (omega (arith, chain, stores.chains)) c.index-head.ensures no_head in
     let between = c.set_after.new.links.items in
     let link : Link = record { home = c.args.chain + 1; before = was.last; after = 0 } in
-    let left = push_leaves links between heads table c.args.chain c.args.key (c.args.key + 1) link was c.with_last.result stores chain key free read
+    let left = push_leaves links between heads table c.args.chain c.args.key (c.args.key + 1) link was c.with_last.result stores chain key free
+    (read_head links heads table stores c.args.chain was chain c.index-head.ensures)
     (add-one c.args.key) (ap (λ n. record { home = n; before = was.last; after = 0 }) (add-one c.args.chain)) c.set_after.ensures.size c.set_after.ensures.linked c.with_last.ensures in
     seen_is (set between c.args.key link) (set heads c.args.chain c.with_last.result) (pushed c.args.chain c.args.key table) left ∙ ap (pushed c.args.chain c.args.key) c.self.view_is

@@ -1,10 +1,9 @@
-use Rattle.std.proofs.Common.{◌≡◌, ◌-◌, ◌<◌, length, set, sym, ap, ◌∙◌, arith}
-use Rattle.std.specs.Prelude.{Some}
+use Rattle.std.proofs.Common.{◌-◌, set, sym, ap, ◌∙◌, arith}
 use Rattle.std.proofs.lemmas.List.{get_or_read, length-set}
-use Rattle.asset_chains.specs.Chained.{home_of, unlinked}
-use Rattle.asset_chains.specs.Linked.{head_at, link_at, no_head, no_link, seen}
-use Rattle.asset_chains.proofs.Laws.{home_within, unlinks_nothing}
-use Rattle.asset_chains.proofs.StoreLemmas.{seen_is, unlink_leaves, valid_from, stored_home_is, stored_home_none, before_within, after_within, count_some}
+use Rattle.asset_chains.specs.Chained.{unlinked}
+use Rattle.asset_chains.specs.Linked.{no_link, seen}
+use Rattle.asset_chains.proofs.Laws.{unlinks_nothing}
+use Rattle.asset_chains.proofs.StoreLemmas.{seen_is, unlink_leaves, read_head, read_link, valid_from, stored_home_none, before_within, after_within, count_some}
 use Rattle.asset_chains.proofs.table.Chains.unlink.Goals as goal
 
 pub index-head-requires : goal.index-head-requires
@@ -13,11 +12,9 @@ index-head-requires c =
     let heads = c.self.inside.heads.items in
     let table = seen links heads in
     let stores = c.self.invariant.stored in
-    let key : c.args.key < length table.homes = rw (← c.self.view_is) at c.requires in
     let link = c.index-link.result.now in
-    let read : link ≡ link_at links c.args.key = get_or_read links c.args.key link (omega (arith, key, stores.keys)) c.index-link.ensures no_link in
-    let home : home_of table c.args.key ≡ Some (link.home - 1) = stored_home_is links heads table stores c.args.key link read c.if-link-gt0.true in
-    omega (arith, (home_within c.args.key (link.home - 1) table stores.sound home).1, stores.chains)
+    let at = read_link links heads table stores c.args.key link (rw (← c.self.view_is) at c.requires) c.index-link.ensures c.if-link-gt0.true in
+    omega (arith, at.2, stores.chains)
 
 pub set_after-requires : goal.set_after-requires
 set_after-requires c =
@@ -25,11 +22,9 @@ set_after-requires c =
     let heads = c.self.inside.heads.items in
     let table = seen links heads in
     let stores = c.self.invariant.stored in
-    let key : c.args.key < length table.homes = rw (← c.self.view_is) at c.requires in
     let link = c.index-link.result.now in
-    let read : link ≡ link_at links c.args.key = get_or_read links c.args.key link (omega (arith, key, stores.keys)) c.index-link.ensures no_link in
-    let home : home_of table c.args.key ≡ Some (link.home - 1) = stored_home_is links heads table stores c.args.key link read c.if-link-gt0.true in
-    before_within links heads table stores c.args.key (link.home - 1) link read home
+    let at = read_link links heads table stores c.args.key link (rw (← c.self.view_is) at c.requires) c.index-link.ensures c.if-link-gt0.true in
+    before_within links heads table stores c.args.key (link.home - 1) link at.0 at.1
 
 pub set_before-requires : goal.set_before-requires
 set_before-requires c =
@@ -37,11 +32,9 @@ set_before-requires c =
     let heads = c.self.inside.heads.items in
     let table = seen links heads in
     let stores = c.self.invariant.stored in
-    let key : c.args.key < length table.homes = rw (← c.self.view_is) at c.requires in
     let link = c.index-link.result.now in
-    let read : link ≡ link_at links c.args.key = get_or_read links c.args.key link (omega (arith, key, stores.keys)) c.index-link.ensures no_link in
-    let home : home_of table c.args.key ≡ Some (link.home - 1) = stored_home_is links heads table stores c.args.key link read c.if-link-gt0.true in
-    omega (arith, after_within links heads table stores c.args.key (link.home - 1) link read home, c.set_after.ensures.size)
+    let at = read_link links heads table stores c.args.key link (rw (← c.self.view_is) at c.requires) c.index-link.ensures c.if-link-gt0.true in
+    omega (arith, after_within links heads table stores c.args.key (link.home - 1) link at.0 at.1, c.set_after.ensures.size)
 
 pub without_key-requires : goal.without_key-requires
 without_key-requires c =
@@ -49,14 +42,10 @@ without_key-requires c =
     let heads = c.self.inside.heads.items in
     let table = seen links heads in
     let stores = c.self.invariant.stored in
-    let key : c.args.key < length table.homes = rw (← c.self.view_is) at c.requires in
     let link = c.index-link.result.now in
-    let read : link ≡ link_at links c.args.key = get_or_read links c.args.key link (omega (arith, key, stores.keys)) c.index-link.ensures no_link in
-    let home : home_of table c.args.key ≡ Some (link.home - 1) = stored_home_is links heads table stores c.args.key link read c.if-link-gt0.true in
-    let chain = (home_within c.args.key (link.home - 1) table stores.sound home).1 in
-    let was = c.index-head.result.now in
-    let read_head : was ≡ head_at heads (link.home - 1) = get_or_read heads (link.home - 1) was (omega (arith, chain, stores.chains)) c.index-head.ensures no_head in
-    count_some links heads table stores c.args.key (link.home - 1) was read_head home
+    let at = read_link links heads table stores c.args.key link (rw (← c.self.view_is) at c.requires) c.index-link.ensures c.if-link-gt0.true in
+    let head = c.index-head.result.now in
+    count_some links heads table stores c.args.key (link.home - 1) head (read_head links heads table stores (link.home - 1) head at.2 c.index-head.ensures) at.1
 
 pub index_mut-requires-then-link-gt0 : goal.index_mut-requires-then-link-gt0
 index_mut-requires-then-link-gt0 c =
@@ -64,11 +53,9 @@ index_mut-requires-then-link-gt0 c =
     let heads = c.self.inside.heads.items in
     let table = seen links heads in
     let stores = c.self.invariant.stored in
-    let key : c.args.key < length table.homes = rw (← c.self.view_is) at c.requires in
     let link = c.index-link.result.now in
-    let read : link ≡ link_at links c.args.key = get_or_read links c.args.key link (omega (arith, key, stores.keys)) c.index-link.ensures no_link in
-    let home : home_of table c.args.key ≡ Some (link.home - 1) = stored_home_is links heads table stores c.args.key link read c.if-link-gt0.true in
-    omega (arith, (home_within c.args.key (link.home - 1) table stores.sound home).1, stores.chains)
+    let at = read_link links heads table stores c.args.key link (rw (← c.self.view_is) at c.requires) c.index-link.ensures c.if-link-gt0.true in
+    omega (arith, at.2, stores.chains)
 
 pub invariant_of-self : goal.invariant_of-self
 invariant_of-self c =
@@ -76,15 +63,12 @@ invariant_of-self c =
     let heads = c.self.inside.heads.items in
     let table = seen links heads in
     let stores = c.self.invariant.stored in
-    let key : c.args.key < length table.homes = rw (← c.self.view_is) at c.requires in
     let link = c.index-link.result.now in
-    let read : link ≡ link_at links c.args.key = get_or_read links c.args.key link (omega (arith, key, stores.keys)) c.index-link.ensures no_link in
-    let home : home_of table c.args.key ≡ Some (link.home - 1) = stored_home_is links heads table stores c.args.key link read c.if-link-gt0.true in
-    let chain = (home_within c.args.key (link.home - 1) table stores.sound home).1 in
+    let at = read_link links heads table stores c.args.key link (rw (← c.self.view_is) at c.requires) c.index-link.ensures c.if-link-gt0.true in
     let was = c.index-head.result.now in
-    let read_head : was ≡ head_at heads (link.home - 1) = get_or_read heads (link.home - 1) was (omega (arith, chain, stores.chains)) c.index-head.ensures no_head in
     let second = c.set_before.new.links.items in
-    let left = unlink_leaves links c.set_after.new.links.items second heads table (link.home - 1) c.args.key link was c.without_key.result stores home read read_head
+    let left = unlink_leaves links c.set_after.new.links.items second heads table (link.home - 1) c.args.key link was c.without_key.result stores at.1 at.0
+    (read_head links heads table stores (link.home - 1) was at.2 c.index-head.ensures)
     (c.set_before.ensures.size ∙ c.set_after.ensures.size) c.set_after.ensures.linked c.set_before.ensures.linked c.without_key.ensures in
     valid_from (set second c.args.key no_link) (set heads (link.home - 1) c.without_key.result) (unlinked c.args.key table) left
     (omega (arith, length-set second c.args.key no_link, c.set_before.ensures.size, c.set_after.ensures.size, c.self.invariant.few_keys))
@@ -96,15 +80,12 @@ returns-then-link-gt0 c =
     let heads = c.self.inside.heads.items in
     let table = seen links heads in
     let stores = c.self.invariant.stored in
-    let key : c.args.key < length table.homes = rw (← c.self.view_is) at c.requires in
     let link = c.index-link.result.now in
-    let read : link ≡ link_at links c.args.key = get_or_read links c.args.key link (omega (arith, key, stores.keys)) c.index-link.ensures no_link in
-    let home : home_of table c.args.key ≡ Some (link.home - 1) = stored_home_is links heads table stores c.args.key link read c.if-link-gt0.true in
-    let chain = (home_within c.args.key (link.home - 1) table stores.sound home).1 in
+    let at = read_link links heads table stores c.args.key link (rw (← c.self.view_is) at c.requires) c.index-link.ensures c.if-link-gt0.true in
     let was = c.index-head.result.now in
-    let read_head : was ≡ head_at heads (link.home - 1) = get_or_read heads (link.home - 1) was (omega (arith, chain, stores.chains)) c.index-head.ensures no_head in
     let second = c.set_before.new.links.items in
-    let left = unlink_leaves links c.set_after.new.links.items second heads table (link.home - 1) c.args.key link was c.without_key.result stores home read read_head
+    let left = unlink_leaves links c.set_after.new.links.items second heads table (link.home - 1) c.args.key link was c.without_key.result stores at.1 at.0
+    (read_head links heads table stores (link.home - 1) was at.2 c.index-head.ensures)
     (c.set_before.ensures.size ∙ c.set_after.ensures.size) c.set_after.ensures.linked c.set_before.ensures.linked c.without_key.ensures in
     seen_is (set second c.args.key no_link) (set heads (link.home - 1) c.without_key.result) (unlinked c.args.key table) left ∙ ap (unlinked c.args.key) c.self.view_is
 
@@ -114,7 +95,7 @@ returns-else-link-gt0 c =
     let heads = c.self.inside.heads.items in
     let table = seen links heads in
     let stores = c.self.invariant.stored in
-    let key : c.args.key < length table.homes = rw (← c.self.view_is) at c.requires in
+    let key = rw (← c.self.view_is) at c.requires in
     let link = c.index-link.result.now in
-    let read : link ≡ link_at links c.args.key = get_or_read links c.args.key link (omega (arith, key, stores.keys)) c.index-link.ensures no_link in
+    let read = get_or_read links c.args.key link (omega (arith, key, stores.keys)) c.index-link.ensures no_link in
     rw (← c.self.view_is) (sym (unlinks_nothing c.args.key table (stored_home_none links heads table stores c.args.key link read (omega arith))))
