@@ -22,6 +22,7 @@ use Rattle.asset_names.specs.declared.sets.ObSet.TheVariants.{All, Listed}
 use Rattle.asset_names.specs.declared.replies.Refusal.TheVariants as Refusal'
 use Rattle.asset_names.specs.OpSets.{OpSet}
 use Rattle.asset_names.specs.Sets.{no_object_name}
+use Rattle.asset_core.specs.declared.reply_tag.ReplyTag.{ReplyTag}
 use Rattle.asset_core.specs.declared.reply_tag.ReplyTag.TheVariants as ReplyTag'
 use Rattle.asset_core.specs.Stored.{tag_of, tag_of_two, value_read, reply_about, reply_of_name, reply_of_two, position, missing_at, object_at}
 
@@ -86,35 +87,25 @@ missing_same opening giver taker obs ops None is applies = absurd (false≢true 
 missing_same opening giver taker All ops (Some x) is applies = cc
 missing_same opening giver taker (Listed objects) ops (Some x) is applies = ap (λ y. Reply'.Refused (Refusal'.NoObject y)) (found_at _ objects x is)
 
--- which of two transactions a refusal is about is found again
-first_unknown : (giver taker : Txn) (obs : ObSet) (ops : OpSet) → again (Permit giver taker obs ops) (Reply'.Refused (Refusal'.Unknown giver)) ≡ Reply'.Refused (Refusal'.Unknown giver)
-unfolding again tag_of_two reply_of_two reply_about missing_at
-first_unknown giver taker obs ops = rw (eq-eqb giver.0 giver.0 refl) refl
+-- a refusal that is about the first of two transactions is found again, whatever tag it would have about the second
+about_first : (first second : Txn) (x : Ob) (own other : ReplyTag) (refused : Txn → Reply) → reply_of_two first second x own ≡ refused first
+    → reply_of_two first second x (cond (eqb first.0 first.0) own other) ≡ refused first
+about_first first second x own other refused is = rw (eq-eqb first.0 first.0 refl) is
 
-first_ended : (giver taker : Txn) (obs : ObSet) (ops : OpSet) → again (Permit giver taker obs ops) (Reply'.Refused (Refusal'.Ended giver)) ≡ Reply'.Refused (Refusal'.Ended giver)
-unfolding again tag_of_two reply_of_two reply_about missing_at
-first_ended giver taker obs ops = rw (eq-eqb giver.0 giver.0 refl) refl
-
-second_unknown : (giver taker : Txn) (obs : ObSet) (ops : OpSet) → again (Permit giver taker obs ops) (Reply'.Refused (Refusal'.Unknown taker)) ≡ Reply'.Refused (Refusal'.Unknown taker)
-unfolding again tag_of_two reply_of_two reply_about missing_at
-second_unknown giver taker obs ops = go (eqb taker.0 giver.0) refl where
-  go : (same : Bool) → eqb taker.0 giver.0 ≡ same → reply_of_two giver taker (object_at obs (missing_at obs (Reply'.Refused (Refusal'.Unknown taker)))) (cond same ReplyTag'.Unknown ReplyTag'.SecondUnknown) ≡ Reply'.Refused (Refusal'.Unknown taker)
-  go true e = λ i. Reply'.Refused (Refusal'.Unknown (record { 0 = sym (eqb-true taker.0 giver.0 e) i }))
-  go false e = refl
-
-second_ended : (giver taker : Txn) (obs : ObSet) (ops : OpSet) → again (Permit giver taker obs ops) (Reply'.Refused (Refusal'.Ended taker)) ≡ Reply'.Refused (Refusal'.Ended taker)
-unfolding again tag_of_two reply_of_two reply_about missing_at
-second_ended giver taker obs ops = go (eqb taker.0 giver.0) refl where
-  go : (same : Bool) → eqb taker.0 giver.0 ≡ same → reply_of_two giver taker (object_at obs (missing_at obs (Reply'.Refused (Refusal'.Ended taker)))) (cond same ReplyTag'.Ended ReplyTag'.SecondEnded) ≡ Reply'.Refused (Refusal'.Ended taker)
-  go true e = λ i. Reply'.Refused (Refusal'.Ended (record { 0 = sym (eqb-true taker.0 giver.0 e) i }))
-  go false e = refl
+-- a refusal that is about the second is found again by its tag, or by that about the first if the two are one
+about_second : (first second : Txn) (x : Ob) (own other : ReplyTag) (refused : Txn → Reply) → reply_of_two first second x own ≡ refused first
+    → reply_of_two first second x other ≡ refused second → reply_of_two first second x (cond (eqb second.0 first.0) own other) ≡ refused second
+about_second first second x own other refused of_first of_second = go (eqb second.0 first.0) refl where
+  go : (same : Bool) → eqb second.0 first.0 ≡ same → reply_of_two first second x (cond same own other) ≡ refused second
+  go true e = of_first ∙ (λ i. refused (record { 0 = sym (eqb-true second.0 first.0 e) i }))
+  go false e = of_second
 
 one_name_same : (giver taker : Txn) (obs : ObSet) (ops : OpSet) → again (Permit giver taker obs ops) (Reply'.Refused Refusal'.Same) ≡ Reply'.Refused Refusal'.Same
 unfolding again tag_of_two tag_of reply_of_two reply_about
 one_name_same giver taker obs ops = refl
 
 refusals_same : (opening : Opening) (steps : List Step) (step : Step) → AreSame (again step) (rules_for opening steps step)
-unfolding AreSame again rules_for unknown ended not_running taken begun_before too_late no_object one_name no_object_of tag_of reply_about reply_of_name
+unfolding AreSame again rules_for unknown ended not_running taken begun_before too_late no_object one_name no_object_of tag_of tag_of_two reply_about reply_of_name reply_of_two
 refusals_same opening steps (Initiate t parent) = (λ _. refl, tt)
 refusals_same opening steps (Begin t) = (λ _. refl, (λ _. refl, (λ _. refl, tt)))
 refusals_same opening steps (Read t x) = (λ _. refl, (λ _. refl, (λ _. refl, (λ _. refl, tt))))
@@ -123,13 +114,13 @@ refusals_same opening steps (Complete t) = (λ _. refl, (λ _. refl, (λ _. refl
 refusals_same opening steps (Permit giver taker obs ops) = (
   λ _. one_name_same giver taker obs ops,
   (
-    λ _. first_unknown giver taker obs ops,
+    λ _. about_first giver taker _ ReplyTag'.Unknown ReplyTag'.SecondUnknown (λ t. Reply'.Refused (Refusal'.Unknown t)) refl,
     (
-      λ _. second_unknown giver taker obs ops,
+      λ _. about_second giver taker _ ReplyTag'.Unknown ReplyTag'.SecondUnknown (λ t. Reply'.Refused (Refusal'.Unknown t)) refl refl,
       (
-        λ _. first_ended giver taker obs ops,
+        λ _. about_first giver taker _ ReplyTag'.Ended ReplyTag'.SecondEnded (λ t. Reply'.Refused (Refusal'.Ended t)) refl,
         (
-          λ _. second_ended giver taker obs ops,
+          λ _. about_second giver taker _ ReplyTag'.Ended ReplyTag'.SecondEnded (λ t. Reply'.Refused (Refusal'.Ended t)) refl refl,
           (λ applies. missing_same opening giver taker obs ops (missing_in opening obs) refl applies, tt),
         ),
       ),

@@ -99,17 +99,7 @@ impl ReplyTag {
                     ReplyTag::SecondEnded
                 }
             }
-            Reply::Done => ReplyTag::Done,
-            Reply::Value(_) => ReplyTag::Value,
-            Reply::Committed => ReplyTag::Committed,
-            Reply::Aborted => ReplyTag::Aborted,
-            Reply::Refused(Refusal::NotRunning(_)) => ReplyTag::NotRunning,
-            Reply::Refused(Refusal::Taken(_)) => ReplyTag::Taken,
-            Reply::Refused(Refusal::Begun(_)) => ReplyTag::Begun,
-            Reply::Refused(Refusal::NoObject(_)) => ReplyTag::NoObject,
-            Reply::Refused(Refusal::Same) => ReplyTag::Same,
-            Reply::Refused(Refusal::Cycle) => ReplyTag::Cycle,
-            Reply::Refused(Refusal::TooLate(_)) => ReplyTag::TooLate,
+            _ => ReplyTag::of(reply),
         }
     }
 
