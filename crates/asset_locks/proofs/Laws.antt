@@ -2,6 +2,7 @@
 use Rattle.std.proofs.Common.{◌≡◌, ℕ, Bool, true, false, cond, eqb, ◌||◌, List, [], ◌∷◌, Some, None, is_some, refl, ◌∙◌, ap}
 use Rattle.std.specs.Prelude.{Option, find, option_map}
 use Rattle.std.specs.Option.{option_or}
+use Rattle.std.proofs.lemmas.Bool.{eq-eqb}
 use Rattle.std.proofs.lemmas.List.Folds.{find-append}
 use Rattle.asset_names.specs.declared.names.Ob.{Ob}
 use Rattle.asset_names.specs.declared.operations.Op.{Op}
@@ -32,6 +33,13 @@ unfolding enrolled_in enrol_in
 enrolled_more t n table =
     let new : Enrolled = record { name = t; pending = None; held = [] } in
     ap is_some (find-append (named n) table.enrolled (new ∷ [])) ∙ either_some (find (named n) table.enrolled) (find (named n) (new ∷ [])) ∙ ap (λ b. is_some (find (named n) table.enrolled) || b) (if_some (eqb t n) new)
+
+-- who has just been enrolled is enrolled
+pub enrolled_now : (t : ℕ) (table : LockTable) → is_some (enrolled_in (enrol_in t table) t) ≡ true
+enrolled_now t table = enrolled_more t t table ∙ either_true (is_some (enrolled_in table t)) (eqb t t) (eq-eqb t t refl) where
+  either_true : (a b : Bool) → b ≡ true → (a || b) ≡ true
+  either_true true b is = refl
+  either_true false b is = is
 
 enrolled_changed : (t n : ℕ) (change : Enrolled → Enrolled) → ((who : Enrolled) → (change who).name ≡ who.name) → (everyone : List Enrolled) → is_some (find (named n) (change_enrolled t change everyone)) ≡ is_some (find (named n) everyone)
 unfolding change_enrolled

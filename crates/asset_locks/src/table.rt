@@ -63,6 +63,7 @@ impl Locks {
         ensures unlocked { enrolled_in (lock_table self.old) t.0 ≡ None → (x : ℕ) → list_any (is_of t.0) ((lock_table self.old).locks_on x) ≡ false }
         ensures done { OnOk result (enrolled_in (lock_table self.old) t.0 ≡ None → lock_table self.new ≡ enrol_in t.0 (lock_table self.old)) }
         ensures again { is_some (enrolled_in (lock_table self.old) t.0) ≡ true → IsOk result × (self.new ≡ self.old) }
+        ensures enrolled { OnOk result (is_some (enrolled_in (lock_table self.new) t.0) ≡ true) }
         ensures unchanged { OnErr result (lock_table self.new ≡ lock_table self.old) }
     {
         if self.enrolled.contains_key(&t) {

@@ -1,21 +1,10 @@
 //! Each public call on worked values, and what is left if memory runs out.
 
-ghost use Rattle.std.specs.Prelude.{◌≡◌, true, is_some, OnOk};
-ghost use Rattle.asset_locks.specs.LockTable.{enrolled_in};
-ghost use Rattle.asset_locks.specs.Valid.{lock_table};
-
 use asset_locks::{Asked, LockState, Locks};
 use asset_names::{NoMemory, Ob, ObSet, Op, Ops, Txn};
 use asset_permits::Permits;
 use std::alloc::Global;
 use std::test::Fail;
-
-/// Enrols a transaction. An enrolled one stays as it is.
-fn enrol_once(locks: &mut Locks, t: u64) -> Result<(), NoMemory>
-    ensures { OnOk result (is_some (enrolled_in (lock_table locks.new) t) ≡ true) }
-{
-    locks.enrol(Txn(t))
-}
 
 /// Enrols a transaction, unless it is enrolled, and asks for an operation under these permits.
 pub(crate) fn ask_once(
@@ -25,15 +14,15 @@ pub(crate) fn ask_once(
     op: Op,
     permits: &mut Permits,
 ) -> Result<Asked, NoMemory> {
-    enrol_once(locks, t)?;
+    locks.enrol(Txn(t))?;
     locks.ask(Txn(t), Ob(x), op, permits)
 }
 
-/// Enrols as `enrol_once` does. If memory runs out once, the same call is made again.
+/// Enrols a transaction. If memory runs out once, the same call is made again.
 fn enrol(locks: &mut Locks, t: u64) -> Result<(), NoMemory> {
-    match enrol_once(locks, t) {
+    match locks.enrol(Txn(t)) {
         Ok(()) => Ok(()),
-        Err(NoMemory) => enrol_once(locks, t),
+        Err(NoMemory) => locks.enrol(Txn(t)),
     }
 }
 
