@@ -46,7 +46,7 @@ fn make_mark(rows: &PermitRows, marks: &mut Marks) -> Result<(), NoMemory>
 }
 
 impl Permits {
-    ghost use Rattle.std.specs.Prelude.{◌≡◌, ℕ, ◌==◌, ◌&&◌, ◌||◌, not, [], OnOk, OnErr};
+    ghost use Rattle.std.specs.Prelude.{◌≡◌, ℕ, ◌==◌, ◌&&◌, ◌||◌, not, [], OnOk, OnErr, IsOk, true};
     ghost use Rattle.asset_names.specs.declared.operations.Op.{Op};
     ghost use Rattle.asset_names.specs.InSet.{in_set};
     ghost use Rattle.asset_names.specs.OpSets.{has_op};
@@ -71,6 +71,7 @@ impl Permits {
         ensures stands { OnOk result ((e : Descriptor) → stands self.new e ≡ (stands self.old e || same_descriptor (record { giver = giver.0; taker = taker.0; objects = objects; ops = ops }) e)) }
         ensures covers { OnOk result ((u t x : ℕ) (op : Op) → one_covers self.new u t x op ≡ (one_covers self.old u t x op || (u == giver.0 && t == taker.0 && in_set objects x && has_op ops op))) }
         ensures unchanged { OnErr result (self.new ≡ self.old) }
+        ensures again { stands self.old (record { giver = giver.0; taker = taker.0; objects = objects; ops = ops }) ≡ true → IsOk result × (self.new ≡ self.old) }
     {
         let grant = Grant::of(taker, objects, ops);
         if gives(&self.rows, giver, &grant) {

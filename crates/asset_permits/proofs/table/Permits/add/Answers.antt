@@ -1,5 +1,5 @@
 use Rattle.std.proofs.Common.{◌≡◌, ◌∙◌, ◌||◌, ◌&&◌, true, false, eqb, sym, ap, arith, refl}
-use Rattle.std.proofs.lemmas.Bool.{or_left, or_right, and_from, eq-eqb}
+use Rattle.std.proofs.lemmas.Bool.{or_left, or_right, and_from, eq-eqb, false≢true}
 use Rattle.asset_names.specs.InSet.{in_set}
 use Rattle.asset_names.specs.OpSets.{has_op}
 use Rattle.asset_permits.specs.Descriptors.{Descriptor, Grant, descriptor_by, stands, one_covers, same_descriptor, lets}
@@ -91,3 +91,39 @@ returns-clause-covers c =
     ∙ ap (λ ds. one_covers ds u t x op || lets u t x op (descriptor_by g one)) c.note.ensures.shown
     ∙ ap (λ b. one_covers (descriptors_of old) u t x op || b)
     (lets_by u t x op (descriptor_by g one) ∙ ap (λ (k : Grant). eqb u g && eqb t k.taker && in_set k.objects x && has_op k.ops op) c.of-grant.ensures)) c.give.ensures.grants)
+
+pub returns-in_err-make_mark-clause-again : goal.returns-in_err-make_mark-clause-again
+unfolding descriptor_by
+returns-in_err-make_mark-clause-again c = λ there.
+    let old = c.self.inside.rows.entries in
+    let g = c.args.giver.0 in
+    let one = c.of-grant.result in
+    absurd (false≢true (sym c.if-gives.false ∙ c.gives.ensures ∙ sym (stands_flat old g one c.self.invariant.names)
+    ∙ ap (λ k. stands (descriptors_of old) (descriptor_by g k)) c.of-grant.ensures ∙ (rw (← c.self.view_is) at there)))
+
+pub returns-in_err-note-clause-again : goal.returns-in_err-note-clause-again
+unfolding descriptor_by
+returns-in_err-note-clause-again c = λ there.
+    let old = c.self.inside.rows.entries in
+    let g = c.args.giver.0 in
+    let one = c.of-grant.result in
+    absurd (false≢true (sym c.if-gives.false ∙ c.gives.ensures ∙ sym (stands_flat old g one c.self.invariant.names)
+    ∙ ap (λ k. stands (descriptors_of old) (descriptor_by g k)) c.of-grant.ensures ∙ (rw (← c.self.view_is) at there)))
+
+pub returns-in_err-make_mark-2-clause-again : goal.returns-in_err-make_mark-2-clause-again
+unfolding descriptor_by
+returns-in_err-make_mark-2-clause-again c = λ there.
+    let old = c.self.inside.rows.entries in
+    let g = c.args.giver.0 in
+    let one = c.of-grant.result in
+    absurd (false≢true (sym c.if-gives.false ∙ c.gives.ensures ∙ sym (stands_flat old g one c.self.invariant.names)
+    ∙ ap (λ k. stands (descriptors_of old) (descriptor_by g k)) c.of-grant.ensures ∙ (rw (← c.self.view_is) at there)))
+
+pub returns-clause-again : goal.returns-clause-again
+unfolding descriptor_by
+returns-clause-again c = λ there.
+    let old = c.self.inside.rows.entries in
+    let g = c.args.giver.0 in
+    let one = c.of-grant.result in
+    absurd (false≢true (sym c.if-gives.false ∙ c.gives.ensures ∙ sym (stands_flat old g one c.self.invariant.names)
+    ∙ ap (λ k. stands (descriptors_of old) (descriptor_by g k)) c.of-grant.ensures ∙ (rw (← c.self.view_is) at there)))
