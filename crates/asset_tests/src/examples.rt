@@ -150,7 +150,7 @@ begin 7
 initiate 8
 begin 8
 write 7 1 50
-# This waits: it is not answered, and the client asks again later.
+# This prints wait: nothing is recorded, and the client asks again later.
 read 8 1
 # 7 aborts, and its write is undone.
 abort 7
