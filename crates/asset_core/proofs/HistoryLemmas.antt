@@ -155,7 +155,7 @@ holds_initiate u parent steps new orderly t x op = rw (live_initiate u parent st
       let absent : lists (initiated steps) t ≡ false = subst (λ m. lists (initiated steps) m ≡ false) (eqb-true u.0 t e) new in
       rw (held_owned (operations steps) (not_owned (owned (operations steps)) refl absent)) (grind arith)
 
--- one more operation of a live name
+-- one more operation of a live transaction
 pub holds_operation : (step : Step) (steps : List Step) (u y : ℕ) (act : Use) → operations (step ∷ steps) ≡ record { owner = u; object = y; use_of = act } ∷ operations steps
     → initiated (step ∷ steps) ≡ initiated steps → ((n : ℕ) → end_of (step ∷ steps) n ≡ end_of steps n) → live steps u ≡ true
     → (t x : ℕ) (op : Op) → holds (step ∷ steps) t x op ≡ ((eqb u t && eqb y x && same_op (op_of act) op) || holds steps t x op)
@@ -206,7 +206,7 @@ cell_read opening u y steps x = go (opening_at opening x) where
   go None = refl
   go (Some v) = ap Some (cond_same (eqb y.0 x) _ ∙ cell_same (end_of steps) (end_of (Read u y ∷ steps)) ends x v (operations steps))
 
--- the cell of an object after a write of a live name: one more write stands
+-- the cell of an object after a write of a live transaction: one more write stands
 pub cell_write : (opening : Opening) (u : Txn) (y : Ob) (w : ℤ) (steps : List Step) (x : ℕ) → live steps u.0 ≡ true
     → change_at y.0 (written u.0 w) (cell_of opening steps) x ≡ cell_of opening (Write u y w ∷ steps) x
 unfolding cell_of operations operated cell_after used placed change_at

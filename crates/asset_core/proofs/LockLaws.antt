@@ -239,11 +239,11 @@ none_blocks allows t op (lock ∷ locks) allowed = or_from _ _ (go (blocks allow
       go true e =
           let parts = blocks_parts allows t op lock e in
           let apart = eqb-false lock.owner t parts.0 in
-          let reached : allows lock.owner ≡ true = elim (conflicting_op lock.ops op parts.1) [
+          let allowing : allows lock.owner ≡ true = elim (conflicting_op lock.ops op parts.1) [
             | inl reading ↦ allowed lock.owner Op'.Read (or_left _ _ (own Op'.Read reading.0)) reading.1 apart
             | inr writing ↦ allowed lock.owner Op'.Write (or_left _ _ (own Op'.Write writing.0)) writing.1 apart
           ] in
-          absurd (false≢true (sym parts.2 ∙ reached))
+          absurd (false≢true (sym parts.2 ∙ allowing))
 
 -- who is free by the locks, by who holds
 pub free_by_locks : (table : LockTable) (allows : ℕ → Bool) (t x : ℕ) (op : Op) → is_free_in table allows t x op ≡ true → (u : ℕ) (other : Op) → carries table u x other ≡ true → conflict other op ≡ true → u ≢ t → allows u ≡ true

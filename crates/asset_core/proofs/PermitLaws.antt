@@ -57,7 +57,7 @@ pub permit_ends : (giver taker : Txn) (obs : ObSet) (ops : OpSet) (steps : List 
 unfolding end_of ended_by
 permit_ends giver taker obs ops steps n = option_or_none (end_of steps n)
 
--- one more permit between live names
+-- one more permit between live transactions
 pub permitted_permit : (giver taker : Txn) (obs : ObSet) (ops : OpSet) (steps : List Step) → live steps giver.0 ≡ true → live steps taker.0 ≡ true
     → (u n x : ℕ) (op : Op) → permitted (Permit giver taker obs ops ∷ steps) u n x op ≡ (permitted steps u n x op || (eqb u giver.0 && eqb n taker.0 && in_set obs x && has_op ops op))
 unfolding permitted initiated initiated_by

@@ -52,8 +52,8 @@ table_values rows objects locks permits = record { rows = rows; objects = object
 
 -- The tables show the history of the steps that took effect: the transactions are those that were initiated, in order,
 -- each with its status and parent; the cell of each object is that of the history; the live ones are enrolled in order
--- of initiation; a lock carries an operation exactly where its owner holds the object by it; and a descriptor covers an
--- operation on an object exactly where a permit between live transactions lets it be done.
+-- of initiation; a lock carries an operation exactly if its owner holds the object by it; and a descriptor covers an
+-- operation on an object exactly if a permit between live transactions lets it be done.
 pub record Shows (opening : Opening) (steps : List Step) (tables : TableValues) : Type 0 where
   pub names : names_of tables.rows ≡ reverse (initiated steps)
   pub statuses : (t : ℕ) → status_in tables.rows t ≡ status steps t

@@ -211,7 +211,7 @@ impl Core {
         requires effect { effect ≡ takes_effect step.now reply }
         ensures room { result ≡ has_room self.now.history step.now (Answer reply) }
         ensures ending { is_ending self.now.history step.now (Answer reply) ≡ true → result ≡ true }
-        ensures place { result ≡ true → length self.now.history.entries < self.now.history.capacity }
+        ensures within { result ≡ true → length self.now.history.entries < self.now.history.capacity }
     {
         let capacity = self.history.capacity();
         if self.is_ending(step, reply, effect) {

@@ -8,9 +8,9 @@ pub filter_retained : {X S : Type 0} (R : S → X → Bool → S → X → Type 
     → (xs ys : List X) → RetainsInTurn R s xs ys → ys ≡ filter test xs
 filter_retained R test s says [] ys h = h
 filter_retained R test s says (x ∷ xs) ys h =
-    let told = says x h.0 h.1 h.2 h.3 in
-    let rest = filter_retained R test s says xs h.4 (subst (λ t. RetainsInTurn R t xs h.4) told.2 h.5) in
-    h.6 ∙ (λ i. cond (told.0 i) (told.1 i ∷ rest i) (rest i))
+    let said = says x h.0 h.1 h.2 h.3 in
+    let rest = filter_retained R test s says xs h.4 (subst (λ t. RetainsInTurn R t xs h.4) said.2 h.5) in
+    h.6 ∙ (λ i. cond (said.0 i) (said.1 i ∷ rest i) (rest i))
 
 -- what holds holds where there is an error
 pub on_err : {T E P : Type 0} (r : Result T E) → P → OnErr r P

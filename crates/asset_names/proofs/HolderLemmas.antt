@@ -66,8 +66,8 @@ held_list steps t x op (o ∷ os) allowed = or_from _ _ (go (blocks steps t x op
       go false e = refl
       go true e =
           let parts = blocks_parts steps t x op o e in
-          let reached = allowed o.owner (op_of o.use_of) parts.1 (or_left _ _ parts.0) parts.2 (eqb-false o.owner t parts.3) in
-          absurd (false≢true (sym parts.4 ∙ reached))
+          let allowing = allowed o.owner (op_of o.use_of) parts.1 (or_left _ _ parts.0) parts.2 (eqb-false o.owner t parts.3) in
+          absurd (false≢true (sym parts.4 ∙ allowing))
 
 -- x is free for t exactly where each other holder by a conflicting operation allows it
 pub free_allowed : (steps : List Step) (t x : ℕ) (op : Op) → free steps t x op ≡ true → (u : ℕ) (other : Op) → holds steps u x other ≡ true → conflict other op ≡ true → u ≢ t → allows steps u t x op ≡ true

@@ -140,7 +140,7 @@ live_unless steps t = go (lists (initiated steps) t) (lists (begun steps) t) (li
   go true true false None h k = refl
   go true false false None h k = refl
 
--- a permit takes effect only between two live names
+-- a permit takes effect only between two live transactions
 pub permit_live : (opening : Opening) (steps : List Step) (giver taker : Txn) (obs : ObSet) (ops : OpSet) (reply : Reply) → answer opening steps (Permit giver taker obs ops) ≡ Answer reply → takes_effect (Permit giver taker obs ops) reply ≡ true
     → (live steps giver.0 ≡ true) × (live steps taker.0 ≡ true)
 unfolding rules_for unknown ended

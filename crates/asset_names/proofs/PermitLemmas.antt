@@ -78,7 +78,7 @@ has_among test (arrow ∷ arrows) u v = go (eqb arrow.0 u) refl (eqb arrow.1 v) 
   go false e to f true k ih = rw (e, ih) refl
   go false e to f false k ih = ih
 
--- who allows whom, by any arrows that lead as the permits between live names do
+-- who allows whom, by any arrows that lead as the permits between live transactions do
 pub allows_linked : (steps : List Step) (x : ℕ) (op : Op) (arrows : List Arrow) → ((u v : ℕ) → has_arrow arrows u v ≡ (live steps u && live steps v && has_arrow (permits steps x op) u v))
     → (u t : ℕ) → linked arrows u t ≡ allows steps u t x op
 unfolding allows

@@ -12,12 +12,12 @@ use Rattle.asset_names.specs.declared.names.Ob.{Ob}
 use Rattle.asset_names.specs.Sets.{numbers, twice, HasNoDouble, no_object_name}
 use Rattle.asset_names.proofs.DoubleLemmas.{count_by_map}
 
--- the front of some slots rises as the list that was put there
-pub front_rises : (n : ℕ) (front rest : List Ob) → length front ≡ n → IsNonDecreasingBy (λ (x : Ob). x.0) front → IsNonDecreasingBy (λ (x : Ob). x.0) (take n (front ++ rest))
-front_rises n front rest e h =
+-- some slots rise if the list rises that was put into them
+pub put_rises : (n : ℕ) (front rest : List Ob) → length front ≡ n → IsNonDecreasingBy (λ (x : Ob). x.0) front → IsNonDecreasingBy (λ (x : Ob). x.0) (take n (front ++ rest))
+put_rises n front rest e h =
     subst (IsNonDecreasingBy (λ (x : Ob). x.0)) (sym (ap (λ k. take k (front ++ rest)) (sym e) ∙ take-append_seam front rest)) h
 
--- the number of the object at a place
+-- the number of the object in a slot
 numbers-at : (objects : List Ob) (k : ℕ) → get_or (numbers objects) k 0 ≡ (get_or objects k no_object_name).0
 unfolding numbers
 numbers-at [] k = refl

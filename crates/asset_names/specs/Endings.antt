@@ -18,7 +18,7 @@ class_arrows steps = []
 unfoldable pub doom_arrows : List Step → List Arrow
 doom_arrows steps = class_arrows steps
 
--- How a step ends t. A commit ends the whole class of a live name, and an abort all that it spreads to;
+-- How a step ends t. A commit ends the whole class of a live transaction, and an abort all that it spreads to;
 -- `live` says who was live before it.
 unfoldable pub ended_by : Step → (ℕ → Bool) → List Step → ℕ → Option End
 ended_by (Commit u) live older t = cond (live u.0 && linked (among live (class_arrows older)) u.0 t) (Some End'.Committed) None

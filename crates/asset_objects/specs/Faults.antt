@@ -10,7 +10,7 @@ use Rattle.asset_objects.specs.declared.table.ObjectsFault.TheVariants.{DoubleOb
 abbrev pub objects_of : Opening → List ℕ
 objects_of opening = map (λ (pair : Ob × ℤ). pair.0.0) opening
 
--- the least object that is given twice, or memory where no object is
+-- the least object that is given twice, or memory if no object is
 abbrev pub IsObjectsFault : Opening → ObjectsFault → Type 0
 IsObjectsFault opening (DoubleObject x) = IsLeastDouble (objects_of opening) x.0
 IsObjectsFault opening NoMemory = HasNoDouble (objects_of opening)

@@ -26,9 +26,9 @@ pub fn put(values: &mut IndexMap<Ob, i64>, x: Ob, value: i64) -> Option<i64>
     ensures before { result ≡ opening_at values.old.entries x.0 }
     ensures values { (y : ℕ) → opening_at values.new.entries y ≡ put_at values.old.entries x.0 value y }
 {
-    let place = values.get_mut(&x)?;
-    let before = *place;
-    *place = value;
+    let slot = values.get_mut(&x)?;
+    let before = *slot;
+    *slot = value;
     Some(before)
 }
 

@@ -14,9 +14,9 @@ returns-then-is_ending-clause-room c =
     let ends = rw (← c.self.view_is) at (sym c.is_ending.ensures ∙ c.if-is_ending.true) in
     rw (← c.self.view_is) (sym (ending_fits history.opening history.entries c.args.step.now c.args.reply history.capacity c.self.invariant.legal fitted (rw (← c.self.view_is) at c.requires.answer) ends))
 
-pub returns-then-is_ending-clause-place : goal.returns-then-is_ending-clause-place
+pub returns-then-is_ending-clause-within : goal.returns-then-is_ending-clause-within
 unfolding answer_to fits
-returns-then-is_ending-clause-place c = λ _.
+returns-then-is_ending-clause-within c = λ _.
     let history = c.self.inside.history in
     let fitted : fits (applied history.entries) (length history.entries) history.capacity ≡ true = le-leb _ _ c.self.invariant.fitting in
     let ends = rw (← c.self.view_is) at (sym c.is_ending.ensures ∙ c.if-is_ending.true) in

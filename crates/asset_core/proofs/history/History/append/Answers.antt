@@ -20,7 +20,7 @@ pub invariant_of-self : goal.invariant_of-self
 unfolding IsLegal answer_to
 invariant_of-self c =
     let pushed = rw c.unwrap.ensures at c.push.ensures.items in
-    let beside = c.push_set.ensures.items in
+    let stored_sets = c.push_set.ensures.items in
     let stored = c.of-stored.ensures in
     let kept = c.self.invariant in
     let step = c.args.step.now in
@@ -30,9 +30,9 @@ invariant_of-self c =
     let answered = rw (← c.self.view_is) at c.requires.answer in
     let same = made_again _ _ step c.args.reply answered in
     record {
-      legal = rw (pushed, beside, stored, entries_appended step c.args.reply permits c.self.inside.entries.items c.len.result same count kept.there) (answered, kept.legal);
-      there = rw (pushed, beside, stored) (there_appended step c.args.reply permits c.self.inside.entries.items c.len.result count kept.there);
-      fewer = rw (pushed, beside, length-append) (omega (arith, kept.fewer, (sets_more step permits).1));
+      legal = rw (pushed, stored_sets, stored, entries_appended step c.args.reply permits c.self.inside.entries.items c.len.result same count kept.there) (answered, kept.legal);
+      there = rw (pushed, stored_sets, stored) (there_appended step c.args.reply permits c.self.inside.entries.items c.len.result count kept.there);
+      fewer = rw (pushed, stored_sets, length-append) (omega (arith, kept.fewer, (sets_more step permits).1));
       within = rw (pushed, length-append) (omega (arith, below));
       taken = omega (arith, kept.taken, c.push.ensures.capacity);
       taken_sets = omega (arith, kept.taken_sets, c.push_set.ensures.room);

@@ -13,10 +13,10 @@ entry-requires c =
 pub returns-in-Some-clause-entry : goal.returns-in-Some-clause-entry
 returns-in-Some-clause-entry c =
     let entries = c.self.inside.entries.items in
-    let beside = c.self.inside.sets.items in
+    let stored_sets = c.self.inside.sets.items in
     let here = rw c.deref.ensures.value at c.in-Some.ensures.lookup in
     let found : slice_get entries c.args.index ≡ Some c.in-Some.stored.now = slice_get-get_or entries c.args.index c.in-Some.stored.now (ltb-true _ _ (sym here.0)) ∙ ap Some (sym here.1) in
-    rw (← c.self.view_is, entry_stored beside entries c.args.index, found, c.entry.ensures, c.deref-in-Some.ensures.value)
+    rw (← c.self.view_is, entry_stored stored_sets entries c.args.index, found, c.entry.ensures, c.deref-in-Some.ensures.value)
 
 pub returns-in-None-clause-entry : goal.returns-in-None-clause-entry
 returns-in-None-clause-entry c =
