@@ -1,0 +1,262 @@
+-- The lists of records after one is taken back, or dropped with all before it.
+use Rattle.std.proofs.Common.{◌≡◌, ℕ, ◌+◌, ◌*◌, ◌≤◌, Bool, true, false, cond, eqb, ◌||◌, List, [], ◌∷◌, ◌++◌, map, Option, Some, None, is_some, length, refl, sym, ap, subst, ◌∙◌}
+use Rattle.std.specs.Prelude.{ℤ, unwrap_or}
+use Rattle.std.specs.Option.{option_map}
+use Rattle.std.specs.List.{IsDistinct}
+use Rattle.std.proofs.lemmas.Bool.{eqb-true, eqb-false, eq-eqb, ne_eqb, true≢false}
+use Rattle.std.proofs.lemmas.List.{length-map}
+use Rattle.slab.specs.Slab.{Slab, get}
+use Rattle.asset_names.specs.declared.names.Txn.{Txn}
+use Rattle.asset_chains.specs.Chained.{Chained, chain_of, home_of, first_of, lists, without, ahead, behind, IsSound}
+use Rattle.asset_chains.proofs.Laws.{chain_at_key, chain_without_key}
+use Rattle.asset_chains.proofs.SoundLemmas.{listed_once}
+use Rattle.asset_chains.proofs.KeyLemmas.{lists-append, distinct_head, distinct_tail, distinct_parts}
+use Rattle.asset_records.specs.declared.records.Record.{Record}
+use Rattle.asset_records.specs.Seats.{Seats, seat}
+use Rattle.asset_records.specs.Listed.{Listed, listed_of, on, no_record, record_at, at_keys, is_of, handed, restored_if_last, IsValid, ChangesOn, TakesBack, Settles, HasNone}
+use Rattle.asset_records.specs.Dropped.{handed_at, restored_at}
+use Rattle.asset_records.proofs.ListedLemmas.{lists_are, on_chain, keys_append, keys_length, keys_same, any_key, has_record, home_of_owner}
+use Rattle.asset_records.proofs.DropLemmas.{without_absent, read_some}
+
+-- the record at a key, by what the slab has
+read_as : (a b : Slab Record) (k : ℕ) → get a k ≡ get b k → record_at a k ≡ record_at b k
+unfolding record_at
+read_as a b k same = ap (λ (o : Option Record). unwrap_or o no_record) same
+
+differs : (keys : List ℕ) (j k : ℕ) → lists keys j ≡ true → lists keys k ≡ false → j ≡ k → ⊥
+differs keys j k there absent same = true≢false (sym there ∙ ap (lists keys) same ∙ absent)
+
+first_is : (keys : List ℕ) (n : ℕ) → first_of keys ≡ Some n → lists keys n ≡ true
+first_is [] n e = cc e
+first_is (x ∷ keys) n e = let same : x ≡ n = cc e in ap (λ (b : Bool). b || lists keys n) (eq-eqb n x (sym same))
+
+or_true : (b c : Bool) → c ≡ true → (b || c) ≡ true
+or_true true c e = refl
+or_true false c e = e
+
+module _ (records later fewer : Slab Record) (k : ℕ) (gone : Record) (there : get records k ≡ Some gone) (drops : (j : ℕ) → get fewer j ≡ cond (eqb j k) None (get later j)) where
+  -- a record other than this one and the next stays
+  stays : (next : Option ℕ) → ((j : ℕ) → get later j ≡ handed_at records next k j) → (l : ℕ) → (l ≡ k → ⊥) → ((n : ℕ) → next ≡ Some n → l ≡ n → ⊥) → get fewer l ≡ get records l
+  unfolding handed_at
+  stays None hands l other differ = drops l ∙ ap (λ (b : Bool). cond b None (get later l)) (ne_eqb l k other) ∙ hands l
+  stays (Some n) hands l other differ =
+      drops l
+      ∙ ap (λ (b : Bool). cond b None (get later l)) (ne_eqb l k other)
+      ∙ hands l
+      ∙ ap (λ (b : Bool). cond b (option_map (λ (one : Record). record one { before = (record_at records k).before }) (get records l)) (get records l)) (ne_eqb l n (differ n refl))
+
+  -- the next one has its before-image, and those after that stay
+  back_handed : (keys : List ℕ) → IsDistinct eqb (k ∷ keys) → ((j : ℕ) → get later j ≡ handed_at records (first_of keys) k j) → ((l : ℕ) → lists keys l ≡ true → is_some (get records l) ≡ true)
+      → at_keys fewer keys ≡ handed gone.before (at_keys records keys)
+  unfolding at_keys handed handed_at
+  back_handed [] distinct hands kept = refl
+  back_handed (n ∷ keys) distinct hands kept = λ m. first m ∷ rest m where
+    apart_k : (l : ℕ) → lists (n ∷ keys) l ≡ true → l ≡ k → ⊥
+    apart_k l among = differs (n ∷ keys) l k among (distinct_head k (n ∷ keys) distinct)
+
+    apart_n : (l : ℕ) → lists keys l ≡ true → l ≡ n → ⊥
+    apart_n l among = differs keys l n among (distinct_head n keys (distinct_tail k (n ∷ keys) distinct))
+
+    n_listed : lists (n ∷ keys) n ≡ true
+    n_listed = ap (λ (b : Bool). b || lists keys n) (eq-eqb n n refl)
+
+    before_is : (record_at records k).before ≡ gone.before
+    before_is = ap (λ (one : Record). one.before) (read_some records k gone there)
+
+    changed : (one : Record) → get records n ≡ Some one → get fewer n ≡ Some (record one { before = gone.before })
+    changed one held =
+        drops n
+        ∙ ap (λ (b : Bool). cond b None (get later n)) (ne_eqb n k (apart_k n n_listed))
+        ∙ hands n
+        ∙ ap (λ (b : Bool). cond b (option_map (λ (one : Record). record one { before = (record_at records k).before }) (get records n)) (get records n)) (eq-eqb n n refl)
+        ∙ ap (option_map (λ (one : Record). record one { before = (record_at records k).before })) held
+        ∙ ap (λ (v : ℤ). Some (record one { before = v })) before_is
+
+    at_next : (o : Option Record) → get records n ≡ o → is_some o ≡ true → record_at fewer n ≡ record (record_at records n) { before = gone.before }
+    at_next None held some = absurd (true≢false (sym some))
+    at_next (Some one) held some = read_some fewer n (record one { before = gone.before }) (changed one held) ∙ ap (λ (one : Record). record one { before = gone.before }) (sym (read_some records n one held))
+
+    first : record_at fewer n ≡ record (record_at records n) { before = gone.before }
+    first = at_next (get records n) refl (kept n n_listed)
+
+    next_is : (n2 : ℕ) → Some n ≡ Some n2 → n ≡ n2
+    next_is n2 is = cc is
+
+    rest : map (record_at fewer) keys ≡ map (record_at records) keys
+    rest =
+        keys_same records fewer keys (λ l among. read_as fewer records l (stays (Some n) hands l (apart_k l (or_true (eqb l n) (lists keys l) among)) (λ n2 is same. apart_n l among (same ∙ sym (next_is n2 is)))))
+
+  -- the before-image is left over exactly if there is no next record
+  left_over : (keys : List ℕ) → restored_at records (first_of keys) k ≡ restored_if_last gone (at_keys records keys)
+  unfolding restored_at restored_if_last at_keys
+  left_over [] = ap (λ (one : Record). Some one.before) (read_some records k gone there)
+  left_over (n ∷ keys) = refl
+
+-- the lists after the record of t at k is taken back
+pub taken_back : (records later fewer : Slab Record) (table less : Chained) (t k i : ℕ) (gone : Record) (restored : Option ℤ) → IsSound table → home_of table k ≡ Some i → get records k ≡ Some gone → gone.owner.0 ≡ t
+    → ((j : ℕ) → get later j ≡ handed_at records (first_of (behind k (chain_of table i))) k j) → ((j : ℕ) → get fewer j ≡ cond (eqb j k) None (get later j))
+    → ((l : ℕ) → lists (chain_of table i) l ≡ true → is_some (get records l) ≡ true)
+    → ((j : ℕ) → chain_of less j ≡ without k (chain_of table j)) → length less.chains ≡ length table.chains
+    → restored ≡ restored_at records (first_of (behind k (chain_of table i))) k
+    → TakesBack t i restored (map (at_keys records) table.chains) (map (at_keys fewer) less.chains)
+unfolding at_keys ChangesOn
+taken_back records later fewer table less t k i gone restored sound home there whose hands drops kept chains many left = record {
+  older = at_keys records front;
+  gone = gone;
+  later = at_keys records back;
+  stood = stood;
+  owner = whose;
+  restores = left ∙ left_over records later fewer k gone there drops back;
+  changes = (same_many, changes);
+} where
+  front : List ℕ
+  front = ahead k (chain_of table i)
+
+  back : List ℕ
+  back = behind k (chain_of table i)
+
+  cut : chain_of table i ≡ front ++ k ∷ back
+  cut = chain_at_key k i table sound home
+
+  parts : IsDistinct eqb front × IsDistinct eqb (k ∷ back) × ((j : ℕ) → lists front j ≡ true → lists (k ∷ back) j ≡ false)
+  parts = distinct_parts front (k ∷ back) (subst (IsDistinct eqb) cut (sound.once i))
+
+  stood : on (map (at_keys records) table.chains) i ≡ at_keys records front ++ gone ∷ at_keys records back
+  stood = on_chain records table i ∙ ap (at_keys records) cut ∙ keys_append records front (k ∷ back) ∙ ap (λ (one : Record). at_keys records front ++ one ∷ at_keys records back) (read_some records k gone there)
+
+  same_many : length (map (at_keys fewer) less.chains) ≡ length (map (at_keys records) table.chains)
+  same_many = length-map less.chains (at_keys fewer) ∙ many ∙ sym (length-map table.chains (at_keys records))
+
+  -- the records before it stay
+  front_same : at_keys fewer front ≡ at_keys records front
+  front_same =
+      keys_same records fewer front (λ l among. read_as fewer records l (stays records later fewer k gone there drops (first_of back) hands l
+      (λ same. true≢false (sym (ap (λ (b : Bool). b || lists back l) (eq-eqb l k same)) ∙ parts.2 l among))
+      (λ n first same. true≢false (sym (or_true (eqb l k) (lists back l) (ap (lists back) same ∙ first_is back n first)) ∙ parts.2 l among))))
+
+  listed_later : (l : ℕ) → lists back l ≡ true → lists (chain_of table i) l ≡ true
+  listed_later l among = ap (λ (keys : List ℕ). lists keys l) cut ∙ lists-append front (k ∷ back) l ∙ or_true (lists front l) (lists (k ∷ back) l) (or_true (eqb l k) (lists back l) among)
+
+  here : at_keys fewer (chain_of less i) ≡ at_keys records front ++ handed gone.before (at_keys records back)
+  here =
+      ap (at_keys fewer) (chains i ∙ chain_without_key k i table sound home)
+      ∙ keys_append fewer front back
+      ∙ (λ m. front_same m ++ back_handed records later fewer k gone there drops back parts.1 hands (λ l among. kept l (listed_later l among)) m)
+
+  other : (j : ℕ) → (j ≡ i → ⊥) → at_keys fewer (chain_of less j) ≡ at_keys records (chain_of table j)
+  other j apart =
+      let absent = listed_once table sound k i j home apart in
+      ap (at_keys fewer) (chains j ∙ without_absent k (chain_of table j) absent)
+      ∙ keys_same records fewer (chain_of table j) (λ l among. read_as fewer records l (stays records later fewer k gone there drops (first_of back) hands l
+      (differs (chain_of table j) l k among absent)
+      (λ n first same. apart (same_home l n among (listed_later n (first_is back n first)) same)))) where
+        same_home : (l n : ℕ) → lists (chain_of table j) l ≡ true → lists (chain_of table i) n ≡ true → l ≡ n → j ≡ i
+        same_home l n mine its same = let homes : Some j ≡ Some i = sym (sound.at_home j l mine) ∙ ap (home_of table) same ∙ sound.at_home i n its in cc homes
+
+  changes : (j : ℕ) → on (map (at_keys fewer) less.chains) j ≡ cond (eqb i j) (at_keys records front ++ handed gone.before (at_keys records back)) (on (map (at_keys records) table.chains) j)
+  changes j = on_chain fewer less j ∙ go (eqb i j) refl where
+    go : (b : Bool) → eqb i j ≡ b → at_keys fewer (chain_of less j) ≡ cond b (at_keys records front ++ handed gone.before (at_keys records back)) (on (map (at_keys records) table.chains) j)
+    go true e = ap (λ (n : ℕ). at_keys fewer (chain_of less n)) (sym (eqb-true i j e)) ∙ here
+    go false e = other j (λ same. eqb-false i j e (sym same)) ∙ sym (on_chain records table j)
+
+-- the lists after the record of t at k is dropped with all before it on its object
+pub settles_through : (records fewer : Slab Record) (table less : Chained) (t k i visited : ℕ) (gone : Record) → IsSound table → IsSound less → home_of table k ≡ Some i → get records k ≡ Some gone → gone.owner.0 ≡ t
+    → chain_of less i ≡ behind k (chain_of table i) → ((j : ℕ) → eqb j i ≡ false → chain_of less j ≡ chain_of table j) → length less.chains ≡ length table.chains
+    → ((l : ℕ) → is_some (get fewer l) ≡ true → get fewer l ≡ get records l) → ((l : ℕ) → is_some (get fewer l) ≡ is_some (home_of less l))
+    → visited ≤ 4 * (1 + length (ahead k (chain_of table i))) → Settles t visited (map (at_keys records) table.chains) (map (at_keys fewer) less.chains)
+unfolding at_keys ChangesOn
+settles_through records fewer table less t k i visited gone sound sound_less home there whose rest others many kept placed bound = record {
+  object = i;
+  older = at_keys records (ahead k (chain_of table i));
+  gone = gone;
+  later = at_keys records (behind k (chain_of table i));
+  stood = stood;
+  owner = whose;
+  changes = (same_many, changes);
+  bound = within;
+} where
+  within : visited ≤ 4 * (1 + length (at_keys records (ahead k (chain_of table i))))
+  within = subst (λ n. visited ≤ 4 * (1 + n)) (sym (keys_length records (ahead k (chain_of table i)))) bound
+
+  stood : on (map (at_keys records) table.chains) i ≡ at_keys records (ahead k (chain_of table i)) ++ gone ∷ at_keys records (behind k (chain_of table i))
+  stood =
+      on_chain records table i
+      ∙ ap (at_keys records) (chain_at_key k i table sound home)
+      ∙ keys_append records (ahead k (chain_of table i)) (k ∷ behind k (chain_of table i))
+      ∙ ap (λ (one : Record). at_keys records (ahead k (chain_of table i)) ++ one ∷ at_keys records (behind k (chain_of table i))) (read_some records k gone there)
+
+  same_many : length (map (at_keys fewer) less.chains) ≡ length (map (at_keys records) table.chains)
+  same_many = length-map less.chains (at_keys fewer) ∙ many ∙ sym (length-map table.chains (at_keys records))
+
+  -- what is left in a chain is as it was
+  left_same : (j : ℕ) → at_keys fewer (chain_of less j) ≡ at_keys records (chain_of less j)
+  left_same j = keys_same records fewer (chain_of less j) (λ l among. read_as fewer records l (kept l (placed l ∙ ap is_some (sound_less.at_home j l among))))
+
+  changes : (j : ℕ) → on (map (at_keys fewer) less.chains) j ≡ cond (eqb i j) (at_keys records (behind k (chain_of table i))) (on (map (at_keys records) table.chains) j)
+  changes j = on_chain fewer less j ∙ left_same j ∙ go (eqb i j) refl where
+    go : (b : Bool) → eqb i j ≡ b → at_keys records (chain_of less j) ≡ cond b (at_keys records (behind k (chain_of table i))) (on (map (at_keys records) table.chains) j)
+    go true e = ap (λ (n : ℕ). at_keys records (chain_of less n)) (sym (eqb-true i j e)) ∙ ap (at_keys records) rest
+    go false e = ap (at_keys records) (others j (ne_eqb j i (λ same. eqb-false i j e (sym same)))) ∙ sym (on_chain records table j)
+
+-- one without a seat, or whose chain is empty, has no record
+pub no_record_of : (records : Slab Record) (by_object by_owner : Chained) (owners : Seats) (t : Txn) → IsValid records by_object by_owner owners → IsSound by_object → IsSound by_owner
+    → ((c : ℕ) → seat owners c ≡ Some t → chain_of by_owner c ≡ []) → HasNone t.0 (map (at_keys records) by_object.chains)
+unfolding HasNone is_of
+no_record_of records by_object by_owner owners t valid sound_object sound empty j = rw (on_chain records by_object j) (any_key records (λ one. eqb one.owner.0 t.0) (chain_of by_object j) none) where
+  none : (k : ℕ) → lists (chain_of by_object j) k ≡ true → eqb (record_at records k).owner.0 t.0 ≡ false
+  none k among =
+      let held = has_record records by_object by_owner owners valid k j (sound_object.at_home j k among) in
+      let at = home_of_owner records by_object by_owner owners valid k held.0 held.1 in
+      ap (λ (one : Record). eqb one.owner.0 t.0) (read_some records k held.0 held.1)
+      ∙ ne_eqb held.0.owner.0 t.0 (λ same. listed_nowhere k at.0 at.1 (at.2 ∙ ap Some (one_name held.0.owner t same))) where
+        one_name : (a b : Txn) → a.0 ≡ b.0 → a ≡ b
+        one_name a b e = λ m. record { 0 = e m }
+
+        listed_nowhere : (k c : ℕ) → home_of by_owner k ≡ Some c → seat owners c ≡ Some t → ⊥
+        listed_nowhere k c home sat = true≢false (sym (sound.listed c k home) ∙ ap (λ (keys : List ℕ). lists keys k) (empty c sat))
+
+-- ---- what callers see
+pub shown_none : (records : Slab Record) (by_object by_owner : Chained) (owners : Seats) (now : Listed) (t : ℕ) → listed_of records by_object by_owner owners ≡ now → HasNone t (map (at_keys records) by_object.chains) → HasNone t now.lists
+shown_none records by_object by_owner owners now t view none = subst (HasNone t) (sym (lists_are records by_object by_owner owners now view)) none
+
+pub shown_back : (records fewer : Slab Record) (by_object less by_owner less_owner : Chained) (owners left : Seats) (now : Listed) (t i : ℕ) (restored : Option ℤ) → listed_of records by_object by_owner owners ≡ now
+    → TakesBack t i restored (map (at_keys records) by_object.chains) (map (at_keys fewer) less.chains) → TakesBack t i restored now.lists (listed_of fewer less less_owner left).lists
+unfolding listed_of
+shown_back records fewer by_object less by_owner less_owner owners left now t i restored view back =
+    subst (λ (lists : List (List Record)). TakesBack t i restored lists (map (at_keys fewer) less.chains)) (ap (λ (l : Listed). l.lists) view) back
+
+pub shown_settled : (records fewer : Slab Record) (by_object less by_owner less_owner : Chained) (owners left : Seats) (now : Listed) (t visited : ℕ) → listed_of records by_object by_owner owners ≡ now
+    → Settles t visited (map (at_keys records) by_object.chains) (map (at_keys fewer) less.chains) → Settles t visited now.lists (listed_of fewer less less_owner left).lists
+unfolding listed_of
+shown_settled records fewer by_object less by_owner less_owner owners left now t visited view went =
+    subst (λ (lists : List (List Record)). Settles t visited lists (map (at_keys fewer) less.chains)) (ap (λ (l : Listed). l.lists) view) went
+
+-- a before-image that is handed on moves no record, and changes no owner
+pub handed_valid : (records later : Slab Record) (by_object by_owner : Chained) (owners : Seats) (next : Option ℕ) (key : ℕ) → IsValid records by_object by_owner owners → ((k : ℕ) → get later k ≡ handed_at records next key k)
+    → IsValid later by_object by_owner owners
+unfolding handed_at
+handed_valid records later by_object by_owner owners next key valid hands = record {
+  placed = λ k. ap is_some (hands k) ∙ same_there next k ∙ valid.placed k;
+  owned = λ k. ap (option_map (λ (one : Record). one.owner)) (hands k) ∙ same_owner next k ∙ valid.owned k;
+  seated = valid.seated;
+} where
+  over : Option Record → Option Record
+  over o = option_map (λ (one : Record). record one { before = (record_at records key).before }) o
+
+  there : (b : Bool) (o : Option Record) → is_some (cond b (over o) o) ≡ is_some o
+  there true None = refl
+  there true (Some one) = refl
+  there false o = refl
+
+  whose : (b : Bool) (o : Option Record) → option_map (λ (one : Record). one.owner) (cond b (over o) o) ≡ option_map (λ (one : Record). one.owner) o
+  whose true None = refl
+  whose true (Some one) = refl
+  whose false o = refl
+
+  same_there : (o : Option ℕ) (k : ℕ) → is_some (handed_at records o key k) ≡ is_some (get records k)
+  same_there None k = refl
+  same_there (Some n) k = there (eqb k n) (get records k)
+
+  same_owner : (o : Option ℕ) (k : ℕ) → option_map (λ (one : Record). one.owner) (handed_at records o key k) ≡ option_map (λ (one : Record). one.owner) (get records k)
+  same_owner None k = refl
+  same_owner (Some n) k = whose (eqb k n) (get records k)

@@ -1,0 +1,214 @@
+-- A record leaves the slab, both of its chains, and perhaps its owner's seat.
+use Rattle.std.proofs.Common.{◌≡◌, ℕ, zero, suc, inl, inr, ◌<◌, ◌≤◌, ◌+◌, ◌&&◌, ◌⊎◌, get_or, Bool, true, false, cond, eqb, ◌||◌, List, [], ◌∷◌, Option, Some, None, is_some, length, refl, sym, ap, subst, ◌∙◌, arith}
+use Rattle.std.specs.Prelude.{ℤ, nat_lt, unwrap_or}
+use Rattle.std.specs.Option.{option_map}
+use Rattle.std.proofs.lemmas.Bool.{eqb-true, eqb-false, eq-eqb, ne_eqb, true≢false, cases_lt, lt-ltb, ltb-true}
+use Rattle.std.proofs.lemmas.List.{get_or-set_same, get_or-set_other}
+use Rattle.slab.specs.Slab.{Slab, get, slab_len, with_value, Updates}
+use Rattle.asset_chains.specs.Chained.{Chained, chain_of, home_of, first_of, lists, without, unlinked, IsSound}
+use Rattle.asset_chains.proofs.Laws.{IsUnlinked, unlinks, chain_within}
+use Rattle.asset_chains.proofs.KeyLemmas.{first_listed as first_is_listed}
+use Rattle.asset_chains.proofs.SoundLemmas.{listed_once, sound_unlinked}
+use Rattle.asset_records.specs.declared.records.Record.{Record}
+use Rattle.asset_records.specs.Seats.{Seats, seat}
+use Rattle.asset_records.specs.Listed.{no_record, record_at, owner_at, has_room, seat_room, IsValid}
+use Rattle.asset_records.specs.Dropped.{handed_at}
+use Rattle.asset_records.proofs.ListedLemmas.{some_of, first_listed}
+use Rattle.asset_records.proofs.SeatLemmas.{both}
+
+-- keys without one that is not among them
+pub without_absent : (k : ℕ) (keys : List ℕ) → lists keys k ≡ false → without k keys ≡ keys
+without_absent k [] absent = refl
+without_absent k (x ∷ keys) absent =
+    let parts = or_none (eqb k x) (lists keys k) absent in
+    ap (λ (b : Bool). cond b (without k keys) (x ∷ without k keys)) parts.0 ∙ ap (λ (rest : List ℕ). x ∷ rest) (without_absent k keys parts.1) where
+      or_none : (a b : Bool) → (a || b) ≡ false → (a ≡ false) × (b ≡ false)
+      or_none true b h = absurd (true≢false h)
+      or_none false b h = (refl, h)
+
+-- every chain is without the key
+pub chains_without : (table new : Chained) (k c : ℕ) → IsSound table → home_of table k ≡ Some c → new ≡ unlinked k table → (d : ℕ) → chain_of new d ≡ without k (chain_of table d)
+chains_without table new k c sound home is d =
+    let change = unlinks c k table new home is in go change (eqb d c) refl where
+      go : IsUnlinked c k table new → (b : Bool) → eqb d c ≡ b → chain_of new d ≡ without k (chain_of table d)
+      go change true e = let here : d ≡ c = eqb-true d c e in rw here change.chain
+      go change false e = change.chains d (eqb-false d c e) ∙ sym (without_absent k (chain_of table d) (listed_once table sound k c d home (eqb-false d c e)))
+
+-- the key has no home, and each other key has the one that it had
+pub homes_without : (table new : Chained) (k c : ℕ) → home_of table k ≡ Some c → new ≡ unlinked k table → (j : ℕ) → home_of new j ≡ cond (eqb j k) None (home_of table j)
+homes_without table new k c home is j = let change = unlinks c k table new home is in go change (eqb j k) refl where
+  go : IsUnlinked c k table new → (b : Bool) → eqb j k ≡ b → home_of new j ≡ cond b None (home_of table j)
+  go change true e = ap (home_of new) (eqb-true j k e) ∙ change.home
+  go change false e = change.homes j (eqb-false j k e)
+
+-- the seats after a record of this chain is gone: it is left if the chain is empty now
+abbrev pub IsLeft : ℕ → Option ℕ → Seats → Seats → Type 0
+IsLeft c None old new = (d : ℕ) → seat new d ≡ cond (eqb d c) None (seat old d)
+IsLeft c (Some first) old new = (d : ℕ) → seat new d ≡ seat old d
+
+module _ (records fewer : Slab Record) (by_object less_object by_owner less_owner : Chained) (owners left : Seats) (k i c : ℕ)
+    (valid : IsValid records by_object by_owner owners) (sound : IsSound by_owner)
+    (on_object : home_of by_object k ≡ Some i) (of_owner : home_of by_owner k ≡ Some c)
+    (gone : Updates records fewer k None) (less : less_object ≡ unlinked k by_object) (fewer_owned : less_owner ≡ unlinked k by_owner)
+    (leaves : IsLeft c (first_of (chain_of less_owner c)) owners left) where
+  record_is : (j : ℕ) → get fewer j ≡ cond (eqb j k) None (get records j)
+  record_is j = go (eqb j k) refl where
+    go : (b : Bool) → eqb j k ≡ b → get fewer j ≡ cond b None (get records j)
+    go true e = ap (get fewer) (eqb-true j k e) ∙ gone.changed
+    go false e = gone.others j (eqb-false j k e)
+
+  -- a seat whose chain still has a key stays
+  stays : (d : ℕ) → is_some (first_of (chain_of less_owner d)) ≡ true → seat left d ≡ seat owners d
+  stays d there = go (first_of (chain_of less_owner c)) refl leaves where
+    go : (first : Option ℕ) → first_of (chain_of less_owner c) ≡ first → IsLeft c first owners left → seat left d ≡ seat owners d
+    go None e leaves = leaves d ∙ ap (λ (b : Bool). cond b None (seat owners d)) (ne_eqb d c (λ same. true≢false (sym there ∙ ap (λ (n : ℕ). is_some (first_of (chain_of less_owner n))) same ∙ ap is_some e)))
+    go (Some first) e leaves = leaves d
+
+  pub dropped_valid : IsValid fewer less_object less_owner left
+  unfolding owner_at
+  dropped_valid = record { placed = placed; owned = owned; seated = seated } where
+    placed : (j : ℕ) → is_some (get fewer j) ≡ is_some (home_of less_object j)
+    placed j = ap is_some (record_is j) ∙ go (eqb j k) ∙ sym (ap is_some (homes_without by_object less_object k i on_object less j)) where
+      go : (b : Bool) → is_some (cond b None (get records j)) ≡ is_some (cond b None (home_of by_object j))
+      go true = refl
+      go false = valid.placed j
+
+    sound_less : IsSound less_owner
+    sound_less = subst IsSound (sym fewer_owned) (sound_unlinked c k by_owner sound of_owner)
+
+    owner_same : (o : Option ℕ) → ((d : ℕ) → o ≡ Some d → seat left d ≡ seat owners d) → owner_at owners o ≡ owner_at left o
+    owner_same None same = refl
+    owner_same (Some d) same = sym (same d refl)
+
+    home_is : (j : ℕ) → home_of less_owner j ≡ cond (eqb j k) None (home_of by_owner j)
+    home_is j = homes_without by_owner less_owner k c of_owner fewer_owned j
+
+    owned : (j : ℕ) → option_map (λ (one : Record). one.owner) (get fewer j) ≡ owner_at left (home_of less_owner j)
+    owned j = ap (option_map (λ (one : Record). one.owner)) (record_is j) ∙ go (eqb j k) refl where
+      go : (b : Bool) → eqb j k ≡ b → option_map (λ (one : Record). one.owner) (cond (eqb j k) None (get records j)) ≡ owner_at left (home_of less_owner j)
+      go true e = ap (λ (b : Bool). option_map (λ (one : Record). one.owner) (cond b None (get records j))) e ∙ sym (ap (owner_at left) (home_is j ∙ ap (λ (b : Bool). cond b None (home_of by_owner j)) e))
+      go false e =
+          let home : home_of less_owner j ≡ home_of by_owner j = home_is j ∙ ap (λ (b : Bool). cond b None (home_of by_owner j)) e in
+          ap (λ (b : Bool). option_map (λ (one : Record). one.owner) (cond b None (get records j))) e
+          ∙ valid.owned j
+          ∙ ap (owner_at owners) (sym home)
+          ∙ owner_same (home_of less_owner j) (λ d at. stays d (first_listed (chain_of less_owner d) j (sound_less.listed d j at)))
+
+    seated : (d : ℕ) → is_some (seat left d) ≡ is_some (first_of (chain_of less_owner d))
+    seated d = go (eqb d c) refl where
+      change : IsUnlinked c k by_owner less_owner
+      change = unlinks c k by_owner less_owner of_owner fewer_owned
+
+      at_chain : (first : Option ℕ) → first_of (chain_of less_owner c) ≡ first → IsLeft c first owners left → is_some (seat left c) ≡ is_some (first_of (chain_of less_owner c))
+      at_chain None e leaves = ap is_some (leaves c ∙ ap (λ (b : Bool). cond b None (seat owners c)) (eq-eqb c c refl)) ∙ sym (ap is_some e)
+      at_chain (Some first) e leaves = ap is_some (leaves c) ∙ valid.seated c ∙ first_listed (chain_of by_owner c) k (sound.listed c k of_owner) ∙ sym (ap is_some e)
+
+      apart : (d ≡ c → ⊥) → (first : Option ℕ) → IsLeft c first owners left → seat left d ≡ seat owners d
+      apart differ None leaves = leaves d ∙ ap (λ (b : Bool). cond b None (seat owners d)) (ne_eqb d c differ)
+      apart differ (Some first) leaves = leaves d
+
+      go : (b : Bool) → eqb d c ≡ b → is_some (seat left d) ≡ is_some (first_of (chain_of less_owner d))
+      go true e = let here : d ≡ c = eqb-true d c e in rw here (at_chain (first_of (chain_of less_owner c)) refl leaves)
+      go false e = ap is_some (apart (eqb-false d c e) (first_of (chain_of less_owner c)) leaves) ∙ valid.seated d ∙ sym (ap (λ (keys : List ℕ). is_some (first_of keys)) (change.chains d (eqb-false d c e)))
+
+-- ---- a before-image is handed on
+past_slots : (slots : List (Option Record)) (n : ℕ) → length slots ≤ n → get_or slots n None ≡ None
+past_slots [] n h = refl
+past_slots (slot ∷ slots) zero h = absurd (omega (arith, h))
+past_slots (slot ∷ slots) (suc n) h = past_slots slots n (omega (arith, h))
+
+within_slots : (slots : List (Option Record)) (n : ℕ) (one : Record) → get_or slots n None ≡ Some one → n < length slots
+within_slots slots n one there = elim (cases_lt n (length slots)) [
+  | inl within ↦ within
+  | inr past ↦ cc (sym there ∙ past_slots slots n past)
+]
+
+-- a record is written over another
+written_over : (records : Slab Record) (n : ℕ) (old new : Record) → get records n ≡ Some old → (k : ℕ) → get (with_value records n new) k ≡ cond (eqb k n) (Some new) (get records k)
+written_over records n old new there k = go (eqb k n) refl where
+  go : (b : Bool) → eqb k n ≡ b → get (with_value records n new) k ≡ cond b (Some new) (get records k)
+  go true e = ap (get (with_value records n new)) (eqb-true k n e) ∙ get_or-set_same records.slots n (Some new) None (within_slots records.slots n old there)
+  go false e = get_or-set_other records.slots n k (Some new) None (eqb-false k n e)
+
+-- the next record gets the before-image
+pub handed_is : (records : Slab Record) (n key : ℕ) (next : Record) (before : ℤ) → get records n ≡ Some next → (record_at records key).before ≡ before
+    → (k : ℕ) → get (with_value records n (record next { before = before })) k ≡ handed_at records (Some n) key k
+unfolding handed_at
+handed_is records n key next before there is k = written_over records n next (record next { before = before }) there k ∙ go (eqb k n) refl where
+  go : (b : Bool) → eqb k n ≡ b
+      → cond b (Some (record next { before = before })) (get records k) ≡ cond b (option_map (λ (one : Record). record one { before = (record_at records key).before }) (get records k)) (get records k)
+  go true e = sym (ap (option_map (λ (one : Record). record one { before = (record_at records key).before })) (ap (get records) (eqb-true k n e) ∙ there) ∙ ap (λ (v : ℤ). Some (record next { before = v })) is)
+  go false e = refl
+
+pub handed_none : (records : Slab Record) (n key : ℕ) → get records n ≡ None → (k : ℕ) → get records k ≡ handed_at records (Some n) key k
+unfolding handed_at
+handed_none records n key none k = go (eqb k n) refl where
+  go : (b : Bool) → eqb k n ≡ b → get records k ≡ cond b (option_map (λ (one : Record). record one { before = (record_at records key).before }) (get records k)) (get records k)
+  go true e = let gone : get records k ≡ None = ap (get records) (eqb-true k n e) ∙ none in gone ∙ sym (ap (option_map (λ (one : Record). record one { before = (record_at records key).before })) gone)
+  go false e = refl
+
+-- the record at a key
+pub read_some : (records : Slab Record) (k : ℕ) (one : Record) → get records k ≡ Some one → record_at records k ≡ one
+unfolding record_at
+read_some records k one there = ap (λ (o : Option Record). unwrap_or o no_record) there
+
+-- ---- room
+pub five : (a b c d e : Bool) → (a && b && c && d && e) ≡ true → (a ≡ true) × (b ≡ true) × (c ≡ true) × (d ≡ true) × (e ≡ true)
+five true true true true e h = (refl, refl, refl, refl, h)
+five true true true false e h = absurd (true≢false (sym h))
+five true true false d e h = absurd (true≢false (sym h))
+five true false c d e h = absurd (true≢false (sym h))
+five false b c d e h = absurd (true≢false (sym h))
+
+-- the room that a record leaves is enough for one more
+pub room_left : (records fewer : Slab Record) (by_object less_object by_owner less_owner : Chained) (owners left : Seats) (k c : ℕ) → seat_room by_owner owners ≡ true
+    → slab_len fewer + 1 ≤ fewer.capacity → fewer.vacant_key ≡ k → k < length less_object.homes → k < length less_owner.homes
+    → (owners.has_room ≡ true → left.has_room ≡ true) → (left.vacant ≡ c) ⊎ (left.vacant ≡ owners.vacant) → c < length less_owner.chains → length less_owner.chains ≡ length by_owner.chains
+    → has_room fewer less_object less_owner left ≡ true
+unfolding has_room seat_room
+room_left records fewer by_object less_object by_owner less_owner owners left k c room slots vacant object owner seats seat chain many =
+    let parts = both owners.has_room (nat_lt owners.vacant (length by_owner.chains)) room in
+    all (lt-ltb (slab_len fewer) fewer.capacity (omega (arith, slots))) (lt-ltb fewer.vacant_key (length less_object.homes) (omega (arith, vacant, object))) (lt-ltb fewer.vacant_key (length less_owner.homes) (omega (arith, vacant, owner)))
+    (seats parts.0) (lt-ltb left.vacant (length less_owner.chains) (within seat (ltb-true owners.vacant (length by_owner.chains) parts.1))) where
+      all : {a b c d e : Bool} → a ≡ true → b ≡ true → c ≡ true → d ≡ true → e ≡ true → (a && b && c && d && e) ≡ true
+      all p q r s t = λ i. (p i && q i && r i && s i && t i)
+
+      within : (left.vacant ≡ c) ⊎ (left.vacant ≡ owners.vacant) → owners.vacant < length by_owner.chains → left.vacant < length less_owner.chains
+      within (inl here) bound = omega (arith, here, chain)
+      within (inr same) bound = omega (arith, same, bound, many)
+
+-- the seat of an empty chain is left
+pub left_if_none : (c : ℕ) (o : Option ℕ) (old new : Seats) → is_some o ≡ false → ((d : ℕ) → seat new d ≡ cond (eqb d c) None (seat old d)) → IsLeft c o old new
+left_if_none c None old new none seats = seats
+left_if_none c (Some x) old new none seats = absurd (true≢false none)
+
+-- that of another is kept
+pub kept_if_some : (c : ℕ) (o : Option ℕ) (old new : Seats) → is_some o ≡ true → new ≡ old → IsLeft c o old new
+kept_if_some c None old new some same = absurd (true≢false (sym some))
+kept_if_some c (Some x) old new some same = λ d. ap (λ (seats : Seats). seat seats d) same
+
+-- what a reservation is
+pub rooms_of : (records : Slab Record) (by_object by_owner : Chained) (owners : Seats) → has_room records by_object by_owner owners ≡ true
+    → (slab_len records < records.capacity) × (records.vacant_key < length by_object.homes) × (records.vacant_key < length by_owner.homes) × (owners.has_room ≡ true) × (owners.vacant < length by_owner.chains)
+unfolding has_room
+rooms_of records by_object by_owner owners room =
+    let parts = five (nat_lt (slab_len records) records.capacity) (nat_lt records.vacant_key (length by_object.homes)) (nat_lt records.vacant_key (length by_owner.homes)) owners.has_room (nat_lt owners.vacant (length by_owner.chains)) room in (
+      ltb-true (slab_len records) records.capacity parts.0,
+      ltb-true records.vacant_key (length by_object.homes) parts.1,
+      ltb-true records.vacant_key (length by_owner.homes) parts.2,
+      parts.3,
+      ltb-true owners.vacant (length by_owner.chains) parts.4,
+    )
+
+-- a seat that is given has a chain
+pub seat_has_chain : (by_owner : Chained) (owners : Seats) (c : ℕ) → ((d : ℕ) → is_some (seat owners d) ≡ is_some (first_of (chain_of by_owner d))) → owners.vacant < length by_owner.chains
+    → (is_some (seat owners c) ≡ true) ⊎ (c ≡ owners.vacant) → c < length by_owner.chains
+seat_has_chain by_owner owners c seated vacant (inl sat) = let first = some_of (first_of (chain_of by_owner c)) (sym (seated c) ∙ sat) in chain_within c first.0 by_owner (first_is_listed first.0 (chain_of by_owner c) first.1)
+seat_has_chain by_owner owners c seated vacant (inr is) = omega (arith, is, vacant)
+
+-- part of it is room for a seat
+pub seats_part : (records : Slab Record) (by_object by_owner : Chained) (owners : Seats) → has_room records by_object by_owner owners ≡ true → seat_room by_owner owners ≡ true
+unfolding has_room seat_room
+seats_part records by_object by_owner owners room =
+    let parts = five (nat_lt (slab_len records) records.capacity) (nat_lt records.vacant_key (length by_object.homes)) (nat_lt records.vacant_key (length by_owner.homes)) owners.has_room (nat_lt owners.vacant (length by_owner.chains)) room in
+    λ i. (parts.3 i && parts.4 i)

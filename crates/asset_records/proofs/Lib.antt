@@ -1,0 +1,7 @@
+pub mod SeatLemmas
+pub mod ListedLemmas
+pub mod DropLemmas
+pub mod PushLemmas
+pub mod BackLemmas
+pub mod ThroughLemmas
+pub mod ReserveLemmas

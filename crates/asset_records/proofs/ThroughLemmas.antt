@@ -1,0 +1,55 @@
+-- The first record of an object is dropped.
+use Rattle.std.proofs.Common.{◌≡◌, ℕ, ◌+◌, Bool, true, false, cond, eqb, if◌then◌else◌, List, [], ◌∷◌, ◌++◌, Some, None, is_some, length, refl, sym, ap, ◌∙◌, arith}
+use Rattle.std.proofs.lemmas.Bool.{eqb-false, true≢false}
+use Rattle.slab.specs.Slab.{Slab, get}
+use Rattle.asset_chains.specs.Chained.{Chained, chain_of, home_of, first_of, without, ahead, behind, IsSound}
+use Rattle.asset_chains.proofs.Laws.{chain_at_first, chain_without_key}
+use Rattle.asset_chains.proofs.SoundLemmas.{listed_once}
+use Rattle.asset_records.specs.declared.records.Record.{Record}
+use Rattle.asset_records.proofs.DropLemmas.{without_absent}
+
+module _ (table less : Chained) (key i : ℕ) (sound : IsSound table) (first : first_of (chain_of table i) ≡ Some key) (chains : (j : ℕ) → chain_of less j ≡ without key (chain_of table j)) where
+  pub first_home : home_of table key ≡ Some i
+  first_home = (chain_at_first key i table sound first).0
+
+  pub rest_is : chain_of less i ≡ behind key (chain_of table i)
+  rest_is =
+      let at = chain_at_first key i table sound first in
+      chains i ∙ chain_without_key key i table sound at.0 ∙ ap (λ (front : List ℕ). front ++ behind key (chain_of table i)) at.1
+
+  pub others_are : (j : ℕ) → eqb j i ≡ false → chain_of less j ≡ chain_of table j
+  others_are j apart = chains j ∙ without_absent key (chain_of table j) (listed_once table sound key i j first_home (eqb-false j i apart))
+
+  chain_is : chain_of table i ≡ key ∷ behind key (chain_of table i)
+  chain_is = (chain_at_first key i table sound first).2
+
+  pub shorter : length (chain_of less i) + 1 ≡ length (chain_of table i)
+  shorter = omega (arith, ap length rest_is, ap length chain_is)
+
+  later_behind : (last : ℕ) (keys : List ℕ) → eqb last key ≡ false → behind last (key ∷ keys) ≡ behind last keys
+  later_behind last keys apart = ap (λ (b : Bool). if b then keys else behind last keys) apart
+
+  later_ahead : (last : ℕ) (keys : List ℕ) → eqb last key ≡ false → ahead last (key ∷ keys) ≡ key ∷ ahead last keys
+  later_ahead last keys apart = ap (λ (b : Bool). if b then [] else key ∷ ahead last keys) apart
+
+  -- what stands behind another key stays
+  pub behind_same : (last : ℕ) → eqb last key ≡ false → behind last (chain_of less i) ≡ behind last (chain_of table i)
+  behind_same last apart = ap (behind last) rest_is ∙ sym (ap (behind last) chain_is ∙ later_behind last (behind key (chain_of table i)) apart)
+
+  -- and one key less stands ahead of it
+  pub ahead_less : (last : ℕ) → eqb last key ≡ false → length (ahead last (chain_of less i)) + 1 ≡ length (ahead last (chain_of table i))
+  ahead_less last apart =
+      omega (arith, ap (λ (keys : List ℕ). length (ahead last keys)) rest_is, ap (λ (keys : List ℕ). length (ahead last keys)) chain_is, ap length (later_ahead last (behind key (chain_of table i)) apart))
+
+-- a record that is still there is as it was
+pub kept_after : (initial now new : Slab Record) (key : ℕ) → ((k : ℕ) → get new k ≡ cond (eqb k key) None (get now k)) → ((k : ℕ) → is_some (get now k) ≡ true → get now k ≡ get initial k)
+    → (k : ℕ) → is_some (get new k) ≡ true → get new k ≡ get initial k
+kept_after initial now new key drops kept k there = go (eqb k key) refl where
+  go : (b : Bool) → eqb k key ≡ b → get new k ≡ get initial k
+  go true e = absurd (true≢false (sym there ∙ ap is_some (drops k ∙ ap (λ (b : Bool). cond b None (get now k)) e)))
+  go false e =
+      let same : get new k ≡ get now k = drops k ∙ ap (λ (b : Bool). cond b None (get now k)) e in same ∙ kept k (sym (ap is_some same) ∙ there)
+
+-- and so is its home
+pub home_after : (table less : Chained) (key last i : ℕ) → ((k : ℕ) → home_of less k ≡ cond (eqb k key) None (home_of table k)) → eqb last key ≡ false → home_of table last ≡ Some i → home_of less last ≡ Some i
+home_after table less key last i homes apart home = homes last ∙ ap (λ (b : Bool). cond b None (home_of table last)) apart ∙ home

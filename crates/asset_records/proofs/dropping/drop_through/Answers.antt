@@ -1,0 +1,50 @@
+use Rattle.std.proofs.Common.{◌≡◌, ℕ, false, eqb, Some, is_some, sym, ap, ◌∙◌, arith}
+use Rattle.std.proofs.lemmas.Bool.{ne_eqb}
+use Rattle.asset_chains.specs.Chained.{chain_of, first_of, behind}
+use Rattle.asset_chains.proofs.Laws.{chain_at_first}
+use Rattle.asset_records.proofs.DropLemmas.{seats_part}
+use Rattle.asset_records.proofs.ThroughLemmas.{rest_is, others_are, shorter, behind_same, ahead_less, kept_after, home_after}
+use Rattle.asset_records.proofs.dropping.drop_through.Goals as goal
+
+pub drop_at-requires-clause-there : goal.drop_at-requires-clause-there
+drop_at-requires-clause-there c =
+    let first : first_of (chain_of c.oldest.by_object c.args.object) ≡ Some c.in-Some.key = sym c.in-Some.ensures in
+    let home = (chain_at_first c.in-Some.key c.args.object c.oldest.by_object c.oldest.invariant.sound first).0 in
+    c.oldest.invariant.valid.placed c.in-Some.key ∙ ap is_some home
+
+pub returns-then-key-last-clause-rest : goal.returns-then-key-last-clause-rest
+returns-then-key-last-clause-rest c =
+    let first : first_of (chain_of c.oldest.by_object c.args.object) ≡ Some c.in-Some.key = sym c.in-Some.ensures in
+    rest_is c.oldest.by_object c.drop_at.new.by_object c.in-Some.key c.args.object c.oldest.invariant.sound first c.drop_at.ensures.chains
+    ∙ ap (λ (k : ℕ). behind k (chain_of c.oldest.by_object c.args.object)) c.if-key-last.true
+    ∙ c.oldest.invariant.rest
+
+pub returns-then-key-last-clause-others : goal.returns-then-key-last-clause-others
+returns-then-key-last-clause-others c = λ j apart.
+    let first : first_of (chain_of c.oldest.by_object c.args.object) ≡ Some c.in-Some.key = sym c.in-Some.ensures in
+    others_are c.oldest.by_object c.drop_at.new.by_object c.in-Some.key c.args.object c.oldest.invariant.sound first c.drop_at.ensures.chains j apart ∙ c.oldest.invariant.others j apart
+
+pub oldest-smaller : goal.oldest-smaller
+oldest-smaller c =
+    let first : first_of (chain_of c.oldest.by_object c.args.object) ≡ Some c.in-Some.key = sym c.in-Some.ensures in
+    omega (arith, shorter c.oldest.by_object c.drop_at.new.by_object c.in-Some.key c.args.object c.oldest.invariant.sound first c.drop_at.ensures.chains)
+
+pub oldest-preserved : goal.oldest-preserved
+oldest-preserved c =
+    let first : first_of (chain_of c.oldest.by_object c.args.object) ≡ Some c.in-Some.key = sym c.in-Some.ensures in
+    let apart : eqb c.args.last c.in-Some.key ≡ false = ne_eqb c.args.last c.in-Some.key (λ is. c.if-key-last.false (sym is)) in
+    let less = ahead_less c.oldest.by_object c.drop_at.new.by_object c.in-Some.key c.args.object c.oldest.invariant.sound first c.drop_at.ensures.chains c.args.last apart in
+    record {
+      valid = c.drop_at.ensures.valid;
+      sound = c.laws-in-Some.ensures.sound;
+      home = home_after c.oldest.by_object c.drop_at.new.by_object c.in-Some.key c.args.last c.args.object c.drop_at.ensures.homes apart c.oldest.invariant.home;
+      rest = behind_same c.oldest.by_object c.drop_at.new.by_object c.in-Some.key c.args.object c.oldest.invariant.sound first c.drop_at.ensures.chains c.args.last apart ∙ c.oldest.invariant.rest;
+      others = λ j differ. others_are c.oldest.by_object c.drop_at.new.by_object c.in-Some.key c.args.object c.oldest.invariant.sound first c.drop_at.ensures.chains j differ ∙ c.oldest.invariant.others j differ;
+      kept = kept_after c.args.records.now c.oldest.records c.drop_at.new.records c.in-Some.key c.drop_at.ensures.records c.oldest.invariant.kept;
+      many = c.drop_at.ensures.many ∙ c.oldest.invariant.many;
+      visited = omega (arith, c.oldest.invariant.visited, less, c.saturating_add-visited.ensures, c.counted-in-Some-2.ensures, c.counted.ensures, c.counted-in-Some.ensures);
+      room = λ room. c.drop_at.ensures.room (seats_part c.oldest.records c.oldest.by_object c.oldest.by_owner c.oldest.owners (c.oldest.invariant.room room));
+    }
+
+pub returns-then-key-last-clause-room : goal.returns-then-key-last-clause-room
+returns-then-key-last-clause-room c = λ room. c.drop_at.ensures.room (seats_part c.oldest.records c.oldest.by_object c.oldest.by_owner c.oldest.owners (c.oldest.invariant.room room))

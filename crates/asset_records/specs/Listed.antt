@@ -1,0 +1,102 @@
+-- The records of each object, in a slab that stands beside two partitions of its keys into chains: by object, and by
+-- owner.
+use Rattle.std.specs.Prelude.{◌≡◌, ℕ, ℤ, pos, ◌+◌, ◌*◌, ◌≤◌, Bool, false, cond, ◌==◌, ◌&&◌, nat_lt, List, [], ◌∷◌, ◌++◌, length, map, Option, Some, None, option_map, is_some, unwrap_or, slice_index_or}
+use Rattle.std.specs.List.{list_any}
+use Rattle.slab.specs.Slab.{Slab, get, slab_len}
+use Rattle.asset_chains.specs.Chained.{Chained, chain_of, home_of, first_of}
+use Rattle.asset_names.specs.declared.names.Txn.{Txn}
+use Rattle.asset_records.specs.declared.records.Record.{Record}
+use Rattle.asset_records.specs.Seats.{Seats, seat}
+
+-- the records of each object, oldest first, and whether there is room for one more record
+pub record Listed : Type 0 where
+  pub lists : List (List Record)
+  pub reserved : Bool
+
+-- the records of an object; none past the last object
+unfoldable pub on : List (List Record) → ℕ → List Record
+on lists i = slice_index_or lists i []
+
+-- a record, if there is none at a key
+unfoldable pub no_record : Record
+no_record = record { owner = record { 0 = 0 }; value = pos 0; before = pos 0 }
+
+-- the record at a key
+unfoldable pub record_at : Slab Record → ℕ → Record
+record_at records k = unwrap_or (get records k) no_record
+
+-- the records at these keys
+unfoldable pub at_keys : Slab Record → List ℕ → List Record
+at_keys records keys = map (record_at records) keys
+
+-- whose the chain is that is a record's home, if it has one
+unfoldable pub owner_at : Seats → Option ℕ → Option Txn
+owner_at owners None = None
+owner_at owners (Some c) = seat owners c
+
+-- whether a new owner finds a seat, with a chain of its own
+unfoldable pub seat_room : Chained → Seats → Bool
+seat_room by_owner owners = owners.has_room && nat_lt owners.vacant (length by_owner.chains)
+
+-- whether one more record finds a slot, a key in each partition, and a seat for a new owner with a chain of its own
+unfoldable pub has_room : Slab Record → Chained → Chained → Seats → Bool
+has_room records by_object by_owner owners =
+    nat_lt (slab_len records) records.capacity
+    && nat_lt records.vacant_key (length by_object.homes)
+    && nat_lt records.vacant_key (length by_owner.homes)
+    && owners.has_room
+    && nat_lt owners.vacant (length by_owner.chains)
+
+-- the records of each object, by its chain
+unfoldable pub listed_of : Slab Record → Chained → Chained → Seats → Listed
+listed_of records by_object by_owner owners = record { lists = map (at_keys records) by_object.chains; reserved = has_room records by_object by_owner owners }
+
+-- each record is in the chain of an object and in that of its owner, and nothing else is in a chain; and exactly
+-- those who have a record have a seat
+pub record IsValid (records : Slab Record) (by_object by_owner : Chained) (owners : Seats) : Type 0 where
+  pub placed : (k : ℕ) → is_some (get records k) ≡ is_some (home_of by_object k)
+  pub owned : (k : ℕ) → option_map (λ (one : Record). one.owner) (get records k) ≡ owner_at owners (home_of by_owner k)
+  pub seated : (c : ℕ) → is_some (seat owners c) ≡ is_some (first_of (chain_of by_owner c))
+
+-- whether the record is the transaction's
+unfoldable pub is_of : ℕ → Record → Bool
+is_of t one = one.owner.0 == t
+
+-- the records, the first of which has this before-image
+unfoldable pub handed : ℤ → List Record → List Record
+handed before [] = []
+handed before (first ∷ later) = record first { before = before } ∷ later
+
+-- the before-image of the record, if no later record takes it over
+unfoldable pub restored_if_last : Record → List Record → Option ℤ
+restored_if_last gone [] = Some gone.before
+restored_if_last gone (next ∷ later) = None
+
+-- one object's records change, and no others
+unfoldable pub ChangesOn : ℕ → List Record → List (List Record) → List (List Record) → Type 0
+ChangesOn i records old new = (length new ≡ length old) × ((j : ℕ) → on new j ≡ cond (i == j) records (on old j))
+
+-- one record of the transaction's is gone from an object; the next one has its before-image, or else it is restored
+pub record TakesBack (t : ℕ) (i : ℕ) (restored : Option ℤ) (old new : List (List Record)) : Type 0 where
+  pub older : List Record
+  pub gone : Record
+  pub later : List Record
+  pub stood : on old i ≡ older ++ gone ∷ later
+  pub owner : gone.owner.0 ≡ t
+  pub restores : restored ≡ restored_if_last gone later
+  pub changes : ChangesOn i (older ++ handed gone.before later) old new
+
+-- one record of the transaction's is gone from an object with all before it
+pub record Settles (t : ℕ) (visited : ℕ) (old new : List (List Record)) : Type 0 where
+  pub object : ℕ
+  pub older : List Record
+  pub gone : Record
+  pub later : List Record
+  pub stood : on old object ≡ older ++ gone ∷ later
+  pub owner : gone.owner.0 ≡ t
+  pub changes : ChangesOn object later old new
+  pub bound : visited ≤ 4 * (1 + length older)
+
+-- the transaction has no record
+unfoldable pub HasNone : ℕ → List (List Record) → Type 0
+HasNone t lists = (j : ℕ) → list_any (is_of t) (on lists j) ≡ false

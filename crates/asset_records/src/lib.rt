@@ -1,0 +1,11 @@
+//! The update records of the writes that stand: each in the chain of its object, and in that of its owner. Taking the
+//! newest record of a transaction back, and dropping it with all before it on its object, touch only the records that
+//! go and those beside them. `push` uses the memory that `reserve` reserved; nothing else but `add_object` allocates.
+#![tactic(auto)]
+
+mod dropping;
+mod owners;
+mod records;
+mod room;
+
+pub use records::{Record, Records, Undone};

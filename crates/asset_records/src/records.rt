@@ -1,0 +1,168 @@
+//! The update records of the writes that stand, each in the chain of its object and in that of its owner.
+
+use crate::dropping::{counted, drop_at, drop_through, hand_on};
+use crate::owners::Owners;
+use crate::room::{add_chains, add_keys};
+use asset_chains::Chains;
+use asset_names::{NoMemory, Txn};
+use slab::Slab;
+use std::alloc::Global;
+use std::marker::Model;
+
+/// The update record of a write that stands: its owner, the value that it wrote, and its before-image.
+#[derive(Clone, Copy)]
+pub struct Record {
+    pub owner: Txn,
+    pub value: i64,
+    pub before: i64,
+}
+
+/// What a record that was taken back leaves to do: the index of its object, the before-image that becomes the value of
+/// the object if no later record takes it over, and how many records were visited.
+#[derive(Clone, Copy)]
+pub struct Undone {
+    pub object: usize,
+    pub restored: Option<i64>,
+    pub visited: usize,
+}
+
+/// The records of each object, objects being numbers from 0 on. Contracts see the records of each object, oldest
+/// first, and whether there is room for one more.
+#[derive(Drop)]
+pub struct Records {
+    records: Slab<Record>,
+    by_object: Chains,
+    by_owner: Chains,
+    owners: Owners,
+}
+
+impl Model for Records {
+    ghost use Rattle.asset_records.specs.Listed.{Listed, listed_of, IsValid};
+
+    ghost Value = { Listed };
+
+    ghost view = { λ r. listed_of r.records r.by_object r.by_owner r.owners };
+
+    ghost invariant = { λ r. IsValid r.records r.by_object r.by_owner r.owners };
+}
+
+impl Records {
+    ghost use Rattle.std.specs.Prelude.{◌≡◌, ℕ, ◌<◌, ◌≤◌, true, [], ◌∷◌, ◌++◌, length, IfSome, IfNone, OnOk, OnErr, IsOk};
+    ghost use Rattle.asset_records.specs.Listed.{on, ChangesOn, TakesBack, Settles, HasNone};
+
+    /// Returns no objects and no records. It does not allocate.
+    pub fn new(alloc: Global) -> Records
+        ensures { result.lists ≡ [] }
+    {
+        Records {
+            records: Slab::new(alloc),
+            by_object: Chains::new(alloc),
+            by_owner: Chains::new(alloc),
+            owners: Owners::new(alloc),
+        }
+    }
+
+    /// Adds an object, which has no record. Its index is how many objects there were. If memory runs out, nothing
+    /// changes.
+    pub fn add_object(&mut self) -> Result<(), NoMemory>
+        ensures added { OnOk result (self.new.lists ≡ self.old.lists ++ [] ∷ []) }
+        ensures unchanged { OnErr result (self.new ≡ self.old) }
+    {
+        match self.by_object.add_chain() {
+            Ok(()) => Ok(()),
+            Err(_) => Err(NoMemory),
+        }
+    }
+
+    /// Returns how many objects there are.
+    pub fn objects(&self) -> usize
+        ensures { result ≡ length self.now.lists }
+    {
+        self.by_object.chains()
+    }
+
+    /// Reserves the memory for one more record, which stands until that record. If memory runs out, no record changes.
+    pub fn reserve(&mut self) -> Result<(), NoMemory>
+        ensures reserved { OnOk result (self.new.reserved ≡ true) }
+        ensures standing { self.old.reserved ≡ true → IsOk result }
+        ensures lists { self.new.lists ≡ self.old.lists }
+    {
+        match self.records.reserve(1) {
+            Ok(()) => {}
+            Err(_) => return Err(NoMemory),
+        }
+        self.owners.reserve()?;
+        let key = self.records.vacant_key();
+        add_keys(&mut self.by_object, key)?;
+        add_keys(&mut self.by_owner, key)?;
+        add_chains(&mut self.by_owner, self.owners.vacant())
+    }
+
+    /// Appends a record to those of its object. It uses the memory that `reserve` reserved.
+    pub fn push(&mut self, object: usize, update: Record)
+        requires object { object < length self.old.lists }
+        requires reserved { self.old.reserved ≡ true }
+        ensures { ChangesOn object (on self.old.lists object ++ update ∷ []) self.old.lists self.new.lists }
+    {
+        self.by_object.laws();
+        self.by_owner.laws();
+        let chain = self.owners.seat_for(update.owner);
+        let key = self.records.insert_reserved(update);
+        self.by_object.push(object, key);
+        self.by_owner.push(chain, key);
+    }
+
+    /// Takes back the newest record of the transaction, and returns what is left to do; `None` if it has none. That it is
+    /// the newest is tested; the contract holds for any of its records.
+    pub fn take_back(&mut self, t: Txn) -> Option<Undone>
+        ensures taken { IfSome result (λ undone. TakesBack t.0 undone.object undone.restored self.old.lists self.new.lists × (undone.visited ≤ 4)) }
+        ensures none { IfNone result (HasNone t.0 self.old.lists × (self.new ≡ self.old)) }
+        ensures reserved { self.old.reserved ≡ true → self.new.reserved ≡ true }
+    {
+        self.by_object.laws();
+        self.by_owner.laws();
+        let chain = self.owners.seat_of(t)?;
+        let key = self.by_owner.last(chain)?;
+        let object = self.by_object.home(key)?;
+        let next = self.by_object.next(key);
+        let beside = counted(self.by_object.previous(key)) + counted(next);
+        let visited = 1 + beside + counted(self.by_owner.previous(key));
+        let restored = hand_on(&mut self.records, next, key);
+        drop_at(
+            &mut self.records,
+            &mut self.by_object,
+            &mut self.by_owner,
+            &mut self.owners,
+            key,
+        );
+        Some(Undone {
+            object,
+            restored,
+            visited,
+        })
+    }
+
+    /// Drops the newest record of the transaction with all before it on its object, and returns how many records were
+    /// visited; `None` if it has none. That it is the newest is tested; the contract holds for any of its records.
+    pub fn settle_newest(&mut self, t: Txn) -> Option<usize>
+        ensures settled { IfSome result (λ visited. Settles t.0 visited self.old.lists self.new.lists) }
+        ensures none { IfNone result (HasNone t.0 self.old.lists × (self.new ≡ self.old)) }
+        ensures reserved { self.old.reserved ≡ true → self.new.reserved ≡ true }
+    {
+        self.by_object.laws();
+        self.by_owner.laws();
+        let chain = self.owners.seat_of(t)?;
+        let newest = self.by_owner.last(chain)?;
+        let object = self.by_object.home(newest)?;
+        let visited = drop_through(
+            &mut self.records,
+            &mut self.by_object,
+            &mut self.by_owner,
+            &mut self.owners,
+            object,
+            newest,
+        );
+        self.by_object.laws();
+        Some(visited)
+    }
+}
