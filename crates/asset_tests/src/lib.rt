@@ -23,6 +23,8 @@ mod objects;
 #[cfg(test)]
 mod permits;
 #[cfg(test)]
+mod records;
+#[cfg(test)]
 mod reference;
 #[cfg(test)]
 mod scripts;
