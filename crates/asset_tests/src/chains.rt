@@ -60,6 +60,17 @@ fn grow(table: &mut Chains, chains: usize, keys: usize) -> Result<(), AllocError
     Ok(())
 }
 
+/// Adds this many chains and keys, and asks for each of them once.
+fn grow_once(table: &mut Chains, chains: usize, keys: usize) -> Result<(), AllocError> {
+    for _ in 0..chains {
+        table.add_chain()?;
+    }
+    for _ in 0..keys {
+        table.add_key()?;
+    }
+    Ok(())
+}
+
 /// Puts the key at the end of the chain if both are there and the key is in no chain, and returns whether it was.
 fn push(table: &mut Chains, chain: usize, key: usize) -> bool {
     if chain < table.chains() && key < table.keys() && table.home(key) == None {
@@ -167,7 +178,7 @@ fn others_are_left(table: &Chains, chain: usize) -> bool {
 #[test]
 fn long_chain_is_mended(rt: HostRuntime) {
     let mut table = Chains::new(rt.alloc());
-    let grown = grow(&mut table, 3, LONG);
+    let grown = grow_once(&mut table, 300, LONG);
     let thinned = thin_out(&mut table, 1);
     let left = others_are_left(&table, 1) && has_keys(&table, 0, &[]) && has_keys(&table, 2, &[]);
     drop(table);
