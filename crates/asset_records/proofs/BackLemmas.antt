@@ -12,7 +12,7 @@ use Rattle.asset_chains.proofs.Laws.{chain_at_key, chain_without_key}
 use Rattle.asset_chains.proofs.SoundLemmas.{listed_once}
 use Rattle.asset_chains.proofs.KeyLemmas.{lists-append, distinct_head, distinct_tail, distinct_parts}
 use Rattle.asset_records.specs.declared.records.Record.{Record}
-use Rattle.asset_records.specs.Seats.{Seats, seat}
+use Rattle.asset_seats.specs.Seated.{Seated, seat}
 use Rattle.asset_records.specs.Listed.{Listed, listed_of, on, no_record, record_at, at_keys, is_of, handed, restored_if_last, IsValid, ChangesOn, TakesBack, Settles, HasNone}
 use Rattle.asset_records.specs.Dropped.{handed_at, restored_at}
 use Rattle.asset_records.proofs.ListedLemmas.{lists_are, on_chain, keys_append, keys_length, keys_same, any_key, has_record, home_of_owner}
@@ -199,7 +199,7 @@ settles_through records fewer table less t k i visited gone sound sound_less hom
     go false e = ap (at_keys records) (others j (ne_eqb j i (λ same. eqb-false i j e (sym same)))) ∙ sym (on_chain records table j)
 
 -- one without a seat, or whose chain is empty, has no record
-pub no_record_of : (records : Slab Record) (by_object by_owner : Chained) (owners : Seats) (t : Txn) → IsValid records by_object by_owner owners → IsSound by_object → IsSound by_owner
+pub no_record_of : (records : Slab Record) (by_object by_owner : Chained) (owners : Seated) (t : Txn) → IsValid records by_object by_owner owners → IsSound by_object → IsSound by_owner
     → ((c : ℕ) → seat owners c ≡ Some t → chain_of by_owner c ≡ []) → HasNone t.0 (map (at_keys records) by_object.chains)
 unfolding HasNone is_of
 no_record_of records by_object by_owner owners t valid sound_object sound empty j = rw (on_chain records by_object j) (any_key records (λ one. eqb one.owner.0 t.0) (chain_of by_object j) none) where
@@ -216,23 +216,23 @@ no_record_of records by_object by_owner owners t valid sound_object sound empty 
         listed_nowhere k c home sat = true≢false (sym (sound.listed c k home) ∙ ap (λ (keys : List ℕ). lists keys k) (empty c sat))
 
 -- ---- what callers see
-pub shown_none : (records : Slab Record) (by_object by_owner : Chained) (owners : Seats) (now : Listed) (t : ℕ) → listed_of records by_object by_owner owners ≡ now → HasNone t (map (at_keys records) by_object.chains) → HasNone t now.lists
+pub shown_none : (records : Slab Record) (by_object by_owner : Chained) (owners : Seated) (now : Listed) (t : ℕ) → listed_of records by_object by_owner owners ≡ now → HasNone t (map (at_keys records) by_object.chains) → HasNone t now.lists
 shown_none records by_object by_owner owners now t view none = subst (HasNone t) (sym (lists_are records by_object by_owner owners now view)) none
 
-pub shown_back : (records fewer : Slab Record) (by_object less by_owner less_owner : Chained) (owners left : Seats) (now : Listed) (t i : ℕ) (restored : Option ℤ) → listed_of records by_object by_owner owners ≡ now
+pub shown_back : (records fewer : Slab Record) (by_object less by_owner less_owner : Chained) (owners left : Seated) (now : Listed) (t i : ℕ) (restored : Option ℤ) → listed_of records by_object by_owner owners ≡ now
     → TakesBack t i restored (map (at_keys records) by_object.chains) (map (at_keys fewer) less.chains) → TakesBack t i restored now.lists (listed_of fewer less less_owner left).lists
 unfolding listed_of
 shown_back records fewer by_object less by_owner less_owner owners left now t i restored view back =
     subst (λ (lists : List (List Record)). TakesBack t i restored lists (map (at_keys fewer) less.chains)) (ap (λ (l : Listed). l.lists) view) back
 
-pub shown_settled : (records fewer : Slab Record) (by_object less by_owner less_owner : Chained) (owners left : Seats) (now : Listed) (t visited : ℕ) → listed_of records by_object by_owner owners ≡ now
+pub shown_settled : (records fewer : Slab Record) (by_object less by_owner less_owner : Chained) (owners left : Seated) (now : Listed) (t visited : ℕ) → listed_of records by_object by_owner owners ≡ now
     → Settles t visited (map (at_keys records) by_object.chains) (map (at_keys fewer) less.chains) → Settles t visited now.lists (listed_of fewer less less_owner left).lists
 unfolding listed_of
 shown_settled records fewer by_object less by_owner less_owner owners left now t visited view went =
     subst (λ (lists : List (List Record)). Settles t visited lists (map (at_keys fewer) less.chains)) (ap (λ (l : Listed). l.lists) view) went
 
 -- a before-image that is handed on moves no record, and changes no owner
-pub handed_valid : (records later : Slab Record) (by_object by_owner : Chained) (owners : Seats) (next : Option ℕ) (key : ℕ) → IsValid records by_object by_owner owners → ((k : ℕ) → get later k ≡ handed_at records next key k)
+pub handed_valid : (records later : Slab Record) (by_object by_owner : Chained) (owners : Seated) (next : Option ℕ) (key : ℕ) → IsValid records by_object by_owner owners → ((k : ℕ) → get later k ≡ handed_at records next key k)
     → IsValid later by_object by_owner owners
 unfolding handed_at
 handed_valid records later by_object by_owner owners next key valid hands = record {

@@ -10,11 +10,11 @@ use Rattle.asset_chains.proofs.Laws.{IsUnlinked, unlinks, chain_within}
 use Rattle.asset_chains.proofs.KeyLemmas.{first_listed as first_is_listed}
 use Rattle.asset_chains.proofs.SoundLemmas.{listed_once, sound_unlinked}
 use Rattle.asset_records.specs.declared.records.Record.{Record}
-use Rattle.asset_records.specs.Seats.{Seats, seat}
+use Rattle.asset_seats.specs.Seated.{Seated, seat}
 use Rattle.asset_records.specs.Listed.{no_record, record_at, owner_at, has_room, seat_room, IsValid}
 use Rattle.asset_records.specs.Dropped.{handed_at}
 use Rattle.asset_records.proofs.ListedLemmas.{some_of, first_listed}
-use Rattle.asset_records.proofs.SeatLemmas.{both}
+use Rattle.asset_seats.proofs.SeatLemmas.{both}
 
 -- keys without one that is not among them
 pub without_absent : (k : ℕ) (keys : List ℕ) → lists keys k ≡ false → without k keys ≡ keys
@@ -42,11 +42,11 @@ homes_without table new k c home is j = let change = unlinks c k table new home 
   go change false e = change.homes j (eqb-false j k e)
 
 -- the seats after a record of this chain is gone: it is left if the chain is empty now
-abbrev pub IsLeft : ℕ → Option ℕ → Seats → Seats → Type 0
+abbrev pub IsLeft : ℕ → Option ℕ → Seated → Seated → Type 0
 IsLeft c None old new = (d : ℕ) → seat new d ≡ cond (eqb d c) None (seat old d)
 IsLeft c (Some first) old new = (d : ℕ) → seat new d ≡ seat old d
 
-module _ (records fewer : Slab Record) (by_object less_object by_owner less_owner : Chained) (owners left : Seats) (k i c : ℕ)
+module _ (records fewer : Slab Record) (by_object less_object by_owner less_owner : Chained) (owners left : Seated) (k i c : ℕ)
     (valid : IsValid records by_object by_owner owners) (sound : IsSound by_owner)
     (on_object : home_of by_object k ≡ Some i) (of_owner : home_of by_owner k ≡ Some c)
     (gone : Updates records fewer k None) (less : less_object ≡ unlinked k by_object) (fewer_owned : less_owner ≡ unlinked k by_owner)
@@ -161,7 +161,7 @@ five true false c d e h = absurd (true≢false (sym h))
 five false b c d e h = absurd (true≢false (sym h))
 
 -- the room that a record leaves is enough for one more
-pub room_left : (records fewer : Slab Record) (by_object less_object by_owner less_owner : Chained) (owners left : Seats) (k c : ℕ) → seat_room by_owner owners ≡ true
+pub room_left : (records fewer : Slab Record) (by_object less_object by_owner less_owner : Chained) (owners left : Seated) (k c : ℕ) → seat_room by_owner owners ≡ true
     → slab_len fewer + 1 ≤ fewer.capacity → fewer.vacant_key ≡ k → k < length less_object.homes → k < length less_owner.homes
     → (owners.has_room ≡ true → left.has_room ≡ true) → (left.vacant ≡ c) ⊎ (left.vacant ≡ owners.vacant) → c < length less_owner.chains → length less_owner.chains ≡ length by_owner.chains
     → has_room fewer less_object less_owner left ≡ true
@@ -178,17 +178,17 @@ room_left records fewer by_object less_object by_owner less_owner owners left k 
       within (inr same) bound = omega (arith, same, bound, many)
 
 -- the seat of an empty chain is left
-pub left_if_none : (c : ℕ) (o : Option ℕ) (old new : Seats) → is_some o ≡ false → ((d : ℕ) → seat new d ≡ cond (eqb d c) None (seat old d)) → IsLeft c o old new
+pub left_if_none : (c : ℕ) (o : Option ℕ) (old new : Seated) → is_some o ≡ false → ((d : ℕ) → seat new d ≡ cond (eqb d c) None (seat old d)) → IsLeft c o old new
 left_if_none c None old new none seats = seats
 left_if_none c (Some x) old new none seats = absurd (true≢false none)
 
 -- that of another is kept
-pub kept_if_some : (c : ℕ) (o : Option ℕ) (old new : Seats) → is_some o ≡ true → new ≡ old → IsLeft c o old new
+pub kept_if_some : (c : ℕ) (o : Option ℕ) (old new : Seated) → is_some o ≡ true → new ≡ old → IsLeft c o old new
 kept_if_some c None old new some same = absurd (true≢false (sym some))
-kept_if_some c (Some x) old new some same = λ d. ap (λ (seats : Seats). seat seats d) same
+kept_if_some c (Some x) old new some same = λ d. ap (λ (seats : Seated). seat seats d) same
 
 -- what a reservation is
-pub rooms_of : (records : Slab Record) (by_object by_owner : Chained) (owners : Seats) → has_room records by_object by_owner owners ≡ true
+pub rooms_of : (records : Slab Record) (by_object by_owner : Chained) (owners : Seated) → has_room records by_object by_owner owners ≡ true
     → (slab_len records < records.capacity) × (records.vacant_key < length by_object.homes) × (records.vacant_key < length by_owner.homes) × (owners.has_room ≡ true) × (owners.vacant < length by_owner.chains)
 unfolding has_room
 rooms_of records by_object by_owner owners room =
@@ -201,13 +201,13 @@ rooms_of records by_object by_owner owners room =
     )
 
 -- a seat that is given has a chain
-pub seat_has_chain : (by_owner : Chained) (owners : Seats) (c : ℕ) → ((d : ℕ) → is_some (seat owners d) ≡ is_some (first_of (chain_of by_owner d))) → owners.vacant < length by_owner.chains
+pub seat_has_chain : (by_owner : Chained) (owners : Seated) (c : ℕ) → ((d : ℕ) → is_some (seat owners d) ≡ is_some (first_of (chain_of by_owner d))) → owners.vacant < length by_owner.chains
     → (is_some (seat owners c) ≡ true) ⊎ (c ≡ owners.vacant) → c < length by_owner.chains
 seat_has_chain by_owner owners c seated vacant (inl sat) = let first = some_of (first_of (chain_of by_owner c)) (sym (seated c) ∙ sat) in chain_within c first.0 by_owner (first_is_listed first.0 (chain_of by_owner c) first.1)
 seat_has_chain by_owner owners c seated vacant (inr is) = omega (arith, is, vacant)
 
 -- part of it is room for a seat
-pub seats_part : (records : Slab Record) (by_object by_owner : Chained) (owners : Seats) → has_room records by_object by_owner owners ≡ true → seat_room by_owner owners ≡ true
+pub seats_part : (records : Slab Record) (by_object by_owner : Chained) (owners : Seated) → has_room records by_object by_owner owners ≡ true → seat_room by_owner owners ≡ true
 unfolding has_room seat_room
 seats_part records by_object by_owner owners room =
     let parts = five (nat_lt (slab_len records) records.capacity) (nat_lt records.vacant_key (length by_object.homes)) (nat_lt records.vacant_key (length by_owner.homes)) owners.has_room (nat_lt owners.vacant (length by_owner.chains)) room in

@@ -1,4 +1,3 @@
-pub mod SeatLemmas
 pub mod ListedLemmas
 pub mod DropLemmas
 pub mod PushLemmas

@@ -11,7 +11,7 @@ use Rattle.asset_names.specs.declared.names.Txn.{Txn}
 use Rattle.asset_chains.specs.Chained.{Chained, chain_of, home_of, first_of, lists, one_chain_more, IsSound}
 use Rattle.asset_chains.proofs.SoundLemmas.{no_chain_of, no_home_of}
 use Rattle.asset_records.specs.declared.records.Record.{Record}
-use Rattle.asset_records.specs.Seats.{Seats, seat}
+use Rattle.asset_seats.specs.Seated.{Seated, seat}
 use Rattle.asset_records.specs.Listed.{Listed, listed_of, has_room, on, record_at, at_keys, owner_at, ChangesOn, IsValid}
 
 -- the records of an object are those of its chain
@@ -69,7 +69,7 @@ pub first_listed : (keys : List ℕ) (k : ℕ) → lists keys k ≡ true → is_
 first_listed [] k h = absurd (true≢false (sym h))
 first_listed (x ∷ keys) k h = refl
 
-module _ (records : Slab Record) (by_object by_owner : Chained) (owners : Seats) (valid : IsValid records by_object by_owner owners) where
+module _ (records : Slab Record) (by_object by_owner : Chained) (owners : Seated) (valid : IsValid records by_object by_owner owners) where
   -- a record's owner has a seat, whose chain the record is in
   pub home_of_owner : (k : ℕ) (one : Record) → get records k ≡ Some one → (c : ℕ) × (home_of by_owner k ≡ Some c) × (seat owners c ≡ Some one.owner)
   unfolding owner_at
@@ -108,16 +108,16 @@ module _ (records : Slab Record) (by_object by_owner : Chained) (owners : Seats)
     go (Some one) e = let same : Some one.owner ≡ Some t = sym (ap (option_map (λ (one : Record). one.owner)) e) ∙ is in (one, e, cc same)
 
 -- ---- what callers see
-pub lists_are : (records : Slab Record) (by_object by_owner : Chained) (owners : Seats) (now : Listed) → listed_of records by_object by_owner owners ≡ now → now.lists ≡ map (at_keys records) by_object.chains
+pub lists_are : (records : Slab Record) (by_object by_owner : Chained) (owners : Seated) (now : Listed) → listed_of records by_object by_owner owners ≡ now → now.lists ≡ map (at_keys records) by_object.chains
 unfolding listed_of
 lists_are records by_object by_owner owners now view = sym (ap (λ (l : Listed). l.lists) view)
 
-pub has_reserved : (records : Slab Record) (by_object by_owner : Chained) (owners : Seats) (now : Listed) → listed_of records by_object by_owner owners ≡ now → now.reserved ≡ true → has_room records by_object by_owner owners ≡ true
+pub has_reserved : (records : Slab Record) (by_object by_owner : Chained) (owners : Seated) (now : Listed) → listed_of records by_object by_owner owners ≡ now → now.reserved ≡ true → has_room records by_object by_owner owners ≡ true
 unfolding listed_of
 has_reserved records by_object by_owner owners now view reserved = ap (λ (l : Listed). l.reserved) view ∙ reserved
 
 -- a change of the lists, as callers see it
-pub changes_shown : (records more : Slab Record) (by_object longer by_owner owned_more : Chained) (owners seated_more : Seats) (now : Listed) (i : ℕ) (update : Record) → listed_of records by_object by_owner owners ≡ now
+pub changes_shown : (records more : Slab Record) (by_object longer by_owner owned_more : Chained) (owners seated_more : Seated) (now : Listed) (i : ℕ) (update : Record) → listed_of records by_object by_owner owners ≡ now
     → ChangesOn i (on (map (at_keys records) by_object.chains) i ++ update ∷ []) (map (at_keys records) by_object.chains) (map (at_keys more) longer.chains)
     → ChangesOn i (on now.lists i ++ update ∷ []) now.lists (listed_of more longer owned_more seated_more).lists
 unfolding listed_of
@@ -125,7 +125,7 @@ changes_shown records more by_object longer by_owner owned_more owners seated_mo
     subst (λ (lists : List (List Record)). ChangesOn i (on lists i ++ update ∷ []) lists (map (at_keys more) longer.chains)) (ap (λ (l : Listed). l.lists) view) changes
 
 -- nothing is listed, at first
-pub valid_nothing : (records : Slab Record) (by_object by_owner : Chained) (owners : Seats) → records.slots ≡ [] → by_object.homes ≡ [] → by_owner.chains ≡ [] → by_owner.homes ≡ [] → ((c : ℕ) → seat owners c ≡ None)
+pub valid_nothing : (records : Slab Record) (by_object by_owner : Chained) (owners : Seated) → records.slots ≡ [] → by_object.homes ≡ [] → by_owner.chains ≡ [] → by_owner.homes ≡ [] → ((c : ℕ) → seat owners c ≡ None)
     → IsValid records by_object by_owner owners
 unfolding owner_at
 valid_nothing records by_object by_owner owners none homes chains owner_homes nobody = record {
@@ -136,12 +136,12 @@ valid_nothing records by_object by_owner owners none homes chains owner_homes no
   no_record_at : (k : ℕ) → get records k ≡ None
   no_record_at k = ap (λ (l : List (Option Record)). slice_index_or l k None) none
 
-pub nothing_listed : (records : Slab Record) (by_object by_owner : Chained) (owners : Seats) → by_object.chains ≡ [] → (listed_of records by_object by_owner owners).lists ≡ []
+pub nothing_listed : (records : Slab Record) (by_object by_owner : Chained) (owners : Seated) → by_object.chains ≡ [] → (listed_of records by_object by_owner owners).lists ≡ []
 unfolding listed_of
 nothing_listed records by_object by_owner owners none = ap (map (at_keys records)) none
 
 -- another object, or more keys and chains, leave each record where it is
-pub valid_grown : (records : Slab Record) (by_object longer by_owner owned_more : Chained) (owners seated_more : Seats) → IsValid records by_object by_owner owners → ((k : ℕ) → home_of longer k ≡ home_of by_object k)
+pub valid_grown : (records : Slab Record) (by_object longer by_owner owned_more : Chained) (owners seated_more : Seated) → IsValid records by_object by_owner owners → ((k : ℕ) → home_of longer k ≡ home_of by_object k)
     → ((k : ℕ) → home_of owned_more k ≡ home_of by_owner k) → ((c : ℕ) → chain_of owned_more c ≡ chain_of by_owner c) → ((c : ℕ) → seat seated_more c ≡ seat owners c)
     → IsValid records longer owned_more seated_more
 unfolding owner_at
@@ -155,7 +155,7 @@ valid_grown records by_object longer by_owner owned_more owners seated_more vali
   same_owner (Some c) = sym (seats c)
 
 -- the same records under another slab with the same slots
-pub valid_slots : (records more : Slab Record) (by_object by_owner : Chained) (owners : Seats) → more.slots ≡ records.slots → IsValid records by_object by_owner owners → IsValid more by_object by_owner owners
+pub valid_slots : (records more : Slab Record) (by_object by_owner : Chained) (owners : Seated) → more.slots ≡ records.slots → IsValid records by_object by_owner owners → IsValid more by_object by_owner owners
 valid_slots records more by_object by_owner owners same valid = record {
   placed = λ k. ap is_some (at k) ∙ valid.placed k;
   owned = λ k. ap (option_map (λ (one : Record). one.owner)) (at k) ∙ valid.owned k;
@@ -165,7 +165,7 @@ valid_slots records more by_object by_owner owners same valid = record {
   at k = ap (λ (l : List (Option Record)). slice_index_or l k None) same
 
 -- one more object has no record
-pub lists_more : (records : Slab Record) (by_object longer by_owner : Chained) (owners : Seats) (now : Listed) → listed_of records by_object by_owner owners ≡ now → longer ≡ one_chain_more by_object
+pub lists_more : (records : Slab Record) (by_object longer by_owner : Chained) (owners : Seated) (now : Listed) → listed_of records by_object by_owner owners ≡ now → longer ≡ one_chain_more by_object
     → (listed_of records longer by_owner owners).lists ≡ now.lists ++ [] ∷ []
 unfolding listed_of one_chain_more at_keys
 lists_more records by_object longer by_owner owners now view more =

@@ -9,7 +9,7 @@ use Rattle.asset_chains.specs.Chained.{Chained, chain_of, home_of, first_of, lis
 use Rattle.asset_chains.proofs.Laws.{IsPushed}
 use Rattle.asset_chains.proofs.SoundLemmas.{unlisted}
 use Rattle.asset_records.specs.declared.records.Record.{Record}
-use Rattle.asset_records.specs.Seats.{Seats, seat}
+use Rattle.asset_seats.specs.Seated.{Seated, seat}
 use Rattle.asset_records.specs.Listed.{on, no_record, record_at, at_keys, owner_at, IsValid, ChangesOn}
 use Rattle.asset_records.proofs.ListedLemmas.{on_chain, keys_append, keys_same, first_listed}
 
@@ -27,7 +27,7 @@ read_there : (records more : Slab Record) (k j : ℕ) (update : Record) → Upda
 unfolding record_at
 read_there records more k j update put apart = ap (λ (o : Option Record). unwrap_or o no_record) (put.others j apart)
 
-module _ (records more : Slab Record) (by_object longer by_owner owned_more : Chained) (owners seated_more : Seats) (update : Record) (k i c : ℕ)
+module _ (records more : Slab Record) (by_object longer by_owner owned_more : Chained) (owners seated_more : Seated) (update : Record) (k i c : ℕ)
     (valid : IsValid records by_object by_owner owners) (sound_object : IsSound by_object) (sound : IsSound by_owner)
     (free : home_of by_object k ≡ None) (free_owner : home_of by_owner k ≡ None)
     (put : Updates records more k (Some update)) (object : IsPushed i k by_object longer) (owner : IsPushed c k by_owner owned_more)

@@ -6,37 +6,37 @@ use Rattle.slab.specs.Slab.{Slab, slab_len}
 use Rattle.asset_names.specs.declared.names.Txn.{Txn}
 use Rattle.asset_chains.specs.Chained.{Chained, chain_of, home_of}
 use Rattle.asset_records.specs.declared.records.Record.{Record}
-use Rattle.asset_records.specs.Seats.{Seats, seat}
+use Rattle.asset_seats.specs.Seated.{Seated, seat}
 use Rattle.asset_records.specs.Listed.{Listed, no_record, record_at, at_keys, listed_of, has_room, IsValid}
 use Rattle.asset_records.proofs.ListedLemmas.{valid_grown, valid_slots}
 
-seat_slots : (old new : Seats) → new.slots ≡ old.slots → (c : ℕ) → seat new c ≡ seat old c
+seat_slots : (old new : Seated) → new.slots ≡ old.slots → (c : ℕ) → seat new c ≡ seat old c
 unfolding seat
 seat_slots old new same c = ap (λ (l : List (Option Txn)). slice_index_or l c None) same
 
 -- the records are as they were
-pub reserve_valid : (records more : Slab Record) (by_object longer by_owner owned_more : Chained) (owners seated_more : Seats) → IsValid records by_object by_owner owners → more.slots ≡ records.slots
+pub reserve_valid : (records more : Slab Record) (by_object longer by_owner owned_more : Chained) (owners seated_more : Seated) → IsValid records by_object by_owner owners → more.slots ≡ records.slots
     → ((k : ℕ) → home_of longer k ≡ home_of by_object k) → ((k : ℕ) → home_of owned_more k ≡ home_of by_owner k) → ((c : ℕ) → chain_of owned_more c ≡ chain_of by_owner c) → seated_more.slots ≡ owners.slots
     → IsValid more longer owned_more seated_more
 reserve_valid records more by_object longer by_owner owned_more owners seated_more valid slots homes owner_homes chains seats =
     valid_grown more by_object longer by_owner owned_more owners seated_more (valid_slots records more by_object by_owner owners slots valid) homes owner_homes chains (seat_slots owners seated_more seats)
 
 -- and so are the lists
-pub lists_kept : (records more : Slab Record) (by_object longer by_owner owned_more : Chained) (owners seated_more : Seats) (now : Listed) → listed_of records by_object by_owner owners ≡ now → more.slots ≡ records.slots
+pub lists_kept : (records more : Slab Record) (by_object longer by_owner owned_more : Chained) (owners seated_more : Seated) (now : Listed) → listed_of records by_object by_owner owners ≡ now → more.slots ≡ records.slots
     → longer.chains ≡ by_object.chains → (listed_of more longer owned_more seated_more).lists ≡ now.lists
 unfolding listed_of at_keys record_at
 lists_kept records more by_object longer by_owner owned_more owners seated_more now view slots chains =
     (λ i. map (λ (keys : List ℕ). map (λ (k : ℕ). unwrap_or (slice_index_or (slots i) k None) no_record) keys) (chains i)) ∙ ap (λ (l : Listed). l.lists) view
 
 -- all of a reservation
-pub makes_all_room : (records : Slab Record) (by_object by_owner : Chained) (owners : Seats) → slab_len records < records.capacity → records.vacant_key < length by_object.homes → records.vacant_key < length by_owner.homes
+pub makes_all_room : (records : Slab Record) (by_object by_owner : Chained) (owners : Seated) → slab_len records < records.capacity → records.vacant_key < length by_object.homes → records.vacant_key < length by_owner.homes
     → owners.has_room ≡ true → owners.vacant < length by_owner.chains → (listed_of records by_object by_owner owners).reserved ≡ true
 unfolding listed_of has_room
 makes_all_room records by_object by_owner owners slots object owner seats chain = all (lt-ltb _ _ slots) (lt-ltb _ _ object) (lt-ltb _ _ owner) seats (lt-ltb _ _ chain) where
   all : {a b c d e : Bool} → a ≡ true → b ≡ true → c ≡ true → d ≡ true → e ≡ true → (a && b && c && d && e) ≡ true
   all p q r s t = λ i. (p i && q i && r i && s i && t i)
 
-pub shown_room : (records : Slab Record) (by_object by_owner : Chained) (owners : Seats) → has_room records by_object by_owner owners ≡ true → (listed_of records by_object by_owner owners).reserved ≡ true
+pub shown_room : (records : Slab Record) (by_object by_owner : Chained) (owners : Seated) → has_room records by_object by_owner owners ≡ true → (listed_of records by_object by_owner owners).reserved ≡ true
 unfolding listed_of
 shown_room records by_object by_owner owners room = room
 

@@ -1,3 +1,2 @@
 pub mod Dropped
 pub mod Listed
-pub mod Seats

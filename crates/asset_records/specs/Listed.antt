@@ -6,7 +6,7 @@ use Rattle.slab.specs.Slab.{Slab, get, slab_len}
 use Rattle.asset_chains.specs.Chained.{Chained, chain_of, home_of, first_of}
 use Rattle.asset_names.specs.declared.names.Txn.{Txn}
 use Rattle.asset_records.specs.declared.records.Record.{Record}
-use Rattle.asset_records.specs.Seats.{Seats, seat}
+use Rattle.asset_seats.specs.Seated.{Seated, seat}
 
 -- the records of each object, oldest first, and whether there is room for one more record
 pub record Listed : Type 0 where
@@ -30,16 +30,16 @@ unfoldable pub at_keys : Slab Record → List ℕ → List Record
 at_keys records keys = map (record_at records) keys
 
 -- whose the chain is that is a record's home, if it has one
-unfoldable pub owner_at : Seats → Option ℕ → Option Txn
+unfoldable pub owner_at : Seated → Option ℕ → Option Txn
 owner_at owners None = None
 owner_at owners (Some c) = seat owners c
 
 -- whether a new owner finds a seat, with a chain of its own
-unfoldable pub seat_room : Chained → Seats → Bool
+unfoldable pub seat_room : Chained → Seated → Bool
 seat_room by_owner owners = owners.has_room && nat_lt owners.vacant (length by_owner.chains)
 
 -- whether one more record finds a slot, a key in each partition, and a seat for a new owner with a chain of its own
-unfoldable pub has_room : Slab Record → Chained → Chained → Seats → Bool
+unfoldable pub has_room : Slab Record → Chained → Chained → Seated → Bool
 has_room records by_object by_owner owners =
     nat_lt (slab_len records) records.capacity
     && nat_lt records.vacant_key (length by_object.homes)
@@ -48,12 +48,12 @@ has_room records by_object by_owner owners =
     && nat_lt owners.vacant (length by_owner.chains)
 
 -- the records of each object, by its chain
-unfoldable pub listed_of : Slab Record → Chained → Chained → Seats → Listed
+unfoldable pub listed_of : Slab Record → Chained → Chained → Seated → Listed
 listed_of records by_object by_owner owners = record { lists = map (at_keys records) by_object.chains; reserved = has_room records by_object by_owner owners }
 
 -- each record is in the chain of an object and in that of its owner, and nothing else is in a chain; and exactly
 -- those who have a record have a seat
-pub record IsValid (records : Slab Record) (by_object by_owner : Chained) (owners : Seats) : Type 0 where
+pub record IsValid (records : Slab Record) (by_object by_owner : Chained) (owners : Seated) : Type 0 where
   pub placed : (k : ℕ) → is_some (get records k) ≡ is_some (home_of by_object k)
   pub owned : (k : ℕ) → option_map (λ (one : Record). one.owner) (get records k) ≡ owner_at owners (home_of by_owner k)
   pub seated : (c : ℕ) → is_some (seat owners c) ≡ is_some (first_of (chain_of by_owner c))

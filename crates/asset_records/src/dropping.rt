@@ -6,9 +6,9 @@ ghost use Rattle.asset_chains.specs.Chained.{chain_of, home_of, without, ahead, 
 ghost use Rattle.asset_records.specs.Listed.{IsValid, has_room, seat_room};
 ghost use Rattle.asset_records.specs.Dropped.{handed_at, restored_at};
 
-use crate::owners::Owners;
 use crate::records::Record;
 use asset_chains::Chains;
+use asset_seats::Seats;
 use slab::Slab;
 
 /// Passes the before-image of the record at `key` on to the record at `next`. If there is none, returns it.
@@ -33,7 +33,7 @@ pub(crate) fn drop_at(
     records: &mut Slab<Record>,
     by_object: &mut Chains,
     by_owner: &mut Chains,
-    owners: &mut Owners,
+    owners: &mut Seats,
     key: usize,
 )
     requires valid { IsValid records.old by_object.old by_owner.old owners.old }
@@ -70,7 +70,7 @@ pub(crate) fn drop_through(
     records: &mut Slab<Record>,
     by_object: &mut Chains,
     by_owner: &mut Chains,
-    owners: &mut Owners,
+    owners: &mut Seats,
     object: usize,
     last: usize,
 ) -> usize

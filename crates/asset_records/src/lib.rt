@@ -4,8 +4,6 @@
 #![tactic(auto)]
 
 mod dropping;
-mod owners;
 mod records;
-mod room;
 
 pub use records::{Record, Records, Undone};

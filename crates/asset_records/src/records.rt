@@ -1,10 +1,9 @@
 //! The update records of the writes that stand, each in the chain of its object and in that of its owner.
 
 use crate::dropping::{counted, drop_at, drop_through, hand_on};
-use crate::owners::Owners;
-use crate::room::{add_chains, add_keys};
 use asset_chains::Chains;
 use asset_names::{NoMemory, Txn};
+use asset_seats::{Seats, add_chains, add_keys};
 use slab::Slab;
 use std::alloc::Global;
 use std::marker::Model;
@@ -33,7 +32,7 @@ pub struct Records {
     records: Slab<Record>,
     by_object: Chains,
     by_owner: Chains,
-    owners: Owners,
+    owners: Seats,
 }
 
 impl Model for Records {
@@ -58,7 +57,7 @@ impl Records {
             records: Slab::new(alloc),
             by_object: Chains::new(alloc),
             by_owner: Chains::new(alloc),
-            owners: Owners::new(alloc),
+            owners: Seats::new(alloc),
         }
     }
 

@@ -4,7 +4,7 @@ use Rattle.slab.specs.Slab.{get, slab_len}
 use Rattle.asset_chains.specs.Chained.{chain_of, home_of}
 use Rattle.asset_chains.proofs.Laws.{key_within, home_within, unlinks}
 use Rattle.asset_records.specs.declared.records.Record.{Record}
-use Rattle.asset_records.specs.Seats.{seat}
+use Rattle.asset_seats.specs.Seated.{seat}
 use Rattle.asset_records.proofs.ListedLemmas.{some_of, first_listed, home_of_owner}
 use Rattle.asset_records.proofs.DropLemmas.{chains_without, homes_without, dropped_valid, room_left, left_if_none, kept_if_some}
 use Rattle.asset_records.proofs.dropping.drop_at.Goals.{in-Some+then-is_none, in-Some+else-is_none, in_default}

@@ -1,0 +1,9 @@
+//! Seats of transactions: small numbers, each given again once it is left, so that what is kept by seat grows with
+//! those who are seated at one time. Beside them, room in chains for one more key or chain.
+#![tactic(auto)]
+
+mod room;
+mod seats;
+
+pub use room::{add_chains, add_keys};
+pub use seats::Seats;
