@@ -163,9 +163,9 @@ taken_back records later fewer table less t k i gone restored sound home there w
 pub settles_through : (records fewer : Slab Record) (table less : Chained) (t k i visited : ℕ) (gone : Record) → IsSound table → IsSound less → home_of table k ≡ Some i → get records k ≡ Some gone → gone.owner.0 ≡ t
     → chain_of less i ≡ behind k (chain_of table i) → ((j : ℕ) → eqb j i ≡ false → chain_of less j ≡ chain_of table j) → length less.chains ≡ length table.chains
     → ((l : ℕ) → is_some (get fewer l) ≡ true → get fewer l ≡ get records l) → ((l : ℕ) → is_some (get fewer l) ≡ is_some (home_of less l))
-    → visited ≤ 4 * (1 + length (ahead k (chain_of table i))) → Settles t visited (map (at_keys records) table.chains) (map (at_keys fewer) less.chains)
+    → 1 + length (ahead k (chain_of table i)) ≤ visited → visited ≤ 4 * (1 + length (ahead k (chain_of table i))) → Settles t visited (map (at_keys records) table.chains) (map (at_keys fewer) less.chains)
 unfolding at_keys ChangesOn
-settles_through records fewer table less t k i visited gone sound sound_less home there whose rest others many kept placed bound = record {
+settles_through records fewer table less t k i visited gone sound sound_less home there whose rest others many kept placed least bound = record {
   object = i;
   older = at_keys records (ahead k (chain_of table i));
   gone = gone;
@@ -173,8 +173,12 @@ settles_through records fewer table less t k i visited gone sound sound_less hom
   stood = stood;
   owner = whose;
   changes = (same_many, changes);
+  counted = counted;
   bound = within;
 } where
+  counted : 1 + length (at_keys records (ahead k (chain_of table i))) ≤ visited
+  counted = subst (λ n. 1 + n ≤ visited) (sym (keys_length records (ahead k (chain_of table i)))) least
+
   within : visited ≤ 4 * (1 + length (at_keys records (ahead k (chain_of table i))))
   within = subst (λ n. visited ≤ 4 * (1 + n)) (sym (keys_length records (ahead k (chain_of table i)))) bound
 

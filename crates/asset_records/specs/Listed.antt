@@ -19,7 +19,7 @@ on lists i = slice_index_or lists i []
 
 -- a record, if there is none at a key
 unfoldable pub no_record : Record
-no_record = record { owner = record { 0 = 0 }; value = pos 0; before = pos 0 }
+no_record = record { owner = record { 0 = 0 }; before = pos 0 }
 
 -- the record at a key
 unfoldable pub record_at : Slab Record → ℕ → Record
@@ -95,6 +95,7 @@ pub record Settles (t : ℕ) (visited : ℕ) (old new : List (List Record)) : Ty
   pub stood : on old object ≡ older ++ gone ∷ later
   pub owner : gone.owner.0 ≡ t
   pub changes : ChangesOn object later old new
+  pub counted : 1 + length older ≤ visited
   pub bound : visited ≤ 4 * (1 + length older)
 
 -- the transaction has no record

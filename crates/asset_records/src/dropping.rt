@@ -81,6 +81,7 @@ pub(crate) fn drop_through(
     ensures others { (j : ℕ) → (j == object) ≡ false → chain_of by_object.new j ≡ chain_of by_object.old j }
     ensures kept { (k : ℕ) → is_some (get records.new k) ≡ true → get records.new k ≡ get records.old k }
     ensures many { length by_object.new.chains ≡ length by_object.old.chains }
+    ensures counted { 1 + length (ahead last (chain_of by_object.old object)) ≤ result }
     ensures visited { result ≤ 4 * (1 + length (ahead last (chain_of by_object.old object))) }
     ensures room { has_room records.old by_object.old by_owner.old owners.old ≡ true → has_room records.new by_object.new by_owner.new owners.new ≡ true }
 {
@@ -88,7 +89,7 @@ pub(crate) fn drop_through(
     let mut visited: usize = 0;
     'oldest: while let Some(key) = by_object.first(object) {
         let beside = counted(by_owner.previous(key)) + counted(by_owner.next(key));
-        visited = visited.saturating_add(1 + counted(by_object.next(key)) + beside);
+        visited += 1 + counted(by_object.next(key)) + beside;
         drop_at(records, by_object, by_owner, owners, key);
         by_object.laws();
         if key == last {

@@ -8,11 +8,11 @@ use slab::Slab;
 use std::alloc::Global;
 use std::marker::Model;
 
-/// The update record of a write that stands: its owner, the value that it wrote, and its before-image.
+/// The update record of a write that stands: its owner and its before-image. What it wrote is the before-image of the
+/// next record of its object, or else the value in place.
 #[derive(Clone, Copy)]
 pub struct Record {
     pub owner: Txn,
-    pub value: i64,
     pub before: i64,
 }
 
@@ -114,7 +114,7 @@ impl Records {
     /// Takes back the newest record of the transaction, and returns what is left to do; `None` if it has none. That it is
     /// the newest is tested; the contract holds for any of its records.
     pub fn take_back(&mut self, t: Txn) -> Option<Undone>
-        ensures taken { IfSome result (λ undone. TakesBack t.0 undone.object undone.restored self.old.lists self.new.lists × (undone.visited ≤ 4)) }
+        ensures taken { IfSome result (λ undone. TakesBack t.0 undone.object undone.restored self.old.lists self.new.lists × (1 ≤ undone.visited) × (undone.visited ≤ 4)) }
         ensures none { IfNone result (HasNone t.0 self.old.lists × (self.new ≡ self.old)) }
         ensures reserved { self.old.reserved ≡ true → self.new.reserved ≡ true }
     {

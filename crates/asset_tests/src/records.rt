@@ -46,20 +46,13 @@ fn reserve(records: &mut Records) -> Result<(), NoMemory>
 }
 
 /// Appends a record to those of its object, which has to be there.
-fn push(
-    records: &mut Records,
-    object: usize,
-    owner: u64,
-    value: i64,
-    before: i64,
-) -> Result<(), NoMemory> {
+fn push(records: &mut Records, object: usize, owner: u64, before: i64) -> Result<(), NoMemory> {
     reserve(records)?;
     if object < records.objects() {
         records.push(
             object,
             Record {
                 owner: Txn(owner),
-                value,
                 before,
             },
         );
@@ -80,9 +73,9 @@ fn take_back(records: &mut Records, owner: u64) -> Taken {
 /// Writes 10 and 20 to object 0 for 7 and 8, and 5 to object 1 for 7.
 fn write_three(records: &mut Records) -> Result<(), NoMemory> {
     add_objects(records, 2)?;
-    push(records, 0, 7, 10, 0)?;
-    push(records, 0, 8, 20, 10)?;
-    push(records, 1, 7, 5, 1)
+    push(records, 0, 7, 0)?;
+    push(records, 0, 8, 10)?;
+    push(records, 1, 7, 1)
 }
 
 /// Returns whether the writes are taken back one by one, the newest of a transaction first, each with its neighbours.
@@ -132,7 +125,7 @@ fn push_once(
     before: i64,
 ) -> Result<(), NoMemory> {
     records.reserve()?;
-    push(records, object, owner, before, before)
+    push(records, object, owner, before)
 }
 
 /// Adds `OBJECTS` objects, writes `OTHERS` times to object 1 for 8, and once to object 0 for 7 and for 8. Each call that
@@ -242,7 +235,7 @@ fn call(records: &mut Records, list: &mut Vec<Plain>, number: u64) -> Result<boo
             settle_plainly(list, owner),
         )),
         _ => {
-            push(records, object as usize, owner, before + 1, before)?;
+            push(records, object as usize, owner, before)?;
             list.push(Plain {
                 object: object as usize,
                 owner,

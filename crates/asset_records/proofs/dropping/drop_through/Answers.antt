@@ -1,9 +1,9 @@
-use Rattle.std.proofs.Common.{◌≡◌, ℕ, false, eqb, Some, is_some, sym, ap, ◌∙◌, arith}
+use Rattle.std.proofs.Common.{◌≡◌, ℕ, length, false, eqb, Some, is_some, sym, ap, ◌∙◌, arith}
 use Rattle.std.proofs.lemmas.Bool.{ne_eqb}
-use Rattle.asset_chains.specs.Chained.{chain_of, first_of, behind}
+use Rattle.asset_chains.specs.Chained.{chain_of, first_of, ahead, behind}
 use Rattle.asset_chains.proofs.Laws.{chain_at_first}
 use Rattle.asset_records.proofs.DropLemmas.{seats_part}
-use Rattle.asset_records.proofs.ThroughLemmas.{rest_is, others_are, shorter, behind_same, ahead_less, kept_after, home_after}
+use Rattle.asset_records.proofs.ThroughLemmas.{few_ahead, first_there, rest_is, others_are, shorter, behind_same, ahead_less, kept_after, home_after}
 use Rattle.asset_records.proofs.dropping.drop_through.Goals as goal
 
 pub drop_at-requires-clause-there : goal.drop_at-requires-clause-there
@@ -42,9 +42,26 @@ oldest-preserved c =
       others = λ j differ. others_are c.oldest.by_object c.drop_at.new.by_object c.in-Some.key c.args.object c.oldest.invariant.sound first c.drop_at.ensures.chains j differ ∙ c.oldest.invariant.others j differ;
       kept = kept_after c.args.records.now c.oldest.records c.drop_at.new.records c.in-Some.key c.drop_at.ensures.records c.oldest.invariant.kept;
       many = c.drop_at.ensures.many ∙ c.oldest.invariant.many;
-      visited = omega (arith, c.oldest.invariant.visited, less, c.saturating_add-visited.ensures, c.counted-in-Some-2.ensures, c.counted.ensures, c.counted-in-Some.ensures);
+      counted = omega (arith, c.oldest.invariant.counted, less);
+      visited = omega (arith, c.oldest.invariant.visited, less, c.counted-in-Some-2.ensures, c.counted.ensures, c.counted-in-Some.ensures);
       room = λ room. c.drop_at.ensures.room (seats_part c.oldest.records c.oldest.by_object c.oldest.by_owner c.oldest.owners (c.oldest.invariant.room room));
     }
 
 pub returns-then-key-last-clause-room : goal.returns-then-key-last-clause-room
 returns-then-key-last-clause-room c = λ room. c.drop_at.ensures.room (seats_part c.oldest.records c.oldest.by_object c.oldest.by_owner c.oldest.owners (c.oldest.invariant.room room))
+
+pub returns-then-key-last-clause-counted : goal.returns-then-key-last-clause-counted
+returns-then-key-last-clause-counted c =
+    let first : first_of (chain_of c.oldest.by_object c.args.object) ≡ Some c.in-Some.key = sym c.in-Some.ensures in
+    let none = ap length ((chain_at_first c.in-Some.key c.args.object c.oldest.by_object c.oldest.invariant.sound first).1) in
+    let ahead_of_last = ap (λ (k : ℕ). length (ahead k (chain_of c.oldest.by_object c.args.object))) c.if-key-last.true in
+    omega (arith, c.oldest.invariant.counted, none, ahead_of_last)
+
+pub returns-clause-counted : goal.returns-clause-counted
+returns-clause-counted c =
+    absurd (first_there (chain_of c.oldest.by_object c.args.object) c.args.last (sym c.first.ensures ∙ c.in_default.is) (c.oldest.invariant.sound.listed c.args.object c.args.last c.oldest.invariant.home))
+
+pub overflow_add-visited-in-Some-2 : goal.overflow_add-visited-in-Some-2
+overflow_add-visited-in-Some-2 c =
+    let few = few_ahead c.args.by_object.now c.args.object c.args.last c.laws.ensures.sound c.laws.ensures.few in
+    omega (arith, c.oldest.invariant.visited, few, c.counted-in-Some-2.ensures, c.counted.ensures, c.counted-in-Some.ensures)

@@ -14,6 +14,7 @@ invariant-oldest l = record {
   others : (j : ℕ) → eqb j l.object ≡ false → chain_of l.by_object j ≡ chain_of l.initial.by_object j;
   kept : (k : ℕ) → is_some (get l.records k) ≡ true → get l.records k ≡ get l.initial.records k;
   many : length l.by_object.chains ≡ length l.initial.by_object.chains;
+  counted : length (ahead l.last (chain_of l.initial.by_object l.object)) ≤ l.visited + length (ahead l.last (chain_of l.by_object l.object));
   visited : l.visited + 4 * length (ahead l.last (chain_of l.by_object l.object)) ≤ 4 * length (ahead l.last (chain_of l.initial.by_object l.object));
   room : has_room l.initial.records l.initial.by_object l.initial.by_owner l.initial.owners ≡ true → has_room l.records l.by_object l.by_owner l.owners ≡ true;
 }

@@ -34,6 +34,7 @@ returns-clause-settled c =
     c.drop_through-visited.ensures.many
     c.drop_through-visited.ensures.kept
     c.drop_through-visited.ensures.valid.placed
+    c.drop_through-visited.ensures.counted
     c.drop_through-visited.ensures.visited in
     shown_settled inside.records c.drop_through-visited.new.records inside.by_object c.drop_through-visited.new.by_object inside.by_owner c.drop_through-visited.new.by_owner inside.owners c.drop_through-visited.new.owners
     c.args.self.now c.args.t.0 c.drop_through-visited.result c.self.view_is went

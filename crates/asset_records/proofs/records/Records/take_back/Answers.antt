@@ -52,6 +52,7 @@ returns-clause-taken c =
     (c.hand_on-restored.ensures.restored ∙ ap (λ (o : Option ℕ). restored_at inside.records o c.in_ok-key.key) next) in (
       shown_back inside.records c.drop_at.new.records inside.by_object c.drop_at.new.by_object inside.by_owner c.drop_at.new.by_owner inside.owners c.drop_at.new.owners c.args.self.now c.args.t.0 c.in_ok-object.object
           c.hand_on-restored.result c.self.view_is back,
+      omega arith,
       omega (arith, c.counted.ensures, c.counted-2.ensures, c.counted-3.ensures),
     )
 
