@@ -1,5 +1,6 @@
 -- The table of objects: of each object a base and the writes that stand over it.
-use Rattle.std.specs.Prelude.{ℕ, ℤ, Bool, cond, not, ◌==◌, List, [], ◌∷◌, filter, find, Option, option_map, is_some}
+use Rattle.std.specs.Prelude.{ℕ, ℤ, Bool, true, cond, not, ◌==◌, List, [], ◌∷◌, filter, find, Option, option_map, is_some}
+use Rattle.std.specs.List.{count_by, sum_by}
 use Rattle.asset_names.specs.Steps.{Opening}
 use Rattle.asset_names.specs.Operations.{opening_at}
 
@@ -17,10 +18,11 @@ pub record Cell : Type 0 where
 abbrev pub Cells : Type 0
 Cells = ℕ → Option Cell
 
--- the objects, each with its cell, and whether there is room for one more write
+-- the objects, each with its cell, whether one more write is reserved, and how many records the last end visited
 pub record ObjectTable : Type 0 where
   pub rows : List (ℕ × Cell)
   pub reserved : Bool
+  pub visits : ℕ
 
 -- the cells of a table
 unfoldable pub cells : ObjectTable → Cells
@@ -80,3 +82,11 @@ change_at y change cells x = cond (y == x) (option_map change (cells x)) (cells 
 -- a change of each object
 unfoldable pub change_each : (Cell → Cell) → Cells → Cells
 change_each change cells x = option_map change (cells x)
+
+-- how many writes of those who pass the test stand
+unfoldable pub writes_by : (ℕ → Bool) → List (ℕ × Cell) → ℕ
+writes_by test rows = sum_by (λ (row : ℕ × Cell). count_by (λ (write : Written). test write.owner) row.1.records) rows
+
+-- how many writes stand
+unfoldable pub standing : List (ℕ × Cell) → ℕ
+standing rows = writes_by (λ (owner : ℕ). true) rows

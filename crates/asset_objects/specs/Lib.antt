@@ -1,3 +1,3 @@
 pub mod Cells
-pub mod Records
 pub mod Faults
+pub mod Placed

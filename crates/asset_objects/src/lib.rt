@@ -1,9 +1,10 @@
 //! The table of objects: the current values, and the update records by which writes are undone. A table is
 //! opened with the objects that exist. `write` uses room that `reserve_write` reserved before; `undo` and
-//! `settle` do not allocate.
+//! `settle` do not allocate, and touch only the records that go and those beside them.
 #![tactic(auto)]
 
-mod records;
+mod ending;
+mod placed;
 mod table;
 
 pub use table::{Objects, ObjectsFault};

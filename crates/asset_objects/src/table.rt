@@ -1,9 +1,9 @@
 //! The table of objects and its calls.
 
-use crate::records;
-use crate::records::Record;
+use crate::ending;
+use crate::placed::{Placed, place_all};
 use asset_names::{NoMemory, Ob, Txn, least_double};
-use indexmap::IndexMap;
+use asset_records::Record;
 use std::alloc::Global;
 use std::marker::Model;
 use thiserror::Error;
@@ -13,20 +13,20 @@ use thiserror::Error;
 /// write, or the base if there is none.
 #[derive(Drop)]
 pub struct Objects {
-    values: IndexMap<Ob, i64>,
-    records: Vec<Record>,
+    placed: Placed,
+    reserved: bool,
+    visits: usize,
 }
 
 impl Model for Objects {
-    ghost use Rattle.std.specs.Prelude.{vec_capacity};
     ghost use Rattle.asset_objects.specs.Cells.{ObjectTable};
-    ghost use Rattle.asset_objects.specs.Records.{object_table, IsValid};
+    ghost use Rattle.asset_objects.specs.Placed.{object_table, IsPlaced};
 
     ghost Value = { ObjectTable };
 
-    ghost view = { λ o. object_table o.values.entries o.records.items (vec_capacity o.records) };
+    ghost view = { λ o. object_table o.placed.objects.keys o.placed.values.items o.placed.records.lists o.reserved o.visits };
 
-    ghost invariant = { λ o. IsValid o.values.entries o.records.items };
+    ghost invariant = { λ o. IsPlaced o.placed.objects.keys o.placed.values.items o.placed.records o.reserved };
 }
 
 /// Why a table was not opened.
@@ -41,9 +41,11 @@ pub enum ObjectsFault {
 }
 
 impl Objects {
-    ghost use Rattle.std.specs.Prelude.{◌≡◌, ℕ, ◌==◌, true, is_some, map, IfOk, IfErr, IsOk, OnOk, OnErr};
+    ghost use Rattle.std.specs.Prelude.{◌≡◌, ℕ, ◌==◌, ◌≤◌, ◌+◌, ◌*◌, true, is_some, length, map, IfOk, IfErr, IsOk, OnOk, OnErr};
+    ghost use Rattle.asset_names.specs.Steps.{Opening};
     ghost use Rattle.asset_names.specs.Sets.{HasNoDouble};
-    ghost use Rattle.asset_objects.specs.Cells.{cells, opened, value_in, has_object, written, undone, settled, change_at, change_each};
+    ghost use Rattle.asset_objects.specs.Cells.{cells, opened, value_in, has_object, written, undone, settled, change_at, change_each, writes_by, standing};
+    ghost use Rattle.asset_objects.specs.Placed.{IsOpened};
     ghost use Rattle.asset_objects.specs.Faults.{objects_of, IsObjectsFault};
 
     /// Returns the objects at their opening values, with no write yet.
@@ -51,11 +53,12 @@ impl Objects {
     /// It answers `DoubleObject` with the least object that is given twice; otherwise `NoMemory` if memory runs out.
     pub fn open(alloc: Global, opening: &[(Ob, i64)]) -> Result<Objects, ObjectsFault>
         ensures opened { IfOk result (λ objects. cells objects ≡ opened opening.now) }
+        ensures visits { IfOk result (λ objects. objects.visits ≡ 0) }
         ensures different { OnOk result (HasNoDouble (objects_of opening.now)) }
         ensures fault { IfErr result (λ fault. IsObjectsFault opening.now fault) }
     {
-        match values_of(alloc, opening) {
-            Some(values) => Ok(Objects::over(alloc, values)),
+        match place_all(alloc, opening) {
+            Some(placed) => Ok(Objects::over(placed)),
             None => Err(fault_of(opening)),
         }
     }
@@ -64,21 +67,26 @@ impl Objects {
     /// twice. If memory runs out, it answers at once, while `open` first compares each pair of objects.
     pub fn open_distinct(alloc: Global, opening: &[(Ob, i64)]) -> Result<Objects, NoMemory>
         requires distinct { HasNoDouble (objects_of opening.now) }
-        ensures { IfOk result (λ objects. cells objects ≡ opened opening.now) }
+        ensures opened { IfOk result (λ objects. cells objects ≡ opened opening.now) }
+        ensures visits { IfOk result (λ objects. objects.visits ≡ 0) }
     {
-        let Some(values) = values_of(alloc, opening) else {
+        let Some(placed) = place_all(alloc, opening) else {
             return Err(NoMemory);
         };
-        Ok(Objects::over(alloc, values))
+        Ok(Objects::over(placed))
     }
 
-    /// Returns the objects at these values, with no write yet.
-    fn over(alloc: Global, values: IndexMap<Ob, i64>) -> Objects
-        ensures { cells result ≡ opened values.entries }
+    /// Returns the table of these objects, of which none has a record.
+    fn over(placed: Placed) -> Objects
+        requires values { length placed.values.items ≡ length placed.objects.keys }
+        requires lists { length placed.records.lists ≡ length placed.objects.keys }
+        ensures cells { (opening : Opening) → IsOpened opening placed.objects.keys placed.values.items placed.records.lists → cells result ≡ opened opening }
+        ensures visits { result.visits ≡ 0 }
     {
         Objects {
-            values,
-            records: Vec::new(alloc),
+            placed,
+            reserved: false,
+            visits: 0,
         }
     }
 
@@ -87,7 +95,8 @@ impl Objects {
         ensures value { result ≡ value_in (cells self.now) x.0 }
         ensures exists { is_some result ≡ has_object (cells self.now) x.0 }
     {
-        self.values.get(&x).copied()
+        let i = self.placed.objects.get_index_of(&x)?;
+        Some(self.placed.values[i])
     }
 
     /// Reserves the memory for one more write. The reservation stands until that write.
@@ -99,10 +108,11 @@ impl Objects {
         ensures standing { self.old.reserved ≡ true → IsOk result }
         ensures unchanged { OnErr result (self.new ≡ self.old) }
     {
-        match self.records.reserve(1) {
-            Ok(()) => Ok(()),
-            Err(_) => Err(NoMemory),
+        if !self.reserved {
+            self.placed.records.reserve()?;
+            self.reserved = true;
         }
+        Ok(())
     }
 
     /// Writes the value to the object, which exists. It uses the memory that `reserve_write` reserved. Other
@@ -112,71 +122,45 @@ impl Objects {
         requires reserved { self.old.reserved ≡ true }
         ensures { cells self.new ≡ change_at x.0 (written t.0 v) (cells self.old) }
     {
-        let before = records::put(&mut self.values, x, v).unwrap();
-        self.records
-            .push(Record {
-                owner: t,
-                object: x,
-                value: v,
-                before,
-            })
-            .unwrap();
+        let i = self.placed.objects.get_index_of(&x).unwrap();
+        let before = self.placed.values[i];
+        self.placed.values[i] = v;
+        self.placed.records.push(i, Record { owner: t, before });
+        self.reserved = false;
     }
 
-    /// Takes back the writes of the transaction: each object is as it would be without them. Its time grows
-    /// with the number of records that stand.
+    /// Takes back the writes of the transaction: each object is as it would be without them. It touches the
+    /// records of the transaction and those beside them.
     pub fn undo(&mut self, t: Txn)
         ensures cells { cells self.new ≡ change_each (undone (λ n. n == t.0)) (cells self.old) }
+        ensures visits { self.new.visits ≤ 4 * writes_by (λ n. n == t.0) self.old.rows }
         ensures reserved { self.old.reserved ≡ true → self.new.reserved ≡ true }
     {
-        records::undo(&mut self.values, &mut self.records, t);
+        let placed = &mut self.placed;
+        self.visits = ending::undo(&mut placed.values, &mut placed.records, t);
     }
 
     /// Makes the writes of the transaction final: on each object the newest of them becomes the base, and its
-    /// record is dropped together with all before it. Its time grows with the number of records that stand.
+    /// record is dropped together with all before it. It touches the records that go and those beside them.
     pub fn settle(&mut self, t: Txn)
         ensures cells { cells self.new ≡ change_each (settled (λ n. n == t.0)) (cells self.old) }
+        ensures visits { self.new.visits + 4 * standing self.new.rows ≤ 4 * standing self.old.rows }
         ensures reserved { self.old.reserved ≡ true → self.new.reserved ≡ true }
     {
-        records::settle(&mut self.records, t);
+        let placed = &mut self.placed;
+        self.visits = ending::settle(&placed.values, &mut placed.records, t);
+    }
+
+    /// Returns how many records the last `undo` or `settle` visited: each one that went, and each time those beside it
+    /// among the records of its object and of its owner. It is 0 before the first.
+    pub fn visits(&self) -> usize
+        ensures { result ≡ self.now.visits }
+    {
+        self.visits
     }
 }
 
-ghost use Rattle.std.specs.Prelude.{◌≡◌, [], ◌∷◌, ◌++◌, None, IfSome, OnSome};
-ghost use Rattle.std.specs.Bool.{OnTrue};
-ghost use Rattle.asset_names.specs.Operations.{opening_at};
-ghost use Rattle.asset_names.specs.Sets.{HasNoDouble};
-ghost use Rattle.asset_objects.specs.Faults.{objects_of, IsObjectsFault};
-
-/// Returns the values by object, in the order of the opening, and `None` if an object is given twice or memory
-/// runs out.
-fn values_of(alloc: Global, opening: &[(Ob, i64)]) -> Option<IndexMap<Ob, i64>>
-    ensures values { IfSome result (λ values. values.entries ≡ opening.now) }
-    ensures different { OnSome result (HasNoDouble (objects_of opening.now)) }
-{
-    let Ok(mut values) = IndexMap::with_capacity(alloc, opening.len()) else {
-        return None;
-    };
-    'pairs: for &(x, value) in opening {
-        if !add(&mut values, x, value) {
-            return None;
-        }
-    }
-    Some(values)
-}
-
-/// Adds an object with its value; returns whether it was added. It is not if it is there already or memory runs
-/// out.
-fn add(values: &mut IndexMap<Ob, i64>, x: Ob, value: i64) -> bool
-    ensures added { OnTrue result (values.new.entries ≡ values.old.entries ++ (x, value) ∷ []) }
-    ensures different { OnTrue result (opening_at values.old.entries x.0 ≡ None) }
-{
-    match values.insert(x, value) {
-        Ok(None) => true,
-        Ok(Some(_)) => false,
-        Err(_) => false,
-    }
-}
+ghost use Rattle.asset_objects.specs.Faults.{IsObjectsFault};
 
 /// Returns why there is no table of these objects: one is given twice, or else memory ran out. It compares each
 /// pair.

@@ -8,6 +8,7 @@ use Rattle.std.proofs.lemmas.List.{map-append}
 use Rattle.std.proofs.Math.ListN as listn
 use Rattle.slab.specs.Slab.{Slab, get}
 use Rattle.asset_names.specs.declared.names.Txn.{Txn}
+pub use Rattle.asset_chains.proofs.Laws.{read_more}
 use Rattle.asset_chains.specs.Chained.{Chained, chain_of, home_of, first_of, lists, one_chain_more, IsSound}
 use Rattle.asset_chains.proofs.SoundLemmas.{no_chain_of, no_home_of}
 use Rattle.asset_records.specs.declared.records.Record.{Record}

@@ -21,6 +21,8 @@ mod names;
 #[cfg(test)]
 mod objects;
 #[cfg(test)]
+mod objects_beside_list;
+#[cfg(test)]
 mod permits;
 #[cfg(test)]
 mod records;

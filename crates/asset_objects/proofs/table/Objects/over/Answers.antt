@@ -1,9 +1,11 @@
-use Rattle.std.proofs.Common.{refl}
-use Rattle.asset_objects.proofs.TableLemmas.{valid_nothing, cells_opened}
+use Rattle.std.proofs.Common.{false, refl}
+use Rattle.asset_objects.specs.Placed.{object_table}
+use Rattle.asset_objects.proofs.PlacedLemmas.{cells_opened}
 use Rattle.asset_objects.proofs.table.Objects.over.Goals as goal
 
-pub invariant_of-result : goal.invariant_of-result
-invariant_of-result c = rw c.new.ensures.items (valid_nothing c.args.values.entries)
+pub returns-clause-cells : goal.returns-clause-cells
+returns-clause-cells c = λ opening opened. cells_opened opening c.args.placed.objects.keys c.args.placed.values.items c.args.placed.records.lists false 0 opened
 
-pub returns : goal.returns
-returns c = cells_opened c.args.values.entries c.args.values.entries c.new.result.items _ c.new.ensures.items (λ x. refl)
+pub returns-clause-visits : goal.returns-clause-visits
+unfolding object_table
+returns-clause-visits c = refl

@@ -1,27 +1,29 @@
-use Rattle.std.proofs.Common.{ap, refl, rules, tests, arith}
-use Rattle.std.specs.Prelude.{vec_capacity, IsOk}
-use Rattle.std.proofs.lemmas.Bool.{false≢true}
-use Rattle.asset_objects.specs.Records.{object_table, cells_of}
-use Rattle.asset_objects.proofs.TableLemmas.{reserved_room, cells_changed}
+use Rattle.std.proofs.Common.{List, true, refl, sym, ap, ◌∙◌}
+use Rattle.std.proofs.lemmas.Bool.{true≢false}
+use Rattle.asset_records.specs.declared.records.Record.{Record}
+use Rattle.asset_objects.specs.Cells.{cells}
+use Rattle.asset_objects.specs.Placed.{object_table}
+use Rattle.asset_objects.proofs.PlacedLemmas.{reserved_shown, rows_cells}
 use Rattle.asset_objects.proofs.table.Objects.reserve_write.Goals as goal
-use Rattle.asset_objects.proofs.table.Objects.reserve_write.Goals.{in-Ok, in-Err}
 
-pub returns-clause-cells : goal.returns-clause-cells
-returns-clause-cells c =
-    let inside = c.self.inside in
-    cells_changed inside.values.entries inside.values.entries inside.records.items c.reserve.new.self.items (vec_capacity inside.records) _ c.args.self.now
-    (λ same. same) c.self.view_is (λ x. ap (λ records. cells_of inside.values.entries records x) c.reserve.ensures.items)
+pub returns-in_err-reserve-clause-standing : goal.returns-in_err-reserve-clause-standing
+returns-in_err-reserve-clause-standing c = λ reserved.
+    let placed = c.self.inside.placed in
+    let here = reserved_shown placed.objects.keys placed.values.items placed.records.lists c.self.inside.reserved c.self.inside.visits c.args.self.now c.self.view_is in
+    absurd (true≢false (sym reserved ∙ here ∙ c.if-not-self.true))
 
-pub returns-clause-reserved : goal.returns-clause-reserved
+pub returns-in_ok-reserve-clause-cells : goal.returns-in_ok-reserve-clause-cells
+returns-in_ok-reserve-clause-cells c =
+    let placed = c.self.inside.placed in
+    ap (λ (lists : List (List Record)). cells (object_table placed.objects.keys placed.values.items lists true c.self.inside.visits)) c.in_ok-reserve.ensures.lists
+    ∙ rows_cells placed.objects.keys placed.values.items placed.records.lists true c.self.inside.reserved c.self.inside.visits
+    ∙ ap cells c.self.view_is
+
+pub returns-in_ok-reserve-clause-reserved : goal.returns-in_ok-reserve-clause-reserved
 unfolding object_table
-returns-clause-reserved c = search (rules, tests)
+returns-in_ok-reserve-clause-reserved c = refl
 
-pub returns-clause-standing : goal.returns-clause-standing
-returns-clause-standing c = λ reserved.
-    let inside = c.self.inside in
-    let room = reserved_room inside.values.entries inside.records.items (vec_capacity inside.records) c.args.self.now c.self.view_is reserved in
-    let made : IsOk c.reserve.result = c.reserve.ensures.succeeds (omega (arith, room)) in
-    elim c.match-reserve.branch [
-      | in-Ok w ↦ rw w.result-is refl
-      | in-Err w ↦ absurd (false≢true (rw w.in-Err.is at made))
-    ]
+pub returns-else-not-self-clause-reserved : goal.returns-else-not-self-clause-reserved
+returns-else-not-self-clause-reserved c =
+    let placed = c.self.inside.placed in
+    reserved_shown placed.objects.keys placed.values.items placed.records.lists c.self.inside.reserved c.self.inside.visits c.args.self.now c.self.view_is ∙ c.if-not-self.false

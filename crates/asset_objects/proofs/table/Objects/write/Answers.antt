@@ -1,51 +1,49 @@
-use Rattle.std.proofs.Common.{◌≡◌, ◌++◌, [], ◌∷◌, ℕ, true, length, sym, ap, ◌∙◌, w64, to_z, of_z, arith}
-use Rattle.std.specs.Prelude.{is_some, nat_lt, vec_capacity}
-use Rattle.std.proofs.lemmas.Bool.{ltb-true}
+use Rattle.std.proofs.Common.{◌≡◌, ◌<◌, ◌++◌, [], ◌∷◌, Some, false, length, is_some, refl, sym, ap, ◌∙◌, w64, to_z, of_z, arith}
+use Rattle.std.specs.Prelude.{slice_set}
+use Rattle.std.proofs.lemmas.Bool.{false≢true}
 use Rattle.std.proofs.lemmas.Int.{to_z-of_z}
-use Rattle.asset_names.specs.Operations.{opening_at}
-use Rattle.asset_objects.specs.declared.records.Record.{Record}
-use Rattle.asset_objects.specs.Cells.{cells, has_object, written, change_at}
-use Rattle.asset_objects.specs.Records.{object_table, put_at, cells_of}
-use Rattle.asset_objects.proofs.TableLemmas.{exists_in_place, cells_changed, written_valid, written_cells}
+use Rattle.std.proofs.lemmas.List.{length-set}
+use Rattle.asset_records.specs.declared.records.Record.{Record}
+use Rattle.asset_records.specs.Listed.{on, ChangesOn}
+use Rattle.asset_objects.specs.Cells.{cells, written, change_at}
+use Rattle.asset_objects.specs.Placed.{index_of}
+use Rattle.asset_objects.proofs.PlacedLemmas.{index_found, index_reads, has_index, read_value, write_cells, one_changed, reserved_shown}
 use Rattle.asset_objects.proofs.table.Objects.write.Goals as goal
 
-pub unwrap-before-requires : goal.unwrap-before-requires
-unwrap-before-requires c =
-    let inside = c.self.inside in
-    ap is_some c.put.ensures.before
-    ∙ sym (exists_in_place inside.values.entries inside.records.items (vec_capacity inside.records) c.args.x.0)
-    ∙ ap (λ table. has_object (cells table) c.args.x.0) c.self.view_is
+pub unwrap-i-requires : goal.unwrap-i-requires
+unwrap-i-requires c =
+    let placed = c.self.inside.placed in
+    ap is_some (c.get_index_of.ensures.index ∙ index_found _ c.args.x.0 (λ y. refl) placed.objects.keys)
+    ∙ sym (has_index placed.objects.keys placed.values.items placed.records.lists c.self.inside.reserved c.self.inside.visits c.args.self.now c.args.x.0 c.self.view_is)
     ∙ c.requires.exists
 
-pub unwrap-requires : goal.unwrap-requires
-unfolding object_table
-unwrap-requires c =
-    let records = c.self.inside.records in
-    let free : nat_lt (length records.items) (vec_capacity records) ≡ true = ap (λ table. table.reserved) c.self.view_is ∙ c.requires.reserved in
-    c.push.ensures.succeeds (omega (arith, ltb-true (length records.items) (vec_capacity records) free))
+pub push-requires-clause-reserved : goal.push-requires-clause-reserved
+push-requires-clause-reserved c =
+    let placed = c.self.inside.placed in
+    c.self.invariant.room (sym (reserved_shown placed.objects.keys placed.values.items placed.records.lists c.self.inside.reserved c.self.inside.visits c.args.self.now c.self.view_is) ∙ c.requires.reserved)
 
 pub invariant_of-self : goal.invariant_of-self
+unfolding ChangesOn
 invariant_of-self c =
-    let inside = c.self.inside in
-    let before = c.unwrap-before.result in
-    let fits : to_z w64 (of_z w64 before) ≡ before = grind (arith, to_z-of_z) in
-    let wrote = to_z-of_z w64 c.args.v c.ranges.v in
-    let last : Record = record { owner = c.args.t; object = c.args.x; value = c.args.v; before = before } in
-    let pushed : c.push.new.self.items ≡ inside.records.items ++ last ∷ [] = rw (c.unwrap.ensures, fits, wrote) at c.push.ensures.items in
-    let put : (y : ℕ) → opening_at c.put.new.values.entries y ≡ put_at inside.values.entries c.args.x.0 c.args.v y = λ y. (rw wrote at (c.put.ensures.values y)) in
-    rw pushed (written_valid inside.values.entries c.put.new.values.entries inside.records.items last (sym c.put.ensures.before ∙ c.unwrap-before.ensures) put c.self.invariant)
+    let placed = c.self.inside.placed in
+    record {
+      valued = length-set placed.values.items c.unwrap-i.result _ ∙ c.self.invariant.valued;
+      many = c.push.ensures.0 ∙ c.self.invariant.many;
+      room = λ reserved. absurd (false≢true reserved);
+    }
 
 pub returns : goal.returns
 returns c =
-    let inside = c.self.inside in
-    let before = c.unwrap-before.result in
+    let placed = c.self.inside.placed in
+    let i = c.unwrap-i.result in
+    let there : index_of placed.objects.keys c.args.x.0 ≡ Some i = sym (index_found _ c.args.x.0 (λ y. refl) placed.objects.keys) ∙ sym c.get_index_of.ensures.index ∙ c.unwrap-i.ensures in
+    let within : i < length placed.values.items = omega (arith, (index_reads placed.objects.keys c.args.x.0 i there).0, c.self.invariant.valued) in
+    let before = c.index-before.result.now in
     let fits : to_z w64 (of_z w64 before) ≡ before = grind (arith, to_z-of_z) in
     let wrote = to_z-of_z w64 c.args.v c.ranges.v in
-    let last : Record = record { owner = c.args.t; object = c.args.x; value = c.args.v; before = before } in
-    let pushed : c.push.new.self.items ≡ inside.records.items ++ last ∷ [] = rw (c.unwrap.ensures, fits, wrote) at c.push.ensures.items in
-    let put : (y : ℕ) → opening_at c.put.new.values.entries y ≡ put_at inside.values.entries c.args.x.0 c.args.v y = λ y. (rw wrote at (c.put.ensures.values y)) in
-    cells_changed inside.values.entries c.put.new.values.entries inside.records.items c.push.new.self.items (vec_capacity inside.records) _ c.args.self.now
-    (change_at c.args.x.0 (written c.args.t.0 c.args.v)) c.self.view_is
-    (λ y.
-    ap (λ records. cells_of c.put.new.values.entries records y) pushed
-    ∙ written_cells inside.values.entries c.put.new.values.entries inside.records.items last (sym c.put.ensures.before ∙ c.unwrap-before.ensures) put y)
+    let last : Record = record { owner = c.args.t; before = before } in
+    let pushed : ChangesOn i (on placed.records.lists i ++ last ∷ []) placed.records.lists c.push.new.self.lists = rw fits at c.push.ensures in
+    rw wrote (one_changed (written c.args.t.0 c.args.v) c.args.x.0 i placed.objects.keys placed.values.items (slice_set placed.values.items i c.args.v) placed.records.lists c.push.new.self.lists
+    c.self.inside.reserved false c.self.inside.visits c.self.inside.visits there
+    (write_cells placed.values.items placed.records.lists c.push.new.self.lists i last c.args.v within (read_value placed.values.items i before within c.index-before.ensures) pushed)
+    ∙ ap (λ table. change_at c.args.x.0 (written c.args.t.0 c.args.v) (cells table)) c.self.view_is)

@@ -1,0 +1,319 @@
+-- The objects by their indexes, and what callers see of them.
+use Rattle.std.proofs.Common.{◌≡◌, ℕ, ◌+◌, ◌<◌, ◌≤◌, suc, zero, Bool, true, false, cond, not, eqb, ltb, ◌||◌, List, [], ◌∷◌, ◌++◌, length, map, find, drop, get_or, set, refl, sym, ap, ◌∙◌, arith, Option, Some, None}
+use Rattle.std.specs.Prelude.{ℤ, pos, unwrap_or, slice_set, is_some}
+use Rattle.std.specs.Option.{option_map}
+use Rattle.std.specs.List.{list_any, count_by, position, position_or_len}
+use Rattle.std.specs.Bool.{OnTrue}
+use Rattle.std.proofs.lemmas.Bool.{eqb-true, eqb-false, eq-eqb, ne_eqb, ltb-true, ltb-false, lt-ltb, not-true}
+use Rattle.std.proofs.lemmas.List.{append_assoc, append-nil, get_or-set_same, get_or-set_other, get_or_past, length-append, map-append}
+use Rattle.std.proofs.lemmas.List.Sums.{sum_by-cons, sum_by-drop_more}
+use Rattle.std.proofs.Math.ListN.{drop_of_length-le}
+use Rattle.asset_names.specs.declared.names.Ob.{Ob}
+use Rattle.asset_names.specs.Arrows.{lists}
+use Rattle.asset_names.specs.Sets.{numbers, HasNoDouble}
+use Rattle.asset_names.specs.Steps.{Opening}
+use Rattle.asset_names.specs.Operations.{opening_at}
+use Rattle.asset_names.proofs.Common.{eqb-flip}
+use Rattle.asset_names.proofs.DoubleLemmas.{no_double_push, lists_numbers}
+use Rattle.asset_records.specs.declared.records.Record.{Record}
+use Rattle.asset_records.specs.Listed.{on, ChangesOn}
+use Rattle.asset_records.proofs.ListedLemmas.{read_more}
+use Rattle.asset_objects.specs.Cells.{Written, Cell, ObjectTable, cells, fresh, opened, newest_or, shown, value_in, has_object, written, change_at, change_each, writes_by}
+use Rattle.asset_objects.specs.Faults.{objects_of}
+use Rattle.asset_objects.specs.Placed.{base_of, write_of, writes_of, recorded_cell, value_at, cell_at, index_of, rows_from, object_table, records_by, IsOpened}
+use Rattle.asset_objects.proofs.CellLemmas.{owned_by, writes_count, cell_pushed}
+
+-- ---- a value in place
+pub value_set : (values : List ℤ) (i : ℕ) (before : ℤ) (restored : Option ℤ) → restored ≡ Some before → i < length values
+    → (j : ℕ) → value_at (slice_set values i before) j ≡ cond (eqb i j) (unwrap_or restored (value_at values j)) (value_at values j)
+unfolding value_at
+value_set values i before restored is within j = go (eqb i j) refl where
+  go : (b : Bool) → eqb i j ≡ b → get_or (set values i before) j (pos 0) ≡ cond b (unwrap_or restored (get_or values j (pos 0))) (get_or values j (pos 0))
+  go true e = ap (λ (k : ℕ). get_or (set values i before) k (pos 0)) (sym (eqb-true i j e)) ∙ get_or-set_same values i before (pos 0) within ∙ sym (ap (λ (o : Option ℤ). unwrap_or o (get_or values j (pos 0))) is)
+  go false e = get_or-set_other values i j before (pos 0) (λ same. eqb-false i j e (sym same))
+
+-- what an object shows is what is in place
+newest_in_place : (first : Record) (later : List Record) (value : ℤ) (rest : List Written) (base : ℤ) → newest_or base (writes_of (first ∷ later) value ++ rest) ≡ value
+unfolding newest_or writes_of write_of base_of
+newest_in_place first [] value rest base = refl
+newest_in_place first (next ∷ later) value rest base =
+    ap (newest_or base) (append_assoc (writes_of (next ∷ later) value) (write_of first next.before ∷ []) rest)
+    ∙ newest_in_place next later value (write_of first next.before ∷ rest) base
+
+pub shown_in_place : (records : List Record) (value : ℤ) → shown (recorded_cell records value) ≡ value
+unfolding shown recorded_cell newest_or writes_of base_of
+shown_in_place [] value = refl
+shown_in_place (first ∷ later) value = ap (newest_or first.before) (sym (append-nil (writes_of (first ∷ later) value))) ∙ newest_in_place first later value [] first.before
+
+-- ---- an object by its index
+pub index_reads : (objects : List Ob) (x i : ℕ) → index_of objects x ≡ Some i → (i < length objects) × ((none : Ob) → (get_or objects i none).0 ≡ x)
+unfolding index_of
+index_reads [] x i is = cc is
+index_reads (y ∷ ys) x i is = go (λ j. index_reads ys x j) (eqb y.0 x) refl (index_of ys x) refl is where
+  go : ((j : ℕ) → index_of ys x ≡ Some j → (j < length ys) × ((none : Ob) → (get_or ys j none).0 ≡ x)) → (b : Bool) → eqb y.0 x ≡ b → (o : Option ℕ) → index_of ys x ≡ o → cond b (Some 0) (option_map suc o) ≡ Some i → (i < length (y ∷ ys)) × ((none : Ob) → (get_or (y ∷ ys) i none).0 ≡ x)
+  go ih true e o rest found =
+      let zero_is : 0 ≡ i = cc found in
+      (omega (arith, zero_is), λ none. ap (λ (n : ℕ). (get_or (y ∷ ys) n none).0) (sym zero_is) ∙ eqb-true y.0 x e)
+  go ih false e None rest found = cc found
+  go ih false e (Some j) rest found =
+      let next : suc j ≡ i = cc found in
+      let later = ih j rest in
+      (omega (arith, next, later.0), λ none. ap (λ (n : ℕ). (get_or (y ∷ ys) n none).0) (sym next) ∙ later.1 none)
+
+ltb-past : (m n : ℕ) → n ≤ m → ltb m n ≡ false
+ltb-past m n past = go (ltb m n) refl where
+  go : (b : Bool) → ltb m n ≡ b → ltb m n ≡ false
+  go true below = absurd (omega (arith, past, ltb-true m n below))
+  go false above = above
+
+-- the index that a search finds
+pub index_found : (test : Ob → Bool) (x : ℕ) → ((y : Ob) → test y ≡ eqb x y.0) → (objects : List Ob) → position test objects ≡ index_of objects x
+unfolding index_of
+index_found test x h [] = refl
+index_found test x h (y ∷ ys) = go (test y) (position_or_len test ys) (index_found test x h ys) ∙ ap (λ (b : Bool). cond b (Some 0) (option_map suc (index_of ys x))) (h y ∙ eqb-flip x y.0) where
+  stays : (n many : ℕ) (b : Bool) → ltb n many ≡ b → cond (ltb (1 + n) (suc many)) (Some (1 + n)) None ≡ option_map suc (cond b (Some n) None)
+  stays n many true below = rw (lt-ltb (1 + n) (suc many) (omega (arith, ltb-true n many below))) (ap Some (omega arith))
+  stays n many false past = rw (ltb-past (1 + n) (suc many) (omega (arith, ltb-false n many past))) refl
+
+  go : (b : Bool) (n : ℕ) → cond (ltb n (length ys)) (Some n) None ≡ index_of ys x
+      → cond (ltb (cond (not b) (1 + n) 0) (suc (length ys))) (Some (cond (not b) (1 + n) 0)) None ≡ cond b (Some 0) (option_map suc (index_of ys x))
+  go true n ih = rw (lt-ltb 0 (suc (length ys)) (omega arith)) refl
+  go false n ih = stays n (length ys) (ltb n (length ys)) refl ∙ ap (option_map suc) ih
+
+-- the rows show each object by its index
+cells_from : (i : ℕ) (objects : List Ob) (values : List ℤ) (lists : List (List Record)) (x : ℕ)
+    → option_map (λ (row : ℕ × Cell). row.1) (find (λ (row : ℕ × Cell). eqb row.0 x) (rows_from i objects values lists)) ≡ option_map (λ (j : ℕ). cell_at values lists (i + j)) (index_of objects x)
+unfolding rows_from index_of
+cells_from i [] values lists x = refl
+cells_from i (y ∷ ys) values lists x = go (eqb y.0 x) (index_of ys x) (cells_from (i + 1) ys values lists x) where
+  go : (b : Bool) (o : Option ℕ)
+      → option_map (λ (row : ℕ × Cell). row.1) (find (λ (row : ℕ × Cell). eqb row.0 x) (rows_from (i + 1) ys values lists)) ≡ option_map (λ (j : ℕ). cell_at values lists (i + 1 + j)) o
+      → option_map (λ (row : ℕ × Cell). row.1) (cond b (Some (y.0, cell_at values lists i)) (find (λ (row : ℕ × Cell). eqb row.0 x) (rows_from (i + 1) ys values lists)))
+      ≡ option_map (λ (j : ℕ). cell_at values lists (i + j)) (cond b (Some 0) (option_map suc o))
+  go true o ih = ap (λ (n : ℕ). Some (cell_at values lists n)) (omega arith)
+  go false None ih = ih
+  go false (Some j) ih = ih ∙ ap (λ (n : ℕ). Some (cell_at values lists n)) (omega arith)
+
+pub cells_placed : (objects : List Ob) (values : List ℤ) (lists : List (List Record)) (reserved : Bool) (visits x : ℕ)
+    → cells (object_table objects values lists reserved visits) x ≡ option_map (cell_at values lists) (index_of objects x)
+unfolding cells object_table
+cells_placed objects values lists reserved visits x = cells_from 0 objects values lists x ∙ go (index_of objects x) where
+  go : (o : Option ℕ) → option_map (λ (j : ℕ). cell_at values lists (0 + j)) o ≡ option_map (cell_at values lists) o
+  go None = refl
+  go (Some j) = ap (λ (n : ℕ). Some (cell_at values lists n)) (omega arith)
+
+-- ---- how many writes stand
+cell_writes : (test : ℕ → Bool) (values : List ℤ) (lists : List (List Record)) (i : ℕ) → count_by (λ (write : Written). test write.owner) (cell_at values lists i).records ≡ count_by (λ (one : Record). test one.owner.0) (get_or lists i [])
+unfolding cell_at recorded_cell on owned_by
+cell_writes test values lists i = writes_count test (get_or lists i []) (value_at values i)
+
+writes_from : (test : ℕ → Bool) (i : ℕ) (objects : List Ob) (values : List ℤ) (lists : List (List Record)) → i + length objects ≡ length lists
+    → writes_by test (rows_from i objects values lists) ≡ records_by test (drop i lists)
+unfolding writes_by rows_from records_by
+writes_from test i [] values lists many = sym (ap (records_by test) (drop_of_length-le lists (omega (arith, many))))
+writes_from test i (x ∷ xs) values lists many =
+    sum_by-cons (λ (row : ℕ × Cell). count_by (λ (write : Written). test write.owner) row.1.records) (x.0, cell_at values lists i) (rows_from (i + 1) xs values lists)
+    ∙ (λ k. cell_writes test values lists i k + writes_from test (i + 1) xs values lists (omega (arith, many)) k)
+    ∙ sym (sum_by-drop_more (λ (records : List Record). count_by (λ (one : Record). test one.owner.0) records) lists i [] (omega (arith, many)))
+
+pub writes_placed : (test : ℕ → Bool) (objects : List Ob) (values : List ℤ) (lists : List (List Record)) (reserved : Bool) (visits : ℕ) → length lists ≡ length objects
+    → writes_by test (object_table objects values lists reserved visits).rows ≡ records_by test lists
+unfolding object_table
+writes_placed test objects values lists reserved visits many = writes_from test 0 objects values lists (omega (arith, many))
+
+-- ---- the table of an opening
+opened_value : (opening : Opening) (x : ℕ) → option_map (value_at (map (λ (pair : Ob × ℤ). pair.1) opening)) (index_of (map (λ (pair : Ob × ℤ). pair.0) opening) x) ≡ opening_at opening x
+unfolding opening_at index_of value_at
+opened_value [] x = refl
+opened_value (pair ∷ pairs) x = go (eqb pair.0.0 x) (index_of (map (λ (p : Ob × ℤ). p.0) pairs) x) (opened_value pairs x) where
+  go : (b : Bool) (o : Option ℕ) → option_map (value_at (map (λ (p : Ob × ℤ). p.1) pairs)) o ≡ option_map (λ (p : Ob × ℤ). p.1) (find (λ (p : Ob × ℤ). eqb p.0.0 x) pairs)
+      → option_map (value_at (pair.1 ∷ map (λ (p : Ob × ℤ). p.1) pairs)) (cond b (Some 0) (option_map suc o))
+      ≡ option_map (λ (p : Ob × ℤ). p.1) (cond b (Some pair) (find (λ (p : Ob × ℤ). eqb p.0.0 x) pairs))
+  go true o ih = refl
+  go false None ih = ih
+  go false (Some j) ih = ih
+
+pub cells_opened : (opening : Opening) (objects : List Ob) (values : List ℤ) (lists : List (List Record)) (reserved : Bool) (visits : ℕ) → IsOpened opening objects values lists
+    → cells (object_table objects values lists reserved visits) ≡ opened opening
+unfolding opened fresh cell_at recorded_cell base_of writes_of
+cells_opened opening objects values lists reserved visits is = λ i. λ x. each x i where
+  go : (x : ℕ) (o : Option ℕ) → option_map (cell_at values lists) o ≡ option_map fresh (option_map (value_at values) o)
+  go x None = refl
+  go x (Some j) = ap (λ (records : List Record). Some (recorded_cell records (value_at values j))) (is.none j)
+
+  each : (x : ℕ) → cells (object_table objects values lists reserved visits) x ≡ option_map fresh (opening_at opening x)
+  each x =
+      cells_placed objects values lists reserved visits x
+      ∙ go x (index_of objects x)
+      ∙ ap (option_map fresh) ((λ i. option_map (value_at (is.valued i)) (index_of (is.named i) x)) ∙ opened_value opening x)
+
+-- ---- what callers see of a change
+-- a change of each object
+pub each_changed : (change : Cell → Cell) (objects : List Ob) (values after : List ℤ) (old new : List (List Record)) (reserved kept : Bool) (visits visited : ℕ)
+    → ((i : ℕ) → cell_at after new i ≡ change (cell_at values old i)) → cells (object_table objects after new kept visited) ≡ change_each change (cells (object_table objects values old reserved visits))
+unfolding change_each
+each_changed change objects values after old new reserved kept visits visited h = λ i. λ x. each x i where
+  go : (o : Option ℕ) → option_map (cell_at after new) o ≡ option_map change (option_map (cell_at values old) o)
+  go None = refl
+  go (Some j) = ap Some (h j)
+
+  each : (x : ℕ) → cells (object_table objects after new kept visited) x ≡ option_map change (cells (object_table objects values old reserved visits) x)
+  each x =
+      cells_placed objects after new kept visited x
+      ∙ go (index_of objects x)
+      ∙ ap (option_map change) (sym (cells_placed objects values old reserved visits x))
+
+-- a change of the object with this index
+pub one_changed : (change : Cell → Cell) (x i : ℕ) (objects : List Ob) (values after : List ℤ) (old new : List (List Record)) (reserved kept : Bool) (visits visited : ℕ) → index_of objects x ≡ Some i
+    → ((j : ℕ) → cell_at after new j ≡ cond (eqb i j) (change (cell_at values old j)) (cell_at values old j))
+    → cells (object_table objects after new kept visited) ≡ change_at x change (cells (object_table objects values old reserved visits))
+unfolding change_at
+one_changed change x i objects values after old new reserved kept visits visited is h = λ k. λ y. each y k where
+  -- the index is that of the object alone
+  one_index : (y j : ℕ) → index_of objects y ≡ Some j → eqb i j ≡ eqb x y
+  one_index y j there = go (eqb x y) refl where
+    go : (b : Bool) → eqb x y ≡ b → eqb i j ≡ b
+    go true e =
+        let same : Some i ≡ Some j = sym is ∙ ap (index_of objects) (eqb-true x y e) ∙ there in
+        eq-eqb i j (cc same)
+    go false e =
+        ne_eqb i j (λ same. eqb-false x y e (sym ((index_reads objects x i is).1 (record { 0 = 0 })) ∙ ap (λ (n : ℕ). (get_or objects n (record { 0 = 0 })).0) same ∙ (index_reads objects y j there).1 (record { 0 = 0 })))
+
+  go : (y : ℕ) (o : Option ℕ) → index_of objects y ≡ o → option_map (cell_at after new) o ≡ cond (eqb x y) (option_map change (option_map (cell_at values old) o)) (option_map (cell_at values old) o)
+  go y None there = by_case (eqb x y) where
+    none : Option Cell
+    none = None
+
+    by_case : (b : Bool) → none ≡ cond b none none
+    by_case true = refl
+    by_case false = refl
+  go y (Some j) there = ap Some (h j ∙ ap (λ (b : Bool). cond b (change (cell_at values old j)) (cell_at values old j)) (one_index y j there)) ∙ by_case (eqb x y) where
+    by_case : (b : Bool) → Some (cond b (change (cell_at values old j)) (cell_at values old j)) ≡ cond b (Some (change (cell_at values old j))) (Some (cell_at values old j))
+    by_case true = refl
+    by_case false = refl
+
+  each : (y : ℕ) → cells (object_table objects after new kept visited) y
+      ≡ cond (eqb x y) (option_map change (cells (object_table objects values old reserved visits) y)) (cells (object_table objects values old reserved visits) y)
+  each y =
+      cells_placed objects after new kept visited y
+      ∙ go y (index_of objects y) refl
+      ∙ ap (λ (o : Option Cell). cond (eqb x y) (option_map change o) o) (sym (cells_placed objects values old reserved visits y))
+
+-- ---- what callers see of one object
+pub cell_found : (objects : List Ob) (values : List ℤ) (lists : List (List Record)) (reserved : Bool) (visits : ℕ) (table : ObjectTable) (x : ℕ) → object_table objects values lists reserved visits ≡ table
+    → cells table x ≡ option_map (cell_at values lists) (index_of objects x)
+cell_found objects values lists reserved visits table x view = sym (ap (λ (t : ObjectTable). cells t x) view) ∙ cells_placed objects values lists reserved visits x
+
+pub value_found : (objects : List Ob) (values : List ℤ) (lists : List (List Record)) (reserved : Bool) (visits : ℕ) (table : ObjectTable) (x : ℕ) → object_table objects values lists reserved visits ≡ table
+    → value_in (cells table) x ≡ option_map (value_at values) (index_of objects x)
+unfolding value_in cell_at
+value_found objects values lists reserved visits table x view = ap (option_map shown) (cell_found objects values lists reserved visits table x view) ∙ go (index_of objects x) where
+  go : (o : Option ℕ) → option_map shown (option_map (cell_at values lists) o) ≡ option_map (value_at values) o
+  go None = refl
+  go (Some j) = ap Some (shown_in_place (on lists j) (value_at values j))
+
+pub has_index : (objects : List Ob) (values : List ℤ) (lists : List (List Record)) (reserved : Bool) (visits : ℕ) (table : ObjectTable) (x : ℕ) → object_table objects values lists reserved visits ≡ table
+    → has_object (cells table) x ≡ is_some (index_of objects x)
+unfolding has_object
+has_index objects values lists reserved visits table x view = ap is_some (cell_found objects values lists reserved visits table x view) ∙ go (index_of objects x) where
+  go : (o : Option ℕ) → is_some (option_map (cell_at values lists) o) ≡ is_some o
+  go None = refl
+  go (Some j) = refl
+
+-- a value is read, whatever stands for none
+pub read_value : (values : List ℤ) (i : ℕ) (value : ℤ) → i < length values → value ≡ get_or values i value → value ≡ value_at values i
+unfolding value_at
+read_value values i value within is = is ∙ go values i within where
+  go : (some : List ℤ) (k : ℕ) → k < length some → get_or some k value ≡ get_or some k (pos 0)
+  go [] k below = absurd (omega arith)
+  go (first ∷ rest) zero below = refl
+  go (first ∷ rest) (suc k) below = go rest k (omega arith)
+
+-- a write, object by object
+pub write_cells : (values : List ℤ) (old new : List (List Record)) (i : ℕ) (last : Record) (value : ℤ) → i < length values → last.before ≡ value_at values i → ChangesOn i (on old i ++ last ∷ []) old new
+    → (j : ℕ) → cell_at (slice_set values i value) new j ≡ cond (eqb i j) (written last.owner.0 value (cell_at values old j)) (cell_at values old j)
+unfolding cell_at value_at ChangesOn
+write_cells values old new i last value within before changes j = go (eqb i j) refl where
+  go : (b : Bool) → eqb i j ≡ b → recorded_cell (on new j) (get_or (set values i value) j (pos 0)) ≡ cond b (written last.owner.0 value (recorded_cell (on old j) (get_or values j (pos 0)))) (recorded_cell (on old j) (get_or values j (pos 0)))
+  go true e =
+      let here : i ≡ j = eqb-true i j e in
+      let now : on new j ≡ on old j ++ last ∷ [] = changes.1 j ∙ ap (λ (b : Bool). cond b (on old i ++ last ∷ []) (on old j)) e ∙ ap (λ (k : ℕ). on old k ++ last ∷ []) here in
+      let put : get_or (set values i value) j (pos 0) ≡ value = ap (λ (k : ℕ). get_or (set values i value) k (pos 0)) (sym here) ∙ get_or-set_same values i value (pos 0) within in
+      (λ k. recorded_cell (now k) (put k))
+      ∙ cell_pushed (on old j) last value
+      ∙ ap (λ (v : ℤ). written last.owner.0 value (recorded_cell (on old j) v)) (before ∙ ap (λ (k : ℕ). get_or values k (pos 0)) here)
+  go false e =
+      let now : on new j ≡ on old j = changes.1 j ∙ ap (λ (b : Bool). cond b (on old i ++ last ∷ []) (on old j)) e in
+      λ k. recorded_cell (now k) (get_or-set_other values i j value (pos 0) (λ same. eqb-false i j e (sym same)) k)
+
+pub reserved_shown : (objects : List Ob) (values : List ℤ) (lists : List (List Record)) (reserved : Bool) (visits : ℕ) (table : ObjectTable) → object_table objects values lists reserved visits ≡ table → table.reserved ≡ reserved
+unfolding object_table
+reserved_shown objects values lists reserved visits table view = sym (ap (λ (t : ObjectTable). t.reserved) view)
+
+pub visits_shown : (objects : List Ob) (values : List ℤ) (lists : List (List Record)) (reserved : Bool) (visits : ℕ) (table : ObjectTable) → object_table objects values lists reserved visits ≡ table → visits ≡ table.visits
+unfolding object_table
+visits_shown objects values lists reserved visits table view = ap (λ (t : ObjectTable). t.visits) view
+
+pub writes_shown : (test : ℕ → Bool) (objects : List Ob) (values : List ℤ) (lists : List (List Record)) (reserved : Bool) (visits : ℕ) (table : ObjectTable) → object_table objects values lists reserved visits ≡ table
+    → length lists ≡ length objects → writes_by test table.rows ≡ records_by test lists
+writes_shown test objects values lists reserved visits table view many = sym (ap (λ (t : ObjectTable). writes_by test t.rows) view) ∙ writes_placed test objects values lists reserved visits many
+
+-- ---- an opening, pair by pair
+on_past : (lists : List (List Record)) (i : ℕ) → length lists ≤ i → on lists i ≡ []
+unfolding on
+on_past lists i past = get_or_past lists i [] past
+
+on_more : (lists : List (List Record)) (i : ℕ) → on (lists ++ [] ∷ []) i ≡ on lists i
+unfolding on
+on_more lists i = read_more lists [] i
+
+pub opened_nothing : (objects : List Ob) (values : List ℤ) (lists : List (List Record)) → objects ≡ [] → values ≡ [] → lists ≡ [] → IsOpened [] objects values lists
+opened_nothing objects values lists no_objects no_values no_lists = record {
+  named = no_objects;
+  valued = no_values;
+  many = ap length no_lists;
+  none = λ i. ap (λ (some : List (List Record)). on some i) no_lists ∙ past i;
+} where
+  past : (i : ℕ) → on [] i ≡ []
+  past i = on_past [] i (omega arith)
+
+pub opened_more : (opening : Opening) (pair : Ob × ℤ) (objects more : List Ob) (values grown : List ℤ) (lists longer : List (List Record)) → IsOpened opening objects values lists → more ≡ objects ++ pair.0 ∷ [] → grown ≡ values ++ pair.1 ∷ []
+    → longer ≡ lists ++ [] ∷ [] → IsOpened (opening ++ pair ∷ []) more grown longer
+opened_more opening pair objects more values grown lists longer is object value list = record {
+  named = object ∙ ap (λ (some : List Ob). some ++ pair.0 ∷ []) is.named ∙ sym (map-append (λ (p : Ob × ℤ). p.0) opening (pair ∷ []));
+  valued = value ∙ ap (λ (some : List ℤ). some ++ pair.1 ∷ []) is.valued ∙ sym (map-append (λ (p : Ob × ℤ). p.1) opening (pair ∷ []));
+  many = omega (arith, is.many, ap length list, length-append lists ([] ∷ []), length-append opening (pair ∷ []));
+  none = λ i. ap (λ (some : List (List Record)). on some i) list ∙ on_more lists i ∙ is.none i;
+}
+
+-- an object that is not among the objects makes no double
+pub new_pair : (opening : Opening) (pair : Ob × ℤ) (objects : List Ob) → objects ≡ map (λ (p : Ob × ℤ). p.0) opening → lists (numbers objects) pair.0.0 ≡ false → HasNoDouble (objects_of opening)
+    → HasNoDouble (objects_of (opening ++ pair ∷ []))
+unfolding numbers
+new_pair opening pair objects named new none =
+    let unlisted : lists (objects_of opening) pair.0.0 ≡ false = ap (λ (ns : List ℕ). lists ns pair.0.0) (sym (ap (map (λ (x : Ob). x.0)) named ∙ twice_mapped opening)) ∙ new in
+    rw map-append (no_double_push (objects_of opening) pair.0.0 unlisted none) where
+      twice_mapped : (pairs : Opening) → map (λ (x : Ob). x.0) (map (λ (p : Ob × ℤ). p.0) pairs) ≡ map (λ (p : Ob × ℤ). p.0.0) pairs
+      twice_mapped [] = refl
+      twice_mapped (p ∷ pairs) = ap (λ (ns : List ℕ). p.0.0 ∷ ns) (twice_mapped pairs)
+
+-- a reservation changes no cell
+pub rows_cells : (objects : List Ob) (values : List ℤ) (lists : List (List Record)) (reserved kept : Bool) (visits : ℕ) → cells (object_table objects values lists reserved visits) ≡ cells (object_table objects values lists kept visits)
+unfolding object_table cells
+rows_cells objects values lists reserved kept visits = refl
+
+-- an object that was added is not listed
+pub not_listed : (test : Ob → Bool) (x : ℕ) → ((y : Ob) → test y ≡ eqb x y.0) → (objects : List Ob) (is_new : Bool) → is_new ≡ not (list_any test objects) → OnTrue is_new (lists (numbers objects) x ≡ false)
+not_listed test x h objects false is = tt
+not_listed test x h objects true is = lists_numbers objects x ∙ same objects ∙ not-true (list_any test objects) (sym is) where
+  same : (some : List Ob) → list_any (λ (o : Ob). eqb o.0 x) some ≡ list_any test some
+  same [] = refl
+  same (y ∷ ys) = λ i. (eqb-flip y.0 x ∙ sym (h y)) i || same ys i
+
+-- an object exists exactly where it has a value
+pub has_value : (table : ObjectTable) (x : ℕ) → is_some (value_in (cells table) x) ≡ has_object (cells table) x
+unfolding value_in has_object
+has_value table x = go (cells table x) where
+  go : (cell : Option Cell) → is_some (option_map shown cell) ≡ is_some cell
+  go None = refl
+  go (Some cell) = refl
