@@ -4,6 +4,11 @@ use Rattle.std.specs.Char.{is_ascii_digit}
 use Rattle.std.specs.List.{list_all}
 use Rattle.std.specs.Str.Parse.{digits_value}
 
+-- a text has a first byte, and no zero before another byte
+unfoldable pub begins_well : List ℕ → Bool
+begins_well [] = false
+begins_well (first ∷ rest) = not (first == 48) || length rest == 0
+
 -- a text is a numeral: digits, at least one, and no zero before another digit
 unfoldable pub is_numeral : List ℕ → Bool
 is_numeral [] = false

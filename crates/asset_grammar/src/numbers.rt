@@ -1,39 +1,42 @@
 //! Numbers and values in decimal.
-ghost use Rattle.std.specs.Prelude.{◌≡◌};
-ghost use Rattle.std.specs.Char.{is_ascii_digit};
-ghost use Rattle.std.specs.List.{list_all};
-ghost use Rattle.asset_grammar.specs.Numbers.{is_numeral, negative_value, number_of, positive_value, value_of};
+ghost use Rattle.std.specs.Prelude.{◌≡◌, ◌<◌, ◌≤◌, ◌+◌, ◌*◌, ◌^◌, true, IfSome, IfNone};
+ghost use Rattle.std.specs.Char.{is_ascii_digit, digit_value};
+ghost use Rattle.asset_grammar.specs.Numbers.{begins_well, negative_value, number_of, positive_value, value_of};
 
-/// Returns whether each byte is a digit.
-fn all_digits(text: &[u8]) -> bool
-    ensures { result ≡ list_all is_ascii_digit text.now }
-{
-    text.iter().all(|byte| byte.is_ascii_digit())
-}
-
-/// Returns whether the text has digits alone, at least one, with no zero before another.
-#[tactic(auto, unfolding(crate::specs::Numbers::is_numeral))]
-fn is_numeral(text: &[u8]) -> bool
-    ensures { result ≡ is_numeral text.now }
+/// Returns whether the text has a first byte, and no zero before another byte.
+#[tactic(auto, unfolding(crate::specs::Numbers::begins_well))]
+fn begins_well(text: &[u8]) -> bool
+    ensures { result ≡ begins_well text.now }
 {
     match text.split_first() {
         None => false,
-        Some((first, rest)) => all_digits(text) && (*first != b'0' || rest.is_empty()),
+        Some((first, rest)) => *first != b'0' || rest.is_empty(),
     }
 }
 
+/// Returns the number with one more digit, if the byte is a digit and the number stays below 2^64.
+fn with_digit(number: u64, byte: u8) -> Option<u64>
+    ensures longer { IfSome result (λ more. (is_ascii_digit byte ≡ true) × (more ≡ number * 10 + digit_value byte) × (more < 2 ^ 64)) }
+    ensures none { IfNone result (is_ascii_digit byte ≡ true → 2 ^ 64 ≤ number * 10 + digit_value byte) }
+{
+    if !byte.is_ascii_digit() {
+        return None;
+    }
+    number.checked_mul(10)?.checked_add(u64::from(byte - b'0'))
+}
+
 /// Returns the number below 2^64 that the text writes.
-#[tactic(auto, unfolding(crate::specs::Numbers::number_of), using(crate::proofs::NumberLemmas::numeral_is_text, crate::proofs::NumberLemmas::parsed_number))]
 pub(crate) fn parse_number(text: &[u8]) -> Option<u64>
     ensures { result ≡ number_of text.now }
 {
-    if !is_numeral(text) {
+    if !begins_well(text) {
         return None;
     }
-    match str::from_utf8(text) {
-        Ok(text) => text.parse().ok(),
-        Err(_) => None,
+    let mut number: u64 = 0;
+    'digits: for byte in text {
+        number = with_digit(number, *byte)?;
     }
+    Some(number)
 }
 
 /// Returns the number as a value, if it is one.

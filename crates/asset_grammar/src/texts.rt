@@ -41,10 +41,10 @@ fn push_reply(text: &mut String, reply: Reply) -> Result<(), AllocError>
     ensures { OnOk result (string_bytes text.new ≡ string_bytes text.old ++ reply_line reply) }
 {
     match reply {
-        Reply::Done => writeln!(text, "ok"),
+        Reply::Done => text.push_str("ok\n"),
         Reply::Value(v) => writeln!(text, "{v}"),
-        Reply::Committed => writeln!(text, "committed"),
-        Reply::Aborted => writeln!(text, "aborted"),
+        Reply::Committed => text.push_str("committed\n"),
+        Reply::Aborted => text.push_str("aborted\n"),
         Reply::Refused(refusal) => push_refusal(text, refusal),
     }
 }
@@ -56,7 +56,7 @@ pub fn push_outcome(text: &mut String, outcome: Outcome) -> Result<(), AllocErro
 {
     match outcome {
         Outcome::Answer(reply) => push_reply(text, reply),
-        Outcome::Wait => writeln!(text, "wait"),
+        Outcome::Wait => text.push_str("wait\n"),
     }
 }
 
@@ -65,7 +65,7 @@ pub fn push_outcome(text: &mut String, outcome: Outcome) -> Result<(), AllocErro
 pub fn push_full(text: &mut String) -> Result<(), AllocError>
     ensures { OnOk result (string_bytes text.new ≡ string_bytes text.old ++ full_line) }
 {
-    writeln!(text, "full")
+    text.push_str("full\n")
 }
 
 /// Appends the line that answers a bad line, with its number.
