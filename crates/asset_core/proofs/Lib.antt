@@ -10,3 +10,4 @@ pub mod PendingLemmas
 pub mod ValidLemmas
 pub mod TagLemmas
 pub mod StoredLemmas
+pub mod StoredSetLemmas

@@ -9,10 +9,10 @@ use Rattle.std.proofs.lemmas.Option.{slice_get-get_or, slice_get-map}
 use Rattle.asset_names.specs.declared.steps.Step.{Step}
 use Rattle.asset_names.specs.declared.steps.Step.TheVariants.{Initiate, Begin, Read, Write, Complete, Permit, Commit, Abort, WaitFor}
 use Rattle.asset_names.specs.declared.replies.Reply.{Reply}
-use Rattle.asset_core.specs.declared.stored_set.StoredSet.{StoredSet}
+use Rattle.asset_core.specs.StoredSets.{StoredSet, set_or_all}
 use Rattle.asset_core.specs.declared.stored.Stored.{Stored}
 use Rattle.asset_core.specs.declared.stored.Stored.TheVariants as Stored'
-use Rattle.asset_core.specs.Stored.{tag_of_two, missing_at, stored_as, sets_after, set_or_all, permit_entry, entry_of, entries_of, has_set, all_have_sets}
+use Rattle.asset_core.specs.Stored.{tag_of_two, missing_at, stored_as, sets_after, permit_entry, entry_of, entries_of, has_set, all_have_sets}
 use Rattle.asset_core.proofs.TagLemmas.{again}
 
 -- a stored set is found as before when one more comes

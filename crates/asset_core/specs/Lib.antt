@@ -5,3 +5,4 @@ pub mod Shows
 pub mod Tables
 pub mod PermitChanges
 pub mod Stored
+pub mod StoredSets

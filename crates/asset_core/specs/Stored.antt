@@ -1,6 +1,6 @@
 -- How the entries of a history are stored: a reply as a tag, since the step has what the reply is about; and the set of
 -- objects of a permit, which is large, in a list of sets, with its index in the entry.
-use Rattle.std.specs.Prelude.{◌≡◌, ℕ, suc, ℤ, pos, ◌≤◌, ◌==◌, Bool, true, cond, nat_lt, List, [], ◌∷◌, ◌++◌, length, map, reverse, slice_get, unwrap_or, Option, Some, None}
+use Rattle.std.specs.Prelude.{◌≡◌, ℕ, suc, ℤ, pos, ◌≤◌, ◌==◌, Bool, true, cond, nat_lt, List, [], ◌∷◌, ◌++◌, length, map, reverse, slice_get, unwrap_or}
 use Rattle.std.specs.List.{list_all}
 use Rattle.asset_names.specs.declared.names.Txn.{Txn}
 use Rattle.asset_names.specs.declared.names.Ob.{Ob}
@@ -17,7 +17,7 @@ use Rattle.asset_names.specs.OpSets.{OpSet}
 use Rattle.asset_names.specs.Answers.{IsLegal}
 use Rattle.asset_core.specs.declared.reply_tag.ReplyTag.{ReplyTag}
 use Rattle.asset_core.specs.declared.reply_tag.ReplyTag.TheVariants as ReplyTag'
-use Rattle.asset_core.specs.declared.stored_set.StoredSet.{StoredSet}
+use Rattle.asset_core.specs.StoredSets.{StoredSet, set_or_all}
 use Rattle.asset_core.specs.declared.stored.Stored.{Stored}
 use Rattle.asset_core.specs.declared.stored.Stored.TheVariants as Stored'
 
@@ -107,11 +107,6 @@ stored_as count (WaitFor t) reply = Stored'.WaitFor (tag_of reply) t
 unfoldable pub sets_after : Step → List StoredSet → List StoredSet
 sets_after (Permit giver taker obs ops) sets = sets ++ record { obs = obs } ∷ []
 sets_after step sets = sets
-
--- a stored set; all objects if there is none, which no valid history has
-unfoldable pub set_or_all : Option StoredSet → ObSet
-set_or_all (Some stored) = stored.obs
-set_or_all None = All
 
 -- the entry of a permit by its set
 unfoldable pub permit_entry : ReplyTag → ℕ → OpSet → Txn → Txn → ObSet → Entry

@@ -1,7 +1,8 @@
 //! A history: the opening, and the entries in order.
 
 use crate::stored::Stored;
-use crate::stored_set::{StoredSet, push_set};
+use crate::stored_set::push_set;
+use crate::stored_sets::StoredSets;
 use asset_names::{Ob, Reply, Step};
 use std::alloc::{AllocError, Global};
 use std::marker::Model;
@@ -14,7 +15,7 @@ use thiserror::Error;
 pub struct History {
     opening: Vec<(Ob, i64)>,
     entries: Vec<Stored>,
-    sets: Vec<StoredSet>,
+    sets: StoredSets,
     capacity: usize,
 }
 
@@ -25,9 +26,9 @@ impl Model for History {
 
     ghost Value = { Recorded };
 
-    ghost view = { λ h. record { opening = h.opening.items; entries = entries_of h.sets.items h.entries.items; capacity = h.capacity } };
+    ghost view = { λ h. record { opening = h.opening.items; entries = entries_of h.sets.sets h.entries.items; capacity = h.capacity } };
 
-    ghost invariant = { λ h. IsValid h.opening.items h.entries.items h.sets.items h.capacity (vec_capacity h.entries) (vec_capacity h.sets) };
+    ghost invariant = { λ h. IsValid h.opening.items h.entries.items h.sets.sets h.capacity (vec_capacity h.entries) h.sets.room };
 }
 
 impl History {
@@ -48,7 +49,7 @@ impl History {
         Ok(History {
             opening: opening.to_vec(alloc)?,
             entries: Vec::with_capacity(alloc, capacity)?,
-            sets: Vec::with_capacity(alloc, capacity)?,
+            sets: StoredSets::with_room(alloc, capacity)?,
             capacity,
         })
     }

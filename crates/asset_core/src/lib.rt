@@ -7,6 +7,7 @@ mod history;
 mod reply_tag;
 mod stored;
 mod stored_set;
+mod stored_sets;
 mod tables;
 
 pub use facility::Core;

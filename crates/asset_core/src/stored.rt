@@ -2,7 +2,8 @@
 //! and the entry has its index.
 
 use crate::reply_tag::{ReplyTag, value_read};
-use crate::stored_set::{StoredSet, missing_at, object_at};
+use crate::stored_set::{missing_at, object_at};
+use crate::stored_sets::StoredSets;
 use crate::tables::value_asked;
 use asset_names::{Ob, Ops, Reply, Step, Txn};
 use std::mem::size_of;
@@ -108,10 +109,10 @@ impl Stored {
     }
 
     /// Returns the entry, whose set, if it has one, is among the stored sets.
-    #[tactic(auto, unfolding(crate::specs::Stored::entry_of, crate::specs::Stored::value_stored, crate::specs::Stored::permit_entry, crate::specs::Stored::set_or_all, crate::specs::Stored::has_set))]
-    pub(crate) fn entry(&self, sets: &[StoredSet]) -> (Step, Reply)
-        requires there { has_set (length sets.now) self.now ≡ true }
-        ensures { result ≡ entry_of sets.now self.now }
+    #[tactic(auto, unfolding(crate::specs::Stored::entry_of, crate::specs::Stored::value_stored, crate::specs::Stored::permit_entry, crate::specs::StoredSets::set_or_all, crate::specs::Stored::has_set))]
+    pub(crate) fn entry(&self, sets: &StoredSets) -> (Step, Reply)
+        requires there { has_set (length sets.now.sets) self.now ≡ true }
+        ensures { result ≡ entry_of sets.now.sets self.now }
     {
         match *self {
             Stored::Initiate { tag, t, parent } => {
@@ -132,7 +133,7 @@ impl Stored {
                 giver,
                 taker,
             } => {
-                let obs = sets[set].set();
+                let obs = sets.set(set);
                 let reply = tag.about_two(giver, taker, object_at(&obs, missing));
                 let step = Step::Permit {
                     giver,

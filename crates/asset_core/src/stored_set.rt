@@ -1,26 +1,10 @@
-//! The sets of objects of the entries, and the object of a set that a refusal is about.
+//! The set of objects of an entry, and the object of it that a refusal is about.
 
-ghost use Rattle.std.specs.Prelude.{◌≡◌, ◌<◌, ◌≤◌, length, vec_capacity};
+ghost use Rattle.std.specs.Prelude.{◌≡◌, ◌<◌, ◌≤◌, length};
 ghost use Rattle.asset_core.specs.Stored.{missing_at, object_at, position, sets_after};
 
+use crate::stored_sets::StoredSets;
 use asset_names::{Ob, ObSet, Refusal, Reply, Step};
-
-/// The set of objects of an entry, in the list of such sets.
-#[derive(Clone, Copy)]
-pub(crate) struct StoredSet {
-    obs: ObSet,
-}
-
-impl StoredSet {
-    ghost use Rattle.std.specs.Prelude.{◌≡◌};
-
-    /// Returns the set.
-    pub(crate) fn set(&self) -> ObSet
-        ensures { result ≡ self.now.obs }
-    {
-        self.obs
-    }
-}
 
 /// Returns the index of the object in the list, and the length of the list if it is not there.
 fn position(objects: &[Ob], x: Ob) -> usize
@@ -66,13 +50,13 @@ pub(crate) fn object_at(obs: &ObSet, index: u8) -> Ob
 
 /// Appends the set of a permit to the sets, whose room is reserved. Any other step has none.
 #[tactic(auto, unfolding(crate::specs::Stored::sets_after))]
-pub(crate) fn push_set(sets: &mut Vec<StoredSet>, step: &Step)
-    requires room { length sets.old.items < vec_capacity sets.old }
-    ensures items { sets.new.items ≡ sets_after step.now sets.old.items }
-    ensures room { vec_capacity sets.old ≤ vec_capacity sets.new }
+pub(crate) fn push_set(sets: &mut StoredSets, step: &Step)
+    requires room { length sets.old.sets < sets.old.room }
+    ensures sets { sets.new.sets ≡ sets_after step.now sets.old.sets }
+    ensures room { sets.new.room ≡ sets.old.room }
 {
-    match *step {
-        Step::Permit { obs, .. } => sets.push(StoredSet { obs }).unwrap(),
+    match step {
+        Step::Permit { obs, .. } => sets.push(obs),
         _ => {}
     }
 }

@@ -7,12 +7,12 @@ pub invariant_of-result : goal.invariant_of-result
 unfolding IsLegal entries_of all_have_sets
 invariant_of-result c =
     let taken = c.in_ok-with_capacity.ensures in
-    let sets_room = c.in_ok-with_capacity-2.ensures in
+    let sets_room = c.in_ok-with_room.ensures in
     record {
       legal = rw taken.items tt;
       there = rw taken.items refl;
-      fewer = rw (taken.items, sets_room.items) (omega arith);
+      fewer = rw (taken.items, sets_room.sets) (omega arith);
       within = rw taken.items (omega arith);
       taken = taken.capacity;
-      taken_sets = sets_room.capacity;
+      taken_sets = omega (arith, sets_room.room);
     }
