@@ -28,6 +28,7 @@ impl Model for Seats {
 
 impl Seats {
     ghost use Rattle.std.specs.Prelude.{◌≡◌, ◌≢◌, ℕ, ◌==◌, cond, [], true, None, Some, ◌⊎◌, is_some, IfSome, IfNone, IsOk, OnOk};
+    ghost use Rattle.asset_names.specs.declared.names.Txn.{Txn};
     ghost use Rattle.asset_seats.specs.Seated.{seat};
 
     /// Returns no seats. It does not allocate.
@@ -114,5 +115,12 @@ impl Seats {
         if let Some(t) = self.seats.try_remove(c) {
             self.index.swap_remove(&t);
         }
+    }
+
+    /// Says what holds of all seats, for proofs. It does nothing.
+    pub fn laws(&self)
+        ensures { (t : Txn) (c d : ℕ) → seat self.now c ≡ Some t → seat self.now d ≡ Some t → d ≡ c }
+    {
+        let _ = &self.seats;
     }
 }
