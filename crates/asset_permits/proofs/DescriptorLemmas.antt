@@ -1,11 +1,8 @@
 -- Lists of descriptors: two that say the same are one; what stands after one more, and that none stands twice.
-use Rattle.std.proofs.Common.{◌≡◌, ℕ, Bool, true, false, cond, eqb, ◌&&◌, ◌||◌, List, [], ◌∷◌, ◌++◌, map, filter, refl, sym, ap, ◌∙◌, inl, inr}
+use Rattle.std.proofs.Common.{◌≡◌, ℕ, Bool, true, false, eqb, ◌&&◌, List, [], ◌∷◌, refl, ap, ◌∙◌}
 use Rattle.std.specs.Bool.{beq}
-use Rattle.std.specs.List.{list_any}
 use Rattle.std.specs.Cmp.Lexicographic.{pointwise}
-use Rattle.std.proofs.lemmas.Bool.{or_cases, or_parts, or_from, or_left, or_right, and_from, and_parts, eqb-true, eq-eqb, false≢true, true≢false, false_from_ne_true}
-use Rattle.std.proofs.lemmas.List.{map-append}
-use Rattle.std.proofs.lemmas.List.Folds.{list_any-append}
+use Rattle.std.proofs.lemmas.Bool.{and_from, and_parts, eqb-true, eq-eqb, false≢true}
 use Rattle.asset_names.specs.declared.names.Ob.{Ob}
 use Rattle.asset_names.specs.declared.operations.Op.{Op}
 use Rattle.asset_names.specs.declared.sets.ObSet.{ObSet}
@@ -13,8 +10,7 @@ use Rattle.asset_names.specs.declared.sets.ObSet.TheVariants.{All, Listed}
 use Rattle.asset_names.specs.InSet.{in_set}
 use Rattle.asset_names.specs.OpSets.{has_op, OpSet}
 use Rattle.asset_names.proofs.Common.{eqb-flip}
-use Rattle.std.proofs.Math.Bool.{or-false}
-use Rattle.asset_permits.specs.Descriptors.{Descriptor, Grant, descriptor_by, same_grant, same_objects, same_ops, same_descriptor, stands, AreDifferent, covers, lets, one_covers}
+use Rattle.asset_permits.specs.Descriptors.{Descriptor, same_objects, same_ops, same_descriptor, covers, lets}
 
 -- ---- two that say the same
 beq-true : (p q : Bool) → beq p q ≡ true → p ≡ q
@@ -76,69 +72,6 @@ unfolding same_descriptor same_ops
 same_self d =
     and_from _ _ (and_from _ _ (and_from _ _ (eq-eqb d.giver d.giver refl) (eq-eqb d.taker d.taker refl)) (objects_self d.objects)) (and_from _ _ (beq_self d.ops.read) (beq_self d.ops.write))
 
--- ---- one more
-pub any_push : (test : Descriptor → Bool) (descriptors : List Descriptor) (d : Descriptor) → list_any test (descriptors ++ d ∷ []) ≡ (list_any test descriptors || test d)
-any_push test descriptors d = list_any-append test descriptors (d ∷ []) ∙ ap (λ b. list_any test descriptors || b) (or-false (test d))
-
-pub stands_push : (descriptors : List Descriptor) (d e : Descriptor) → stands (descriptors ++ d ∷ []) e ≡ (stands descriptors e || same_descriptor d e)
-unfolding stands
-stands_push descriptors d e = any_push (λ (c : Descriptor). same_descriptor c e) descriptors d
-
-not_same : (d e : Descriptor) → same_descriptor d e ≡ false → same_descriptor e d ≡ false
-not_same d e h = false_from_ne_true _ (λ same. true≢false (sym (same_self d) ∙ ap (same_descriptor d) (sym (same_is e d same)) ∙ h))
-
-pub different_push : (descriptors : List Descriptor) (d : Descriptor) → AreDifferent descriptors → stands descriptors d ≡ false → AreDifferent (descriptors ++ d ∷ [])
-unfolding AreDifferent stands
-different_push [] d different none = (refl, tt)
-different_push (c ∷ descriptors) d different none =
-    let parts = or_parts (same_descriptor c d) _ none in
-    (stands_push descriptors d c ∙ or_from _ _ different.0 (not_same c d parts.0), different_push descriptors d different.1 parts.1)
-
--- ---- one that stands already
-pub any_has : (test : Descriptor → Bool) (d : Descriptor) (descriptors : List Descriptor) → stands descriptors d ≡ true → test d ≡ true → list_any test descriptors ≡ true
-unfolding stands
-any_has test d [] there passes = absurd (false≢true there)
-any_has test d (c ∷ descriptors) there passes =
-    elim (or_cases (same_descriptor c d) _ there) [
-      | inl here ↦ or_left _ _ (ap test (same_is c d here) ∙ passes)
-      | inr later ↦ or_right _ _ (any_has test d descriptors later passes)
-    ]
-
-or_has : (p q : Bool) → (q ≡ true → p ≡ true) → p ≡ (p || q)
-or_has true q h = refl
-or_has false true h = h refl
-or_has false false h = refl
-
-pub stands_again : (descriptors : List Descriptor) (d e : Descriptor) → stands descriptors d ≡ true → stands descriptors e ≡ (stands descriptors e || same_descriptor d e)
-unfolding stands
-stands_again descriptors d e there = or_has _ (same_descriptor d e) (any_has (λ (c : Descriptor). same_descriptor c e) d descriptors there)
-
-pub covers_again : (descriptors : List Descriptor) (d : Descriptor) (u t x : ℕ) (op : Op) → stands descriptors d ≡ true → one_covers descriptors u t x op ≡ (one_covers descriptors u t x op || lets u t x op d)
-unfolding one_covers
-covers_again descriptors d u t x op there = or_has _ (lets u t x op d) (any_has (lets u t x op) d descriptors there)
-
--- ---- some go
-none_filtered : (test keep : Descriptor → Bool) (descriptors : List Descriptor) → list_any test descriptors ≡ false → list_any test (filter keep descriptors) ≡ false
-none_filtered test keep [] none = refl
-none_filtered test keep (d ∷ descriptors) none =
-    let parts = or_parts (test d) _ none in
-    go (keep d) parts.0 (none_filtered test keep descriptors parts.1)
-  where
-    go : (b : Bool) → test d ≡ false → list_any test (filter keep descriptors) ≡ false → list_any test (cond b (d ∷ filter keep descriptors) (filter keep descriptors)) ≡ false
-    go true here rest = or_from _ _ here rest
-    go false here rest = rest
-
-pub different_filtered : (keep : Descriptor → Bool) (descriptors : List Descriptor) → AreDifferent descriptors → AreDifferent (filter keep descriptors)
-unfolding AreDifferent stands
-different_filtered keep [] different = tt
-different_filtered keep (d ∷ descriptors) different = go (keep d) (filtered d descriptors different.0) (different_filtered keep descriptors different.1) where
-  filtered : (e : Descriptor) (ds : List Descriptor) → stands ds e ≡ false → stands (filter keep ds) e ≡ false
-  filtered e ds none = none_filtered (λ (c : Descriptor). same_descriptor c e) keep ds none
-
-  go : (b : Bool) → stands (filter keep descriptors) d ≡ false → AreDifferent (filter keep descriptors) → AreDifferent (cond b (d ∷ filter keep descriptors) (filter keep descriptors))
-  go true none rest = (none, rest)
-  go false none rest = rest
-
 -- ---- who is let, as callers say it
 
 regrouped : (p q r s : Bool) → (p && q && (r && s)) ≡ (p && q && r && s)
@@ -151,11 +84,3 @@ unfolding lets covers
 lets_by u t x op d =
     (λ i. eqb-flip d.giver u i && eqb-flip d.taker t i && (in_set d.objects x && has_op d.ops op))
     ∙ regrouped (eqb u d.giver) (eqb t d.taker) (in_set d.objects x) (has_op d.ops op)
-
--- two that one name gives say the same
-pub same_by : (u : ℕ) (g h : Grant) → same_descriptor (descriptor_by u g) (descriptor_by u h) ≡ same_grant g h
-unfolding same_descriptor descriptor_by same_grant
-same_by u g h = rw (eq-eqb u u refl) refl
-
-pub mapped_push : (u : ℕ) (grants : List Grant) (one : Grant) → map (descriptor_by u) (grants ++ one ∷ []) ≡ map (descriptor_by u) grants ++ descriptor_by u one ∷ []
-mapped_push u grants one = map-append (descriptor_by u) grants (one ∷ [])

@@ -1,7 +1,10 @@
 pub mod ArrowLaws
 pub mod DescriptorLemmas
+pub mod DropLemmas
+pub mod KeyWalkLemmas
 pub mod MarkLemmas
-pub mod WalkLemmas
-pub mod PermitRowLemmas
 pub mod SearchLemmas
+pub mod SeatLemmas
+pub mod SlotLemmas
 pub mod TableLemmas
+pub mod WalkLemmas

@@ -1,268 +1,280 @@
--- A name is expanded by what it gives: the rows of its takers are met.
-use Rattle.std.proofs.Common.{◌≡◌, ℕ, ◌+◌, ◌<◌, Bool, true, false, cond, not, eqb, ◌&&◌, ◌||◌, List, [], ◌∷◌, ◌++◌, length, map, Some, None, is_some, refl, sym, ap, subst, ◌∙◌, arith, zero, suc, inl, inr}
-use Rattle.std.specs.Prelude.{Option, slice_get, option_map}
-use Rattle.std.specs.List.{list_any, position, AllByRecursion, IsDistinct}
-use Rattle.std.specs.Map.{keys_of}
-use Rattle.std.proofs.lemmas.Bool.{or_cases, or_left, or_right, and_parts, and_from, eqb-true, eq-eqb, false≢true, true≢false, false_from_ne_true, not_from_false, cases_eq}
-use Rattle.std.proofs.lemmas.List.{append_assoc, append-nil}
-use Rattle.std.proofs.lemmas.List.Quantifiers.{position-Some}
-use Rattle.std.proofs.lemmas.Map.Entries.{length-keys_of}
-use Rattle.std.proofs.lemmas.Option.{get_or_from_slice_get}
+-- A search along seats: the arrows between seats, and those between the transactions that have them.
+use Rattle.std.proofs.Common.{◌≡◌, ℕ, zero, suc, ◌+◌, Bool, true, false, cond, eqb, not, ◌&&◌, ◌||◌, List, [], ◌∷◌, ◌++◌, map, filter, filter_map, get_or, Option, Some, None, is_some, refl, sym, ap, subst, ◌∙◌, arith, inl, inr}
+use Rattle.std.specs.Prelude.{unwrap_or, option_map}
+use Rattle.std.proofs.lemmas.Bool.{or_cases, or_left, or_right, and_from, and_parts, eqb-true, eq-eqb, ne_eqb, eqb-false, false≢true, true≢false, false_from_ne_true}
+use Rattle.std.proofs.lemmas.List.Folds.{list_any-append}
+use Rattle.slab.specs.Slab.{Slab, get}
 use Rattle.asset_names.specs.declared.names.Txn.{Txn}
 use Rattle.asset_names.specs.declared.operations.Op.{Op}
-use Rattle.asset_names.specs.Arrows.{linked, lists, has_arrow}
-use Rattle.asset_permits.specs.Descriptors.{Descriptor, Grant, descriptor_by, covers, grant_covers, lets, one_covers, arrows_for, allows_by}
-use Rattle.asset_permits.specs.PermitRow.{has_giver, has_taker}
-use Rattle.asset_permits.specs.Valid.{NamedPermitRow, row_of, givers_in, descriptors_of, is_to, HaveNames, AreNoted, grants_in}
-use Rattle.asset_permits.specs.Searched.{name_at, Meets, Expands}
-use Rattle.asset_permits.specs.declared.row.PermitRow.{PermitRow}
-use Rattle.asset_permits.proofs.ArrowLaws.{arrows_stand, closed_linked}
-use Rattle.asset_names.proofs.Common.{eqb-flip}
-use Rattle.asset_permits.proofs.PermitRowLemmas.{any_flat, any_map, grants_there, grants_nowhere, givers_nowhere, is_name}
-use Rattle.asset_permits.proofs.WalkLemmas.{lists-append, lists_left, lists_right, nothing_listed}
+use Rattle.asset_names.specs.Arrows.{Arrow, linked, has_arrow}
+use Rattle.asset_chains.specs.Chained.{Chained, home_of}
+use Rattle.asset_seats.specs.Seated.{Seated, seat}
+use Rattle.asset_permits.specs.Descriptors.{Descriptor, covers, lets, one_covers, arrows_for, allows_by}
+use Rattle.asset_permits.specs.Valid.{Parts, descriptors_of, IsValid}
+use Rattle.asset_permits.specs.Searched.{arrow_between, arrows_from, seat_arrows, leads_to}
+use Rattle.asset_permits.proofs.ArrowLaws.{closed_linked, arrows_stand}
+use Rattle.asset_permits.proofs.SeatLemmas.{some_of, home_along, home_at_end}
+use Rattle.asset_permits.proofs.SlotLemmas.{key_of_any, lets_owned, lets_to}
 
--- ---- takers are met one by one
-any_here : {X : Type 0} (test : X → Bool) (xs : List X) (k : ℕ) (x : X) → slice_get xs k ≡ Some x → test x ≡ true → list_any test xs ≡ true
-any_here test [] k x at passes = cc
-any_here test (y ∷ xs) zero x at passes =
-    let same : y ≡ x = cc in
-    or_left (test y) _ (ap test same ∙ passes)
-any_here test (y ∷ xs) (suc k) x at passes = or_right (test y) _ (any_here test xs k x at passes)
+-- ---- an arrow for each permit that covers
+arrow-append : (xs ys : List Arrow) (u t : ℕ) → has_arrow (xs ++ ys) u t ≡ (has_arrow xs u t || has_arrow ys u t)
+unfolding has_arrow
+arrow-append xs ys u t = list_any-append (λ (a : Arrow). eqb a.0 u && eqb a.1 t) xs ys
 
-found : {X : Type 0} (test : X → Bool) (xs : List X) → list_any test xs ≡ true → (k : ℕ) × (x : X) × (k < length xs) × (slice_get xs k ≡ Some x) × (test x ≡ true)
-found test [] h = absurd (false≢true h)
-found test (x ∷ xs) h =
-    elim (or_cases (test x) _ h) [
-      | inl here ↦ (0, x, omega arith, refl, here)
-      | inr later ↦
-          let rest = found test xs later in
-          (suc rest.0, rest.1, omega (arith, rest.2), rest.3, rest.4)
-    ]
+nothing_leads : (u t : ℕ) → has_arrow [] u t ≡ false
+unfolding has_arrow
+nothing_leads u t = refl
 
-pub meets_none : (rows : List NamedPermitRow) (grants : List Grant) (x : ℕ) (op : Op) (nodes : List ℕ) → Meets rows grants x op nodes nodes 0
-meets_none rows grants x op nodes = record {
-  more = [];
-  kept = sym (append-nil nodes);
-  takers = λ k listed. absurd (false≢true (sym (nothing_listed k) ∙ listed));
-  all = λ j one below. absurd (omega (arith, below));
-}
+between_leads : (u t : ℕ) → has_arrow (arrow_between (Some u) (Some t)) u t ≡ true
+unfolding has_arrow
+between_leads u t = or_left _ false (and_from (eqb u u) (eqb t t) (eq-eqb u u refl) (eq-eqb t t refl))
 
--- what is given does not cover
-pub meets_past : (rows : List NamedPermitRow) (grants : List Grant) (x : ℕ) (op : Op) (before after : List ℕ) (i : ℕ) (one : Grant) → Meets rows grants x op before after i
-    → slice_get grants i ≡ Some one → grant_covers x op one ≡ false → Meets rows grants x op before after (i + 1)
-meets_past rows grants x op before after i one meets at other = record {
-  more = meets.more;
-  kept = meets.kept;
-  takers = meets.takers;
-  all = λ j g below there covered. elim (cases_eq j i) [
-    | inl last ↦
-        let both : Some g ≡ Some one = sym there ∙ ap (slice_get grants) last ∙ at in
-        let same : g ≡ one = cc in
-        absurd (true≢false (sym covered ∙ ap (grant_covers x op) same ∙ other))
-    | inr earlier ↦ meets.all j g (omega (arith, below)) there covered
-  ];
-}
-
--- the taker's row is met
-listed_self : (i : ℕ) → lists (i ∷ []) i ≡ true
-unfolding lists
-listed_self i = or_left (eqb i i) false (eq-eqb i i refl)
-
-listed_one : (i k : ℕ) → lists (i ∷ []) k ≡ true → i ≡ k
-unfolding lists
-listed_one i k h = elim (or_cases (eqb i k) false h) [ inl here ↦ eqb-true i k here | inr later ↦ absurd (false≢true later) ]
-
-pub meets_one : (rows : List NamedPermitRow) (grants : List Grant) (x : ℕ) (op : Op) (before after : List ℕ) (i index : ℕ) (one : Grant) → Meets rows grants x op before after i
-    → slice_get grants i ≡ Some one → grant_covers x op one ≡ true → index < length rows → name_at rows index ≡ one.taker → (met : Bool) → lists after index ≡ met
-    → Meets rows grants x op before (cond met after (after ++ index ∷ [])) (i + 1)
-meets_one rows grants x op before after i index one meets at covered within named true is = record {
-  more = meets.more;
-  kept = meets.kept;
-  takers = meets.takers;
-  all = λ j g below there passes. elim (cases_eq j i) [
-    | inl last ↦
-        let both : Some g ≡ Some one = sym there ∙ ap (slice_get grants) last ∙ at in
-        let same : g ≡ one = cc in
-        (index, is, named ∙ ap (λ (h : Grant). h.taker) (sym same))
-    | inr earlier ↦ meets.all j g (omega (arith, below)) there passes
-  ];
-}
-meets_one rows grants x op before after i index one meets at covered within named false is = record {
-  more = meets.more ++ index ∷ [];
-  kept = ap (λ (l : List ℕ). l ++ index ∷ []) meets.kept ∙ append_assoc before meets.more (index ∷ []);
-  takers = λ k listed. elim (or_cases (lists meets.more k) (lists (index ∷ []) k) (sym (lists-append meets.more (index ∷ []) k) ∙ listed)) [
-    | inl old ↦ meets.takers k old
-    | inr new ↦
-        let e : index ≡ k = listed_one index k new in
-        let passes : (eqb one.taker (name_at rows k) && grant_covers x op one) ≡ true = and_from _ _ (eq-eqb one.taker (name_at rows k) (sym named ∙ ap (name_at rows) e)) covered in
-        (subst (λ n. n < length rows) e within, any_here (λ (g : Grant). eqb g.taker (name_at rows k) && grant_covers x op g) grants i one at passes)
-  ];
-  all = λ j g below there passes. elim (cases_eq j i) [
-    | inl last ↦
-        let both : Some g ≡ Some one = sym there ∙ ap (slice_get grants) last ∙ at in
-        let same : g ≡ one = cc in
-        (index, lists_right after (index ∷ []) index (listed_self index), named ∙ ap (λ (h : Grant). h.taker) (sym same))
-    | inr earlier ↦
-        let old = meets.all j g (omega (arith, below)) there passes in
-        (old.0, lists_left after (index ∷ []) old.0 old.1, old.2)
-  ];
-}
-
--- who is given something that is at hand is a taker
-pub taker_of : (grants : List Grant) (i : ℕ) (one : Grant) → slice_get grants i ≡ Some one → has_taker one.taker grants ≡ true
-unfolding has_taker
-taker_of grants i one at = any_here (λ (g : Grant). eqb g.taker one.taker) grants i one at (eq-eqb one.taker one.taker refl)
-
--- ---- the name of a row by its index
-get_mapped : {X Y : Type 0} (f : X → Y) (xs : List X) (i : ℕ) → slice_get (map f xs) i ≡ option_map f (slice_get xs i)
-get_mapped f [] i = refl
-get_mapped f (x ∷ xs) zero = refl
-get_mapped f (x ∷ xs) (suc i) = get_mapped f xs i
-
-entry_at : (rows : List NamedPermitRow) (i : ℕ) → i < length rows → (e : NamedPermitRow) × (slice_get rows i ≡ Some e)
-entry_at [] i below = absurd (omega (arith, below))
-entry_at (e ∷ rows) zero below = (e, refl)
-entry_at (e ∷ rows) (suc i) below = entry_at rows i (omega (arith, below))
-
-pub named : (rows : List NamedPermitRow) (i : ℕ) (e : NamedPermitRow) → slice_get rows i ≡ Some e → name_at rows i ≡ e.0.0
-unfolding name_at
-named rows i e at = rw at refl
-
-pub number_named : (rows : List NamedPermitRow) (t i : ℕ) → position (is_name t) (keys_of rows) ≡ Some i → (i < length rows) × (name_at rows i ≡ t)
-number_named rows t i at =
-    let below : i < length rows = omega (arith, (position-Some (is_name t) (keys_of rows) i (record { 0 = 0 }) at).0, length-keys_of rows) in
-    let e = entry_at rows i below in
-    let key : slice_get (keys_of rows) i ≡ Some e.0.0 = get_mapped (λ (f : NamedPermitRow). f.0) rows i ∙ ap (option_map (λ (f : NamedPermitRow). f.0)) e.1 in
-    let passes : eqb t e.0.0.0 ≡ true = sym (ap (is_name t) (get_or_from_slice_get (keys_of rows) i e.0.0 e.0.0 key)) ∙ (position-Some (is_name t) (keys_of rows) i e.0.0 at).1 in
-    (below, named rows i e.0 e.1 ∙ sym (eqb-true t e.0.0.0 passes))
-
--- the row of a name by its index
-key_apart : (n : ℕ) (rows : List NamedPermitRow) (i : ℕ) (e : NamedPermitRow) → AllByRecursion (λ (key : Txn). eqb n key.0 ≡ false) (keys_of rows) → slice_get rows i ≡ Some e → eqb n e.0.0 ≡ false
-key_apart n [] i e apart at = cc
-key_apart n (f ∷ rows) zero e apart at =
-    let same : f ≡ e = cc in
-    ap (λ (g : NamedPermitRow). eqb n g.0.0) (sym same) ∙ apart.0
-key_apart n (f ∷ rows) (suc i) e apart at = key_apart n rows i e apart.1 at
-
-pub row_at : (rows : List NamedPermitRow) (i : ℕ) (e : NamedPermitRow) → HaveNames rows → slice_get rows i ≡ Some e → row_of rows e.0.0 ≡ Some e.1
-unfolding HaveNames row_of IsDistinct
-row_at [] i e names at = cc
-row_at (f ∷ rows) zero e names at =
-    let same : f ≡ e = cc in
-    rw (eq-eqb e.0.0 f.0.0 (ap (λ (g : NamedPermitRow). g.0.0) (sym same))) (ap (λ (g : NamedPermitRow). Some g.1) same)
-row_at (f ∷ rows) (suc i) e names at = rw (eqb-flip e.0.0 f.0.0 ∙ key_apart f.0.0 rows i e names.0 at) (row_at rows i e names.1 at)
-
--- ---- each taker has a row
-pub takers_have_rows : (rows : List NamedPermitRow) (u : ℕ) (row : PermitRow) → AreNoted rows → row_of rows u ≡ Some row → (t : ℕ) → has_taker t row.grants.items ≡ true → is_some (row_of rows t) ≡ true
-unfolding AreNoted has_taker has_giver is_to descriptor_by
-takers_have_rows rows u row noted there t grants =
-    let known = noted u t (ap (list_any (is_to t)) (grants_there rows u row there) ∙ any_map (is_to t) (descriptor_by u) row.grants.items ∙ grants) in
-    go (row_of rows t) refl known
-  where
-    go : (o : Option PermitRow) → row_of rows t ≡ o → has_giver u (givers_in rows t) ≡ true → is_some o ≡ true
-    go (Some r) e h = refl
-    go None e h = absurd (false≢true (sym (ap (has_giver u) (givers_nowhere rows t e)) ∙ h))
-
--- ---- then the name is expanded
-lets_granted : (u t x : ℕ) (op : Op) (one : Grant) → lets u t x op (descriptor_by u one) ≡ (eqb one.taker t && grant_covers x op one)
-unfolding lets covers grant_covers descriptor_by
-lets_granted u t x op one = rw (eq-eqb u u refl) refl
-
-pub lets_owned : (u t x : ℕ) (op : Op) (d : Descriptor) → lets u t x op d ≡ true → d.giver ≡ u
-unfolding lets
-lets_owned u t x op d h = eqb-true d.giver u (and_parts (eqb d.giver u) _ (and_parts _ _ h).0).0
-
-any_same : {X : Type 0} (p q : X → Bool) (xs : List X) → ((x : X) → p x ≡ q x) → list_any p xs ≡ list_any q xs
-any_same p q [] same = refl
-any_same p q (x ∷ xs) same = λ i. same x i || any_same p q xs same i
-
-pub arrow_granted : (rows : List NamedPermitRow) (u : ℕ) (row : PermitRow) (x : ℕ) (op : Op) → HaveNames rows → row_of rows u ≡ Some row
-    → (t : ℕ) → has_arrow (arrows_for (descriptors_of rows) x op) u t ≡ list_any (λ (one : Grant). eqb one.taker t && grant_covers x op one) row.grants.items
-unfolding one_covers
-arrow_granted rows u row x op names there t =
-    arrows_stand (descriptors_of rows) u t x op
-    ∙ any_flat (lets u t x op) u (lets_owned u t x op) rows names
-    ∙ ap (list_any (lets u t x op)) (grants_there rows u row there)
-    ∙ any_map (lets u t x op) (descriptor_by u) row.grants.items
-    ∙ any_same (λ (one : Grant). lets u t x op (descriptor_by u one)) (λ (one : Grant). eqb one.taker t && grant_covers x op one) row.grants.items (lets_granted u t x op)
-
-pub meets_all : (rows : List NamedPermitRow) (u : ℕ) (row : PermitRow) (x : ℕ) (op : Op) (before after : List ℕ) → HaveNames rows → row_of rows u ≡ Some row → Meets rows row.grants.items x op before after (length row.grants.items)
-    → Expands (arrows_for (descriptors_of rows) x op) (name_at rows) (length rows) u before after
-meets_all rows u row x op before after names there meets = record {
-  more = meets.more;
-  kept = meets.kept;
-  within = λ k listed. (meets.takers k listed).0;
-  is_linked = λ k listed. arrow_granted rows u row x op names there (name_at rows k) ∙ (meets.takers k listed).1;
-  all = λ t arrow.
-      let one = found (λ (g : Grant). eqb g.taker t && grant_covers x op g) row.grants.items (sym (arrow_granted rows u row x op names there t) ∙ arrow) in
-      let parts = and_parts (eqb one.1.taker t) (grant_covers x op one.1) one.4 in
-      let met = meets.all one.0 one.1 one.2 one.3 parts.1 in
-      (met.0, met.1, met.2 ∙ eqb-true one.1.taker t parts.0);
-}
-
--- ---- a name without a row gives nothing
-pub unknown_giver : (rows : List NamedPermitRow) (u t x : ℕ) (op : Op) → HaveNames rows → row_of rows u ≡ None → eqb u t ≡ false → allows_by (descriptors_of rows) u t x op ≡ false
-unfolding allows_by one_covers
-unknown_giver rows u t x op names none other =
-    let arrows = arrows_for (descriptors_of rows) x op in
-    let no_arrow : (v : ℕ) → has_arrow arrows u v ≡ false = λ v.
-    arrows_stand (descriptors_of rows) u v x op ∙ any_flat (lets u v x op) u (lets_owned u v x op) rows names ∙ ap (list_any (lets u v x op)) (grants_nowhere rows u none)
-    in
-    let closed : (v w : ℕ) → has_arrow arrows v w ≡ true → eqb u v ≡ true → eqb u w ≡ true = λ v w arrow same.
-    absurd (true≢false (sym arrow ∙ ap (λ n. has_arrow arrows n w) (sym (eqb-true u v same)) ∙ no_arrow w))
-    in
-    false_from_ne_true (linked arrows u t) (λ way. true≢false (sym (closed_linked (eqb u) arrows closed u t way (eq-eqb u u refl)) ∙ other))
-
--- a name that is not found has no row
-pub no_row : (o : Option PermitRow) → is_some o ≡ false → o ≡ None
-no_row None h = refl
-no_row (Some row) h = absurd (true≢false h)
-
--- ---- a name without a row is given nothing
-any_more : {X : Type 0} (p q : X → Bool) (xs : List X) → ((x : X) → p x ≡ true → q x ≡ true) → list_any p xs ≡ true → list_any q xs ≡ true
-any_more p q [] more h = h
-any_more p q (x ∷ xs) more h = elim (or_cases (p x) _ h) [
-  | inl here ↦ or_left (q x) _ (more x here)
-  | inr later ↦ or_right (q x) _ (any_more p q xs more later)
+between_is : (o p : Option ℕ) (u t : ℕ) → has_arrow (arrow_between o p) u t ≡ true → (o ≡ Some u) × (p ≡ Some t)
+unfolding has_arrow
+between_is (Some v) (Some w) u t h = elim (or_cases (eqb v u && eqb w t) false h) [
+  | inl here ↦ let names = and_parts (eqb v u) (eqb w t) here in (ap Some (eqb-true v u names.0), ap Some (eqb-true w t names.1))
+  | inr wrong ↦ absurd (false≢true wrong)
 ]
+between_is (Some v) None u t h = absurd (false≢true h)
+between_is None p u t h = absurd (false≢true h)
 
-lets_is_to : (u t x : ℕ) (op : Op) (d : Descriptor) → lets u t x op d ≡ true → is_to t d ≡ true
-unfolding lets is_to
-lets_is_to u t x op d h = (and_parts (eqb d.giver u) (eqb d.taker t) (and_parts _ _ h).0).1
+module _ (along ends : Chained) (x : ℕ) (op : Op) where
+  slot_leads : (slots : List (Option Descriptor)) (k i j : ℕ) (d : Descriptor) (u t : ℕ) → j ≡ k + i → get_or slots i None ≡ Some d → covers x op d ≡ true → home_of along j ≡ Some u → home_of ends j ≡ Some t
+      → has_arrow (arrows_from along ends x op k slots) u t ≡ true
+  slot_leads [] k i j d u t at there covered home end = cc there
+  slot_leads (None ∷ slots) k zero j d u t at there covered home end = cc there
+  slot_leads (None ∷ slots) k (suc i) j d u t at there covered home end = slot_leads slots (k + 1) i j d u t (omega (arith, at)) there covered home end
+  slot_leads (Some e ∷ slots) k zero j d u t at there covered home end =
+      let same : e ≡ d = cc there in
+      let here : k ≡ j = omega (arith, at) in
+      let arrow : cond (covers x op e) (arrow_between (home_of along k) (home_of ends k)) [] ≡ arrow_between (Some u) (Some t) =
+      ap (λ (b : Bool). cond b (arrow_between (home_of along k) (home_of ends k)) []) (ap (covers x op) same ∙ covered) ∙ (λ m. arrow_between ((ap (home_of along) here ∙ home) m) ((ap (home_of ends) here ∙ end) m))
+      in
+      arrow-append (cond (covers x op e) (arrow_between (home_of along k) (home_of ends k)) []) _ u t ∙ or_left _ _ (ap (λ (l : List Arrow). has_arrow l u t) arrow ∙ between_leads u t)
+  slot_leads (Some e ∷ slots) k (suc i) j d u t at there covered home end =
+      arrow-append (cond (covers x op e) (arrow_between (home_of along k) (home_of ends k)) []) _ u t ∙ or_right _ _ (slot_leads slots (k + 1) i j d u t (omega (arith, at)) there covered home end)
 
-no_arrow_to : (rows : List NamedPermitRow) (t x : ℕ) (op : Op) → HaveNames rows → AreNoted rows → row_of rows t ≡ None → (v : ℕ) → has_arrow (arrows_for (descriptors_of rows) x op) v t ≡ false
-unfolding one_covers AreNoted has_giver
-no_arrow_to rows t x op names noted none v = false_from_ne_true (has_arrow (arrows_for (descriptors_of rows) x op) v t) (λ arrow.
-    let grants : list_any (lets v t x op) (grants_in rows v) ≡ true =
-    sym (any_flat (lets v t x op) v (lets_owned v t x op) rows names) ∙ sym (arrows_stand (descriptors_of rows) v t x op) ∙ arrow
-    in
-    let known = noted v t (any_more (lets v t x op) (is_to t) (grants_in rows v) (lets_is_to v t x op) grants) in
-    false≢true (sym (ap (has_giver v) (givers_nowhere rows t none)) ∙ known))
+  permit_of : (slots : List (Option Descriptor)) (k u t : ℕ) → has_arrow (arrows_from along ends x op k slots) u t ≡ true
+      → (i : ℕ) × (d : Descriptor) × (get_or slots i None ≡ Some d) × (covers x op d ≡ true) × (home_of along (k + i) ≡ Some u) × (home_of ends (k + i) ≡ Some t)
+  permit_of [] k u t h = absurd (false≢true (sym (nothing_leads u t) ∙ h))
+  permit_of (None ∷ slots) k u t h =
+      let found = permit_of slots (k + 1) u t h in
+      let same : k + 1 + found.0 ≡ k + suc found.0 = omega arith in
+      (suc found.0, found.1, found.2, found.3, ap (home_of along) (sym same) ∙ found.4, ap (home_of ends) (sym same) ∙ found.5)
+  permit_of (Some e ∷ slots) k u t h =
+      elim (or_cases (has_arrow (cond (covers x op e) (arrow_between (home_of along k) (home_of ends k)) []) u t) _ (sym (arrow-append (cond (covers x op e) (arrow_between (home_of along k) (home_of ends k)) []) _ u t) ∙ h)) [
+        | inl here ↦ at (covers x op e) refl here
+        | inr later ↦
+            let found = permit_of slots (k + 1) u t later in
+            let same : k + 1 + found.0 ≡ k + suc found.0 = omega arith in
+            (suc found.0, found.1, found.2, found.3, ap (home_of along) (sym same) ∙ found.4, ap (home_of ends) (sym same) ∙ found.5)
+      ] where
+        at : (b : Bool) → covers x op e ≡ b → has_arrow (cond b (arrow_between (home_of along k) (home_of ends k)) []) u t ≡ true
+            → (i : ℕ) × (d : Descriptor) × (get_or (Some e ∷ slots) i None ≡ Some d) × (covers x op d ≡ true) × (home_of along (k + i) ≡ Some u) × (home_of ends (k + i) ≡ Some t)
+        at true covered leads =
+            let homes = between_is (home_of along k) (home_of ends k) u t leads in
+            let same : k ≡ k + 0 = omega arith in
+            (0, e, refl, covered, ap (home_of along) (sym same) ∙ homes.0, ap (home_of ends) (sym same) ∙ homes.1)
+        at false covered leads = absurd (false≢true (sym (nothing_leads u t) ∙ leads))
 
-pub unknown_taker : (rows : List NamedPermitRow) (u t x : ℕ) (op : Op) → HaveNames rows → AreNoted rows → row_of rows t ≡ None → eqb u t ≡ false → allows_by (descriptors_of rows) u t x op ≡ false
-unfolding allows_by
-unknown_taker rows u t x op names noted none other =
-    let arrows = arrows_for (descriptors_of rows) x op in
-    let closed : (v w : ℕ) → has_arrow arrows v w ≡ true → not (eqb v t) ≡ true → not (eqb w t) ≡ true = λ v w arrow apart.
-    not_from_false (eqb w t) (false_from_ne_true (eqb w t) (λ same. true≢false (sym arrow ∙ ap (has_arrow arrows v) (eqb-true w t same) ∙ no_arrow_to rows t x op names noted none v)))
-    in
-    false_from_ne_true (linked arrows u t) (λ way. false≢true (sym (ap not (eq-eqb t t refl)) ∙ closed_linked (λ n. not (eqb n t)) arrows closed u t way (not_from_false (eqb u t) other)))
+-- a permit that covers has an arrow
+pub permit_leads : (permits : Slab Descriptor) (along ends : Chained) (x : ℕ) (op : Op) (k u t : ℕ) → home_of along k ≡ Some u → leads_to (get permits k) (home_of ends k) x op ≡ Some t → has_arrow (seat_arrows permits along ends x op) u t ≡ true
+unfolding seat_arrows
+permit_leads permits along ends x op k u t home leads = go (get permits k) refl leads where
+  go : (o : Option Descriptor) → get permits k ≡ o → leads_to o (home_of ends k) x op ≡ Some t → has_arrow (arrows_from along ends x op 0 permits.slots) u t ≡ true
+  go None there e = cc e
+  go (Some d) there e = at (covers x op d) refl e where
+    at : (b : Bool) → covers x op d ≡ b → cond b (home_of ends k) None ≡ Some t → has_arrow (arrows_from along ends x op 0 permits.slots) u t ≡ true
+    at true covered end = slot_leads along ends x op permits.slots 0 k k d u t (omega arith) there covered home end
+    at false covered end = cc end
 
--- ---- two rows have two names
-two_rows : (rows : List NamedPermitRow) (i k : ℕ) (e f : NamedPermitRow) → HaveNames rows → slice_get rows i ≡ Some e → slice_get rows k ≡ Some f → eqb e.0.0 f.0.0 ≡ true → i ≡ k
-unfolding HaveNames IsDistinct
-two_rows [] i k e f names at_i at_k same = cc
-two_rows (r ∷ rows) zero zero e f names at_i at_k same = refl
-two_rows (r ∷ rows) zero (suc k) e f names at_i at_k same =
-    let first : r ≡ e = cc in
-    absurd (true≢false (sym same ∙ ap (λ (g : NamedPermitRow). eqb g.0.0 f.0.0) (sym first) ∙ key_apart r.0.0 rows k f names.0 at_k))
-two_rows (r ∷ rows) (suc i) zero e f names at_i at_k same =
-    let second : r ≡ f = cc in
-    absurd (true≢false (sym same ∙ eqb-flip e.0.0 f.0.0 ∙ ap (λ (g : NamedPermitRow). eqb g.0.0 e.0.0) (sym second) ∙ key_apart r.0.0 rows i e names.0 at_i))
-two_rows (r ∷ rows) (suc i) (suc k) e f names at_i at_k same = ap suc (two_rows rows i k e f names.1 at_i at_k same)
+-- and an arrow is that of a permit
+pub permit_of_arrow : (permits : Slab Descriptor) (along ends : Chained) (x : ℕ) (op : Op) (u t : ℕ) → has_arrow (seat_arrows permits along ends x op) u t ≡ true → (k : ℕ) × (home_of along k ≡ Some u) × (leads_to (get permits k) (home_of ends k) x op ≡ Some t)
+unfolding seat_arrows
+permit_of_arrow permits along ends x op u t h =
+    let found = permit_of along ends x op permits.slots 0 u t h in
+    let same : 0 + found.0 ≡ found.0 = omega arith in (
+      found.0,
+      ap (home_of along) (sym same) ∙ found.4,
+      ap (λ (o : Option Descriptor). leads_to o (home_of ends found.0) x op) found.2
+          ∙ ap (λ (b : Bool). cond b (home_of ends found.0) None) found.3
+          ∙ ap (home_of ends) (sym same)
+          ∙ found.5,
+    )
 
-pub other_name : (rows : List NamedPermitRow) (i k : ℕ) → HaveNames rows → i < length rows → k < length rows → (i ≡ k → ⊥) → eqb (name_at rows i) (name_at rows k) ≡ false
-other_name rows i k names below_i below_k apart =
-    let e = entry_at rows i below_i in
-    let f = entry_at rows k below_k in
-    rw (named rows i e.0 e.1, named rows k f.0 f.1) (false_from_ne_true (eqb e.0.0.0 f.0.0.0) (λ same. apart (two_rows rows i k e.0 f.0 names e.1 f.1 same)))
+-- ---- arrows that are turned round
+abbrev turned : List Arrow → List Arrow
+turned arrows = map (λ (a : Arrow). (a.1, a.0)) arrows
+
+linked_turned : (arrows : List Arrow) (a b : ℕ) → linked (turned arrows) b a ≡ linked arrows a b
+unfolding linked
+linked_turned [] a b = flip (eqb b a) refl where
+  flip : (c : Bool) → eqb b a ≡ c → c ≡ eqb a b
+  flip true e = sym (eq-eqb a b (sym (eqb-true b a e)))
+  flip false e = sym (ne_eqb a b (λ same. eqb-false b a e (sym same)))
+linked_turned (arrow ∷ arrows) a b =
+    (λ m. linked_turned arrows a b m || linked_turned arrows arrow.1 b m && linked_turned arrows a arrow.0 m) ∙ ap (λ (c : Bool). linked arrows a b || c) (swap (linked arrows arrow.1 b) (linked arrows a arrow.0)) where
+      swap : (p q : Bool) → (p && q) ≡ (q && p)
+      swap true true = refl
+      swap true false = refl
+      swap false true = refl
+      swap false false = refl
+
+turned_append : (xs ys : List Arrow) → turned (xs ++ ys) ≡ turned xs ++ turned ys
+turned_append [] ys = refl
+turned_append (arrow ∷ xs) ys = ap (λ (l : List Arrow). (arrow.1, arrow.0) ∷ l) (turned_append xs ys)
+
+arrows_turned : (along ends : Chained) (x : ℕ) (op : Op) (k : ℕ) (slots : List (Option Descriptor)) → arrows_from ends along x op k slots ≡ turned (arrows_from along ends x op k slots)
+arrows_turned along ends x op k [] = refl
+arrows_turned along ends x op k (None ∷ slots) = arrows_turned along ends x op (k + 1) slots
+arrows_turned along ends x op k (Some d ∷ slots) =
+    (λ m. one (covers x op d) (home_of along k) (home_of ends k) m ++ arrows_turned along ends x op (k + 1) slots m)
+    ∙ sym (turned_append (cond (covers x op d) (arrow_between (home_of along k) (home_of ends k)) []) (arrows_from along ends x op (k + 1) slots)) where
+      one : (b : Bool) (o p : Option ℕ) → cond b (arrow_between p o) [] ≡ turned (cond b (arrow_between o p) [])
+      one true (Some u) (Some t) = refl
+      one true (Some u) None = refl
+      one true None (Some t) = refl
+      one true None None = refl
+      one false o p = refl
+
+-- the search backwards finds what the search forwards finds
+pub linked_backwards : (permits : Slab Descriptor) (along ends : Chained) (x : ℕ) (op : Op) (from to : ℕ) → linked (seat_arrows permits ends along x op) to from ≡ linked (seat_arrows permits along ends x op) from to
+unfolding seat_arrows
+linked_backwards permits along ends x op from to =
+    ap (λ (arrows : List Arrow). linked arrows to from) (arrows_turned along ends x op 0 permits.slots) ∙ linked_turned (arrows_from along ends x op 0 permits.slots) from to
+
+-- ---- from seats to transactions
+-- who has a seat; 0 stands for nobody
+abbrev name_at : Seated → ℕ → ℕ
+name_at seats c = unwrap_or (option_map (λ (t : Txn). t.0) (seat seats c)) 0
+
+name_is : (seats : Seated) (c : ℕ) (t : Txn) → seat seats c ≡ Some t → name_at seats c ≡ t.0
+name_is seats c t sat = ap (λ (o : Option Txn). unwrap_or (option_map (λ (t : Txn). t.0) o) 0) sat
+
+abbrev IsTaken : Seated → ℕ → Type 0
+IsTaken seats c = is_some (seat seats c) ≡ true
+
+-- both ends of each arrow are seats that are taken
+abbrev AreTaken : Seated → List Arrow → Type 0
+AreTaken seats [] = Unit {0}
+AreTaken seats (arrow ∷ arrows) = (IsTaken seats arrow.0 × IsTaken seats arrow.1) × AreTaken seats arrows
+
+abbrev named : Seated → List Arrow → List Arrow
+named seats arrows = map (λ (a : Arrow). (name_at seats a.0, name_at seats a.1)) arrows
+
+module _ (seats : Seated) (single : (t : Txn) (c d : ℕ) → seat seats c ≡ Some t → seat seats d ≡ Some t → d ≡ c) where
+  one_seat : (c d : ℕ) → IsTaken seats c → IsTaken seats d → eqb (name_at seats c) (name_at seats d) ≡ eqb c d
+  one_seat c d here there =
+      let t = some_of (seat seats c) here in
+      let u = some_of (seat seats d) there in
+      go t.0 u.0 t.1 u.1 (eqb c d) refl where
+        go : (t u : Txn) → seat seats c ≡ Some t → seat seats d ≡ Some u → (b : Bool) → eqb c d ≡ b → eqb (name_at seats c) (name_at seats d) ≡ b
+        go t u sat other true e = eq-eqb (name_at seats c) (name_at seats d) (ap (name_at seats) (eqb-true c d e))
+        go t u sat other false e =
+            ne_eqb (name_at seats c) (name_at seats d) (λ same.
+            let names : t.0 ≡ u.0 = sym (name_is seats c t sat) ∙ same ∙ name_is seats d u other in
+            eqb-false c d e (sym (single t c d sat (other ∙ (λ i. Some (record { 0 = sym names i }))))))
+
+  -- names link as their seats do
+  linked_named : (arrows : List Arrow) → AreTaken seats arrows → (a b : ℕ) → IsTaken seats a → IsTaken seats b → linked (named seats arrows) (name_at seats a) (name_at seats b) ≡ linked arrows a b
+  unfolding linked
+  linked_named [] taken a b from to = one_seat a b from to
+  linked_named (arrow ∷ arrows) taken a b from to =
+      λ m. linked_named arrows taken.1 a b from to m || linked_named arrows taken.1 a arrow.0 from taken.0.0 m && linked_named arrows taken.1 arrow.1 b taken.0.1 to m
+
+named_append : (seats : Seated) (xs ys : List Arrow) → named seats (xs ++ ys) ≡ named seats xs ++ named seats ys
+named_append seats [] ys = refl
+named_append seats (arrow ∷ xs) ys = ap (λ (l : List Arrow). (name_at seats arrow.0, name_at seats arrow.1) ∷ l) (named_append seats xs ys)
+
+taken_append : (seats : Seated) (xs ys : List Arrow) → AreTaken seats xs → AreTaken seats ys → AreTaken seats (xs ++ ys)
+taken_append seats [] ys none taken = taken
+taken_append seats (arrow ∷ xs) ys first taken = (first.0, taken_append seats xs ys first.1 taken)
+
+-- a permit's homes are the seats of its two ends
+pub record HasEnds (p : Parts) (k : ℕ) (d : Descriptor) : Type 0 where
+  pub from : ℕ
+  pub to : ℕ
+  pub home : home_of p.along k ≡ Some from
+  pub end : home_of p.ends k ≡ Some to
+  pub giver : seat p.seats from ≡ Some (record { 0 = d.giver })
+  pub taker : seat p.seats to ≡ Some (record { 0 = d.taker })
+
+pub has_ends : (p : Parts) (size : ℕ) → IsValid p size → (k : ℕ) (d : Descriptor) → get p.permits k ≡ Some d → HasEnds p k d
+has_ends p size valid k d there =
+    let home = home_along p k d valid.seated there in
+    let end = home_at_end p k d valid.seated there in
+    record { from = home.0; to = end.0; home = home.1; end = end.1; giver = valid.given k home.0 d there home.1; taker = valid.taken k end.0 d there end.1 }
+
+module _ (p : Parts) (size : ℕ) (valid : IsValid p size) (x : ℕ) (op : Op) where
+  have_first : (k : ℕ) (d : Descriptor) → HasEnds p (k + 0) d → HasEnds p k d
+  have_first k d have = subst (λ n. HasEnds p n d) (omega arith) have
+
+  -- the arrows of the permits in the slots have the names of the seats
+  abbrev AreNamed : List (Option Descriptor) → ℕ → Type 0
+  AreNamed slots k =
+      (map (λ (d : Descriptor). (d.giver, d.taker)) (filter (covers x op) (filter_map (λ (slot : Option Descriptor). slot) slots)) ≡ named p.seats (arrows_from p.along p.ends x op k slots))
+      × AreTaken p.seats (arrows_from p.along p.ends x op k slots)
+
+  slot_named : (e : Descriptor) (slots : List (Option Descriptor)) (k : ℕ) → HasEnds p k e → AreNamed slots (k + 1) → AreNamed (Some e ∷ slots) k
+  slot_named e slots k here rest = (
+    one (covers x op e) ∙ sym (named_append p.seats (cond (covers x op e) (arrow_between (home_of p.along k) (home_of p.ends k)) []) (arrows_from p.along p.ends x op (k + 1) slots)),
+    taken_append p.seats (cond (covers x op e) (arrow_between (home_of p.along k) (home_of p.ends k)) []) (arrows_from p.along p.ends x op (k + 1) slots) (first (covers x op e)) rest.1,
+  ) where
+    arrow : arrow_between (home_of p.along k) (home_of p.ends k) ≡ (here.from, here.to) ∷ []
+    arrow = λ m. arrow_between (here.home m) (here.end m)
+
+    first : (b : Bool) → AreTaken p.seats (cond b (arrow_between (home_of p.along k) (home_of p.ends k)) [])
+    first true = subst (AreTaken p.seats) (sym arrow) ((ap is_some here.giver, ap is_some here.taker), tt)
+    first false = tt
+
+    one : (b : Bool) → map (λ (d : Descriptor). (d.giver, d.taker)) (cond b (e ∷ filter (covers x op) (filter_map (λ (slot : Option Descriptor). slot) slots)) (filter (covers x op) (filter_map (λ (slot : Option Descriptor). slot) slots)))
+        ≡ named p.seats (cond b (arrow_between (home_of p.along k) (home_of p.ends k)) []) ++ named p.seats (arrows_from p.along p.ends x op (k + 1) slots)
+    one true =
+        (λ m. (sym (name_is p.seats here.from (record { 0 = e.giver }) here.giver) m, sym (name_is p.seats here.to (record { 0 = e.taker }) here.taker) m) ∷ rest.0 m)
+        ∙ ap (λ (l : List Arrow). named p.seats l ++ named p.seats (arrows_from p.along p.ends x op (k + 1) slots)) (sym arrow)
+    one false = rest.0
+
+  slots_named : (slots : List (Option Descriptor)) (k : ℕ) → ((i : ℕ) (d : Descriptor) → get_or slots i None ≡ Some d → HasEnds p (k + i) d)
+      → (map (λ (d : Descriptor). (d.giver, d.taker)) (filter (covers x op) (filter_map (λ (slot : Option Descriptor). slot) slots)) ≡ named p.seats (arrows_from p.along p.ends x op k slots))
+      × AreTaken p.seats (arrows_from p.along p.ends x op k slots)
+  slots_named [] k have = (refl, tt)
+  slots_named (None ∷ slots) k have = slots_named slots (k + 1) (λ i d there. subst (λ n. HasEnds p n d) (omega arith) (have (suc i) d there))
+  slots_named (Some e ∷ slots) k have = slot_named e slots k (have_first k e (have 0 e refl)) (slots_named slots (k + 1) (λ i d there. subst (λ n. HasEnds p n d) (omega arith) (have (suc i) d there)))
+
+  -- a search along seats says who allows whom
+  pub linked_allows : ((t : Txn) (c d : ℕ) → seat p.seats c ≡ Some t → seat p.seats d ≡ Some t → d ≡ c) → (giver taker : Txn) (from to : ℕ) → seat p.seats from ≡ Some giver → seat p.seats to ≡ Some taker
+      → linked (seat_arrows p.permits p.along p.ends x op) from to ≡ allows_by (descriptors_of p.permits) giver.0 taker.0 x op
+  unfolding seat_arrows allows_by arrows_for descriptors_of
+  linked_allows single giver taker from to sat other =
+      let both = slots_named p.permits.slots 0 (λ i d there. subst (λ n. HasEnds p n d) (omega arith) (has_ends p size valid i d there)) in
+      sym (linked_named p.seats single (arrows_from p.along p.ends x op 0 p.permits.slots) both.1 from to (ap is_some sat) (ap is_some other))
+      ∙ (λ m. linked (sym both.0 m) (name_is p.seats from giver sat m) (name_is p.seats to taker other m))
+
+  ends_of_arrow : (u t : ℕ) → has_arrow (arrows_for (descriptors_of p.permits) x op) u t ≡ true
+      → ((c : ℕ) × (seat p.seats c ≡ Some (record { 0 = u }))) × ((c : ℕ) × (seat p.seats c ≡ Some (record { 0 = t })))
+  unfolding one_covers
+  ends_of_arrow u t arrow =
+      let found = key_of_any (lets u t x op) p.permits (sym (arrows_stand (descriptors_of p.permits) u t x op) ∙ arrow) in
+      let ends = has_ends p size valid found.0 found.1 found.2 in (
+        (ends.from, ends.giver ∙ (λ m. Some (record { 0 = lets_owned u t x op found.1 found.3 m }))),
+        (ends.to, ends.taker ∙ (λ m. Some (record { 0 = lets_to u t x op found.1 found.3 m }))),
+      )
+
+  -- one who gives nothing allows no other
+  pub gives_nothing : (giver taker : Txn) → ((c : ℕ) → seat p.seats c ≡ Some giver → ⊥) → eqb giver.0 taker.0 ≡ false → allows_by (descriptors_of p.permits) giver.0 taker.0 x op ≡ false
+  unfolding allows_by
+  gives_nothing giver taker absent another =
+      false_from_ne_true _ (λ way.
+      let reached = closed_linked (λ n. eqb n giver.0) (arrows_for (descriptors_of p.permits) x op) closed giver.0 taker.0 way (eq-eqb giver.0 giver.0 refl) in
+      true≢false (sym (eq-eqb giver.0 taker.0 (sym (eqb-true taker.0 giver.0 reached))) ∙ another)) where
+        closed : (u t : ℕ) → has_arrow (arrows_for (descriptors_of p.permits) x op) u t ≡ true → eqb u giver.0 ≡ true → eqb t giver.0 ≡ true
+        closed u t arrow is = let sat = (ends_of_arrow u t arrow).0 in absurd (absent sat.0 (sat.1 ∙ (λ m. Some (record { 0 = eqb-true u giver.0 is m }))))
+
+  -- one who takes nothing is allowed by no other
+  pub takes_nothing : (giver taker : Txn) → ((c : ℕ) → seat p.seats c ≡ Some taker → ⊥) → eqb giver.0 taker.0 ≡ false → allows_by (descriptors_of p.permits) giver.0 taker.0 x op ≡ false
+  unfolding allows_by
+  takes_nothing giver taker absent another =
+      false_from_ne_true _ (λ way. true≢false (sym (closed_linked (λ n. not (eqb n taker.0)) (arrows_for (descriptors_of p.permits) x op) closed giver.0 taker.0 way (ap not another)) ∙ ap not (eq-eqb taker.0 taker.0 refl))) where
+        closed : (u t : ℕ) → has_arrow (arrows_for (descriptors_of p.permits) x op) u t ≡ true → not (eqb u taker.0) ≡ true → not (eqb t taker.0) ≡ true
+        closed u t arrow other =
+            ap not (false_from_ne_true (eqb t taker.0) (λ is. let sat = (ends_of_arrow u t arrow).1 in absent sat.0 (sat.1 ∙ (λ m. Some (record { 0 = eqb-true t taker.0 is m })))))

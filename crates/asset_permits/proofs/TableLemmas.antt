@@ -1,215 +1,231 @@
--- The table after one more permit, and after a name is dropped.
-use Rattle.std.proofs.Common.{◌≡◌, ℕ, ◌≤◌, Bool, true, false, cond, not, eqb, ◌&&◌, ◌||◌, ◌⊎◌, List, [], ◌∷◌, ◌++◌, length, Some, None, refl, sym, ap, subst, ◌∙◌, arith, inl, inr}
-use Rattle.std.specs.List.{list_any, IsDistinct}
-use Rattle.std.proofs.lemmas.Bool.{or_cases, or_parts, and_parts, eqb-true, eq-eqb, false≢true, true≢false, false_from_ne_true}
-use Rattle.std.proofs.lemmas.Map.Views.{any-filter_same}
+-- What a call makes of the table of permits.
+use Rattle.std.proofs.Common.{◌≡◌, ℕ, ◌<◌, Bool, true, false, List, [], ◌∷◌, ◌++◌, ◌||◌, filter_map, Option, Some, None, IfSome, IfNone, is_some, refl, sym, ap, ◌∙◌, arith, inl, inr}
+use Rattle.std.specs.Prelude.{slice_index_or}
+use Rattle.std.proofs.lemmas.Bool.{eqb-false, ne_eqb, true≢false, false_from_ne_true, cases_eq}
+use Rattle.slab.specs.Slab.{Slab, get, Updates}
 use Rattle.asset_names.specs.declared.names.Txn.{Txn}
-use Rattle.asset_names.specs.declared.operations.Op.{Op}
-use Rattle.asset_names.proofs.Common.{eqb-flip}
-use Rattle.std.proofs.Math.Bool.{or-false}
-use Rattle.asset_permits.specs.Descriptors.{Descriptor, Grant, descriptor_by, stands, AreDifferent, same_descriptor, lets}
-use Rattle.asset_permits.specs.PermitRow.{has_giver, without_giver, has_taker}
-use Rattle.asset_permits.specs.Valid.{NamedPermitRow, row_of, grants_or_none, grants_in, givers_or_none, givers_in, descriptors_of, is_to, without_taker, HaveNames, AreNoted, IsValid}
-use Rattle.asset_permits.specs.declared.row.PermitRow.{PermitRow}
-use Rattle.asset_permits.proofs.DescriptorLemmas.{any_push, different_push, different_filtered, same_is}
-use Rattle.asset_permits.proofs.PermitRowLemmas.{any_flat, grants_nowhere, givers_there, givers_nowhere}
+use Rattle.asset_chains.specs.Chained.{Chained, chain_of, home_of, first_of, IsSound}
+use Rattle.asset_chains.proofs.Laws.{IsPushed}
+use Rattle.asset_chains.proofs.SoundLemmas.{no_chain_of, no_home_of}
+use Rattle.asset_seats.specs.Seated.{Seated, seat}
+use Rattle.asset_permits.specs.Descriptors.{Descriptor, stands}
+use Rattle.asset_permits.specs.Valid.{Parts, parts, descriptors_of, is_used, IsSeated, IsNamed, IsWithin, IsValid}
+use Rattle.asset_permits.specs.Changes.{IsGrown, BothSit, Shrinks}
+use Rattle.asset_permits.proofs.SeatLemmas.{used_same, used_along, used_ends, home_along, home_at_end}
+use Rattle.asset_permits.proofs.SearchLemmas.{has_ends}
+use Rattle.asset_permits.proofs.SlotLemmas.{IsRid, key_of_standing, stands_at}
+
+-- ---- whether a permit stands
+-- a permit stands at a key in the chain of its giver, and in that of its taker
+pub not_given : (p : Parts) (size : ℕ) → IsValid p size → (e : Descriptor) → ((c : ℕ) → seat p.seats c ≡ Some (record { 0 = e.giver }) → ⊥) → stands (descriptors_of p.permits) e ≡ false
+not_given p size valid e absent =
+    false_from_ne_true _ (λ there.
+    let found = key_of_standing p.permits e there in
+    let ends = has_ends p size valid found.0 e found.1 in
+    absent ends.from ends.giver)
+
+pub not_taken : (p : Parts) (size : ℕ) → IsValid p size → (e : Descriptor) → ((c : ℕ) → seat p.seats c ≡ Some (record { 0 = e.taker }) → ⊥) → stands (descriptors_of p.permits) e ≡ false
+not_taken p size valid e absent =
+    false_from_ne_true _ (λ there.
+    let found = key_of_standing p.permits e there in
+    let ends = has_ends p size valid found.0 e found.1 in
+    absent ends.to ends.taker)
+
+found_stands : (permits : Slab Descriptor) (e : Descriptor) (result : Option ℕ) → IfSome result (λ k. get permits k ≡ Some e) → (stands (descriptors_of permits) e ≡ true → IfNone result ⊥) → is_some result ≡ stands (descriptors_of permits) e
+found_stands permits e None found absent = sym (false_from_ne_true _ (λ there. absent there))
+found_stands permits e (Some k) found absent = sym (stands_at permits k e found)
+
+never : (result : Option ℕ) (p : Type 0) → IfNone result p → (p → ⊥) → IfNone result ⊥
+never None p h refuted = refuted h
+never (Some k) p h refuted = tt
+
+pub found_given : (p : Parts) (size : ℕ) → IsValid p size → (e : Descriptor) (from : ℕ) → ((c : ℕ) → seat p.seats c ≡ Some (record { 0 = e.giver }) → c ≡ from) → (result : Option ℕ) → IfSome result (λ k. get p.permits k ≡ Some e)
+    → IfNone result ((k : ℕ) → home_of p.along k ≡ Some from → get p.permits k ≡ Some e → ⊥) → is_some result ≡ stands (descriptors_of p.permits) e
+found_given p size valid e from alone result found absent =
+    found_stands p.permits e result found (λ there. never result _ absent (λ none.
+    let at = key_of_standing p.permits e there in
+    let ends = has_ends p size valid at.0 e at.1 in
+    none at.0 (ends.home ∙ ap Some (alone ends.from ends.giver)) at.1))
+
+pub found_taken : (p : Parts) (size : ℕ) → IsValid p size → (e : Descriptor) (to : ℕ) → ((c : ℕ) → seat p.seats c ≡ Some (record { 0 = e.taker }) → c ≡ to) → (result : Option ℕ) → IfSome result (λ k. get p.permits k ≡ Some e)
+    → IfNone result ((k : ℕ) → home_of p.ends k ≡ Some to → get p.permits k ≡ Some e → ⊥) → is_some result ≡ stands (descriptors_of p.permits) e
+found_taken p size valid e to alone result found absent =
+    found_stands p.permits e result found (λ there. never result _ absent (λ none.
+    let at = key_of_standing p.permits e there in
+    let ends = has_ends p size valid at.0 e at.1 in
+    none at.0 (ends.end ∙ ap Some (alone ends.to ends.taker)) at.1))
+
+-- a seat that is a home has its mark
+pub marked_end : (p : Parts) (size : ℕ) → IsValid p size → IsSound p.ends → (k c : ℕ) → home_of p.ends k ≡ Some c → c < size
+marked_end p size valid sound k c home = (valid.within c (valid.seated.used c ∙ used_ends p.along p.ends k c sound home)).2
+
+pub marked_home : (p : Parts) (size : ℕ) → IsValid p size → IsSound p.along → (k c : ℕ) → home_of p.along k ≡ Some c → c < size
+marked_home p size valid sound k c home = (valid.within c (valid.seated.used c ∙ used_along p.along p.ends k c sound home)).2
+
+-- ---- a new table
+pub valid_nothing : (permits : Slab Descriptor) (along ends : Chained) (seats : Seated) (size : ℕ) → permits.slots ≡ [] → along.chains ≡ [] → along.homes ≡ [] → ends.chains ≡ [] → ends.homes ≡ [] → ((c : ℕ) → seat seats c ≡ None)
+    → IsValid (parts permits along ends seats) size
+unfolding is_used
+valid_nothing permits along ends seats size none chains homes chains_ends homes_ends nobody = record {
+  seated = record {
+    along = λ k. ap is_some (nothing k) ∙ sym (ap is_some (no_home_of along homes k));
+    ends = λ k. ap is_some (nothing k) ∙ sym (ap is_some (no_home_of ends homes_ends k));
+    used = λ c. ap is_some (nobody c) ∙ sym (λ i. is_some (first_of (no_chain_of along chains c i)) || is_some (first_of (no_chain_of ends chains_ends c i)));
+  };
+  given = λ k c d there home. cc (sym there ∙ nothing k);
+  taken = λ k c d there home. cc (sym there ∙ nothing k);
+  single = λ j k d here there. cc (sym there ∙ nothing k);
+  within = λ c sat. absurd (true≢false (sym sat ∙ ap is_some (nobody c)));
+} where
+  nothing : (k : ℕ) → get permits k ≡ None
+  nothing k = ap (λ (l : List (Option Descriptor)). slice_index_or l k None) none
+
+pub nothing_stands : (permits : Slab Descriptor) → permits.slots ≡ [] → descriptors_of permits ≡ []
+unfolding descriptors_of
+nothing_stands permits none = ap (λ (l : List (Option Descriptor)). filter_map (λ (slot : Option Descriptor). slot) l) none
+
+pub slots_stand : (permits more : Slab Descriptor) → more.slots ≡ permits.slots → descriptors_of more ≡ descriptors_of permits
+unfolding descriptors_of
+slots_stand permits more same = ap (λ (l : List (Option Descriptor)). filter_map (λ (slot : Option Descriptor). slot) l) same
+
+-- ---- there is more room, and nothing else changed
+pub slot_same : (permits more : Slab Descriptor) → more.slots ≡ permits.slots → (k : ℕ) → get more k ≡ get permits k
+slot_same permits more same k = ap (λ (l : List (Option Descriptor)). slice_index_or l k None) same
+
+pub seated_grown : (permits more : Slab Descriptor) (along longer ends longer_ends : Chained) (seats new : Seated) → IsSeated (parts permits along ends seats) → more.slots ≡ permits.slots → IsGrown along longer → IsGrown ends longer_ends
+    → ((c : ℕ) → seat new c ≡ seat seats c) → IsSeated (parts more longer longer_ends new)
+seated_grown permits more along longer ends longer_ends seats new seated slots grown grown_ends same = record {
+  along = λ k. ap is_some (slot_same permits more slots k) ∙ seated.along k ∙ sym (ap is_some (grown.homes k));
+  ends = λ k. ap is_some (slot_same permits more slots k) ∙ seated.ends k ∙ sym (ap is_some (grown_ends.homes k));
+  used = λ c. ap is_some (same c) ∙ seated.used c ∙ sym (used_same along ends longer longer_ends c (grown.chains c) (grown_ends.chains c));
+}
+
+pub valid_grown : (permits more : Slab Descriptor) (along longer ends longer_ends : Chained) (seats new : Seated) (size most : ℕ) → IsValid (parts permits along ends seats) size → more.slots ≡ permits.slots → IsGrown along longer → IsGrown ends longer_ends
+    → ((c : ℕ) → seat new c ≡ seat seats c) → IsWithin longer longer_ends new most → IsValid (parts more longer longer_ends new) most
+valid_grown permits more along longer ends longer_ends seats new size most valid slots grown grown_ends same within = record {
+  seated = seated_grown permits more along longer ends longer_ends seats new valid.seated slots grown grown_ends same;
+  given = λ k c d there home. same c ∙ valid.given k c d (sym (slot_same permits more slots k) ∙ there) (sym (grown.homes k) ∙ home);
+  taken = λ k c d there home. same c ∙ valid.taken k c d (sym (slot_same permits more slots k) ∙ there) (sym (grown_ends.homes k) ∙ home);
+  single = λ j k d here there. valid.single j k d (sym (slot_same permits more slots j) ∙ here) (sym (slot_same permits more slots k) ∙ there);
+  within = within;
+}
 
 -- ---- one more permit
-more_at : (test : Descriptor → Bool) (g u : ℕ) (one : Grant) (old new : List Descriptor) (b : Bool) → eqb g u ≡ b → ((d : Descriptor) → test d ≡ true → d.giver ≡ u)
-    → new ≡ cond b (old ++ descriptor_by u one ∷ []) old → list_any test new ≡ (list_any test old || test (descriptor_by g one))
-unfolding descriptor_by
-more_at test g u one old new true same owns is =
-    ap (list_any test) is ∙ any_push test old (descriptor_by u one) ∙ ap (λ n. list_any test old || test (descriptor_by n one)) (sym (eqb-true g u same))
-more_at test g u one old new false other owns is =
-    let none : test (descriptor_by g one) ≡ false = false_from_ne_true (test (descriptor_by g one)) (λ passes. true≢false (sym (eq-eqb g u (owns (descriptor_by g one) passes)) ∙ other)) in
-    ap (list_any test) is ∙ sym (or-false (list_any test old)) ∙ ap (λ b. list_any test old || b) (sym none)
+-- a chain with a key at its end is not empty
+first_pushed : (keys : List ℕ) (k : ℕ) → is_some (first_of (keys ++ k ∷ [])) ≡ true
+first_pushed [] k = refl
+first_pushed (y ∷ keys) k = refl
 
-pub any_grant_more : (test : Descriptor → Bool) (g u : ℕ) (one : Grant) (old new : List NamedPermitRow) → ((d : Descriptor) → test d ≡ true → d.giver ≡ u) → HaveNames old → HaveNames new
-    → ((y : ℕ) → grants_in new y ≡ cond (eqb g y) (grants_in old y ++ descriptor_by y one ∷ []) (grants_in old y))
-    → list_any test (descriptors_of new) ≡ (list_any test (descriptors_of old) || test (descriptor_by g one))
-any_grant_more test g u one old new owns old_names new_names grants =
-    any_flat test u owns new new_names ∙ more_at test g u one (grants_in old u) (grants_in new u) (eqb g u) refl owns (grants u)
-    ∙ ap (λ b. b || test (descriptor_by g one)) (sym (any_flat test u owns old old_names))
-
--- ---- the table is kept where nothing more is given
-pub kept_same : (old new : List NamedPermitRow) (size more : ℕ) → IsValid old size → HaveNames new → ((u : ℕ) → grants_in new u ≡ grants_in old u)
-    → ((t u : ℕ) → has_giver u (givers_in old t) ≡ true → has_giver u (givers_in new t) ≡ true) → length new ≤ more → IsValid new more
-unfolding AreNoted
-kept_same old new size more kept names grants noted marked = record {
-  names = names;
-  different = λ u. subst AreDifferent (sym (grants u)) (kept.different u);
-  noted = λ u t there. noted t u (kept.noted u t (ap (list_any (is_to t)) (sym (grants u)) ∙ there));
-  marked = marked;
-}
-
--- ---- and where one more is given, to a taker who has noted the giver
-different_at : (g u : ℕ) (one : Grant) (old new : List Descriptor) (b : Bool) → eqb g u ≡ b → AreDifferent old → (eqb g u ≡ true → stands old (descriptor_by u one) ≡ false)
-    → new ≡ cond b (old ++ descriptor_by u one ∷ []) old → AreDifferent new
-different_at g u one old new true same different none is = subst AreDifferent (sym is) (different_push old (descriptor_by u one) different (none same))
-different_at g u one old new false other different none is = subst AreDifferent (sym is) different
-
-noted_more : (g u t : ℕ) (one : Grant) (old new : List Descriptor) (b : Bool) → eqb g u ≡ b → new ≡ cond b (old ++ descriptor_by u one ∷ []) old → list_any (is_to t) new ≡ true
-    → (list_any (is_to t) old ≡ true) ⊎ ((g ≡ u) × (one.taker ≡ t))
-unfolding is_to descriptor_by
-noted_more g u t one old new true same is there =
-    elim (or_cases (list_any (is_to t) old) (eqb one.taker t) (sym (any_push (is_to t) old (descriptor_by u one)) ∙ ap (list_any (is_to t)) (sym is) ∙ there)) [
-      | inl before ↦ inl before
-      | inr now ↦ inr (eqb-true g u same, eqb-true one.taker t now)
+module _ (permits more : Slab Descriptor) (along longer ends longer_ends : Chained) (seats new : Seated) (size most : ℕ) (d : Descriptor) (key from to : ℕ)
+    (valid : IsValid (parts permits along ends seats) size) (sits : BothSit (record { 0 = d.giver }) (record { 0 = d.taker }) from to seats new)
+    (put : Updates permits more key (Some d)) (none : stands (descriptors_of permits) d ≡ false)
+    (change : IsPushed from key along longer) (change_ends : IsPushed to key ends longer_ends) where
+  used_more : (c : ℕ) → is_some (seat new c) ≡ is_used longer longer_ends c
+  unfolding is_used
+  used_more c = elim (cases_eq c from) [
+    | inl here ↦ ap is_some (ap (seat new) here ∙ sits.giver_sits) ∙ sym (left_used (is_some (first_of (chain_of longer_ends c))) (ap (λ (keys : List ℕ). is_some (first_of keys)) (ap (chain_of longer) here ∙ change.chain) ∙ first_pushed (chain_of along from) key))
+    | inr apart ↦ elim (cases_eq c to) [
+      | inl here ↦ ap is_some (ap (seat new) here ∙ sits.taker_sits) ∙ sym (right_used (is_some (first_of (chain_of longer c))) (ap (λ (keys : List ℕ). is_some (first_of keys)) (ap (chain_of longer_ends) here ∙ change_ends.chain) ∙ first_pushed (chain_of ends to) key))
+      | inr differ ↦ ap is_some (sits.others c apart differ) ∙ valid.seated.used c ∙ sym (λ i. is_some (first_of (change.chains c apart i)) || is_some (first_of (change_ends.chains c differ i)))
     ]
-noted_more g u t one old new false other is there = inl (ap (list_any (is_to t)) (sym is) ∙ there)
+  ] where
+    left_used : (q : Bool) → {p : Bool} → p ≡ true → (p || q) ≡ true
+    left_used q e = ap (λ (p : Bool). p || q) e
 
-pub kept_grants : (g : ℕ) (one : Grant) (old new : List NamedPermitRow) (size more : ℕ) → IsValid old size → HaveNames new
-    → ((u : ℕ) → grants_in new u ≡ cond (eqb g u) (grants_in old u ++ descriptor_by u one ∷ []) (grants_in old u)) → ((t : ℕ) → givers_in new t ≡ givers_in old t)
-    → stands (grants_in old g) (descriptor_by g one) ≡ false → has_giver g (givers_in old one.taker) ≡ true → length new ≤ more → IsValid new more
-unfolding AreNoted
-kept_grants g one old new size more kept names grants givers none noted marked = record {
-  names = names;
-  different = λ u. different_at g u one (grants_in old u) (grants_in new u) (eqb g u) refl (kept.different u)
-      (λ same. subst (λ n. stands (grants_in old n) (descriptor_by n one) ≡ false) (eqb-true g u same) none) (grants u);
-  noted = λ u t there. ap (has_giver u) (givers t) ∙ elim (noted_more g u t one (grants_in old u) (grants_in new u) (eqb g u) refl (grants u) there) [
-    | inl before ↦ kept.noted u t before
-    | inr now ↦ subst (λ n. has_giver n (givers_in old t) ≡ true) now.0 (subst (λ n. has_giver g (givers_in old n) ≡ true) now.1 noted)
-  ];
-  marked = marked;
+    right_used : (p : Bool) → {q : Bool} → q ≡ true → (p || q) ≡ true
+    right_used true e = refl
+    right_used false e = e
+
+  pub valid_added : IsWithin along ends new most → IsValid (parts more longer longer_ends new) most
+  valid_added within = record {
+    seated = record { along = placed; ends = placed_ends; used = used_more };
+    given = given;
+    taken = taken;
+    single = single;
+    within = λ c sat. let old = within c sat in (omega (arith, old.0, change.same_chains), omega (arith, old.1, change_ends.same_chains), old.2);
+  } where
+    placed : (k : ℕ) → is_some (get more k) ≡ is_some (home_of longer k)
+    placed k = elim (cases_eq k key) [
+      | inl here ↦ ap is_some (ap (get more) here ∙ put.changed) ∙ sym (ap is_some (ap (home_of longer) here ∙ change.home))
+      | inr other ↦ ap is_some (put.others k other) ∙ valid.seated.along k ∙ sym (ap is_some (change.homes k other))
+    ]
+
+    placed_ends : (k : ℕ) → is_some (get more k) ≡ is_some (home_of longer_ends k)
+    placed_ends k = elim (cases_eq k key) [
+      | inl here ↦ ap is_some (ap (get more) here ∙ put.changed) ∙ sym (ap is_some (ap (home_of longer_ends) here ∙ change_ends.home))
+      | inr other ↦ ap is_some (put.others k other) ∙ valid.seated.ends k ∙ sym (ap is_some (change_ends.homes k other))
+    ]
+
+    given : IsNamed (λ (d : Descriptor). d.giver) more longer new
+    given k c e there home = elim (cases_eq k key) [
+      | inl here ↦
+          let same : Some e ≡ Some d = sym there ∙ ap (get more) here ∙ put.changed in
+          let seat_is : Some c ≡ Some from = sym home ∙ ap (home_of longer) here ∙ change.home in
+          let at : c ≡ from = cc seat_is in
+          let is : e ≡ d = cc same in
+          ap (seat new) at ∙ sits.giver_sits ∙ (λ i. Some (record { 0 = (sym is i).giver }))
+      | inr other ↦ sits.kept c (record { 0 = e.giver }) (valid.given k c e (sym (put.others k other) ∙ there) (sym (change.homes k other) ∙ home))
+    ]
+
+    taken : IsNamed (λ (d : Descriptor). d.taker) more longer_ends new
+    taken k c e there home = elim (cases_eq k key) [
+      | inl here ↦
+          let same : Some e ≡ Some d = sym there ∙ ap (get more) here ∙ put.changed in
+          let seat_is : Some c ≡ Some to = sym home ∙ ap (home_of longer_ends) here ∙ change_ends.home in
+          let at : c ≡ to = cc seat_is in
+          let is : e ≡ d = cc same in
+          ap (seat new) at ∙ sits.taker_sits ∙ (λ i. Some (record { 0 = (sym is i).taker }))
+      | inr other ↦ sits.kept c (record { 0 = e.taker }) (valid.taken k c e (sym (put.others k other) ∙ there) (sym (change_ends.homes k other) ∙ home))
+    ]
+
+    twice : (k : ℕ) (e : Descriptor) → (k ≡ key → ⊥) → get more k ≡ Some e → get more key ≡ Some e → ⊥
+    twice k e other there here =
+        let same : Some e ≡ Some d = sym here ∙ put.changed in
+        true≢false (sym (stands_at permits k d (sym (put.others k other) ∙ there ∙ same)) ∙ none)
+
+    single : (j k : ℕ) (e : Descriptor) → get more j ≡ Some e → get more k ≡ Some e → j ≡ k
+    single j k e here there = elim (cases_eq j key) [
+      | inl first ↦ elim (cases_eq k key) [
+        | inl second ↦ first ∙ sym second
+        | inr other ↦ absurd (twice k e other there (ap (get more) (sym first) ∙ here))
+      ]
+      | inr apart ↦ elim (cases_eq k key) [
+        | inl second ↦ absurd (twice j e apart here (ap (get more) (sym second) ∙ there))
+        | inr other ↦ valid.single j k e (sym (put.others j apart) ∙ here) (sym (put.others k other) ∙ there)
+      ]
+    ]
+
+-- ---- the permits of one transaction are gone
+pub rid_of : (old mid new : Parts) (size : ℕ) (t : Txn) (s : ℕ) → IsValid old size → seat old.seats s ≡ Some t → ((c : ℕ) → seat old.seats c ≡ Some t → c ≡ s) → Shrinks old mid → ((k : ℕ) → home_of mid.along k ≡ Some s → ⊥)
+    → ((k : ℕ) → (home_of old.along k ≡ Some s → ⊥) → get mid.permits k ≡ get old.permits k) → Shrinks mid new → IsSeated new → ((k : ℕ) → home_of new.ends k ≡ Some s → ⊥)
+    → ((k : ℕ) → (home_of mid.ends k ≡ Some s → ⊥) → get new.permits k ≡ get mid.permits k) → IsRid t.0 old.permits new.permits
+rid_of old mid new size t s valid sat alone first gone kept second seated gone_ends kept_ends = record {
+  still = λ k d there. first.permits k d (second.permits k d there);
+  giver = λ k d there.
+      let home = home_along new k d seated there in
+      let old_there = first.permits k d (second.permits k d there) in
+      ne_eqb d.giver t.0 (λ is.
+      let at = valid.given k home.0 d old_there (first.along k home.0 (second.along k home.0 home.1)) in
+      let here = alone home.0 (at ∙ (λ i. Some (record { 0 = is i }))) in
+      gone k (second.along k s (home.1 ∙ ap Some here)));
+  taker = λ k d there.
+      let end = home_at_end new k d seated there in
+      let old_there = first.permits k d (second.permits k d there) in
+      ne_eqb d.taker t.0 (λ is.
+      let at = valid.taken k end.0 d old_there (first.ends k end.0 (second.ends k end.0 end.1)) in
+      let here = alone end.0 (at ∙ (λ i. Some (record { 0 = is i }))) in
+      gone_ends k (end.1 ∙ ap Some here));
+  kept = λ k d there giver taker.
+      let mid_there : get mid.permits k ≡ Some d = kept k (λ home. eqb-false d.giver t.0 giver (named t d.giver (sym (valid.given k s d there home) ∙ sat))) ∙ there in
+      kept_ends k (λ end. eqb-false d.taker t.0 taker (named t d.taker (sym (valid.taken k s d there (first.ends k s end)) ∙ sat))) ∙ mid_there;
+} where
+  named : (t : Txn) (n : ℕ) → Some (record { 0 = n }) ≡ Some t → n ≡ t.0
+  named t n same = let is : record { 0 = n } ≡ t = cc same in ap (λ (u : Txn). u.0) is
+
+pub rid_of_nobody : (p : Parts) (size : ℕ) (t : Txn) → IsValid p size → ((c : ℕ) → seat p.seats c ≡ Some t → ⊥) → IsRid t.0 p.permits p.permits
+rid_of_nobody p size t valid absent = record {
+  still = λ k d there. there;
+  giver = λ k d there. ne_eqb d.giver t.0 (λ is. let ends = has_ends p size valid k d there in absent ends.from (ends.giver ∙ (λ i. Some (record { 0 = is i }))));
+  taker = λ k d there. ne_eqb d.taker t.0 (λ is. let ends = has_ends p size valid k d there in absent ends.to (ends.taker ∙ (λ i. Some (record { 0 = is i }))));
+  kept = λ k d there giver taker. there;
 }
-
--- ---- a name is dropped: who gives to it is among its givers
-filter_all : (t : ℕ) (descriptors : List Descriptor) → list_any (is_to t) descriptors ≡ false → without_taker t descriptors ≡ descriptors
-unfolding without_taker
-filter_all t [] none = refl
-filter_all t (d ∷ descriptors) none =
-    let parts = or_parts (is_to t d) _ none in
-    rw parts.0 (ap (λ ds. d ∷ ds) (filter_all t descriptors parts.1))
-
-dropped_at : (t u : ℕ) (old mid new : List Descriptor) (b known : Bool) → eqb t u ≡ b → mid ≡ cond b [] old → new ≡ cond known (without_taker t mid) mid → (list_any (is_to t) old ≡ true → known ≡ true)
-    → new ≡ cond b [] (without_taker t old)
-unfolding without_taker
-dropped_at t u old mid new true true same gone is noted = is ∙ ap (without_taker t) gone
-dropped_at t u old mid new true false same gone is noted = is ∙ gone
-dropped_at t u old mid new false true same gone is noted = is ∙ ap (without_taker t) gone
-dropped_at t u old mid new false false same gone is noted =
-    is ∙ gone ∙ sym (filter_all t old (false_from_ne_true (list_any (is_to t) old) (λ there. false≢true (noted there))))
-
--- what each name gives, once a name and its row are gone
-pub dropped_grants : (t : ℕ) (old mid new : List NamedPermitRow) (row : PermitRow) → AreNoted old → row_of old t ≡ Some row → ((u : ℕ) → grants_in mid u ≡ cond (eqb t u) [] (grants_in old u))
-    → ((u : ℕ) → grants_in new u ≡ cond (has_giver u row.givers.items) (without_taker t (grants_in mid u)) (grants_in mid u))
-    → (u : ℕ) → grants_in new u ≡ cond (eqb t u) [] (without_taker t (grants_in old u))
-unfolding AreNoted
-dropped_grants t old mid new row noted there gone is u =
-    dropped_at t u (grants_in old u) (grants_in mid u) (grants_in new u) (eqb t u) (has_giver u row.givers.items) refl (gone u) (is u)
-    (λ grants. ap (has_giver u) (sym (givers_there old t row there)) ∙ noted u t grants)
-
--- and where it had no row
-empty_at : (t u : ℕ) (old : List NamedPermitRow) (b : Bool) → eqb t u ≡ b → row_of old t ≡ None → grants_in old u ≡ cond b [] (grants_in old u)
-empty_at t u old true same none = grants_nowhere old u (subst (λ n. row_of old n ≡ None) (eqb-true t u same) none)
-empty_at t u old false other none = refl
-
-pub absent_grants : (t : ℕ) (old new : List NamedPermitRow) → AreNoted old → row_of old t ≡ None → new ≡ old → (u : ℕ) → grants_in new u ≡ cond (eqb t u) [] (without_taker t (grants_in old u))
-unfolding AreNoted has_giver
-absent_grants t old new noted none same u =
-    dropped_at t u (grants_in old u) (grants_in old u) (grants_in new u) (eqb t u) false refl (empty_at t u old (eqb t u) refl none) (ap (λ rows. grants_in rows u) same)
-    (λ there. sym (ap (has_giver u) (givers_nowhere old t none)) ∙ noted u t there)
-
--- what is left of its row
-gone_at : (t u : ℕ) (old mid : List NamedPermitRow) (b : Bool) → row_of mid u ≡ cond b None (row_of old u) → (grants_in mid u ≡ cond b [] (grants_in old u)) × (givers_in mid u ≡ cond b [] (givers_in old u))
-unfolding grants_in givers_in grants_or_none givers_or_none
-gone_at t u old mid true gone = (ap (grants_or_none u) gone, ap givers_or_none gone)
-gone_at t u old mid false gone = (ap (grants_or_none u) gone, ap givers_or_none gone)
-
-pub row_gone : (t : ℕ) (old mid : List NamedPermitRow) → ((y : ℕ) → row_of mid y ≡ cond (eqb t y) None (row_of old y)) → (u : ℕ) → (grants_in mid u ≡ cond (eqb t u) [] (grants_in old u)) × (givers_in mid u ≡ cond (eqb t u) [] (givers_in old u))
-row_gone t old mid gone u = gone_at t u old mid (eqb t u) (gone u)
-
--- ---- the permits that stand then
-any_dropped_at : (test : Descriptor → Bool) (t u v : ℕ) (old new : List Descriptor) (b : Bool) → eqb t u ≡ b → ((d : Descriptor) → test d ≡ true → d.taker ≡ v) → new ≡ cond b [] (without_taker t old)
-    → list_any test new ≡ (list_any test old && not (eqb u t) && not (eqb v t))
-unfolding without_taker is_to
-any_dropped_at test t u v old new true same to is = ap (list_any test) is ∙ sym (rw (eqb-flip u t, same) (and_false (list_any test old))) where
-  and_false : (p : Bool) → (p && false && not (eqb v t)) ≡ false
-  and_false true = refl
-  and_false false = refl
-any_dropped_at test t u v old new false other to is =
-    ap (list_any test) is
-    ∙ any-filter_same test (λ (d : Descriptor). not (eqb d.taker t)) (not (eqb v t)) (λ d passes. ap (λ n. not (eqb n t)) (to d passes)) old
-    ∙ shuffle (not (eqb v t)) (list_any test old)
-    ∙ sym (rw (eqb-flip u t, other) refl)
-  where
-    shuffle : (p q : Bool) → (p && q) ≡ (q && true && p)
-    shuffle true true = refl
-    shuffle true false = refl
-    shuffle false true = refl
-    shuffle false false = refl
-
-pub any_dropped : (test : Descriptor → Bool) (t u v : ℕ) (old new : List NamedPermitRow) → ((d : Descriptor) → test d ≡ true → d.giver ≡ u) → ((d : Descriptor) → test d ≡ true → d.taker ≡ v) → HaveNames old → HaveNames new
-    → ((y : ℕ) → grants_in new y ≡ cond (eqb t y) [] (without_taker t (grants_in old y)))
-    → list_any test (descriptors_of new) ≡ (list_any test (descriptors_of old) && not (eqb u t) && not (eqb v t))
-any_dropped test t u v old new owns to old_names new_names grants =
-    any_flat test u owns new new_names ∙ any_dropped_at test t u v (grants_in old u) (grants_in new u) (eqb t u) refl to (grants u)
-    ∙ ap (λ b. b && not (eqb u t) && not (eqb v t)) (sym (any_flat test u owns old old_names))
-
--- ---- the table is kept
-different_dropped : (t u : ℕ) (old new : List Descriptor) (b : Bool) → AreDifferent old → new ≡ cond b [] (without_taker t old) → AreDifferent new
-unfolding without_taker AreDifferent
-different_dropped t u old new true different is = subst AreDifferent (sym is) tt
-different_dropped t u old new false different is = subst AreDifferent (sym is) (different_filtered (λ (d : Descriptor). not (is_to t d)) old different)
-
--- who still gives to a name is another than the one that is gone, and so is the taker
-still_granted : (t u y : ℕ) (old new : List Descriptor) (b : Bool) → new ≡ cond b [] (without_taker t old) → list_any (is_to y) new ≡ true → (b ≡ false) × (eqb y t ≡ false) × (list_any (is_to y) old ≡ true)
-unfolding without_taker is_to
-still_granted t u y old new true is there = absurd (false≢true (ap (list_any (is_to y)) (sym is) ∙ there))
-still_granted t u y old new false is there =
-    let both : (not (eqb y t) && list_any (is_to y) old) ≡ true =
-    sym (any-filter_same (is_to y) (λ (d : Descriptor). not (eqb d.taker t)) (not (eqb y t)) (λ d passes. ap (λ n. not (eqb n t)) (eqb-true d.taker y passes)) old) ∙ ap (list_any (is_to y)) (sym is) ∙ there
-    in
-    let parts = and_parts (not (eqb y t)) (list_any (is_to y) old) both in
-    (refl, not_true (eqb y t) parts.0, parts.1)
-  where
-    not_true : (p : Bool) → not p ≡ true → p ≡ false
-    not_true true h = absurd (false≢true h)
-    not_true false h = refl
-
-without_other : (t u : ℕ) (names : List Txn) → eqb t u ≡ false → has_giver u (without_giver t names) ≡ has_giver u names
-unfolding has_giver without_giver
-without_other t u names other =
-    any-filter_same (λ (name : Txn). eqb name.0 u) (λ (name : Txn). not (eqb name.0 t)) true (λ name passes. ap not (ap (λ n. eqb n t) (eqb-true name.0 u passes) ∙ eqb-flip u t ∙ other)) names
-
-noted_at : (t u : ℕ) (old mid new : List Txn) (noted : Bool) → eqb t u ≡ false → mid ≡ old → new ≡ cond noted (without_giver t mid) mid → has_giver u old ≡ true → has_giver u new ≡ true
-noted_at t u old mid new true other same is there = ap (has_giver u) is ∙ without_other t u mid other ∙ ap (has_giver u) same ∙ there
-noted_at t u old mid new false other same is there = ap (has_giver u) (is ∙ same) ∙ there
-
-pub kept_dropped : (t : ℕ) (old mid new : List NamedPermitRow) (grants : List Grant) (size more : ℕ) → IsValid old size → HaveNames new → ((u : ℕ) → grants_in new u ≡ cond (eqb t u) [] (without_taker t (grants_in old u)))
-    → ((y : ℕ) → givers_in mid y ≡ cond (eqb t y) [] (givers_in old y)) → ((y : ℕ) → givers_in new y ≡ cond (has_taker y grants) (without_giver t (givers_in mid y)) (givers_in mid y))
-    → length new ≤ more → IsValid new more
-unfolding AreNoted
-kept_dropped t old mid new grants size more kept names gone between givers marked = record {
-  names = names;
-  different = λ u. different_dropped t u (grants_in old u) (grants_in new u) (eqb t u) (kept.different u) (gone u);
-  noted = λ u y there.
-      let still = still_granted t u y (grants_in old u) (grants_in new u) (eqb t u) (gone u) there in
-      let stays : givers_in mid y ≡ givers_in old y = between y ∙ rw (eqb-flip t y ∙ still.1) refl in
-      noted_at t u (givers_in old y) (givers_in mid y) (givers_in new y) (has_taker y grants) still.0 stays (givers y) (kept.noted u y still.2);
-  marked = marked;
-}
-
--- ---- an empty table
-empty_table : (size : ℕ) → IsValid [] size
-unfolding HaveNames AreNoted AreDifferent grants_in grants_or_none row_of IsDistinct
-empty_table size = record { names = tt; different = λ u. tt; noted = λ u t there. absurd (false≢true there); marked = omega arith }
-
-pub kept_none : (rows : List NamedPermitRow) (size : ℕ) → rows ≡ [] → IsValid rows size
-kept_none rows size none = subst (λ (r : List NamedPermitRow). IsValid r size) (sym none) (empty_table size)
-
--- ---- of whom and for whom a descriptor is that passes
-pub same_owned : (e d : Descriptor) → same_descriptor d e ≡ true → d.giver ≡ e.giver
-same_owned e d same = ap (λ (k : Descriptor). k.giver) (same_is d e same)
-
-pub same_to : (e d : Descriptor) → same_descriptor d e ≡ true → d.taker ≡ e.taker
-same_to e d same = ap (λ (k : Descriptor). k.taker) (same_is d e same)
-
-pub lets_to : (u t x : ℕ) (op : Op) (d : Descriptor) → lets u t x op d ≡ true → d.taker ≡ t
-unfolding lets
-lets_to u t x op d h = eqb-true d.taker t (and_parts (eqb d.giver u) _ (and_parts _ _ h).0).1
-
--- what a name gives stands, and the reverse
-pub stands_flat : (rows : List NamedPermitRow) (g : ℕ) (one : Grant) → HaveNames rows → stands (descriptors_of rows) (descriptor_by g one) ≡ stands (grants_in rows g) (descriptor_by g one)
-unfolding stands descriptor_by
-stands_flat rows g one names = any_flat (λ (d : Descriptor). same_descriptor d (descriptor_by g one)) g (same_owned (descriptor_by g one)) rows names

@@ -1,9 +1,8 @@
 -- A search along arrows: what has been met, and that it has met all that is reached.
-use Rattle.std.proofs.Common.{◌≡◌, ℕ, ◌+◌, ◌<◌, ◌≤◌, Bool, true, false, eqb, ◌||◌, List, [], ◌∷◌, ◌++◌, length, get_or, refl, sym, ap, subst, ◌∙◌, arith, suc, inl, inr}
-use Rattle.std.specs.List.{list_any}
-use Rattle.std.proofs.lemmas.Bool.{or_cases, or_left, or_right, eqb-true, eq-eqb, false≢true, true≢false, false_from_ne_true, cases_eq}
-use Rattle.std.proofs.lemmas.List.{length-append, get_or_append_left}
-use Rattle.std.proofs.lemmas.List.Folds.{list_any-append, list_any_at}
+use Rattle.std.proofs.Common.{◌≡◌, ℕ, ◌+◌, ◌<◌, ◌≤◌, Bool, true, false, cond, eqb, ◌||◌, List, [], ◌∷◌, ◌++◌, length, get_or, refl, sym, ap, subst, ◌∙◌, arith, inl, inr}
+use Rattle.std.proofs.lemmas.Bool.{or_cases, or_left, or_right, eqb-true, eq-eqb, true≢false, false_from_ne_true, cases_eq}
+use Rattle.std.proofs.lemmas.List.{length-append, get_or_append_left, append_assoc}
+use Rattle.std.proofs.lemmas.List.Folds.{list_any-append}
 use Rattle.asset_names.specs.Arrows.{Arrow, linked, lists, has_arrow}
 use Rattle.asset_names.proofs.Arrows.{linked_refl}
 use Rattle.asset_permits.specs.Searched.{Expands}
@@ -25,27 +24,21 @@ pub nothing_listed : (k : ℕ) → lists [] k ≡ false
 unfolding lists
 nothing_listed k = refl
 
--- the node to a name is met
-abbrev pub IsMet : (ℕ → ℕ) → List ℕ → ℕ → Type 0
-IsMet name_of nodes t = (k : ℕ) × (lists nodes k ≡ true) × (name_of k ≡ t)
-
--- what a search has met, once it has expanded the first name and the first few of the nodes, none of
--- which was that of the name that it looks for
-pub record Walked (arrows : List Arrow) (name_of : ℕ → ℕ) (size from to : ℕ) (nodes : List ℕ) (next : ℕ) : Type 0 where
-  pub within : (k : ℕ) → lists nodes k ≡ true → k < size
-  pub reached : (k : ℕ) → lists nodes k ≡ true → linked arrows from (name_of k) ≡ true
-  pub first : (t : ℕ) → has_arrow arrows from t ≡ true → IsMet name_of nodes t
+-- what a search has met, once it has expanded the first node and the first few of the nodes that it met, none of which
+-- was the one that it looks for
+pub record Walked (arrows : List Arrow) (from to : ℕ) (nodes : List ℕ) (next : ℕ) : Type 0 where
+  pub reached : (k : ℕ) → lists nodes k ≡ true → linked arrows from k ≡ true
+  pub first : (t : ℕ) → has_arrow arrows from t ≡ true → lists nodes t ≡ true
   pub so_far : next ≤ length nodes
-  pub later : (i : ℕ) → i < next → (t : ℕ) → has_arrow arrows (name_of (get_or nodes i 0)) t ≡ true → IsMet name_of nodes t
-  pub apart : (i : ℕ) → i < next → eqb (name_of (get_or nodes i 0)) to ≡ false
+  pub later : (i : ℕ) → i < next → (t : ℕ) → has_arrow arrows (get_or nodes i 0) t ≡ true → lists nodes t ≡ true
+  pub apart : (i : ℕ) → i < next → eqb (get_or nodes i 0) to ≡ false
 
--- ---- the first name is expanded
-pub walk_from : (arrows : List Arrow) (name_of : ℕ → ℕ) (size from to : ℕ) (before after : List ℕ) → before ≡ [] → Expands arrows name_of size from before after → Walked arrows name_of size from to after 0
-walk_from arrows name_of size from to before after none expands =
+-- ---- the first node is expanded
+pub walk_from : (arrows : List Arrow) (from to : ℕ) (before after : List ℕ) → before ≡ [] → Expands arrows from before after → Walked arrows from to after 0
+walk_from arrows from to before after none expands =
     let only : after ≡ expands.more = expands.kept ∙ ap (λ (l : List ℕ). l ++ expands.more) none in
     record {
-      within = λ k listed. expands.within k (ap (λ (l : List ℕ). lists l k) (sym only) ∙ listed);
-      reached = λ k listed. linked_step arrows from from (name_of k) (linked_refl arrows from) (expands.is_linked k (ap (λ (l : List ℕ). lists l k) (sym only) ∙ listed));
+      reached = λ k listed. linked_step arrows from from k (linked_refl arrows from) (expands.is_linked k (ap (λ (l : List ℕ). lists l k) (sym only) ∙ listed));
       first = expands.all;
       so_far = omega arith;
       later = λ i below. absurd (omega (arith, below));
@@ -53,71 +46,90 @@ walk_from arrows name_of size from to before after none expands =
     }
 
 -- ---- the next node is expanded
-pub walk_on : (arrows : List Arrow) (name_of : ℕ → ℕ) (size from to : ℕ) (nodes after : List ℕ) (next : ℕ) → Walked arrows name_of size from to nodes next → next < length nodes
-    → eqb (name_of (get_or nodes next 0)) to ≡ false → Expands arrows name_of size (name_of (get_or nodes next 0)) nodes after
-    → Walked arrows name_of size from to after (next + 1)
-walk_on arrows name_of size from to nodes after next walked below other expands =
+pub walk_on : (arrows : List Arrow) (from to : ℕ) (nodes after : List ℕ) (next : ℕ) → Walked arrows from to nodes next → next < length nodes → eqb (get_or nodes next 0) to ≡ false → Expands arrows (get_or nodes next 0) nodes after
+    → Walked arrows from to after (next + 1)
+walk_on arrows from to nodes after next walked below other expands =
     let kept = expands.kept in
-    let still : (t : ℕ) → IsMet name_of nodes t → IsMet name_of after t = λ t met. (met.0, ap (λ (l : List ℕ). lists l met.0) kept ∙ lists_left nodes expands.more met.0 met.1, met.2) in
+    let still : (t : ℕ) → lists nodes t ≡ true → lists after t ≡ true = λ t met. ap (λ (l : List ℕ). lists l t) kept ∙ lists_left nodes expands.more t met in
     let at = λ (i : ℕ) (before : i < length nodes). ap (λ (l : List ℕ). get_or l i 0) kept ∙ get_or_append_left nodes expands.more 0 i before in
-    let here : linked arrows from (name_of (get_or nodes next 0)) ≡ true = walked.reached (get_or nodes next 0) (lists_at nodes (get_or nodes next 0) next below refl) in
+    let here : linked arrows from (get_or nodes next 0) ≡ true = walked.reached (get_or nodes next 0) (lists_at nodes (get_or nodes next 0) next below refl) in
     let size_of = length-append nodes expands.more in
     let more_nodes : length after ≡ length (nodes ++ expands.more) = ap length kept in
     record {
-      within = λ k listed. elim (or_cases (lists nodes k) (lists expands.more k) (sym (lists-append nodes expands.more k) ∙ ap (λ (l : List ℕ). lists l k) (sym kept) ∙ listed)) [
-        | inl old ↦ walked.within k old
-        | inr new ↦ expands.within k new
-      ];
       reached = λ k listed. elim (or_cases (lists nodes k) (lists expands.more k) (sym (lists-append nodes expands.more k) ∙ ap (λ (l : List ℕ). lists l k) (sym kept) ∙ listed)) [
         | inl old ↦ walked.reached k old
-        | inr new ↦ linked_step arrows from (name_of (get_or nodes next 0)) (name_of k) here (expands.is_linked k new)
+        | inr new ↦ linked_step arrows from (get_or nodes next 0) k here (expands.is_linked k new)
       ];
       first = λ t arrow. still t (walked.first t arrow);
       so_far = omega (arith, size_of, more_nodes, below);
       later = λ i before t arrow. elim (cases_eq i next) [
-        | inl last ↦ expands.all t (subst (λ n. has_arrow arrows (name_of n) t ≡ true) (at i (omega (arith, before, below, walked.so_far)) ∙ ap (λ n. get_or nodes n 0) last) arrow)
-        | inr earlier ↦ still t (walked.later i (omega (arith, before)) t (subst (λ n. has_arrow arrows (name_of n) t ≡ true) (at i (omega (arith, before, below, walked.so_far))) arrow))
+        | inl last ↦ expands.all t (subst (λ n. has_arrow arrows n t ≡ true) (at i (omega (arith, before, below, walked.so_far)) ∙ ap (λ n. get_or nodes n 0) last) arrow)
+        | inr earlier ↦ still t (walked.later i (omega (arith, before)) t (subst (λ n. has_arrow arrows n t ≡ true) (at i (omega (arith, before, below, walked.so_far))) arrow))
       ];
       apart = λ i before. elim (cases_eq i next) [
-        | inl last ↦ subst (λ n. eqb (name_of n) to ≡ false) (sym (at i (omega (arith, before, below, walked.so_far)) ∙ ap (λ n. get_or nodes n 0) last)) other
-        | inr earlier ↦ subst (λ n. eqb (name_of n) to ≡ false) (sym (at i (omega (arith, before, below, walked.so_far)))) (walked.apart i (omega (arith, before)))
+        | inl last ↦ subst (λ n. eqb n to ≡ false) (sym (at i (omega (arith, before, below, walked.so_far)) ∙ ap (λ n. get_or nodes n 0) last)) other
+        | inr earlier ↦ subst (λ n. eqb n to ≡ false) (sym (at i (omega (arith, before, below, walked.so_far)))) (walked.apart i (omega (arith, before)))
       ];
     }
 
--- ---- all nodes are expanded, and the name is not among theirs
-unfoldable met_name : (ℕ → ℕ) → ℕ → List ℕ → ℕ → Bool
-met_name name_of from nodes t = eqb from t || list_any (λ k. eqb (name_of k) t) nodes
-
-named_at : (name_of : ℕ → ℕ) (nodes : List ℕ) (t : ℕ) → list_any (λ k. eqb (name_of k) t) nodes ≡ true → (i : ℕ) × (i < length nodes) × (name_of (get_or nodes i 0) ≡ t)
-named_at name_of [] t h = absurd (false≢true h)
-named_at name_of (k ∷ nodes) t h =
-    elim (or_cases (eqb (name_of k) t) _ h) [
-      | inl here ↦ (0, omega arith, eqb-true (name_of k) t here)
-      | inr later ↦
-          let found = named_at name_of nodes t later in
-          (suc found.0, omega (arith, found.1), found.2)
-    ]
-
-named_by : (name_of : ℕ → ℕ) (nodes : List ℕ) (t : ℕ) → IsMet name_of nodes t → list_any (λ k. eqb (name_of k) t) nodes ≡ true
-named_by name_of nodes t met =
-    let found = listed_at nodes met.0 met.1 in
-    list_any_at (λ k. eqb (name_of k) t) nodes found.0 0 found.1 (eq-eqb (name_of (get_or nodes found.0 0)) t (ap name_of found.2 ∙ met.2))
-
-pub walk_ends : (arrows : List Arrow) (name_of : ℕ → ℕ) (size from to : ℕ) (nodes : List ℕ) (next : ℕ) → Walked arrows name_of size from to nodes next → length nodes ≤ next → eqb from to ≡ false
-    → linked arrows from to ≡ false
-unfolding met_name
-walk_ends arrows name_of size from to nodes next walked all another =
-    false_from_ne_true (linked arrows from to) (λ way. elim (or_cases (eqb from to) _ (closed_linked (met_name name_of from nodes) arrows closed from to way (or_left (eqb from from) _ (eq-eqb from from refl)))) [
+-- ---- all nodes are expanded, and the one that is looked for is not among them
+pub walk_ends : (arrows : List Arrow) (from to : ℕ) (nodes : List ℕ) (next : ℕ) → Walked arrows from to nodes next → length nodes ≤ next → eqb from to ≡ false → linked arrows from to ≡ false
+walk_ends arrows from to nodes next walked all another =
+    false_from_ne_true (linked arrows from to) (λ way. elim (or_cases (eqb from to) _ (closed_linked (λ n. eqb from n || lists nodes n) arrows closed from to way (or_left (eqb from from) _ (eq-eqb from from refl)))) [
       | inl same ↦ true≢false (sym same ∙ another)
       | inr there ↦
-          let found = named_at name_of nodes to there in
-          true≢false (sym (eq-eqb (name_of (get_or nodes found.0 0)) to found.2) ∙ walked.apart found.0 (omega (arith, found.1, all)))
+          let found = listed_at nodes to there in
+          true≢false (sym (eq-eqb (get_or nodes found.0 0) to found.2) ∙ walked.apart found.0 (omega (arith, found.1, all)))
     ])
   where
-    closed : (u t : ℕ) → has_arrow arrows u t ≡ true → met_name name_of from nodes u ≡ true → met_name name_of from nodes t ≡ true
+    closed : (u t : ℕ) → has_arrow arrows u t ≡ true → (eqb from u || lists nodes u) ≡ true → (eqb from t || lists nodes t) ≡ true
     closed u t arrow met = elim (or_cases (eqb from u) _ met) [
-      | inl is ↦ or_right (eqb from t) _ (named_by name_of nodes t (walked.first t (subst (λ n. has_arrow arrows n t ≡ true) (sym (eqb-true from u is)) arrow)))
+      | inl is ↦ or_right (eqb from t) _ (walked.first t (subst (λ n. has_arrow arrows n t ≡ true) (sym (eqb-true from u is)) arrow))
       | inr there ↦
-          let found = named_at name_of nodes u there in
-          or_right (eqb from t) _ (named_by name_of nodes t (walked.later found.0 (omega (arith, found.1, all)) t (subst (λ n. has_arrow arrows n t ≡ true) (sym found.2) arrow)))
+          let found = listed_at nodes u there in
+          or_right (eqb from t) _ (walked.later found.0 (omega (arith, found.1, all)) t (subst (λ n. has_arrow arrows n t ≡ true) (sym found.2) arrow))
     ]
+
+-- ---- a node is met
+pub no_more : {p : Type 0} (t : ℕ) → lists [] t ≡ true → p
+no_more t there = absurd (true≢false (sym there ∙ nothing_listed t))
+
+one_listed : (n : ℕ) → lists (n ∷ []) n ≡ true
+unfolding lists
+one_listed n = or_left (eqb n n) false (eq-eqb n n refl)
+
+only_listed : (n t : ℕ) → lists (n ∷ []) t ≡ true → n ≡ t
+unfolding lists
+only_listed n t h = elim (or_cases (eqb n t) false h) [ inl same ↦ eqb-true n t same | inr wrong ↦ absurd (true≢false (sym wrong)) ]
+
+-- what a meeting of one node keeps and adds
+pub met_listed : (nodes after : List ℕ) (node t : ℕ) → after ≡ cond (lists nodes node) nodes (nodes ++ node ∷ []) → lists nodes t ≡ true → lists after t ≡ true
+met_listed nodes after node t is there = ap (λ (l : List ℕ). lists l t) is ∙ go (lists nodes node) where
+  go : (b : Bool) → lists (cond b nodes (nodes ++ node ∷ [])) t ≡ true
+  go true = there
+  go false = lists_left nodes (node ∷ []) t there
+
+pub met_here : (nodes after : List ℕ) (node : ℕ) → after ≡ cond (lists nodes node) nodes (nodes ++ node ∷ []) → lists after node ≡ true
+met_here nodes after node is = ap (λ (l : List ℕ). lists l node) is ∙ go (lists nodes node) refl where
+  go : (b : Bool) → lists nodes node ≡ b → lists (cond b nodes (nodes ++ node ∷ [])) node ≡ true
+  go true there = there
+  go false absent = lists_right nodes (node ∷ []) node (one_listed node)
+
+-- the nodes that are new, with one that an arrow leads to
+pub record IsMore (arrows : List Arrow) (seat : ℕ) (before after : List ℕ) : Type 0 where
+  pub more : List ℕ
+  pub kept : after ≡ before ++ more
+  pub is_linked : (t : ℕ) → lists more t ≡ true → has_arrow arrows seat t ≡ true
+
+pub met_more : (arrows : List Arrow) (seat : ℕ) (before nodes after : List ℕ) (node : ℕ) → IsMore arrows seat before nodes → has_arrow arrows seat node ≡ true → after ≡ cond (lists nodes node) nodes (nodes ++ node ∷ []) → IsMore arrows seat before after
+met_more arrows seat before nodes after node so_far arrow is = subst (IsMore arrows seat before) (sym is) (go (lists nodes node)) where
+  go : (b : Bool) → IsMore arrows seat before (cond b nodes (nodes ++ node ∷ []))
+  go true = so_far
+  go false = record {
+    more = so_far.more ++ node ∷ [];
+    kept = ap (λ (l : List ℕ). l ++ node ∷ []) so_far.kept ∙ append_assoc before so_far.more (node ∷ []);
+    is_linked = λ t there. elim (or_cases (lists so_far.more t) (lists (node ∷ []) t) (sym (lists-append so_far.more (node ∷ []) t) ∙ there)) [
+      | inl old ↦ so_far.is_linked t old
+      | inr new ↦ ap (λ n. has_arrow arrows seat n) (sym (only_listed node t new)) ∙ arrow
+    ];
+  }

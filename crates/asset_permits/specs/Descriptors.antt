@@ -18,16 +18,6 @@ pub record Descriptor : Type 0 where
   pub objects : ObSet
   pub ops : OpSet
 
--- a permit without its giver
-pub record Grant : Type 0 where
-  pub taker : ℕ
-  pub objects : ObSet
-  pub ops : OpSet
-
--- the permit of this giver
-unfoldable pub descriptor_by : ℕ → Grant → Descriptor
-descriptor_by giver grant = record { giver = giver; taker = grant.taker; objects = grant.objects; ops = grant.ops }
-
 -- whether the two are the same set, said by the same list
 unfoldable pub same_objects : ObSet → ObSet → Bool
 same_objects All All = true
@@ -38,10 +28,6 @@ same_objects (Listed objects) (Listed others) = pointwise (λ (x y : Ob). x.0 ==
 -- whether the two are the same operations
 unfoldable pub same_ops : OpSet → OpSet → Bool
 same_ops ops others = beq ops.read others.read && beq ops.write others.write
-
--- whether two grants are the same
-unfoldable pub same_grant : Grant → Grant → Bool
-same_grant g h = g.taker == h.taker && same_objects g.objects h.objects && same_ops g.ops h.ops
 
 -- whether the two say the same
 unfoldable pub same_descriptor : Descriptor → Descriptor → Bool
@@ -59,10 +45,6 @@ AreDifferent (d ∷ descriptors) = (stands descriptors d ≡ false) × AreDiffer
 -- whether the descriptor covers op on x: it has the object and the operation
 unfoldable pub covers : ℕ → Op → Descriptor → Bool
 covers x op d = in_set d.objects x && has_op d.ops op
-
--- the same of a grant
-unfoldable pub grant_covers : ℕ → Op → Grant → Bool
-grant_covers x op grant = in_set grant.objects x && has_op grant.ops op
 
 -- whether the descriptor is of this giver for this taker, and covers op on x
 unfoldable pub lets : ℕ → ℕ → ℕ → Op → Descriptor → Bool

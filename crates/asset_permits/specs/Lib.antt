@@ -1,5 +1,6 @@
+pub mod Changes
 pub mod Descriptors
 pub mod Marked
-pub mod Valid
 pub mod Searched
-pub mod PermitRow
+pub mod Stored
+pub mod Valid

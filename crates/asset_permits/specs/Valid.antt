@@ -1,65 +1,49 @@
--- A valid table of permits has a row for each transaction that gives a permit or was given one.
-use Rattle.std.specs.Prelude.{◌≡◌, ℕ, ◌≤◌, Bool, true, ◌==◌, List, [], length, not, map, filter, flat_map, Option, Some, None}
-use Rattle.std.specs.List.{list_any, IsDistinct}
-use Rattle.std.specs.Map.{lookup, keys_of}
-use Rattle.asset_names.specs.declared.names.Txn.{Txn}
-use Rattle.asset_permits.specs.Descriptors.{Descriptor, descriptor_by, AreDifferent}
-use Rattle.asset_permits.specs.PermitRow.{has_giver}
-use Rattle.asset_permits.specs.declared.row.PermitRow.{PermitRow}
+-- Permits in a slab, beside two partitions of its keys into chains: by giver, and by taker. A chain's number is the seat
+-- of the transaction.
+use Rattle.std.specs.Prelude.{◌≡◌, ℕ, ◌<◌, Bool, true, ◌||◌, List, length, Option, Some, is_some, filter_map}
+use Rattle.slab.specs.Slab.{Slab, get}
+use Rattle.asset_chains.specs.Chained.{Chained, chain_of, home_of, first_of}
+use Rattle.asset_seats.specs.Seated.{Seated, seat}
+use Rattle.asset_permits.specs.Descriptors.{Descriptor}
 
--- a name with its row
-abbrev pub NamedPermitRow : Type 0
-NamedPermitRow = Txn × PermitRow
+-- the permits, by rising key
+unfoldable pub descriptors_of : Slab Descriptor → List Descriptor
+descriptors_of permits = filter_map (λ (slot : Option Descriptor). slot) permits.slots
 
--- the row of a name, if it has one
-unfoldable pub row_of : List NamedPermitRow → ℕ → Option PermitRow
-row_of rows u = lookup (λ (name : Txn). u == name.0) rows
+-- the permits with the chains along which a search or an end goes, those of the other end, and the seats
+pub record Parts : Type 0 where
+  pub permits : Slab Descriptor
+  pub along : Chained
+  pub ends : Chained
+  pub seats : Seated
 
--- the permits of a transaction by its row, if it has one
-unfoldable pub grants_or_none : ℕ → Option PermitRow → List Descriptor
-grants_or_none u None = []
-grants_or_none u (Some row) = map (descriptor_by u) row.grants.items
+abbrev pub parts : Slab Descriptor → Chained → Chained → Seated → Parts
+parts permits along ends seats = record { permits = permits; along = along; ends = ends; seats = seats }
 
--- the permits that a transaction gives
-unfoldable pub grants_in : List NamedPermitRow → ℕ → List Descriptor
-grants_in rows u = grants_or_none u (row_of rows u)
+-- whether a permit is in the chain of a seat, in either partition
+unfoldable pub is_used : Chained → Chained → ℕ → Bool
+is_used along ends c = is_some (first_of (chain_of along c)) || is_some (first_of (chain_of ends c))
 
--- who is noted in a row, if there is one
-unfoldable pub givers_or_none : Option PermitRow → List Txn
-givers_or_none None = []
-givers_or_none (Some row) = row.givers.items
+-- exactly the permits have homes, and exactly the seats that are taken have permits in their chains
+pub record IsSeated (p : Parts) : Type 0 where
+  pub along : (k : ℕ) → is_some (get p.permits k) ≡ is_some (home_of p.along k)
+  pub ends : (k : ℕ) → is_some (get p.permits k) ≡ is_some (home_of p.ends k)
+  pub used : (c : ℕ) → is_some (seat p.seats c) ≡ is_used p.along p.ends c
 
--- who is noted to have given something to a name
-unfoldable pub givers_in : List NamedPermitRow → ℕ → List Txn
-givers_in rows t = givers_or_none (row_of rows t)
+-- a permit's home is the seat of its giver, or of its taker
+abbrev pub IsNamed : (Descriptor → ℕ) → Slab Descriptor → Chained → Seated → Type 0
+IsNamed name_of permits table seats =
+    (k c : ℕ) (d : Descriptor) → get permits k ≡ Some d → home_of table k ≡ Some c → seat seats c ≡ Some (record { 0 = name_of d })
 
--- the permits of a name with its row
-unfoldable pub grants_of : NamedPermitRow → List Descriptor
-grants_of entry = map (descriptor_by entry.0.0) entry.1.grants.items
+-- each seat that is taken has its chains and its mark
+abbrev pub IsWithin : Chained → Chained → Seated → ℕ → Type 0
+IsWithin along ends seats size = (c : ℕ) → is_some (seat seats c) ≡ true → (c < length along.chains) × (c < length ends.chains) × (c < size)
 
--- the permits of all rows
-unfoldable pub descriptors_of : List NamedPermitRow → List Descriptor
-descriptors_of rows = flat_map grants_of rows
-
--- whether the descriptor is for this taker
-unfoldable pub is_to : ℕ → Descriptor → Bool
-is_to t d = d.taker == t
-
--- the descriptors but those for this taker
-unfoldable pub without_taker : ℕ → List Descriptor → List Descriptor
-without_taker t descriptors = filter (λ (d : Descriptor). not (is_to t d)) descriptors
-
--- no name has two rows
-unfoldable pub HaveNames : List NamedPermitRow → Type 0
-HaveNames rows = IsDistinct (λ (a b : Txn). a.0 == b.0) (keys_of rows)
-
--- each taker has noted who gives to it
-unfoldable pub AreNoted : List NamedPermitRow → Type 0
-AreNoted rows = (u t : ℕ) → list_any (is_to t) (grants_in rows u) ≡ true → has_giver u (givers_in rows t) ≡ true
-
--- no transaction has two rows or gives the same twice, takers have noted their givers, and each row has a mark
-pub record IsValid (rows : List NamedPermitRow) (size : ℕ) : Type 0 where
-  pub names : HaveNames rows
-  pub different : (u : ℕ) → AreDifferent (grants_in rows u)
-  pub noted : AreNoted rows
-  pub marked : length rows ≤ size
+-- a permit's homes are the seats of its giver and its taker, exactly those who give or take have a seat, and no permit
+-- stands twice
+pub record IsValid (p : Parts) (size : ℕ) : Type 0 where
+  pub seated : IsSeated p
+  pub given : IsNamed (λ (d : Descriptor). d.giver) p.permits p.along p.seats
+  pub taken : IsNamed (λ (d : Descriptor). d.taker) p.permits p.ends p.seats
+  pub single : (j k : ℕ) (d : Descriptor) → get p.permits j ≡ Some d → get p.permits k ≡ Some d → j ≡ k
+  pub within : IsWithin p.along p.ends p.seats size

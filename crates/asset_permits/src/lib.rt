@@ -1,13 +1,17 @@
-//! The table of permits: who lets whom do what on which objects, and who allows whom by them. Only `add` can
-//! run out of memory.
+//! The table of permits: who lets whom do what on which objects, and who allows whom by them. Each permit is in the
+//! chain of its giver and in that of its taker, so that an end costs its own permits alone. Only `add` can run out of
+//! memory.
 #![tactic(auto)]
 
-mod grant;
+mod adding;
+mod dropping;
+mod finding;
 mod laws;
 mod marks;
-mod row;
-mod rows;
+mod permit;
+mod permit_objects;
 mod search;
+mod seating;
 mod table;
 
 pub use laws::allowed_is_chain;

@@ -43,7 +43,7 @@ impl Marks {
     }
 
     /// Adds a node, which is not met. If memory runs out, nothing changes.
-    pub(crate) fn grow(&mut self) -> Result<(), NoMemory>
+    fn grow(&mut self) -> Result<(), NoMemory>
         ensures size { OnOk result (self.new.size ≡ self.old.size + 1) }
         ensures nodes { self.new.nodes ≡ self.old.nodes }
         ensures unchanged { OnErr result (self.new ≡ self.old) }
@@ -57,8 +57,19 @@ impl Marks {
         Ok(())
     }
 
+    /// Adds nodes, which are not met, until the node is there. If memory runs out, some may have been added.
+    pub(crate) fn add(&mut self, node: usize) -> Result<(), NoMemory>
+        ensures there { OnOk result (node < self.new.size) }
+        ensures more { self.old.size ≤ self.new.size }
+    {
+        'nodes: while self.size() <= node {
+            self.grow()?;
+        }
+        Ok(())
+    }
+
     /// Returns how many nodes there are.
-    pub(crate) fn size(&self) -> usize
+    fn size(&self) -> usize
         ensures { result ≡ self.now.size }
     {
         self.order.len()

@@ -1,96 +1,77 @@
-//! The search along permits.
+//! The search along permits, from givers to takers or the other way.
 
-ghost use Rattle.std.specs.Prelude.{◌≡◌, ℕ, ◌<◌, ◌≤◌, ◌==◌, false, true, length, is_some};
-ghost use Rattle.asset_permits.specs.Descriptors.{arrows_for, allows_by};
-ghost use Rattle.asset_permits.specs.PermitRow.{has_taker};
-ghost use Rattle.asset_permits.specs.Valid.{HaveNames, AreNoted, row_of, descriptors_of};
-ghost use Rattle.asset_permits.specs.Searched.{name_at, Meets, Expands};
+ghost use Rattle.std.specs.Prelude.{◌≡◌, ℕ, ◌<◌, ◌==◌, false, Some};
+ghost use Rattle.slab.specs.Slab.{get};
+ghost use Rattle.asset_names.specs.Arrows.{linked};
+ghost use Rattle.asset_chains.specs.Chained.{home_of};
+ghost use Rattle.asset_permits.specs.Searched.{seat_arrows, leads_to, Expands};
 
-use crate::grant::Grant;
 use crate::marks::Marks;
-use crate::rows::PermitRows;
-use asset_names::{Ob, Op, Txn};
+use crate::permit::Permit;
+use asset_chains::Chains;
+use asset_names::{Ob, Op};
+use slab::Slab;
 
-/// Meets the row of each taker of a grant that covers `op` on `x`.
-fn meet_takers(rows: &PermitRows, grants: &[Grant], marks: &mut Marks, x: Ob, op: Op)
-    requires there { (t : ℕ) → has_taker t grants.now ≡ true → is_some (row_of rows.now.entries t) ≡ true }
-    requires marked { length rows.now.entries ≤ marks.old.size }
-    ensures size { marks.new.size ≡ marks.old.size }
-    ensures met { Meets rows.now.entries grants.now x.0 op marks.old.nodes marks.new.nodes (length grants.now) }
+/// The permits, the chains along which a search goes, and those of their other ends. The nodes of the search are the
+/// seats.
+#[derive(Clone, Copy)]
+pub(crate) struct Way<'a> {
+    pub permits: &'a Slab<Permit>,
+    pub along: &'a Chains,
+    pub ends: &'a Chains,
+}
+
+/// Returns the seat to which the permit at the key leads, if it is there and covers `op` on `x`.
+fn end_of(way: &Way, key: usize, x: Ob, op: Op) -> Option<usize>
+    ensures { result ≡ leads_to (get way.now.permits.now key) (home_of way.now.ends.now key) x.0 op }
 {
-    'grants: for one in grants {
-        if one.covers(x, op) {
-            if let Some(index) = rows.get_index_of(&one.taker()) {
-                marks.meet(index);
+    match way.permits.get(key) {
+        Some(permit) => {
+            if permit.covers(x, op) {
+                way.ends.home(key)
+            } else {
+                None
             }
         }
+        None => None,
     }
 }
 
-/// Meets the rows of all to whom the transaction at the index permits `op` on `x`.
-fn expand(rows: &PermitRows, index: usize, marks: &mut Marks, x: Ob, op: Op)
-    requires there { index < length rows.now.entries }
-    requires names { HaveNames rows.now.entries }
-    requires noted { AreNoted rows.now.entries }
-    requires marked { length rows.now.entries ≤ marks.old.size }
+/// Meets the seats to which the permits in the chain of the seat lead that cover `op` on `x`.
+fn expand(way: &Way, seat: usize, marks: &mut Marks, x: Ob, op: Op)
+    requires { (k c : ℕ) → home_of way.now.ends.now k ≡ Some c → c < marks.old.size }
     ensures size { marks.new.size ≡ marks.old.size }
-    ensures expanded { Expands (arrows_for (descriptors_of rows.now.entries) x.0 op) (name_at rows.now.entries) (length rows.now.entries) (name_at rows.now.entries index) marks.old.nodes marks.new.nodes }
+    ensures expanded { Expands (seat_arrows way.now.permits.now way.now.along.now way.now.ends.now x.0 op) seat marks.old.nodes marks.new.nodes }
 {
-    match rows.get_index(index) {
-        Some((_, row)) => meet_takers(rows, &row.grants, marks, x, op),
-        None => unreachable!(),
+    way.along.laws();
+    let mut next = way.along.first(seat);
+    'keys: while let Some(key) = next {
+        if let Some(end) = end_of(way, key, x, op) {
+            marks.meet(end);
+        }
+        next = way.along.next(key);
     }
 }
 
-/// Returns whether a chain of permits that cover `op` on `x` leads from the transaction of the first row to
-/// that of the second, which is another. It looks only at the permits of transactions that it meets, and stops
-/// once it has met the second.
-fn is_linked_on(rows: &PermitRows, from: usize, to: usize, marks: &mut Marks, x: Ob, op: Op) -> bool
-    requires from_there { from < length rows.now.entries }
-    requires to_there { to < length rows.now.entries }
-    requires names { HaveNames rows.now.entries }
-    requires noted { AreNoted rows.now.entries }
-    requires marked { length rows.now.entries ≤ marks.old.size }
-    requires another { (name_at rows.now.entries from == name_at rows.now.entries to) ≡ false }
+/// Returns whether permits that cover `op` on `x` lead from a seat to another. It looks only at the permits of seats
+/// that it meets, and stops once it has met the second seat.
+pub(crate) fn is_linked(way: &Way, from: usize, to: usize, marks: &mut Marks, x: Ob, op: Op) -> bool
+    requires marked { (k c : ℕ) → home_of way.now.ends.now k ≡ Some c → c < marks.old.size }
+    requires to { to < marks.old.size }
+    requires another { (from == to) ≡ false }
     ensures size { marks.new.size ≡ marks.old.size }
-    ensures is_linked { result ≡ allows_by (descriptors_of rows.now.entries) (name_at rows.now.entries from) (name_at rows.now.entries to) x.0 op }
+    ensures is_linked { result ≡ linked (seat_arrows way.now.permits.now way.now.along.now way.now.ends.now x.0 op) from to }
 {
     marks.clear();
-    expand(rows, from, marks, x, op);
+    expand(way, from, marks, x, op);
     let mut next = 0;
     'met: while next < marks.len() {
         if marks.has(to) {
             return true;
         }
         let node = marks.node(next);
-        expand(rows, node, marks, x, op);
+        expand(way, node, marks, x, op);
         next += 1;
     }
     false
-}
-
-/// Returns whether a chain of permits that cover `op` on `x` leads from the giver to the taker, which is
-/// another.
-pub(crate) fn is_linked(
-    rows: &PermitRows,
-    marks: &mut Marks,
-    giver: Txn,
-    taker: Txn,
-    x: Ob,
-    op: Op,
-) -> bool
-    requires names { HaveNames rows.now.entries }
-    requires noted { AreNoted rows.now.entries }
-    requires marked { length rows.now.entries ≤ marks.old.size }
-    requires another { (giver.0 == taker.0) ≡ false }
-    ensures size { marks.new.size ≡ marks.old.size }
-    ensures is_linked { result ≡ allows_by (descriptors_of rows.now.entries) giver.0 taker.0 x.0 op }
-{
-    let Some(from) = rows.get_index_of(&giver) else {
-        return false;
-    };
-    let Some(to) = rows.get_index_of(&taker) else {
-        return false;
-    };
-    is_linked_on(rows, from, to, marks, x, op)
 }

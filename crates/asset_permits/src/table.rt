@@ -1,22 +1,28 @@
 //! The table of permits and its calls.
 
-ghost use Rattle.std.specs.Prelude.{◌≡◌, ℕ, ◌+◌, ◌≤◌, length, OnOk};
-
-use crate::grant::Grant;
+use crate::adding::{insert, reserve};
+use crate::dropping::drop_along;
+use crate::finding::find;
 use crate::marks::Marks;
-use crate::rows::{PermitRows, drop_givers, drop_takers, give, gives, note};
-use crate::search::is_linked;
+use crate::permit::{Permit, Sought};
+use crate::search::{Way, is_linked};
+use crate::seating::seat_both;
+use asset_chains::Chains;
 use asset_names::{NoMemory, Ob, ObSet, Op, Ops, Txn};
-use indexmap::IndexMap;
+use asset_seats::Seats;
+use slab::Slab;
 use std::alloc::Global;
 use std::marker::Model;
 
 /// The permits that stand. Contracts see them as descriptors, none of which stands twice; their order means
-/// nothing. Each transaction has what it gives in a row of its own, which stays until the transaction is
-/// dropped.
+/// nothing. Each permit is in the chain of its giver and in that of its taker, and exactly those who give or take
+/// something have a seat.
 #[derive(Drop)]
 pub struct Permits {
-    rows: PermitRows,
+    permits: Slab<Permit>,
+    by_giver: Chains,
+    by_taker: Chains,
+    seats: Seats,
     marks: Marks,
     alloc: Global,
 }
@@ -24,32 +30,21 @@ pub struct Permits {
 impl Model for Permits {
     ghost use Rattle.std.specs.Prelude.{List};
     ghost use Rattle.asset_permits.specs.Descriptors.{Descriptor};
-    ghost use Rattle.asset_permits.specs.Valid.{IsValid, descriptors_of};
+    ghost use Rattle.asset_permits.specs.Valid.{parts, IsValid, descriptors_of};
 
     ghost Value = { List Descriptor };
 
-    ghost view = { λ p. descriptors_of p.rows.entries };
+    ghost view = { λ p. descriptors_of p.permits };
 
-    ghost invariant = { λ p. IsValid p.rows.entries p.marks.size };
-}
-
-/// Makes room for the mark of one more row. If memory runs out, nothing changes.
-fn make_mark(rows: &PermitRows, marks: &mut Marks) -> Result<(), NoMemory>
-    requires { length rows.now.entries ≤ marks.old.size }
-    ensures size { marks.old.size ≤ marks.new.size }
-    ensures made { OnOk result (length rows.now.entries + 1 ≤ marks.new.size) }
-{
-    if marks.size() <= rows.len() {
-        marks.grow()?;
-    }
-    Ok(())
+    ghost invariant = { λ p. IsValid (parts p.permits p.by_giver p.by_taker p.seats) p.marks.size };
 }
 
 impl Permits {
-    ghost use Rattle.std.specs.Prelude.{◌≡◌, ℕ, ◌==◌, ◌&&◌, ◌||◌, not, [], OnOk, OnErr, IsOk, true};
+    ghost use Rattle.std.specs.Prelude.{◌≡◌, ℕ, ◌==◌, ◌&&◌, ◌||◌, not, [], OnOk, OnErr, IsOk, true, false};
     ghost use Rattle.asset_names.specs.declared.operations.Op.{Op};
     ghost use Rattle.asset_names.specs.InSet.{in_set};
     ghost use Rattle.asset_names.specs.OpSets.{has_op};
+    ghost use Rattle.asset_permits.specs.Stored.{asked};
     ghost use Rattle.asset_permits.specs.Descriptors.{Descriptor, same_descriptor, stands, one_covers, allows_by, AreDifferent};
 
     /// Returns a table without permits. It does not allocate.
@@ -57,14 +52,18 @@ impl Permits {
         ensures { result ≡ [] }
     {
         Permits {
-            rows: IndexMap::new(alloc),
+            permits: Slab::new(alloc),
+            by_giver: Chains::new(alloc),
+            by_taker: Chains::new(alloc),
+            seats: Seats::new(alloc),
             marks: Marks::new(alloc),
             alloc,
         }
     }
 
     /// Lets the taker do the operations on the objects, until one of the two is dropped by `drop_all`. A permit
-    /// that stands already is not added again.
+    /// that stands already is not added again. It is looked for among the permits of the giver, or among those for
+    /// the taker if there are fewer.
     ///
     /// If memory runs out, nothing changes.
     pub fn add(&mut self, giver: Txn, taker: Txn, objects: ObSet, ops: Ops) -> Result<(), NoMemory>
@@ -73,37 +72,125 @@ impl Permits {
         ensures unchanged { OnErr result (self.new ≡ self.old) }
         ensures again { stands self.old (record { giver = giver.0; taker = taker.0; objects = objects; ops = ops }) ≡ true → IsOk result × (self.new ≡ self.old) }
     {
-        let grant = Grant::of(taker, objects, ops);
-        if gives(&self.rows, giver, &grant) {
+        let sought = Sought {
+            giver,
+            taker,
+            objects,
+            ops,
+        };
+        if self.has(&sought) {
             return Ok(());
         }
-        make_mark(&self.rows, &mut self.marks)?;
-        note(&mut self.rows, taker, giver, self.alloc)?;
-        make_mark(&self.rows, &mut self.marks)?;
-        give(&mut self.rows, giver, grant, self.alloc)
+        reserve(&mut self.permits, &mut self.by_giver, &mut self.by_taker)?;
+        let permit = Permit::of(&sought, self.alloc)?;
+        let (from, to) = seat_both(
+            &mut self.seats,
+            &mut self.by_giver,
+            &mut self.by_taker,
+            &mut self.marks,
+            giver,
+            taker,
+        )?;
+        insert(
+            &mut self.permits,
+            &mut self.by_giver,
+            &mut self.by_taker,
+            from,
+            to,
+            permit,
+        );
+        Ok(())
     }
 
     /// Returns whether the giver allows the taker to do `op` on `x`: they are one transaction, or a chain of
     /// permits leads from the one to the other, each of which covers the operation on the object. No permit
     /// changes.
+    ///
+    /// It searches from the giver, or from the taker if fewer permits are for the taker than the giver gives, and
+    /// looks only at the permits of the transactions that it meets. It takes no memory.
     pub fn allows(&mut self, giver: Txn, taker: Txn, x: Ob, op: Op) -> bool
         ensures allowed { result ≡ allows_by self.old giver.0 taker.0 x.0 op }
         ensures different { AreDifferent self.old }
         ensures same { self.new ≡ self.old }
     {
-        giver == taker || is_linked(&self.rows, &mut self.marks, giver, taker, x, op)
+        let _ = &self.permits;
+        giver == taker || self.leads(giver, taker, x, op)
     }
 
-    /// Drops the permits that `t` has given, and those that were given to it. It looks at the row of `t`, and
-    /// at those of the transactions that share a permit with it.
+    /// Returns whether the permit stands.
+    fn has(&self, sought: &Sought) -> bool
+        ensures { result ≡ stands self.now (asked sought.now) }
+    {
+        let Some(from) = self.seats.seat_of(sought.giver) else {
+            return false;
+        };
+        let Some(to) = self.seats.seat_of(sought.taker) else {
+            return false;
+        };
+        if self.by_giver.len(from) <= self.by_taker.len(to) {
+            find(&self.permits, &self.by_giver, from, sought).is_some()
+        } else {
+            find(&self.permits, &self.by_taker, to, sought).is_some()
+        }
+    }
+
+    /// Returns whether a chain of permits that cover `op` on `x` leads from the giver to the taker, which is another. No
+    /// permit changes.
+    fn leads(&mut self, giver: Txn, taker: Txn, x: Ob, op: Op) -> bool
+        requires { (giver.0 == taker.0) ≡ false }
+        ensures leads { result ≡ allows_by self.old giver.0 taker.0 x.0 op }
+        ensures different { AreDifferent self.old }
+        ensures same { self.new ≡ self.old }
+    {
+        let Some(from) = self.seats.seat_of(giver) else {
+            return false;
+        };
+        let Some(to) = self.seats.seat_of(taker) else {
+            return false;
+        };
+        self.seats.laws();
+        self.by_giver.laws();
+        self.by_taker.laws();
+        if self.by_giver.len(from) <= self.by_taker.len(to) {
+            let way = Way {
+                permits: &self.permits,
+                along: &self.by_giver,
+                ends: &self.by_taker,
+            };
+            is_linked(&way, from, to, &mut self.marks, x, op)
+        } else {
+            let way = Way {
+                permits: &self.permits,
+                along: &self.by_taker,
+                ends: &self.by_giver,
+            };
+            is_linked(&way, to, from, &mut self.marks, x, op)
+        }
+    }
+
+    /// Drops the permits that `t` has given, and those that were given to it. It looks at no others.
     pub fn drop_all(&mut self, t: Txn)
         ensures stands { (e : Descriptor) → stands self.new e ≡ (stands self.old e && not (e.giver == t.0) && not (e.taker == t.0)) }
         ensures covers { (u v x : ℕ) (op : Op) → one_covers self.new u v x op ≡ (one_covers self.old u v x op && not (u == t.0) && not (v == t.0)) }
     {
-        let Some(row) = self.rows.swap_remove(&t) else {
+        let Some(seat) = self.seats.seat_of(t) else {
             return;
         };
-        drop_takers(&mut self.rows, &row.givers, t);
-        drop_givers(&mut self.rows, &row.grants, t);
+        drop_along(
+            &mut self.permits,
+            &mut self.by_giver,
+            &mut self.by_taker,
+            &mut self.seats,
+            seat,
+        );
+        drop_along(
+            &mut self.permits,
+            &mut self.by_taker,
+            &mut self.by_giver,
+            &mut self.seats,
+            seat,
+        );
+        self.by_giver.laws();
+        self.by_taker.laws();
     }
 }

@@ -1,30 +1,75 @@
-use Rattle.std.proofs.Common.{◌≡◌, ◌∙◌, List, Some, length, sym, ap, subst}
-use Rattle.std.specs.Prelude.{slice_get}
-use Rattle.asset_permits.specs.Descriptors.{Grant, arrows_for}
-use Rattle.asset_permits.specs.PermitRow.{has_taker}
-use Rattle.asset_permits.specs.Valid.{descriptors_of}
-use Rattle.asset_permits.specs.Searched.{name_at, Meets, Expands}
-use Rattle.asset_permits.proofs.SearchLemmas.{named, row_at, takers_have_rows, meets_all}
+use Rattle.std.proofs.Common.{◌≡◌, ℕ, ◌<◌, true, [], Option, Some, None, refl, sym, ap, subst, ◌∙◌, inl, inr}
+use Rattle.std.proofs.lemmas.List.{append-nil}
+use Rattle.slab.specs.Slab.{get}
+use Rattle.asset_names.specs.Arrows.{lists as lists_node}
+use Rattle.asset_chains.specs.Chained.{chain_of, home_of, ahead, lists}
+use Rattle.asset_permits.specs.Searched.{seat_arrows, leads_to}
+use Rattle.asset_permits.proofs.KeyWalkLemmas.{walk_starts, walk_steps, passed, left}
+use Rattle.asset_permits.proofs.SearchLemmas.{permit_leads, permit_of_arrow}
+use Rattle.asset_permits.proofs.WalkLemmas.{no_more, met_more, met_here, met_listed}
 use Rattle.asset_permits.proofs.search.expand.Goals as goal
+use Rattle.asset_permits.proofs.search.expand.Goals.{in-Some-end_of, in_default-end_of}
 
-pub meet_takers-requires-clause-there : goal.meet_takers-requires-clause-there
-meet_takers-requires-clause-there c = λ t grants.
-    let rows = c.args.rows.now.entries in
-    let key = c.in-Some.field-0-0.now in
-    let row = c.in-Some.row.now in
-    let at : slice_get rows c.args.index ≡ Some (key, row) = sym c.in-Some.ensures.entry in
-    takers_have_rows rows key.0 row c.requires.noted (row_at rows c.args.index (key, row) c.requires.names at) t (ap (has_taker t) (sym c.deref.ensures.value) ∙ grants)
+pub keys-init : goal.keys-init
+keys-init c =
+    let start = walk_starts c.args.way.now.along.now c.args.seat c.laws.ensures.sound c.first-next.result c.first-next.ensures in
+    record { size = refl; on = start.0; more = record { more = []; kept = sym (append-nil c.args.marks.now.nodes); is_linked = λ t there. no_more t there }; passed = λ k t there leads. absurd (start.1 k there) }
+
+pub keys-smaller : goal.keys-smaller
+keys-smaller c =
+    let along = c.args.way.now.along.now in
+    let home = c.keys.invariant.on c.in-Some.key c.in-Some.is in
+    let stepped = walk_steps along c.args.seat c.in-Some.key c.laws.ensures.sound home c.next-next.result (c.next-next.ensures.next c.args.seat home) in
+    subst (λ (o : Option ℕ). left c.next-next.result (chain_of along c.args.seat) < left o (chain_of along c.args.seat)) (sym c.in-Some.is) stepped.2
+
+pub keys-preserved : goal.keys-preserved
+keys-preserved c =
+    let way = c.args.way.now in
+    let arrows = seat_arrows way.permits.now way.along.now way.ends.now c.args.x.0 c.args.op in
+    let key = c.in-Some.key in
+    let nodes = c.keys.marks.nodes in
+    let home = c.keys.invariant.on key c.in-Some.is in
+    let stepped = walk_steps way.along.now c.args.seat key c.laws.ensures.sound home c.next-next.result (c.next-next.ensures.next c.args.seat home) in
+    let before = λ (k t : ℕ) (there : lists (ahead key (chain_of way.along.now c.args.seat)) k ≡ true). c.keys.invariant.passed k t (ap (λ (o : Option ℕ). lists (passed o (chain_of way.along.now c.args.seat)) k) c.in-Some.is ∙ there) in
+    elim c.match-end_of.branch [
+      | in-Some-end_of w ↦
+          let leads : leads_to (get way.permits.now key) (home_of way.ends.now key) c.args.x.0 c.args.op ≡ Some w.in-Some-end_of.end = sym c.end_of.ensures ∙ w.in-Some-end_of.is in
+          let arrow = permit_leads way.permits.now way.along.now way.ends.now c.args.x.0 c.args.op key c.args.seat w.in-Some-end_of.end home leads in
+          rw w.marks-is (record {
+            size = w.meet.ensures.size ∙ c.keys.invariant.size;
+            on = stepped.0;
+            more = met_more arrows c.args.seat c.args.marks.now.nodes nodes w.meet.new.self.nodes w.in-Some-end_of.end c.keys.invariant.more arrow w.meet.ensures.nodes;
+            passed = λ k t there goes. elim (stepped.1 k there) [
+              | inl here ↦
+                  let same : Some t ≡ Some w.in-Some-end_of.end = sym goes ∙ ap (λ n. leads_to (get way.permits.now n) (home_of way.ends.now n) c.args.x.0 c.args.op) here ∙ leads in
+                  let is : t ≡ w.in-Some-end_of.end = cc same in
+                  ap (lists_node w.meet.new.self.nodes) is ∙ met_here nodes w.meet.new.self.nodes w.in-Some-end_of.end w.meet.ensures.nodes
+              | inr old ↦ met_listed nodes w.meet.new.self.nodes w.in-Some-end_of.end t w.meet.ensures.nodes (before k t old goes)
+            ];
+          })
+      | in_default-end_of w ↦ rw w.marks-is (record {
+        size = c.keys.invariant.size;
+        on = stepped.0;
+        more = c.keys.invariant.more;
+        passed = λ k t there goes. elim (stepped.1 k there) [
+          | inl here ↦
+              let none : Some t ≡ None = sym goes ∙ ap (λ n. leads_to (get way.permits.now n) (home_of way.ends.now n) c.args.x.0 c.args.op) here ∙ sym c.end_of.ensures ∙ w.in_default-end_of.is in
+              cc none
+          | inr old ↦ before k t old goes
+        ];
+      })
+    ]
 
 pub returns-clause-expanded : goal.returns-clause-expanded
 returns-clause-expanded c =
-    let rows = c.args.rows.now.entries in
-    let key = c.in-Some.field-0-0.now in
-    let row = c.in-Some.row.now in
-    let old = c.args.marks.now.nodes in
-    let new = c.meet_takers.new.marks.nodes in
-    let at : slice_get rows c.args.index ≡ Some (key, row) = sym c.in-Some.ensures.entry in
-    let met : Meets rows row.grants.items c.args.x.0 c.args.op old new (length row.grants.items) =
-    subst (λ (grants : List Grant). Meets rows grants c.args.x.0 c.args.op old new (length grants)) c.deref.ensures.value c.meet_takers.ensures.met
-    in
-    subst (λ n. Expands (arrows_for (descriptors_of rows) c.args.x.0 c.args.op) (name_at rows) (length rows) n old new) (sym (named rows c.args.index (key, row) at))
-    (meets_all rows key.0 row c.args.x.0 c.args.op old new c.requires.names (row_at rows c.args.index (key, row) c.requires.names at) met)
+    let way = c.args.way.now in
+    let chain = chain_of way.along.now c.args.seat in
+    let more = c.keys.invariant.more in
+    record {
+      more = more.more;
+      kept = more.kept;
+      is_linked = more.is_linked;
+      all = λ t arrow.
+          let found = permit_of_arrow way.permits.now way.along.now way.ends.now c.args.x.0 c.args.op c.args.seat t arrow in
+          c.keys.invariant.passed found.0 t (ap (λ (o : Option ℕ). lists (passed o chain) found.0) c.in_default.is ∙ c.laws.ensures.sound.listed c.args.seat found.0 found.1) found.2;
+    }

@@ -1,37 +1,27 @@
-use Rattle.std.proofs.Common.{◌≡◌, ◌∙◌, eqb, Some, is_some, sym, ap}
-use Rattle.std.specs.List.{position}
-use Rattle.std.specs.Map.{keys_of}
-use Rattle.asset_permits.specs.Descriptors.{allows_by}
-use Rattle.asset_permits.specs.Valid.{row_of, descriptors_of}
-use Rattle.asset_permits.proofs.PermitRowLemmas.{is_name}
-use Rattle.asset_permits.proofs.SearchLemmas.{number_named, unknown_giver, unknown_taker, no_row}
+use Rattle.std.proofs.Common.{◌≡◌, ◌<◌, ◌∙◌, eqb, true, false, sym, ap, subst, refl, get_or, length, arith}
+use Rattle.std.proofs.lemmas.Bool.{true≢false, ne_eqb}
+use Rattle.asset_names.specs.Arrows.{lists}
+use Rattle.asset_permits.specs.Searched.{seat_arrows, Expands}
+use Rattle.asset_permits.proofs.MarkLemmas.{lists_at}
+use Rattle.asset_permits.proofs.WalkLemmas.{walk_from, walk_on, walk_ends}
 use Rattle.asset_permits.proofs.search.is_linked.Goals as goal
 
-pub returns-in_default-clause-is_linked : goal.returns-in_default-clause-is_linked
-unfolding row_of
-returns-in_default-clause-is_linked c =
-    let rows = c.args.rows.now.entries in
-    let none = no_row (row_of rows c.args.giver.0) (sym c.get_index_of.ensures.found ∙ ap is_some c.in_default.is) in
-    sym (unknown_giver rows c.args.giver.0 c.args.taker.0 c.args.x.0 c.args.op c.requires.names none c.requires.another)
+pub met-init : goal.met-init
+met-init c = (c.expand.ensures.size ∙ c.clear.ensures.size, walk_from _ _ _ _ _ c.clear.ensures.nodes c.expand.ensures.expanded)
 
-pub returns-in_default-get_index_of-clause-is_linked : goal.returns-in_default-get_index_of-clause-is_linked
-unfolding row_of
-returns-in_default-get_index_of-clause-is_linked c =
-    let rows = c.args.rows.now.entries in
-    let none = no_row (row_of rows c.args.taker.0) (sym c.get_index_of-2.ensures.found ∙ ap is_some c.in_default-get_index_of.is) in
-    sym (unknown_taker rows c.args.giver.0 c.args.taker.0 c.args.x.0 c.args.op c.requires.names c.requires.noted none c.requires.another)
-
-pub is_linked_on-requires-clause-another : goal.is_linked_on-requires-clause-another
-is_linked_on-requires-clause-another c =
-    let rows = c.args.rows.now.entries in
-    let giver : position (is_name c.args.giver.0) (keys_of rows) ≡ Some c.in-Some.from = sym c.get_index_of.ensures.index ∙ c.in-Some.is in
-    let taker : position (is_name c.args.taker.0) (keys_of rows) ≡ Some c.in-Some-get_index_of.to = sym c.get_index_of-2.ensures.index ∙ c.in-Some-get_index_of.is in
-    (λ i. eqb ((number_named rows c.args.giver.0 c.in-Some.from giver).1 i) ((number_named rows c.args.taker.0 c.in-Some-get_index_of.to taker).1 i)) ∙ c.requires.another
+pub met-preserved : goal.met-preserved
+met-preserved c =
+    let way = c.args.way.now in
+    let arrows = seat_arrows way.permits.now way.along.now way.ends.now c.args.x.0 c.args.op in
+    let nodes = c.met.marks.nodes in
+    let node = get_or nodes c.met.next 0 in
+    let after = c.expand-in-met.new.marks.nodes in
+    let below : c.met.next < length nodes = omega (arith, c.met-test.true, c.len.ensures.len) in
+    let listed : lists nodes node ≡ true = lists_at nodes node c.met.next below refl in
+    let other : eqb node c.args.to ≡ false = ne_eqb node c.args.to (λ same. true≢false (sym listed ∙ ap (lists nodes) same ∙ sym c.has.ensures ∙ c.if-has.false)) in
+    let expanded : Expands arrows node nodes after = subst (λ k. Expands arrows k nodes after) c.node-node.ensures.node c.expand-in-met.ensures.expanded in
+    (c.expand-in-met.ensures.size ∙ c.met.invariant.0, walk_on arrows c.args.from c.args.to nodes after c.met.next c.met.invariant.1 below other expanded)
 
 pub returns-clause-is_linked : goal.returns-clause-is_linked
 returns-clause-is_linked c =
-    let rows = c.args.rows.now.entries in
-    let giver : position (is_name c.args.giver.0) (keys_of rows) ≡ Some c.in-Some.from = sym c.get_index_of.ensures.index ∙ c.in-Some.is in
-    let taker : position (is_name c.args.taker.0) (keys_of rows) ≡ Some c.in-Some-get_index_of.to = sym c.get_index_of-2.ensures.index ∙ c.in-Some-get_index_of.is in
-    c.is_linked_on.ensures.is_linked
-    ∙ (λ i. allows_by (descriptors_of rows) ((number_named rows c.args.giver.0 c.in-Some.from giver).1 i) ((number_named rows c.args.taker.0 c.in-Some-get_index_of.to taker).1 i) c.args.x.0 c.args.op)
+    sym (walk_ends _ _ _ c.met.marks.nodes c.met.next c.met.invariant.1 (omega (arith, c.met-test.false, c.len.ensures.len)) c.requires.another)

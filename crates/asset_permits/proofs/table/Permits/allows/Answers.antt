@@ -2,7 +2,7 @@ use Rattle.std.proofs.Common.{◌≡◌, ◌∙◌, sym, ap, subst}
 use Rattle.std.proofs.lemmas.Bool.{eqb-true}
 use Rattle.asset_permits.specs.Descriptors.{allows_by, AreDifferent}
 use Rattle.asset_permits.proofs.ArrowLaws.{allows_itself}
-use Rattle.asset_permits.proofs.PermitRowLemmas.{different_flat}
+use Rattle.asset_permits.proofs.SlotLemmas.{are_different}
 use Rattle.asset_permits.proofs.table.Permits.allows.Goals as goal
 
 pub returns-then-eq-clause-allowed : goal.returns-then-eq-clause-allowed
@@ -11,7 +11,4 @@ returns-then-eq-clause-allowed c =
     c.if-eq.true ∙ sym (allows_itself c.args.self.now c.args.giver.0 c.args.x.0 c.args.op) ∙ ap (λ t. allows_by c.args.self.now c.args.giver.0 t c.args.x.0 c.args.op) same
 
 pub returns-then-eq-clause-different : goal.returns-then-eq-clause-different
-returns-then-eq-clause-different c = subst AreDifferent c.self.view_is (different_flat c.self.inside.rows.entries c.self.invariant.names c.self.invariant.different)
-
-pub returns-else-eq-clause-different : goal.returns-else-eq-clause-different
-returns-else-eq-clause-different c = subst AreDifferent c.self.view_is (different_flat c.self.inside.rows.entries c.self.invariant.names c.self.invariant.different)
+returns-then-eq-clause-different c = subst AreDifferent c.self.view_is (are_different c.self.inside.permits c.self.invariant.single)

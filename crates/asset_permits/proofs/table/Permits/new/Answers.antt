@@ -1,11 +1,8 @@
-use Rattle.std.proofs.Common.{ap}
-use Rattle.asset_permits.specs.Valid.{descriptors_of}
-use Rattle.asset_permits.proofs.TableLemmas.{kept_none}
+use Rattle.asset_permits.proofs.TableLemmas.{valid_nothing, nothing_stands}
 use Rattle.asset_permits.proofs.table.Permits.new.Goals as goal
 
 pub invariant_of-result : goal.invariant_of-result
-invariant_of-result c = kept_none c.new.result.entries c.new-2.result.size c.new.ensures.empty
+invariant_of-result c = valid_nothing _ _ _ _ _ c.new.ensures.empty c.new-2.ensures.chains c.new-2.ensures.homes c.new-3.ensures.chains c.new-3.ensures.homes c.new-4.ensures
 
 pub returns : goal.returns
-unfolding descriptors_of
-returns c = ap descriptors_of c.new.ensures.empty
+returns c = nothing_stands _ c.new.ensures.empty

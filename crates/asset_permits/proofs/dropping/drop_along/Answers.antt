@@ -1,0 +1,28 @@
+use Rattle.std.proofs.Common.{◌≡◌, Some, is_some, sym, ap, ◌∙◌}
+use Rattle.std.proofs.lemmas.Bool.{true≢false}
+use Rattle.asset_chains.specs.Chained.{chain_of, home_of, first_of}
+use Rattle.asset_chains.proofs.Laws.{chain_at_first}
+use Rattle.asset_permits.specs.Valid.{parts}
+use Rattle.asset_permits.proofs.SeatLemmas.{first_listed}
+use Rattle.asset_permits.proofs.DropLemmas.{shrinks_then}
+use Rattle.asset_permits.proofs.dropping.drop_along.Goals as goal
+
+pub drop_at-requires-clause-there : goal.drop_at-requires-clause-there
+drop_at-requires-clause-there c =
+    let first : first_of (chain_of c.first.along c.args.seat) ≡ Some c.in-Some.key = sym c.in-Some.ensures in
+    ap is_some (chain_at_first c.in-Some.key c.args.seat c.first.along c.first.invariant.sound first).0
+
+pub first-preserved : goal.first-preserved
+first-preserved c =
+    let first : first_of (chain_of c.first.along c.args.seat) ≡ Some c.in-Some.key = sym c.in-Some.ensures in
+    let home : home_of c.first.along c.in-Some.key ≡ Some c.args.seat = (chain_at_first c.in-Some.key c.args.seat c.first.along c.first.invariant.sound first).0 in
+    record {
+      seated = c.drop_at.ensures.seated;
+      sound = c.laws-in-Some.ensures.sound;
+      shrinks = shrinks_then (parts c.args.permits.now c.args.along.now c.args.ends.now c.args.seats.now) (parts c.first.permits c.first.along c.first.ends c.first.seats) (parts c.drop_at.new.permits c.drop_at.new.along c.drop_at.new.ends c.drop_at.new.seats) c.first.invariant.shrinks c.drop_at.ensures.shrinks;
+      kept = λ k apart.
+          c.drop_at.ensures.others k (λ same. apart (ap (home_of c.args.along.now) same ∙ c.first.invariant.shrinks.along c.in-Some.key c.args.seat home)) ∙ c.first.invariant.kept k apart;
+    }
+
+pub returns-clause-gone : goal.returns-clause-gone
+returns-clause-gone c = λ k home. true≢false (sym (first_listed (chain_of c.first.along c.args.seat) k (c.first.invariant.sound.listed c.args.seat k home)) ∙ sym (ap is_some c.first-in-first.ensures) ∙ ap is_some c.in_default.is)

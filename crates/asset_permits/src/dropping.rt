@@ -1,0 +1,62 @@
+//! Permits leave the slab and both of their chains.
+
+ghost use Rattle.std.specs.Prelude.{◌≡◌, ◌≢◌, ℕ, ◌<◌, true, Some, is_some};
+ghost use Rattle.slab.specs.Slab.{get, slab_len};
+ghost use Rattle.asset_chains.specs.Chained.{home_of};
+ghost use Rattle.asset_permits.specs.Valid.{parts, IsSeated};
+ghost use Rattle.asset_permits.specs.Changes.{Shrinks};
+
+use crate::permit::Permit;
+use crate::seating::leave_if_unused;
+use asset_chains::Chains;
+use asset_seats::Seats;
+use slab::Slab;
+
+/// Takes the permit at `key` out of the slab and of both of its chains. Who has no other permit leaves its seat.
+fn drop_at(
+    permits: &mut Slab<Permit>,
+    along: &mut Chains,
+    ends: &mut Chains,
+    seats: &mut Seats,
+    key: usize,
+)
+    requires seated { IsSeated (parts permits.old along.old ends.old seats.old) }
+    requires there { is_some (home_of along.old key) ≡ true }
+    ensures seated { IsSeated (parts permits.new along.new ends.new seats.new) }
+    ensures shrinks { Shrinks (parts permits.old along.old ends.old seats.old) (parts permits.new along.new ends.new seats.new) }
+    ensures others { (k : ℕ) → k ≢ key → get permits.new k ≡ get permits.old k }
+    ensures fewer { slab_len permits.new < slab_len permits.old }
+{
+    along.laws();
+    ends.laws();
+    if let Some(from) = along.home(key) {
+        if let Some(to) = ends.home(key) {
+            along.unlink(key);
+            ends.unlink(key);
+            permits.try_remove(key);
+            leave_if_unused(along, ends, seats, from);
+            leave_if_unused(along, ends, seats, to);
+        }
+    }
+}
+
+/// Drops the permits in the chain of the seat.
+pub(crate) fn drop_along(
+    permits: &mut Slab<Permit>,
+    along: &mut Chains,
+    ends: &mut Chains,
+    seats: &mut Seats,
+    seat: usize,
+)
+    requires { IsSeated (parts permits.old along.old ends.old seats.old) }
+    ensures seated { IsSeated (parts permits.new along.new ends.new seats.new) }
+    ensures shrinks { Shrinks (parts permits.old along.old ends.old seats.old) (parts permits.new along.new ends.new seats.new) }
+    ensures gone { (k : ℕ) → home_of along.new k ≢ Some seat }
+    ensures kept { (k : ℕ) → home_of along.old k ≢ Some seat → get permits.new k ≡ get permits.old k }
+{
+    along.laws();
+    'first: while let Some(key) = along.first(seat) {
+        drop_at(permits, along, ends, seats, key);
+        along.laws();
+    }
+}

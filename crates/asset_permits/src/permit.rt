@@ -1,0 +1,85 @@
+//! Permits, as they are stored and as they are asked for.
+
+use crate::permit_objects::PermitObjects;
+use asset_names::{NoMemory, Ob, ObSet, Op, Ops, Txn};
+use std::alloc::Global;
+use std::marker::Model;
+use std::mem::size_of;
+
+/// A permit that stands: the giver lets the taker do the operations on the objects.
+#[derive(Drop)]
+pub(crate) struct Permit {
+    giver: Txn,
+    taker: Txn,
+    objects: PermitObjects,
+    ops: Ops,
+}
+
+const _: () = prove!(size_of::<Permit>() == 56);
+
+impl Model for Permit {
+    ghost use Rattle.asset_permits.specs.Descriptors.{Descriptor};
+    ghost use Rattle.asset_permits.specs.Stored.{set_of};
+
+    ghost Value = { Descriptor };
+
+    ghost view = { λ p. record { giver = p.giver.0; taker = p.taker.0; objects = set_of p.objects; ops = p.ops } };
+}
+
+impl Permit {
+    ghost use Rattle.std.specs.Prelude.{◌≡◌, IfOk};
+    ghost use Rattle.asset_permits.specs.Descriptors.{covers, same_descriptor};
+    ghost use Rattle.asset_permits.specs.Stored.{asked};
+
+    /// Stores the permit that is asked for. It answers `NoMemory` if memory runs out.
+    pub(crate) fn of(sought: &Sought, alloc: Global) -> Result<Permit, NoMemory>
+        ensures { IfOk result (λ permit. permit ≡ asked sought.now) }
+    {
+        let objects = PermitObjects::of(&sought.objects, alloc)?;
+        Ok(Permit {
+            giver: sought.giver,
+            taker: sought.taker,
+            objects,
+            ops: sought.ops,
+        })
+    }
+
+    /// Returns whether this is the permit that is asked for.
+    #[tactic(auto, unfolding(crate::specs::Descriptors::same_descriptor))]
+    pub(crate) fn is_same(&self, sought: &Sought) -> bool
+        ensures { result ≡ same_descriptor self.now (asked sought.now) }
+    {
+        self.giver == sought.giver
+            && self.taker == sought.taker
+            && self.objects.is_same(&sought.objects)
+            && same_ops(self.ops, sought.ops)
+    }
+
+    /// Returns whether the permit has the object and the operation.
+    #[tactic(auto, unfolding(crate::specs::Descriptors::covers))]
+    pub(crate) fn covers(&self, x: Ob, op: Op) -> bool
+        ensures { result ≡ covers x.0 op self.now }
+    {
+        self.objects.has(x) && self.ops.has(op)
+    }
+}
+
+/// A permit that is asked for.
+#[derive(Clone, Copy)]
+pub(crate) struct Sought {
+    pub giver: Txn,
+    pub taker: Txn,
+    pub objects: ObSet,
+    pub ops: Ops,
+}
+
+ghost use Rattle.std.specs.Prelude.{◌≡◌};
+ghost use Rattle.asset_permits.specs.Descriptors.{same_ops};
+
+/// Returns whether the two are the same operations.
+#[tactic(auto, unfolding(crate::specs::Descriptors::same_ops))]
+fn same_ops(ops: Ops, others: Ops) -> bool
+    ensures { result ≡ same_ops ops others }
+{
+    ops.has(Op::Read) == others.has(Op::Read) && ops.has(Op::Write) == others.has(Op::Write)
+}
