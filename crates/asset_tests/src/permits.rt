@@ -1,7 +1,16 @@
-//! Each public call on worked permits, and what is left if memory runs out.
+//! Permits on worked values, beside a plain list that does the same by scanning, and what is left if memory runs out.
 
+use crate::reference::next;
 use asset_names::{NoMemory, Ob, ObList, ObSet, Op, Ops, SetFault, Txn};
 use asset_permits::Permits;
+use std::test::Fail;
+
+/// How many transactions and objects there are beside the plain list, and how many calls are drawn.
+const NAMES: u64 = 5;
+
+const OBJECTS: u64 = 3;
+
+const CALLS: usize = 3_000;
 
 /// Returns the set of two objects.
 fn two(first: u64, second: u64) -> Result<ObSet, SetFault> {
@@ -119,4 +128,178 @@ fn permit_is_given_twice(rt: HostRuntime) {
     let gone = twice_given_goes(&mut permits);
     drop(permits);
     assert!(rt; gone);
+}
+
+/// A permit of a plain list. Its set of objects is said by a number.
+#[derive(Clone, Copy)]
+struct Plain {
+    giver: u64,
+    taker: u64,
+    set: u64,
+    reads: bool,
+    writes: bool,
+}
+
+impl Plain {
+    /// Returns whether the two are the same.
+    fn is_same(&self, other: &Plain) -> bool {
+        (self.giver, self.taker, self.set) == (other.giver, other.taker, other.set)
+            && (self.reads, self.writes) == (other.reads, other.writes)
+    }
+
+    /// Returns whether the permit has the object and the operation.
+    fn covers(&self, x: u64, op: Op) -> bool {
+        let has_object = match self.set {
+            0 => true,
+            1 => x == 1,
+            2 => x == 2,
+            _ => x < 3,
+        };
+        let has_op = match op {
+            Op::Read => self.reads,
+            Op::Write => self.writes,
+        };
+        has_object && has_op
+    }
+}
+
+/// Returns the set of objects that a number stands for.
+fn set_of(number: u64) -> Result<ObSet, NoMemory> {
+    let list = match number {
+        0 => return Ok(ObSet::All),
+        1 => ObList::of(&[Ob(1)]),
+        2 => ObList::of(&[Ob(2)]),
+        _ => ObList::of(&[Ob(1), Ob(2)]),
+    };
+    match list {
+        Ok(list) => Ok(ObSet::Listed(list)),
+        Err(_) => Err(NoMemory),
+    }
+}
+
+/// Returns the operations of a permit.
+fn ops_of(plain: &Plain) -> Ops {
+    match (plain.reads, plain.writes) {
+        (true, true) => Ops::only(Op::Read).with(Op::Write),
+        (false, true) => Ops::only(Op::Write),
+        _ => Ops::only(Op::Read),
+    }
+}
+
+/// Returns who allows whom to do the operation on the object, a bit for each pair.
+fn shown_for(permits: &mut Permits, x: u64, op: Op) -> u64 {
+    let mut bits: u64 = 0;
+    for u in 0..NAMES {
+        for t in 0..NAMES {
+            bits = bits << 1 | u64::from(permits.allows(Txn(u), Txn(t), Ob(x), op));
+        }
+    }
+    bits
+}
+
+/// Returns all that permits show of the transactions and objects in play.
+fn shown(permits: &mut Permits) -> [u64; 6] {
+    [
+        shown_for(permits, 1, Op::Read),
+        shown_for(permits, 2, Op::Read),
+        shown_for(permits, OBJECTS, Op::Read),
+        shown_for(permits, 1, Op::Write),
+        shown_for(permits, 2, Op::Write),
+        shown_for(permits, OBJECTS, Op::Write),
+    ]
+}
+
+/// Returns whom a transaction lets do the operation on the object by the list, a bit for each.
+fn reached(list: &[Plain], from: u64, x: u64, op: Op) -> u64 {
+    let mut met = 1 << (from % NAMES);
+    for _ in 0..NAMES {
+        for one in list {
+            if one.covers(x, op) && met >> (one.giver % NAMES) & 1 == 1 {
+                met |= 1 << (one.taker % NAMES);
+            }
+        }
+    }
+    met
+}
+
+/// Returns who allows whom by the list, as `shown_for` returns it.
+fn plain_for(list: &[Plain], x: u64, op: Op) -> u64 {
+    let mut bits: u64 = 0;
+    for u in 0..NAMES {
+        let met = reached(list, u, x, op);
+        for t in 0..NAMES {
+            bits = bits << 1 | met >> t & 1;
+        }
+    }
+    bits
+}
+
+/// Returns whether the permits show what the list shows.
+fn agrees(permits: &mut Permits, list: &[Plain]) -> bool {
+    shown(permits)
+        == [
+            plain_for(list, 1, Op::Read),
+            plain_for(list, 2, Op::Read),
+            plain_for(list, OBJECTS, Op::Read),
+            plain_for(list, 1, Op::Write),
+            plain_for(list, 2, Op::Write),
+            plain_for(list, OBJECTS, Op::Write),
+        ]
+}
+
+/// Adds a permit. If memory runs out, nothing that shows has changed, and the same call is made again.
+fn add_plain(permits: &mut Permits, plain: &Plain) -> Result<(), NoMemory> {
+    let (giver, taker) = (Txn(plain.giver), Txn(plain.taker));
+    let (objects, ops) = (set_of(plain.set)?, ops_of(plain));
+    let before = shown(permits);
+    match permits.add(giver, taker, objects, ops) {
+        Err(NoMemory) if shown(permits) == before => permits.add(giver, taker, objects, ops),
+        added => added,
+    }
+}
+
+/// Makes the call that a number stands for, on permits and the list.
+fn call(permits: &mut Permits, list: &mut Vec<Plain>, number: u64) -> Result<(), Fail> {
+    let giver = (number >> 40) % NAMES;
+    if (number >> 50) % 10 == 0 {
+        permits.drop_all(Txn(giver));
+        list.retain(|one| one.giver != giver && one.taker != giver);
+        return Ok(());
+    }
+    let plain = Plain {
+        giver,
+        taker: (number >> 30) % NAMES,
+        set: (number >> 36) % 4,
+        reads: (number >> 38) % 3 != 0,
+        writes: (number >> 38) % 3 != 1,
+    };
+    add_plain(permits, &plain)?;
+    if !list.iter().any(|one| one.is_same(&plain)) {
+        list.push(plain)?;
+    }
+    Ok(())
+}
+
+/// Draws calls, and returns the first after which permits and list differ.
+fn first_difference(permits: &mut Permits, list: &mut Vec<Plain>) -> Result<Option<usize>, Fail> {
+    let mut number = 1;
+    for i in 0..CALLS {
+        number = next(number);
+        call(permits, list, number)?;
+        if !agrees(permits, list) {
+            return Ok(Some(i));
+        }
+    }
+    Ok(None)
+}
+
+#[test]
+fn permits_agree_with_a_plain_list(rt: HostRuntime) -> Result<(), Fail> {
+    let mut permits = Permits::new(rt.alloc());
+    let mut list = Vec::new(rt.alloc());
+    let difference = first_difference(&mut permits, &mut list);
+    drop(permits);
+    drop(list);
+    assert_eq!(rt; difference?, None);
+    Ok(())
 }

@@ -1,4 +1,4 @@
-//! Two hundred permits of one giver, and two hundred for one taker.
+//! Two hundred permits of one giver, two hundred for one taker, and a chain of two hundred.
 
 use asset_names::{NoMemory, Ob, ObList, ObSet, Op, Ops, Txn};
 use asset_permits::Permits;
@@ -103,4 +103,46 @@ fn two_hundred_permit_one_taker(rt: HostRuntime) {
     let wrong = wrong_ones(&mut permits, Side::Taker);
     drop(permits);
     assert_eq!(rt; wrong, [None; 4]);
+}
+
+/// Lets each of the others permit the next one to read and write object 1. Returns the first that cannot.
+fn first_not_linked(permits: &mut Permits) -> Option<u64> {
+    for t in FIRST..END {
+        if add(permits, t, t + 1, 1) != Ok(()) {
+            return Some(t);
+        }
+    }
+    None
+}
+
+/// Returns whether the first of the chain allows the last to write object 1, and not the other way round.
+fn chain_leads(permits: &mut Permits) -> bool {
+    permits.allows(Txn(FIRST), Txn(END), Ob(1), Op::Write)
+        && !permits.allows(Txn(END), Txn(FIRST), Ob(1), Op::Write)
+        && !permits.allows(Txn(FIRST), Txn(END), Ob(2), Op::Write)
+}
+
+/// Returns whether the chain leads to its end, searched from its start, and from its end once its start gives more
+/// permits than its end takes; and no longer once its middle has ended.
+fn chain_leads_both_ways(permits: &mut Permits) -> bool {
+    let forwards = chain_leads(permits);
+    let more = add(permits, FIRST, ONE, 1) == Ok(());
+    let backwards = chain_leads(permits);
+    permits.drop_all(Txn(MIDDLE));
+    forwards
+        && more
+        && backwards
+        && !permits.allows(Txn(FIRST), Txn(END), Ob(1), Op::Write)
+        && permits.allows(Txn(FIRST), Txn(MIDDLE - 1), Ob(1), Op::Write)
+        && permits.allows(Txn(MIDDLE + 1), Txn(END), Ob(1), Op::Write)
+}
+
+#[test]
+fn chain_of_two_hundred_is_searched(rt: HostRuntime) {
+    let mut permits = Permits::new(rt.alloc());
+    let not_linked = first_not_linked(&mut permits);
+    let leads = chain_leads_both_ways(&mut permits);
+    drop(permits);
+    assert_eq!(rt; not_linked, None);
+    assert!(rt; leads);
 }
