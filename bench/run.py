@@ -35,7 +35,7 @@ def options():
     parser.error = fail
     parser.add_argument("loads", nargs="*", metavar="LOAD", help="the loads to run (all of them)")
     parser.add_argument("--program", default=PROGRAM, help="the program to run (crates/asset/out/asset)")
-    parser.add_argument("--sizes", help="steps, as 1000,10000 (1000 to 1000000, to 100000 for loads that grow faster)")
+    parser.add_argument("--sizes", help="steps, as 1000,10000 (1000 to 1000000)")
     parser.add_argument("--repeats", type=int, default=3, help="runs of each script (3)")
     given = parser.parse_args()
     check(given)
@@ -54,12 +54,11 @@ def check(given):
         fail(f"there is no program {given.program}; ./asset builds it")
 
 
-def sizes_of(given, name):
-    """The sizes at which a load runs."""
+def sizes_of(given):
+    """The sizes at which each load runs."""
     if given.sizes:
         return sorted({int(size) for size in given.sizes.split(",")})
-    _, most = LOADS[name]
-    return [size for size in SIZES if size <= most]
+    return SIZES
 
 
 def make_script(path, name, steps):
@@ -102,7 +101,7 @@ def exponent(points):
 
 def run_load(given, folder, name):
     points = []
-    sizes = sizes_of(given, name)
+    sizes = sizes_of(given)
     for steps in sizes:
         seconds, memory = measure(given, folder, name, steps)
         points.append((steps, seconds))

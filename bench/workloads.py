@@ -289,35 +289,65 @@ def two_writers(steps, seed):
     return script
 
 
-# Each load with the largest size that it is run at unless sizes are given. Those with a smaller one grow faster
-# than their steps, and take minutes at a million.
+# Transactions that live long.
+
+
+def long_writers(steps, seed, writers=8):
+    """Eight transactions write objects of their own from the first step to the last, beside short ones; half abort."""
+    script = Script(steps, seed, 1000)
+    long_lived = script.start_many(writers)
+    while script.has_room(2 * writers + 8):
+        for t in long_lived:
+            script.write(t, t)
+        short = script.start()
+        x = script.random.randint(writers + 1, script.objects)
+        script.read(short, x)
+        script.write(short, x)
+        script.finish(short)
+    script.finish_some(long_lived[::2], 1.0)
+    script.finish_some(long_lived[1::2], 0.0)
+    return script
+
+
+def many_writes(steps, seed):
+    """One transaction writes 1,000 objects for the whole run, and aborts."""
+    script = Script(steps, seed, 1000)
+    t = script.start()
+    while script.has_room(1):
+        script.write(t, script.object())
+    script.finish(t, "abort")
+    return script
+
+
 LOADS = {
-    load.__name__: (load, most)
-    for load, most in [
-        (one_after_another, 1_000_000),
-        (interleaved, 1_000_000),
-        (half_abort, 1_000_000),
-        (hot_objects, 1_000_000),
-        (many_objects, 1_000_000),
-        (opening, 1_000_000),
-        (many_live, 1_000_000),
-        (hot_readers, 1_000_000),
-        (many_readers, 100_000),
-        (chains_of_2, 1_000_000),
-        (chains_of_8, 1_000_000),
-        (chains_of_64, 1_000_000),
-        (chains_that_abort, 1_000_000),
-        (one_long_chain, 100_000),
-        (standing_permits, 1_000_000),
-        (one_giver, 100_000),
-        (two_writers, 100_000),
+    load.__name__: load
+    for load in [
+        one_after_another,
+        interleaved,
+        half_abort,
+        hot_objects,
+        many_objects,
+        opening,
+        many_live,
+        long_writers,
+        many_writes,
+        hot_readers,
+        many_readers,
+        chains_of_2,
+        chains_of_8,
+        chains_of_64,
+        chains_that_abort,
+        one_long_chain,
+        standing_permits,
+        one_giver,
+        two_writers,
     ]
 }
 
 
 def described():
     """The loads with what each does, a line for each."""
-    return "\n".join(f"  {name:18} {load.__doc__}" for name, (load, _) in LOADS.items())
+    return "\n".join(f"  {name:18} {load.__doc__}" for name, load in LOADS.items())
 
 
 def main():
@@ -326,7 +356,7 @@ def main():
         return
     if len(sys.argv) not in (3, 4) or sys.argv[1] not in LOADS or not all(word.isdigit() for word in sys.argv[2:]):
         sys.exit("workloads.py: usage: workloads.py LOAD STEPS [SEED]; without arguments it lists the loads")
-    load, _ = LOADS[sys.argv[1]]
+    load = LOADS[sys.argv[1]]
     seed = int(sys.argv[3]) if len(sys.argv) > 3 else 1
     print("\n".join(load(int(sys.argv[2]), seed).lines))
 
