@@ -31,6 +31,8 @@ mod reference;
 #[cfg(test)]
 mod scripts;
 #[cfg(test)]
+mod seats;
+#[cfg(test)]
 mod sizes;
 #[cfg(test)]
 mod trans;
