@@ -24,7 +24,7 @@ distinct_head x xs distinct = first_apart x xs (IsDistinct-head eqb x xs distinc
 pub distinct_tail : (x : ℕ) (xs : List ℕ) → IsDistinct eqb (x ∷ xs) → IsDistinct eqb xs
 distinct_tail x xs distinct = IsDistinct-tail eqb x xs distinct
 
-distinct_cons : (x : ℕ) (xs : List ℕ) → lists xs x ≡ false → IsDistinct eqb xs → IsDistinct eqb (x ∷ xs)
+pub distinct_cons : (x : ℕ) (xs : List ℕ) → lists xs x ≡ false → IsDistinct eqb xs → IsDistinct eqb (x ∷ xs)
 distinct_cons x xs new distinct = IsDistinct-cons eqb x xs (apart_from_first x xs new) distinct
 
 pub distinct_none : IsDistinct eqb []
@@ -83,7 +83,7 @@ distinct-without k (x ∷ xs) distinct =
           rw other (distinct_cons x (without k xs) (lists-without_other k x xs apart ∙ distinct_head x xs distinct) rest)
     ]
 
-without_unlisted : (k : ℕ) (keys : List ℕ) → lists keys k ≡ false → without k keys ≡ keys
+pub without_unlisted : (k : ℕ) (keys : List ℕ) → lists keys k ≡ false → without k keys ≡ keys
 without_unlisted k [] absent = refl
 without_unlisted k (x ∷ xs) absent =
     let parts = or_parts (eqb k x) (lists xs k) absent in

@@ -3,3 +3,4 @@ pub mod Laws
 pub mod RowLemmas
 pub mod SoundLemmas
 pub mod StoreLemmas
+pub mod Walks

@@ -189,6 +189,7 @@ impl Chains {
     pub fn laws(&self)
         ensures sound { IsSound self.now }
         ensures few { length self.now.homes < 2 ^ 32 }
+        ensures few_chains { length self.now.chains < 2 ^ 32 }
     {
         let _ = &self.links;
     }
