@@ -1,7 +1,7 @@
-pub mod ListLemmas
-pub mod LockRowLemmas
-pub mod ApartLemmas
-pub mod EnrolledLemmas
-pub mod ValidLemmas
+pub mod StoreLemmas
+pub mod WalkLemmas
+pub mod OpsLemmas
+pub mod SuspendLemmas
+pub mod GrantLemmas
+pub mod BlockLemmas
 pub mod TableLemmas
-pub mod Laws

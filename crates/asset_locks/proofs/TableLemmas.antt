@@ -1,175 +1,483 @@
--- What the table is after a change of what is kept of it.
-use Rattle.std.proofs.Common.{◌≡◌, ℕ, Bool, true, false, cond, not, eqb, List, [], ◌∷◌, ◌++◌, map, filter, Some, None, is_some, refl, sym, ◌∙◌, ap}
-use Rattle.std.specs.Prelude.{Option, option_map, find, ◌||◌}
-use Rattle.std.specs.List.{IsDistinct, list_any}
-use Rattle.std.specs.Map.{lookup, set_value, remove_entry, keys_of}
-use Rattle.std.proofs.lemmas.Bool.{or_parts, true≢false}
-use Rattle.std.proofs.lemmas.List.{map-append}
+-- The rows of the table, by the seats of those who are enrolled.
+use Rattle.std.proofs.Common.{◌≡◌, ℕ, ◌<◌, ◌-◌, ◌≤◌, Bool, true, false, eqb, not, cond, ◌&&◌, List, [], ◌∷◌, ◌++◌, map, filter, length, get_or, set, Option, Some, None, is_some, ◌⊎◌, refl, sym, ap, subst, ◌∙◌, inl, inr, arith}
+use Rattle.std.specs.Prelude.{find, flat_map, slice_get, slice_index_or, Result, Ok, Err, OnOk}
+use Rattle.std.specs.List.{list_any, IsDistinct}
+use Rattle.std.proofs.lemmas.Bool.{eqb-true, eqb-false, eq-eqb, ne_eqb, true≢false, cases_Bool, or_left, or_right, or_parts}
+use Rattle.std.proofs.lemmas.List.{map-append, get_or-set_same, get_or-set_other, length-set}
 use Rattle.asset_names.specs.declared.names.Txn.{Txn}
 use Rattle.asset_names.specs.declared.names.Ob.{Ob}
 use Rattle.asset_names.specs.declared.operations.Op.{Op}
-use Rattle.asset_names.proofs.Common.{cond_same}
-use Rattle.asset_locks.specs.declared.enrolled.Enrolled.{Enrolled as EnrolledRow}
-use Rattle.asset_locks.specs.LockTable.{Lock, Enrolled, LockTable, is_of, lock_of, granted_on, one_more, change_enrolled, enrolled_granted, enrolled_waiting, no_locks, enrol_in, wait_in, grant_in, release_in, enrolled_in, held_or_none, held_in}
-use Rattle.asset_locks.specs.Valid.{LockRows, LockRow, locks_or_none, locks_in, lock_table, shown_enrolled, without, lists_object, IsValid}
-use Rattle.asset_locks.proofs.EnrolledLemmas.{key_is, found, changed, none_kept, removed}
+use Rattle.asset_names.specs.OpSets.{OpSet}
+use Rattle.asset_chains.specs.Chained.{Chained, chain_of, home_of, lists, without, IsSound}
+use Rattle.asset_chains.proofs.Laws.{IsPushed, read_more}
+use Rattle.asset_chains.proofs.SoundLemmas.{no_home_of, no_chain_of}
+use Rattle.asset_chains.proofs.KeyLemmas.{distinct_none}
+use Rattle.asset_chains.proofs.Walks.{map_same, find_key, find_none, find_found, any_from, any_none, distinct_map}
+use Rattle.asset_seats.specs.Seated.{Seated, seat}
+use Rattle.asset_locks.specs.declared.lock.Lock.{Lock}
+use Rattle.asset_locks.specs.LockTable.{Enrolled, LockTable, PendingRequest, is_on, names_in, enrolled_in, locks_or_none, locks_of, lock_in, held_in, both_conflict, blocks, is_free_in, enrol_in, release_in, waiting_row, wait_in, ops_with, granted_own, suspended, granted_row, grant_in, waiting_at, waiters_in}
+use Rattle.asset_locks.specs.Valid.{IsValid, is_some_op}
+use Rattle.asset_locks.specs.Stored.{Stored, lock_at, locks_at, name_or_zero, pending_at, row_at, rows_of, enrolled_chain, AreSeated, IsStored, IsGrown, IsRoomMade}
+use Rattle.asset_locks.proofs.BlockLemmas.{on_to}
+use Rattle.asset_locks.proofs.GrantLemmas.{grown_same}
+use Rattle.asset_locks.proofs.WalkLemmas.{get_first, get_later}
 
-abbrev pub kept : List (Txn × EnrolledRow) → List LockRow → LockRows
-kept entries rows = record { enrolled = map shown_enrolled entries; rows = rows }
+no_some : {X : Type 0} (x : X) → Some x ≡ None → ⊥
+no_some x e = cc
 
-abbrev pub Differ : List (Txn × EnrolledRow) → Type 0
-Differ entries = IsDistinct (λ (a b : Txn). eqb a.0 b.0) (keys_of entries)
+pub one_name : (t u : Txn) → t.0 ≡ u.0 → t ≡ u
+one_name t u e = λ i. record { 0 = e i }
 
--- ---- who is enrolled has a row
-mapped_some : {X Y : Type 0} (f : X → Y) (o : Option X) → is_some (option_map f o) ≡ is_some o
-mapped_some f None = refl
-mapped_some f (Some x) = refl
+-- one map after another
+pub fused : {X Y : Type 0} (f : ℕ → X) (g : X → Y) (keys : List ℕ) → map g (map f keys) ≡ map (λ k. g (f k)) keys
+fused f g [] = refl
+fused f g (k ∷ keys) = ap (λ l. g (f k) ∷ l) (fused f g keys)
 
-pub enrolled_row : (t : ℕ) (entries : List (Txn × EnrolledRow)) (rows : List LockRow) → is_some (enrolled_in (lock_table (kept entries rows)) t) ≡ is_some (lookup (key_is t) entries)
-unfolding enrolled_in lock_table
-enrolled_row t entries rows = ap is_some (found t entries) ∙ mapped_some _ (lookup (key_is t) entries)
+pub remapped : {X : Type 0} (new old : ℕ → X) (g : X → X) (keys : List ℕ) → ((k : ℕ) → lists keys k ≡ true → new k ≡ g (old k)) → map new keys ≡ map g (map old keys)
+remapped new old g keys each = map_same new (λ k. g (old k)) keys each ∙ sym (fused old g keys)
 
-pub no_row : (t : ℕ) (entries : List (Txn × EnrolledRow)) (rows : List LockRow) → lookup (key_is t) entries ≡ None → is_some (enrolled_in (lock_table (kept entries rows)) t) ≡ true → ⊥
-no_row t entries rows none some = true≢false (sym some ∙ enrolled_row t entries rows ∙ ap is_some none)
+-- what passes a test, by keys without one
+pub filtered : {X : Type 0} (new old : ℕ → X) (test : X → Bool) (c : ℕ) (keys : List ℕ) → test (old c) ≡ false → ((k : ℕ) → lists keys k ≡ true → (k ≡ c → ⊥) → (test (old k) ≡ true) × (new k ≡ old k)) → map new (without c keys) ≡ filter test (map old keys)
+filtered new old test c [] gone stay = refl
+filtered new old test c (k ∷ keys) gone stay =
+    let rest = filtered new old test c keys gone (λ j there apart. stay j (or_right (eqb j k) (lists keys j) there) apart) in
+    elim (cases_Bool (eqb c k)) [
+      | inl here ↦
+          ap (λ (b : Bool). map new (cond b (without c keys) (k ∷ without c keys))) here
+          ∙ rest
+          ∙ sym (ap (λ (b : Bool). cond b (old k ∷ filter test (map old keys)) (filter test (map old keys))) (ap (λ n. test (old n)) (sym (eqb-true c k here)) ∙ gone))
+      | inr apart ↦
+          let at = stay k (or_left (eqb k k) (lists keys k) (eq-eqb k k refl)) (λ is. eqb-false c k apart (sym is)) in
+          ap (λ (b : Bool). map new (cond b (without c keys) (k ∷ without c keys))) apart
+          ∙ (λ i. at.1 i ∷ rest i)
+          ∙ sym (ap (λ (b : Bool). cond b (old k ∷ filter test (map old keys)) (filter test (map old keys))) at.0)
+    ]
 
-none_from : {X Y : Type 0} (f : X → Y) (o : Option X) → option_map f o ≡ None → o ≡ None
-none_from f None h = refl
-none_from f (Some x) h = cc
+pub all_pass : {X : Type 0} (f : ℕ → X) (test : X → Bool) (keys : List ℕ) → ((k : ℕ) → lists keys k ≡ true → test (f k) ≡ true) → map f keys ≡ filter test (map f keys)
+all_pass f test [] pass = refl
+all_pass f test (k ∷ keys) pass =
+    (λ i. f k ∷ all_pass f test keys (λ j there. pass j (or_right (eqb j k) (lists keys j) there)) i)
+    ∙ sym (ap (λ (b : Bool). cond b (f k ∷ filter test (map f keys)) (filter test (map f keys))) (pass k (or_left (eqb k k) (lists keys k) (eq-eqb k k refl))))
 
-pub new_row : (t : ℕ) (entries : List (Txn × EnrolledRow)) (rows : List LockRow) → enrolled_in (lock_table (kept entries rows)) t ≡ None → lookup (key_is t) entries ≡ None
-unfolding enrolled_in lock_table
-new_row t entries rows none = none_from _ (lookup (key_is t) entries) (sym (found t entries) ∙ none)
+pub none_listed : (keys : List ℕ) → ((k : ℕ) → lists keys k ≡ true → ⊥) → keys ≡ []
+none_listed [] none = refl
+none_listed (k ∷ keys) none = absurd (none k (or_left (eqb k k) (lists keys k) (eq-eqb k k refl)))
 
-pub absent : {X : Type 0} (o : Option X) → is_some o ≡ false → o ≡ None
-absent None h = refl
-absent (Some x) h = absurd (true≢false h)
+-- a pending request is noted
+pub pending_set : (pending : List PendingRequest) (c : ℕ) (request : PendingRequest) → c < length pending → (d : ℕ) → pending_at (set pending c request) d ≡ cond (eqb d c) request (pending_at pending d)
+unfolding pending_at
+pending_set pending c request within d = elim (cases_Bool (eqb d c)) [
+  | inl here ↦ rw here (ap (λ (n : ℕ). get_or (set pending c request) n None) (eqb-true d c here) ∙ get_or-set_same pending c request None within)
+  | inr apart ↦ rw apart (get_or-set_other pending c d request None (eqb-false d c apart))
+]
 
--- a name is enrolled exactly where it has a row
-pub not_enrolled : (t : ℕ) (entries : List (Txn × EnrolledRow)) (rows : List LockRow) → is_some (lookup (key_is t) entries) ≡ false → is_some (enrolled_in (lock_table (kept entries rows)) t) ≡ true → ⊥
-not_enrolled t entries rows none some = true≢false (sym some ∙ enrolled_row t entries rows ∙ none)
+-- ---- who is enrolled
+module _ (seats : Seated) (pending : List PendingRequest) (order : Chained) (store : Stored) (seated : AreSeated seats pending order store) (sound : IsSound order) where
+  rows : LockTable
+  rows = rows_of seats pending order store
 
-pub not_new : (t : ℕ) (entries : List (Txn × EnrolledRow)) (rows : List LockRow) → is_some (lookup (key_is t) entries) ≡ true → enrolled_in (lock_table (kept entries rows)) t ≡ None → ⊥
-not_new t entries rows some none = true≢false (sym some ∙ sym (enrolled_row t entries rows) ∙ ap is_some none)
+  row : ℕ → Enrolled
+  row = row_at seats pending store
 
--- whether t has a lock among these
-pub lock_found : (t : ℕ) (locks : List Lock) → is_some (lock_of t locks) ≡ list_any (is_of t) locks
-unfolding lock_of
-lock_found t [] = refl
-lock_found t (lock ∷ locks) = go (is_of t lock) (lock_found t locks) where
-  go : (own : Bool) → is_some (find (is_of t) locks) ≡ list_any (is_of t) locks → is_some (cond own (Some lock) (find (is_of t) locks)) ≡ (own || list_any (is_of t) locks)
-  go true later = refl
-  go false later = later
+  -- who has a seat is in the chain of enrolment
+  pub listed_at : (c : ℕ) (t : Txn) → seat seats c ≡ Some t → lists (chain_of order 0) c ≡ true
+  unfolding enrolled_chain
+  listed_at c t sits = sound.listed 0 c (seated.ordered c ∙ ap enrolled_chain sits)
 
-abbrev pub held_of : Option EnrolledRow → List Ob
-held_of None = []
-held_of (Some entry) = entry.held.items
+  -- and nobody else
+  pub sits_at : (c : ℕ) → lists (chain_of order 0) c ≡ true → (t : Txn) × (seat seats c ≡ Some t)
+  unfolding enrolled_chain
+  sits_at c there = go (seat seats c) refl where
+    go : (o : Option Txn) → seat seats c ≡ o → (t : Txn) × (seat seats c ≡ Some t)
+    go None e = absurd (no_some 0 (sym (sound.at_home 0 c there) ∙ seated.ordered c ∙ ap enrolled_chain e))
+    go (Some t) e = (t, e)
 
-held_mapped : (t : ℕ) (o : Option EnrolledRow) → held_or_none (option_map (λ (w : EnrolledRow). shown_enrolled (record { 0 = t }, w)) o) ≡ held_of o
-unfolding held_or_none shown_enrolled
-held_mapped t None = refl
-held_mapped t (Some entry) = refl
+  pub row_name : (c : ℕ) (t : Txn) → seat seats c ≡ Some t → (row_at seats pending store c).name ≡ t.0
+  unfolding row_at name_or_zero
+  row_name c t sits = ap name_or_zero sits
 
--- what a name holds, by its row
-pub held_row : (t : ℕ) (entries : List (Txn × EnrolledRow)) (rows : List LockRow) → held_in (lock_table (kept entries rows)) t ≡ held_of (lookup (key_is t) entries)
-unfolding held_in enrolled_in lock_table
-held_row t entries rows = ap held_or_none (found t entries) ∙ held_mapped t (lookup (key_is t) entries)
+  -- a seat is found by its name
+  pub named_seat : (c d : ℕ) (t : Txn) → seat seats c ≡ Some t → lists (chain_of order 0) d ≡ true → (row_at seats pending store d).name ≡ t.0 → d ≡ c
+  named_seat c d t sits there name =
+      let other = sits_at d there in
+      seated.single d c t (other.1 ∙ ap Some (one_name other.0 t (sym (row_name d other.0 other.1) ∙ name))) sits
 
--- ---- the table after a change
-pub new_table : (rows : List LockRow) (entries : List (Txn × EnrolledRow)) → entries ≡ [] → rows ≡ [] → lock_table (kept entries rows) ≡ no_locks
-unfolding lock_table no_locks locks_in locks_or_none
-new_table rows entries none empty = λ i. record { enrolled = map shown_enrolled (none i); locks_on = λ y. locks_in (empty i) y }
+  pub other_name : (c d : ℕ) (t : Txn) → seat seats c ≡ Some t → lists (chain_of order 0) d ≡ true → (d ≡ c → ⊥) → eqb (row_at seats pending store d).name t.0 ≡ false
+  other_name c d t sits there apart = ne_eqb _ _ (λ name. apart (named_seat c d t sits there name))
 
-pub same_table : (entries new : List (Txn × EnrolledRow)) (rows changed : List LockRow) → map shown_enrolled new ≡ map shown_enrolled entries → ((y : ℕ) → locks_in changed y ≡ locks_in rows y)
-    → lock_table (kept new changed) ≡ lock_table (kept entries rows)
-unfolding lock_table
-same_table entries new rows changed h l = λ i. record { enrolled = h i; locks_on = λ y. l y i }
+  pub own_name : (c : ℕ) (t : Txn) → seat seats c ≡ Some t → eqb (row_at seats pending store c).name t.0 ≡ true
+  own_name c t sits = eq-eqb _ _ (row_name c t sits)
 
-pub enrolled : (t : Txn) (entries new : List (Txn × EnrolledRow)) (rows : List LockRow) (w : EnrolledRow) → w.pending ≡ None → w.held.items ≡ [] → new ≡ entries ++ (t, w) ∷ [] → lock_table (kept new rows) ≡ enrol_in t.0 (lock_table (kept entries rows))
-unfolding lock_table enrol_in shown_enrolled
-enrolled t entries new rows w pending held is =
-    let h : map shown_enrolled new ≡ map shown_enrolled entries ++ shown_enrolled (t, w) ∷ [] = ap (map shown_enrolled) is ∙ map-append shown_enrolled entries ((t, w) ∷ []) in
-    (λ i. record { enrolled = h i; locks_on = λ y. locks_in rows y })
-    ∙ (λ i. record { enrolled = map shown_enrolled entries ++ record { name = t.0; pending = pending i; held = held i } ∷ []; locks_on = λ y. locks_in rows y })
+  -- the row of one who has a seat
+  pub enrolled_at : (c : ℕ) (t : Txn) → seat seats c ≡ Some t → enrolled_in (rows_of seats pending order store) t.0 ≡ Some (row_at seats pending store c)
+  unfolding enrolled_in rows_of
+  enrolled_at c t sits = find_key (λ (who : Enrolled). eqb who.name t.0) (row_at seats pending store) (chain_of order 0) c (listed_at c t sits) (own_name c t sits) (λ d there name. named_seat c d t sits there (eqb-true _ _ name))
 
-pub waited : (t : ℕ) (x : Ob) (op : Op) (entries new : List (Txn × EnrolledRow)) (rows : List LockRow) (v w : EnrolledRow) → Differ entries → lookup (key_is t) entries ≡ Some v
-    → w.pending ≡ Some (x, op) → w.held.items ≡ v.held.items → new ≡ set_value (key_is t) entries w → lock_table (kept new rows) ≡ wait_in t x op (lock_table (kept entries rows))
-unfolding lock_table wait_in enrolled_waiting shown_enrolled
-waited t x op entries new rows v w differ there pending held is =
-    let h : map shown_enrolled new ≡ change_enrolled t (enrolled_waiting x op) (map shown_enrolled entries) =
-    ap (map shown_enrolled) is ∙ changed t v w (enrolled_waiting x op) entries differ there (λ key. λ i. record { name = key.0; pending = pending i; held = held i }) in
-    λ i. record { enrolled = h i; locks_on = λ y. locks_in rows y }
+  -- one who has none is not enrolled
+  pub absent_name : (t : Txn) → ((c : ℕ) → seat seats c ≡ Some t → ⊥) → (d : ℕ) → lists (chain_of order 0) d ≡ true → eqb (row_at seats pending store d).name t.0 ≡ false
+  absent_name t absent d there =
+      let other = sits_at d there in
+      ne_eqb _ _ (λ name. absent d (other.1 ∙ ap Some (one_name other.0 t (sym (row_name d other.0 other.1) ∙ name))))
 
-one_more_by : (x : Ob) (before : Option Lock) (held : List Ob) → cond (not (is_some before)) (held ++ x ∷ []) held ≡ one_more x before held
-unfolding one_more
-one_more_by x None held = refl
-one_more_by x (Some lock) held = refl
+  pub not_enrolled : (t : Txn) → ((c : ℕ) → seat seats c ≡ Some t → ⊥) → enrolled_in (rows_of seats pending order store) t.0 ≡ None
+  unfolding enrolled_in rows_of
+  not_enrolled t absent = find_none (λ (who : Enrolled). eqb who.name t.0) (row_at seats pending store) (chain_of order 0) (absent_name t absent)
 
-pub granted : (t : ℕ) (x : Ob) (op : Op) (entries new : List (Txn × EnrolledRow)) (rows changed_rows : List LockRow) (v w : EnrolledRow) (is_new : Bool) → Differ entries → lookup (key_is t) entries ≡ Some v
-    → w.pending ≡ None → w.held.items ≡ cond is_new (v.held.items ++ x ∷ []) v.held.items → is_new ≡ not (is_some (lock_of t (locks_in rows x.0)))
-    → ((y : ℕ) → locks_in changed_rows y ≡ cond (eqb x.0 y) (granted_on t op (locks_in rows y)) (locks_in rows y)) → new ≡ set_value (key_is t) entries w
-    → lock_table (kept new changed_rows) ≡ grant_in t x op (lock_table (kept entries rows))
-unfolding lock_table grant_in enrolled_granted shown_enrolled
-granted t x op entries new rows changed_rows v w is_new differ there pending held first l is =
-    let before = lock_of t (locks_in rows x.0) in
-    let held_now : w.held.items ≡ one_more x before v.held.items = held ∙ ap (λ b. cond b (v.held.items ++ x ∷ []) v.held.items) first ∙ one_more_by x before v.held.items in
-    let h : map shown_enrolled new ≡ change_enrolled t (enrolled_granted x before) (map shown_enrolled entries) =
-    ap (map shown_enrolled) is ∙ changed t v w (enrolled_granted x before) entries differ there (λ key. λ i. record { name = key.0; pending = pending i; held = held_now i }) in
-    λ i. record { enrolled = h i; locks_on = λ y. l y i }
+  -- a row is somebody's who has a seat
+  pub row_found : (n : ℕ) (who : Enrolled) → enrolled_in (rows_of seats pending order store) n ≡ Some who → (c : ℕ) × (t : Txn) × (seat seats c ≡ Some t) × (t.0 ≡ n) × (row_at seats pending store c ≡ who)
+  unfolding enrolled_in rows_of
+  row_found n who found =
+      let at = find_found (λ (who : Enrolled). eqb who.name n) (row_at seats pending store) (chain_of order 0) who found in
+      let sits = sits_at at.0 at.1 in
+      (at.0, sits.0, sits.1, sym (row_name at.0 sits.0 sits.1) ∙ eqb-true _ _ at.2, at.3)
 
--- a row that is written as it was, but for its room
+  -- its locks
+  pub locks_of_seat : (c : ℕ) (t : Txn) → seat seats c ≡ Some t → locks_of (rows_of seats pending order store) t.0 ≡ locks_at store c
+  unfolding locks_of locks_or_none row_at
+  locks_of_seat c t sits = ap locks_or_none (enrolled_at c t sits)
 
-unchanged_one : (t : ℕ) (everyone : List Enrolled) → change_enrolled t (λ who. who) everyone ≡ everyone
-unfolding change_enrolled
-unchanged_one t [] = refl
-unchanged_one t (who ∷ everyone) = λ i. cond_same (eqb who.name t) who i ∷ unchanged_one t everyone i
+  pub no_locks_of : (t : Txn) → ((c : ℕ) → seat seats c ≡ Some t → ⊥) → locks_of (rows_of seats pending order store) t.0 ≡ []
+  unfolding locks_of locks_or_none
+  no_locks_of t absent = ap locks_or_none (not_enrolled t absent)
 
-pub unchanged : (t : ℕ) (entries new : List (Txn × EnrolledRow)) (v w : EnrolledRow) → Differ entries → lookup (key_is t) entries ≡ Some v → w.pending ≡ v.pending → w.held.items ≡ v.held.items
-    → new ≡ set_value (key_is t) entries w → map shown_enrolled new ≡ map shown_enrolled entries
-unfolding shown_enrolled
-unchanged t entries new v w differ there pending held is =
-    ap (map shown_enrolled) is ∙ changed t v w (λ who. who) entries differ there (λ key. λ i. record { name = key.0; pending = pending i; held = held i }) ∙ unchanged_one t (map shown_enrolled entries)
+  pub lock_of_seat : (c : ℕ) (t : Txn) (x : ℕ) → seat seats c ≡ Some t → lock_in (rows_of seats pending order store) t.0 x ≡ find (is_on x) (locks_at store c)
+  unfolding lock_in
+  lock_of_seat c t x sits = ap (find (is_on x)) (locks_of_seat c t sits)
 
--- ---- a release
-filter_all : {X : Type 0} (test keep : X → Bool) → ((x : X) → keep x ≡ not (test x)) → (xs : List X) → list_any test xs ≡ false → filter keep xs ≡ xs
-filter_all test keep other [] none = refl
-filter_all test keep other (x ∷ xs) none =
-    let parts = or_parts (test x) (list_any test xs) none in
-    let stays : keep x ≡ true = other x ∙ ap not parts.0 in
-    rw stays (ap (λ ys. x ∷ ys) (filter_all test keep other xs parts.1))
+  -- ---- what holds of each table
+  module _ (stored : IsStored store) (owners : IsSound store.by_owner) where
+    -- a lock that is found is one of the slab
+    lock_found : (n x : ℕ) (lock : Lock) → lock_in (rows_of seats pending order store) n x ≡ Some lock
+        → (k : ℕ) × (c : ℕ) × (t : Txn) × (seat seats c ≡ Some t) × (t.0 ≡ n) × (home_of store.by_owner k ≡ Some c) × (lock_at store.locks k ≡ lock) × (lock.object.0 ≡ x)
+    unfolding lock_in locks_of locks_or_none row_at locks_at
+    lock_found n x lock found = go (enrolled_in (rows_of seats pending order store) n) refl where
+      go : (o : Option Enrolled) → enrolled_in (rows_of seats pending order store) n ≡ o
+          → (k : ℕ) × (c : ℕ) × (t : Txn) × (seat seats c ≡ Some t) × (t.0 ≡ n) × (home_of store.by_owner k ≡ Some c) × (lock_at store.locks k ≡ lock) × (lock.object.0 ≡ x)
+      go None e = absurd (no_some lock (sym found ∙ ap (λ (o : Option Enrolled). find (is_on x) (locks_or_none o)) e))
+      go (Some who) e =
+          let at = row_found n who e in
+          let there = find_found (is_on x) (lock_at store.locks) (chain_of store.by_owner at.0) lock (ap (λ (w : Enrolled). find (is_on x) w.locks) at.4 ∙ sym (ap (λ (o : Option Enrolled). find (is_on x) (locks_or_none o)) e) ∙ found) in
+          (there.0, at.0, at.1, at.2, at.3, owners.at_home at.0 there.0 there.1, there.3, ap (λ (l : Lock). l.object.0) (sym there.3) ∙ on_to x _ there.2)
 
--- an object that t does not hold has no lock of t
-free_of : (t y : ℕ) (table : LockTable) → IsValid table → lists_object y (held_in table t) ≡ false → without t (table.locks_on y) ≡ table.locks_on y
-unfolding without is_of
-free_of t y table valid none = filter_all (is_of t) _ (λ lock. refl) (table.locks_on y) (go (list_any (is_of t) (table.locks_on y)) refl) where
-  go : (b : Bool) → list_any (is_of t) (table.locks_on y) ≡ b → list_any (is_of t) (table.locks_on y) ≡ false
-  go false e = e
-  go true e = absurd (true≢false (sym (valid.listed t y e) ∙ none))
+    names_distinct : IsDistinct eqb (names_in (rows_of seats pending order store))
+    unfolding names_in rows_of
+    names_distinct =
+        subst (λ (l : List ℕ). IsDistinct eqb l) (sym (fused (row_at seats pending store) (λ (who : Enrolled). who.name) (chain_of order 0)))
+        (distinct_map (λ (c : ℕ). (row_at seats pending store c).name) (chain_of order 0) (sound.once 0) (λ c d here there same.
+        let other = sits_at d there in named_seat d c other.0 other.1 here (same ∙ row_name d other.0 other.1)))
 
-all_gone : (t y : ℕ) (table : LockTable) → IsValid table → (b : Bool) → lists_object y (held_in table t) ≡ b → cond b (without t (table.locks_on y)) (table.locks_on y) ≡ without t (table.locks_on y)
-all_gone t y table valid true e = refl
-all_gone t y table valid false e = sym (free_of t y table valid e)
+    objects_distinct : (n : ℕ) → IsDistinct eqb (map (λ (x : Ob). x.0) (held_in (rows_of seats pending order store) n))
+    unfolding held_in locks_of locks_or_none row_at locks_at
+    objects_distinct n = go (enrolled_in (rows_of seats pending order store) n) refl where
+      go : (o : Option Enrolled) → enrolled_in (rows_of seats pending order store) n ≡ o → IsDistinct eqb (map (λ (x : Ob). x.0) (map (λ (lock : Lock). lock.object) (locks_or_none (enrolled_in (rows_of seats pending order store) n))))
+      go None e = subst (λ (o : Option Enrolled). IsDistinct eqb (map (λ (x : Ob). x.0) (map (λ (lock : Lock). lock.object) (locks_or_none o)))) (sym e) distinct_none
+      go (Some who) e =
+          let at = row_found n who e in
+          subst (λ (o : Option Enrolled). IsDistinct eqb (map (λ (x : Ob). x.0) (map (λ (lock : Lock). lock.object) (locks_or_none o)))) (sym e)
+          (subst (λ (w : Enrolled). IsDistinct eqb (map (λ (x : Ob). x.0) (map (λ (lock : Lock). lock.object) w.locks))) at.4
+          (subst (λ (l : List Ob). IsDistinct eqb (map (λ (x : Ob). x.0) l)) (sym (fused (lock_at store.locks) (λ (lock : Lock). lock.object) (chain_of store.by_owner at.0)))
+          (subst (λ (l : List ℕ). IsDistinct eqb l) (sym (fused (λ (k : ℕ). (lock_at store.locks k).object) (λ (x : Ob). x.0) (chain_of store.by_owner at.0)))
+          (distinct_map (λ (k : ℕ). (lock_at store.locks k).object.0) (chain_of store.by_owner at.0) (owners.once at.0)
+          (λ j k here there same. stored.single j k at.0 (owners.at_home at.0 j here) (owners.at_home at.0 k there) same)))))
 
-pub released : (t : ℕ) (entries new : List (Txn × EnrolledRow)) (rows changed_rows : List LockRow) (v : EnrolledRow) → IsValid (lock_table (kept entries rows)) → lookup (key_is t) entries ≡ Some v
-    → new ≡ remove_entry (key_is t) entries → lookup (key_is t) new ≡ None
-    → ((y : ℕ) → locks_in changed_rows y ≡ cond (lists_object y v.held.items) (without t (locks_in rows y)) (locks_in rows y))
-    → lock_table (kept new changed_rows) ≡ release_in (λ n. eqb n t) (lock_table (kept entries rows))
-unfolding lock_table release_in without
-released t entries new rows changed_rows v valid there is gone l =
-    let table = lock_table (kept entries rows) in
-    let held : held_in table t ≡ v.held.items = held_row t entries rows ∙ ap held_of there in
-    let h = ap (map shown_enrolled) is ∙ removed t entries (ap (lookup (key_is t)) (sym is) ∙ gone) in
-    let all = λ (y : ℕ). l y ∙ ap (λ objects. cond (lists_object y objects) (without t (locks_in rows y)) (locks_in rows y)) (sym held) ∙ all_gone t y table valid (lists_object y (held_in table t)) refl in
-    λ i. record { enrolled = h i; locks_on = λ y. all y i }
+    pub rows_valid : IsValid (rows_of seats pending order store)
+    rows_valid = record {
+      names = names_distinct;
+      objects = objects_distinct;
+      carry = λ n x lock found.
+          let at = lock_found n x lock found in
+          ap (λ (l : Lock). is_some_op l.ops) (sym at.6) ∙ stored.carry at.0 at.1 at.5;
+      apart = λ n m x lock other differ first second conflict.
+          let one = lock_found n x lock first in
+          let two = lock_found m x other second in
+          (λ i. (sym one.6 i).granted && (sym two.6 i).granted)
+          ∙ stored.apart one.0 two.0 one.1 two.1 one.5 two.5
+          (λ same. differ (sym one.4 ∙ name_same one.1 two.1 one.2 two.2 same one.3 two.3 ∙ two.4))
+          (ap (λ (l : Lock). l.object.0) one.6 ∙ one.7 ∙ sym two.7 ∙ ap (λ (l : Lock). l.object.0) (sym two.6))
+          ((λ i. both_conflict (one.6 i).ops (two.6 i).ops) ∙ conflict);
+    } where
+      name_same : (c d : ℕ) (t u : Txn) → c ≡ d → seat seats c ≡ Some t → seat seats d ≡ Some u → t.0 ≡ u.0
+      name_same c d t u same here there = let e : Some t ≡ Some u = sym here ∙ ap (seat seats) same ∙ there in let is : t ≡ u = cc in ap (λ (n : Txn). n.0) is
 
-nothing_listed : (y : ℕ) → lists_object y [] ≡ false
-unfolding lists_object
-nothing_listed y = refl
+-- ---- changes of the table
+-- the rows as they change with what is kept by seat
+pub rows_change : (seats : Seated) (pending later : List PendingRequest) (order : Chained) (store new : Stored) (change : Enrolled → Enrolled)
+    → ((c : ℕ) → lists (chain_of order 0) c ≡ true → row_at seats later new c ≡ change (row_at seats pending store c)) → rows_of seats later order new ≡ map change (rows_of seats pending order store)
+unfolding rows_of
+rows_change seats pending later order store new change each = remapped (row_at seats later new) (row_at seats pending store) change (chain_of order 0) each
 
--- nobody is enrolled by the name
-pub nobody : (t : ℕ) (entries : List (Txn × EnrolledRow)) (rows : List LockRow) → IsValid (lock_table (kept entries rows)) → lookup (key_is t) entries ≡ None → lock_table (kept entries rows) ≡ release_in (λ n. eqb n t) (lock_table (kept entries rows))
-unfolding lock_table release_in without
-nobody t entries rows valid none =
-    let table = lock_table (kept entries rows) in
-    let held : held_in table t ≡ [] = held_row t entries rows ∙ ap held_of none in
-    let free = λ (y : ℕ). free_of t y table valid (ap (lists_object y) held ∙ nothing_listed y) in
-    λ i. record { enrolled = sym (none_kept t entries none) i; locks_on = λ y. sym (free y) i }
+module _ (seats : Seated) (pending : List PendingRequest) (order : Chained) (store : Stored) (seated : AreSeated seats pending order store) (sound : IsSound order) (c : ℕ) (t : Txn) (sits : seat seats c ≡ Some t) where
+  pub request_place : c < length pending
+  request_place = seated.requests c t sits
+
+  -- t's request waits
+  pub waits : (x : Ob) (op : Op) → rows_of seats (set pending c (Some (x, op))) order store ≡ wait_in t.0 x op (rows_of seats pending order store)
+  unfolding wait_in waiting_row row_at
+  waits x op = rows_change seats pending (set pending c (Some (x, op))) order store store (waiting_row t.0 x op) (λ d there. elim (cases_Bool (eqb d c)) [
+    | inl here ↦
+        let is = eqb-true d c here in
+        ap (λ (p : PendingRequest). record (row_at seats pending store d) { pending = p }) (pending_set pending c (Some (x, op)) request_place d ∙ ap (λ (b : Bool). cond b (Some (x, op)) (pending_at pending d)) here)
+        ∙ sym (ap (λ (b : Bool). cond b (record (row_at seats pending store d) { pending = Some (x, op) }) (row_at seats pending store d)) (ap (λ (n : ℕ). eqb (row_at seats pending store n).name t.0) is ∙ own_name seats pending order store seated sound c t sits))
+    | inr apart ↦
+        ap (λ (p : PendingRequest). record (row_at seats pending store d) { pending = p }) (pending_set pending c (Some (x, op)) request_place d ∙ ap (λ (b : Bool). cond b (Some (x, op)) (pending_at pending d)) apart)
+        ∙ sym (ap (λ (b : Bool). cond b (record (row_at seats pending store d) { pending = Some (x, op) }) (row_at seats pending store d)) (other_name seats pending order store seated sound c d t sits there (eqb-false d c apart)))
+  ])
+
+  -- op on x is granted to t
+  pub grants : (new : Stored) (x : Ob) (op : Op) → locks_at new c ≡ granted_own x op (locks_at store c)
+      → ((d : ℕ) → (d ≡ c → ⊥) → locks_at new d ≡ map (suspended x.0 (ops_with op (find (is_on x.0) (locks_at store c)))) (locks_at store d))
+      → rows_of seats (set pending c None) order new ≡ grant_in t.0 x op (rows_of seats pending order store)
+  unfolding grant_in granted_row row_at
+  grants new x op own others =
+      rows_change seats pending (set pending c None) order store new (granted_row t.0 x op ops) (λ d there. elim (cases_Bool (eqb d c)) [
+        | inl here ↦
+            let is = eqb-true d c here in
+            (λ i. record { name = name_or_zero (seat seats d); pending = (pending_set pending c None request_place d ∙ ap (λ (b : Bool). cond b None (pending_at pending d)) here) i; locks = (ap (locks_at new) is ∙ own ∙ ap (λ (n : ℕ). granted_own x op (locks_at store n)) (sym is)) i })
+            ∙ sym (ap (λ (b : Bool). cond b (record (row_at seats pending store d) { pending = None; locks = granted_own x op (locks_at store d) }) (record (row_at seats pending store d) { locks = map (suspended x.0 ops) (locks_at store d) }))
+            (ap (λ (n : ℕ). eqb (row_at seats pending store n).name t.0) is ∙ own_name seats pending order store seated sound c t sits))
+        | inr apart ↦
+            (λ i. record { name = name_or_zero (seat seats d); pending = (pending_set pending c None request_place d ∙ ap (λ (b : Bool). cond b None (pending_at pending d)) apart) i; locks = others d (eqb-false d c apart) i })
+            ∙ sym (ap (λ (b : Bool). cond b (record (row_at seats pending store d) { pending = None; locks = granted_own x op (locks_at store d) }) (record (row_at seats pending store d) { locks = map (suspended x.0 ops) (locks_at store d) }))
+            (other_name seats pending order store seated sound c d t sits there (eqb-false d c apart)))
+      ])
+      ∙ ap (λ (o : Option Lock). map (granted_row t.0 x op (ops_with op o)) (rows_of seats pending order store)) (sym (lock_of_seat seats pending order store seated sound c t x.0 sits)) where
+        ops : OpSet
+        ops = ops_with op (find (is_on x.0) (locks_at store c))
+
+  -- who sits is enrolled
+  pub seated_later : (later : List PendingRequest) (new : Stored) → length pending ≤ length later → length store.by_owner.chains ≤ length new.by_owner.chains
+      → ((k d : ℕ) → home_of new.by_owner k ≡ Some d → (home_of store.by_owner k ≡ Some d) ⊎ (d ≡ c)) → AreSeated seats later order new
+  seated_later later new places chains holders = record {
+    ordered = seated.ordered;
+    single = seated.single;
+    requests = λ d u here. omega (arith, seated.requests d u here, places);
+    chains = λ d u here. omega (arith, seated.chains d u here, chains);
+    holders = λ d k home. elim (holders k d home) [
+      | inl before ↦ seated.holders d k before
+      | inr same ↦ ap (λ (n : ℕ). is_some (seat seats n)) same ∙ ap is_some sits
+    ];
+  }
+
+  -- t is released
+  pub releases : (after : Seated) (left : Chained) (new : Stored) → ((d : ℕ) → seat after d ≡ cond (eqb d c) None (seat seats d)) → chain_of left 0 ≡ without c (chain_of order 0)
+      → ((d : ℕ) → (d ≡ c → ⊥) → locks_at new d ≡ locks_at store d) → rows_of after pending left new ≡ release_in (λ n. eqb n t.0) (rows_of seats pending order store)
+  unfolding rows_of release_in row_at
+  releases after left new leaves chain others =
+      ap (map (row_at after pending new)) chain
+      ∙ filtered (row_at after pending new) (row_at seats pending store) (λ (who : Enrolled). not (eqb who.name t.0)) c (chain_of order 0) (ap not (own_name seats pending order store seated sound c t sits))
+      (λ d there apart. (
+        ap not (other_name seats pending order store seated sound c d t sits there apart),
+        λ i. record { name = name_or_zero ((leaves d ∙ ap (λ (b : Bool). cond b None (seat seats d)) (ne_eqb d c apart)) i); pending = pending_at pending d; locks = others d apart i },
+      ))
+
+  pub seated_less : (after : Seated) (left : Chained) (new : Stored) → ((d : ℕ) → seat after d ≡ cond (eqb d c) None (seat seats d)) → ((d : ℕ) → home_of left d ≡ cond (eqb d c) None (home_of order d))
+      → length new.by_owner.chains ≡ length store.by_owner.chains → ((k d : ℕ) → home_of new.by_owner k ≡ Some d → (home_of store.by_owner k ≡ Some d) × (d ≡ c → ⊥)) → AreSeated after pending left new
+  unfolding enrolled_chain
+  seated_less after left new leaves homes chains holders = record {
+    ordered = λ d. elim (cases_Bool (eqb d c)) [
+      | inl here ↦ homes d ∙ ap (λ (b : Bool). cond b None (home_of order d)) here ∙ sym (ap enrolled_chain (leaves d ∙ ap (λ (b : Bool). cond b None (seat seats d)) here))
+      | inr apart ↦ homes d ∙ ap (λ (b : Bool). cond b None (home_of order d)) apart ∙ seated.ordered d ∙ sym (ap enrolled_chain (leaves d ∙ ap (λ (b : Bool). cond b None (seat seats d)) apart))
+    ];
+    single = λ d e u here there. seated.single d e u (still d u here) (still e u there);
+    requests = λ d u here. seated.requests d u (still d u here);
+    chains = λ d u here. subst (λ n. d < n) (sym chains) (seated.chains d u (still d u here));
+    holders = λ d k home.
+        let was = holders k d home in
+        ap is_some (leaves d ∙ ap (λ (b : Bool). cond b None (seat seats d)) (ne_eqb d c was.1)) ∙ seated.holders d k was.0;
+  } where
+    still : (d : ℕ) (u : Txn) → seat after d ≡ Some u → seat seats d ≡ Some u
+    still d u here = elim (cases_Bool (eqb d c)) [
+      | inl is ↦ absurd (no_some u (sym here ∙ leaves d ∙ ap (λ (b : Bool). cond b None (seat seats d)) is))
+      | inr apart ↦ sym (leaves d ∙ ap (λ (b : Bool). cond b None (seat seats d)) apart) ∙ here
+    ]
+
+-- nobody of this name is released
+pub releases_nobody : (seats : Seated) (pending : List PendingRequest) (order : Chained) (store : Stored) → AreSeated seats pending order store → IsSound order → (t : Txn) → ((c : ℕ) → seat seats c ≡ Some t → ⊥)
+    → rows_of seats pending order store ≡ release_in (λ n. eqb n t.0) (rows_of seats pending order store)
+unfolding rows_of release_in
+releases_nobody seats pending order store seated sound t absent =
+    all_pass (row_at seats pending store) (λ (who : Enrolled). not (eqb who.name t.0)) (chain_of order 0) (λ d there. ap not (absent_name seats pending order store seated sound t absent d there))
+
+-- ---- one more is enrolled
+module _ (seats : Seated) (pending : List PendingRequest) (order : Chained) (store : Stored) (seated : AreSeated seats pending order store) (more : Seated) (longer : List PendingRequest) (grown : Chained) (roomy : Stored)
+    (made : IsRoomMade seats pending order more longer grown) (room : IsGrown store roomy) where
+  -- room changes nothing
+  pub seated_grown : AreSeated more longer grown roomy
+  seated_grown = record {
+    ordered = λ c. made.homes c ∙ seated.ordered c ∙ ap enrolled_chain (sym (made.names c));
+    single = λ c d t here there. seated.single c d t (sym (made.names c) ∙ here) (sym (made.names d) ∙ there);
+    requests = λ c t here. omega (arith, seated.requests c t (sym (made.names c) ∙ here), made.places);
+    chains = λ c t here. omega (arith, seated.chains c t (sym (made.names c) ∙ here), room.seats);
+    holders = λ c k home. ap is_some (made.names c) ∙ seated.holders c k (sym (room.homes k) ∙ home);
+  }
+
+  pub rows_grown : rows_of more longer grown roomy ≡ rows_of seats pending order store
+  unfolding rows_of row_at
+  rows_grown =
+      ap (map (row_at more longer roomy)) (made.chains 0)
+      ∙ map_same (row_at more longer roomy) (row_at seats pending store) (chain_of order 0)
+      (λ c there. λ i. record { name = name_or_zero (made.names c i); pending = made.requests c i; locks = grown_same store roomy room c i })
+
+module _ (seats : Seated) (pending : List PendingRequest) (order : Chained) (store : Stored) (seated : AreSeated seats pending order store) (sound : IsSound order) (owners : IsSound store.by_owner)
+    (after : Seated) (longer : Chained) (c : ℕ) (t : Txn) (free : seat seats c ≡ None) (absent : (d : ℕ) → seat seats d ≡ Some t → ⊥)
+    (sits : (d : ℕ) → seat after d ≡ cond (eqb d c) (Some t) (seat seats d)) (pushed : IsPushed 0 c order longer) (place : c < length pending) (chain : c < length store.by_owner.chains) where
+  sits_now : seat after c ≡ Some t
+  sits_now = sits c ∙ ap (λ (b : Bool). cond b (Some t) (seat seats c)) (eq-eqb c c refl)
+
+  kept : (d : ℕ) → (d ≡ c → ⊥) → seat after d ≡ seat seats d
+  kept d apart = sits d ∙ ap (λ (b : Bool). cond b (Some t) (seat seats d)) (ne_eqb d c apart)
+
+  pub seated_more : AreSeated after (set pending c None) longer store
+  unfolding enrolled_chain
+  seated_more = record {
+    ordered = λ d. elim (cases_Bool (eqb d c)) [
+      | inl here ↦ let is = eqb-true d c here in ap (home_of longer) is ∙ pushed.home ∙ sym (ap enrolled_chain (ap (seat after) is ∙ sits_now))
+      | inr apart ↦ let differ = eqb-false d c apart in pushed.homes d differ ∙ seated.ordered d ∙ sym (ap enrolled_chain (kept d differ))
+    ];
+    single = λ d e u here there. elim (cases_Bool (eqb d c)) [
+      | inl first ↦ elim (cases_Bool (eqb e c)) [
+        | inl second ↦ eqb-true d c first ∙ sym (eqb-true e c second)
+        | inr apart ↦ absurd (absent e (sym (kept e (eqb-false e c apart)) ∙ there ∙ sym here ∙ ap (seat after) (eqb-true d c first) ∙ sits_now))
+      ]
+      | inr differ ↦ elim (cases_Bool (eqb e c)) [
+        | inl second ↦ absurd (absent d (sym (kept d (eqb-false d c differ)) ∙ here ∙ sym there ∙ ap (seat after) (eqb-true e c second) ∙ sits_now))
+        | inr apart ↦ seated.single d e u (sym (kept d (eqb-false d c differ)) ∙ here) (sym (kept e (eqb-false e c apart)) ∙ there)
+      ]
+    ];
+    requests = λ d u here. elim (cases_Bool (eqb d c)) [
+      | inl is ↦ omega (arith, place, length-set pending c None, eqb-true d c is)
+      | inr apart ↦ omega (arith, seated.requests d u (sym (kept d (eqb-false d c apart)) ∙ here), length-set pending c None)
+    ];
+    chains = λ d u here. elim (cases_Bool (eqb d c)) [
+      | inl is ↦ omega (arith, chain, eqb-true d c is)
+      | inr apart ↦ seated.chains d u (sym (kept d (eqb-false d c apart)) ∙ here)
+    ];
+    holders = λ d k home. elim (cases_Bool (eqb d c)) [
+      | inl is ↦ ap (λ (n : ℕ). is_some (seat after n)) (eqb-true d c is) ∙ ap is_some sits_now
+      | inr apart ↦ ap is_some (kept d (eqb-false d c apart)) ∙ seated.holders d k home
+    ];
+  }
+
+  nothing_held : locks_at store c ≡ []
+  unfolding locks_at
+  nothing_held = ap (map (lock_at store.locks)) (none_listed (chain_of store.by_owner c) (λ k there. true≢false (sym (seated.holders c k (owners.at_home c k there)) ∙ ap is_some free)))
+
+  pub enrols : rows_of after (set pending c None) longer store ≡ enrol_in t.0 (rows_of seats pending order store)
+  unfolding rows_of enrol_in row_at name_or_zero
+  enrols =
+      ap (map (row_at after (set pending c None) store)) pushed.chain
+      ∙ map-append (row_at after (set pending c None) store) (chain_of order 0) (c ∷ [])
+      ∙ (λ i. map_same (row_at after (set pending c None) store) (row_at seats pending store) (chain_of order 0) (λ d there.
+      let differ = apart_from d there in
+      λ j. record { name = name_or_zero (kept d differ j); pending = (pending_set pending c None place d ∙ ap (λ (b : Bool). cond b None (pending_at pending d)) (ne_eqb d c differ)) j; locks = locks_at store d }) i
+      ++ record { name = name_or_zero (sits_now i); pending = (pending_set pending c None place c ∙ ap (λ (b : Bool). cond b None (pending_at pending c)) (eq-eqb c c refl)) i; locks = nothing_held i } ∷ []) where
+        apart_from : (d : ℕ) → lists (chain_of order 0) d ≡ true → d ≡ c → ⊥
+        apart_from d there is = let other = sits_at seats pending order store seated sound d there in no_some other.0 (sym other.1 ∙ ap (seat seats) is ∙ free)
+
+-- ---- who is free
+module _ (seats : Seated) (pending : List PendingRequest) (order : Chained) (store : Stored) (seated : AreSeated seats pending order store) (sound : IsSound order) (allows : ℕ → Bool) (t x : ℕ) (op : Op) where
+  pub is_blocked_by : (c : ℕ) (u : Txn) → seat seats c ≡ Some u → blocks allows t x op u.0 (locks_at store c) ≡ true → is_free_in (rows_of seats pending order store) allows t x op ≡ false
+  unfolding is_free_in rows_of row_at
+  is_blocked_by c u sits h =
+      ap not (any_from (λ (who : Enrolled). blocks allows t x op who.name who.locks) (row_at seats pending store) (chain_of order 0) c (listed_at seats pending order store seated sound c u sits)
+      (ap (λ (n : ℕ). blocks allows t x op n (locks_at store c)) (row_name seats pending order store seated sound c u sits) ∙ h))
+
+  pub is_free_by : ((c : ℕ) (u : Txn) → seat seats c ≡ Some u → blocks allows t x op u.0 (locks_at store c) ≡ false) → is_free_in (rows_of seats pending order store) allows t x op ≡ true
+  unfolding is_free_in rows_of row_at
+  is_free_by none =
+      ap not (any_none (λ (who : Enrolled). blocks allows t x op who.name who.locks) (row_at seats pending store) (chain_of order 0) (λ c there.
+      let at = sits_at seats pending order store seated sound c there in
+      ap (λ (n : ℕ). blocks allows t x op n (locks_at store c)) (row_name seats pending order store seated sound c at.0 at.1) ∙ none c at.0 at.1))
+
+-- ---- who waits
+pub waiting_seat : Seated → List PendingRequest → ℕ → ℕ → List (Txn × Op)
+waiting_seat seats pending x c = waiting_at x (name_or_zero (seat seats c)) (pending_at pending c)
+
+pub waiters_are : (seats : Seated) (pending : List PendingRequest) (order : Chained) (store : Stored) (x : ℕ) → waiters_in (rows_of seats pending order store) x ≡ flat_map (waiting_seat seats pending x) (chain_of order 0)
+unfolding waiters_in rows_of row_at waiting_seat
+waiters_are seats pending order store x = go (chain_of order 0) where
+  go : (keys : List ℕ) → flat_map (λ (who : Enrolled). waiting_at x who.name who.pending) (map (row_at seats pending store) keys) ≡ flat_map (waiting_seat seats pending x) keys
+  go [] = refl
+  go (c ∷ keys) = ap (λ (l : List (Txn × Op)). waiting_at x (name_or_zero (seat seats c)) (pending_at pending c) ++ l) (go keys)
+
+pub waits_there : (seats : Seated) (pending : List PendingRequest) (x c : ℕ) (t : Txn) → seat seats c ≡ Some t → (l : List (Txn × Op)) → l ≡ waiting_at x t.0 (pending_at pending c) → waiting_seat seats pending x c ≡ l
+unfolding waiting_seat name_or_zero
+waits_there seats pending x c t sits l is = ap (λ (o : Option Txn). waiting_at x (name_or_zero o) (pending_at pending c)) sits ∙ sym is
+
+-- ---- what calls answer
+pub not_blocked : (blocked free : Bool) → (blocked ≡ true → free ≡ false) → (blocked ≡ false → free ≡ true) → not blocked ≡ free
+not_blocked true free when otherwise = sym (when refl)
+not_blocked false free when otherwise = sym (otherwise refl)
+
+pub rows_kept : (seats : Seated) (pending : List PendingRequest) (order : Chained) (store new : Stored) → ((d : ℕ) → locks_at new d ≡ locks_at store d) → rows_of seats pending order new ≡ rows_of seats pending order store
+unfolding rows_of row_at
+rows_kept seats pending order store new same =
+    map_same (row_at seats pending new) (row_at seats pending store) (chain_of order 0) (λ d there. ap (λ (l : List Lock). record { name = name_or_zero (seat seats d); pending = pending_at pending d; locks = l }) (same d))
+
+pub find_absent : (test : Lock → Bool) (locks : List Lock) → list_any test locks ≡ false → find test locks ≡ None
+find_absent test [] none = refl
+find_absent test (l ∷ locks) none =
+    let parts = or_parts (test l) (list_any test locks) none in
+    ap (λ (b : Bool). cond b (Some l) (find test locks)) parts.0 ∙ find_absent test locks parts.1
+
+pub nobody_seated : (seats : Seated) (pending : List PendingRequest) (order : Chained) (store : Stored) → AreSeated seats pending order store → IsSound order → (t : Txn) → ((c : ℕ) → seat seats c ≡ Some t → ⊥)
+    → is_some (enrolled_in (rows_of seats pending order store) t.0) ≡ true → ⊥
+nobody_seated seats pending order store seated sound t absent enrolled = true≢false (sym enrolled ∙ ap is_some (not_enrolled seats pending order store seated sound t absent))
+
+-- nobody is enrolled, at first
+pub seated_nothing : (seats : Seated) (pending : List PendingRequest) (order : Chained) (store : Stored) → ((c : ℕ) → seat seats c ≡ None) → order.homes ≡ [] → store.by_owner.homes ≡ [] → AreSeated seats pending order store
+unfolding enrolled_chain
+seated_nothing seats pending order store nobody homes owners = record {
+  ordered = λ c. no_home_of order homes c ∙ sym (ap enrolled_chain (nobody c));
+  single = λ c d t here there. absurd (no_some t (sym here ∙ nobody c));
+  requests = λ c t here. absurd (no_some t (sym here ∙ nobody c));
+  chains = λ c t here. absurd (no_some t (sym here ∙ nobody c));
+  holders = λ c k home. absurd (no_some c (sym home ∙ no_home_of store.by_owner owners k));
+}
+
+pub no_rows : (seats : Seated) (pending : List PendingRequest) (order : Chained) (store : Stored) → order.chains ≡ [] → rows_of seats pending order store ≡ []
+unfolding rows_of
+no_rows seats pending order store none = ap (map (row_at seats pending store)) (no_chain_of order none 0)
+
+-- ---- waiters that come later
+pub one_waiter : (waiter : Txn × Op) (rest : List (Txn × Op)) (l : List (Txn × Op)) (before : ℕ) → l ≡ waiter ∷ [] → before ≡ 0 → slice_get (l ++ rest) before ≡ Some waiter
+one_waiter waiter rest l before is first = ap (λ (w : List (Txn × Op)). slice_get (w ++ rest) before) is ∙ sym (get_first waiter rest before first)
+
+pub one_waiter_less : (waiter : Txn × Op) (rest : List (Txn × Op)) (l : List (Txn × Op)) (before : ℕ) → l ≡ waiter ∷ [] → (before ≡ 0 → ⊥) → slice_get rest (before - 1) ≡ slice_get (l ++ rest) before
+one_waiter_less waiter rest l before is later = get_later waiter rest before later ∙ sym (ap (λ (w : List (Txn × Op)). slice_get (w ++ rest) before) is)
+
+pub no_waiter : (rest l : List (Txn × Op)) (before : ℕ) → l ≡ [] → slice_get rest before ≡ slice_get (l ++ rest) before
+no_waiter rest l before is = sym (ap (λ (w : List (Txn × Op)). slice_get (w ++ rest) before) is)
+
+-- ---- enrolment
+-- one who is not enrolled has no seat
+pub no_seat : (seats : Seated) (pending : List PendingRequest) (order : Chained) (store : Stored) → AreSeated seats pending order store → IsSound order → (t : Txn) → enrolled_in (rows_of seats pending order store) t.0 ≡ None
+    → (c : ℕ) → seat seats c ≡ Some t → ⊥
+no_seat seats pending order store seated sound t none c sits = no_some _ (sym (enrolled_at seats pending order store seated sound c t sits) ∙ none)
+
+pub enrolled_now : (t : ℕ) (table : LockTable) → is_some (enrolled_in (enrol_in t table) t) ≡ true
+unfolding enrolled_in enrol_in
+enrolled_now t table = go table where
+  new : Enrolled
+  new = record { name = t; pending = None; locks = [] }
+
+  go : (rows : List Enrolled) → is_some (find (λ (who : Enrolled). eqb who.name t) (rows ++ new ∷ [])) ≡ true
+  go [] = ap (λ (b : Bool). is_some (cond b (Some new) None)) (eq-eqb t t refl)
+  go (who ∷ rows) = by_name (eqb who.name t) (go rows) where
+    by_name : (b : Bool) → is_some (find (λ (who : Enrolled). eqb who.name t) (rows ++ new ∷ [])) ≡ true → is_some (cond b (Some who) (find (λ (who : Enrolled). eqb who.name t) (rows ++ new ∷ []))) ≡ true
+    by_name true h = refl
+    by_name false h = h
+
+pub map_ok : {T E P Q : Type 0} (r : Result T E) → OnOk r P → (P → Q) → OnOk r Q
+map_ok (Ok x) p f = f p
+map_ok (Err e) p f = tt
+
+-- ---- room
+pub seat_same : (old new : Seated) → new.slots ≡ old.slots → (c : ℕ) → seat new c ≡ seat old c
+unfolding seat
+seat_same old new same c = ap (λ (l : List (Option Txn)). slice_index_or l c None) same
+
+-- one more place has no request
+pub pending_more : (pending : List PendingRequest) (d : ℕ) → pending_at (pending ++ None ∷ []) d ≡ pending_at pending d
+unfolding pending_at
+pending_more pending d = read_more pending None d

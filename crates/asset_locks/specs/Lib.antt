@@ -1,2 +1,3 @@
 pub mod LockTable
 pub mod Valid
+pub mod Stored

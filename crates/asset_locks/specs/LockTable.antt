@@ -1,6 +1,5 @@
--- The table of locks: of each object its locks, and of each enrolled transaction its pending request and the
--- objects that it holds.
-use Rattle.std.specs.Prelude.{◌≡◌, ℕ, Bool, true, false, cond, not, ◌==◌, ◌&&◌, ◌||◌, List, [], ◌∷◌, ◌++◌, map, filter, find, flat_map, Option, Some, None, option_map}
+-- The table of locks: of each enrolled transaction its pending request, and its locks.
+use Rattle.std.specs.Prelude.{ℕ, Bool, true, false, cond, not, ◌==◌, ◌&&◌, ◌||◌, List, [], ◌∷◌, ◌++◌, map, filter, find, flat_map, Option, Some, None, option_map}
 use Rattle.std.specs.List.{list_any}
 use Rattle.asset_names.specs.declared.names.Txn.{Txn}
 use Rattle.asset_names.specs.declared.names.Ob.{Ob}
@@ -8,41 +7,32 @@ use Rattle.asset_names.specs.declared.operations.Op.{Op}
 use Rattle.asset_names.specs.declared.operations.Op.TheVariants as Op'
 use Rattle.asset_names.specs.Operations.{conflict}
 use Rattle.asset_names.specs.OpSets.{has_op, OpSet, only_op, with_op}
+use Rattle.asset_locks.specs.declared.lock.Lock.{Lock}
 use Rattle.asset_locks.specs.declared.state.LockState.{LockState}
 use Rattle.asset_locks.specs.declared.state.LockState.TheVariants.{Granted, Suspended}
-
--- a lock on an object: whose it is, whether it carries Read and whether it carries Write, and whether it is granted
-pub record Lock : Type 0 where
-  pub owner : ℕ
-  pub ops : OpSet
-  pub granted : Bool
 
 -- the request that waits, if there is one
 abbrev pub PendingRequest : Type 0
 PendingRequest = Option (Ob × Op)
 
--- an enrolled name: its pending request, and the objects on which it has a lock, in order of first grant
+-- an enrolled name: its pending request, and its locks in order of first grant
 pub record Enrolled : Type 0 where
   pub name : ℕ
   pub pending : PendingRequest
-  pub held : List Ob
+  pub locks : List Lock
 
--- the enrolled transactions in order of enrolment, and the locks on each object
-pub record LockTable : Type 0 where
-  pub enrolled : List Enrolled
-  pub locks_on : ℕ → List Lock
+-- the enrolled transactions, in order of enrolment
+abbrev pub LockTable : Type 0
+LockTable = List Enrolled
 
--- nobody is enrolled, and there is no lock
-unfoldable pub no_locks : LockTable
-no_locks = record { enrolled = []; locks_on = λ x. [] }
+-- ---- what a lock is like
+-- whether the lock is on x
+unfoldable pub is_on : ℕ → Lock → Bool
+is_on x lock = lock.object.0 == x
 
--- whether the lock is t's
-unfoldable pub is_of : ℕ → Lock → Bool
-is_of t lock = lock.owner == t
-
--- whether t's lock on x carries op
-unfoldable pub carries : LockTable → ℕ → ℕ → Op → Bool
-carries table t x op = list_any (λ (lock : Lock). is_of t lock && has_op lock.ops op) (table.locks_on x)
+-- whether the lock is on x and carries op
+unfoldable pub carries_on : ℕ → Op → Lock → Bool
+carries_on x op lock = is_on x lock && has_op lock.ops op
 
 -- whether any of the operations conflicts with op
 unfoldable pub one_conflicts : OpSet → Op → Bool
@@ -52,111 +42,108 @@ one_conflicts ops op = has_op ops Op'.Read && conflict Op'.Read op || has_op ops
 unfoldable pub both_conflict : OpSet → OpSet → Bool
 both_conflict ops others = has_op others Op'.Read && one_conflicts ops Op'.Read || has_op others Op'.Write && one_conflicts ops Op'.Write
 
--- whether the lock blocks t from op: it is of another, who does not allow it, and conflicts with op
-unfoldable pub blocks : (ℕ → Bool) → ℕ → Op → Lock → Bool
-blocks allows t op lock = not (is_of t lock) && one_conflicts lock.ops op && not (allows lock.owner)
+-- whether the lock is on x and carries an operation in conflict with op
+unfoldable pub conflicts_on : ℕ → Op → Lock → Bool
+conflicts_on x op lock = is_on x lock && one_conflicts lock.ops op
 
--- x is free for t to do op if no lock on it blocks t
-unfoldable pub is_free_in : LockTable → (ℕ → Bool) → ℕ → ℕ → Op → Bool
-is_free_in table allows t x op = not (list_any (blocks allows t op) (table.locks_on x))
-
--- t's lock, if it has one
-unfoldable pub lock_of : ℕ → List Lock → Option Lock
-lock_of t locks = find (is_of t) locks
-
--- the operations that a lock carries, if there is one, and op
-unfoldable pub ops_with : Op → Option Lock → OpSet
-ops_with op None = only_op op
-ops_with op (Some lock) = with_op op lock.ops
-
--- a lock adjusted one of t that is granted with these operations: t's own takes them, and another's that
--- conflicts with them is suspended
-unfoldable pub adjusted : ℕ → OpSet → Lock → Lock
-adjusted t ops lock = cond (is_of t lock) (record { owner = t; ops = ops; granted = true }) (cond (both_conflict lock.ops ops) (record lock { granted = false }) lock)
-
--- if t has no lock, one comes at the end
-unfoldable pub newcomer : ℕ → OpSet → Option Lock → List Lock
-newcomer t ops None = record { owner = t; ops = ops; granted = true } ∷ []
-newcomer t ops (Some lock) = []
-
--- the locks of an object after op is granted to t
-unfoldable pub granted_on : ℕ → Op → List Lock → List Lock
-granted_on t op locks =
-    let ops = ops_with op (lock_of t locks) in
-    map (adjusted t ops) locks ++ newcomer t ops (lock_of t locks)
-
--- one more object is held if t had no lock on it
-unfoldable pub one_more : Ob → Option Lock → List Ob → List Ob
-one_more x None held = held ++ x ∷ []
-one_more x (Some lock) held = held
-
--- a change of one name's who
-unfoldable pub change_enrolled : ℕ → (Enrolled → Enrolled) → List Enrolled → List Enrolled
-change_enrolled t change everyone = map (λ (who : Enrolled). cond (who.name == t) (change who) who) everyone
-
--- the who after a grant on x: nothing is pending, and x is held
-unfoldable pub enrolled_granted : Ob → Option Lock → Enrolled → Enrolled
-enrolled_granted x before who = record who { pending = None; held = one_more x before who.held }
-
--- the who after a request that waits
-unfoldable pub enrolled_waiting : Ob → Op → Enrolled → Enrolled
-enrolled_waiting x op who = record who { pending = Some (x, op) }
-
--- op on x is granted to t
-unfoldable pub grant_in : ℕ → Ob → Op → LockTable → LockTable
-grant_in t x op table = record {
-  enrolled = change_enrolled t (enrolled_granted x (lock_of t (table.locks_on x.0))) table.enrolled;
-  locks_on = λ y. cond (x.0 == y) (granted_on t op (table.locks_on y)) (table.locks_on y);
-}
-
--- t's request waits
-unfoldable pub wait_in : ℕ → Ob → Op → LockTable → LockTable
-wait_in t x op table = record table { enrolled = change_enrolled t (enrolled_waiting x op) table.enrolled }
-
--- one more name, at the end
-unfoldable pub enrol_in : ℕ → LockTable → LockTable
-enrol_in t table = record table { enrolled = table.enrolled ++ record { name = t; pending = None; held = [] } ∷ [] }
-
--- those who pass the test are enrolled no more, and have no lock
-unfoldable pub release_in : (ℕ → Bool) → LockTable → LockTable
-release_in test table = record {
-  enrolled = filter (λ (who : Enrolled). not (test who.name)) table.enrolled;
-  locks_on = λ x. filter (λ (lock : Lock). not (test lock.owner)) (table.locks_on x);
-}
-
--- the names of the enrolled transactions, in order
-unfoldable pub names_in : LockTable → List ℕ
-names_in table = map (λ (who : Enrolled). who.name) table.enrolled
-
--- the row of a name, if it is enrolled
-unfoldable pub enrolled_in : LockTable → ℕ → Option Enrolled
-enrolled_in table t = find (λ (who : Enrolled). who.name == t) table.enrolled
-
--- the state of t's lock on x, if it has one
+-- the state of a lock
 unfoldable pub state_of : Lock → LockState
 state_of lock = cond lock.granted Granted Suspended
 
+-- ---- what the table says
+-- the names of the enrolled transactions, in order
+unfoldable pub names_in : LockTable → List ℕ
+names_in table = map (λ (who : Enrolled). who.name) table
+
+-- the row of a name, if it is enrolled
+unfoldable pub enrolled_in : LockTable → ℕ → Option Enrolled
+enrolled_in table t = find (λ (who : Enrolled). who.name == t) table
+
+-- the locks of a row, if there is one
+unfoldable pub locks_or_none : Option Enrolled → List Lock
+locks_or_none None = []
+locks_or_none (Some who) = who.locks
+
+-- t's locks, in order of first grant
+unfoldable pub locks_of : LockTable → ℕ → List Lock
+locks_of table t = locks_or_none (enrolled_in table t)
+
+-- t's lock on x, if it has one
+unfoldable pub lock_in : LockTable → ℕ → ℕ → Option Lock
+lock_in table t x = find (is_on x) (locks_of table t)
+
+-- the state of t's lock on x, if it has one
 unfoldable pub status_in : LockTable → ℕ → ℕ → Option LockState
-status_in table t x = option_map state_of (lock_of t (table.locks_on x))
+status_in table t x = option_map state_of (lock_in table t x)
 
--- the objects on which t has a lock
-unfoldable pub held_or_none : Option Enrolled → List Ob
-held_or_none None = []
-held_or_none (Some who) = who.held
-
+-- the objects on which t has a lock, in order of first grant
 unfoldable pub held_in : LockTable → ℕ → List Ob
-held_in table t = held_or_none (enrolled_in table t)
+held_in table t = map (λ (lock : Lock). lock.object) (locks_of table t)
+
+-- whether a lock of t's on x carries op
+unfoldable pub carries : LockTable → ℕ → ℕ → Op → Bool
+carries table t x op = list_any (λ (who : Enrolled). who.name == t && list_any (carries_on x op) who.locks) table
+
+-- whether one of this name with these locks blocks t from op on x: it is another, who does not allow t, and a lock of
+-- its on x conflicts with op
+unfoldable pub blocks : (ℕ → Bool) → ℕ → ℕ → Op → ℕ → List Lock → Bool
+blocks allows t x op name locks = not (name == t) && not (allows name) && list_any (conflicts_on x op) locks
+
+-- x is free for t to do op if nobody blocks it
+unfoldable pub is_free_in : LockTable → (ℕ → Bool) → ℕ → ℕ → Op → Bool
+is_free_in table allows t x op = not (list_any (λ (who : Enrolled). blocks allows t x op who.name who.locks) table)
 
 -- who waits for x, if this is a pending on x
 unfoldable pub waiting_at : ℕ → ℕ → PendingRequest → List (Txn × Op)
 waiting_at x t None = []
 waiting_at x t (Some request) = cond (request.0.0 == x) ((record { 0 = t }, request.1) ∷ []) []
 
--- those who wait for x, in order of enrolment, each with the operation that it asked
+-- those who wait for x, in order of enrolment, each with the operation that it asked for
 unfoldable pub waiters_in : LockTable → ℕ → List (Txn × Op)
-waiters_in table x = flat_map (λ (who : Enrolled). waiting_at x who.name who.pending) table.enrolled
+waiters_in table x = flat_map (λ (who : Enrolled). waiting_at x who.name who.pending) table
 
--- of two locks that conflict, at most one is granted
-unfoldable pub AreApart : List Lock → Type 0
-AreApart [] = Unit {0}
-AreApart (lock ∷ locks) = (list_any (λ (other : Lock). lock.granted && other.granted && both_conflict lock.ops other.ops) locks ≡ false) × AreApart locks
+-- ---- how the table changes
+-- one more name, at the end
+unfoldable pub enrol_in : ℕ → LockTable → LockTable
+enrol_in t table = table ++ record { name = t; pending = None; locks = [] } ∷ []
+
+-- those who pass the test are enrolled no more, and have no lock
+unfoldable pub release_in : (ℕ → Bool) → LockTable → LockTable
+release_in test table = filter (λ (who : Enrolled). not (test who.name)) table
+
+-- a row of t after its request waits
+unfoldable pub waiting_row : ℕ → Ob → Op → Enrolled → Enrolled
+waiting_row t x op who = cond (who.name == t) (record who { pending = Some (x, op) }) who
+
+-- t's request waits
+unfoldable pub wait_in : ℕ → Ob → Op → LockTable → LockTable
+wait_in t x op table = map (waiting_row t x op) table
+
+-- the operations that a lock carries, if there is one, and op
+unfoldable pub ops_with : Op → Option Lock → OpSet
+ops_with op None = only_op op
+ops_with op (Some lock) = with_op op lock.ops
+
+-- a lock of t's after op on x is granted to t: if it is on x, it carries op too, and is granted
+unfoldable pub taken : ℕ → Op → Lock → Lock
+taken x op lock = cond (is_on x lock) (record lock { ops = with_op op lock.ops; granted = true }) lock
+
+-- a new lock
+unfoldable pub new_lock : Ob → Op → Lock
+new_lock x op = record { object = x; ops = only_op op; granted = true }
+
+-- t's locks after op on x is granted to t: if none was on x, there is a new one at the end
+unfoldable pub granted_own : Ob → Op → List Lock → List Lock
+granted_own x op locks = cond (list_any (is_on x.0) locks) (map (taken x.0 op) locks) (locks ++ new_lock x op ∷ [])
+
+-- another's lock after a lock on x with these operations is granted: if it is on x and conflicts, it is suspended
+unfoldable pub suspended : ℕ → OpSet → Lock → Lock
+suspended x ops lock = cond (is_on x lock && both_conflict lock.ops ops) (record lock { granted = false }) lock
+
+-- a row after op on x is granted to t, whose lock carries these operations then
+unfoldable pub granted_row : ℕ → Ob → Op → OpSet → Enrolled → Enrolled
+granted_row t x op ops who = cond (who.name == t) (record who { pending = None; locks = granted_own x op who.locks }) (record who { locks = map (suspended x.0 ops) who.locks })
+
+-- op on x is granted to t
+unfoldable pub grant_in : ℕ → Ob → Op → LockTable → LockTable
+grant_in t x op table = map (granted_row t x op (ops_with op (lock_in table t x.0))) table

@@ -1,9 +1,18 @@
 //! The table of locks: who holds which object by which operations, and who waits for it.
+//!
+//! Locks lie in a slab, and each is in two chains: that of its owner, in order of first grant, and one of its object,
+//! where those that write are apart from those that only read. Only an enrolment, and the first grant to a transaction
+//! on an object, take memory.
 #![tactic(auto)]
 
-mod enrolled;
+mod granting;
 mod lock;
+mod release;
+mod room;
+mod searching;
 mod state;
+mod store;
+mod suspending;
 mod table;
 
 pub use state::{Asked, LockState};

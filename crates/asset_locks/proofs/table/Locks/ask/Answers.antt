@@ -1,21 +1,46 @@
-use Rattle.std.proofs.Common.{◌∙◌, ap, sym}
-use Rattle.asset_locks.specs.Valid.{answer_where, after_ask, lock_table}
+use Rattle.std.proofs.Common.{Bool, is_some, refl, sym, ap, ◌∙◌, arith}
+use Rattle.asset_permits.specs.Descriptors.{allows_by}
+use Rattle.asset_locks.specs.LockTable.{LockTable, is_on, is_free_in, enrolled_in, lock_in, wait_in, grant_in}
+use Rattle.asset_locks.specs.Valid.{answer_where, after_ask}
+use Rattle.asset_locks.proofs.GrantLemmas.{on_error}
+use Rattle.asset_locks.proofs.TableLemmas.{is_blocked_by, is_free_by, waits, grants, rows_kept, find_absent, lock_of_seat, nobody_seated}
 use Rattle.asset_locks.proofs.table.Locks.ask.Goals as goal
 
-pub returns-in_ok-grant-clause-answer : goal.returns-in_ok-grant-clause-answer
+pub unreachable-requires : goal.unreachable-requires
+unreachable-requires c = nobody_seated c.self.inside.seats c.self.inside.pending.items c.self.inside.order c.self.inside.store c.self.invariant c.laws-2.ensures.sound c.args.t c.in_default.ensures.absent (ap (λ (table : LockTable). is_some (enrolled_in table c.args.t.0)) c.self.view_is ∙ c.requires.enrolled)
+
+pub index_mut-requires : goal.index_mut-requires
+index_mut-requires c = omega (arith, c.self.invariant.requests c.in-Some.c c.args.t c.in-Some.ensures.found.0)
+
+pub returns-then-is_blocked-clause-answer : goal.returns-then-is_blocked-clause-answer
 unfolding answer_where
-returns-in_ok-grant-clause-answer c = ap answer_where (sym c.if-is_free.true ∙ c.is_free.ensures.free)
+returns-then-is_blocked-clause-answer c = sym (ap answer_where (ap (λ (table : LockTable). is_free_in table (λ u. allows_by c.args.permits.now u c.args.t.0 c.args.x.0 c.args.op) c.args.t.0 c.args.x.0 c.args.op) (sym c.self.view_is) ∙ is_blocked_by c.self.inside.seats c.self.inside.pending.items c.self.inside.order c.self.inside.store c.self.invariant c.laws-2.ensures.sound (λ u. allows_by c.args.permits.now u c.args.t.0 c.args.x.0 c.args.op) c.args.t.0 c.args.x.0 c.args.op (c.is_blocked.ensures.blocked c.if-is_blocked.true).0 (c.is_blocked.ensures.blocked c.if-is_blocked.true).1 (c.is_blocked.ensures.blocked c.if-is_blocked.true).2 (c.is_blocked.ensures.blocked c.if-is_blocked.true).3))
 
-pub returns-in_ok-grant-clause-done : goal.returns-in_ok-grant-clause-done
+pub returns-then-is_blocked-clause-done : goal.returns-then-is_blocked-clause-done
 unfolding after_ask
-returns-in_ok-grant-clause-done c =
-    c.in_ok-grant.ensures.done ∙ ap (λ free. after_ask free c.args.t.0 c.args.x c.args.op (lock_table c.args.self.now)) (sym c.if-is_free.true ∙ c.is_free.ensures.free)
+returns-then-is_blocked-clause-done c =
+    waits c.self.inside.seats c.self.inside.pending.items c.self.inside.order c.self.inside.store c.self.invariant c.laws-2.ensures.sound c.in-Some.c c.args.t c.in-Some.ensures.found.0 c.args.x c.args.op ∙ ap (wait_in c.args.t.0 c.args.x c.args.op) c.self.view_is
+    ∙ sym (ap (λ (free : Bool). after_ask free c.args.t.0 c.args.x c.args.op c.args.self.now) (ap (λ (table : LockTable). is_free_in table (λ u. allows_by c.args.permits.now u c.args.t.0 c.args.x.0 c.args.op) c.args.t.0 c.args.x.0 c.args.op) (sym c.self.view_is) ∙ is_blocked_by c.self.inside.seats c.self.inside.pending.items c.self.inside.order c.self.inside.store c.self.invariant c.laws-2.ensures.sound (λ u. allows_by c.args.permits.now u c.args.t.0 c.args.x.0 c.args.op) c.args.t.0 c.args.x.0 c.args.op (c.is_blocked.ensures.blocked c.if-is_blocked.true).0 (c.is_blocked.ensures.blocked c.if-is_blocked.true).1 (c.is_blocked.ensures.blocked c.if-is_blocked.true).2 (c.is_blocked.ensures.blocked c.if-is_blocked.true).3))
 
-pub returns-else-is_free-clause-answer : goal.returns-else-is_free-clause-answer
+pub returns-in_err-grant-clause-memory : goal.returns-in_err-grant-clause-memory
+returns-in_err-grant-clause-memory c = λ failed. (ap (λ (table : LockTable). is_free_in table (λ u. allows_by c.args.permits.now u c.args.t.0 c.args.x.0 c.args.op) c.args.t.0 c.args.x.0 c.args.op) (sym c.self.view_is) ∙ is_free_by c.self.inside.seats c.self.inside.pending.items c.self.inside.order c.self.inside.store c.self.invariant c.laws-2.ensures.sound (λ u. allows_by c.args.permits.now u c.args.t.0 c.args.x.0 c.args.op) c.args.t.0 c.args.x.0 c.args.op (c.is_blocked.ensures.free c.if-is_blocked.false))
+
+pub returns-in_err-grant-clause-first : goal.returns-in_err-grant-clause-first
+returns-in_err-grant-clause-first c = λ failed.
+    ap (λ (table : LockTable). lock_in table c.args.t.0 c.args.x.0) (sym c.self.view_is)
+    ∙ lock_of_seat c.self.inside.seats c.self.inside.pending.items c.self.inside.order c.self.inside.store c.self.invariant c.laws-2.ensures.sound c.in-Some.c c.args.t c.args.x.0 c.in-Some.ensures.found.0
+    ∙ find_absent (is_on c.args.x.0) _ (c.grant.ensures.first (rw c.in_err-grant.was refl))
+
+pub returns-in_err-grant-clause-unchanged : goal.returns-in_err-grant-clause-unchanged
+returns-in_err-grant-clause-unchanged c =
+    on_error c.from_residual.result (rows_kept c.self.inside.seats c.self.inside.pending.items c.self.inside.order c.self.inside.store c.grant.new.self c.in_err-grant.ensures.unchanged ∙ c.self.view_is)
+
+pub returns-clause-answer : goal.returns-clause-answer
 unfolding answer_where
-returns-else-is_free-clause-answer c = ap answer_where (sym c.if-is_free.false ∙ c.is_free.ensures.free)
+returns-clause-answer c = sym (ap answer_where (ap (λ (table : LockTable). is_free_in table (λ u. allows_by c.args.permits.now u c.args.t.0 c.args.x.0 c.args.op) c.args.t.0 c.args.x.0 c.args.op) (sym c.self.view_is) ∙ is_free_by c.self.inside.seats c.self.inside.pending.items c.self.inside.order c.self.inside.store c.self.invariant c.laws-2.ensures.sound (λ u. allows_by c.args.permits.now u c.args.t.0 c.args.x.0 c.args.op) c.args.t.0 c.args.x.0 c.args.op (c.is_blocked.ensures.free c.if-is_blocked.false)))
 
-pub returns-else-is_free-clause-done : goal.returns-else-is_free-clause-done
+pub returns-clause-done : goal.returns-clause-done
 unfolding after_ask
-returns-else-is_free-clause-done c =
-    c.wait.ensures ∙ ap (λ free. after_ask free c.args.t.0 c.args.x c.args.op (lock_table c.args.self.now)) (sym c.if-is_free.false ∙ c.is_free.ensures.free)
+returns-clause-done c =
+    grants c.self.inside.seats c.self.inside.pending.items c.self.inside.order c.self.inside.store c.self.invariant c.laws-2.ensures.sound c.in-Some.c c.args.t c.in-Some.ensures.found.0 c.grant.new.self c.args.x c.args.op c.in_ok-grant.ensures.own c.in_ok-grant.ensures.others ∙ ap (grant_in c.args.t.0 c.args.x c.args.op) c.self.view_is
+    ∙ sym (ap (λ (free : Bool). after_ask free c.args.t.0 c.args.x c.args.op c.args.self.now) (ap (λ (table : LockTable). is_free_in table (λ u. allows_by c.args.permits.now u c.args.t.0 c.args.x.0 c.args.op) c.args.t.0 c.args.x.0 c.args.op) (sym c.self.view_is) ∙ is_free_by c.self.inside.seats c.self.inside.pending.items c.self.inside.order c.self.inside.store c.self.invariant c.laws-2.ensures.sound (λ u. allows_by c.args.permits.now u c.args.t.0 c.args.x.0 c.args.op) c.args.t.0 c.args.x.0 c.args.op (c.is_blocked.ensures.free c.if-is_blocked.false)))

@@ -1,18 +1,20 @@
-use Rattle.std.proofs.Common.{◌∙◌, ap, sym}
+use Rattle.std.proofs.Common.{List, map, sym, ap, ◌∙◌}
 use Rattle.std.specs.Prelude.{slice_get}
-use Rattle.asset_locks.specs.LockTable.{held_in}
-use Rattle.asset_locks.specs.Valid.{LockRows, lock_table}
-use Rattle.asset_locks.proofs.TableLemmas.{held_row, held_of}
+use Rattle.asset_locks.specs.declared.lock.Lock.{Lock}
+use Rattle.asset_locks.specs.LockTable.{LockTable, held_in}
+use Rattle.asset_locks.proofs.TableLemmas.{locks_of_seat, no_locks_of}
 use Rattle.asset_locks.proofs.table.Locks.held_by.Goals as goal
 
-pub returns-in-Some : goal.returns-in-Some
-returns-in-Some c =
-    let inside = c.self.inside in
-    let row = ap held_of c.in-Some.ensures.value ∙ sym (held_row c.args.t.0 inside.enrolled.entries inside.objects.entries) ∙ ap (λ (k : LockRows). held_in (lock_table k) c.args.t.0) c.self.view_is in
-    c.held_at.ensures ∙ ap (λ held. slice_get held c.args.n) row
+pub returns-in_err-c-clause-held : goal.returns-in_err-c-clause-held
+unfolding held_in
+returns-in_err-c-clause-held c =
+    c.from_residual.ensures
+    ∙ ap (λ (l : List Lock). slice_get (map (λ (lock : Lock). lock.object) l) c.args.n) (sym (no_locks_of c.self.inside.seats c.self.inside.pending.items c.self.inside.order c.self.inside.store c.self.invariant c.laws-2.ensures.sound c.args.t c.in_err-c.ensures.absent))
+    ∙ ap (λ (table : LockTable). slice_get (held_in table c.args.t.0) c.args.n) c.self.view_is
 
-pub returns-in-None : goal.returns-in-None
-returns-in-None c =
-    let inside = c.self.inside in
-    let row = ap held_of c.in-None.ensures.value ∙ sym (held_row c.args.t.0 inside.enrolled.entries inside.objects.entries) ∙ ap (λ (k : LockRows). held_in (lock_table k) c.args.t.0) c.self.view_is in
-    ap (λ held. slice_get held c.args.n) row
+pub returns-clause-held : goal.returns-clause-held
+unfolding held_in
+returns-clause-held c =
+    c.held_at.ensures
+    ∙ ap (λ (l : List Lock). slice_get (map (λ (lock : Lock). lock.object) l) c.args.n) (sym (locks_of_seat c.self.inside.seats c.self.inside.pending.items c.self.inside.order c.self.inside.store c.self.invariant c.laws-2.ensures.sound c.in_ok-c.c c.args.t c.in_ok-c.ensures.found.0))
+    ∙ ap (λ (table : LockTable). slice_get (held_in table c.args.t.0) c.args.n) c.self.view_is

@@ -1,10 +1,11 @@
-use Rattle.std.proofs.Common.{◌∙◌, ap, not}
-use Rattle.std.specs.List.{list_any}
+use Rattle.std.proofs.Common.{sym, ap, ◌∙◌}
 use Rattle.asset_permits.specs.Descriptors.{allows_by}
-use Rattle.asset_locks.specs.LockTable.{is_free_in, blocks}
+use Rattle.asset_locks.specs.LockTable.{LockTable, is_free_in}
+use Rattle.asset_locks.proofs.TableLemmas.{is_blocked_by, is_free_by, not_blocked}
 use Rattle.asset_locks.proofs.table.Locks.is_free.Goals as goal
 
 pub returns-clause-free : goal.returns-clause-free
-unfolding is_free_in
 returns-clause-free c =
-    ap not (c.is_blocked.ensures.answer ∙ ap (list_any (blocks (λ u. allows_by c.args.permits.now u c.args.t.0 c.args.x.0 c.args.op) c.args.t.0 c.args.op)) c.locks_of.ensures.locks)
+    not_blocked c.is_blocked.result _
+    (λ is. let by = c.is_blocked.ensures.blocked is in ap (λ (table : LockTable). is_free_in table (λ u. allows_by c.args.permits.now u c.args.t.0 c.args.x.0 c.args.op) c.args.t.0 c.args.x.0 c.args.op) (sym c.self.view_is) ∙ is_blocked_by c.self.inside.seats c.self.inside.pending.items c.self.inside.order c.self.inside.store c.self.invariant c.laws-2.ensures.sound (λ u. allows_by c.args.permits.now u c.args.t.0 c.args.x.0 c.args.op) c.args.t.0 c.args.x.0 c.args.op by.0 by.1 by.2 by.3)
+    (λ is. ap (λ (table : LockTable). is_free_in table (λ u. allows_by c.args.permits.now u c.args.t.0 c.args.x.0 c.args.op) c.args.t.0 c.args.x.0 c.args.op) (sym c.self.view_is) ∙ is_free_by c.self.inside.seats c.self.inside.pending.items c.self.inside.order c.self.inside.store c.self.invariant c.laws-2.ensures.sound (λ u. allows_by c.args.permits.now u c.args.t.0 c.args.x.0 c.args.op) c.args.t.0 c.args.x.0 c.args.op (c.is_blocked.ensures.free is))

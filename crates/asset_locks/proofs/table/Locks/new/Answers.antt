@@ -1,11 +1,8 @@
-use Rattle.std.proofs.Common.{sym, subst}
-use Rattle.asset_locks.specs.Valid.{IsValid}
-use Rattle.asset_locks.proofs.TableLemmas.{new_table}
-use Rattle.asset_locks.proofs.ValidLemmas.{valid_new}
+use Rattle.asset_locks.proofs.TableLemmas.{seated_nothing, no_rows}
 use Rattle.asset_locks.proofs.table.Locks.new.Goals as goal
 
 pub invariant_of-result : goal.invariant_of-result
-invariant_of-result c = subst IsValid (sym (new_table c.new.result.entries c.new-2.result.entries c.new-2.ensures.empty c.new.ensures.empty)) valid_new
+invariant_of-result c = seated_nothing _ _ _ _ c.new.ensures c.new-3.ensures.homes c.new-4.ensures
 
 pub returns : goal.returns
-returns c = new_table c.new.result.entries c.new-2.result.entries c.new-2.ensures.empty c.new.ensures.empty
+returns c = no_rows c.new.result c.new-2.result.items c.new-3.result c.new-4.result c.new-3.ensures.chains

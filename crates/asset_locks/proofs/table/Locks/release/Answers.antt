@@ -1,28 +1,28 @@
-use Rattle.std.proofs.Common.{◌∙◌, ℕ, cond, ap, sym, subst, eqb}
+use Rattle.std.proofs.Common.{sym, ap, ◌∙◌}
+use Rattle.asset_chains.proofs.Laws.{key_within, unlinks}
+use Rattle.asset_chains.proofs.Walks.{homes_without}
 use Rattle.asset_locks.specs.LockTable.{release_in}
-use Rattle.asset_locks.specs.Valid.{LockRows, lock_table, IsValid, lists_object, locks_in, without}
-use Rattle.asset_locks.proofs.TableLemmas.{kept, released, nobody}
-use Rattle.asset_locks.proofs.ValidLemmas.{valid_release}
+use Rattle.asset_locks.specs.Stored.{enrolled_chain}
+use Rattle.std.proofs.Common.{eqb}
+use Rattle.asset_locks.proofs.TableLemmas.{releases, releases_nobody, seated_less}
 use Rattle.asset_locks.proofs.table.Locks.release.Goals as goal
 
 pub returns-in_default : goal.returns-in_default
-returns-in_default c =
-    let inside = c.self.inside in
-    let same = ap (λ entries. lock_table (kept entries inside.objects.entries)) c.in_default.ensures.unchanged in
-    same ∙ nobody c.args.t.0 inside.enrolled.entries inside.objects.entries c.self.invariant (sym c.in_default.ensures.value) ∙ ap (λ (k : LockRows). release_in (λ n. eqb n c.args.t.0) (lock_table k)) c.self.view_is
+returns-in_default c = sym c.self.view_is ∙ releases_nobody c.self.inside.seats c.self.inside.pending.items c.self.inside.order c.self.inside.store c.self.invariant c.laws-2.ensures.sound c.args.t c.in_default.ensures.absent ∙ ap (release_in (λ n. eqb n c.args.t.0)) c.self.view_is
 
-pub invariant_of-self-2 : goal.invariant_of-self-2
-invariant_of-self-2 c =
-    let inside = c.self.inside in
-    let rows = inside.objects.entries in
-    let gone = λ (y : ℕ). c.release_each.ensures y ∙ ap (λ objects. cond (lists_object y objects) (without c.args.t.0 (locks_in rows y)) (locks_in rows y)) c.deref.ensures.value in
-    let now = released c.args.t.0 inside.enrolled.entries c.shift_remove.new.self.entries rows c.release_each.new.objects.entries c.in-Some.who c.self.invariant (sym c.in-Some.ensures.value) c.in-Some.ensures.entries c.in-Some.ensures.updates.1 gone in
-    subst IsValid (sym now) (valid_release (λ n. eqb n c.args.t.0) _ c.self.invariant)
+pub unlink-requires : goal.unlink-requires
+unfolding enrolled_chain
+unlink-requires c = key_within c.in-Some.c 0 c.self.inside.order (c.self.invariant.ordered c.in-Some.c ∙ ap enrolled_chain c.in-Some.ensures.found.0)
+
+pub invariant_of-self : goal.invariant_of-self
+unfolding enrolled_chain
+invariant_of-self c =
+    seated_less c.self.inside.seats c.self.inside.pending.items c.self.inside.order c.self.inside.store c.self.invariant c.laws-2.ensures.sound c.in-Some.c c.args.t c.in-Some.ensures.found.0 c.leave.new.self c.unlink.new.self c.release.new.self c.leave.ensures.seats
+    (homes_without c.self.inside.order c.unlink.new.self c.in-Some.c 0 (c.self.invariant.ordered c.in-Some.c ∙ ap enrolled_chain c.in-Some.ensures.found.0) c.unlink.ensures) c.release.ensures.seats c.release.ensures.holders
 
 pub returns : goal.returns
+unfolding enrolled_chain
 returns c =
-    let inside = c.self.inside in
-    let rows = inside.objects.entries in
-    let gone = λ (y : ℕ). c.release_each.ensures y ∙ ap (λ objects. cond (lists_object y objects) (without c.args.t.0 (locks_in rows y)) (locks_in rows y)) c.deref.ensures.value in
-    let now = released c.args.t.0 inside.enrolled.entries c.shift_remove.new.self.entries rows c.release_each.new.objects.entries c.in-Some.who c.self.invariant (sym c.in-Some.ensures.value) c.in-Some.ensures.entries c.in-Some.ensures.updates.1 gone in
-    now ∙ ap (λ (k : LockRows). release_in (λ n. eqb n c.args.t.0) (lock_table k)) c.self.view_is
+    releases c.self.inside.seats c.self.inside.pending.items c.self.inside.order c.self.inside.store c.self.invariant c.laws-2.ensures.sound c.in-Some.c c.args.t c.in-Some.ensures.found.0 c.leave.new.self c.unlink.new.self c.release.new.self c.leave.ensures.seats
+    (unlinks 0 c.in-Some.c c.self.inside.order c.unlink.new.self (c.self.invariant.ordered c.in-Some.c ∙ ap enrolled_chain c.in-Some.ensures.found.0) c.unlink.ensures).chain c.release.ensures.others
+    ∙ ap (release_in (λ n. eqb n c.args.t.0)) c.self.view_is

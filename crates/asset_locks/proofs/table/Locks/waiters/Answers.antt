@@ -1,32 +1,58 @@
-use Rattle.std.proofs.Common.{◌<◌, ap, length, refl, arith}
-use Rattle.asset_locks.specs.LockTable.{waiters_in}
-use Rattle.asset_locks.specs.Valid.{LockRows, lock_table}
-use Rattle.asset_locks.proofs.EnrolledLemmas.{waiter_first, waiter_later, waiter_none, no_waiter, as_many}
+use Rattle.std.proofs.Common.{ℕ, List, Option, ◌∷◌, [], refl, sym, ap, ◌∙◌}
+use Rattle.std.specs.Prelude.{slice_get, flat_map}
+use Rattle.asset_names.specs.declared.names.Txn.{Txn}
+use Rattle.asset_names.specs.declared.operations.Op.{Op}
+use Rattle.asset_chains.specs.Chained.{chain_of, behind}
+use Rattle.asset_chains.proofs.Walks.{from_key}
+use Rattle.asset_locks.specs.LockTable.{LockTable, PendingRequest, waiting_at, waiters_in}
+use Rattle.asset_locks.specs.Stored.{pending_at}
+use Rattle.asset_locks.proofs.WalkLemmas.{begins, all_left, stays, fewer, left_split}
+use Rattle.asset_locks.proofs.TableLemmas.{sits_at, waiting_seat, waiters_are, waits_there, one_waiter, one_waiter_less, no_waiter}
+use Rattle.asset_locks.proofs.table.Locks.waiters.Goals.{in-Some-waiter_at+else-before-eq0, in_default-waiter_at}
 use Rattle.asset_locks.proofs.table.Locks.waiters.Goals as goal
-use Rattle.asset_locks.proofs.table.Locks.waiters.Goals.{in-Some+else-before-eq0, in_default}
 
 pub enrolled-init : goal.enrolled-init
-unfolding waiters_in
-enrolled-init c = refl
+enrolled-init c = record {
+  home = begins c.self.inside.order c.self.inside.order refl c.laws.ensures.sound 0 c.first-next.result c.first-next.ensures;
+  left = ap (λ (l : List ℕ). slice_get (flat_map (waiting_seat c.self.inside.seats c.self.inside.pending.items c.args.x.0) l) c.args.n) (all_left c.self.inside.order c.self.inside.order refl c.laws.ensures.sound 0 c.first-next.result c.first-next.ensures);
+}
 
-pub returns-then-before-eq0 : goal.returns-then-before-eq0
-unfolding lock_table
-returns-then-before-eq0 c =
-    let many = as_many c.self.inside.enrolled.entries c.args.self.now.enrolled (ap (λ (k : LockRows). k.enrolled) c.self.view_is) in
-    waiter_first c.args.x.0 c.enrolled.i c.args.self.now.enrolled c.in-Some.waiter c.enrolled.before _ c.in-Some.ensures (omega (arith, many, c.len-i-end.ensures.len)) c.if-before-eq0.true c.enrolled.invariant
+pub enrolled-smaller : goal.enrolled-smaller
+enrolled-smaller c = fewer c.self.inside.order c.self.inside.order refl c.laws.ensures.sound 0 c.in-Some.c c.next-next.result c.enrolled.next (c.enrolled.invariant.home c.in-Some.c c.in-Some.is) c.next-next.ensures.next c.in-Some.is
 
 pub enrolled-preserved : goal.enrolled-preserved
-unfolding lock_table
 enrolled-preserved c =
-    let many = as_many c.self.inside.enrolled.entries c.args.self.now.enrolled (ap (λ (k : LockRows). k.enrolled) c.self.view_is) in
-    let within : c.enrolled.i < length c.args.self.now.enrolled = omega (arith, many, c.len-i-end.ensures.len) in
-    elim c.match-waiter_at.branch [
-      | in-Some+else-before-eq0 w ↦ rw w.before-is (waiter_later c.args.x.0 c.enrolled.i c.args.self.now.enrolled w.in-Some.waiter c.enrolled.before _ w.in-Some.ensures within (omega (arith, w.if-before-eq0.false)) c.enrolled.invariant)
-      | in_default w ↦ rw w.before-is (waiter_none c.args.x.0 c.enrolled.i c.args.self.now.enrolled c.enrolled.before _ w.in_default.ensures within c.enrolled.invariant)
-    ]
+    let home = c.enrolled.invariant.home c.in-Some.c c.in-Some.is in
+    let sits = (sits_at c.self.inside.seats c.self.inside.pending.items c.self.inside.order c.self.inside.store c.self.invariant c.laws.ensures.sound c.in-Some.c (c.laws.ensures.sound.listed 0 c.in-Some.c home)) in
+    record {
+      home = stays c.self.inside.order c.self.inside.order refl c.laws.ensures.sound 0 c.in-Some.c c.next-next.result c.enrolled.next home c.next-next.ensures.next c.in-Some.is;
+      left =
+          elim c.match-waiter_at.branch [
+            | in-Some-waiter_at+else-before-eq0 w ↦
+                ap (slice_get (flat_map (waiting_seat c.self.inside.seats c.self.inside.pending.items c.args.x.0) (from_key c.next-next.result (chain_of c.self.inside.order 0)))) w.before-is
+                ∙ one_waiter_less w.in-Some-waiter_at.waiter (flat_map (waiting_seat c.self.inside.seats c.self.inside.pending.items c.args.x.0) (from_key c.next-next.result (chain_of c.self.inside.order 0))) ((waiting_seat c.self.inside.seats c.self.inside.pending.items c.args.x.0) c.in-Some.c) c.enrolled.before (waits_there c.self.inside.seats c.self.inside.pending.items c.args.x.0 c.in-Some.c sits.0 sits.1 (w.in-Some-waiter_at.waiter ∷ []) (w.in-Some-waiter_at.ensures sits.0 sits.1 ∙ ap (λ (p : List PendingRequest). waiting_at c.args.x.0 sits.0.0 (pending_at p c.in-Some.c)) c.deref.ensures.value)) w.if-before-eq0.false
+            | in_default-waiter_at w ↦
+                ap (slice_get (flat_map (waiting_seat c.self.inside.seats c.self.inside.pending.items c.args.x.0) (from_key c.next-next.result (chain_of c.self.inside.order 0)))) w.before-is
+                ∙ no_waiter (flat_map (waiting_seat c.self.inside.seats c.self.inside.pending.items c.args.x.0) (from_key c.next-next.result (chain_of c.self.inside.order 0))) ((waiting_seat c.self.inside.seats c.self.inside.pending.items c.args.x.0) c.in-Some.c) c.enrolled.before (waits_there c.self.inside.seats c.self.inside.pending.items c.args.x.0 c.in-Some.c sits.0 sits.1 [] (w.in_default-waiter_at.ensures sits.0 sits.1 ∙ ap (λ (p : List PendingRequest). waiting_at c.args.x.0 sits.0.0 (pending_at p c.in-Some.c)) c.deref.ensures.value))
+          ]
+          ∙ sym (ap (λ (l : List ℕ). slice_get (flat_map (waiting_seat c.self.inside.seats c.self.inside.pending.items c.args.x.0) l) c.enrolled.before) (left_split c.self.inside.order c.self.inside.order refl c.laws.ensures.sound 0 c.in-Some.c c.next-next.result c.enrolled.next home c.next-next.ensures.next c.in-Some.is))
+          ∙ c.enrolled.invariant.left;
+    }
+
+pub returns-then-before-eq0 : goal.returns-then-before-eq0
+returns-then-before-eq0 c =
+    let home = c.enrolled.invariant.home c.in-Some.c c.in-Some.is in
+    let sits = (sits_at c.self.inside.seats c.self.inside.pending.items c.self.inside.order c.self.inside.store c.self.invariant c.laws.ensures.sound c.in-Some.c (c.laws.ensures.sound.listed 0 c.in-Some.c home)) in
+    let rest = flat_map (waiting_seat c.self.inside.seats c.self.inside.pending.items c.args.x.0) (behind c.in-Some.c (chain_of c.self.inside.order 0)) in
+    sym (one_waiter c.in-Some-waiter_at.waiter rest ((waiting_seat c.self.inside.seats c.self.inside.pending.items c.args.x.0) c.in-Some.c) c.enrolled.before (waits_there c.self.inside.seats c.self.inside.pending.items c.args.x.0 c.in-Some.c sits.0 sits.1 (c.in-Some-waiter_at.waiter ∷ []) (c.in-Some-waiter_at.ensures sits.0 sits.1 ∙ ap (λ (p : List PendingRequest). waiting_at c.args.x.0 sits.0.0 (pending_at p c.in-Some.c)) c.deref.ensures.value)) c.if-before-eq0.true)
+    ∙ sym (ap (λ (o : Option ℕ). slice_get (flat_map (waiting_seat c.self.inside.seats c.self.inside.pending.items c.args.x.0) (from_key o (chain_of c.self.inside.order 0))) c.enrolled.before) c.in-Some.is)
+    ∙ c.enrolled.invariant.left
+    ∙ sym (ap (λ (l : List (Txn × Op)). slice_get l c.args.n) (waiters_are c.self.inside.seats c.self.inside.pending.items c.self.inside.order c.self.inside.store c.args.x.0))
+    ∙ ap (λ (table : LockTable). slice_get (waiters_in table c.args.x.0) c.args.n) c.self.view_is
 
 pub returns : goal.returns
-unfolding lock_table
 returns c =
-    let many = as_many c.self.inside.enrolled.entries c.args.self.now.enrolled (ap (λ (k : LockRows). k.enrolled) c.self.view_is) in
-    no_waiter c.args.x.0 c.enrolled.i c.args.self.now.enrolled c.enrolled.before _ (omega (arith, many, c.len-i-end.ensures.len)) c.enrolled.invariant
+    sym (ap (λ (o : Option ℕ). slice_get (flat_map (waiting_seat c.self.inside.seats c.self.inside.pending.items c.args.x.0) (from_key o (chain_of c.self.inside.order 0))) c.enrolled.before) c.in_default.is)
+    ∙ c.enrolled.invariant.left
+    ∙ sym (ap (λ (l : List (Txn × Op)). slice_get l c.args.n) (waiters_are c.self.inside.seats c.self.inside.pending.items c.self.inside.order c.self.inside.store c.args.x.0))
+    ∙ ap (λ (table : LockTable). slice_get (waiters_in table c.args.x.0) c.args.n) c.self.view_is

@@ -1,0 +1,191 @@
+-- The locks on an object that conflict with one that is granted.
+use Rattle.std.proofs.Common.{◌≡◌, ℕ, Bool, true, false, eqb, ◌&&◌, ◌||◌, ◌*◌, ◌≤◌, length, Option, Some, None, is_some, refl, sym, ap, subst, ◌∙◌, inl, inr}
+use Rattle.std.proofs.lemmas.Bool.{eqb-true, eqb-false, true≢false, cases_Bool, false_from_ne_true, both_ways}
+use Rattle.slab.specs.Slab.{Slab, get}
+use Rattle.asset_names.specs.OpSets.{OpSet}
+use Rattle.asset_chains.specs.Chained.{Chained, chain_of, home_of, lists, IsSound}
+use Rattle.asset_chains.proofs.SoundLemmas.{listed_once}
+use Rattle.asset_locks.specs.declared.lock.Lock.{Lock}
+use Rattle.asset_locks.specs.LockTable.{is_on, both_conflict, suspended}
+use Rattle.asset_locks.specs.Valid.{is_some_op}
+use Rattle.asset_locks.specs.Stored.{Stored, lock_at, number_in, chain_for, is_others, IsStored, IsSuspended}
+use Rattle.asset_locks.proofs.StoreLemmas.{stored_changed, number_one, chains_one}
+use Rattle.asset_locks.proofs.WalkLemmas.{passed_lock, others_own, others_from}
+use Rattle.asset_locks.proofs.OpsLemmas.{writer_conflicts, reader_conflicts}
+
+-- whether two flags are the same
+abbrev pub same_flag : Bool → Bool → Bool
+same_flag true b = b
+same_flag false true = false
+same_flag false false = true
+
+no_some : {X : Type 0} (x : X) → Some x ≡ None → ⊥
+no_some x e = cc
+
+-- ---- which chains of an object list a lock
+module _ (store : Stored) (stored : IsStored store) (sound : IsSound store.by_object) (x number : ℕ) (numbered : number_in store.objects x ≡ Some number) where
+  -- a key in a chain of the object has a lock on it
+  pub on_object : (k c : ℕ) (w : Bool) → home_of store.by_owner k ≡ Some c → home_of store.by_object k ≡ Some (chain_for number w) → ((lock_at store.locks k).object.0 ≡ x) × ((lock_at store.locks k).ops.write ≡ w)
+  on_object k c w home at =
+      let placed = stored.placed k c home in
+      let same : Some (chain_for placed.number (lock_at store.locks k).ops.write) ≡ Some (chain_for number w) = sym placed.home ∙ at in
+      let one = chains_one placed.number number (lock_at store.locks k).ops.write w (cc) in
+      (number_one store.objects _ x number (placed.numbered ∙ ap Some one.0) numbered, one.1)
+
+  -- a lock on the object is in the chain of those that write, or in the other
+  pub in_chain : (k c : ℕ) → home_of store.by_owner k ≡ Some c → (lock_at store.locks k).object.0 ≡ x → home_of store.by_object k ≡ Some (chain_for number (lock_at store.locks k).ops.write)
+  in_chain k c home on =
+      let placed = stored.placed k c home in
+      let same : Some placed.number ≡ Some number = sym placed.numbered ∙ ap (number_in store.objects) on ∙ numbered in
+      let is : placed.number ≡ number = cc in
+      placed.home ∙ ap (λ (n : ℕ). Some (chain_for n (lock_at store.locks k).ops.write)) is
+
+  chains_apart : (w v : Bool) → chain_for number w ≡ chain_for number v → w ≡ v
+  chains_apart w v e = (chains_one number number w v e).1
+
+  -- whether a chain of the object lists a lock
+  pub chain_lists : (k c : ℕ) (w : Bool) → home_of store.by_owner k ≡ Some c → lists (chain_of store.by_object (chain_for number w)) k ≡ (is_on x (lock_at store.locks k) && same_flag w (lock_at store.locks k).ops.write)
+  unfolding is_on
+  chain_lists k c w home = elim (cases_Bool (eqb (lock_at store.locks k).object.0 x)) [
+    | inl on ↦ by_flags w (lock_at store.locks k).ops.write (in_chain k c home (eqb-true _ _ on)) ∙ sym (ap (λ (b : Bool). b && same_flag w (lock_at store.locks k).ops.write) on)
+    | inr off ↦
+        false_from_ne_true _ (λ there. eqb-false _ _ off (on_object k c w home (sound.at_home (chain_for number w) k there)).0)
+        ∙ sym (ap (λ (b : Bool). b && same_flag w (lock_at store.locks k).ops.write) off)
+  ] where
+    by_flags : (w v : Bool) → home_of store.by_object k ≡ Some (chain_for number v) → lists (chain_of store.by_object (chain_for number w)) k ≡ same_flag w v
+    by_flags true true at = sound.listed (chain_for number true) k at
+    by_flags false false at = sound.listed (chain_for number false) k at
+    by_flags true false at = listed_once store.by_object sound k (chain_for number false) (chain_for number true) at (λ e. true≢false (chains_apart true false e))
+    by_flags false true at = listed_once store.by_object sound k (chain_for number true) (chain_for number false) at (λ e. true≢false (sym (chains_apart false true e)))
+
+-- ---- locks that are suspended
+pub passed_object : (b : Bool) (lock : Lock) → (passed_lock b lock).object ≡ lock.object
+passed_object true lock = refl
+passed_object false lock = refl
+
+pub passed_ops : (b : Bool) (lock : Lock) → (passed_lock b lock).ops ≡ lock.ops
+passed_ops true lock = refl
+passed_ops false lock = refl
+
+passed_granted : (b : Bool) (lock : Lock) → (passed_lock b lock).granted ≡ true → lock.granted ≡ true
+passed_granted true lock h = absurd (true≢false (sym h))
+passed_granted false lock h = h
+
+fewer_granted : (a b p q : Bool) → (p ≡ true → a ≡ true) → (q ≡ true → b ≡ true) → (a && b) ≡ false → (p && q) ≡ false
+fewer_granted a b true true first second none = absurd (both_ways (a && b) none (λ i. first refl i && second refl i))
+fewer_granted a b true false first second none = refl
+fewer_granted a b false q first second none = refl
+
+-- some locks are suspended, and stay where they are
+pub stored_suspended : (old new : Stored) (which : ℕ → Bool) → IsStored old → ((k : ℕ) → lock_at new.locks k ≡ passed_lock (which k) (lock_at old.locks k)) → ((k : ℕ) → is_some (get new.locks k) ≡ is_some (get old.locks k))
+    → new.by_object ≡ old.by_object → new.by_owner ≡ old.by_owner → new.objects ≡ old.objects → IsStored new
+stored_suspended old new which stored locks keys of_object of_owner objects =
+    stored_changed old new stored keys (λ k. ap (λ (t : Chained). is_some (home_of t k)) of_object) of_owner
+    (subst (λ (t : Chained). 2 * length new.objects ≤ length t.chains) (sym of_object) (subst (λ l. 2 * length l ≤ length old.by_object.chains) (sym objects) stored.chains))
+    (λ k c home.
+    let placed = stored.placed k c home in
+    record {
+      number = placed.number;
+      numbered = ap (λ l. number_in l (lock_at new.locks k).object.0) objects ∙ ap (number_in old.objects) (object k) ∙ placed.numbered;
+      home = ap (λ (t : Chained). home_of t k) of_object ∙ placed.home ∙ ap (λ (o : OpSet). Some (chain_for placed.number o.write)) (sym (ops k));
+    })
+    object
+    (λ k c home. ap is_some_op (ops k) ∙ stored.carry k c home)
+    (λ j k c d one other differ same conflict.
+    fewer_granted _ _ _ _ (granted j) (granted k) (stored.apart j k c d one other differ same (sym (λ i. both_conflict (ops j i) (ops k i)) ∙ conflict))) where
+      object : (k : ℕ) → (lock_at new.locks k).object.0 ≡ (lock_at old.locks k).object.0
+      object k = ap (λ (l : Lock). l.object.0) (locks k) ∙ ap (λ o. o.0) (passed_object (which k) (lock_at old.locks k))
+
+      ops : (k : ℕ) → (lock_at new.locks k).ops ≡ (lock_at old.locks k).ops
+      ops k = ap (λ (l : Lock). l.ops) (locks k) ∙ passed_ops (which k) (lock_at old.locks k)
+
+      granted : (k : ℕ) → (lock_at new.locks k).granted ≡ true → (lock_at old.locks k).granted ≡ true
+      granted k h = passed_granted (which k) (lock_at old.locks k) (sym (ap (λ (l : Lock). l.granted) (locks k)) ∙ h)
+
+and_two : (b : Bool) → (b && true && true) ≡ b
+and_two true = refl
+and_two false = refl
+
+and_none : (b c : Bool) → (b && false && c) ≡ false
+and_none true c = refl
+and_none false c = refl
+
+by_walks : (ops lock : OpSet) → is_some_op lock ≡ true → is_some_op ops ≡ true → (on w : Bool) → lock.write ≡ w → ((on && same_flag true w) || (ops.write && on && same_flag false w)) ≡ (on && both_conflict lock ops)
+by_walks ops lock carries some false w e = and_none ops.write (same_flag false w)
+by_walks ops lock carries some true true e = sym (writer_conflicts lock ops e some)
+by_walks ops lock carries some true false e = and_two ops.write ∙ sym (reader_conflicts lock ops e carries)
+
+-- a lock is suspended by the walks exactly if it is on the object and conflicts
+pub walked : (x : ℕ) (ops : OpSet) (lock : Lock) → is_some_op lock.ops ≡ true → is_some_op ops ≡ true
+    → passed_lock ((is_on x lock && same_flag true lock.ops.write) || (ops.write && is_on x lock && same_flag false lock.ops.write)) lock ≡ suspended x ops lock
+unfolding suspended
+walked x ops lock carries some = ap (λ (b : Bool). passed_lock b lock) (by_walks ops lock.ops carries some (is_on x lock) lock.ops.write refl)
+
+or_none : (b : Bool) → (b || false) ≡ b
+or_none true = refl
+or_none false = refl
+
+pub twice_passed : (a b : Bool) (lock : Lock) → passed_lock b (passed_lock a lock) ≡ passed_lock (a || b) lock
+twice_passed true true lock = refl
+twice_passed true false lock = refl
+twice_passed false b lock = refl
+
+and_true : (b : Bool) → (b && true) ≡ b
+and_true true = refl
+and_true false = refl
+
+and_false : (b : Bool) → (b && false) ≡ false
+and_false true = refl
+and_false false = refl
+
+-- ---- what the walks leave
+module _ (store : Stored) (stored : IsStored store) (sound : IsSound store.by_object) (x c number : ℕ) (ops : OpSet) (numbered : number_in store.objects x ≡ Some number) (some : is_some_op ops ≡ true) where
+  -- whether a walk along a chain of the object suspends another's lock
+  flag : (k d chain : ℕ) (w : Bool) → home_of store.by_owner k ≡ Some d → (d ≡ c → ⊥) → chain ≡ chain_for number w
+      → (lists (chain_of store.by_object chain) k && is_others c (home_of store.by_owner k)) ≡ (is_on x (lock_at store.locks k) && same_flag w (lock_at store.locks k).ops.write)
+  flag k d chain w home differ is =
+      (λ i. lists (chain_of store.by_object (is i)) k && is_others c (home i))
+      ∙ ap (λ (b : Bool). lists (chain_of store.by_object (chain_for number w)) k && b) (others_from c d differ)
+      ∙ and_true _
+      ∙ chain_lists store stored sound x number numbered k d w home
+
+  no_flag : (k chain : ℕ) → home_of store.by_owner k ≡ Some c → (lists (chain_of store.by_object chain) k && is_others c (home_of store.by_owner k)) ≡ false
+  no_flag k chain home = ap (λ (o : Option ℕ). lists (chain_of store.by_object chain) k && is_others c o) home ∙ ap (λ (b : Bool). lists (chain_of store.by_object chain) k && b) (others_own c) ∙ and_false _
+
+  module _ (once : Slab Lock) (writers : ℕ) (is_writers : writers ≡ chain_for number true)
+      (first : (k : ℕ) → lock_at once k ≡ passed_lock (lists (chain_of store.by_object writers) k && is_others c (home_of store.by_owner k)) (lock_at store.locks k)) where
+    -- after the walk over those that write, if the operations only read
+    pub readers_stay : (new : Stored) → ops.write ≡ false → new.locks ≡ once → new.by_owner ≡ store.by_owner → new.objects ≡ store.objects → IsSuspended x c ops store new
+    readers_stay new reads locks of_owner objects = record {
+      own = λ k home. ap (λ (s : Slab Lock). lock_at s k) locks ∙ first k ∙ ap (λ (b : Bool). passed_lock b (lock_at store.locks k)) (no_flag k writers home);
+      others = λ k d home differ.
+          ap (λ (s : Slab Lock). lock_at s k) locks
+          ∙ first k
+          ∙ ap (λ (b : Bool). passed_lock b (lock_at store.locks k)) (flag k d writers true home differ is_writers ∙ sym (or_none _) ∙ ap (λ (b : Bool). (is_on x (lock_at store.locks k) && same_flag true (lock_at store.locks k).ops.write) || (b && is_on x (lock_at store.locks k) && same_flag false (lock_at store.locks k).ops.write)) (sym reads))
+          ∙ walked x ops (lock_at store.locks k) (stored.carry k d home) some;
+      by_owner = of_owner;
+      objects = objects;
+    }
+
+    -- and after that over the others, if they write
+    pub all_suspended : (twice : Slab Lock) (readers : ℕ) → readers ≡ chain_for number false
+        → ((k : ℕ) → lock_at twice k ≡ passed_lock (lists (chain_of store.by_object readers) k && is_others c (home_of store.by_owner k)) (lock_at once k))
+        → (new : Stored) → ops.write ≡ true → new.locks ≡ twice → new.by_owner ≡ store.by_owner → new.objects ≡ store.objects → IsSuspended x c ops store new
+    all_suspended twice readers is_readers second new writes locks of_owner objects = record {
+      own = λ k home.
+          ap (λ (s : Slab Lock). lock_at s k) locks
+          ∙ second k
+          ∙ ap (λ (b : Bool). passed_lock b (lock_at once k)) (no_flag k readers home)
+          ∙ first k
+          ∙ ap (λ (b : Bool). passed_lock b (lock_at store.locks k)) (no_flag k writers home);
+      others = λ k d home differ.
+          ap (λ (s : Slab Lock). lock_at s k) locks
+          ∙ second k
+          ∙ (λ i. passed_lock (flag k d readers false home differ is_readers i) (first k i))
+          ∙ ap (λ (b : Bool). passed_lock (is_on x (lock_at store.locks k) && same_flag false (lock_at store.locks k).ops.write) (passed_lock b (lock_at store.locks k))) (flag k d writers true home differ is_writers)
+          ∙ twice_passed (is_on x (lock_at store.locks k) && same_flag true (lock_at store.locks k).ops.write) (is_on x (lock_at store.locks k) && same_flag false (lock_at store.locks k).ops.write) (lock_at store.locks k)
+          ∙ ap (λ (b : Bool). passed_lock ((is_on x (lock_at store.locks k) && same_flag true (lock_at store.locks k).ops.write) || (b && is_on x (lock_at store.locks k) && same_flag false (lock_at store.locks k).ops.write)) (lock_at store.locks k)) (sym writes)
+          ∙ walked x ops (lock_at store.locks k) (stored.carry k d home) some;
+      by_owner = of_owner;
+      objects = objects;
+    }

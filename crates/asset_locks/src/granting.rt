@@ -1,0 +1,206 @@
+//! Grants an operation to a lock of a seat, which gets one if it has none.
+
+ghost use Rattle.std.specs.Prelude.{◌≡◌, ◌==◌, ℕ, cond, true, is_some};
+ghost use Rattle.slab.specs.Slab.{get};
+ghost use Rattle.asset_names.specs.OpSets.{with_op};
+ghost use Rattle.asset_locks.specs.Stored.{lock_at};
+
+use crate::lock::Lock;
+use crate::store::{LockStore, chain_of, writers_of};
+use asset_names::{NoMemory, Ob, Op, Ops};
+use asset_seats::{add_chains, add_keys};
+use slab::Slab;
+
+/// Grants `op` to the lock at the key.
+fn grant_to(locks: &mut Slab<Lock>, key: usize, op: Op)
+    requires { is_some (get locks.old key) ≡ true }
+    ensures locks { (k : ℕ) → lock_at locks.new k ≡ cond (k == key) (record (lock_at locks.old key) { ops = with_op op (lock_at locks.old key).ops; granted = true }) (lock_at locks.old k) }
+    ensures keys { (k : ℕ) → is_some (get locks.new k) ≡ is_some (get locks.old k) }
+{
+    if let Some(lock) = locks.get_mut(key) {
+        lock.ops = lock.ops.with(op);
+        lock.granted = true;
+    }
+}
+
+impl LockStore {
+    ghost use Rattle.std.specs.Prelude.{◌≡◌, ℕ, ◌+◌, ◌*◌, ◌<◌, ◌≤◌, ◌⊎◌, ◌^◌, ◌==◌, ◌++◌, ◌∷◌, [], cond, true, false, Some, None, is_some, map, find, length, IfOk, OnOk, OnErr, IsErr};
+    ghost use Rattle.std.specs.List.{list_any};
+    ghost use Rattle.asset_names.specs.OpSets.{with_op, only_op};
+    ghost use Rattle.asset_chains.specs.Chained.{chain_of, home_of};
+    ghost use Rattle.asset_locks.specs.LockTable.{is_on, taken, suspended, granted_own, ops_with, new_lock, both_conflict};
+    ghost use Rattle.asset_locks.specs.Valid.{is_some_op};
+    ghost use Rattle.asset_locks.specs.Stored.{lock_at, locks_at, number_in, IsGrown, IsAdded, HasKey};
+
+    /// Grants `op` on `x`, whose number is given, to the seat, and suspends each conflicting lock of another. If the seat
+    /// has a lock on `x`, this takes no memory. If memory runs out, no lock changes.
+    pub(crate) fn grant(
+        &mut self,
+        number: Option<usize>,
+        c: usize,
+        x: Ob,
+        op: Op,
+    ) -> Result<(), NoMemory>
+        requires number { number ≡ number_in self.old.objects x.0 }
+        requires seat { c < length self.old.by_owner.chains }
+        ensures own { OnOk result (locks_at self.new c ≡ granted_own x op (locks_at self.old c)) }
+        ensures others { OnOk result ((d : ℕ) → (d ≡ c → ⊥) → locks_at self.new d ≡ map (suspended x.0 (ops_with op (find (is_on x.0) (locks_at self.old c)))) (locks_at self.old d)) }
+        ensures first { IsErr result → list_any (is_on x.0) (locks_at self.old c) ≡ false }
+        ensures unchanged { OnErr result ((d : ℕ) → locks_at self.new d ≡ locks_at self.old d) }
+        ensures seats { length self.old.by_owner.chains ≤ length self.new.by_owner.chains }
+        ensures holders { (k d : ℕ) → home_of self.new.by_owner k ≡ Some d → (home_of self.old.by_owner k ≡ Some d) ⊎ (d ≡ c) }
+    {
+        self.laws();
+        match self.key_on(number, c, x) {
+            Some(key) => {
+                self.take(key, c, op);
+                Ok(())
+            }
+            None => {
+                let key = self.add_lock(number, c, x, op)?;
+                self.take(key, c, op);
+                Ok(())
+            }
+        }
+    }
+
+    /// Grants `op` to the lock at the key, which is the seat's, and suspends each conflicting lock of another. If the lock
+    /// is granted and carries `op`, they are suspended already.
+    fn take(&mut self, key: usize, c: usize, op: Op)
+        requires { home_of self.old.by_owner key ≡ Some c }
+        ensures own { locks_at self.new c ≡ map (taken (lock_at self.old.locks key).object.0 op) (locks_at self.old c) }
+        ensures others { (d : ℕ) → (d ≡ c → ⊥) → locks_at self.new d ≡ map (suspended (lock_at self.old.locks key).object.0 (with_op op (lock_at self.old.locks key).ops)) (locks_at self.old d) }
+        ensures by_owner { self.new.by_owner ≡ self.old.by_owner }
+    {
+        self.laws();
+        let lock = self.lock(key);
+        if lock.has(op) {
+            return;
+        }
+        let number = self.number_at(key);
+        self.suspend_others(number, lock.object, c, lock.ops.with(op));
+        self.grant_at(key, number, op);
+    }
+
+    /// Returns the number of the object that the lock at the key is on.
+    fn number_at(&self, key: usize) -> usize
+        requires { is_some (home_of self.now.by_owner key) ≡ true }
+        ensures { number_in self.now.objects (lock_at self.now.locks key).object.0 ≡ Some result }
+    {
+        self.laws();
+        match self.by_object.home(key) {
+            Some(chain) => chain / 2,
+            None => unreachable!(),
+        }
+    }
+
+    /// Grants `op` to the lock at the key, which is on the object of this number. No other granted lock conflicts with
+    /// what it carries then.
+    fn grant_at(&mut self, key: usize, number: usize, op: Op)
+        requires number { number_in self.old.objects (lock_at self.old.locks key).object.0 ≡ Some number }
+        requires there { is_some (home_of self.old.by_owner key) ≡ true }
+        requires apart { (j c d : ℕ) → home_of self.old.by_owner key ≡ Some c → home_of self.old.by_owner j ≡ Some d → (d ≡ c → ⊥) → (lock_at self.old.locks j).object.0 ≡ (lock_at self.old.locks key).object.0 → both_conflict (lock_at self.old.locks j).ops (with_op op (lock_at self.old.locks key).ops) ≡ true → (lock_at self.old.locks j).granted ≡ false }
+        ensures locks { (k : ℕ) → lock_at self.new.locks k ≡ cond (k == key) (record (lock_at self.old.locks key) { ops = with_op op (lock_at self.old.locks key).ops; granted = true }) (lock_at self.old.locks k) }
+        ensures by_owner { self.new.by_owner ≡ self.old.by_owner }
+    {
+        self.laws();
+        grant_to(&mut self.locks, key, op);
+        match op {
+            Op::Read => {}
+            Op::Write => {
+                self.by_object.unlink(key);
+                self.by_object.push(writers_of(number), key);
+            }
+        }
+    }
+
+    /// Adds a lock on `x`, whose number is given, which is suspended, to those of the seat, which has none on `x`. Returns
+    /// its key. If memory runs out, no lock changes.
+    fn add_lock(
+        &mut self,
+        number: Option<usize>,
+        c: usize,
+        x: Ob,
+        op: Op,
+    ) -> Result<usize, NoMemory>
+        requires number { number ≡ number_in self.old.objects x.0 }
+        requires seat { c < length self.old.by_owner.chains }
+        requires none { (k : ℕ) → home_of self.old.by_owner k ≡ Some c → is_on x.0 (lock_at self.old.locks k) ≡ false }
+        ensures added { IfOk result (λ key. IsAdded key c (record (new_lock x op) { granted = false }) self.old self.new) }
+        ensures unchanged { OnErr result (IsGrown self.old self.new) }
+    {
+        let number = self.number_for(number, x)?;
+        let key = self.reserve_key()?;
+        self.insert(
+            key,
+            number,
+            c,
+            Lock {
+                object: x,
+                ops: Ops::only(op),
+                granted: false,
+            },
+        );
+        Ok(key)
+    }
+
+    /// Returns the number of the object, which is given one if it has none. If memory runs out, no lock changes.
+    fn number_for(&mut self, number: Option<usize>, x: Ob) -> Result<usize, NoMemory>
+        requires { number ≡ number_in self.old.objects x.0 }
+        ensures number { IfOk result (λ number. number_in self.new.objects x.0 ≡ Some number) }
+        ensures grown { IsGrown self.old self.new }
+    {
+        match number {
+            Some(number) => Ok(number),
+            None => self.add_object(x),
+        }
+    }
+
+    /// Gives the object a number, and two chains. If memory runs out, no lock changes.
+    fn add_object(&mut self, x: Ob) -> Result<usize, NoMemory>
+        requires { number_in self.old.objects x.0 ≡ None }
+        ensures number { IfOk result (λ number. number_in self.new.objects x.0 ≡ Some number) }
+        ensures grown { IsGrown self.old self.new }
+    {
+        self.laws();
+        let number = self.objects.len();
+        add_chains(&mut self.by_object, writers_of(number))?;
+        match self.objects.insert(x) {
+            Ok(_) => Ok(number),
+            Err(_) => Err(NoMemory),
+        }
+    }
+
+    /// Makes room for one more lock, and returns its key. If memory runs out, no lock changes.
+    fn reserve_key(&mut self) -> Result<usize, NoMemory>
+        ensures room { IfOk result (HasKey self.new) }
+        ensures grown { IsGrown self.old self.new }
+        ensures objects { self.new.objects ≡ self.old.objects }
+    {
+        match self.locks.reserve(1) {
+            Ok(()) => {}
+            Err(_) => return Err(NoMemory),
+        }
+        let key = self.locks.vacant_key();
+        add_keys(&mut self.by_object, key)?;
+        add_keys(&mut self.by_owner, key)?;
+        Ok(key)
+    }
+
+    /// Puts a lock at the key, for which there is room, into the chain of the seat and that of the object of this number.
+    fn insert(&mut self, key: usize, number: usize, c: usize, lock: Lock)
+        requires room { HasKey self.old key }
+        requires number { number_in self.old.objects lock.object.0 ≡ Some number }
+        requires seat { c < length self.old.by_owner.chains }
+        requires none { (k : ℕ) → home_of self.old.by_owner k ≡ Some c → is_on lock.object.0 (lock_at self.old.locks k) ≡ false }
+        requires suspended { lock.granted ≡ false }
+        requires ops { is_some_op lock.ops ≡ true }
+        ensures { IsAdded key c lock self.old self.new }
+    {
+        self.laws();
+        let chain = chain_of(number, lock.ops);
+        self.locks.insert_reserved(lock);
+        self.by_object.push(chain, key);
+        self.by_owner.push(c, key);
+    }
+}

@@ -1,0 +1,214 @@
+//! Walks over the locks of an object or of a seat, which change nothing.
+
+ghost use Rattle.std.specs.Prelude.{◌≡◌};
+ghost use Rattle.asset_chains.specs.Chained.{home_of};
+ghost use Rattle.asset_locks.specs.Stored.{is_others};
+
+use crate::lock::{Request, one_conflicts};
+use crate::store::{LockStore, readers_of, writers_of};
+use asset_chains::Chains;
+use asset_names::{Ob, Op, Txn};
+use asset_permits::Permits;
+use asset_seats::Seats;
+
+/// Returns whether the lock at the key is another's than the seat's.
+#[tactic(auto, unfolding(crate::specs::Stored::is_others))]
+pub(crate) fn is_others(by_owner: &Chains, key: usize, c: usize) -> bool
+    ensures { result ≡ is_others c (home_of by_owner.now key) }
+{
+    match by_owner.home(key) {
+        Some(d) => d != c,
+        None => true,
+    }
+}
+
+impl LockStore {
+    ghost use Rattle.std.specs.Prelude.{◌≡◌, ℕ, ◌+◌, ◌*◌, ◌<◌, ◌^◌, ◌||◌, ◌&&◌, Bool, true, false, Some, map, slice_get, IfSome, IfNone};
+    ghost use Rattle.std.specs.List.{list_any};
+    ghost use Rattle.asset_names.specs.OpSets.{has_op, only_op};
+    ghost use Rattle.asset_names.specs.declared.operations.Op.TheVariants as Op';
+    ghost use Rattle.asset_chains.specs.Chained.{chain_of, home_of};
+    ghost use Rattle.asset_permits.specs.Descriptors.{allows_by};
+    ghost use Rattle.asset_seats.specs.Seated.{seat};
+    ghost use Rattle.asset_locks.specs.declared.lock.Lock.{Lock as Held};
+    ghost use Rattle.asset_locks.specs.LockTable.{is_on, blocks};
+    ghost use Rattle.asset_locks.specs.Stored.{name_of, key_blocks, lock_at, locks_at, number_in, chain_for, is_others};
+
+    /// Returns who has the lock at the key, if anybody has it.
+    #[tactic(auto, unfolding(crate::specs::Stored::name_of))]
+    fn owner(&self, key: usize, seats: &Seats) -> Option<Txn>
+        ensures { result ≡ name_of seats.now (home_of self.now.by_owner key) }
+    {
+        match self.by_owner.home(key) {
+            Some(c) => seats.name_at(c),
+            None => None,
+        }
+    }
+
+    /// Returns whether the lock at the key, which is on the object that is asked for, blocks the request.
+    fn key_blocks(&self, key: usize, request: Request, seats: &Seats, permits: &mut Permits) -> bool
+        ensures answer { result ≡ key_blocks self.now seats.now (λ u. allows_by permits.old u request.t.0 request.x.0 request.op) request.t.0 request.op key }
+        ensures permits { permits.new ≡ permits.old }
+    {
+        let Some(owner) = self.owner(key, seats) else {
+            return false;
+        };
+        if owner == request.t {
+            return false;
+        }
+        if one_conflicts(self.lock(key).ops, request.op) {
+            !permits.allows(owner, request.t, request.x, request.op)
+        } else {
+            false
+        }
+    }
+
+    /// Returns whether a lock of the chain, which is one of the object that is asked for, blocks the request.
+    fn chain_blocks(
+        &self,
+        chain: usize,
+        request: Request,
+        seats: &Seats,
+        permits: &mut Permits,
+    ) -> bool
+        ensures blocked { result ≡ true → (k : ℕ) × (home_of self.now.by_object k ≡ Some chain) × (key_blocks self.now seats.now (λ u. allows_by permits.old u request.t.0 request.x.0 request.op) request.t.0 request.op k ≡ true) }
+        ensures free { result ≡ false → (k : ℕ) → home_of self.now.by_object k ≡ Some chain → key_blocks self.now seats.now (λ u. allows_by permits.old u request.t.0 request.x.0 request.op) request.t.0 request.op k ≡ false }
+        ensures permits { permits.new ≡ permits.old }
+    {
+        self.by_object.laws();
+        let mut next = self.by_object.first(chain);
+        'keys: while let Some(key) = next {
+            if self.key_blocks(key, request, seats, permits) {
+                return true;
+            }
+            next = self.by_object.next(key);
+        }
+        false
+    }
+
+    /// Returns whether a lock on the object of this number, which is the one that is asked for, blocks the request. For a
+    /// read it looks at the locks that write.
+    fn object_blocks(
+        &self,
+        number: usize,
+        request: Request,
+        seats: &Seats,
+        permits: &mut Permits,
+    ) -> bool
+        requires { 2 * number + 1 < 2 ^ 64 }
+        ensures blocked { result ≡ true → (k : ℕ) × (w : Bool) × (home_of self.now.by_object k ≡ Some (chain_for number w)) × (key_blocks self.now seats.now (λ u. allows_by permits.old u request.t.0 request.x.0 request.op) request.t.0 request.op k ≡ true) }
+        ensures free { result ≡ false → (k : ℕ) (w : Bool) → home_of self.now.by_object k ≡ Some (chain_for number w) → (w || has_op (only_op request.op) Op'.Write) ≡ true → key_blocks self.now seats.now (λ u. allows_by permits.old u request.t.0 request.x.0 request.op) request.t.0 request.op k ≡ false }
+        ensures permits { permits.new ≡ permits.old }
+    {
+        if self.chain_blocks(writers_of(number), request, seats, permits) {
+            return true;
+        }
+        match request.op {
+            Op::Read => false,
+            Op::Write => self.chain_blocks(readers_of(number), request, seats, permits),
+        }
+    }
+
+    /// Returns whether somebody blocks the request, the number of whose object is given.
+    pub(crate) fn is_blocked(
+        &self,
+        number: Option<usize>,
+        request: Request,
+        seats: &Seats,
+        permits: &mut Permits,
+    ) -> bool
+        requires { number ≡ number_in self.now.objects request.x.0 }
+        ensures blocked { result ≡ true → (c : ℕ) × (u : Txn) × (seat seats.now c ≡ Some u) × (blocks (λ u. allows_by permits.old u request.t.0 request.x.0 request.op) request.t.0 request.x.0 request.op u.0 (locks_at self.now c) ≡ true) }
+        ensures free { result ≡ false → (c : ℕ) (u : Txn) → seat seats.now c ≡ Some u → blocks (λ u. allows_by permits.old u request.t.0 request.x.0 request.op) request.t.0 request.x.0 request.op u.0 (locks_at self.now c) ≡ false }
+        ensures permits { permits.new ≡ permits.old }
+    {
+        self.laws();
+        match number {
+            Some(number) => self.object_blocks(number, request, seats, permits),
+            None => false,
+        }
+    }
+
+    /// Returns the key of a lock of the object's chain that is the seat's, if there is one.
+    fn find_by_object(&self, chain: usize, c: usize) -> Option<usize>
+        ensures found { IfSome result (λ k. home_of self.now.by_object k ≡ Some chain × home_of self.now.by_owner k ≡ Some c) }
+        ensures none { IfNone result ((k : ℕ) → home_of self.now.by_object k ≡ Some chain → is_others c (home_of self.now.by_owner k) ≡ true) }
+    {
+        self.by_object.laws();
+        let mut next = self.by_object.first(chain);
+        'keys: while let Some(key) = next {
+            if !is_others(&self.by_owner, key, c) {
+                return Some(key);
+            }
+            next = self.by_object.next(key);
+        }
+        None
+    }
+
+    /// Returns the key of the lock of the seat on `x`, if it has one, by its own locks.
+    fn find_by_owner(&self, c: usize, x: Ob) -> Option<usize>
+        ensures found { IfSome result (λ k. home_of self.now.by_owner k ≡ Some c × is_on x.0 (lock_at self.now.locks k) ≡ true) }
+        ensures none { IfNone result ((k : ℕ) → home_of self.now.by_owner k ≡ Some c → is_on x.0 (lock_at self.now.locks k) ≡ false) }
+    {
+        self.by_owner.laws();
+        let mut next = self.by_owner.first(c);
+        'keys: while let Some(key) = next {
+            if self.lock(key).object == x {
+                return Some(key);
+            }
+            next = self.by_owner.next(key);
+        }
+        None
+    }
+
+    /// Returns the key of the lock of the seat on the object of this number, if it has one, by the locks on the object.
+    fn find_on(&self, number: usize, c: usize) -> Option<usize>
+        requires { 2 * number + 1 < 2 ^ 64 }
+        ensures found { IfSome result (λ k. ((w : Bool) × home_of self.now.by_object k ≡ Some (chain_for number w)) × home_of self.now.by_owner k ≡ Some c) }
+        ensures none { IfNone result ((k : ℕ) (w : Bool) → home_of self.now.by_object k ≡ Some (chain_for number w) → is_others c (home_of self.now.by_owner k) ≡ true) }
+    {
+        match self.find_by_object(writers_of(number), c) {
+            Some(key) => Some(key),
+            None => self.find_by_object(readers_of(number), c),
+        }
+    }
+
+    /// Returns the key of the lock of the seat on `x`, whose number is given, if it has one. It looks at the locks of the
+    /// seat or at those on the object, whichever are fewer.
+    pub(crate) fn key_on(&self, number: Option<usize>, c: usize, x: Ob) -> Option<usize>
+        requires { number ≡ number_in self.now.objects x.0 }
+        ensures found { IfSome result (λ k. home_of self.now.by_owner k ≡ Some c × is_on x.0 (lock_at self.now.locks k) ≡ true) }
+        ensures none { IfNone result ((k : ℕ) → home_of self.now.by_owner k ≡ Some c → is_on x.0 (lock_at self.now.locks k) ≡ false) }
+    {
+        self.laws();
+        match number {
+            Some(number) => {
+                let readers = self.by_object.len(readers_of(number));
+                let on_object = readers.saturating_add(self.by_object.len(writers_of(number)));
+                if self.by_owner.len(c) <= on_object {
+                    self.find_by_owner(c, x)
+                } else {
+                    self.find_on(number, c)
+                }
+            }
+            None => None,
+        }
+    }
+
+    /// Returns the object at the index among those on which the seat has a lock, in order of first grant from 0.
+    pub(crate) fn held_at(&self, c: usize, index: usize) -> Option<Ob>
+        ensures { result ≡ slice_get (map (λ (lock : Held). lock.object) (locks_at self.now c)) index }
+    {
+        self.by_owner.laws();
+        let mut before = index;
+        let mut next = self.by_owner.first(c);
+        'keys: while let Some(key) = next {
+            if before == 0 {
+                return Some(self.lock(key).object);
+            }
+            before -= 1;
+            next = self.by_owner.next(key);
+        }
+        None
+    }
+}

@@ -1,0 +1,123 @@
+//! The locks, each in the chain of its object and in that of its owner's seat.
+
+ghost use Rattle.std.specs.Prelude.{◌≡◌, ℕ, ◌+◌, ◌*◌, ◌<◌, ◌^◌, true, false};
+ghost use Rattle.asset_locks.specs.Stored.{chain_for};
+
+use crate::lock::Lock;
+use asset_chains::Chains;
+use asset_names::{NoMemory, Ob, Op, Ops};
+use asset_seats::add_chains;
+use indexmap::IndexSet;
+use slab::Slab;
+use std::alloc::Global;
+use std::marker::Model;
+
+/// The locks of each seat, in order of first grant. Contracts see the locks by their keys, and the keys in the chains of
+/// objects and of seats.
+#[derive(Drop)]
+pub(crate) struct LockStore {
+    pub locks: Slab<Lock>,
+    pub objects: IndexSet<Ob>,
+    pub by_object: Chains,
+    pub by_owner: Chains,
+}
+
+impl Model for LockStore {
+    ghost use Rattle.asset_locks.specs.Stored.{Stored, IsStored};
+
+    ghost Value = { Stored };
+
+    ghost view = { λ s. record { locks = s.locks; objects = s.objects.keys; by_object = s.by_object; by_owner = s.by_owner } };
+
+    ghost invariant = { λ s. IsStored (record { locks = s.locks; objects = s.objects.keys; by_object = s.by_object; by_owner = s.by_owner }) };
+}
+
+/// Returns the chain of the locks that only read, on the object of this number.
+#[tactic(auto, unfolding(crate::specs::Stored::chain_for))]
+pub(crate) fn readers_of(number: usize) -> usize
+    requires { 2 * number + 1 < 2 ^ 64 }
+    ensures { result ≡ chain_for number false }
+{
+    2 * number
+}
+
+/// Returns the chain of the locks that write, on the object of this number.
+#[tactic(auto, unfolding(crate::specs::Stored::chain_for))]
+pub(crate) fn writers_of(number: usize) -> usize
+    requires { 2 * number + 1 < 2 ^ 64 }
+    ensures { result ≡ chain_for number true }
+{
+    2 * number + 1
+}
+
+/// Returns the chain of the locks with these operations, on the object of this number.
+pub(crate) fn chain_of(number: usize, ops: Ops) -> usize
+    requires { 2 * number + 1 < 2 ^ 64 }
+    ensures { result ≡ chain_for number ops.write }
+{
+    if ops.has(Op::Write) {
+        writers_of(number)
+    } else {
+        readers_of(number)
+    }
+}
+
+impl LockStore {
+    ghost use Rattle.std.specs.Prelude.{◌≡◌, ℕ, ◌<◌, ◌^◌, [], length, OnOk};
+    ghost use Rattle.asset_chains.specs.Chained.{chain_of, home_of, IsSound};
+    ghost use Rattle.asset_locks.specs.Stored.{IsStored, IsGrown, lock_at, locks_at, number_in};
+
+    /// Returns no locks. It does not allocate.
+    pub(crate) fn new(alloc: Global) -> LockStore
+        ensures { result.by_owner.homes ≡ [] }
+    {
+        LockStore {
+            locks: Slab::new(alloc),
+            objects: IndexSet::new(alloc),
+            by_object: Chains::new(alloc),
+            by_owner: Chains::new(alloc),
+        }
+    }
+
+    /// Says what holds of all locks, for proofs. It does nothing.
+    pub(crate) fn laws(&self)
+        ensures stored { IsStored self.now }
+        ensures objects { IsSound self.now.by_object }
+        ensures owners { IsSound self.now.by_owner }
+        ensures few { length self.now.by_object.chains < 2 ^ 32 }
+    {
+        self.by_object.laws();
+        self.by_owner.laws();
+    }
+
+    /// Makes room for the locks of a seat. If memory runs out, no lock changes.
+    pub(crate) fn reserve_seat(&mut self, c: usize) -> Result<(), NoMemory>
+        ensures there { OnOk result (c < length self.new.by_owner.chains) }
+        ensures grown { IsGrown self.old self.new }
+    {
+        add_chains(&mut self.by_owner, c)
+    }
+
+    /// Returns the number of the object, if it ever had a lock.
+    #[tactic(auto, unfolding(crate::specs::Stored::number_in))]
+    pub(crate) fn number(&self, x: Ob) -> Option<usize>
+        ensures { result ≡ number_in self.now.objects x.0 }
+    {
+        self.objects.get_index_of(&x)
+    }
+
+    /// Returns the lock at the key.
+    #[tactic(auto, unfolding(crate::specs::Stored::lock_at, crate::specs::Stored::no_lock, asset_names::specs::OpSets::only_op))]
+    pub(crate) fn lock(&self, key: usize) -> Lock
+        ensures { result ≡ lock_at self.now.locks key }
+    {
+        match self.locks.get(key) {
+            Some(lock) => *lock,
+            None => Lock {
+                object: Ob(0),
+                ops: Ops::only(Op::Read),
+                granted: false,
+            },
+        }
+    }
+}
