@@ -20,7 +20,7 @@ use Rattle.asset_names.proofs.LiveLemmas.{live_initiate, live_commit, live_abort
 use Rattle.asset_names.proofs.EndLemmas.{commits, aborts, commits_nobody, aborts_nobody}
 use Rattle.asset_names.proofs.ClassLemmas.{commits_alone, aborts_alone}
 use Rattle.asset_names.proofs.Common.{eqb-flip}
-use Rattle.asset_locks.specs.Valid.{LockRows, lock_table}
+use Rattle.asset_names.specs.OpSets.{OpSet}
 use Rattle.asset_locks.specs.LockTable as Locks
 use Rattle.asset_trans.specs.TransRows.{status_in}
 use Rattle.asset_core.specs.declared.tables.Tables.{Tables}
@@ -34,7 +34,7 @@ use Rattle.asset_core.specs.Shows.{Shows}
 
 -- the pending requests of a table of locks
 abbrev pub pending_requests : Locks.LockTable → List Pending
-pending_requests table = map asker_of table.enrolled
+pending_requests table = map asker_of table
 
 -- the names of the pending_requests
 abbrev pub named : List Pending → List ℕ
@@ -42,7 +42,7 @@ named ps = map (λ (asker : Pending). asker.name) ps
 
 askers_named : (table : Locks.LockTable) → named (pending_requests table) ≡ Locks.names_in table
 unfolding Locks.names_in asker_of
-askers_named table = go table.enrolled where
+askers_named table = go table where
   go : (everyone : List Locks.Enrolled) → named (map asker_of everyone) ≡ map (λ (who : Locks.Enrolled). who.name) everyone
   go [] = refl
   go (who ∷ everyone) = ap (λ ns. who.name ∷ ns) (go everyone)
@@ -67,7 +67,7 @@ lists_live p (m ∷ names) n h = go (p m) refl (eqb m n) refl h (lists_live p na
 asker_live : (opening : Opening) (steps : List Step) (tables : Tables) → Shows opening steps (values_of tables) → (n : ℕ) → lists (named (pending_in tables.locks)) n ≡ true → live steps n ≡ true
 unfolding pending_in
 asker_live opening steps tables stand n listed =
-    lists_live (live steps) (reverse (initiated steps)) n (ap (λ names. lists names n) (sym stand.enrolled ∙ sym (askers_named (lock_table tables.locks))) ∙ listed)
+    lists_live (live steps) (reverse (initiated steps)) n (ap (λ names. lists names n) (sym stand.enrolled ∙ sym (askers_named tables.locks)) ∙ listed)
 
 -- a change of pending_requests that keeps their names
 named_changed : (change : Pending → Pending) (ps : List Pending) → ((asker : Pending) → (change asker).name ≡ asker.name) → named (map change ps) ≡ named ps
@@ -143,34 +143,34 @@ askers_refused opening steps tables step reply stand none =
     nobody_ended steps steps step (Answer reply) (pending_in tables.locks) (asker_live opening steps tables stand) (new_unchanged step reply none)
     ∙ same_askers (asker_after step (Answer reply)) (pending_in tables.locks) (λ asker. asker_unchanged step reply asker none)
 
--- the pending requests after a change of one row
-askers_changed : (t : ℕ) (change : Locks.Enrolled → Locks.Enrolled) (after : Pending → Pending) (everyone : List Locks.Enrolled)
-    → ((who : Locks.Enrolled) → asker_of (cond (eqb who.name t) (change who) who) ≡ after (asker_of who)) → map asker_of (Locks.change_enrolled t change everyone) ≡ map after (map asker_of everyone)
-unfolding Locks.change_enrolled
-askers_changed t change after [] same = refl
-askers_changed t change after (who ∷ everyone) same = rw (same who, askers_changed t change after everyone same)
+-- the pending requests after a change of the rows
+askers_changed : (change : Locks.Enrolled → Locks.Enrolled) (after : Pending → Pending) (everyone : List Locks.Enrolled)
+    → ((who : Locks.Enrolled) → asker_of (change who) ≡ after (asker_of who)) → map asker_of (map change everyone) ≡ map after (map asker_of everyone)
+askers_changed change after [] same = refl
+askers_changed change after (who ∷ everyone) same = rw (same who, askers_changed change after everyone same)
 
 -- the pending requests that a waiting request leaves, and those that a grant leaves
-waiting_is : (t : ℕ) (x : Ob) (op : Op) (step : Step) (who : Locks.Enrolled) → asker_of (cond (eqb who.name t) (Locks.enrolled_waiting x op who) who)
+waiting_is : (t : ℕ) (x : Ob) (op : Op) (who : Locks.Enrolled) → asker_of (Locks.waiting_row t x op who)
     ≡ cond (eqb (asker_of who).name t) (record (asker_of who) { request = Some (x, op) }) (asker_of who)
-unfolding asker_of Locks.enrolled_waiting
-waiting_is t x op step who = go (eqb who.name t) where
-  go : (own : Bool) → asker_of (cond own (Locks.enrolled_waiting x op who) who) ≡ cond own (record (asker_of who) { request = Some (x, op) }) (asker_of who)
+unfolding asker_of Locks.waiting_row
+waiting_is t x op who = go (eqb who.name t) where
+  go : (own : Bool) → asker_of (cond own (record who { pending = Some (x, op) }) who) ≡ cond own (record (asker_of who) { request = Some (x, op) }) (asker_of who)
   go true = refl
   go false = refl
 
-granted_is : (t : ℕ) (x : Ob) (lock : Option Locks.Lock) (who : Locks.Enrolled) → asker_of (cond (eqb who.name t) (Locks.enrolled_granted x lock who) who)
+granted_is : (t : ℕ) (x : Ob) (op : Op) (ops : OpSet) (who : Locks.Enrolled) → asker_of (Locks.granted_row t x op ops who)
     ≡ cond (eqb (asker_of who).name t) (record (asker_of who) { request = None }) (asker_of who)
-unfolding asker_of Locks.enrolled_granted
-granted_is t x lock who = go (eqb who.name t) where
-  go : (own : Bool) → asker_of (cond own (Locks.enrolled_granted x lock who) who) ≡ cond own (record (asker_of who) { request = None }) (asker_of who)
+unfolding asker_of Locks.granted_row
+granted_is t x op ops who = go (eqb who.name t) where
+  go : (own : Bool) → asker_of (cond own (record who { pending = None; locks = Locks.granted_own x op who.locks }) (record who { locks = map (Locks.suspended x.0 ops) who.locks }))
+      ≡ cond own (record (asker_of who) { request = None }) (asker_of who)
   go true = refl
   go false = refl
 
 waiting_askers : (step : Step) (tables : Tables) → map (asker_after step Wait) (pending_in tables.locks) ≡ pending_requests (locks_waiting step tables)
 unfolding pending_in locks_waiting Locks.wait_in asker_after request_after
-waiting_askers (Read t x) tables = sym (askers_changed t.0 (Locks.enrolled_waiting x Op'.Read) (asker_after (Read t x) Wait) (lock_table tables.locks).enrolled (waiting_is t.0 x Op'.Read (Read t x)))
-waiting_askers (Write t x v) tables = sym (askers_changed t.0 (Locks.enrolled_waiting x Op'.Write) (asker_after (Write t x v) Wait) (lock_table tables.locks).enrolled (waiting_is t.0 x Op'.Write (Write t x v)))
+waiting_askers (Read t x) tables = sym (askers_changed (Locks.waiting_row t.0 x Op'.Read) (asker_after (Read t x) Wait) tables.locks (waiting_is t.0 x Op'.Read))
+waiting_askers (Write t x v) tables = sym (askers_changed (Locks.waiting_row t.0 x Op'.Write) (asker_after (Write t x v) Wait) tables.locks (waiting_is t.0 x Op'.Write))
 waiting_askers (Initiate t parent) tables = same_askers _ _ (λ asker. refl)
 waiting_askers (Begin t) tables = same_askers _ _ (λ asker. refl)
 waiting_askers (Complete t) tables = same_askers _ _ (λ asker. refl)
@@ -233,18 +233,18 @@ ended_askers opening steps step tables t test stand ends alone nobody = go (is_l
   ps = pending_in tables.locks
 
   go : (alive : Bool) → is_live_status (status_in tables.trans t) ≡ alive
-      → filter (λ (asker : Pending). live (step ∷ steps) asker.name) ps ≡ pending_requests (cond alive (Locks.release_in (λ n. eqb n t) (lock_table tables.locks)) (lock_table tables.locks))
+      → filter (λ (asker : Pending). live (step ∷ steps) asker.name) ps ≡ pending_requests (cond alive (Locks.release_in (λ n. eqb n t) tables.locks) tables.locks)
   go true e =
       let alive = sym (live_shown opening steps _ _ _ _ t stand) ∙ e in
       askers_alike (live (step ∷ steps)) (λ n. not (eqb n t)) ps (λ n listed. ends n ∙ rw (asker_live opening steps tables stand n listed, alone n alive, eqb-flip t n) (grind arith))
-      ∙ sym (askers_without (λ n. eqb n t) (lock_table tables.locks).enrolled)
+      ∙ sym (askers_without (λ n. eqb n t) tables.locks)
   go false e =
       let dead = sym (live_shown opening steps _ _ _ _ t stand) ∙ e in
       all_stay (live (step ∷ steps)) ps (λ n listed. ends n ∙ rw (nobody n dead, asker_live opening steps tables stand n listed) refl)
 
 -- a new transaction has the last pending request, and it is empty
 initiate_askers : (opening : Opening) (steps : List Step) (tables : Tables) (t : Txn) (parent : Option Txn) (reply : Reply) → Shows opening steps (values_of tables) → takes_effect (Initiate t parent) reply ≡ true → lists (initiated steps) t.0 ≡ false
-    → filter (λ (asker : Pending). live (Initiate t parent ∷ steps) asker.name) (map (asker_after (Initiate t parent) (Answer reply)) (pending_in tables.locks) ++ new_asker (Initiate t parent) (Answer reply)) ≡ pending_requests (Locks.enrol_in t.0 (lock_table tables.locks))
+    → filter (λ (asker : Pending). live (Initiate t parent ∷ steps) asker.name) (map (asker_after (Initiate t parent) (Answer reply)) (pending_in tables.locks) ++ new_asker (Initiate t parent) (Answer reply)) ≡ pending_requests (Locks.enrol_in t.0 tables.locks)
 unfolding new_asker outcome_takes_effect asker_after pending_in Locks.enrol_in asker_of lists
 initiate_askers opening steps tables t parent reply stand carried new =
     let ps = pending_in tables.locks in
@@ -252,7 +252,7 @@ initiate_askers opening steps tables t parent reply stand carried new =
     let all : List Pending = ps ++ last ∷ [] in
     rw (carried, same_askers (λ asker. asker) ps (λ asker. refl))
     (all_stay (live (Initiate t parent ∷ steps)) all (λ n listed. live_initiate t parent steps n new ∙ known n (or_cases _ _ (sym (pushed ps last n) ∙ listed)))
-    ∙ sym (map-append asker_of (lock_table tables.locks).enrolled _)) where
+    ∙ sym (map-append asker_of tables.locks _)) where
       pushed : (ps : List Pending) (last : Pending) (n : ℕ) → lists (named (ps ++ last ∷ [])) n ≡ (lists (named ps) n || eqb last.name n)
       pushed ps last n = ap (λ names. lists names n) (map-append (λ (asker : Pending). asker.name) ps (last ∷ [])) ∙ lists_pushed (named ps) last.name n
 
@@ -263,11 +263,12 @@ initiate_askers opening steps tables t parent reply stand carried new =
 -- a grant leaves nothing pending for its transaction
 granted_askers : (step : Step) (t : ℕ) (x : Ob) (op : Op) (reply : Reply) (tables : Tables) → takes_effect step reply ≡ true
     → ((asker : Pending) → asker_after step (Answer reply) asker ≡ cond (eqb asker.name t) (record asker { request = request_after step x op (Answer reply) asker.request }) asker)
-    → map (asker_after step (Answer reply)) (pending_in tables.locks) ≡ pending_requests (Locks.grant_in t x op (lock_table tables.locks))
+    → map (asker_after step (Answer reply)) (pending_in tables.locks) ≡ pending_requests (Locks.grant_in t x op tables.locks)
 unfolding pending_in Locks.grant_in
 granted_askers step t x op reply tables carried asked =
-    sym (askers_changed t (Locks.enrolled_granted x (Locks.lock_of t ((lock_table tables.locks).locks_on x.0))) (asker_after step (Answer reply)) (lock_table tables.locks).enrolled
-    (λ who. granted_is t x (Locks.lock_of t ((lock_table tables.locks).locks_on x.0)) who ∙ sym (asked (asker_of who) ∙ granted_asker step t x op reply (asker_of who) carried)))
+    let ops = Locks.ops_with op (Locks.lock_in tables.locks t x.0) in
+    sym (askers_changed (Locks.granted_row t x op ops) (asker_after step (Answer reply)) tables.locks
+    (λ who. granted_is t x op ops who ∙ sym (asked (asker_of who) ∙ granted_asker step t x op reply (asker_of who) carried)))
 
 -- the pending requests after a step that took effect
 pub askers_carried : (opening : Opening) (steps : List Step) (tables : Tables) (step : Step) (reply : Reply) → Shows opening steps (values_of tables) → takes_effect step reply ≡ true
@@ -297,9 +298,9 @@ askers_carried opening steps tables (Abort t) reply stand carried new =
 askers_carried opening steps tables (WaitFor t) reply stand carried new = absurd (false≢true carried)
 
 -- who waits for an object, by the table and by the pending_requests
-pub waiters_as : (x : ℕ) (kept : LockRows) → Locks.waiters_in (lock_table kept) x ≡ waiting_for x (pending_in kept)
+pub waiters_as : (x : ℕ) (kept : Locks.LockTable) → Locks.waiters_in kept x ≡ waiting_for x (pending_in kept)
 unfolding Locks.waiters_in waiting_for pending_in asker_of Locks.waiting_at waiter_of
-waiters_as x kept = go (lock_table kept).enrolled where
+waiters_as x kept = go kept where
   one : (t : ℕ) (asker : Locks.PendingRequest) → Locks.waiting_at x t asker ≡ waiter_of x t asker
   one t None = refl
   one t (Some request) = refl

@@ -18,7 +18,6 @@ use Rattle.asset_names.specs.Answers.{answer, outcome_unless, unrefused, rules_f
 use Rattle.asset_names.proofs.LegalLemmas.{effect_unrefused, first_none, initiate_new, complete_runs, permit_live}
 use Rattle.asset_names.proofs.LiveLemmas.{live_by_status}
 use Rattle.asset_names.proofs.EndLemmas.{live_parts}
-use Rattle.asset_locks.specs.Valid.{lock_table}
 use Rattle.asset_locks.specs.LockTable as Locks
 use Rattle.asset_core.specs.declared.tables.Tables.{Tables}
 use Rattle.asset_core.specs.Tables.{values_of, IsReady, MayWait, IsAtWork, is_free_for}
@@ -51,10 +50,10 @@ enrolled_named (who ∷ everyone) t = go (eqb who.name t) (enrolled_named everyo
   go false ih = ih
 
 -- who is enrolled is live, and the other way
-pub enrolled_live : (opening : Opening) (steps : List Step) (tables : Tables) (t : ℕ) → Shows opening steps (values_of tables) → is_some (Locks.enrolled_in (lock_table tables.locks) t) ≡ (live steps t && lists (initiated steps) t)
+pub enrolled_live : (opening : Opening) (steps : List Step) (tables : Tables) (t : ℕ) → Shows opening steps (values_of tables) → is_some (Locks.enrolled_in tables.locks t) ≡ (live steps t && lists (initiated steps) t)
 unfolding Locks.enrolled_in Locks.names_in
 enrolled_live opening steps tables t stand =
-    enrolled_named (lock_table tables.locks).enrolled t ∙ ap (λ names. lists names t) stand.enrolled ∙ lists_filter (live steps) (reverse (initiated steps)) t ∙ ap (λ b. live steps t && b) (lists_reverse (initiated steps) t)
+    enrolled_named tables.locks t ∙ ap (λ names. lists names t) stand.enrolled ∙ lists_filter (live steps) (reverse (initiated steps)) t ∙ ap (λ b. live steps t && b) (lists_reverse (initiated steps) t)
 
 none_of : {A : Type 0} (found : Option A) → is_some found ≡ false → found ≡ None
 none_of None h = refl

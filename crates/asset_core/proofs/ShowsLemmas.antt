@@ -30,7 +30,6 @@ use Rattle.asset_names.proofs.PermitLemmas.{allows_linked}
 use Rattle.asset_names.proofs.Common.{eqb-flip}
 use Rattle.asset_permits.specs.Descriptors.{Descriptor, allows_by, one_covers, arrows_for}
 use Rattle.asset_objects.specs.Cells.{Cell, Cells, opened, shown, value_in, written, undone, settled, change_at, change_each}
-use Rattle.asset_locks.specs.Valid.{HaveOwners}
 use Rattle.asset_locks.specs.LockTable as Locks
 use Rattle.asset_trans.specs.TransRows.{NamedTransRow, names_of, row_in, status_in, status_or_unknown, parent_in, parent_or_none, initiate_in, set_in, owed_in}
 use Rattle.asset_core.specs.Shows.{Shows, cell_of, cell_after, permitted, table_values}
@@ -123,7 +122,7 @@ status_quiet step steps i b c ends n = rw (i, b, c, ends n)
 
 -- a read
 pub read_shows : (opening : Opening) (steps : List Step) (rows : List NamedTransRow) (objects : Cells) (table : Locks.LockTable) (descriptors : List Descriptor) (t : Txn) (y : Ob) → Shows opening steps (table_values rows objects table descriptors)
-    → live steps t.0 ≡ true → HaveOwners (table.locks_on y.0) → Shows opening (Read t y ∷ steps) (table_values rows objects (Locks.grant_in t.0 y Op'.Read table) descriptors)
+    → live steps t.0 ≡ true → is_some (Locks.enrolled_in table t.0) ≡ true → Shows opening (Read t y ∷ steps) (table_values rows objects (Locks.grant_in t.0 y Op'.Read table) descriptors)
 unfolding initiated initiated_by begun begun_by completed completed_by parent_of parent_by operations operated op_of permits permitted_by
 read_shows opening steps rows objects table descriptors t y shows alive different = record {
   names = shows.names;
@@ -137,7 +136,7 @@ read_shows opening steps rows objects table descriptors t y shows alive differen
 
 -- a write
 pub write_shows : (opening : Opening) (steps : List Step) (rows : List NamedTransRow) (objects : Cells) (table : Locks.LockTable) (descriptors : List Descriptor) (t : Txn) (y : Ob) (v : ℤ) → Shows opening steps (table_values rows objects table descriptors)
-    → live steps t.0 ≡ true → HaveOwners (table.locks_on y.0) → Shows opening (Write t y v ∷ steps) (table_values rows (change_at y.0 (written t.0 v) objects) (Locks.grant_in t.0 y Op'.Write table) descriptors)
+    → live steps t.0 ≡ true → is_some (Locks.enrolled_in table t.0) ≡ true → Shows opening (Write t y v ∷ steps) (table_values rows (change_at y.0 (written t.0 v) objects) (Locks.grant_in t.0 y Op'.Write table) descriptors)
 unfolding initiated initiated_by begun begun_by completed completed_by parent_of parent_by operations operated op_of permits permitted_by
 write_shows opening steps rows objects table descriptors t y v shows alive different = record {
   names = shows.names;
@@ -313,8 +312,8 @@ exists_shown opening steps rows objects table descriptors x shows = ap is_some (
   go false = refl
 
 -- the tables of an opening, before the first step
-pub opened_shows : (opening : Opening) → Shows opening [] (table_values [] (opened opening) Locks.no_locks [])
-unfolding one_covers permitted names_of initiated status_in row_in status_or_unknown parent_in parent_or_none parent_of opened cell_of cell_after operations Locks.names_in Locks.no_locks Locks.carries holds live end_of lists status status_of begun completed
+pub opened_shows : (opening : Opening) → Shows opening [] (table_values [] (opened opening) [] [])
+unfolding one_covers permitted names_of initiated status_in row_in status_or_unknown parent_in parent_or_none parent_of opened cell_of cell_after operations Locks.names_in Locks.carries holds live end_of lists status status_of begun completed
 opened_shows opening = record {
   names = refl;
   statuses = λ t. refl;

@@ -15,7 +15,6 @@ use Rattle.asset_names.specs.Answers.{unrefused, rules_for, first_refusal, unkno
 use Rattle.asset_names.proofs.LegalLemmas.{first_none}
 use Rattle.asset_permits.specs.Descriptors.{Descriptor}
 use Rattle.asset_objects.specs.Cells.{Cells, cells, value_in, has_object}
-use Rattle.asset_locks.specs.Valid.{lock_table}
 use Rattle.asset_locks.specs.LockTable as Locks
 use Rattle.asset_trans.specs.TransRows.{NamedTransRow}
 use Rattle.asset_core.specs.declared.tables.Tables.{Tables}
@@ -45,7 +44,7 @@ always_err (Ok x) p = tt
 always_err (Err e) p = p
 
 -- tables that are as others are stand for what the others do
-pub stand_as : (opening : Opening) (steps : List Step) (later : Tables) (rows : List NamedTransRow) (objects : Cells) (table : Locks.LockTable) (descriptors : List Descriptor) → later.trans ≡ rows → cells later.objects ≡ objects → lock_table later.locks ≡ table
+pub stand_as : (opening : Opening) (steps : List Step) (later : Tables) (rows : List NamedTransRow) (objects : Cells) (table : Locks.LockTable) (descriptors : List Descriptor) → later.trans ≡ rows → cells later.objects ≡ objects → later.locks ≡ table
     → later.permits ≡ descriptors → Shows opening steps (table_values rows objects table descriptors) → Shows opening steps (values_of later)
 stand_as opening steps later rows objects table descriptors r o l p shows = rw (r, o, l, p) shows
 
@@ -69,26 +68,18 @@ write_unrefused opening steps t x v first = no_refusal opening steps t x first
 
 -- an enrolment that is given back leaves the table as it was
 none_named : (t : ℕ) (everyone : List Locks.Enrolled) → find (λ (who : Locks.Enrolled). eqb who.name t) everyone ≡ None
-    → filter (λ (who : Locks.Enrolled). not (eqb who.name t)) (everyone ++ record { name = t; pending = None; held = [] } ∷ []) ≡ everyone
+    → filter (λ (who : Locks.Enrolled). not (eqb who.name t)) (everyone ++ record { name = t; pending = None; locks = [] } ∷ []) ≡ everyone
 none_named t [] none = rw (eq-eqb t t refl) refl
 none_named t (who ∷ everyone) none = go (eqb who.name t) none (none_named t everyone) where
   go : (here : Bool) → cond here (Some who) (find (λ (h : Locks.Enrolled). eqb h.name t) everyone) ≡ None
-      → (find (λ (h : Locks.Enrolled). eqb h.name t) everyone ≡ None → filter (λ (h : Locks.Enrolled). not (eqb h.name t)) (everyone ++ record { name = t; pending = None; held = [] } ∷ []) ≡ everyone)
-      → cond (not here) (who ∷ filter (λ (h : Locks.Enrolled). not (eqb h.name t)) (everyone ++ record { name = t; pending = None; held = [] } ∷ [])) (filter (λ (h : Locks.Enrolled). not (eqb h.name t)) (everyone ++ record { name = t; pending = None; held = [] } ∷ [])) ≡ who ∷ everyone
+      → (find (λ (h : Locks.Enrolled). eqb h.name t) everyone ≡ None → filter (λ (h : Locks.Enrolled). not (eqb h.name t)) (everyone ++ record { name = t; pending = None; locks = [] } ∷ []) ≡ everyone)
+      → cond (not here) (who ∷ filter (λ (h : Locks.Enrolled). not (eqb h.name t)) (everyone ++ record { name = t; pending = None; locks = [] } ∷ [])) (filter (λ (h : Locks.Enrolled). not (eqb h.name t)) (everyone ++ record { name = t; pending = None; locks = [] } ∷ [])) ≡ who ∷ everyone
   go true none rest = cc
   go false none rest = ap (λ hs. who ∷ hs) (rest none)
 
-none_owned : (t : ℕ) (locks : List Locks.Lock) → list_any (Locks.is_of t) locks ≡ false → filter (λ (lock : Locks.Lock). not (eqb lock.owner t)) locks ≡ locks
-unfolding Locks.is_of
-none_owned t [] none = refl
-none_owned t (lock ∷ locks) none =
-    let parts = or_parts (eqb lock.owner t) (list_any (λ (l : Locks.Lock). eqb l.owner t) locks) none in
-    rw (parts.0, none_owned t locks parts.1) refl
-
-pub enrolment_given_back : (t : ℕ) (table : Locks.LockTable) → Locks.enrolled_in table t ≡ None → ((x : ℕ) → list_any (Locks.is_of t) (table.locks_on x) ≡ false)
-    → Locks.release_in (λ n. eqb n t) (Locks.enrol_in t table) ≡ table
+pub enrolment_given_back : (t : ℕ) (table : Locks.LockTable) → Locks.enrolled_in table t ≡ None → Locks.release_in (λ n. eqb n t) (Locks.enrol_in t table) ≡ table
 unfolding Locks.enrolled_in Locks.release_in Locks.enrol_in
-enrolment_given_back t table none unlocked = λ i. record { enrolled = none_named t table.enrolled none i; locks_on = λ x. none_owned t (table.locks_on x) (unlocked x) i }
+enrolment_given_back t table none = none_named t table none
 
 -- what a read is answered by the tables, it is by the history
 pub read_answered : (opening : Opening) (steps : List Step) (tables : Tables) (t : Txn) (x : Ob) → Shows opening steps (values_of tables) → exists opening x.0 ≡ true → read_outcome tables t.0 x.0 ≡ unrefused opening steps (Read t x)

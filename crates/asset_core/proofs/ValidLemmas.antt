@@ -16,7 +16,6 @@ use Rattle.asset_names.specs.Room.{owed, changes_status}
 use Rattle.asset_names.proofs.LegalLemmas.{legal_orderly, initiate_new}
 use Rattle.asset_names.specs.Orderly.{IsOrderly}
 use Rattle.asset_objects.specs.Cells.{cells}
-use Rattle.asset_locks.specs.Valid.{lock_table}
 use Rattle.asset_trans.specs.TransRows.{owed_in}
 use Rattle.asset_core.specs.declared.tables.Tables.{Tables}
 use Rattle.asset_core.specs.Recorded.{Recorded}
@@ -67,14 +66,14 @@ new_in opening steps step reply is carried t parent e = initiate_new opening ste
 
 -- the pending requests after an answer
 pub askers_followed : (opening : Opening) (older : List Entry) (tables : Tables) (step : Step) (reply : Reply) → Shows opening (applied older) (values_of tables) → answer opening (applied older) step ≡ Answer reply
-    → pending_requests (cond (takes_effect step reply) (locks_after step tables) (lock_table tables.locks))
+    → pending_requests (cond (takes_effect step reply) (locks_after step tables) tables.locks)
     ≡ filter (λ (asker : Pending). live (applied ((step, reply) ∷ older)) asker.name) (map (asker_after step (Answer reply)) (pending_in tables.locks) ++ new_asker step (Answer reply))
 unfolding pending_in
 askers_followed opening older tables step reply stand is = go (takes_effect step reply) refl where
   kept_askers : List Pending
   kept_askers = map (asker_after step (Answer reply)) (pending_in tables.locks) ++ new_asker step (Answer reply)
 
-  go : (carried : Bool) → takes_effect step reply ≡ carried → pending_requests (cond carried (locks_after step tables) (lock_table tables.locks)) ≡ filter (λ (asker : Pending). live (applied ((step, reply) ∷ older)) asker.name) kept_askers
+  go : (carried : Bool) → takes_effect step reply ≡ carried → pending_requests (cond carried (locks_after step tables) tables.locks) ≡ filter (λ (asker : Pending). live (applied ((step, reply) ∷ older)) asker.name) kept_askers
   go true e =
       sym (ap (λ steps. filter (λ (asker : Pending). live steps asker.name) kept_askers) (applied_with_effect (step, reply) older e)
       ∙ askers_carried opening (applied older) tables step reply stand e (new_in opening (applied older) step reply is e))

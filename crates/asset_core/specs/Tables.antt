@@ -14,7 +14,6 @@ use Rattle.asset_names.specs.Answers.{IsLegal}
 use Rattle.asset_names.specs.Room.{owed}
 use Rattle.asset_permits.specs.Descriptors.{allows_by}
 use Rattle.asset_objects.specs.Cells.{cells, value_in, has_object}
-use Rattle.asset_locks.specs.Valid.{LockRows, lock_table}
 use Rattle.asset_locks.specs.LockTable as Locks
 use Rattle.asset_trans.specs.TransRows.{row_in, status_in}
 use Rattle.asset_core.specs.declared.tables.Tables.{Tables}
@@ -24,11 +23,11 @@ use Rattle.asset_core.specs.Shows.{TableValues, table_values, Shows}
 
 -- what the tables hold
 abbrev pub values_of : Tables → TableValues
-values_of tables = table_values tables.trans (cells tables.objects) (lock_table tables.locks) tables.permits
+values_of tables = table_values tables.trans (cells tables.objects) tables.locks tables.permits
 
 -- the object is free by the locks
 unfoldable pub is_free_for : Tables → ℕ → ℕ → Op → Bool
-is_free_for tables t x op = Locks.is_free_in (lock_table tables.locks) (λ u. allows_by tables.permits u t x op) t x op
+is_free_for tables t x op = Locks.is_free_in tables.locks (λ u. allows_by tables.permits u t x op) t x op
 
 -- the value that a write asks for, and 0 of another step
 unfoldable pub value_asked : Step → ℤ
@@ -46,12 +45,12 @@ read_outcome tables t x = cond (is_free_for tables t x Op'.Read) (Answer (Reply'
 -- a transaction at work runs and is enrolled for locks
 pub record IsAtWork (tables : Tables) (t : ℕ) : Type 0 where
   pub runs : status_in tables.trans t ≡ Status'.Running
-  pub enrolled : is_some (Locks.enrolled_in (lock_table tables.locks) t) ≡ true
+  pub enrolled : is_some (Locks.enrolled_in tables.locks t) ≡ true
 
 -- a new transaction has no row, and is not enrolled for locks
 pub record IsNew (tables : Tables) (t : ℕ) : Type 0 where
   pub no_row : row_in tables.trans t ≡ None
-  pub not_enrolled : Locks.enrolled_in (lock_table tables.locks) t ≡ None
+  pub not_enrolled : Locks.enrolled_in tables.locks t ≡ None
 
 -- what a step that is to take effect asks of the tables
 abbrev pub IsReady : Step → Tables → Type 0
@@ -73,36 +72,36 @@ MayWait step tables = Unit {0}
 
 -- who ends is released, if it was live
 unfoldable pub released : Tables → ℕ → Locks.LockTable
-released tables t = cond (is_live_status (status_in tables.trans t)) (Locks.release_in (λ n. n == t) (lock_table tables.locks)) (lock_table tables.locks)
+released tables t = cond (is_live_status (status_in tables.trans t)) (Locks.release_in (λ n. n == t) tables.locks) tables.locks
 
 -- the locks after a step that took effect
 unfoldable pub locks_after : Step → Tables → Locks.LockTable
-locks_after (Initiate t parent) tables = Locks.enrol_in t.0 (lock_table tables.locks)
-locks_after (Read t x) tables = Locks.grant_in t.0 x Op'.Read (lock_table tables.locks)
-locks_after (Write t x v) tables = Locks.grant_in t.0 x Op'.Write (lock_table tables.locks)
+locks_after (Initiate t parent) tables = Locks.enrol_in t.0 tables.locks
+locks_after (Read t x) tables = Locks.grant_in t.0 x Op'.Read tables.locks
+locks_after (Write t x v) tables = Locks.grant_in t.0 x Op'.Write tables.locks
 locks_after (Commit t) tables = released tables t.0
 locks_after (Abort t) tables = released tables t.0
-locks_after step tables = lock_table tables.locks
+locks_after step tables = tables.locks
 
 -- the locks after a request that waits
 unfoldable pub locks_waiting : Step → Tables → Locks.LockTable
-locks_waiting (Read t x) tables = Locks.wait_in t.0 x Op'.Read (lock_table tables.locks)
-locks_waiting (Write t x v) tables = Locks.wait_in t.0 x Op'.Write (lock_table tables.locks)
-locks_waiting step tables = lock_table tables.locks
+locks_waiting (Read t x) tables = Locks.wait_in t.0 x Op'.Read tables.locks
+locks_waiting (Write t x v) tables = Locks.wait_in t.0 x Op'.Write tables.locks
+locks_waiting step tables = tables.locks
 
 -- the tables show the same as before
 pub record SameView (later before : Tables) : Type 0 where
   pub rows : later.trans ≡ before.trans
   pub objects : cells later.objects ≡ cells before.objects
-  pub locks : lock_table later.locks ≡ lock_table before.locks
+  pub locks : later.locks ≡ before.locks
   pub permits : later.permits ≡ before.permits
 
 -- the pending requests in the table of locks
 unfoldable pub asker_of : Locks.Enrolled → Pending
 asker_of who = record { name = who.name; request = who.pending }
 
-unfoldable pub pending_in : LockRows → List Pending
-pending_in kept = map asker_of (lock_table kept).enrolled
+unfoldable pub pending_in : Locks.LockTable → List Pending
+pending_in kept = map asker_of kept
 
 -- the facility is valid: its tables show its history, which is legal, and the entries that are owed fit with
 -- those that are there

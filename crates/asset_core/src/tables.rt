@@ -45,7 +45,6 @@ impl Tables {
     ghost use Rattle.asset_names.specs.Sets.{HasNoDouble};
     ghost use Rattle.asset_objects.specs.Cells.{cells, has_object, value_in, opened};
     ghost use Rattle.asset_objects.specs.Cells.{change_at, change_each, written, undone, settled};
-    ghost use Rattle.asset_locks.specs.Valid.{lock_table, HaveOwners};
     ghost use Rattle.asset_locks.specs.LockTable.{enrol_in, grant_in, wait_in, release_in, waiters_in};
     ghost use Rattle.asset_trans.specs.TransRows.{status_in, initiate_in, set_in, owed_in};
     ghost use Rattle.asset_names.specs.Orderly.{IsOrderly};
@@ -116,7 +115,7 @@ impl Tables {
     /// Returns the waiter of this index for `x`, in order of initiation from 0, with the operation that it asked for,
     /// and `None` past the end.
     pub fn waiters(&self, x: Ob, index: usize) -> Option<(Txn, Op)>
-        ensures { result ≡ slice_get (waiters_in (lock_table self.now.locks) x.0) index }
+        ensures { result ≡ slice_get (waiters_in self.now.locks x.0) index }
     {
         self.locks.waiters(x, index)
     }
@@ -272,7 +271,7 @@ impl Tables {
         requires effect { effect ≡ takes_effect step.now reply }
         requires ready { takes_effect step.now reply ≡ true → IsReady step.now self.old }
         ensures stand { OnOk result ((opening : Opening) (older : List Entry) → Shows opening (applied older) (values_of self.old) → IsOrderly (applied older) → Shows opening (applied ((step.now, reply) ∷ older)) (values_of self.new)) }
-        ensures locks { OnOk result (lock_table self.new.locks ≡ cond (takes_effect step.now reply) (locks_after step.now self.old) (lock_table self.old.locks)) }
+        ensures locks { OnOk result (self.new.locks ≡ cond (takes_effect step.now reply) (locks_after step.now self.old) self.old.locks) }
         ensures memory { OnErr result ((takes_memory step.now ≡ true) × (takes_effect step.now reply ≡ true)) }
         ensures unchanged { OnErr result (SameView self.new self.old) }
     {
@@ -283,7 +282,7 @@ impl Tables {
     pub fn apply(&mut self, step: &Step) -> Result<(), NoMemory>
         requires ready { IsReady step.now self.old }
         ensures stand { OnOk result ((opening : Opening) (steps : List Request) → Shows opening steps (values_of self.old) → IsOrderly steps → Shows opening (step.now ∷ steps) (values_of self.new)) }
-        ensures locks { OnOk result (lock_table self.new.locks ≡ locks_after step.now self.old) }
+        ensures locks { OnOk result (self.new.locks ≡ locks_after step.now self.old) }
         ensures memory { OnErr result (takes_memory step.now ≡ true) }
         ensures unchanged { OnErr result (SameView self.new self.old) }
     {
@@ -322,7 +321,7 @@ impl Tables {
         requires new { IsNew self.old t.0 }
         ensures rows { OnOk result (self.new.trans ≡ initiate_in self.old.trans t parent) }
         ensures objects { OnOk result (cells self.new.objects ≡ cells self.old.objects) }
-        ensures locks { OnOk result (lock_table self.new.locks ≡ enrol_in t.0 (lock_table self.old.locks)) }
+        ensures locks { OnOk result (self.new.locks ≡ enrol_in t.0 self.old.locks) }
         ensures permits { self.new.permits ≡ self.old.permits }
         ensures unchanged { OnErr result (SameView self.new self.old) }
     {
@@ -343,9 +342,8 @@ impl Tables {
         ensures rows { self.new.trans ≡ self.old.trans }
         ensures permits { self.new.permits ≡ self.old.permits }
         ensures objects { cells self.new.objects ≡ cells self.old.objects }
-        ensures locks { OnOk result (lock_table self.new.locks ≡ grant_in t.0 x Operation.Read (lock_table self.old.locks)) }
-        ensures owners { OnOk result (HaveOwners ((lock_table self.old.locks).locks_on x.0)) }
-        ensures unchanged { OnErr result (lock_table self.new.locks ≡ lock_table self.old.locks) }
+        ensures locks { OnOk result (self.new.locks ≡ grant_in t.0 x Operation.Read self.old.locks) }
+        ensures unchanged { OnErr result (self.new.locks ≡ self.old.locks) }
     {
         self.locks.ask(t, x, Op::Read, &mut self.permits)?;
         Ok(())
@@ -360,8 +358,7 @@ impl Tables {
         ensures rows { self.new.trans ≡ self.old.trans }
         ensures permits { self.new.permits ≡ self.old.permits }
         ensures objects { OnOk result (cells self.new.objects ≡ change_at x.0 (written t.0 v) (cells self.old.objects)) }
-        ensures locks { OnOk result (lock_table self.new.locks ≡ grant_in t.0 x Operation.Write (lock_table self.old.locks)) }
-        ensures owners { OnOk result (HaveOwners ((lock_table self.old.locks).locks_on x.0)) }
+        ensures locks { OnOk result (self.new.locks ≡ grant_in t.0 x Operation.Write self.old.locks) }
         ensures unchanged { OnErr result (SameView self.new self.old) }
     {
         self.objects.reserve_write()?;
@@ -375,7 +372,7 @@ impl Tables {
         ensures live { is_live_status (status_in self.old.trans t.0) ≡ true →
             (self.new.trans ≡ set_in (λ n. n == t.0) Status.Committed self.old.trans)
             × (cells self.new.objects ≡ change_each (settled (λ n. n == t.0)) (cells self.old.objects))
-            × (lock_table self.new.locks ≡ release_in (λ n. n == t.0) (lock_table self.old.locks))
+            × (self.new.locks ≡ release_in (λ n. n == t.0) self.old.locks)
             × IsDropped (λ n. n == t.0) self.old.permits self.new.permits }
         ensures ended { is_live_status (status_in self.old.trans t.0) ≡ false → self.new ≡ self.old }
     {
@@ -392,7 +389,7 @@ impl Tables {
         ensures live { is_live_status (status_in self.old.trans t.0) ≡ true →
             (self.new.trans ≡ set_in (λ n. n == t.0) Status.Aborted self.old.trans)
             × (cells self.new.objects ≡ change_each (undone (λ n. n == t.0)) (cells self.old.objects))
-            × (lock_table self.new.locks ≡ release_in (λ n. n == t.0) (lock_table self.old.locks))
+            × (self.new.locks ≡ release_in (λ n. n == t.0) self.old.locks)
             × IsDropped (λ n. n == t.0) self.old.permits self.new.permits }
         ensures ended { is_live_status (status_in self.old.trans t.0) ≡ false → self.new ≡ self.old }
     {
@@ -410,7 +407,7 @@ impl Tables {
         ensures rows { self.new.trans ≡ self.old.trans }
         ensures permits { self.new.permits ≡ self.old.permits }
         ensures objects { self.new.objects ≡ self.old.objects }
-        ensures locks { lock_table self.new.locks ≡ locks_waiting step.now self.old }
+        ensures locks { self.new.locks ≡ locks_waiting step.now self.old }
     {
         match *step {
             Step::Read { t, x } => self.wait_for(t, x, Op::Read),
@@ -432,7 +429,7 @@ impl Tables {
         ensures rows { self.new.trans ≡ self.old.trans }
         ensures permits { self.new.permits ≡ self.old.permits }
         ensures objects { self.new.objects ≡ self.old.objects }
-        ensures locks { lock_table self.new.locks ≡ wait_in t.0 x op (lock_table self.old.locks) }
+        ensures locks { self.new.locks ≡ wait_in t.0 x op self.old.locks }
     {
         match self.locks.ask(t, x, op, &mut self.permits) {
             Ok(_) => {}

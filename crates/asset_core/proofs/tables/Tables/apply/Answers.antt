@@ -5,7 +5,6 @@ use Rattle.asset_names.specs.declared.steps.Step.TheVariants.{Commit, Abort}
 use Rattle.asset_names.specs.Steps.{Opening}
 use Rattle.asset_names.specs.Endings.{is_live_status}
 use Rattle.asset_names.specs.Answers.{takes_memory}
-use Rattle.asset_locks.specs.Valid.{lock_table}
 use Rattle.asset_locks.specs.LockTable as Locks
 use Rattle.asset_trans.specs.TransRows.{status_in}
 use Rattle.asset_core.specs.Tables.{value_asked, values_of, locks_after, released}
@@ -37,10 +36,10 @@ returns-in-Complete-clause-stand c = rw c.in-Complete.is (λ opening steps stand
     rw c.complete.ensures (complete_shows opening steps _ _ _ _ c.in-Complete.t stand (sym (stand.statuses c.in-Complete.t.0) ∙ rw c.in-Complete.is at c.requires.ready)))
 
 pub returns-in-Read-clause-stand : goal.returns-in-Read-clause-stand
-returns-in-Read-clause-stand c = rw c.in-Read.is (on_ok_two c.read.result
-    (λ locks owners. λ opening steps stand orderly. stand_as opening _ _ _ _ _ _ c.read.ensures.rows c.read.ensures.objects locks c.read.ensures.permits
-    (read_shows opening steps _ _ _ _ c.in-Read.t c.in-Read.x stand (running_live opening steps _ _ _ _ c.in-Read.t.0 stand (rw c.in-Read.is at c.requires.ready).0.runs) owners))
-    c.read.ensures.locks c.read.ensures.owners)
+returns-in-Read-clause-stand c = rw c.in-Read.is (on_ok c.read.result
+    (λ locks. λ opening steps stand orderly. stand_as opening _ _ _ _ _ _ c.read.ensures.rows c.read.ensures.objects locks c.read.ensures.permits
+    (read_shows opening steps _ _ _ _ c.in-Read.t c.in-Read.x stand (running_live opening steps _ _ _ _ c.in-Read.t.0 stand (rw c.in-Read.is at c.requires.ready).0.runs) (rw c.in-Read.is at c.requires.ready).0.enrolled))
+    c.read.ensures.locks)
 
 pub returns-in-Read-clause-locks : goal.returns-in-Read-clause-locks
 unfolding locks_after
@@ -55,10 +54,10 @@ unfolding value_asked
 returns-in-Write-clause-stand c =
     let fits : to_z w64 (of_z w64 c.value_asked.result) ≡ c.value_asked.result = grind (arith, to_z-of_z) in
     let asked : c.value_asked.result ≡ c.in-Write.v = rw c.in-Write.is at c.value_asked.ensures in
-    rw c.in-Write.is (on_ok_three c.write.result
-    (λ objects locks owners. λ opening steps stand orderly. stand_as opening _ _ _ _ _ _ c.write.ensures.rows objects locks c.write.ensures.permits
-    (write_shows opening steps _ _ _ _ c.in-Write.t c.in-Write.x c.in-Write.v stand (running_live opening steps _ _ _ _ c.in-Write.t.0 stand (rw c.in-Write.is at c.requires.ready).0.runs) owners))
-    (rw (fits, asked) at c.write.ensures.objects) c.write.ensures.locks c.write.ensures.owners)
+    rw c.in-Write.is (on_ok_two c.write.result
+    (λ objects locks. λ opening steps stand orderly. stand_as opening _ _ _ _ _ _ c.write.ensures.rows objects locks c.write.ensures.permits
+    (write_shows opening steps _ _ _ _ c.in-Write.t c.in-Write.x c.in-Write.v stand (running_live opening steps _ _ _ _ c.in-Write.t.0 stand (rw c.in-Write.is at c.requires.ready).0.runs) (rw c.in-Write.is at c.requires.ready).0.enrolled))
+    (rw (fits, asked) at c.write.ensures.objects) c.write.ensures.locks)
 
 pub returns-in-Write-clause-locks : goal.returns-in-Write-clause-locks
 unfolding locks_after
@@ -93,7 +92,7 @@ pub returns-in-Commit-clause-locks : goal.returns-in-Commit-clause-locks
 unfolding locks_after released
 returns-in-Commit-clause-locks c = rw c.in-Commit.is (go (is_live_status (status_in c.args.self.now.trans c.in-Commit.t.0)) refl) where
   go : (alive : Bool) → is_live_status (status_in c.args.self.now.trans c.in-Commit.t.0) ≡ alive
-      → lock_table c.commit.new.self.locks ≡ cond alive (Locks.release_in (λ n. eqb n c.in-Commit.t.0) (lock_table c.args.self.now.locks)) (lock_table c.args.self.now.locks)
+      → c.commit.new.self.locks ≡ cond alive (Locks.release_in (λ n. eqb n c.in-Commit.t.0) c.args.self.now.locks) c.args.self.now.locks
   go true e = (c.commit.ensures.live e).2
   go false e = rw (c.commit.ensures.ended e) refl
 
@@ -110,7 +109,7 @@ pub returns-in-Abort-clause-locks : goal.returns-in-Abort-clause-locks
 unfolding locks_after released
 returns-in-Abort-clause-locks c = rw c.in-Abort.is (go (is_live_status (status_in c.args.self.now.trans c.in-Abort.t.0)) refl) where
   go : (alive : Bool) → is_live_status (status_in c.args.self.now.trans c.in-Abort.t.0) ≡ alive
-      → lock_table c.abort.new.self.locks ≡ cond alive (Locks.release_in (λ n. eqb n c.in-Abort.t.0) (lock_table c.args.self.now.locks)) (lock_table c.args.self.now.locks)
+      → c.abort.new.self.locks ≡ cond alive (Locks.release_in (λ n. eqb n c.in-Abort.t.0) c.args.self.now.locks) c.args.self.now.locks
   go true e = (c.abort.ensures.live e).2
   go false e = rw (c.abort.ensures.ended e) refl
 

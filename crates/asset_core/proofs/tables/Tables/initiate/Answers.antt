@@ -11,6 +11,6 @@ pub returns-in-Err-clause-unchanged : goal.returns-in-Err-clause-unchanged
 returns-in-Err-clause-unchanged c = record {
   rows = c.in-Err.ensures.unchanged;
   objects = refl;
-  locks = c.release.ensures ∙ rw (c.in_ok-enrol.ensures.done c.requires.new.not_enrolled) (enrolment_given_back _ _ c.requires.new.not_enrolled (c.enrol.ensures.unlocked c.requires.new.not_enrolled));
+  locks = c.release.ensures ∙ rw (c.in_ok-enrol.ensures.done c.requires.new.not_enrolled) (enrolment_given_back _ _ c.requires.new.not_enrolled);
   permits = refl;
 }
