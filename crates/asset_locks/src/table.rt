@@ -91,7 +91,7 @@ impl Locks {
 
     /// Returns whether `x` is free for `t` to do `op`: each lock on `x` that conflicts with `op`, granted or suspended,
     /// is its own or belongs to a transaction that allows it. For a read it looks at the locks on `x` that write, and
-    /// for a write at all.
+    /// for a write at all locks on `x`.
     pub fn is_free(&self, t: Txn, x: Ob, op: Op, permits: &mut Permits) -> bool
         ensures free { result ≡ is_free_in self.now (λ u. allows_by permits.old u t.0 x.0 op) t.0 x.0 op }
         ensures valid { IsValid self.now }
