@@ -17,6 +17,8 @@ mod facility;
 #[cfg(test)]
 mod locks;
 #[cfg(test)]
+mod locks_beside_list;
+#[cfg(test)]
 mod names;
 #[cfg(test)]
 mod objects;
