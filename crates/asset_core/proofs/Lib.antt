@@ -1,10 +1,4 @@
-pub mod CellLemmas
-pub mod TransLaws
-pub mod LockLaws
-pub mod HistoryLemmas
-pub mod PermitLaws
-pub mod ShowsLemmas
-pub mod TableLemmas
+pub mod AnswerLemmas
 pub mod ReadyLemmas
 pub mod PendingLemmas
 pub mod ValidLemmas

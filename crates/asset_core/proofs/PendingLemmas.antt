@@ -23,14 +23,14 @@ use Rattle.asset_names.proofs.Common.{eqb-flip}
 use Rattle.asset_names.specs.OpSets.{OpSet}
 use Rattle.asset_locks.specs.LockTable as Locks
 use Rattle.asset_trans.specs.TransRows.{status_in}
-use Rattle.asset_core.specs.declared.tables.Tables.{Tables}
+use Rattle.asset_ends.specs.Standing.{Standing, values_of}
 use Rattle.asset_core.specs.Recorded.{after}
 use Rattle.asset_core.specs.Pending.{Pending, asker_after, request_after, new_asker, waiter_of, waiting_for}
-use Rattle.asset_core.specs.Tables.{values_of, asker_of, pending_in, locks_after, locks_waiting, released}
-use Rattle.asset_core.proofs.HistoryLemmas.{lists_pushed, live_quiet, begin_quiet, complete_quiet, read_ends, write_ends}
-use Rattle.asset_core.proofs.PermitLaws.{permit_ends}
-use Rattle.asset_core.proofs.ShowsLemmas.{live_shown}
-use Rattle.asset_core.specs.Shows.{Shows}
+use Rattle.asset_core.specs.Tables.{asker_of, pending_in, locks_after, locks_waiting, released}
+use Rattle.asset_ends.proofs.HistoryLemmas.{lists_pushed, live_quiet, begin_quiet, complete_quiet, read_ends, write_ends}
+use Rattle.asset_ends.proofs.PermitLaws.{permit_ends}
+use Rattle.asset_ends.proofs.ShowsLemmas.{live_shown}
+use Rattle.asset_ends.specs.Shows.{Shows}
 
 -- the pending requests of a table of locks
 abbrev pub pending_requests : Locks.LockTable → List Pending
@@ -64,7 +64,7 @@ lists_live p (m ∷ names) n h = go (p m) refl (eqb m n) refl h (lists_live p na
   go true k false e h later = later (rw e at h)
   go false k here e h later = later h
 
-asker_live : (opening : Opening) (steps : List Step) (tables : Tables) → Shows opening steps (values_of tables) → (n : ℕ) → lists (named (pending_in tables.locks)) n ≡ true → live steps n ≡ true
+asker_live : (opening : Opening) (steps : List Step) (tables : Standing) → Shows opening steps (values_of tables) → (n : ℕ) → lists (named (pending_in tables.locks)) n ≡ true → live steps n ≡ true
 unfolding pending_in
 asker_live opening steps tables stand n listed =
     lists_live (live steps) (reverse (initiated steps)) n (ap (λ names. lists names n) (sym stand.enrolled ∙ sym (askers_named tables.locks)) ∙ listed)
@@ -137,7 +137,7 @@ new_unchanged (Abort t) reply none = refl
 new_unchanged (WaitFor t) reply none = refl
 
 -- the pending requests after a step that is recorded and without effect
-pub askers_refused : (opening : Opening) (steps : List Step) (tables : Tables) (step : Step) (reply : Reply) → Shows opening steps (values_of tables) → takes_effect step reply ≡ false
+pub askers_refused : (opening : Opening) (steps : List Step) (tables : Standing) (step : Step) (reply : Reply) → Shows opening steps (values_of tables) → takes_effect step reply ≡ false
     → filter (λ (asker : Pending). live steps asker.name) (map (asker_after step (Answer reply)) (pending_in tables.locks) ++ new_asker step (Answer reply)) ≡ pending_in tables.locks
 askers_refused opening steps tables step reply stand none =
     nobody_ended steps steps step (Answer reply) (pending_in tables.locks) (asker_live opening steps tables stand) (new_unchanged step reply none)
@@ -167,7 +167,7 @@ granted_is t x op ops who = go (eqb who.name t) where
   go true = refl
   go false = refl
 
-waiting_askers : (step : Step) (tables : Tables) → map (asker_after step Wait) (pending_in tables.locks) ≡ pending_requests (locks_waiting step tables)
+waiting_askers : (step : Step) (tables : Standing) → map (asker_after step Wait) (pending_in tables.locks) ≡ pending_requests (locks_waiting step tables)
 unfolding pending_in locks_waiting Locks.wait_in asker_after request_after
 waiting_askers (Read t x) tables = sym (askers_changed (Locks.waiting_row t.0 x Op'.Read) (asker_after (Read t x) Wait) tables.locks (waiting_is t.0 x Op'.Read))
 waiting_askers (Write t x v) tables = sym (askers_changed (Locks.waiting_row t.0 x Op'.Write) (asker_after (Write t x v) Wait) tables.locks (waiting_is t.0 x Op'.Write))
@@ -180,7 +180,7 @@ waiting_askers (Abort t) tables = same_askers _ _ (λ asker. refl)
 waiting_askers (WaitFor t) tables = same_askers _ _ (λ asker. refl)
 
 -- the pending requests after a request that waits
-pub askers_waiting : (opening : Opening) (steps : List Step) (tables : Tables) (step : Step) → Shows opening steps (values_of tables)
+pub askers_waiting : (opening : Opening) (steps : List Step) (tables : Standing) (step : Step) → Shows opening steps (values_of tables)
     → filter (λ (asker : Pending). live steps asker.name) (map (asker_after step Wait) (pending_in tables.locks) ++ new_asker step Wait) ≡ pending_requests (locks_waiting step tables)
 unfolding new_asker outcome_takes_effect
 askers_waiting opening steps tables step stand =
@@ -224,7 +224,7 @@ askers_alike p q (asker ∷ ps) same =
     rw (same asker.name (or_left _ _ (eq-eqb asker.name asker.name refl)), askers_alike p q ps (λ n listed. same n (or_right _ _ listed)))
 
 -- after an end the pending requests of those whom it ends have gone
-ended_askers : (opening : Opening) (steps : List Step) (step : Step) (tables : Tables) (t : ℕ) (test : ℕ → Bool) → Shows opening steps (values_of tables) → ((n : ℕ) → live (step ∷ steps) n ≡ (not (test n) && live steps n))
+ended_askers : (opening : Opening) (steps : List Step) (step : Step) (tables : Standing) (t : ℕ) (test : ℕ → Bool) → Shows opening steps (values_of tables) → ((n : ℕ) → live (step ∷ steps) n ≡ (not (test n) && live steps n))
     → ((n : ℕ) → live steps t ≡ true → test n ≡ eqb t n) → ((n : ℕ) → live steps t ≡ false → test n ≡ false)
     → filter (λ (asker : Pending). live (step ∷ steps) asker.name) (pending_in tables.locks) ≡ pending_requests (released tables t)
 unfolding pending_in released Locks.release_in
@@ -243,7 +243,7 @@ ended_askers opening steps step tables t test stand ends alone nobody = go (is_l
       all_stay (live (step ∷ steps)) ps (λ n listed. ends n ∙ rw (nobody n dead, asker_live opening steps tables stand n listed) refl)
 
 -- a new transaction has the last pending request, and it is empty
-initiate_askers : (opening : Opening) (steps : List Step) (tables : Tables) (t : Txn) (parent : Option Txn) (reply : Reply) → Shows opening steps (values_of tables) → takes_effect (Initiate t parent) reply ≡ true → lists (initiated steps) t.0 ≡ false
+initiate_askers : (opening : Opening) (steps : List Step) (tables : Standing) (t : Txn) (parent : Option Txn) (reply : Reply) → Shows opening steps (values_of tables) → takes_effect (Initiate t parent) reply ≡ true → lists (initiated steps) t.0 ≡ false
     → filter (λ (asker : Pending). live (Initiate t parent ∷ steps) asker.name) (map (asker_after (Initiate t parent) (Answer reply)) (pending_in tables.locks) ++ new_asker (Initiate t parent) (Answer reply)) ≡ pending_requests (Locks.enrol_in t.0 tables.locks)
 unfolding new_asker outcome_takes_effect asker_after pending_in Locks.enrol_in asker_of lists
 initiate_askers opening steps tables t parent reply stand carried new =
@@ -261,7 +261,7 @@ initiate_askers opening steps tables t parent reply stand carried new =
       known n (inr here) = or_left _ (live steps n) here
 
 -- a grant leaves nothing pending for its transaction
-granted_askers : (step : Step) (t : ℕ) (x : Ob) (op : Op) (reply : Reply) (tables : Tables) → takes_effect step reply ≡ true
+granted_askers : (step : Step) (t : ℕ) (x : Ob) (op : Op) (reply : Reply) (tables : Standing) → takes_effect step reply ≡ true
     → ((asker : Pending) → asker_after step (Answer reply) asker ≡ cond (eqb asker.name t) (record asker { request = request_after step x op (Answer reply) asker.request }) asker)
     → map (asker_after step (Answer reply)) (pending_in tables.locks) ≡ pending_requests (Locks.grant_in t x op tables.locks)
 unfolding pending_in Locks.grant_in
@@ -271,7 +271,7 @@ granted_askers step t x op reply tables carried asked =
     (λ who. granted_is t x op ops who ∙ sym (asked (asker_of who) ∙ granted_asker step t x op reply (asker_of who) carried)))
 
 -- the pending requests after a step that took effect
-pub askers_carried : (opening : Opening) (steps : List Step) (tables : Tables) (step : Step) (reply : Reply) → Shows opening steps (values_of tables) → takes_effect step reply ≡ true
+pub askers_carried : (opening : Opening) (steps : List Step) (tables : Standing) (step : Step) (reply : Reply) → Shows opening steps (values_of tables) → takes_effect step reply ≡ true
     → ((t : Txn) (parent : Option Txn) → step ≡ Initiate t parent → lists (initiated steps) t.0 ≡ false)
     → filter (λ (asker : Pending). live (step ∷ steps) asker.name) (map (asker_after step (Answer reply)) (pending_in tables.locks) ++ new_asker step (Answer reply)) ≡ pending_requests (locks_after step tables)
 unfolding locks_after pending_in initiated initiated_by takes_effect new_asker asker_after

@@ -1,7 +1,8 @@
 -- A step that is answered finds the tables ready for it.
-use Rattle.std.proofs.Common.{◌≡◌, ℕ, Bool, true, false, cond, eqb, ◌&&◌, ◌||◌, List, [], ◌∷◌, filter, reverse, map, refl, sym, ◌∙◌, ap, arith, Some, None}
-use Rattle.std.specs.Prelude.{Option, find, is_some}
-use Rattle.std.proofs.lemmas.Bool.{eqb-true, false≢true}
+use Rattle.std.proofs.Common.{◌≡◌, ℕ, Bool, true, false, cond, List, [], refl, sym, ◌∙◌, ap, Some, None}
+use Rattle.std.specs.Prelude.{Option}
+use Rattle.std.proofs.lemmas.Bool.{false≢true}
+use Rattle.asset_names.specs.declared.names.Txn.{Txn}
 use Rattle.asset_names.specs.declared.operations.Op.TheVariants as Op'
 use Rattle.asset_names.specs.declared.statuses.Status.{Status}
 use Rattle.asset_names.specs.declared.statuses.Status.TheVariants as Status'
@@ -13,51 +14,19 @@ use Rattle.asset_names.specs.declared.replies.Outcome.{Outcome}
 use Rattle.asset_names.specs.declared.replies.Outcome.TheVariants.{Answer, Wait}
 use Rattle.asset_names.specs.Arrows.{lists}
 use Rattle.asset_names.specs.Steps.{Opening, takes_effect, initiated}
-use Rattle.asset_names.specs.Endings.{live, status, is_live_status}
-use Rattle.asset_names.specs.Answers.{answer, outcome_unless, unrefused, rules_for, first_refusal, unknown, ended, begun_before, is_unknown, has_ended, has_begun, is_running}
+use Rattle.asset_names.specs.Endings.{status, is_live_status}
+use Rattle.asset_names.specs.Answers.{answer, outcome_unless, unrefused, rules_for, first_refusal, unknown, ended, begun_before, is_unknown, has_ended, has_begun, is_running, is_completed, commit_outcome}
+use Rattle.asset_names.proofs.ClassLemmas.{completed_alone}
 use Rattle.asset_names.proofs.LegalLemmas.{effect_unrefused, first_none, initiate_new, complete_runs, permit_live}
-use Rattle.asset_names.proofs.LiveLemmas.{live_by_status}
-use Rattle.asset_names.proofs.EndLemmas.{live_parts}
-use Rattle.asset_locks.specs.LockTable as Locks
-use Rattle.asset_core.specs.declared.tables.Tables.{Tables}
-use Rattle.asset_core.specs.Tables.{values_of, IsReady, MayWait, IsAtWork, is_free_for}
-use Rattle.asset_core.proofs.TransLaws.{row_absent}
-use Rattle.asset_core.proofs.HistoryLemmas.{lists_reverse}
-use Rattle.asset_core.proofs.ShowsLemmas.{free_shown, live_shown}
-use Rattle.asset_core.proofs.TableLemmas.{object_exists, read_unrefused, write_unrefused}
-use Rattle.asset_core.specs.Shows.{Shows}
-
--- what is listed of the names that pass
-lists_filter : (p : ℕ → Bool) (names : List ℕ) (t : ℕ) → lists (filter p names) t ≡ (p t && lists names t)
-unfolding lists
-lists_filter p [] t = grind arith
-lists_filter p (n ∷ names) t = go (p n) refl (eqb n t) refl (lists_filter p names t) where
-  go : (kept : Bool) → p n ≡ kept → (here : Bool) → eqb n t ≡ here → lists (filter p names) t ≡ (p t && lists names t)
-      → lists (cond kept (n ∷ filter p names) (filter p names)) t ≡ (p t && (here || lists names t))
-  go true k true h ih = rw (h, ← eqb-true n t h, k) refl
-  go true k false h ih = rw (h, ih) refl
-  go false k true h ih = rw (ih, ← eqb-true n t h, k) refl
-  go false k false h ih = ih
-
--- who is named is enrolled
-enrolled_named : (everyone : List Locks.Enrolled) (t : ℕ) → is_some (find (λ (who : Locks.Enrolled). eqb who.name t) everyone) ≡ lists (map (λ (who : Locks.Enrolled). who.name) everyone) t
-unfolding lists
-enrolled_named [] t = refl
-enrolled_named (who ∷ everyone) t = go (eqb who.name t) (enrolled_named everyone t) where
-  go : (here : Bool) → is_some (find (λ (h : Locks.Enrolled). eqb h.name t) everyone) ≡ lists (map (λ (h : Locks.Enrolled). h.name) everyone) t
-      → is_some (cond here (Some who) (find (λ (h : Locks.Enrolled). eqb h.name t) everyone)) ≡ (here || lists (map (λ (h : Locks.Enrolled). h.name) everyone) t)
-  go true ih = refl
-  go false ih = ih
-
--- who is enrolled is live, and the other way
-pub enrolled_live : (opening : Opening) (steps : List Step) (tables : Tables) (t : ℕ) → Shows opening steps (values_of tables) → is_some (Locks.enrolled_in tables.locks t) ≡ (live steps t && lists (initiated steps) t)
-unfolding Locks.enrolled_in Locks.names_in
-enrolled_live opening steps tables t stand =
-    enrolled_named tables.locks t ∙ ap (λ names. lists names t) stand.enrolled ∙ lists_filter (live steps) (reverse (initiated steps)) t ∙ ap (λ b. live steps t && b) (lists_reverse (initiated steps) t)
-
-none_of : {A : Type 0} (found : Option A) → is_some found ≡ false → found ≡ None
-none_of None h = refl
-none_of (Some x) h = absurd (false≢true (sym h))
+use Rattle.asset_trans.specs.TransRows.{status_in}
+use Rattle.asset_ends.specs.Shows.{Shows}
+use Rattle.asset_ends.specs.Standing.{Standing, values_of, is_free_for}
+use Rattle.asset_ends.proofs.TransLaws.{row_absent}
+use Rattle.asset_ends.proofs.HistoryLemmas.{lists_reverse}
+use Rattle.asset_ends.proofs.ShowsLemmas.{free_shown, live_shown}
+use Rattle.asset_ends.proofs.StandingLemmas.{object_exists}
+use Rattle.asset_core.specs.Tables.{IsReady, MayWait}
+use Rattle.asset_core.proofs.AnswerLemmas.{read_unrefused, write_unrefused}
 
 running_is : (status : Status) → is_running status ≡ true → status ≡ Status'.Running
 unfolding is_running
@@ -77,16 +46,9 @@ initiated_is Status'.Completed a b c = absurd (false≢true (sym c))
 initiated_is Status'.Committed a b c = absurd (false≢true (sym b))
 initiated_is Status'.Aborted a b c = absurd (false≢true (sym b))
 
--- who runs is at work
-at_work : (opening : Opening) (steps : List Step) (tables : Tables) (t : ℕ) → Shows opening steps (values_of tables) → is_running (status steps t) ≡ true → IsAtWork tables t
-unfolding is_live_status live
-at_work opening steps tables t stand running =
-    let runs = running_is (status steps t) running in
-    let alive : live steps t ≡ true = live_by_status steps t ∙ ap is_live_status runs in
-    record {
-      runs = stand.statuses t ∙ runs;
-      enrolled = enrolled_live opening steps tables t stand ∙ rw (alive, (live_parts steps t alive).0) refl;
-    }
+-- who runs by the history runs by the tables
+runs : (opening : Opening) (steps : List Step) (tables : Standing) (t : ℕ) → Shows opening steps (values_of tables) → is_running (status steps t) ≡ true → status_in tables.trans t ≡ Status'.Running
+runs opening steps tables t stand running = stand.statuses t ∙ running_is (status steps t) running
 
 -- a read or a write that is answered is free, and one that waits is not
 free_if : (is_free : Bool) (reply : Reply) (other : Outcome) → cond is_free other Wait ≡ Answer reply → is_free ≡ true
@@ -102,6 +64,22 @@ answered_unrefused : (opening : Opening) (steps : List Step) (step : Step) (outc
 unfolding answer outcome_unless
 answered_unrefused opening steps step outcome is none = rw none at is
 
+-- who is live and whose commit takes effect has completed
+commit_ready : (opening : Opening) (steps : List Step) (t : Txn) (reply : Reply) → answer opening steps (Commit t) ≡ Answer reply → takes_effect (Commit t) reply ≡ true → is_live_status (status steps t.0) ≡ true → is_completed (status steps t.0) ≡ true
+unfolding unrefused rules_for unknown is_live_status commit_outcome is_completed
+commit_ready opening steps t reply is carried alive =
+    let none = effect_unrefused opening steps (Commit t) reply is carried in
+    let there = (first_none (unknown steps t) [] none).0 in
+    go (status steps t.0) (is_completed (status steps t.0)) refl alive (ap (commit_outcome (status steps t.0)) (sym (completed_alone steps t.0 there)) ∙ answered_unrefused opening steps (Commit t) (Answer reply) is none) where
+      go : (now : Status) (completed : Bool) → is_completed now ≡ completed → is_live_status now ≡ true → commit_outcome now completed ≡ Answer reply → completed ≡ true
+      go now true e live outcome = refl
+      go Status'.Initiated false e live outcome = cc
+      go Status'.Running false e live outcome = cc
+      go Status'.Completed false e live outcome = sym e
+      go Status'.Unknown false e live outcome = live
+      go Status'.Committed false e live outcome = live
+      go Status'.Aborted false e live outcome = live
+
 -- a step that waits is not refused
 waits_unrefused : (opening : Opening) (steps : List Step) (step : Step) → answer opening steps step ≡ Wait → first_refusal (rules_for opening steps step) ≡ None
 unfolding answer outcome_unless
@@ -110,14 +88,10 @@ waits_unrefused opening steps step is = go (first_refusal (rules_for opening ste
   go None h = refl
   go (Some refusal) h = cc
 
-pub ready : (opening : Opening) (steps : List Step) (tables : Tables) (step : Step) (reply : Reply) → Shows opening steps (values_of tables) → answer opening steps step ≡ Answer reply → takes_effect step reply ≡ true → IsReady step tables
+pub ready : (opening : Opening) (steps : List Step) (tables : Standing) (step : Step) (reply : Reply) → Shows opening steps (values_of tables) → answer opening steps step ≡ Answer reply → takes_effect step reply ≡ true → IsReady step tables
 unfolding rules_for unknown ended begun_before unrefused is_free_for
 ready opening steps tables (Initiate t parent) reply stand is carried =
-    let new = initiate_new opening steps t parent reply is carried in
-    record {
-      no_row = row_absent tables.trans t.0 (ap (λ names. lists names t.0) stand.names ∙ lists_reverse (initiated steps) t.0 ∙ new);
-      not_enrolled = none_of _ (enrolled_live opening steps tables t.0 stand ∙ rw new (grind arith));
-    }
+    row_absent tables.trans t.0 (ap (λ names. lists names t.0) stand.names ∙ lists_reverse (initiated steps) t.0 ∙ initiate_new opening steps t parent reply is carried)
 ready opening steps tables (Begin t) reply stand is carried =
     let one = first_none (unknown steps t) _ (effect_unrefused opening steps (Begin t) reply is carried) in
     let two = first_none (ended steps t) _ one.1 in
@@ -126,27 +100,28 @@ ready opening steps tables (Begin t) reply stand is carried =
 ready opening steps tables (Read t x) reply stand is carried =
     let none = effect_unrefused opening steps (Read t x) reply is carried in
     let there = read_unrefused opening steps t x none in
-    (at_work opening steps tables t.0 stand there.0, free_shown opening steps _ _ _ _ t.0 x.0 Op'.Read stand ∙ free_if _ reply _ (answered_unrefused opening steps (Read t x) (Answer reply) is none))
+    (runs opening steps tables t.0 stand there.0, free_shown opening steps _ _ _ _ t.0 x.0 Op'.Read stand ∙ free_if _ reply _ (answered_unrefused opening steps (Read t x) (Answer reply) is none))
 ready opening steps tables (Write t x v) reply stand is carried =
     let none = effect_unrefused opening steps (Write t x v) reply is carried in
     let there = write_unrefused opening steps t x v none in
-    (at_work opening steps tables t.0 stand there.0, free_shown opening steps _ _ _ _ t.0 x.0 Op'.Write stand ∙ free_if _ reply _ (answered_unrefused opening steps (Write t x v) (Answer reply) is none), object_exists opening steps tables x.0 stand ∙ there.1)
+    (runs opening steps tables t.0 stand there.0, free_shown opening steps _ _ _ _ t.0 x.0 Op'.Write stand ∙ free_if _ reply _ (answered_unrefused opening steps (Write t x v) (Answer reply) is none), object_exists opening steps tables x.0 stand ∙ there.1)
 ready opening steps tables (Complete t) reply stand is carried = stand.statuses t.0 ∙ running_is (status steps t.0) (complete_runs opening steps t reply is carried)
 ready opening steps tables (Permit giver taker obs ops) reply stand is carried =
     let both = permit_live opening steps giver taker obs ops reply is carried in
     (live_shown opening steps _ _ _ _ giver.0 stand ∙ both.0, live_shown opening steps _ _ _ _ taker.0 stand ∙ both.1)
-ready opening steps tables (Commit t) reply stand is carried = tt
+ready opening steps tables (Commit t) reply stand is carried = λ alive. ap is_completed (stand.statuses t.0) ∙ commit_ready opening steps t reply is carried (ap is_live_status (sym (stand.statuses t.0)) ∙ alive)
 ready opening steps tables (Abort t) reply stand is carried = tt
 ready opening steps tables (WaitFor t) reply stand is carried = tt
 
-pub may_wait : (opening : Opening) (steps : List Step) (tables : Tables) (step : Step) → Shows opening steps (values_of tables) → answer opening steps step ≡ Wait → MayWait step tables
+pub may_wait : (opening : Opening) (steps : List Step) (tables : Standing) (step : Step) → Shows opening steps (values_of tables) → answer opening steps step ≡ Wait → MayWait step tables
 unfolding unrefused is_free_for
 may_wait opening steps tables (Read t x) stand is =
     let none = waits_unrefused opening steps (Read t x) is in
-    (at_work opening steps tables t.0 stand (read_unrefused opening steps t x none).0, free_shown opening steps _ _ _ _ t.0 x.0 Op'.Read stand ∙ blocked_if _ _ (answered_unrefused opening steps (Read t x) Wait is none))
+    (runs opening steps tables t.0 stand (read_unrefused opening steps t x none).0, free_shown opening steps _ _ _ _ t.0 x.0 Op'.Read stand ∙ blocked_if _ _ (answered_unrefused opening steps (Read t x) Wait is none))
 may_wait opening steps tables (Write t x v) stand is =
     let none = waits_unrefused opening steps (Write t x v) is in
-    (at_work opening steps tables t.0 stand (write_unrefused opening steps t x v none).0, free_shown opening steps _ _ _ _ t.0 x.0 Op'.Write stand ∙ blocked_if _ _ (answered_unrefused opening steps (Write t x v) Wait is none))
+    let there = write_unrefused opening steps t x v none in
+    (runs opening steps tables t.0 stand there.0, free_shown opening steps _ _ _ _ t.0 x.0 Op'.Write stand ∙ blocked_if _ _ (answered_unrefused opening steps (Write t x v) Wait is none), object_exists opening steps tables x.0 stand ∙ there.1)
 may_wait opening steps tables (Initiate t parent) stand is = tt
 may_wait opening steps tables (Begin t) stand is = tt
 may_wait opening steps tables (Complete t) stand is = tt

@@ -3,7 +3,6 @@ use Rattle.std.proofs.Common.{◌≡◌, Bool, true, false, refl, sym, ◌∙◌
 use Rattle.std.specs.Prelude.{Option}
 use Rattle.std.proofs.lemmas.Bool.{false≢true}
 use Rattle.asset_names.specs.declared.names.Txn.{Txn}
-use Rattle.asset_names.specs.declared.operations.Op.TheVariants as Op'
 use Rattle.asset_names.specs.declared.steps.Step.{Step}
 use Rattle.asset_names.specs.declared.steps.Step.TheVariants.{Initiate, Begin, Read, Write, Complete, Permit, Commit, Abort, WaitFor}
 use Rattle.asset_names.specs.declared.replies.Reply.{Reply}
@@ -15,36 +14,22 @@ use Rattle.asset_names.specs.Answers.{answer, takes_memory}
 use Rattle.asset_names.specs.Room.{owed, changes_status}
 use Rattle.asset_names.proofs.LegalLemmas.{legal_orderly, initiate_new}
 use Rattle.asset_names.specs.Orderly.{IsOrderly}
-use Rattle.asset_objects.specs.Cells.{cells}
 use Rattle.asset_trans.specs.TransRows.{owed_in}
-use Rattle.asset_core.specs.declared.tables.Tables.{Tables}
+use Rattle.asset_ends.specs.Standing.{Standing, values_of}
 use Rattle.asset_core.specs.Recorded.{Recorded}
-use Rattle.asset_core.specs.Shows.{Shows, table_values}
+use Rattle.asset_ends.specs.Shows.{Shows}
 use Rattle.asset_core.specs.Pending.{Pending, asker_after, new_asker}
-use Rattle.asset_core.specs.Tables.{values_of, IsValid, locks_after, locks_waiting, pending_in}
-use Rattle.asset_core.proofs.ShowsLemmas.{owed_shown, waiting_shows}
+use Rattle.asset_core.specs.Tables.{IsValid, locks_after, pending_in}
+use Rattle.asset_ends.proofs.ShowsLemmas.{owed_shown}
 use Rattle.asset_names.proofs.AppliedLemmas.{applied_with_effect, applied_without_effect}
 use Rattle.asset_core.proofs.PendingLemmas.{pending_requests, askers_carried, askers_refused}
 
-pub valid_orderly : (history : Recorded) (tables : Tables) → IsValid history tables → IsOrderly (applied history.entries)
+pub valid_orderly : (history : Recorded) (tables : Standing) → IsValid history tables → IsOrderly (applied history.entries)
 valid_orderly history tables kept = legal_orderly history.opening history.entries kept.legal
 
 -- what the table counts is what is owed
-pub valid_owed : (history : Recorded) (tables : Tables) → IsValid history tables → owed_in tables.trans ≡ owed (applied history.entries)
+pub valid_owed : (history : Recorded) (tables : Standing) → IsValid history tables → owed_in tables.trans ≡ owed (applied history.entries)
 valid_owed history tables kept = owed_shown history.opening (applied history.entries) _ _ _ _ kept.stand (valid_orderly history tables kept)
-
--- the tables stand as they did while a request waits
-pub waiting_stands : (opening : Opening) (steps : List Step) (tables : Tables) (step : Step) → Shows opening steps (values_of tables) → Shows opening steps (table_values tables.trans (cells tables.objects) (locks_waiting step tables) tables.permits)
-unfolding locks_waiting
-waiting_stands opening steps tables (Read t x) stand = waiting_shows opening steps _ _ _ _ t.0 x Op'.Read stand
-waiting_stands opening steps tables (Write t x v) stand = waiting_shows opening steps _ _ _ _ t.0 x Op'.Write stand
-waiting_stands opening steps tables (Initiate t parent) stand = stand
-waiting_stands opening steps tables (Begin t) stand = stand
-waiting_stands opening steps tables (Complete t) stand = stand
-waiting_stands opening steps tables (Permit giver taker obs ops) stand = stand
-waiting_stands opening steps tables (Commit t) stand = stand
-waiting_stands opening steps tables (Abort t) stand = stand
-waiting_stands opening steps tables (WaitFor t) stand = stand
 
 -- a step that takes memory changes no status for good
 pub no_ending : (steps : List Step) (step : Step) (reply : Reply) → takes_memory step ≡ true → changes_status steps step reply ≡ false
@@ -65,7 +50,7 @@ new_in : (opening : Opening) (steps : List Step) (step : Step) (reply : Reply) �
 new_in opening steps step reply is carried t parent e = initiate_new opening steps t parent reply (rw e at is) (rw e at carried)
 
 -- the pending requests after an answer
-pub askers_followed : (opening : Opening) (older : List Entry) (tables : Tables) (step : Step) (reply : Reply) → Shows opening (applied older) (values_of tables) → answer opening (applied older) step ≡ Answer reply
+pub askers_followed : (opening : Opening) (older : List Entry) (tables : Standing) (step : Step) (reply : Reply) → Shows opening (applied older) (values_of tables) → answer opening (applied older) step ≡ Answer reply
     → pending_requests (cond (takes_effect step reply) (locks_after step tables) tables.locks)
     ≡ filter (λ (asker : Pending). live (applied ((step, reply) ∷ older)) asker.name) (map (asker_after step (Answer reply)) (pending_in tables.locks) ++ new_asker step (Answer reply))
 unfolding pending_in

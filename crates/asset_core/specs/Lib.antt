@@ -1,8 +1,6 @@
 pub mod Recorded
 pub mod OpenFaults
 pub mod Pending
-pub mod Shows
 pub mod Tables
-pub mod PermitChanges
 pub mod Stored
 pub mod StoredSets

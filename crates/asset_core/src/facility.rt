@@ -4,7 +4,8 @@ ghost use Rattle.std.specs.Prelude.{◌≡◌};
 ghost use Rattle.asset_names.specs.Room.{initiates};
 
 use crate::history::{History, OpenFault};
-use crate::tables::Tables;
+use crate::{answering, applying};
+use asset_ends::Tables;
 use asset_names::{Fault, NoMemory, Ob, Op, Outcome, Reply, Status, Step, Txn, takes_effect};
 use asset_objects::ObjectsFault;
 use std::alloc::Global;
@@ -52,8 +53,9 @@ impl Core {
     ghost use Rattle.asset_core.specs.Pending.{facility_of, pending_after, waiting_for};
     ghost use Rattle.asset_names.specs.Sets.{HasNoDouble};
     ghost use Rattle.asset_core.specs.OpenFaults.{IsCapacity, MayOpen, IsOpenFault};
-    ghost use Rattle.asset_core.specs.Shows.{Shows};
-    ghost use Rattle.asset_core.specs.Tables.{values_of, pending_in};
+    ghost use Rattle.asset_ends.specs.Shows.{Shows};
+    ghost use Rattle.asset_ends.specs.Standing.{values_of};
+    ghost use Rattle.asset_core.specs.Tables.{pending_in};
 
     /// Opens the facility over these objects with their values, with room for `capacity` entries.
     ///
@@ -103,7 +105,7 @@ impl Core {
     ) -> Result<Core, NoMemory>
         requires capacity { IsCapacity capacity }
         requires shows { Shows opening.now [] (values_of tables) }
-        requires pending { pending_in tables.locks ≡ [] }
+        requires locks { tables.locks ≡ [] }
         ensures { IfOk result (λ core. core ≡ facility_of opening.now capacity) }
     {
         match History::open(alloc, opening, capacity) {
@@ -148,7 +150,7 @@ impl Core {
         ensures answer { result ≡ answer_to self.old.history step.now }
         ensures same { self.new ≡ self.old }
     {
-        self.tables.answer(step)
+        answering::answer(&mut self.tables, step)
     }
 
     /// Keeps a request that waits as pending.
@@ -157,7 +159,7 @@ impl Core {
         ensures history { self.new.history ≡ self.old.history }
         ensures pending { self.new.pending ≡ pending_after self.old step.now Waits }
     {
-        self.tables.wait(step);
+        applying::wait(&mut self.tables, step);
     }
 
     /// Returns whether the answer is that of a complete, a commit or an abort that changes a status; `effect` says
@@ -235,7 +237,7 @@ impl Core {
         if !self.has_room(step, reply, effect) {
             return Err(Fault::Full);
         }
-        match self.tables.apply_if(step, reply, effect) {
+        match applying::apply_if(&mut self.tables, step, reply, effect) {
             Ok(()) => {
                 self.history.append(step, reply);
                 Ok(Outcome::Answer(reply))

@@ -2,13 +2,14 @@
 //! one answer to it.
 #![tactic(auto)]
 
+mod answering;
+mod applying;
 mod facility;
 mod history;
 mod reply_tag;
 mod stored;
 mod stored_set;
 mod stored_sets;
-mod tables;
 
 pub use facility::Core;
 pub use history::{History, OpenFault};

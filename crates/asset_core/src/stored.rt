@@ -1,10 +1,10 @@
 //! How entries are stored: in 32 bytes each. The set of objects of a permit, which is large, stands in a list of sets,
 //! and the entry has its index.
 
+use crate::applying::value_asked;
 use crate::reply_tag::{ReplyTag, value_read};
 use crate::stored_set::{missing_at, object_at};
 use crate::stored_sets::StoredSets;
-use crate::tables::value_asked;
 use asset_names::{Ob, Ops, Reply, Step, Txn};
 use std::mem::size_of;
 

@@ -11,7 +11,7 @@ use Rattle.asset_core.proofs.facility.Core.owed_after.Goals.{else-effect-via-the
 pub overflow_add-result : goal.overflow_add-result
 overflow_add-result c =
     let valid = c.self.invariant in
-    let counts = c.owed-owed.ensures ∙ valid_owed c.self.inside.history c.self.inside.tables valid in
+    let counts = c.owed-owed.ensures.counted ∙ valid_owed c.self.inside.history c.self.inside.tables valid in
     omega (arith, counts, valid.fitting, valid.capacity)
 
 pub returns-then-initiates-clause-owed : goal.returns-then-initiates-clause-owed
@@ -19,7 +19,7 @@ unfolding answer_to
 returns-then-initiates-clause-owed c =
     let valid = c.self.invariant in
     let entries = c.self.inside.history.entries in
-    let counts = c.owed-owed.ensures ∙ valid_owed c.self.inside.history c.self.inside.tables valid in
+    let counts = c.owed-owed.ensures.counted ∙ valid_owed c.self.inside.history c.self.inside.tables valid in
     let effect = sym c.requires.effect ∙ c.if-effect.true in
     let new = sym c.initiates.ensures ∙ c.if-initiates.true in
     let grown = owed_new _ (applied entries) c.args.step.now c.args.reply (valid_orderly c.self.inside.history c.self.inside.tables valid) (rw (← c.self.view_is) at c.requires.answer) effect new in
@@ -27,14 +27,14 @@ returns-then-initiates-clause-owed c =
 
 pub returns-then-initiates-clause-bound : goal.returns-then-initiates-clause-bound
 returns-then-initiates-clause-bound c =
-    let counts = c.owed-owed.ensures ∙ valid_owed c.self.inside.history c.self.inside.tables c.self.invariant in
+    let counts = c.owed-owed.ensures.counted ∙ valid_owed c.self.inside.history c.self.inside.tables c.self.invariant in
     rw (← c.self.view_is) (omega (arith, counts))
 
 pub returns-else-effect-clause-owed : goal.returns-else-effect-clause-owed
 returns-else-effect-clause-owed c =
     let valid = c.self.invariant in
     let entries = c.self.inside.history.entries in
-    let counts = c.owed-owed.ensures ∙ valid_owed c.self.inside.history c.self.inside.tables valid in
+    let counts = c.owed-owed.ensures.counted ∙ valid_owed c.self.inside.history c.self.inside.tables valid in
     rw (← c.self.view_is) (elim c.else-effect.branch [
       | else-effect-via-then-effect+else-initiates w ↦
           let effect = sym c.requires.effect ∙ w.if-effect.true in
@@ -46,5 +46,5 @@ returns-else-effect-clause-owed c =
 
 pub returns-else-effect-clause-bound : goal.returns-else-effect-clause-bound
 returns-else-effect-clause-bound c =
-    let counts = c.owed-owed.ensures ∙ valid_owed c.self.inside.history c.self.inside.tables c.self.invariant in
+    let counts = c.owed-owed.ensures.counted ∙ valid_owed c.self.inside.history c.self.inside.tables c.self.invariant in
     rw (← c.self.view_is) (omega (arith, counts))

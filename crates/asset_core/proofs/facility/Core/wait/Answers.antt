@@ -1,11 +1,8 @@
 use Rattle.std.proofs.Common.{◌∙◌, sym, ap}
-use Rattle.asset_objects.specs.Cells.{cells}
 use Rattle.asset_core.specs.Recorded.{answer_to, after}
 use Rattle.asset_core.specs.Pending.{pending_after}
 use Rattle.asset_core.specs.Tables.{pending_in}
 use Rattle.asset_core.proofs.ReadyLemmas.{may_wait}
-use Rattle.asset_core.proofs.ValidLemmas.{waiting_stands}
-use Rattle.asset_core.proofs.TableLemmas.{stand_as}
 use Rattle.asset_core.proofs.PendingLemmas.{pending_requests, askers_waiting}
 use Rattle.asset_core.proofs.facility.Core.wait.Goals as goal
 
@@ -15,7 +12,7 @@ wait-requires c = record { waits = may_wait _ _ c.self.inside.tables c.args.step
 
 pub invariant_of-self : goal.invariant_of-self
 invariant_of-self c = record {
-  stand = stand_as _ _ _ _ _ _ _ c.wait.ensures.rows (ap cells c.wait.ensures.objects) c.wait.ensures.locks c.wait.ensures.permits (waiting_stands _ _ c.self.inside.tables c.args.step.now c.self.invariant.stand);
+  stand = c.wait.ensures.stand _ _ c.self.invariant.stand;
   legal = c.self.invariant.legal;
   fitting = c.self.invariant.fitting;
   capacity = c.self.invariant.capacity;

@@ -1,6 +1,0 @@
-use Rattle.asset_trans.specs.TransRows.{ended_as}
-use Rattle.asset_core.proofs.tables.Tables.abort.Goals as goal
-
-pub returns-then-is_live-clause-live : goal.returns-then-is_live-clause-live
-unfolding ended_as
-returns-then-is_live-clause-live c = λ alive. (c.end.ensures, c.undo.ensures.cells, c.release.ensures, c.drop_all.ensures.covers)

@@ -1,0 +1,9 @@
+pub mod CellLemmas
+pub mod TransLaws
+pub mod LockLaws
+pub mod HistoryLemmas
+pub mod PermitLaws
+pub mod ShowsLemmas
+pub mod EnrolledLemmas
+pub mod AskedLemmas
+pub mod StandingLemmas

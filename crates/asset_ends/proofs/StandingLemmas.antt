@@ -1,0 +1,63 @@
+-- What the tables' own calls say, put together.
+use Rattle.std.proofs.Common.{◌≡◌, ℕ, Bool, true, false, cond, not, eqb, List, [], ◌∷◌, ◌++◌, filter, refl, ◌∙◌, ap, Some, None, Ok, Err, OnOk, OnErr}
+use Rattle.std.specs.Prelude.{Option, Result, find, is_some, option_map, ℤ}
+use Rattle.std.proofs.lemmas.Bool.{eq-eqb}
+use Rattle.asset_names.specs.declared.steps.Step.{Step}
+use Rattle.asset_names.specs.Steps.{Opening}
+use Rattle.asset_names.specs.Endings.{end_of}
+use Rattle.asset_names.specs.Operations.{exists, opening_at, operations}
+use Rattle.asset_permits.specs.Descriptors.{Descriptor}
+use Rattle.asset_objects.specs.Cells.{Cells, cells, has_object}
+use Rattle.asset_locks.specs.LockTable as Locks
+use Rattle.asset_trans.specs.TransRows.{NamedTransRow}
+use Rattle.asset_ends.specs.Shows.{Shows, cell_of, cell_after, table_values}
+use Rattle.asset_ends.specs.Standing.{Standing, values_of}
+
+-- what holds where a call succeeded, of what held there
+pub on_ok : {T E : Type 0} {P Q : Type 0} (r : Result T E) → (P → Q) → OnOk r P → OnOk r Q
+on_ok (Ok x) f p = f p
+on_ok (Err e) f p = p
+
+pub on_ok_two : {T E : Type 0} {P Q R : Type 0} (r : Result T E) → (P → Q → R) → OnOk r P → OnOk r Q → OnOk r R
+on_ok_two (Ok x) f p q = f p q
+on_ok_two (Err e) f p q = p
+
+pub on_ok_three : {T E : Type 0} {P Q R S : Type 0} (r : Result T E) → (P → Q → R → S) → OnOk r P → OnOk r Q → OnOk r R → OnOk r S
+on_ok_three (Ok x) f p q s = f p q s
+on_ok_three (Err e) f p q s = p
+
+pub always_ok : {T E : Type 0} {P : Type 0} (r : Result T E) → P → OnOk r P
+always_ok (Ok x) p = p
+always_ok (Err e) p = tt
+
+pub always_err : {T E : Type 0} {P : Type 0} (r : Result T E) → P → OnErr r P
+always_err (Ok x) p = tt
+always_err (Err e) p = p
+
+-- tables that are as others are stand for what the others do
+pub stand_as : (opening : Opening) (steps : List Step) (later : Standing) (rows : List NamedTransRow) (objects : Cells) (table : Locks.LockTable) (descriptors : List Descriptor) → later.trans ≡ rows → cells later.objects ≡ objects → later.locks ≡ table
+    → later.permits ≡ descriptors → Shows opening steps (table_values rows objects table descriptors) → Shows opening steps (values_of later)
+stand_as opening steps later rows objects table descriptors r o l p shows = rw (r, o, l, p) shows
+
+-- an enrolment that is given back leaves the table as it was
+none_named : (t : ℕ) (everyone : List Locks.Enrolled) → find (λ (who : Locks.Enrolled). eqb who.name t) everyone ≡ None
+    → filter (λ (who : Locks.Enrolled). not (eqb who.name t)) (everyone ++ record { name = t; pending = None; locks = [] } ∷ []) ≡ everyone
+none_named t [] none = rw (eq-eqb t t refl) refl
+none_named t (who ∷ everyone) none = go (eqb who.name t) none (none_named t everyone) where
+  go : (here : Bool) → cond here (Some who) (find (λ (h : Locks.Enrolled). eqb h.name t) everyone) ≡ None
+      → (find (λ (h : Locks.Enrolled). eqb h.name t) everyone ≡ None → filter (λ (h : Locks.Enrolled). not (eqb h.name t)) (everyone ++ record { name = t; pending = None; locks = [] } ∷ []) ≡ everyone)
+      → cond (not here) (who ∷ filter (λ (h : Locks.Enrolled). not (eqb h.name t)) (everyone ++ record { name = t; pending = None; locks = [] } ∷ [])) (filter (λ (h : Locks.Enrolled). not (eqb h.name t)) (everyone ++ record { name = t; pending = None; locks = [] } ∷ [])) ≡ who ∷ everyone
+  go true none rest = cc
+  go false none rest = ap (λ hs. who ∷ hs) (rest none)
+
+pub enrolment_given_back : (t : ℕ) (table : Locks.LockTable) → Locks.enrolled_in table t ≡ None → Locks.release_in (λ n. eqb n t) (Locks.enrol_in t table) ≡ table
+unfolding Locks.enrolled_in Locks.release_in Locks.enrol_in
+enrolment_given_back t table none = none_named t table none
+
+-- which objects exist, by the cells
+pub object_exists : (opening : Opening) (steps : List Step) (tables : Standing) (x : ℕ) → Shows opening steps (values_of tables) → has_object (cells tables.objects) x ≡ exists opening x
+unfolding has_object cell_of exists
+object_exists opening steps tables x stand = ap is_some (stand.cells x) ∙ go (opening_at opening x) where
+  go : (first : Option ℤ) → is_some (option_map (λ v. cell_after (end_of steps) x v (operations steps)) first) ≡ is_some first
+  go None = refl
+  go (Some v) = refl

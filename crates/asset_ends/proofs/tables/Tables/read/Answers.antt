@@ -1,0 +1,42 @@
+use Rattle.std.proofs.Common.{refl, sym, ◌∙◌}
+use Rattle.asset_names.specs.declared.operations.Op.TheVariants as Op'
+use Rattle.asset_ends.specs.Standing.{is_free_for}
+use Rattle.asset_ends.proofs.AskedLemmas.{granted_free, pending_blocked, read_asked_shows}
+use Rattle.asset_ends.proofs.EnrolledLemmas.{running_enrolled, asked_enrolled}
+use Rattle.asset_ends.proofs.ShowsLemmas.{running_live}
+use Rattle.asset_ends.proofs.StandingLemmas.{always_ok, stand_as}
+use Rattle.asset_ends.proofs.tables.Tables.read.Goals as goal
+use Rattle.asset_ends.proofs.tables.Tables.read.Goals.{in-Granted, in-Pending}
+
+pub ask-requires : goal.ask-requires
+ask-requires c = record { enrolled = running_enrolled _ _ c.args.t.0 c.self.invariant (rw (← c.self.view_is) at c.requires.runs) }
+
+pub returns-in_err-ask-clause-memory : goal.returns-in_err-ask-clause-memory
+unfolding is_free_for
+returns-in_err-ask-clause-memory c = rw (← c.self.view_is) (λ failed. c.in_err-ask.ensures.memory refl)
+
+pub invariant_of-self-2 : goal.invariant_of-self-2
+invariant_of-self-2 c = rw c.in_ok-ask.ensures.done (asked_enrolled _ _ _ c.args.t.0 c.args.x Op'.Read c.self.invariant)
+
+pub returns-clause-answer : goal.returns-clause-answer
+unfolding is_free_for
+returns-clause-answer c = elim c.match-branch-2.branch [
+  | in-Granted w ↦
+      let free = granted_free _ (sym c.in_ok-ask.ensures.answer ∙ w.in-Granted.is) in
+      rw (w.result-is, ← c.self.view_is, free) w.value.ensures.value
+  | in-Pending w ↦
+      let blocked = pending_blocked _ (sym c.in_ok-ask.ensures.answer ∙ w.in-Pending.is) in
+      rw (w.result-is, ← c.self.view_is, blocked) refl
+]
+
+pub returns-clause-stand : goal.returns-clause-stand
+unfolding is_free_for
+returns-clause-stand c =
+    let runs = rw (← c.self.view_is) at c.requires.runs in
+    rw (← c.self.view_is) (always_ok c.match-branch-2.result (λ opening steps stand.
+    stand_as opening _ _ _ _ _ _ refl refl c.in_ok-ask.ensures.done c.ask.ensures.permits
+    (read_asked_shows opening steps _ _ _ _ c.args.t c.args.x _ stand (running_live opening steps _ _ _ _ c.args.t.0 stand runs) (running_enrolled _ _ c.args.t.0 c.self.invariant runs))))
+
+pub returns-clause-locks : goal.returns-clause-locks
+unfolding is_free_for
+returns-clause-locks c = rw (← c.self.view_is) (always_ok c.match-branch-2.result c.in_ok-ask.ensures.done)

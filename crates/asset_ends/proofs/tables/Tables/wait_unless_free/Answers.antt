@@ -1,0 +1,27 @@
+use Rattle.std.proofs.Common.{sym, ◌∙◌}
+use Rattle.asset_names.specs.declared.operations.Op.TheVariants as Op'
+use Rattle.asset_ends.specs.Standing.{is_free_for}
+use Rattle.asset_ends.proofs.EnrolledLemmas.{running_enrolled, asked_enrolled}
+use Rattle.asset_ends.proofs.tables.Tables.wait_unless_free.Goals as goal
+
+pub returns-then-is_free-clause-memory : goal.returns-then-is_free-clause-memory
+unfolding is_free_for
+returns-then-is_free-clause-memory c = rw (← c.self.view_is) (λ failed. sym c.is_free.ensures.free ∙ c.if-is_free.true)
+
+pub ask-requires : goal.ask-requires
+ask-requires c = record { enrolled = running_enrolled _ _ c.args.t.0 c.self.invariant (rw (← c.self.view_is) at c.requires.runs) }
+
+pub invariant_of-self-2 : goal.invariant_of-self-2
+invariant_of-self-2 c = rw c.in_ok-ask.ensures.done (asked_enrolled _ _ _ c.args.t.0 c.args.x Op'.Write c.self.invariant)
+
+pub returns-clause-answer : goal.returns-clause-answer
+unfolding is_free_for
+returns-clause-answer c = rw (← c.self.view_is) (sym c.if-is_free.false ∙ c.is_free.ensures.free)
+
+pub returns-clause-blocked : goal.returns-clause-blocked
+unfolding is_free_for
+returns-clause-blocked c = rw (← c.self.view_is) (sym c.is_free.ensures.free ∙ c.if-is_free.false)
+
+pub returns-clause-locks : goal.returns-clause-locks
+unfolding is_free_for
+returns-clause-locks c = rw (← c.self.view_is, ← c.is_free.ensures.permits) c.in_ok-ask.ensures.done

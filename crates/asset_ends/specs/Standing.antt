@@ -1,0 +1,47 @@
+-- What the tables hold together, and what they show.
+use Rattle.std.specs.Prelude.{◌≡◌, ℕ, Bool, cond, List, ◌∷◌}
+use Rattle.asset_names.specs.declared.operations.Op.{Op}
+use Rattle.asset_names.specs.declared.steps.Step.{Step}
+use Rattle.asset_names.specs.Arrows.{lists}
+use Rattle.asset_names.specs.Endings.{is_live_status}
+use Rattle.asset_permits.specs.Descriptors.{Descriptor, allows_by}
+use Rattle.asset_objects.specs.Cells.{ObjectTable, cells}
+use Rattle.asset_locks.specs.LockTable as Locks
+use Rattle.asset_trans.specs.TransRows.{NamedTransRow, status_in}
+use Rattle.asset_ends.specs.declared.ending.Tried.{Tried}
+use Rattle.asset_ends.specs.declared.ending.Tried.TheVariants as Tried'
+use Rattle.asset_ends.specs.Shows.{TableValues, table_values}
+
+-- the rows of the transactions, the objects, the locks, and the permits
+pub record Standing : Type 0 where
+  pub trans : List NamedTransRow
+  pub objects : ObjectTable
+  pub locks : Locks.LockTable
+  pub permits : List Descriptor
+
+-- what the tables hold, each object by its cell
+abbrev pub values_of : Standing → TableValues
+values_of tables = table_values tables.trans (cells tables.objects) tables.locks tables.permits
+
+-- the object is free by the locks
+unfoldable pub is_free_for : Standing → ℕ → ℕ → Op → Bool
+is_free_for tables t x op = Locks.is_free_in tables.locks (λ u. allows_by tables.permits u t x op) t x op
+
+-- the steps after one that takes effect only if something holds
+unfoldable pub step_if : Bool → Step → List Step → List Step
+step_if effect step steps = cond effect (step ∷ steps) steps
+
+-- what became of a commit, by whether the transaction has completed
+unfoldable pub tried : Bool → Tried
+tried completed = cond completed Tried'.Committed Tried'.Wait
+
+-- the tables show the same as before
+pub record SameView (later before : Standing) : Type 0 where
+  pub rows : later.trans ≡ before.trans
+  pub objects : cells later.objects ≡ cells before.objects
+  pub locks : later.locks ≡ before.locks
+  pub permits : later.permits ≡ before.permits
+
+-- exactly those who are live by their status are enrolled for locks
+unfoldable pub AreEnrolled : List NamedTransRow → Locks.LockTable → Type 0
+AreEnrolled rows table = (t : ℕ) → lists (Locks.names_in table) t ≡ is_live_status (status_in rows t)

@@ -1,0 +1,11 @@
+//! The tables together: objects, locks, permits and transactions. Each call that does a step takes tables that show a
+//! history to tables that show it with that step, and one that waits leaves them showing it. Who calls answers for the
+//! refusals: a call asks that those of its step do not apply.
+#![tactic(auto)]
+
+mod ending;
+mod tables;
+mod working;
+
+pub use ending::Tried;
+pub use tables::Tables;

@@ -1,0 +1,127 @@
+//! The tables, and what they show.
+
+use asset_locks::Locks;
+use asset_names::{NoMemory, Ob, Op, Status, Txn};
+use asset_objects::{Objects, ObjectsFault};
+use asset_permits::Permits;
+use asset_trans::Trans;
+use std::alloc::Global;
+use std::marker::Model;
+
+/// The tables of objects, locks, permits and transactions. Contracts see what each holds; which history they show,
+/// `Shows` says. Exactly the live transactions are enrolled for locks.
+#[derive(Drop)]
+pub struct Tables {
+    pub(crate) objects: Objects,
+    pub(crate) locks: Locks,
+    pub(crate) permits: Permits,
+    pub(crate) trans: Trans,
+}
+
+impl Model for Tables {
+    ghost use Rattle.asset_ends.specs.Standing.{Standing, AreEnrolled};
+
+    ghost Value = { Standing };
+
+    ghost view = { λ t. record { trans = t.trans; objects = t.objects; locks = t.locks; permits = t.permits } };
+
+    ghost invariant = { λ t. AreEnrolled t.trans t.locks };
+}
+
+impl Tables {
+    ghost use Rattle.std.specs.Prelude.{◌≡◌, ℕ, slice_get, List, [], OnOk, IfOk, IfErr};
+    ghost use Rattle.asset_names.specs.declared.steps.Step.{Step as Request};
+    ghost use Rattle.asset_names.specs.declared.operations.Op.{Op as Operation};
+    ghost use Rattle.asset_names.specs.Steps.{Opening};
+    ghost use Rattle.asset_names.specs.Orderly.{IsOrderly};
+    ghost use Rattle.asset_names.specs.Endings.{status};
+    ghost use Rattle.asset_names.specs.Room.{owed};
+    ghost use Rattle.asset_names.specs.Operations.{allows, free, value_if_any};
+    ghost use Rattle.asset_names.specs.Sets.{HasNoDouble};
+    ghost use Rattle.asset_objects.specs.Faults.{objects_of, IsObjectsFault};
+    ghost use Rattle.asset_objects.specs.Cells.{cells, value_in, opened};
+    ghost use Rattle.asset_locks.specs.LockTable.{waiters_in};
+    ghost use Rattle.asset_permits.specs.Descriptors.{allows_by};
+    ghost use Rattle.asset_trans.specs.TransRows.{status_in, owed_in};
+    ghost use Rattle.asset_ends.specs.Shows.{Shows};
+    ghost use Rattle.asset_ends.specs.Standing.{values_of, is_free_for};
+
+    /// Returns the tables of an opening, before the first step.
+    ///
+    /// It answers `DoubleObject` with the least object that is given twice; otherwise `NoMemory` if memory runs out.
+    pub fn open(alloc: Global, opening: &[(Ob, i64)]) -> Result<Tables, ObjectsFault>
+        ensures shows { IfOk result (λ tables. Shows opening.now [] (values_of tables)) }
+        ensures locks { IfOk result (λ tables. tables.locks ≡ []) }
+        ensures different { OnOk result (HasNoDouble (objects_of opening.now)) }
+        ensures fault { IfErr result (λ fault. IsObjectsFault opening.now fault) }
+    {
+        Ok(Tables::over(alloc, Objects::open(alloc, opening)?))
+    }
+
+    /// Returns the tables of an opening that gives no object twice, before the first step. It fails only if memory
+    /// runs out.
+    pub fn open_distinct(alloc: Global, opening: &[(Ob, i64)]) -> Result<Tables, NoMemory>
+        requires distinct { HasNoDouble (objects_of opening.now) }
+        ensures shows { IfOk result (λ tables. Shows opening.now [] (values_of tables)) }
+        ensures locks { IfOk result (λ tables. tables.locks ≡ []) }
+    {
+        Ok(Tables::over(alloc, Objects::open_distinct(alloc, opening)?))
+    }
+
+    /// Returns the tables over objects at their opening values.
+    fn over(alloc: Global, objects: Objects) -> Tables
+        ensures shows { (opening : Opening) → cells objects ≡ opened opening → Shows opening [] (values_of result) }
+        ensures locks { result.locks ≡ [] }
+    {
+        Tables {
+            objects,
+            locks: Locks::new(alloc),
+            permits: Permits::new(alloc),
+            trans: Trans::new(alloc),
+        }
+    }
+
+    /// Returns the status of a transaction: Unknown if it was never initiated.
+    pub fn status(&self, t: Txn) -> Status
+        ensures row { result ≡ status_in self.now.trans t.0 }
+        ensures shown { (opening : Opening) (steps : List Request) → Shows opening steps (values_of self.now) → result ≡ status steps t.0 }
+    {
+        self.trans.status(t)
+    }
+
+    /// Returns how many entries all live transactions are owed.
+    pub fn owed(&self) -> usize
+        ensures counted { result ≡ owed_in self.now.trans }
+        ensures shown { (opening : Opening) (steps : List Request) → Shows opening steps (values_of self.now) → IsOrderly steps → result ≡ owed steps }
+    {
+        self.trans.owed()
+    }
+
+    /// Returns the value of an object, and `None` if there is no such object.
+    pub fn value(&self, x: Ob) -> Option<i64>
+        ensures cell { result ≡ value_in (cells self.now.objects) x.0 }
+        ensures shown { (opening : Opening) (steps : List Request) → Shows opening steps (values_of self.now) → result ≡ value_if_any opening steps x.0 }
+    {
+        self.objects.value(x)
+    }
+
+    /// Returns the waiter of this index for `x`, in order of initiation from 0, with the operation that it asked for,
+    /// and `None` past the end.
+    pub fn waiters(&self, x: Ob, index: usize) -> Option<(Txn, Op)>
+        ensures { result ≡ slice_get (waiters_in self.now.locks x.0) index }
+    {
+        self.locks.waiters(x, index)
+    }
+
+    /// Returns whether `x` is free for `t` to do `op`. Nothing changes: a search for permits marks what it met, and no
+    /// call shows that.
+    pub fn is_free(&mut self, t: Txn, x: Ob, op: Op) -> bool
+        ensures free { result ≡ is_free_for self.old t.0 x.0 op }
+        ensures shown { (opening : Opening) (steps : List Request) → Shows opening steps (values_of self.old) → result ≡ free steps t.0 x.0 op }
+        ensures allowed { (opening : Opening) (steps : List Request) → Shows opening steps (values_of self.old) →
+            (u v y : ℕ) (o : Operation) → allows_by self.old.permits u v y o ≡ allows steps u v y o }
+        ensures same { self.new ≡ self.old }
+    {
+        self.locks.is_free(t, x, op, &mut self.permits)
+    }
+}

@@ -1,0 +1,148 @@
+//! The steps of transactions that go on.
+
+use crate::tables::Tables;
+use asset_locks::Asked;
+use asset_names::{NoMemory, Ob, ObSet, Op, Ops, Txn};
+
+impl Tables {
+    ghost use Rattle.std.specs.Prelude.{◌≡◌, ℕ, ◌∷◌, List, cond, true, false, None, OnOk, OnErr, IfOk, IsErr};
+    ghost use Rattle.asset_names.specs.declared.steps.Step.{Step as Request};
+    ghost use Rattle.asset_names.specs.declared.operations.Op.{Op as Operation};
+    ghost use Rattle.asset_names.specs.declared.statuses.Status.{Status};
+    ghost use Rattle.asset_names.specs.Steps.{Opening};
+    ghost use Rattle.asset_names.specs.Orderly.{IsOrderly};
+    ghost use Rattle.asset_names.specs.Endings.{is_live_status};
+    ghost use Rattle.asset_objects.specs.Cells.{cells, value_in, has_object, change_at, written};
+    ghost use Rattle.asset_locks.specs.LockTable.{enrol_in};
+    ghost use Rattle.asset_locks.specs.Valid.{after_ask};
+    ghost use Rattle.asset_trans.specs.TransRows.{row_in, status_in};
+    ghost use Rattle.asset_ends.specs.Shows.{Shows};
+    ghost use Rattle.asset_ends.specs.Standing.{values_of, is_free_for, step_if, SameView};
+
+    /// Initiates a transaction that never was. If memory runs out, nothing that any call shows has changed.
+    pub fn initiate(&mut self, t: Txn, parent: Option<Txn>) -> Result<(), NoMemory>
+        requires new { row_in self.old.trans t.0 ≡ None }
+        ensures stand { OnOk result ((opening : Opening) (steps : List Request) → Shows opening steps (values_of self.old) → IsOrderly steps → Shows opening (Request.Initiate t parent ∷ steps) (values_of self.new)) }
+        ensures locks { OnOk result (self.new.locks ≡ enrol_in t.0 self.old.locks) }
+        ensures unchanged { OnErr result (SameView self.new self.old) }
+    {
+        self.locks.enrol(t)?;
+        match self.trans.initiate(t, parent) {
+            Ok(()) => Ok(()),
+            Err(fault) => {
+                self.locks.release(t);
+                Err(fault)
+            }
+        }
+    }
+
+    /// Starts a transaction that was initiated and has not begun.
+    pub fn begin(&mut self, t: Txn)
+        requires initiated { status_in self.old.trans t.0 ≡ Status.Initiated }
+        ensures stand { (opening : Opening) (steps : List Request) → Shows opening steps (values_of self.old) → Shows opening (Request.Begin t ∷ steps) (values_of self.new) }
+        ensures locks { self.new.locks ≡ self.old.locks }
+    {
+        self.trans.begin(t);
+    }
+
+    /// Reads an object for a transaction that runs, which holds it by a read from then on. If the object is not free, the
+    /// answer is `None`, and the request is pending. That takes no memory; if memory runs out for the lock, nothing
+    /// changes.
+    pub fn read(&mut self, t: Txn, x: Ob) -> Result<Option<i64>, NoMemory>
+        requires runs { status_in self.old.trans t.0 ≡ Status.Running }
+        ensures answer { IfOk result (λ read. read ≡ cond (is_free_for self.old t.0 x.0 Operation.Read) (value_in (cells self.old.objects) x.0) None) }
+        ensures stand { OnOk result ((opening : Opening) (steps : List Request) → Shows opening steps (values_of self.old) →
+            Shows opening (step_if (is_free_for self.old t.0 x.0 Operation.Read) (Request.Read t x) steps) (values_of self.new)) }
+        ensures locks { OnOk result (self.new.locks ≡ after_ask (is_free_for self.old t.0 x.0 Operation.Read) t.0 x Operation.Read self.old.locks) }
+        ensures memory { IsErr result → is_free_for self.old t.0 x.0 Operation.Read ≡ true }
+        ensures unchanged { OnErr result (SameView self.new self.old) }
+    {
+        match self.locks.ask(t, x, Op::Read, &mut self.permits)? {
+            Asked::Granted => Ok(self.objects.value(x)),
+            Asked::Pending => Ok(None),
+        }
+    }
+
+    /// Writes an object for a transaction that runs, which holds it by a write from then on. If the object is not free,
+    /// the answer is false, and the request is pending. That does not fail; if memory runs out for the lock or for the
+    /// record, nothing that any call shows has changed.
+    pub fn write(&mut self, t: Txn, x: Ob, v: i64) -> Result<bool, NoMemory>
+        requires runs { status_in self.old.trans t.0 ≡ Status.Running }
+        requires exists { has_object (cells self.old.objects) x.0 ≡ true }
+        ensures answer { IfOk result (λ written. written ≡ is_free_for self.old t.0 x.0 Operation.Write) }
+        ensures stand { OnOk result ((opening : Opening) (steps : List Request) → Shows opening steps (values_of self.old) →
+            Shows opening (step_if (is_free_for self.old t.0 x.0 Operation.Write) (Request.Write t x v) steps) (values_of self.new)) }
+        ensures locks { OnOk result (self.new.locks ≡ after_ask (is_free_for self.old t.0 x.0 Operation.Write) t.0 x Operation.Write self.old.locks) }
+        ensures memory { IsErr result → is_free_for self.old t.0 x.0 Operation.Write ≡ true }
+        ensures unchanged { OnErr result (SameView self.new self.old) }
+    {
+        match self.objects.reserve_write() {
+            Ok(()) => self.write_reserved(t, x, v),
+            Err(fault) => self.wait_unless_free(t, x, fault),
+        }
+    }
+
+    /// Writes an object with the memory for its record, which is reserved. If the object is not free, the request is
+    /// pending. If memory runs out for the lock, nothing changes.
+    fn write_reserved(&mut self, t: Txn, x: Ob, v: i64) -> Result<bool, NoMemory>
+        requires runs { status_in self.old.trans t.0 ≡ Status.Running }
+        requires exists { has_object (cells self.old.objects) x.0 ≡ true }
+        requires reserved { self.old.objects.reserved ≡ true }
+        ensures answer { IfOk result (λ written. written ≡ is_free_for self.old t.0 x.0 Operation.Write) }
+        ensures rows { self.new.trans ≡ self.old.trans }
+        ensures permits { self.new.permits ≡ self.old.permits }
+        ensures objects { OnOk result (cells self.new.objects ≡ cond (is_free_for self.old t.0 x.0 Operation.Write) (change_at x.0 (written t.0 v) (cells self.old.objects)) (cells self.old.objects)) }
+        ensures locks { OnOk result (self.new.locks ≡ after_ask (is_free_for self.old t.0 x.0 Operation.Write) t.0 x Operation.Write self.old.locks) }
+        ensures memory { IsErr result → is_free_for self.old t.0 x.0 Operation.Write ≡ true }
+        ensures unchanged { OnErr result (self.new ≡ self.old) }
+    {
+        match self.locks.ask(t, x, Op::Write, &mut self.permits)? {
+            Asked::Granted => {
+                self.objects.write(t, x, v);
+                Ok(true)
+            }
+            Asked::Pending => Ok(false),
+        }
+    }
+
+    /// Makes a write pending if its object is not free, and answers the fault if it is, when there is no memory for its
+    /// record.
+    fn wait_unless_free(&mut self, t: Txn, x: Ob, fault: NoMemory) -> Result<bool, NoMemory>
+        requires runs { status_in self.old.trans t.0 ≡ Status.Running }
+        ensures answer { IfOk result (λ written. written ≡ is_free_for self.old t.0 x.0 Operation.Write) }
+        ensures blocked { OnOk result (is_free_for self.old t.0 x.0 Operation.Write ≡ false) }
+        ensures rows { self.new.trans ≡ self.old.trans }
+        ensures permits { self.new.permits ≡ self.old.permits }
+        ensures objects { self.new.objects ≡ self.old.objects }
+        ensures locks { OnOk result (self.new.locks ≡ after_ask (is_free_for self.old t.0 x.0 Operation.Write) t.0 x Operation.Write self.old.locks) }
+        ensures memory { IsErr result → is_free_for self.old t.0 x.0 Operation.Write ≡ true }
+        ensures unchanged { OnErr result (self.new ≡ self.old) }
+    {
+        if self.locks.is_free(t, x, Op::Write, &mut self.permits) {
+            return Err(fault);
+        }
+        self.locks.ask(t, x, Op::Write, &mut self.permits)?;
+        Ok(false)
+    }
+
+    /// Completes a transaction that runs.
+    pub fn complete(&mut self, t: Txn)
+        requires runs { status_in self.old.trans t.0 ≡ Status.Running }
+        ensures stand { (opening : Opening) (steps : List Request) → Shows opening steps (values_of self.old) → Shows opening (Request.Complete t ∷ steps) (values_of self.new) }
+        ensures locks { self.new.locks ≡ self.old.locks }
+    {
+        self.trans.complete(t);
+    }
+
+    /// Lets the taker do the operations on the objects although they conflict with the giver's. Both are live. If memory
+    /// runs out, nothing changes.
+    pub fn permit(&mut self, giver: Txn, taker: Txn, obs: ObSet, ops: Ops) -> Result<(), NoMemory>
+        requires giver { is_live_status (status_in self.old.trans giver.0) ≡ true }
+        requires taker { is_live_status (status_in self.old.trans taker.0) ≡ true }
+        ensures stand { OnOk result ((opening : Opening) (steps : List Request) → Shows opening steps (values_of self.old) → Shows opening (Request.Permit giver taker obs ops ∷ steps) (values_of self.new)) }
+        ensures locks { self.new.locks ≡ self.old.locks }
+        ensures unchanged { OnErr result (SameView self.new self.old) }
+    {
+        self.permits.add(giver, taker, obs, ops)
+    }
+}
