@@ -17,9 +17,13 @@ mod facility;
 #[cfg(test)]
 mod locks;
 #[cfg(test)]
+mod locks_beside_list;
+#[cfg(test)]
 mod names;
 #[cfg(test)]
 mod objects;
+#[cfg(test)]
+mod objects_beside_list;
 #[cfg(test)]
 mod permits;
 #[cfg(test)]
@@ -28,6 +32,8 @@ mod records;
 mod reference;
 #[cfg(test)]
 mod scripts;
+#[cfg(test)]
+mod seats;
 #[cfg(test)]
 mod sizes;
 #[cfg(test)]

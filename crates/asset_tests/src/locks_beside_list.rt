@@ -1,0 +1,357 @@
+//! Locks beside a plain table that does the same by scanning, and locks past any small number.
+
+use crate::locks::ask_once;
+use crate::reference::next;
+use asset_locks::{Asked, LockState, Locks};
+use asset_names::{NoMemory, Ob, ObSet, Op, Ops, Txn};
+use asset_permits::Permits;
+use std::test::Fail;
+
+/// How many transactions and objects there are beside the table, and how many calls are drawn.
+const NAMES: u64 = 6;
+
+const OBJECTS: u64 = 4;
+
+const CALLS: usize = 3_000;
+
+/// How many transactions read one object, and how many objects one transaction writes.
+const MANY: u64 = 300;
+
+/// A lock of the plain table.
+#[derive(Clone, Copy)]
+struct PlainLock {
+    owner: u64,
+    object: u64,
+    write: bool,
+    granted: bool,
+}
+
+/// A request of the plain table that waits.
+#[derive(Clone, Copy)]
+struct PlainRequest {
+    name: u64,
+    object: u64,
+    op: Op,
+}
+
+/// The plain table: the names in order of enrolment, the requests that wait, and the locks in order of first grant.
+#[derive(Drop)]
+struct PlainTable {
+    names: Vec<u64>,
+    requests: Vec<PlainRequest>,
+    locks: Vec<PlainLock>,
+}
+
+/// Returns whether `u` allows `t` everything: of two transactions one permits the other.
+fn allows(u: u64, t: u64) -> bool {
+    u == t || (u == 0 && t == 1)
+}
+
+/// Returns whether `x` is free for `t` to do `op`.
+fn is_free(table: &PlainTable, t: u64, x: u64, op: Op) -> bool {
+    let writes = op == Op::Write;
+    !table.locks.iter().any(|one| one.object == x && !allows(one.owner, t) && (one.write || writes))
+}
+
+/// Returns the state of the lock of `t` on `x`, if it has one.
+fn status_of(table: &PlainTable, t: u64, x: u64) -> Option<LockState> {
+    for one in &table.locks {
+        if one.owner == t && one.object == x {
+            return if one.granted {
+                Some(LockState::Granted)
+            } else {
+                Some(LockState::Suspended)
+            };
+        }
+    }
+    None
+}
+
+/// Returns the object at the index among those that `t` holds.
+fn held_of(table: &PlainTable, t: u64, index: usize) -> Option<Ob> {
+    let mut before = index;
+    for one in &table.locks {
+        if one.owner == t {
+            if before == 0 {
+                return Some(Ob(one.object));
+            }
+            before -= 1;
+        }
+    }
+    None
+}
+
+/// Returns the operation with which a name waits for `x`, if it does.
+fn request_of(table: &PlainTable, name: u64, x: u64) -> Option<Op> {
+    for request in &table.requests {
+        if request.name == name && request.object == x {
+            return Some(request.op);
+        }
+    }
+    None
+}
+
+/// Returns the waiter at the index among those that wait for `x`.
+fn waiter_of(table: &PlainTable, x: u64, index: usize) -> Option<(Txn, Op)> {
+    let mut before = index;
+    for name in &table.names {
+        if let Some(op) = request_of(table, *name, x) {
+            if before == 0 {
+                return Some((Txn(*name), op));
+            }
+            before -= 1;
+        }
+    }
+    None
+}
+
+/// Enrols a name that is not enrolled.
+fn enrol_plainly(table: &mut PlainTable, t: u64) -> Result<(), Fail> {
+    if !table.names.contains(&t) {
+        table.names.push(t)?;
+    }
+    Ok(())
+}
+
+/// Takes a name away, with its locks and its request.
+fn release_plainly(table: &mut PlainTable, t: u64) {
+    table.names.retain(|name| *name != t);
+    table.requests.retain(|request| request.name != t);
+    table.locks.retain(|one| one.owner != t);
+}
+
+/// Grants `op` on `x` to `t`, and suspends the locks of others in conflict.
+fn grant_plainly(table: &mut PlainTable, t: u64, x: u64, op: Op) -> Result<(), Fail> {
+    if status_of(table, t, x) == None {
+        table.locks.push(PlainLock {
+            owner: t,
+            object: x,
+            write: false,
+            granted: true,
+        })?;
+    }
+    let mut writes = op == Op::Write;
+    for one in &table.locks {
+        writes = writes || (one.owner == t && one.object == x && one.write);
+    }
+    for one in table.locks.iter_mut() {
+        if one.object == x && one.owner == t {
+            one.granted = true;
+            one.write = writes;
+        } else if one.object == x && (one.write || writes) {
+            one.granted = false;
+        }
+    }
+    Ok(())
+}
+
+/// Asks for `op` on `x` for `t`.
+fn ask_plainly(table: &mut PlainTable, t: u64, x: u64, op: Op) -> Result<Asked, Fail> {
+    table.requests.retain(|request| request.name != t);
+    if is_free(table, t, x, op) {
+        grant_plainly(table, t, x, op)?;
+        return Ok(Asked::Granted);
+    }
+    table.requests.push(PlainRequest {
+        name: t,
+        object: x,
+        op,
+    })?;
+    Ok(Asked::Pending)
+}
+
+/// Returns whether the locks show of one transaction what the table does.
+fn agrees_on(locks: &Locks, permits: &mut Permits, table: &PlainTable, t: u64) -> bool {
+    for x in 0..OBJECTS {
+        let at = locks.held_by(Txn(t), x as usize) == held_of(table, t, x as usize);
+        let state = locks.status(Txn(t), Ob(x)) == status_of(table, t, x);
+        let read = locks.is_free(Txn(t), Ob(x), Op::Read, permits)
+            == is_free(table, t, x, Op::Read);
+        let write = locks.is_free(Txn(t), Ob(x), Op::Write, permits)
+            == is_free(table, t, x, Op::Write);
+        if !(at && state && read && write) {
+            return false;
+        }
+    }
+    locks.held_by(Txn(t), OBJECTS as usize) == None
+}
+
+/// Returns whether the same transactions wait for the object.
+fn same_waiters(locks: &Locks, table: &PlainTable, x: u64) -> bool {
+    for index in 0..NAMES as usize {
+        if locks.waiters(Ob(x), index) != waiter_of(table, x, index) {
+            return false;
+        }
+    }
+    locks.waiters(Ob(x), NAMES as usize) == None
+}
+
+/// Returns whether the locks show what the table does.
+fn agrees(locks: &Locks, permits: &mut Permits, table: &PlainTable) -> bool {
+    for t in 0..NAMES {
+        if !agrees_on(locks, permits, table, t) {
+            return false;
+        }
+    }
+    for x in 0..OBJECTS {
+        if !same_waiters(locks, table, x) {
+            return false;
+        }
+    }
+    true
+}
+
+/// Enrols a transaction. If memory runs out once, nothing has changed, and the same call is made again.
+fn enrol(
+    locks: &mut Locks,
+    permits: &mut Permits,
+    table: &PlainTable,
+    t: u64,
+) -> Result<(), NoMemory> {
+    match locks.enrol(Txn(t)) {
+        Err(NoMemory) if agrees(locks, permits, table) => locks.enrol(Txn(t)),
+        enrolled => enrolled,
+    }
+}
+
+/// Asks as `ask_once` does for one who is enrolled. If memory runs out once, nothing has changed, and the same call is
+/// made again.
+fn ask(
+    locks: &mut Locks,
+    permits: &mut Permits,
+    table: &PlainTable,
+    t: u64,
+    x: u64,
+    op: Op,
+) -> Result<Asked, NoMemory> {
+    match ask_once(locks, t, x, op, permits) {
+        Err(NoMemory) if agrees(locks, permits, table) => ask_once(locks, t, x, op, permits),
+        asked => asked,
+    }
+}
+
+/// Makes the call that a number stands for, on locks and the table. Returns whether both answered the same.
+fn call(
+    locks: &mut Locks,
+    permits: &mut Permits,
+    table: &mut PlainTable,
+    number: u64,
+) -> Result<bool, Fail> {
+    let t = (number >> 40) % NAMES;
+    let x = (number >> 30) % OBJECTS;
+    let op = if (number >> 20) % 3 == 0 {
+        Op::Write
+    } else {
+        Op::Read
+    };
+    let kind = (number >> 50) % 8;
+    if kind == 0 {
+        locks.release(Txn(t));
+        release_plainly(table, t);
+        return Ok(true);
+    }
+    enrol(locks, permits, table, t)?;
+    enrol_plainly(table, t)?;
+    if kind == 1 {
+        return Ok(true);
+    }
+    let asked = ask(locks, permits, table, t, x, op)?;
+    Ok(asked == ask_plainly(table, t, x, op)?)
+}
+
+/// Makes drawn calls until one does not agree with the table. Returns whether all agreed.
+fn calls_agree(
+    locks: &mut Locks,
+    permits: &mut Permits,
+    table: &mut PlainTable,
+) -> Result<bool, Fail> {
+    let mut number: u64 = 42;
+    for _ in 0..CALLS {
+        number = next(number);
+        if !call(locks, permits, table, number)? || !agrees(locks, permits, table) {
+            return Ok(false);
+        }
+    }
+    Ok(true)
+}
+
+/// Lets 1 do everything that 0 may do. If memory runs out once, the same call is made again.
+fn permit(permits: &mut Permits) -> Result<(), NoMemory> {
+    let ops = Ops::only(Op::Read).with(Op::Write);
+    match permits.add(Txn(0), Txn(1), ObSet::All, ops) {
+        Ok(()) => Ok(()),
+        Err(NoMemory) => permits.add(Txn(0), Txn(1), ObSet::All, ops),
+    }
+}
+
+#[test]
+fn locks_agree_with_a_plain_table(rt: HostRuntime) -> Result<(), Fail> {
+    let mut locks = Locks::new(rt.alloc());
+    let mut permits = Permits::new(rt.alloc());
+    let mut table = PlainTable {
+        names: Vec::new(rt.alloc()),
+        requests: Vec::new(rt.alloc()),
+        locks: Vec::new(rt.alloc()),
+    };
+    let permitted = permit(&mut permits);
+    let agree = calls_agree(&mut locks, &mut permits, &mut table);
+    drop(locks);
+    drop(permits);
+    drop(table);
+    assert_eq!(rt; permitted, Ok(()));
+    assert!(rt; agree?);
+    Ok(())
+}
+
+/// Returns whether each of many transactions is granted a read of one object.
+fn all_read(locks: &mut Locks, permits: &mut Permits) -> Result<bool, NoMemory> {
+    for t in 0..MANY {
+        if ask_once(locks, t, 7, Op::Read, permits)? != Asked::Granted {
+            return Ok(false);
+        }
+    }
+    Ok(true)
+}
+
+/// Returns whether a writer of the object waits until each of the readers is released, in order of enrolment.
+fn writer_waits_for_all(locks: &mut Locks, permits: &mut Permits) -> bool {
+    for t in 0..MANY {
+        let reads = locks.status(Txn(t), Ob(7)) == Some(LockState::Granted);
+        if !reads || locks.is_free(Txn(MANY), Ob(7), Op::Write, permits) {
+            return false;
+        }
+        locks.release(Txn(t));
+    }
+    locks.is_free(Txn(MANY), Ob(7), Op::Write, permits)
+}
+
+/// Returns whether one transaction is granted writes of many objects, and holds them in this order.
+fn one_writes_many(locks: &mut Locks, permits: &mut Permits) -> Result<bool, NoMemory> {
+    for x in 0..MANY {
+        if ask_once(locks, 5, x, Op::Write, permits)? != Asked::Granted {
+            return Ok(false);
+        }
+    }
+    for x in 0..MANY {
+        let held = locks.held_by(Txn(5), x as usize) == Some(Ob(x));
+        if !held || locks.status(Txn(5), Ob(x)) != Some(LockState::Granted) {
+            return Ok(false);
+        }
+    }
+    locks.release(Txn(5));
+    Ok(locks.held_by(Txn(5), 0) == None)
+}
+
+#[test]
+fn many_locks_stand(rt: HostRuntime) {
+    let mut locks = Locks::new(rt.alloc());
+    let mut permits = Permits::new(rt.alloc());
+    let read = all_read(&mut locks, &mut permits);
+    let waited = writer_waits_for_all(&mut locks, &mut permits);
+    let wrote = one_writes_many(&mut locks, &mut permits);
+    drop(locks);
+    drop(permits);
+    assert_eq!(rt; read, Ok(true));
+    assert!(rt; waited);
+    assert_eq!(rt; wrote, Ok(true));
+}
