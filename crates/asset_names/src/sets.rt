@@ -94,7 +94,7 @@ fn is_listed(objects: &[Ob], x: Ob) -> bool
 }
 
 impl ObList {
-    ghost use Rattle.std.specs.Prelude.{◌≡◌, ◌<◌, ◌≤◌, length, IfOk, OnOk, IfErr, IsPermutation};
+    ghost use Rattle.std.specs.Prelude.{◌≡◌, ◌<◌, ◌≤◌, [], ◌∷◌, length, IfOk, OnOk, IfErr, IsPermutation};
     ghost use Rattle.std.specs.List.Sorted.{IsStrictlyIncreasing};
     ghost use Rattle.asset_names.specs.Arrows.{lists};
     ghost use Rattle.asset_names.specs.Sets.{numbers, rising, HasNoDouble};
@@ -126,6 +126,15 @@ impl ObList {
             objects: sorted(objects),
             count: objects.len(),
         })
+    }
+
+    /// Returns the list of one object.
+    pub fn one(x: Ob) -> ObList
+        ensures { result ≡ x ∷ [] }
+    {
+        let mut objects = [Ob(0); MOST_OBJECTS];
+        objects[0] = x;
+        ObList { objects, count: 1 }
     }
 
     /// Returns the 1 to 16 objects of the list in rising order.

@@ -6,5 +6,6 @@ pub mod MarkLemmas
 pub mod SearchLemmas
 pub mod SeatLemmas
 pub mod SlotLemmas
+pub mod CopyLemmas
 pub mod TableLemmas
 pub mod WalkLemmas

@@ -9,7 +9,7 @@ use Rattle.asset_chains.proofs.KeyLemmas.{first_listed as first_is_listed}
 use Rattle.asset_seats.specs.Seated.{Seated, seat}
 use Rattle.asset_permits.specs.Descriptors.{Descriptor}
 use Rattle.asset_permits.specs.Valid.{Parts, parts, is_used, IsSeated, IsWithin}
-use Rattle.asset_permits.specs.Changes.{IsGrown, Sits, BothSit}
+use Rattle.asset_permits.specs.Changes.{IsGrown, Sits}
 
 pub some_of : {X : Type 0} (o : Option X) → is_some o ≡ true → (x : X) × (o ≡ Some x)
 some_of None h = absurd (true≢false (sym h))

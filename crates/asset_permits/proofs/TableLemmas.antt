@@ -1,7 +1,7 @@
 -- What a call makes of the table of permits.
-use Rattle.std.proofs.Common.{◌≡◌, ℕ, ◌<◌, Bool, true, false, List, [], ◌∷◌, ◌++◌, ◌||◌, filter_map, Option, Some, None, IfSome, IfNone, is_some, refl, sym, ap, ◌∙◌, arith, inl, inr}
+use Rattle.std.proofs.Common.{◌≡◌, ℕ, ◌<◌, Bool, true, false, List, [], ◌∷◌, ◌++◌, ◌||◌, ◌&&◌, eqb, ◌⊎◌, filter_map, Option, Some, None, IfSome, IfNone, is_some, refl, sym, ap, ◌∙◌, arith, inl, inr}
 use Rattle.std.specs.Prelude.{slice_index_or}
-use Rattle.std.proofs.lemmas.Bool.{eqb-false, ne_eqb, true≢false, false_from_ne_true, cases_eq}
+use Rattle.std.proofs.lemmas.Bool.{eqb-false, eqb-true, eq-eqb, ne_eqb, true≢false, false_from_ne_true, cases_eq, and_from, and_parts, or_left, or_right, or_cases}
 use Rattle.slab.specs.Slab.{Slab, get, Updates}
 use Rattle.asset_names.specs.declared.names.Txn.{Txn}
 use Rattle.asset_chains.specs.Chained.{Chained, chain_of, home_of, first_of, IsSound}
@@ -13,7 +13,14 @@ use Rattle.asset_permits.specs.Valid.{Parts, parts, descriptors_of, is_used, IsS
 use Rattle.asset_permits.specs.Changes.{IsGrown, BothSit, Shrinks}
 use Rattle.asset_permits.proofs.SeatLemmas.{used_same, used_along, used_ends, home_along, home_at_end}
 use Rattle.asset_permits.proofs.SearchLemmas.{has_ends}
-use Rattle.asset_permits.proofs.SlotLemmas.{IsRid, key_of_standing, stands_at}
+use Rattle.asset_permits.proofs.SlotLemmas.{IsRid, key_of_standing, stands_at, any_has, key_of_any}
+use Rattle.asset_permits.proofs.MarkLemmas.{same_truth}
+use Rattle.asset_permits.proofs.CopyLemmas.{any_cut}
+use Rattle.asset_permits.specs.declared.copying.Cut.{Cut}
+use Rattle.asset_permits.specs.Copies.{cut_of, cuts_on, gives_on}
+use Rattle.asset_names.specs.declared.names.Ob.{Ob}
+use Rattle.asset_names.specs.InSet.{in_set}
+use Rattle.std.specs.List.{list_any}
 
 -- ---- whether a permit stands
 -- a permit stands at a key in the chain of its giver, and in that of its taker
@@ -229,3 +236,51 @@ rid_of_nobody p size t valid absent = record {
   taker = λ k d there. ne_eqb d.taker t.0 (λ is. let ends = has_ends p size valid k d there in absent ends.to (ends.taker ∙ (λ i. Some (record { 0 = is i }))));
   kept = λ k d there giver taker. there;
 }
+
+-- ---- what is copied of the permits of a seat
+pub cut_by_seat : (p : Parts) (size : ℕ) → IsValid p size → (giver : Txn) (from : ℕ) → seat p.seats from ≡ Some giver → ((c : ℕ) → seat p.seats c ≡ Some giver → c ≡ from) → (x : Ob) (before after : List Cut)
+    → ((test : Cut → Bool) → list_any test before ≡ true → list_any test after ≡ true)
+    → ((test : Cut → Bool) → list_any test after ≡ true → (list_any test before ≡ true) ⊎ ((k : ℕ) × (d : Descriptor) × (home_of p.along k ≡ Some from) × (get p.permits k ≡ Some d) × (in_set d.objects x.0 ≡ true) × (test (cut_of x d) ≡ true)))
+    → ((test : Cut → Bool) (k : ℕ) (d : Descriptor) → home_of p.along k ≡ Some from → get p.permits k ≡ Some d → in_set d.objects x.0 ≡ true → test (cut_of x d) ≡ true → list_any test after ≡ true)
+    → (test : Cut → Bool) → list_any test after ≡ (list_any test before || list_any test (cuts_on giver.0 (descriptors_of p.permits) x))
+unfolding gives_on
+cut_by_seat p size valid giver from sat alone x before after kept made all test = same_truth _ _ to back where
+  passes : Descriptor → Bool
+  passes d = (eqb d.giver giver.0 && in_set d.objects x.0) && test (cut_of x d)
+
+  on_x : list_any test (cuts_on giver.0 (descriptors_of p.permits) x) ≡ list_any passes (descriptors_of p.permits)
+  on_x = any_cut test giver.0 (descriptors_of p.permits) x
+
+  named : (n : ℕ) → Some (record { 0 = n }) ≡ Some giver → n ≡ giver.0
+  named n same = let is : record { 0 = n } ≡ giver = cc same in ap (λ (u : Txn). u.0) is
+
+  to : list_any test after ≡ true → (list_any test before || list_any test (cuts_on giver.0 (descriptors_of p.permits) x)) ≡ true
+  to h = elim (made test h) [
+    | inl old ↦ or_left _ _ old
+    | inr one ↦
+        let of_giver = named one.1.giver (sym (valid.given one.0 from one.1 one.3 one.2) ∙ sat) in
+        or_right (list_any test before) _ (on_x ∙ any_has passes p.permits one.0 one.1 one.3 (and_from _ _ (and_from _ _ (eq-eqb one.1.giver giver.0 of_giver) one.4) one.5))
+  ]
+
+  back : (list_any test before || list_any test (cuts_on giver.0 (descriptors_of p.permits) x)) ≡ true → list_any test after ≡ true
+  back h = elim (or_cases _ _ h) [
+    | inl old ↦ kept test old
+    | inr new ↦
+        let found = key_of_any passes p.permits (sym on_x ∙ new) in
+        let both = and_parts _ _ found.3 in
+        let parts = and_parts _ _ both.0 in
+        let home = home_along p found.0 found.1 valid.seated found.2 in
+        let at : seat p.seats home.0 ≡ Some giver = valid.given found.0 home.0 found.1 found.2 home.1 ∙ (λ i. Some (record { 0 = eqb-true found.1.giver giver.0 parts.0 i })) in
+        all test found.0 found.1 (home.1 ∙ ap Some (alone home.0 at)) found.2 parts.1 both.1
+  ]
+
+-- of one who has no seat, nothing is copied
+pub no_cuts_by : (p : Parts) (size : ℕ) → IsValid p size → (giver : Txn) → ((c : ℕ) → seat p.seats c ≡ Some giver → ⊥) → (test : Cut → Bool) (x : Ob) → list_any test (cuts_on giver.0 (descriptors_of p.permits) x) ≡ false
+unfolding gives_on
+no_cuts_by p size valid giver absent test x =
+    any_cut test giver.0 (descriptors_of p.permits) x
+    ∙ false_from_ne_true _ (λ h.
+    let found = key_of_any (λ (d : Descriptor). (eqb d.giver giver.0 && in_set d.objects x.0) && test (cut_of x d)) p.permits h in
+    let parts = and_parts _ _ (and_parts _ _ found.3).0 in
+    let home = home_along p found.0 found.1 valid.seated found.2 in
+    absent home.0 (valid.given found.0 home.0 found.1 found.2 home.1 ∙ (λ i. Some (record { 0 = eqb-true found.1.giver giver.0 parts.0 i }))))

@@ -1,5 +1,6 @@
 pub mod Changes
 pub mod Descriptors
+pub mod Copies
 pub mod Marked
 pub mod Searched
 pub mod Stored

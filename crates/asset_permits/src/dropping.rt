@@ -1,6 +1,6 @@
 //! Permits leave the slab and both of their chains.
 
-ghost use Rattle.std.specs.Prelude.{◌≡◌, ◌≢◌, ℕ, ◌<◌, true, Some, is_some};
+ghost use Rattle.std.specs.Prelude.{◌≡◌, ◌≢◌, ℕ, ◌<◌, true, None, Some, is_some};
 ghost use Rattle.slab.specs.Slab.{get, slab_len};
 ghost use Rattle.asset_chains.specs.Chained.{home_of};
 ghost use Rattle.asset_permits.specs.Valid.{parts, IsSeated};
@@ -13,7 +13,7 @@ use asset_seats::Seats;
 use slab::Slab;
 
 /// Takes the permit at `key` out of the slab and of both of its chains. Who has no other permit leaves its seat.
-fn drop_at(
+pub(crate) fn drop_at(
     permits: &mut Slab<Permit>,
     along: &mut Chains,
     ends: &mut Chains,
@@ -25,6 +25,7 @@ fn drop_at(
     ensures seated { IsSeated (parts permits.new along.new ends.new seats.new) }
     ensures shrinks { Shrinks (parts permits.old along.old ends.old seats.old) (parts permits.new along.new ends.new seats.new) }
     ensures others { (k : ℕ) → k ≢ key → get permits.new k ≡ get permits.old k }
+    ensures gone { get permits.new key ≡ None }
     ensures fewer { slab_len permits.new < slab_len permits.old }
 {
     along.laws();

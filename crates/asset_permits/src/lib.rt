@@ -4,6 +4,7 @@
 #![tactic(auto)]
 
 mod adding;
+mod copying;
 mod dropping;
 mod finding;
 mod laws;

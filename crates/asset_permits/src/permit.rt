@@ -1,5 +1,6 @@
 //! Permits, as they are stored and as they are asked for.
 
+use crate::copying::Cut;
 use crate::permit_objects::PermitObjects;
 use asset_names::{NoMemory, Ob, ObSet, Op, Ops, Txn};
 use std::alloc::Global;
@@ -27,7 +28,9 @@ impl Model for Permit {
 }
 
 impl Permit {
-    ghost use Rattle.std.specs.Prelude.{◌≡◌, IfOk};
+    ghost use Rattle.std.specs.Prelude.{◌≡◌, true, false, IfOk, IfSome, IfNone};
+    ghost use Rattle.asset_names.specs.InSet.{in_set};
+    ghost use Rattle.asset_permits.specs.Copies.{cut_of};
     ghost use Rattle.asset_permits.specs.Descriptors.{covers, same_descriptor};
     ghost use Rattle.asset_permits.specs.Stored.{asked};
 
@@ -53,6 +56,22 @@ impl Permit {
             && self.taker == sought.taker
             && self.objects.is_same(&sought.objects)
             && same_ops(self.ops, sought.ops)
+    }
+
+    /// Returns what is copied of the permit on the object, if it has the object.
+    #[tactic(auto, unfolding(crate::specs::Copies::cut_of))]
+    pub(crate) fn cut(&self, x: Ob) -> Option<Cut>
+        ensures cut { IfSome result (λ cut. (cut ≡ cut_of x self.now) × (in_set self.now.objects x.0 ≡ true)) }
+        ensures none { IfNone result (in_set self.now.objects x.0 ≡ false) }
+    {
+        if !self.objects.has(x) {
+            return None;
+        }
+        Some(Cut {
+            taker: self.taker,
+            x,
+            ops: self.ops,
+        })
     }
 
     /// Returns whether the permit has the object and the operation.

@@ -19,12 +19,12 @@ use std::marker::Model;
 /// something have a seat.
 #[derive(Drop)]
 pub struct Permits {
-    permits: Slab<Permit>,
-    by_giver: Chains,
-    by_taker: Chains,
-    seats: Seats,
+    pub(crate) permits: Slab<Permit>,
+    pub(crate) by_giver: Chains,
+    pub(crate) by_taker: Chains,
+    pub(crate) seats: Seats,
     marks: Marks,
-    alloc: Global,
+    pub(crate) alloc: Global,
 }
 
 impl Model for Permits {
@@ -45,7 +45,7 @@ impl Permits {
     ghost use Rattle.asset_names.specs.InSet.{in_set};
     ghost use Rattle.asset_names.specs.OpSets.{has_op};
     ghost use Rattle.asset_permits.specs.Stored.{asked};
-    ghost use Rattle.asset_permits.specs.Descriptors.{Descriptor, same_descriptor, stands, one_covers, allows_by, AreDifferent};
+    ghost use Rattle.asset_permits.specs.Descriptors.{Descriptor, same_descriptor, stands, lets, one_covers, allows_by, AreDifferent};
 
     /// Returns a table without permits. It does not allocate.
     pub fn new(alloc: Global) -> Permits
@@ -72,24 +72,33 @@ impl Permits {
         ensures unchanged { OnErr result (self.new ≡ self.old) }
         ensures again { stands self.old (record { giver = giver.0; taker = taker.0; objects = objects; ops = ops }) ≡ true → IsOk result × (self.new ≡ self.old) }
     {
-        let sought = Sought {
+        self.add_permit(&Sought {
             giver,
             taker,
             objects,
             ops,
-        };
-        if self.has(&sought) {
+        })
+    }
+
+    /// Adds the permit, unless it stands already. If memory runs out, nothing changes.
+    pub(crate) fn add_permit(&mut self, sought: &Sought) -> Result<(), NoMemory>
+        ensures stands { OnOk result ((e : Descriptor) → stands self.new e ≡ (stands self.old e || same_descriptor (asked sought.now) e)) }
+        ensures covers { OnOk result ((u t x : ℕ) (op : Op) → one_covers self.new u t x op ≡ (one_covers self.old u t x op || lets u t x op (asked sought.now))) }
+        ensures unchanged { OnErr result (self.new ≡ self.old) }
+        ensures again { stands self.old (asked sought.now) ≡ true → IsOk result × (self.new ≡ self.old) }
+    {
+        if self.has(sought) {
             return Ok(());
         }
         reserve(&mut self.permits, &mut self.by_giver, &mut self.by_taker)?;
-        let permit = Permit::of(&sought, self.alloc)?;
+        let permit = Permit::of(sought, self.alloc)?;
         let (from, to) = seat_both(
             &mut self.seats,
             &mut self.by_giver,
             &mut self.by_taker,
             &mut self.marks,
-            giver,
-            taker,
+            sought.giver,
+            sought.taker,
         )?;
         insert(
             &mut self.permits,
@@ -118,7 +127,7 @@ impl Permits {
     }
 
     /// Returns whether the permit stands.
-    fn has(&self, sought: &Sought) -> bool
+    pub(crate) fn has(&self, sought: &Sought) -> bool
         ensures { result ≡ stands self.now (asked sought.now) }
     {
         let Some(from) = self.seats.seat_of(sought.giver) else {

@@ -1,0 +1,281 @@
+-- Copies of permits, and a permit that goes.
+use Rattle.std.proofs.Common.{◌≡◌, ℕ, Bool, true, false, cond, eqb, not, ◌&&◌, ◌||◌, List, [], ◌∷◌, ◌++◌, map, filter, Some, None, refl, sym, ap, subst, ◌∙◌, ◌+◌, ◌<◌, take, length, get_or, inl, inr, Ok, Err, OnOk, OnErr}
+use Rattle.std.specs.Prelude.{flat_map, Result}
+use Rattle.std.specs.List.{list_any}
+use Rattle.std.proofs.lemmas.Bool.{or_cases, or_left, or_right, and_parts, and_from, false≢true, false_from_ne_true, eqb-true}
+use Rattle.std.proofs.lemmas.Grind.{flat_map-append}
+use Rattle.std.proofs.lemmas.List.Folds.{list_any-append}
+use Rattle.std.proofs.lemmas.List.{map-append, take_more}
+use Rattle.slab.specs.Slab.{Slab, get}
+use Rattle.asset_names.specs.declared.names.Ob.{Ob}
+use Rattle.asset_names.specs.declared.operations.Op.{Op}
+use Rattle.asset_names.specs.Arrows.{lists}
+use Rattle.asset_names.specs.Sets.{numbers}
+use Rattle.asset_names.specs.InSet.{in_set}
+use Rattle.asset_names.specs.OpSets.{has_op}
+use Rattle.asset_permits.specs.declared.copying.Cut.{Cut}
+use Rattle.asset_permits.specs.Descriptors.{Descriptor, same_descriptor, stands, lets, covers, one_covers}
+use Rattle.asset_permits.specs.Valid.{descriptors_of}
+use Rattle.asset_permits.specs.Copies.{cut_of, copy_of, gives_on, cuts_on, cuts_in, given_by, copies, AddsCuts}
+use Rattle.asset_permits.proofs.DescriptorLemmas.{same_is, same_self}
+use Rattle.asset_permits.proofs.MarkLemmas.{same_truth}
+use Rattle.asset_permits.proofs.SlotLemmas.{key_of_standing, stands_at}
+
+-- what holds if a call succeeded, of what held there
+pub when_ok : {T E : Type 0} {P Q : Type 0} (r : Result T E) → (P → Q) → OnOk r P → OnOk r Q
+when_ok (Ok x) f p = f p
+when_ok (Err e) f p = p
+
+-- the elements up to one, and that one
+pub take_item : {X : Type 0} (xs : List X) (i : ℕ) (x : X) → i < length xs → x ≡ get_or xs i x → take (i + 1) xs ≡ take i xs ++ x ∷ []
+take_item xs i x below is = take_more xs i x below ∙ ap (λ y. take i xs ++ y ∷ []) (sym is)
+
+-- ---- one permit goes
+pub removed : (permits fewer : Slab Descriptor) (key : ℕ) (d e : Descriptor) → ((j k : ℕ) (d : Descriptor) → get permits j ≡ Some d → get permits k ≡ Some d → j ≡ k) → get permits key ≡ Some d
+    → ((k : ℕ) → (k ≡ key → ⊥) → get fewer k ≡ get permits k) → get fewer key ≡ None → stands (descriptors_of fewer) e ≡ (stands (descriptors_of permits) e && not (same_descriptor d e))
+removed permits fewer key d e single there others gone = same_truth _ _ to back where
+  to : stands (descriptors_of fewer) e ≡ true → (stands (descriptors_of permits) e && not (same_descriptor d e)) ≡ true
+  to h =
+      let found = key_of_standing fewer e h in
+      let apart : found.0 ≡ key → ⊥ = λ is. cc (sym gone ∙ ap (get fewer) (sym is) ∙ found.1) in
+      let old = sym (others found.0 apart) ∙ found.1 in
+      let differ : same_descriptor d e ≡ false = false_from_ne_true _ (λ same. apart (single found.0 key e old (there ∙ ap Some (same_is d e same)))) in
+      and_from _ _ (stands_at permits found.0 e old) (ap not differ)
+
+  back : (stands (descriptors_of permits) e && not (same_descriptor d e)) ≡ true → stands (descriptors_of fewer) e ≡ true
+  back h =
+      let both = and_parts _ _ h in
+      let found = key_of_standing permits e both.0 in
+      let apart : found.0 ≡ key → ⊥ = λ is. wrong (let same : Some e ≡ Some d = sym found.1 ∙ ap (get permits) is ∙ there in cc same) both.1 in
+      stands_at fewer found.0 e (others found.0 apart ∙ found.1) where
+        wrong : e ≡ d → not (same_descriptor d e) ≡ true → ⊥
+        wrong is differs = false≢true (ap not (sym (subst (λ k. same_descriptor d k ≡ true) (sym is) (same_self d))) ∙ differs)
+
+-- one that does not stand takes nothing away
+pub not_there : (descriptors : List Descriptor) (d e : Descriptor) → stands descriptors d ≡ false → stands descriptors e ≡ (stands descriptors e && not (same_descriptor d e))
+not_there descriptors d e absent = go (same_descriptor d e) refl (stands descriptors e) refl where
+  go : (same : Bool) → same_descriptor d e ≡ same → (s : Bool) → stands descriptors e ≡ s → s ≡ (s && not same)
+  go true is s at = sym at ∙ ap (stands descriptors) (sym (same_is d e is)) ∙ absent ∙ sym (none s) where
+    none : (s : Bool) → (s && false) ≡ false
+    none true = refl
+    none false = refl
+  go false is true at = refl
+  go false is false at = refl
+
+-- ---- what the receiver gives by copies
+pub given_more : (receiver : ℕ) (cuts : List Cut) (cut : Cut) (e : Descriptor) → stands (given_by receiver (cuts ++ cut ∷ [])) e ≡ (stands (given_by receiver cuts) e || same_descriptor (copy_of receiver cut) e)
+unfolding stands given_by
+given_more receiver cuts cut e =
+    ap (list_any (λ (d : Descriptor). same_descriptor d e)) (map-append (copy_of receiver) cuts (cut ∷ []))
+    ∙ list_any-append (λ (d : Descriptor). same_descriptor d e) (map (copy_of receiver) cuts) (copy_of receiver cut ∷ []) ∙ last (list_any (λ (d : Descriptor). same_descriptor d e) (map (copy_of receiver) cuts)) (same_descriptor (copy_of receiver cut) e) where
+      last : (a b : Bool) → (a || (b || false)) ≡ (a || b)
+      last a true = refl
+      last a false = refl
+
+pub given_nothing : (receiver : ℕ) (e : Descriptor) → stands (given_by receiver []) e ≡ false
+unfolding stands given_by
+given_nothing receiver e = refl
+
+-- nothing was added yet
+pub adds_nothing : (receiver : ℕ) (old : List Descriptor) → AddsCuts receiver [] old old
+adds_nothing receiver old = record {
+  standing = λ e. or_none (stands old e) ∙ ap (λ b. stands old e || b) (sym (given_nothing receiver e));
+  fresh = λ e given. absurd (false≢true (sym (given_nothing receiver e) ∙ given));
+} where
+  or_none : (s : Bool) → s ≡ (s || false)
+  or_none true = refl
+  or_none false = refl
+
+-- one more was added, which did not stand
+pub adds_more : (receiver : ℕ) (added : List Cut) (cut : Cut) (first old new : List Descriptor) → AddsCuts receiver added first old → stands old (copy_of receiver cut) ≡ false → ((e : Descriptor) → stands new e ≡ (stands old e || same_descriptor (copy_of receiver cut) e))
+    → AddsCuts receiver (added ++ cut ∷ []) first new
+adds_more receiver added cut first old new adds absent more = record {
+  standing = λ e. more e ∙ ap (λ b. b || same_descriptor (copy_of receiver cut) e) (adds.standing e) ∙ regroup (stands first e) _ _ ∙ ap (λ b. stands first e || b) (sym (given_more receiver added cut e));
+  fresh = λ e given. elim (or_cases (stands (given_by receiver added) e) (same_descriptor (copy_of receiver cut) e) (sym (given_more receiver added cut e) ∙ given)) [
+    | inl before ↦ adds.fresh e before
+    | inr here ↦ ap (stands first) (sym (same_is (copy_of receiver cut) e here)) ∙ left_false (stands first (copy_of receiver cut)) _ (sym (adds.standing (copy_of receiver cut)) ∙ absent)
+  ];
+} where
+  regroup : (a b c : Bool) → ((a || b) || c) ≡ (a || (b || c))
+  regroup true b c = refl
+  regroup false b c = refl
+
+  left_false : (a b : Bool) → (a || b) ≡ false → a ≡ false
+  left_false true b h = h
+  left_false false b h = refl
+
+-- a permit that was added unless it stood
+pub noted_adds : {T E : Type 0} (r : Result T E) (receiver : ℕ) (cut : Cut) (added noted : List Cut) (old new : List Descriptor) → OnOk r ((e : Descriptor) → stands new e ≡ (stands old e || same_descriptor (copy_of receiver cut) e))
+    → OnOk r (stands old (copy_of receiver cut) ≡ true → (new ≡ old) × (noted ≡ added)) → OnOk r (stands old (copy_of receiver cut) ≡ false → noted ≡ added ++ cut ∷ [])
+    → OnOk r ((first : List Descriptor) → AddsCuts receiver added first old → AddsCuts receiver noted first new)
+noted_adds (Err fault) receiver cut added noted old new more again notes = tt
+noted_adds (Ok done) receiver cut added noted old new more again notes = λ first adds. go first adds (stands old (copy_of receiver cut)) refl where
+  go : (first : List Descriptor) → AddsCuts receiver added first old → (stood : Bool) → stands old (copy_of receiver cut) ≡ stood → AddsCuts receiver noted first new
+  go first adds true is = let same = again is in rw (same.0, same.1) adds
+  go first adds false is = rw (notes is) (adds_more receiver added cut first old new adds is more)
+
+-- what was added goes again
+pub taken_again : (receiver : ℕ) (added : List Cut) (first old new : List Descriptor) → AddsCuts receiver added first old → ((e : Descriptor) → stands new e ≡ (stands old e && not (stands (given_by receiver added) e))) → (e : Descriptor) → stands new e ≡ stands first e
+taken_again receiver added first old new adds gone e = gone e ∙ ap (λ b. b && not (stands (given_by receiver added) e)) (adds.standing e) ∙ go (stands (given_by receiver added) e) refl where
+  go : (given : Bool) → stands (given_by receiver added) e ≡ given → ((stands first e || given) && not given) ≡ stands first e
+  go true is = ap (λ b. (b || true) && false) (adds.fresh e is) ∙ sym (adds.fresh e is)
+  go false is = plain (stands first e) where
+    plain : (s : Bool) → ((s || false) && true) ≡ s
+    plain true = refl
+    plain false = refl
+
+-- ---- what is copied of the giver's permits
+any_map : {A B : Type 0} (test : B → Bool) (f : A → B) (xs : List A) → list_any test (map f xs) ≡ list_any (λ x. test (f x)) xs
+any_map test f [] = refl
+any_map test f (x ∷ xs) = ap (λ b. test (f x) || b) (any_map test f xs)
+
+any_filter : {A : Type 0} (test keep : A → Bool) (xs : List A) → list_any test (filter keep xs) ≡ list_any (λ x. keep x && test x) xs
+any_filter test keep [] = refl
+any_filter test keep (x ∷ xs) = go (keep x) refl (any_filter test keep xs) where
+  go : (kept : Bool) → keep x ≡ kept → list_any test (filter keep xs) ≡ list_any (λ y. keep y && test y) xs → list_any test (cond kept (x ∷ filter keep xs) (filter keep xs)) ≡ ((kept && test x) || list_any (λ y. keep y && test y) xs)
+  go true is ih = ap (λ b. test x || b) ih
+  go false is ih = ih
+
+-- a test of what is copied on x, as a test of permits
+pub any_cut : (test : Cut → Bool) (giver : ℕ) (descriptors : List Descriptor) (x : Ob) → list_any test (cuts_on giver descriptors x) ≡ list_any (λ (d : Descriptor). gives_on giver x d && test (cut_of x d)) descriptors
+unfolding cuts_on
+any_cut test giver descriptors x = any_map test (cut_of x) (filter (gives_on giver x) descriptors) ∙ any_filter (λ (d : Descriptor). test (cut_of x d)) (gives_on giver x) descriptors
+
+-- what is copied on one more object
+pub any_cuts_more : (test : Cut → Bool) (giver : ℕ) (descriptors : List Descriptor) (moved : List Ob) (x : Ob) → list_any test (cuts_in giver descriptors (moved ++ x ∷ [])) ≡ (list_any test (cuts_in giver descriptors moved) || list_any test (cuts_on giver descriptors x))
+unfolding cuts_in
+any_cuts_more test giver descriptors moved x =
+    ap (list_any test) (flat_map-append (cuts_on giver descriptors) moved (x ∷ []))
+    ∙ list_any-append test (flat_map (cuts_on giver descriptors) moved) (cuts_on giver descriptors x ++ [])
+    ∙ ap (λ b. list_any test (flat_map (cuts_on giver descriptors) moved) || b) (list_any-append test (cuts_on giver descriptors x) [] ∙ plain (list_any test (cuts_on giver descriptors x))) where
+      plain : (s : Bool) → (s || false) ≡ s
+      plain true = refl
+      plain false = refl
+
+-- of one who gives nothing, nothing is copied
+pub no_cuts : (test : Cut → Bool) (giver : ℕ) (descriptors : List Descriptor) (moved : List Ob) → ((x : Ob) → list_any test (cuts_on giver descriptors x) ≡ false) → list_any test (cuts_in giver descriptors moved) ≡ false
+unfolding cuts_in
+no_cuts test giver descriptors [] none = refl
+no_cuts test giver descriptors (x ∷ moved) none =
+    list_any-append test (cuts_on giver descriptors x) (flat_map (cuts_on giver descriptors) moved) ∙ ap (λ b. b || list_any test (flat_map (cuts_on giver descriptors) moved)) (none x) ∙ no_cuts test giver descriptors moved none
+
+-- ---- what the copies cover
+all_and : {A : Type 0} (b : Bool) (test : A → Bool) (xs : List A) → list_any (λ x. b && test x) xs ≡ (b && list_any test xs)
+all_and true test xs = refl
+all_and false test [] = refl
+all_and false test (x ∷ xs) = all_and false test xs
+
+any_alike : {A : Type 0} (test other : A → Bool) (xs : List A) → ((x : A) → test x ≡ other x) → list_any test xs ≡ list_any other xs
+any_alike test other [] same = refl
+any_alike test other (x ∷ xs) same = λ i. same x i || any_alike test other xs same i
+
+-- one permit's copy on y
+copy_lets : (giver receiver : ℕ) (y : Ob) (u t x : ℕ) (op : Op) (d : Descriptor)
+    → (gives_on giver y d && lets u t x op (copy_of receiver (cut_of y d))) ≡ ((eqb receiver u && eqb y.0 x) && lets giver t x op d)
+unfolding gives_on lets covers copy_of cut_of in_set numbers lists
+copy_lets giver receiver y u t x op d = go (eqb y.0 x) refl where
+  table : (a b c e f : Bool) → ((a && b) && ((c && e) && ((true || false) && f))) ≡ ((c && true) && ((a && e) && (b && f)))
+  table true true true true f = refl
+  table true true true false f = refl
+  table true true false e f = refl
+  table true false true true f = refl
+  table true false true false f = refl
+  table true false false e f = refl
+  table false b true e f = refl
+  table false b false e f = refl
+
+  none : (a b c : Bool) (e f : Bool) (rest : Bool) → ((a && b) && ((c && e) && ((false || false) && f))) ≡ ((c && false) && rest)
+  none true true true true f rest = refl
+  none true true true false f rest = refl
+  none true true false e f rest = refl
+  none true false true e f rest = refl
+  none true false false e f rest = refl
+  none false b true e f rest = refl
+  none false b false e f rest = refl
+
+  go : (here : Bool) → eqb y.0 x ≡ here
+      → ((eqb d.giver giver && in_set d.objects y.0) && ((eqb receiver u && eqb d.taker t) && ((here || false) && has_op d.ops op)))
+      ≡ ((eqb receiver u && here) && ((eqb d.giver giver && eqb d.taker t) && (in_set d.objects x && has_op d.ops op)))
+  go true is = table (eqb d.giver giver) (in_set d.objects y.0) (eqb receiver u) (eqb d.taker t) (has_op d.ops op)
+      ∙ ap (λ n. (eqb receiver u && true) && ((eqb d.giver giver && eqb d.taker t) && (in_set d.objects n && has_op d.ops op))) (eqb-true y.0 x is)
+  go false is = none (eqb d.giver giver) (in_set d.objects y.0) (eqb receiver u) (eqb d.taker t) (has_op d.ops op) _
+
+-- the copies on y
+copies_on_cover : (giver receiver : ℕ) (descriptors : List Descriptor) (y : Ob) (u t x : ℕ) (op : Op)
+    → list_any (λ (cut : Cut). lets u t x op (copy_of receiver cut)) (cuts_on giver descriptors y) ≡ ((eqb receiver u && eqb y.0 x) && one_covers descriptors giver t x op)
+unfolding one_covers
+copies_on_cover giver receiver descriptors y u t x op =
+    any_cut (λ (cut : Cut). lets u t x op (copy_of receiver cut)) giver descriptors y
+    ∙ any_alike _ (λ (d : Descriptor). (eqb receiver u && eqb y.0 x) && lets giver t x op d) descriptors (copy_lets giver receiver y u t x op)
+    ∙ all_and (eqb receiver u && eqb y.0 x) (lets giver t x op) descriptors
+
+pub copies_cover : (giver receiver : ℕ) (descriptors : List Descriptor) (moved : List Ob) (u t x : ℕ) (op : Op)
+    → one_covers (copies giver receiver descriptors moved) u t x op ≡ (eqb receiver u && lists (numbers moved) x && one_covers descriptors giver t x op)
+unfolding one_covers copies given_by cuts_in numbers lists
+copies_cover giver receiver descriptors moved u t x op = any_map (lets u t x op) (copy_of receiver) (flat_map (cuts_on giver descriptors) moved) ∙ go moved where
+  covered : Bool
+  covered = one_covers descriptors giver t x op
+
+  join : (a h l o : Bool) → (((a && h) && o) || ((a && l) && o)) ≡ ((a && (h || l)) && o)
+  join true true l true = refl
+  join true true true false = refl
+  join true true false false = refl
+  join true false l o = refl
+  join false h l o = refl
+
+  nothing : (a o : Bool) → false ≡ ((a && false) && o)
+  nothing true o = refl
+  nothing false o = refl
+
+  go : (objects : List Ob) → list_any (λ (cut : Cut). lets u t x op (copy_of receiver cut)) (flat_map (cuts_on giver descriptors) objects) ≡ ((eqb receiver u && lists (numbers objects) x) && covered)
+  go [] = nothing (eqb receiver u) covered
+  go (y ∷ objects) =
+      list_any-append _ (cuts_on giver descriptors y) (flat_map (cuts_on giver descriptors) objects)
+      ∙ (λ i. copies_on_cover giver receiver descriptors y u t x op i || go objects i)
+      ∙ join (eqb receiver u) (eqb y.0 x) (lists (numbers objects) x) covered
+
+-- ---- what covers, by what stands
+standing_covers : (some others : List Descriptor) → ((e : Descriptor) → stands some e ≡ true → stands others e ≡ true) → (test : Descriptor → Bool) → list_any test some ≡ true → list_any test others ≡ true
+unfolding stands
+standing_covers some others within test h = go some (λ d there. within d there) h where
+  among : (list : List Descriptor) (d : Descriptor) → list_any (λ (k : Descriptor). same_descriptor k d) list ≡ true → test d ≡ true → list_any test list ≡ true
+  among [] d there passes = absurd (false≢true there)
+  among (k ∷ list) d there passes = elim (or_cases (same_descriptor k d) _ there) [
+    | inl here ↦ or_left (test k) _ (ap test (same_is k d here) ∙ passes)
+    | inr later ↦ or_right (test k) _ (among list d later passes)
+  ]
+
+  go : (list : List Descriptor) → ((d : Descriptor) → list_any (λ (k : Descriptor). same_descriptor k d) list ≡ true → list_any (λ (k : Descriptor). same_descriptor k d) others ≡ true) → list_any test list ≡ true → list_any test others ≡ true
+  go [] inside passes = absurd (false≢true passes)
+  go (k ∷ list) inside passes = elim (or_cases (test k) _ passes) [
+    | inl here ↦ among others k (inside k (or_left _ _ (same_self k))) here
+    | inr later ↦ go list (λ d there. inside d (or_right _ _ there)) later
+  ]
+
+pub same_standing : (some others : List Descriptor) → ((e : Descriptor) → stands some e ≡ stands others e) → (u t x : ℕ) (op : Op) → one_covers some u t x op ≡ one_covers others u t x op
+unfolding one_covers
+same_standing some others same u t x op =
+    same_truth _ _ (standing_covers some others (λ e there. sym (same e) ∙ there) (lets u t x op)) (standing_covers others some (λ e there. same e ∙ there) (lets u t x op))
+
+pub both_standing : (new some others : List Descriptor) → ((e : Descriptor) → stands new e ≡ (stands some e || stands others e)) → (u t x : ℕ) (op : Op) → one_covers new u t x op ≡ (one_covers some u t x op || one_covers others u t x op)
+unfolding stands one_covers
+both_standing new some others both u t x op =
+    same_standing new (some ++ others) (λ e. both e ∙ sym (list_any-append (λ (k : Descriptor). same_descriptor k e) some others)) u t x op ∙ list_any-append (lets u t x op) some others
+
+-- what stands after a call that adds copies, as it is said of what is copied
+pub stands_by_cuts : {T E : Type 0} (r : Result T E) (receiver : ℕ) (cuts others : List Cut) (old new : List Descriptor) → ((test : Cut → Bool) → list_any test cuts ≡ list_any test others)
+    → OnOk r ((e : Descriptor) → stands new e ≡ (stands old e || stands (given_by receiver cuts) e)) → OnOk r ((e : Descriptor) → stands new e ≡ (stands old e || stands (given_by receiver others) e))
+unfolding stands given_by
+stands_by_cuts r receiver cuts others old new same =
+    when_ok r (λ added. λ e. added e ∙ ap (λ b. list_any (λ (d : Descriptor). same_descriptor d e) old || b)
+    (any_map (λ (d : Descriptor). same_descriptor d e) (copy_of receiver) cuts ∙ same (λ cut. same_descriptor (copy_of receiver cut) e) ∙ sym (any_map (λ (d : Descriptor). same_descriptor d e) (copy_of receiver) others)))
+
+pub when_err : {T E : Type 0} {P Q : Type 0} (r : Result T E) → (P → Q) → OnErr r P → OnErr r Q
+when_err (Ok x) f p = p
+when_err (Err e) f p = f p
+
+-- what is copied on one more object
+pub cuts_then : (giver : ℕ) (descriptors : List Descriptor) (moved : List Ob) (x : Ob) (before after : List Cut) → ((test : Cut → Bool) → list_any test before ≡ list_any test (cuts_in giver descriptors moved))
+    → ((test : Cut → Bool) → list_any test after ≡ (list_any test before || list_any test (cuts_on giver descriptors x))) → (test : Cut → Bool) → list_any test after ≡ list_any test (cuts_in giver descriptors (moved ++ x ∷ []))
+cuts_then giver descriptors moved x before after was more test =
+    more test ∙ ap (λ b. b || list_any test (cuts_on giver descriptors x)) (was test) ∙ sym (any_cuts_more test giver descriptors moved x)
