@@ -1,6 +1,6 @@
 -- The rows of the table, by the seats of those who are enrolled.
 use Rattle.std.proofs.Common.{◌≡◌, ℕ, ◌<◌, ◌-◌, ◌≤◌, Bool, true, false, eqb, not, cond, ◌&&◌, List, [], ◌∷◌, ◌++◌, map, filter, length, get_or, set, Option, Some, None, is_some, ◌⊎◌, refl, sym, ap, subst, ◌∙◌, inl, inr, arith}
-use Rattle.std.specs.Prelude.{find, flat_map, slice_get, slice_index_or, Result, Ok, Err, OnOk}
+use Rattle.std.specs.Prelude.{find, flat_map, slice_get, Result, Ok, Err, OnOk}
 use Rattle.std.specs.List.{list_any, IsDistinct}
 use Rattle.std.proofs.lemmas.Bool.{eqb-true, eqb-false, eq-eqb, ne_eqb, true≢false, cases_Bool, or_left, or_right, or_parts}
 use Rattle.std.proofs.lemmas.List.{map-append, get_or-set_same, get_or-set_other, length-set}
@@ -473,10 +473,6 @@ map_ok (Ok x) p f = f p
 map_ok (Err e) p f = tt
 
 -- ---- room
-pub seat_same : (old new : Seated) → new.slots ≡ old.slots → (c : ℕ) → seat new c ≡ seat old c
-unfolding seat
-seat_same old new same c = ap (λ (l : List (Option Txn)). slice_index_or l c None) same
-
 -- one more place has no request
 pub pending_more : (pending : List PendingRequest) (d : ℕ) → pending_at (pending ++ None ∷ []) d ≡ pending_at pending d
 unfolding pending_at

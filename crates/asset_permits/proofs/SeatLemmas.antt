@@ -99,10 +99,6 @@ grown_chains old new chains homes more = record {
   more_keys = omega (arith, ap length homes);
 }
 
-pub seat_slots : (old new : Seated) → new.slots ≡ old.slots → (c : ℕ) → seat new c ≡ seat old c
-unfolding seat
-seat_slots old new same c = ap (λ (l : List (Option Txn)). slice_index_or l c None) same
-
 pub within_grown : (along ends longer longer_ends : Chained) (seats new : Seated) (size more : ℕ) → IsWithin along ends seats size → IsGrown along longer → IsGrown ends longer_ends → ((c : ℕ) → seat new c ≡ seat seats c) → size ≤ more
     → IsWithin longer longer_ends new more
 within_grown along ends longer longer_ends seats new size more within grown grown_ends same bound c sat =

@@ -3,23 +3,18 @@ use Rattle.std.proofs.Common.{◌≡◌, ℕ, ◌<◌, ◌&&◌, Bool, true, Lis
 use Rattle.std.specs.Prelude.{unwrap_or, slice_index_or}
 use Rattle.std.proofs.lemmas.Bool.{lt-ltb}
 use Rattle.slab.specs.Slab.{Slab, slab_len}
-use Rattle.asset_names.specs.declared.names.Txn.{Txn}
 use Rattle.asset_chains.specs.Chained.{Chained, chain_of, home_of}
 use Rattle.asset_records.specs.declared.records.Record.{Record}
 use Rattle.asset_seats.specs.Seated.{Seated, seat}
 use Rattle.asset_records.specs.Listed.{Listed, no_record, record_at, at_keys, listed_of, has_room, IsValid}
 use Rattle.asset_records.proofs.ListedLemmas.{valid_grown, valid_slots}
 
-seat_slots : (old new : Seated) → new.slots ≡ old.slots → (c : ℕ) → seat new c ≡ seat old c
-unfolding seat
-seat_slots old new same c = ap (λ (l : List (Option Txn)). slice_index_or l c None) same
-
 -- the records are as they were
 pub reserve_valid : (records more : Slab Record) (by_object longer by_owner owned_more : Chained) (owners seated_more : Seated) → IsValid records by_object by_owner owners → more.slots ≡ records.slots
-    → ((k : ℕ) → home_of longer k ≡ home_of by_object k) → ((k : ℕ) → home_of owned_more k ≡ home_of by_owner k) → ((c : ℕ) → chain_of owned_more c ≡ chain_of by_owner c) → seated_more.slots ≡ owners.slots
+    → ((k : ℕ) → home_of longer k ≡ home_of by_object k) → ((k : ℕ) → home_of owned_more k ≡ home_of by_owner k) → ((c : ℕ) → chain_of owned_more c ≡ chain_of by_owner c) → ((c : ℕ) → seat seated_more c ≡ seat owners c)
     → IsValid more longer owned_more seated_more
 reserve_valid records more by_object longer by_owner owned_more owners seated_more valid slots homes owner_homes chains seats =
-    valid_grown more by_object longer by_owner owned_more owners seated_more (valid_slots records more by_object by_owner owners slots valid) homes owner_homes chains (seat_slots owners seated_more seats)
+    valid_grown more by_object longer by_owner owned_more owners seated_more (valid_slots records more by_object by_owner owners slots valid) homes owner_homes chains seats
 
 -- and so are the lists
 pub lists_kept : (records more : Slab Record) (by_object longer by_owner owned_more : Chained) (owners seated_more : Seated) (now : Listed) → listed_of records by_object by_owner owners ≡ now → more.slots ≡ records.slots

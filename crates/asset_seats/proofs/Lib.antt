@@ -1,1 +1,3 @@
 pub mod SeatLemmas
+pub mod MoveLemmas
+pub mod GrowLemmas

@@ -1,1 +1,2 @@
+pub mod Bucketed
 pub mod Seated

@@ -2,6 +2,7 @@
 //! those who are seated at one time. Beside them, room in chains for one more key or chain.
 #![tactic(auto)]
 
+mod buckets;
 mod room;
 mod seats;
 

@@ -1,11 +1,10 @@
 use Rattle.std.proofs.Common.{refl, ◌∙◌, arith}
 use Rattle.asset_chains.proofs.Walks.{chain_same, home_same}
-use Rattle.asset_locks.proofs.TableLemmas.{seat_same}
 use Rattle.asset_locks.proofs.room.reserve_seat.Goals as goal
 
 pub returns-in_err-reserve-clause-same : goal.returns-in_err-reserve-clause-same
 returns-in_err-reserve-clause-same c = record {
-  names = seat_same c.args.seats.now c.reserve.new.self c.reserve.ensures.slots;
+  names = c.reserve.ensures.seats;
   requests = λ d. refl;
   places = omega arith;
   chains = λ d. refl;
@@ -14,7 +13,7 @@ returns-in_err-reserve-clause-same c = record {
 
 pub returns-in_err-add_pending-clause-same : goal.returns-in_err-add_pending-clause-same
 returns-in_err-add_pending-clause-same c = record {
-  names = seat_same c.args.seats.now c.reserve.new.self c.reserve.ensures.slots;
+  names = c.reserve.ensures.seats;
   requests = c.add_pending.ensures.same;
   places = c.add_pending.ensures.more;
   chains = λ d. refl;
@@ -23,7 +22,7 @@ returns-in_err-add_pending-clause-same c = record {
 
 pub returns-in_err-reserve_seat-clause-same : goal.returns-in_err-reserve_seat-clause-same
 returns-in_err-reserve_seat-clause-same c = record {
-  names = seat_same c.args.seats.now c.reserve.new.self c.reserve.ensures.slots;
+  names = c.reserve.ensures.seats;
   requests = c.add_pending.ensures.same;
   places = c.add_pending.ensures.more;
   chains = λ d. refl;
@@ -32,7 +31,7 @@ returns-in_err-reserve_seat-clause-same c = record {
 
 pub returns-in_err-add_chains-clause-same : goal.returns-in_err-add_chains-clause-same
 returns-in_err-add_chains-clause-same c = record {
-  names = seat_same c.args.seats.now c.reserve.new.self c.reserve.ensures.slots;
+  names = c.reserve.ensures.seats;
   requests = c.add_pending.ensures.same;
   places = c.add_pending.ensures.more;
   chains = c.add_chains.ensures.chains;
@@ -41,7 +40,7 @@ returns-in_err-add_chains-clause-same c = record {
 
 pub returns-in_err-add_keys-clause-same : goal.returns-in_err-add_keys-clause-same
 returns-in_err-add_keys-clause-same c = record {
-  names = seat_same c.args.seats.now c.reserve.new.self c.reserve.ensures.slots;
+  names = c.reserve.ensures.seats;
   requests = c.add_pending.ensures.same;
   places = c.add_pending.ensures.more;
   chains = λ d. chain_same c.add_chains.new.chains c.add_keys.new.chains c.add_keys.ensures.chains d ∙ c.add_chains.ensures.chains d;
@@ -50,7 +49,7 @@ returns-in_err-add_keys-clause-same c = record {
 
 pub returns-clause-same : goal.returns-clause-same
 returns-clause-same c = record {
-  names = seat_same c.args.seats.now c.reserve.new.self c.reserve.ensures.slots;
+  names = c.reserve.ensures.seats;
   requests = c.add_pending.ensures.same;
   places = c.add_pending.ensures.more;
   chains = λ d. chain_same c.add_chains.new.chains c.add_keys.new.chains c.add_keys.ensures.chains d ∙ c.add_chains.ensures.chains d;

@@ -37,7 +37,7 @@ returns-then-len-clause-leads c =
     let inside = c.self.inside in
     rw (← c.self.view_is)
     (c.is_linked.ensures.is_linked
-    ∙ linked_allows (parts inside.permits inside.by_giver inside.by_taker inside.seats) inside.marks.size c.self.invariant c.args.x.0 c.args.op c.laws.ensures c.args.giver c.args.taker c.in-Some.from c.in-Some-seat_of.to c.in-Some.ensures.found.0 c.in-Some-seat_of.ensures.found.0)
+    ∙ linked_allows (parts inside.permits inside.by_giver inside.by_taker inside.seats) inside.marks.size c.self.invariant c.args.x.0 c.args.op c.laws.ensures.one c.args.giver c.args.taker c.in-Some.from c.in-Some-seat_of.to c.in-Some.ensures.found.0 c.in-Some-seat_of.ensures.found.0)
 
 pub returns-then-len-clause-different : goal.returns-then-len-clause-different
 returns-then-len-clause-different c = subst AreDifferent c.self.view_is (are_different c.self.inside.permits c.self.invariant.single)
@@ -48,7 +48,7 @@ returns-else-len-clause-leads c =
     rw (← c.self.view_is)
     (c.is_linked-else-len.ensures.is_linked
     ∙ linked_backwards inside.permits inside.by_giver inside.by_taker c.args.x.0 c.args.op c.in-Some.from c.in-Some-seat_of.to
-    ∙ linked_allows (parts inside.permits inside.by_giver inside.by_taker inside.seats) inside.marks.size c.self.invariant c.args.x.0 c.args.op c.laws.ensures c.args.giver c.args.taker c.in-Some.from c.in-Some-seat_of.to c.in-Some.ensures.found.0 c.in-Some-seat_of.ensures.found.0)
+    ∙ linked_allows (parts inside.permits inside.by_giver inside.by_taker inside.seats) inside.marks.size c.self.invariant c.args.x.0 c.args.op c.laws.ensures.one c.args.giver c.args.taker c.in-Some.from c.in-Some-seat_of.to c.in-Some.ensures.found.0 c.in-Some-seat_of.ensures.found.0)
 
 pub returns-else-len-clause-different : goal.returns-else-len-clause-different
 returns-else-len-clause-different c = subst AreDifferent c.self.view_is (are_different c.self.inside.permits c.self.invariant.single)

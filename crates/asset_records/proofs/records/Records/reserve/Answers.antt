@@ -22,7 +22,7 @@ returns-in-Err-clause-lists c =
 pub invariant_of-self-in_err-reserve : goal.invariant_of-self-in_err-reserve
 invariant_of-self-in_err-reserve c =
     let inside = c.self.inside in
-    reserve_valid inside.records c.reserve.new.self inside.by_object inside.by_object inside.by_owner inside.by_owner inside.owners c.reserve-2.new.self c.self.invariant (ap (λ (slab : Slab Record). slab.slots) c.in-Ok.ensures.rest_kept) (λ k. refl) (λ k. refl) (λ k. refl) c.reserve-2.ensures.slots
+    reserve_valid inside.records c.reserve.new.self inside.by_object inside.by_object inside.by_owner inside.by_owner inside.owners c.reserve-2.new.self c.self.invariant (ap (λ (slab : Slab Record). slab.slots) c.in-Ok.ensures.rest_kept) (λ k. refl) (λ k. refl) (λ k. refl) c.reserve-2.ensures.seats
 
 pub returns-in_err-reserve-clause-standing : goal.returns-in_err-reserve-clause-standing
 returns-in_err-reserve-clause-standing c = λ reserved.
@@ -38,7 +38,7 @@ returns-in_err-reserve-clause-lists c =
 pub invariant_of-self-in_err-add_keys : goal.invariant_of-self-in_err-add_keys
 invariant_of-self-in_err-add_keys c =
     let inside = c.self.inside in
-    reserve_valid inside.records c.reserve.new.self inside.by_object c.add_keys.new.chains inside.by_owner inside.by_owner inside.owners c.reserve-2.new.self c.self.invariant (ap (λ (slab : Slab Record). slab.slots) c.in-Ok.ensures.rest_kept) c.add_keys.ensures.homes (λ k. refl) (λ k. refl) c.reserve-2.ensures.slots
+    reserve_valid inside.records c.reserve.new.self inside.by_object c.add_keys.new.chains inside.by_owner inside.by_owner inside.owners c.reserve-2.new.self c.self.invariant (ap (λ (slab : Slab Record). slab.slots) c.in-Ok.ensures.rest_kept) c.add_keys.ensures.homes (λ k. refl) (λ k. refl) c.reserve-2.ensures.seats
 
 pub returns-in_err-add_keys-clause-standing : goal.returns-in_err-add_keys-clause-standing
 returns-in_err-add_keys-clause-standing c = λ reserved.
@@ -55,7 +55,7 @@ returns-in_err-add_keys-clause-lists c =
 pub invariant_of-self-in_err-add_keys-2 : goal.invariant_of-self-in_err-add_keys-2
 invariant_of-self-in_err-add_keys-2 c =
     let inside = c.self.inside in
-    reserve_valid inside.records c.reserve.new.self inside.by_object c.add_keys.new.chains inside.by_owner c.add_keys-2.new.chains inside.owners c.reserve-2.new.self c.self.invariant (ap (λ (slab : Slab Record). slab.slots) c.in-Ok.ensures.rest_kept) c.add_keys.ensures.homes c.add_keys-2.ensures.homes (chain_same inside.by_owner c.add_keys-2.new.chains c.add_keys-2.ensures.chains) c.reserve-2.ensures.slots
+    reserve_valid inside.records c.reserve.new.self inside.by_object c.add_keys.new.chains inside.by_owner c.add_keys-2.new.chains inside.owners c.reserve-2.new.self c.self.invariant (ap (λ (slab : Slab Record). slab.slots) c.in-Ok.ensures.rest_kept) c.add_keys.ensures.homes c.add_keys-2.ensures.homes (chain_same inside.by_owner c.add_keys-2.new.chains c.add_keys-2.ensures.chains) c.reserve-2.ensures.seats
 
 pub returns-in_err-add_keys-2-clause-standing : goal.returns-in_err-add_keys-2-clause-standing
 returns-in_err-add_keys-2-clause-standing c = λ reserved.
@@ -75,7 +75,7 @@ invariant_of-self-2 c =
     reserve_valid inside.records c.reserve.new.self inside.by_object c.add_keys.new.chains inside.by_owner c.add_chains.new.chains inside.owners c.reserve-2.new.self c.self.invariant (ap (λ (slab : Slab Record). slab.slots) c.in-Ok.ensures.rest_kept) c.add_keys.ensures.homes
     (λ k. home_same c.add_keys-2.new.chains c.add_chains.new.chains c.add_chains.ensures.homes k ∙ c.add_keys-2.ensures.homes k)
     (λ d. c.add_chains.ensures.chains d ∙ chain_same inside.by_owner c.add_keys-2.new.chains c.add_keys-2.ensures.chains d)
-    c.reserve-2.ensures.slots
+    c.reserve-2.ensures.seats
 
 pub returns-clause-reserved : goal.returns-clause-reserved
 returns-clause-reserved c =

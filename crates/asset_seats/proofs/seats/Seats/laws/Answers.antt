@@ -1,9 +1,11 @@
-use Rattle.std.proofs.Common.{sym, ◌∙◌}
-use Rattle.asset_seats.proofs.SeatLemmas.{seat_is, one_seat}
+use Rattle.asset_seats.proofs.SeatLemmas.{one_seat, free_seat, vacant_within}
 use Rattle.asset_seats.proofs.seats.Seats.laws.Goals as goal
 
-pub returns : goal.returns
-returns c = λ t a b here there.
-    one_seat c.self.inside.seats c.self.inside.index.entries t a b c.self.invariant
-    (sym (seat_is c.self.inside.seats _ c.args.self.now a c.self.view_is) ∙ here)
-    (sym (seat_is c.self.inside.seats _ c.args.self.now b c.self.view_is) ∙ there)
+pub returns-clause-one : goal.returns-clause-one
+returns-clause-one c = one_seat c.self.inside.names.items c.self.inside.chains c.self.inside.buckets c.args.self.now c.self.view_is c.self.invariant
+
+pub returns-clause-room : goal.returns-clause-room
+returns-clause-room c = free_seat c.self.inside.names.items c.self.inside.chains c.self.inside.buckets c.args.self.now c.self.view_is c.self.invariant c.laws.ensures.sound
+
+pub returns-clause-vacant : goal.returns-clause-vacant
+returns-clause-vacant c = vacant_within c.self.inside.names.items c.self.inside.chains c.self.inside.buckets c.args.self.now c.self.view_is c.self.invariant c.laws.ensures.sound

@@ -1,29 +1,62 @@
-use Rattle.std.proofs.Common.{◌≡◌, ◌∙◌, sym, cond, eqb, Some, OnOk, arith}
-use Rattle.std.proofs.lemmas.Result.{on_ok_weaker}
-use Rattle.asset_seats.specs.Seated.{indexed}
-use Rattle.asset_seats.proofs.SeatLemmas.{seat_is, vacant_is, room_of, listed_more, seats_changed}
+use Rattle.std.proofs.Common.{◌≡◌, ℕ, ◌+◌, ◌<◌, length, suc, Option, Some, sym, ap, ◌∙◌, arith}
+use Rattle.std.proofs.lemmas.List.{length-set}
+use Rattle.asset_chains.specs.Chained.{home_of}
+use Rattle.asset_chains.proofs.Laws.{key_within}
+use Rattle.asset_seats.specs.Bucketed.{taken, name_in, bucket_in}
+use Rattle.asset_seats.proofs.SeatLemmas.{seat_is, many_at, many_are, vacant_home}
+use Rattle.asset_seats.proofs.MoveLemmas.{sits_valid, sits_seats, name_here, name_there, sat_nowhere}
 use Rattle.asset_seats.proofs.seats.Seats.sit.Goals as goal
 
-pub insert_reserved-c-requires : goal.insert_reserved-c-requires
-insert_reserved-c-requires c = omega (arith, (room_of c.self.inside.seats _ c.args.self.now c.self.view_is c.requires.room).0)
+pub bucket_of-requires : goal.bucket_of-requires
+bucket_of-requires c =
+    let inside = c.self.inside in
+    let free = ap (home_of c.self.inside.chains) c.vacant-c.ensures ∙ vacant_home inside.names.items inside.chains inside.buckets c.args.self.now c.self.view_is c.self.invariant c.laws.ensures.sound c.requires.room in
+    let within = key_within c.vacant-c.result 0 c.self.inside.chains free in
+    c.self.invariant.ready (omega (arith, within))
 
-pub unwrap-requires : goal.unwrap-requires
-unwrap-requires c = c.insert.ensures.succeeds (room_of c.self.inside.seats _ c.args.self.now c.self.view_is c.requires.room).1
+pub move_to-requires-clause-key : goal.move_to-requires-clause-key
+move_to-requires-clause-key c =
+    let inside = c.self.inside in
+    let free = ap (home_of c.self.inside.chains) c.vacant-c.ensures ∙ vacant_home inside.names.items inside.chains inside.buckets c.args.self.now c.self.view_is c.self.invariant c.laws.ensures.sound c.requires.room in
+    key_within c.vacant-c.result 0 c.self.inside.chains free
+
+pub index_mut-requires : goal.index_mut-requires
+index_mut-requires c =
+    let inside = c.self.inside in
+    let free = ap (home_of c.self.inside.chains) c.vacant-c.ensures ∙ vacant_home inside.names.items inside.chains inside.buckets c.args.self.now c.self.view_is c.self.invariant c.laws.ensures.sound c.requires.room in
+    let within = key_within c.vacant-c.result 0 c.self.inside.chains free in
+    omega (arith, within, c.self.invariant.named)
 
 pub invariant_of-self : goal.invariant_of-self
-unfolding indexed
 invariant_of-self c =
-    listed_more c.self.inside.seats c.insert_reserved-c.new.self c.self.inside.index.entries c.insert.new.self.entries c.args.t c.insert_reserved-c.result c.self.invariant
-    (λ d is. c.requires.absent d (seat_is c.self.inside.seats _ c.args.self.now d c.self.view_is ∙ is))
-    c.insert_reserved-c.ensures.was_vacant
-    c.insert_reserved-c.ensures.updates
-    (λ u. (let now : OnOk c.insert.result (indexed c.insert.new.self.entries u ≡ cond (eqb c.args.t.0 u.0) (Some c.insert_reserved-c.result) (indexed c.self.inside.index.entries u)) = on_ok_weaker c.insert.result (λ updates. updates.0 u) c.insert.ensures.updates in rw c.unwrap.ensures at now))
-
-pub returns-clause-given : goal.returns-clause-given
-returns-clause-given c = c.insert_reserved-c.ensures.key ∙ sym (vacant_is c.self.inside.seats _ c.args.self.now c.self.view_is)
+    let inside = c.self.inside in
+    let free = ap (home_of c.self.inside.chains) c.vacant-c.ensures ∙ vacant_home inside.names.items inside.chains inside.buckets c.args.self.now c.self.view_is c.self.invariant c.laws.ensures.sound c.requires.room in
+    let within = key_within c.vacant-c.result 0 c.self.inside.chains free in
+    let place : c.vacant-c.result < length c.self.inside.names.items = omega (arith, within, c.self.invariant.named) in
+    let chain : 1 + c.bucket_of.result ≡ suc (bucket_in c.args.t.0 c.self.inside.buckets) = omega (arith, c.bucket_of.ensures.bucket) in
+    sits_valid inside.names.items _ inside.chains c.move_to.new.chains inside.buckets c.vacant-c.result c.args.t c.self.invariant
+    (sat_nowhere inside.names.items inside.chains c.args.self.now c.args.t c.self.view_is c.requires.absent)
+    (c.move_to.ensures.home ∙ ap (λ (n : ℕ). Some n) chain) c.move_to.ensures.homes c.move_to.ensures.sizes.0 c.move_to.ensures.sizes.1
+    (name_here inside.names.items c.vacant-c.result c.args.t place) (name_there inside.names.items c.vacant-c.result c.args.t) (length-set inside.names.items c.vacant-c.result c.args.t)
 
 pub returns-clause-free : goal.returns-clause-free
-returns-clause-free c = seat_is c.self.inside.seats _ c.args.self.now c.insert_reserved-c.result c.self.view_is ∙ c.insert_reserved-c.ensures.was_vacant
+returns-clause-free c =
+    let inside = c.self.inside in
+    let free = ap (home_of c.self.inside.chains) c.vacant-c.ensures ∙ vacant_home inside.names.items inside.chains inside.buckets c.args.self.now c.self.view_is c.self.invariant c.laws.ensures.sound c.requires.room in
+    seat_is inside.names.items inside.chains c.args.self.now c.vacant-c.result c.self.view_is ∙ ap (λ (o : Option ℕ). taken o (name_in c.self.inside.names.items c.vacant-c.result)) free
 
 pub returns-clause-seats : goal.returns-clause-seats
-returns-clause-seats c = seats_changed c.self.inside.seats c.insert_reserved-c.new.self _ _ c.args.self.now c.insert_reserved-c.result _ c.self.view_is c.insert_reserved-c.ensures.updates
+returns-clause-seats c =
+    let inside = c.self.inside in
+    let free = ap (home_of c.self.inside.chains) c.vacant-c.ensures ∙ vacant_home inside.names.items inside.chains inside.buckets c.args.self.now c.self.view_is c.self.invariant c.laws.ensures.sound c.requires.room in
+    let within = key_within c.vacant-c.result 0 c.self.inside.chains free in
+    let place : c.vacant-c.result < length c.self.inside.names.items = omega (arith, within, c.self.invariant.named) in
+    let chain : 1 + c.bucket_of.result ≡ suc (bucket_in c.args.t.0 c.self.inside.buckets) = omega (arith, c.bucket_of.ensures.bucket) in
+    sits_seats inside.names.items _ inside.chains c.move_to.new.chains inside.buckets c.vacant-c.result c.args.t c.self.invariant
+    (sat_nowhere inside.names.items inside.chains c.args.self.now c.args.t c.self.view_is c.requires.absent)
+    (c.move_to.ensures.home ∙ ap (λ (n : ℕ). Some n) chain) c.move_to.ensures.homes c.move_to.ensures.sizes.0 c.move_to.ensures.sizes.1
+    (name_here inside.names.items c.vacant-c.result c.args.t place) (name_there inside.names.items c.vacant-c.result c.args.t) (length-set inside.names.items c.vacant-c.result c.args.t)
+    c.args.self.now c.self.view_is
+
+pub returns-clause-many : goal.returns-clause-many
+returns-clause-many c = many_at _ c.move_to.new.chains ∙ c.move_to.ensures.sizes.0 ∙ sym (many_are c.self.inside.names.items c.self.inside.chains c.args.self.now c.self.view_is)
