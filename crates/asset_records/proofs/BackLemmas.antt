@@ -1,11 +1,11 @@
 -- The lists of records after one is taken back, or dropped with all before it.
-use Rattle.std.proofs.Common.{◌≡◌, ℕ, ◌+◌, ◌*◌, ◌≤◌, Bool, true, false, cond, eqb, ◌||◌, List, [], ◌∷◌, ◌++◌, map, Option, Some, None, is_some, length, refl, sym, ap, subst, ◌∙◌}
+use Rattle.std.proofs.Common.{◌≡◌, ℕ, ◌+◌, ◌*◌, ◌≤◌, Bool, true, false, cond, eqb, ◌||◌, List, [], ◌∷◌, ◌++◌, map, Option, Some, None, is_some, length, refl, sym, ap, subst, ◌∙◌, arith}
 use Rattle.std.specs.Prelude.{ℤ, unwrap_or}
 use Rattle.std.specs.Option.{option_map}
 use Rattle.std.specs.List.{IsDistinct}
 use Rattle.std.proofs.lemmas.Bool.{eqb-true, eqb-false, eq-eqb, ne_eqb, true≢false}
 use Rattle.std.proofs.lemmas.List.{length-map}
-use Rattle.slab.specs.Slab.{Slab, get}
+use Rattle.slab.specs.Slab.{Slab, get, slab_len}
 use Rattle.asset_names.specs.declared.names.Txn.{Txn}
 use Rattle.asset_chains.specs.Chained.{Chained, chain_of, home_of, first_of, lists, without, ahead, behind, IsSound}
 use Rattle.asset_chains.proofs.Laws.{chain_at_key, chain_without_key}
@@ -237,12 +237,15 @@ shown_settled records fewer by_object less by_owner less_owner owners left now t
 
 -- a before-image that is handed on moves no record, and changes no owner
 pub handed_valid : (records later : Slab Record) (by_object by_owner : Chained) (owners : Seated) (next : Option ℕ) (key : ℕ) → IsValid records by_object by_owner owners → ((k : ℕ) → get later k ≡ handed_at records next key k)
-    → IsValid later by_object by_owner owners
+    → slab_len later ≡ slab_len records → IsValid later by_object by_owner owners
 unfolding handed_at
-handed_valid records later by_object by_owner owners next key valid hands = record {
+handed_valid records later by_object by_owner owners next key valid hands len = record {
   placed = λ k. ap is_some (hands k) ∙ same_there next k ∙ valid.placed k;
   owned = λ k. ap (option_map (λ (one : Record). one.owner)) (hands k) ∙ same_owner next k ∙ valid.owned k;
   seated = valid.seated;
+  chained = valid.chained;
+  enough = omega (arith, valid.enough, len);
+  counted = valid.counted ∙ sym len;
 } where
   over : Option Record → Option Record
   over o = option_map (λ (one : Record). record one { before = (record_at records key).before }) o

@@ -11,10 +11,10 @@ use Rattle.asset_chains.proofs.KeyLemmas.{first_listed as first_is_listed}
 use Rattle.asset_chains.proofs.SoundLemmas.{listed_once, sound_unlinked}
 use Rattle.asset_records.specs.declared.records.Record.{Record}
 use Rattle.asset_seats.specs.Seated.{Seated, seat}
-use Rattle.asset_records.specs.Listed.{no_record, record_at, owner_at, has_room, seat_room, IsValid}
-use Rattle.asset_records.specs.Dropped.{handed_at}
+use Rattle.asset_records.specs.Listed.{no_record, record_at, owner_at, has_room, total, IsValid}
+use Rattle.asset_records.specs.Dropped.{handed_at, IsLeft}
 use Rattle.asset_records.proofs.ListedLemmas.{some_of, first_listed}
-use Rattle.asset_seats.proofs.SeatLemmas.{both}
+use Rattle.asset_records.proofs.TotalLemmas.{total_unlinked}
 
 -- keys without one that is not among them
 pub without_absent : (k : ℕ) (keys : List ℕ) → lists keys k ≡ false → without k keys ≡ keys
@@ -41,16 +41,12 @@ homes_without table new k c home is j = let change = unlinks c k table new home 
   go change true e = ap (home_of new) (eqb-true j k e) ∙ change.home
   go change false e = change.homes j (eqb-false j k e)
 
--- the seats after a record of this chain is gone: it is left if the chain is empty now
-abbrev pub IsLeft : ℕ → Option ℕ → Seated → Seated → Type 0
-IsLeft c None old new = (d : ℕ) → seat new d ≡ cond (eqb d c) None (seat old d)
-IsLeft c (Some first) old new = (d : ℕ) → seat new d ≡ seat old d
-
 module _ (records fewer : Slab Record) (by_object less_object by_owner less_owner : Chained) (owners left : Seated) (k i c : ℕ)
     (valid : IsValid records by_object by_owner owners) (sound : IsSound by_owner)
     (on_object : home_of by_object k ≡ Some i) (of_owner : home_of by_owner k ≡ Some c)
     (gone : Updates records fewer k None) (less : less_object ≡ unlinked k by_object) (fewer_owned : less_owner ≡ unlinked k by_owner)
-    (leaves : IsLeft c (first_of (chain_of less_owner c)) owners left) where
+    (leaves : IsLeft c (first_of (chain_of less_owner c)) owners left)
+    (len : slab_len fewer + 1 ≡ slab_len records) (many : length left.slots ≡ length owners.slots) where
   record_is : (j : ℕ) → get fewer j ≡ cond (eqb j k) None (get records j)
   record_is j = go (eqb j k) refl where
     go : (b : Bool) → eqb j k ≡ b → get fewer j ≡ cond b None (get records j)
@@ -66,7 +62,17 @@ module _ (records fewer : Slab Record) (by_object less_object by_owner less_owne
 
   pub dropped_valid : IsValid fewer less_object less_owner left
   unfolding owner_at
-  dropped_valid = record { placed = placed; owned = owned; seated = seated } where
+  dropped_valid = record {
+    placed = placed;
+    owned = owned;
+    seated = seated;
+    chained = omega (arith, valid.chained, many, (unlinks c k by_owner less_owner of_owner fewer_owned).same_chains);
+    enough = omega (arith, valid.enough, len, many);
+    counted = omega (arith, valid.counted, len, count);
+  } where
+    count : total less_owner.chains + 1 ≡ total by_owner.chains
+    count = ap (λ (table : Chained). total table.chains + 1) fewer_owned ∙ total_unlinked c k by_owner sound of_owner
+
     placed : (j : ℕ) → is_some (get fewer j) ≡ is_some (home_of less_object j)
     placed j = ap is_some (record_is j) ∙ go (eqb j k) ∙ sym (ap is_some (homes_without by_object less_object k i on_object less j)) where
       go : (b : Bool) → is_some (cond b None (get records j)) ≡ is_some (cond b None (home_of by_object j))
@@ -153,30 +159,22 @@ unfolding record_at
 read_some records k one there = ap (λ (o : Option Record). unwrap_or o no_record) there
 
 -- ---- room
-pub five : (a b c d e : Bool) → (a && b && c && d && e) ≡ true → (a ≡ true) × (b ≡ true) × (c ≡ true) × (d ≡ true) × (e ≡ true)
-five true true true true e h = (refl, refl, refl, refl, h)
-five true true true false e h = absurd (true≢false (sym h))
-five true true false d e h = absurd (true≢false (sym h))
-five true false c d e h = absurd (true≢false (sym h))
-five false b c d e h = absurd (true≢false (sym h))
+pub four : (a b c d : Bool) → (a && b && c && d) ≡ true → (a ≡ true) × (b ≡ true) × (c ≡ true) × (d ≡ true)
+four true true true true h = (refl, refl, refl, refl)
+four true true true false h = absurd (true≢false (sym h))
+four true true false d h = absurd (true≢false (sym h))
+four true false c d h = absurd (true≢false (sym h))
+four false b c d h = absurd (true≢false (sym h))
 
--- the room that a record leaves is enough for one more
-pub room_left : (records fewer : Slab Record) (by_object less_object by_owner less_owner : Chained) (owners left : Seated) (k c : ℕ) → seat_room by_owner owners ≡ true
-    → slab_len fewer + 1 ≤ fewer.capacity → fewer.vacant_key ≡ k → k < length less_object.homes → k < length less_owner.homes
-    → (owners.has_room ≡ true → left.has_room ≡ true) → (left.vacant ≡ c) ⊎ (left.vacant ≡ owners.vacant) → c < length less_owner.chains → length less_owner.chains ≡ length by_owner.chains
-    → has_room fewer less_object less_owner left ≡ true
-unfolding has_room seat_room
-room_left records fewer by_object less_object by_owner less_owner owners left k c room slots vacant object owner seats seat chain many =
-    let parts = both owners.has_room (nat_lt owners.vacant (length by_owner.chains)) room in
-    all (lt-ltb (slab_len fewer) fewer.capacity (omega (arith, slots))) (lt-ltb fewer.vacant_key (length less_object.homes) (omega (arith, vacant, object))) (lt-ltb fewer.vacant_key (length less_owner.homes) (omega (arith, vacant, owner)))
-    (seats parts.0) (lt-ltb left.vacant (length less_owner.chains) (within seat (ltb-true owners.vacant (length by_owner.chains) parts.1))) where
-      all : {a b c d e : Bool} → a ≡ true → b ≡ true → c ≡ true → d ≡ true → e ≡ true → (a && b && c && d && e) ≡ true
-      all p q r s t = λ i. (p i && q i && r i && s i && t i)
+pub makes_room : (records : Slab Record) (by_object by_owner : Chained) (owners : Seated) → slab_len records < records.capacity → records.vacant_key < length by_object.homes → records.vacant_key < length by_owner.homes
+    → slab_len records < length owners.slots → has_room records by_object by_owner owners ≡ true
+unfolding has_room
+makes_room records by_object by_owner owners slots object owner seats =
+    all (lt-ltb (slab_len records) records.capacity slots) (lt-ltb records.vacant_key (length by_object.homes) object) (lt-ltb records.vacant_key (length by_owner.homes) owner) (lt-ltb (slab_len records) (length owners.slots) seats) where
+      all : {a b c d : Bool} → a ≡ true → b ≡ true → c ≡ true → d ≡ true → (a && b && c && d) ≡ true
+      all p q r s = λ i. (p i && q i && r i && s i)
 
-      within : (left.vacant ≡ c) ⊎ (left.vacant ≡ owners.vacant) → owners.vacant < length by_owner.chains → left.vacant < length less_owner.chains
-      within (inl here) bound = omega (arith, here, chain)
-      within (inr same) bound = omega (arith, same, bound, many)
-
+-- ---- seats
 -- the seat of an empty chain is left
 pub left_if_none : (c : ℕ) (o : Option ℕ) (old new : Seated) → is_some o ≡ false → ((d : ℕ) → seat new d ≡ cond (eqb d c) None (seat old d)) → IsLeft c o old new
 left_if_none c None old new none seats = seats
@@ -189,26 +187,18 @@ kept_if_some c (Some x) old new some same = λ d. ap (λ (seats : Seated). seat 
 
 -- what a reservation is
 pub rooms_of : (records : Slab Record) (by_object by_owner : Chained) (owners : Seated) → has_room records by_object by_owner owners ≡ true
-    → (slab_len records < records.capacity) × (records.vacant_key < length by_object.homes) × (records.vacant_key < length by_owner.homes) × (owners.has_room ≡ true) × (owners.vacant < length by_owner.chains)
+    → (slab_len records < records.capacity) × (records.vacant_key < length by_object.homes) × (records.vacant_key < length by_owner.homes) × (slab_len records < length owners.slots)
 unfolding has_room
 rooms_of records by_object by_owner owners room =
-    let parts = five (nat_lt (slab_len records) records.capacity) (nat_lt records.vacant_key (length by_object.homes)) (nat_lt records.vacant_key (length by_owner.homes)) owners.has_room (nat_lt owners.vacant (length by_owner.chains)) room in (
+    let parts = four (nat_lt (slab_len records) records.capacity) (nat_lt records.vacant_key (length by_object.homes)) (nat_lt records.vacant_key (length by_owner.homes)) (nat_lt (slab_len records) (length owners.slots)) room in (
       ltb-true (slab_len records) records.capacity parts.0,
       ltb-true records.vacant_key (length by_object.homes) parts.1,
       ltb-true records.vacant_key (length by_owner.homes) parts.2,
-      parts.3,
-      ltb-true owners.vacant (length by_owner.chains) parts.4,
+      ltb-true (slab_len records) (length owners.slots) parts.3,
     )
 
 -- a seat that is given has a chain
-pub seat_has_chain : (by_owner : Chained) (owners : Seated) (c : ℕ) → ((d : ℕ) → is_some (seat owners d) ≡ is_some (first_of (chain_of by_owner d))) → owners.vacant < length by_owner.chains
+pub seat_has_chain : (by_owner : Chained) (owners : Seated) (c : ℕ) → ((d : ℕ) → is_some (seat owners d) ≡ is_some (first_of (chain_of by_owner d))) → length owners.slots ≤ length by_owner.chains → owners.vacant < length owners.slots
     → (is_some (seat owners c) ≡ true) ⊎ (c ≡ owners.vacant) → c < length by_owner.chains
-seat_has_chain by_owner owners c seated vacant (inl sat) = let first = some_of (first_of (chain_of by_owner c)) (sym (seated c) ∙ sat) in chain_within c first.0 by_owner (first_is_listed first.0 (chain_of by_owner c) first.1)
-seat_has_chain by_owner owners c seated vacant (inr is) = omega (arith, is, vacant)
-
--- part of it is room for a seat
-pub seats_part : (records : Slab Record) (by_object by_owner : Chained) (owners : Seated) → has_room records by_object by_owner owners ≡ true → seat_room by_owner owners ≡ true
-unfolding has_room seat_room
-seats_part records by_object by_owner owners room =
-    let parts = five (nat_lt (slab_len records) records.capacity) (nat_lt records.vacant_key (length by_object.homes)) (nat_lt records.vacant_key (length by_owner.homes)) owners.has_room (nat_lt owners.vacant (length by_owner.chains)) room in
-    λ i. (parts.3 i && parts.4 i)
+seat_has_chain by_owner owners c seated chained vacant (inl sat) = let first = some_of (first_of (chain_of by_owner c)) (sym (seated c) ∙ sat) in chain_within c first.0 by_owner (first_is_listed first.0 (chain_of by_owner c) first.1)
+seat_has_chain by_owner owners c seated chained vacant (inr is) = omega (arith, is, vacant, chained)

@@ -1,6 +1,6 @@
 -- Records in a slab and its chains, and what a change of one key makes of the lists.
-use Rattle.std.proofs.Common.{◌≡◌, ℕ, suc, Bool, true, false, eqb, ◌||◌, List, [], ◌∷◌, ◌++◌, map, length, Option, Some, None, is_some, refl, sym, ap, subst, ◌∙◌}
-use Rattle.std.specs.Prelude.{slice_index_or}
+use Rattle.std.proofs.Common.{◌≡◌, ℕ, suc, Bool, true, false, eqb, ◌||◌, List, [], ◌∷◌, ◌++◌, map, length, Option, Some, None, is_some, refl, sym, ap, subst, ◌∙◌, ◌≤◌, arith}
+use Rattle.std.specs.Prelude.{slice_index_or, count_by}
 use Rattle.std.specs.Option.{option_map}
 use Rattle.std.specs.List.{list_any}
 use Rattle.std.proofs.lemmas.Bool.{eq-eqb, true≢false}
@@ -13,7 +13,8 @@ use Rattle.asset_chains.specs.Chained.{Chained, chain_of, home_of, first_of, lis
 use Rattle.asset_chains.proofs.SoundLemmas.{no_chain_of, no_home_of}
 use Rattle.asset_records.specs.declared.records.Record.{Record}
 use Rattle.asset_seats.specs.Seated.{Seated, seat}
-use Rattle.asset_records.specs.Listed.{Listed, listed_of, has_room, on, record_at, at_keys, owner_at, ChangesOn, IsValid}
+use Rattle.asset_records.specs.Listed.{Listed, listed_of, has_room, on, record_at, at_keys, owner_at, total, ChangesOn, IsValid}
+use Rattle.asset_records.proofs.TotalLemmas.{total_alike}
 
 -- the records of an object are those of its chain
 pub on_chain : (records : Slab Record) (table : Chained) (j : ℕ) → on (map (at_keys records) table.chains) j ≡ at_keys records (chain_of table j)
@@ -126,13 +127,16 @@ changes_shown records more by_object longer by_owner owned_more owners seated_mo
     subst (λ (lists : List (List Record)). ChangesOn i (on lists i ++ update ∷ []) lists (map (at_keys more) longer.chains)) (ap (λ (l : Listed). l.lists) view) changes
 
 -- nothing is listed, at first
-pub valid_nothing : (records : Slab Record) (by_object by_owner : Chained) (owners : Seated) → records.slots ≡ [] → by_object.homes ≡ [] → by_owner.chains ≡ [] → by_owner.homes ≡ [] → ((c : ℕ) → seat owners c ≡ None)
+pub valid_nothing : (records : Slab Record) (by_object by_owner : Chained) (owners : Seated) → records.slots ≡ [] → by_object.homes ≡ [] → by_owner.chains ≡ [] → by_owner.homes ≡ [] → ((c : ℕ) → seat owners c ≡ None) → owners.slots ≡ []
     → IsValid records by_object by_owner owners
 unfolding owner_at
-valid_nothing records by_object by_owner owners none homes chains owner_homes nobody = record {
+valid_nothing records by_object by_owner owners none homes chains owner_homes nobody seats = record {
   placed = λ k. ap is_some (no_record_at k) ∙ sym (ap is_some (no_home_of by_object homes k));
   owned = λ k. ap (option_map (λ (one : Record). one.owner)) (no_record_at k) ∙ sym (ap (owner_at owners) (no_home_of by_owner owner_homes k));
   seated = λ c. ap is_some (nobody c) ∙ sym (ap (λ (keys : List ℕ). is_some (first_of keys)) (no_chain_of by_owner chains c));
+  chained = omega (arith, ap length seats);
+  enough = omega (arith, ap (count_by is_some) none);
+  counted = ap total chains ∙ sym (ap (count_by is_some) none);
 } where
   no_record_at : (k : ℕ) → get records k ≡ None
   no_record_at k = ap (λ (l : List (Option Record)). slice_index_or l k None) none
@@ -144,12 +148,15 @@ nothing_listed records by_object by_owner owners none = ap (map (at_keys records
 -- another object, or more keys and chains, leave each record where it is
 pub valid_grown : (records : Slab Record) (by_object longer by_owner owned_more : Chained) (owners seated_more : Seated) → IsValid records by_object by_owner owners → ((k : ℕ) → home_of longer k ≡ home_of by_object k)
     → ((k : ℕ) → home_of owned_more k ≡ home_of by_owner k) → ((c : ℕ) → chain_of owned_more c ≡ chain_of by_owner c) → ((c : ℕ) → seat seated_more c ≡ seat owners c)
-    → IsValid records longer owned_more seated_more
+    → length seated_more.slots ≤ length owned_more.chains → length owners.slots ≤ length seated_more.slots → IsValid records longer owned_more seated_more
 unfolding owner_at
-valid_grown records by_object longer by_owner owned_more owners seated_more valid homes owner_homes chains seats = record {
+valid_grown records by_object longer by_owner owned_more owners seated_more valid homes owner_homes chains seats chained more = record {
   placed = λ k. valid.placed k ∙ sym (ap is_some (homes k));
   owned = λ k. valid.owned k ∙ same_owner (home_of by_owner k) ∙ sym (ap (owner_at seated_more) (owner_homes k));
   seated = λ c. ap is_some (seats c) ∙ valid.seated c ∙ sym (ap (λ (keys : List ℕ). is_some (first_of keys)) (chains c));
+  chained = chained;
+  enough = omega (arith, valid.enough, more);
+  counted = total_alike by_owner owned_more chains ∙ valid.counted;
 } where
   same_owner : (o : Option ℕ) → owner_at owners o ≡ owner_at seated_more o
   same_owner None = refl
@@ -161,6 +168,9 @@ valid_slots records more by_object by_owner owners same valid = record {
   placed = λ k. ap is_some (at k) ∙ valid.placed k;
   owned = λ k. ap (option_map (λ (one : Record). one.owner)) (at k) ∙ valid.owned k;
   seated = valid.seated;
+  chained = valid.chained;
+  enough = omega (arith, valid.enough, ap (count_by is_some) same);
+  counted = valid.counted ∙ sym (ap (count_by is_some) same);
 } where
   at : (k : ℕ) → get more k ≡ get records k
   at k = ap (λ (l : List (Option Record)). slice_index_or l k None) same

@@ -1,16 +1,16 @@
 -- One more record, in the chain of its object and in that of its owner.
-use Rattle.std.proofs.Common.{◌≡◌, ℕ, Bool, true, false, cond, eqb, List, [], ◌∷◌, ◌++◌, map, Option, Some, None, is_some, length, refl, sym, ap, ◌∙◌}
+use Rattle.std.proofs.Common.{◌≡◌, ℕ, Bool, true, false, cond, eqb, List, [], ◌∷◌, ◌++◌, map, Option, Some, None, is_some, length, refl, sym, ap, ◌∙◌, ◌+◌, ◌<◌, arith}
 use Rattle.std.specs.Prelude.{unwrap_or}
 use Rattle.std.specs.Option.{option_map}
 use Rattle.std.proofs.lemmas.Bool.{eqb-true, eqb-false, eq-eqb, true≢false}
 use Rattle.std.proofs.lemmas.List.{length-map}
-use Rattle.slab.specs.Slab.{Slab, get, Updates}
+use Rattle.slab.specs.Slab.{Slab, get, slab_len, Updates}
 use Rattle.asset_chains.specs.Chained.{Chained, chain_of, home_of, first_of, lists, IsSound}
 use Rattle.asset_chains.proofs.Laws.{IsPushed}
 use Rattle.asset_chains.proofs.SoundLemmas.{unlisted}
 use Rattle.asset_records.specs.declared.records.Record.{Record}
 use Rattle.asset_seats.specs.Seated.{Seated, seat}
-use Rattle.asset_records.specs.Listed.{on, no_record, record_at, at_keys, owner_at, IsValid, ChangesOn}
+use Rattle.asset_records.specs.Listed.{on, no_record, record_at, at_keys, owner_at, total, IsValid, ChangesOn}
 use Rattle.asset_records.proofs.ListedLemmas.{on_chain, keys_append, keys_same, first_listed}
 
 -- a chain with a key at its end is not empty
@@ -31,7 +31,9 @@ module _ (records more : Slab Record) (by_object longer by_owner owned_more : Ch
     (valid : IsValid records by_object by_owner owners) (sound_object : IsSound by_object) (sound : IsSound by_owner)
     (free : home_of by_object k ≡ None) (free_owner : home_of by_owner k ≡ None)
     (put : Updates records more k (Some update)) (object : IsPushed i k by_object longer) (owner : IsPushed c k by_owner owned_more)
-    (sits : (d : ℕ) → seat seated_more d ≡ cond (eqb d c) (Some update.owner) (seat owners d)) (same : is_some (seat owners c) ≡ true → seat owners c ≡ Some update.owner) where
+    (sits : (d : ℕ) → seat seated_more d ≡ cond (eqb d c) (Some update.owner) (seat owners d)) (same : is_some (seat owners c) ≡ true → seat owners c ≡ Some update.owner)
+    (len : slab_len more ≡ slab_len records + 1) (fits : slab_len records < length owners.slots) (seats : length seated_more.slots ≡ length owners.slots)
+    (count : total owned_more.chains ≡ total by_owner.chains + 1) where
   -- who sat stays
   seat_stays : (j d : ℕ) → home_of by_owner j ≡ Some d → seat owners d ≡ seat seated_more d
   seat_stays j d home = go (eqb d c) refl ∙ sym (sits d) where
@@ -54,7 +56,14 @@ module _ (records more : Slab Record) (by_object longer by_owner owned_more : Ch
 
   pub pushed_valid : IsValid more longer owned_more seated_more
   unfolding owner_at
-  pushed_valid = record { placed = placed; owned = owned; seated = seated } where
+  pushed_valid = record {
+    placed = placed;
+    owned = owned;
+    seated = seated;
+    chained = omega (arith, valid.chained, seats, owner.same_chains);
+    enough = omega (arith, len, fits, seats);
+    counted = omega (arith, valid.counted, count, len);
+  } where
     placed : (j : ℕ) → is_some (get more j) ≡ is_some (home_of longer j)
     placed j = go (eqb j k) refl where
       go : (b : Bool) → eqb j k ≡ b → is_some (get more j) ≡ is_some (home_of longer j)

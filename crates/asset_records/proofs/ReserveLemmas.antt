@@ -1,8 +1,7 @@
 -- Room that was made, and nothing else changed.
-use Rattle.std.proofs.Common.{◌≡◌, ℕ, ◌<◌, ◌&&◌, Bool, true, List, [], map, length, Option, None, ap, ◌∙◌}
+use Rattle.std.proofs.Common.{◌≤◌, ◌≡◌, ℕ, true, List, [], map, length, Option, None, ap, ◌∙◌}
 use Rattle.std.specs.Prelude.{unwrap_or, slice_index_or}
-use Rattle.std.proofs.lemmas.Bool.{lt-ltb}
-use Rattle.slab.specs.Slab.{Slab, slab_len}
+use Rattle.slab.specs.Slab.{Slab}
 use Rattle.asset_chains.specs.Chained.{Chained, chain_of, home_of}
 use Rattle.asset_records.specs.declared.records.Record.{Record}
 use Rattle.asset_seats.specs.Seated.{Seated, seat}
@@ -12,9 +11,9 @@ use Rattle.asset_records.proofs.ListedLemmas.{valid_grown, valid_slots}
 -- the records are as they were
 pub reserve_valid : (records more : Slab Record) (by_object longer by_owner owned_more : Chained) (owners seated_more : Seated) → IsValid records by_object by_owner owners → more.slots ≡ records.slots
     → ((k : ℕ) → home_of longer k ≡ home_of by_object k) → ((k : ℕ) → home_of owned_more k ≡ home_of by_owner k) → ((c : ℕ) → chain_of owned_more c ≡ chain_of by_owner c) → ((c : ℕ) → seat seated_more c ≡ seat owners c)
-    → IsValid more longer owned_more seated_more
-reserve_valid records more by_object longer by_owner owned_more owners seated_more valid slots homes owner_homes chains seats =
-    valid_grown more by_object longer by_owner owned_more owners seated_more (valid_slots records more by_object by_owner owners slots valid) homes owner_homes chains seats
+    → length seated_more.slots ≤ length owned_more.chains → length owners.slots ≤ length seated_more.slots → IsValid more longer owned_more seated_more
+reserve_valid records more by_object longer by_owner owned_more owners seated_more valid slots homes owner_homes chains seats chained grown =
+    valid_grown more by_object longer by_owner owned_more owners seated_more (valid_slots records more by_object by_owner owners slots valid) homes owner_homes chains seats chained grown
 
 -- and so are the lists
 pub lists_kept : (records more : Slab Record) (by_object longer by_owner owned_more : Chained) (owners seated_more : Seated) (now : Listed) → listed_of records by_object by_owner owners ≡ now → more.slots ≡ records.slots
@@ -22,14 +21,6 @@ pub lists_kept : (records more : Slab Record) (by_object longer by_owner owned_m
 unfolding listed_of at_keys record_at
 lists_kept records more by_object longer by_owner owned_more owners seated_more now view slots chains =
     (λ i. map (λ (keys : List ℕ). map (λ (k : ℕ). unwrap_or (slice_index_or (slots i) k None) no_record) keys) (chains i)) ∙ ap (λ (l : Listed). l.lists) view
-
--- all of a reservation
-pub makes_all_room : (records : Slab Record) (by_object by_owner : Chained) (owners : Seated) → slab_len records < records.capacity → records.vacant_key < length by_object.homes → records.vacant_key < length by_owner.homes
-    → owners.has_room ≡ true → owners.vacant < length by_owner.chains → (listed_of records by_object by_owner owners).reserved ≡ true
-unfolding listed_of has_room
-makes_all_room records by_object by_owner owners slots object owner seats chain = all (lt-ltb _ _ slots) (lt-ltb _ _ object) (lt-ltb _ _ owner) seats (lt-ltb _ _ chain) where
-  all : {a b c d e : Bool} → a ≡ true → b ≡ true → c ≡ true → d ≡ true → e ≡ true → (a && b && c && d && e) ≡ true
-  all p q r s t = λ i. (p i && q i && r i && s i && t i)
 
 pub shown_room : (records : Slab Record) (by_object by_owner : Chained) (owners : Seated) → has_room records by_object by_owner owners ≡ true → (listed_of records by_object by_owner owners).reserved ≡ true
 unfolding listed_of

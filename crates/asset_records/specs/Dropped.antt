@@ -1,6 +1,7 @@
--- What becomes of a record's before-image when it goes.
-use Rattle.std.specs.Prelude.{ℕ, ℤ, ◌==◌, cond, Option, Some, None, option_map}
+-- What becomes of a record's before-image, and of its owner's seat, when it goes.
+use Rattle.std.specs.Prelude.{◌≡◌, ℕ, ℤ, ◌==◌, cond, Option, Some, None, option_map}
 use Rattle.slab.specs.Slab.{Slab, get}
+use Rattle.asset_seats.specs.Seated.{Seated, seat}
 use Rattle.asset_records.specs.declared.records.Record.{Record}
 use Rattle.asset_records.specs.Listed.{record_at}
 
@@ -13,3 +14,8 @@ handed_at records (Some next) key k = cond (k == next) (option_map (λ (one : Re
 unfoldable pub restored_at : Slab Record → Option ℕ → ℕ → Option ℤ
 restored_at records None key = Some (record_at records key).before
 restored_at records (Some next) key = None
+
+-- the seats after a record of this chain is gone: it is left if the chain is empty now
+abbrev pub IsLeft : ℕ → Option ℕ → Seated → Seated → Type 0
+IsLeft c None old new = (d : ℕ) → seat new d ≡ cond (d == c) None (seat old d)
+IsLeft c (Some first) old new = (d : ℕ) → seat new d ≡ seat old d

@@ -34,29 +34,33 @@ unfoldable pub owner_at : Seated → Option ℕ → Option Txn
 owner_at owners None = None
 owner_at owners (Some c) = seat owners c
 
--- whether a new owner finds a seat, with a chain of its own
-unfoldable pub seat_room : Chained → Seated → Bool
-seat_room by_owner owners = owners.has_room && nat_lt owners.vacant (length by_owner.chains)
+-- how many keys are in these chains
+abbrev pub total : List (List ℕ) → ℕ
+total [] = 0
+total (keys ∷ chains) = length keys + total chains
 
--- whether one more record finds a slot, a key in each partition, and a seat for a new owner with a chain of its own
+-- whether one more record finds a slot, a key in each partition, and a seat that no owner needs
 unfoldable pub has_room : Slab Record → Chained → Chained → Seated → Bool
 has_room records by_object by_owner owners =
     nat_lt (slab_len records) records.capacity
     && nat_lt records.vacant_key (length by_object.homes)
     && nat_lt records.vacant_key (length by_owner.homes)
-    && owners.has_room
-    && nat_lt owners.vacant (length by_owner.chains)
+    && nat_lt (slab_len records) (length owners.slots)
 
 -- the records of each object, by its chain
 unfoldable pub listed_of : Slab Record → Chained → Chained → Seated → Listed
 listed_of records by_object by_owner owners = record { lists = map (at_keys records) by_object.chains; reserved = has_room records by_object by_owner owners }
 
--- each record is in the chain of an object and in that of its owner, and nothing else is in a chain; and exactly
--- those who have a record have a seat
+-- each record is in the chain of an object and in that of its owner, and nothing else is in a chain; exactly those who
+-- have a record have a seat; and there is a seat, with its chain, for each record, so that a change of owners takes no
+-- memory
 pub record IsValid (records : Slab Record) (by_object by_owner : Chained) (owners : Seated) : Type 0 where
   pub placed : (k : ℕ) → is_some (get records k) ≡ is_some (home_of by_object k)
   pub owned : (k : ℕ) → option_map (λ (one : Record). one.owner) (get records k) ≡ owner_at owners (home_of by_owner k)
   pub seated : (c : ℕ) → is_some (seat owners c) ≡ is_some (first_of (chain_of by_owner c))
+  pub chained : length owners.slots ≤ length by_owner.chains
+  pub enough : slab_len records ≤ length owners.slots
+  pub counted : total by_owner.chains ≡ slab_len records
 
 -- whether the record is the transaction's
 unfoldable pub is_of : ℕ → Record → Bool

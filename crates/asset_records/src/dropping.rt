@@ -1,10 +1,10 @@
 //! A record leaves the slab and both of its chains.
 
 ghost use Rattle.std.specs.Prelude.{◌≡◌, ℕ, ◌==◌, ◌≤◌, ◌+◌, ◌*◌, cond, true, false, None, Some, is_some, length};
-ghost use Rattle.slab.specs.Slab.{get};
-ghost use Rattle.asset_chains.specs.Chained.{chain_of, home_of, without, ahead, behind};
-ghost use Rattle.asset_records.specs.Listed.{IsValid, has_room, seat_room};
-ghost use Rattle.asset_records.specs.Dropped.{handed_at, restored_at};
+ghost use Rattle.slab.specs.Slab.{get, slab_len};
+ghost use Rattle.asset_chains.specs.Chained.{chain_of, home_of, first_of, without, unlinked, ahead, behind};
+ghost use Rattle.asset_records.specs.Listed.{IsValid, has_room};
+ghost use Rattle.asset_records.specs.Dropped.{handed_at, restored_at, IsLeft};
 
 use crate::records::Record;
 use asset_chains::Chains;
@@ -16,6 +16,7 @@ pub(crate) fn hand_on(records: &mut Slab<Record>, next: Option<usize>, key: usiz
     requires there { is_some (get records.old key) ≡ true }
     ensures records { (k : ℕ) → get records.new k ≡ handed_at records.old next key k }
     ensures restored { result ≡ restored_at records.old next key }
+    ensures len { slab_len records.new ≡ slab_len records.old }
     ensures slots { (records.new.vacant_key ≡ records.old.vacant_key) × (records.new.capacity ≡ records.old.capacity) }
 {
     let before = records.get(key)?.before;
@@ -43,18 +44,28 @@ pub(crate) fn drop_at(
     ensures chains { (j : ℕ) → chain_of by_object.new j ≡ without key (chain_of by_object.old j) }
     ensures homes { (k : ℕ) → home_of by_object.new k ≡ cond (k == key) None (home_of by_object.old k) }
     ensures many { length by_object.new.chains ≡ length by_object.old.chains }
-    ensures room { seat_room by_owner.old owners.old ≡ true → has_room records.new by_object.new by_owner.new owners.new ≡ true }
+    ensures room { has_room records.new by_object.new by_owner.new owners.new ≡ true }
 {
     by_object.laws();
     by_owner.laws();
     by_object.unlink(key);
+    leave_owner(by_owner, owners, key);
+    records.try_remove(key);
+}
+
+/// Takes the key out of its owner's chain. An owner who has no other record leaves its seat.
+pub(crate) fn leave_owner(by_owner: &mut Chains, owners: &mut Seats, key: usize)
+    requires { is_some (home_of by_owner.old key) ≡ true }
+    ensures unlinked { by_owner.new ≡ unlinked key by_owner.old }
+    ensures left { (c : ℕ) → home_of by_owner.old key ≡ Some c → IsLeft c (first_of (chain_of by_owner.new c)) owners.old owners.new }
+    ensures many { length owners.new.slots ≡ length owners.old.slots }
+{
     if let Some(chain) = by_owner.home(key) {
         by_owner.unlink(key);
         if by_owner.first(chain).is_none() {
             owners.leave(chain);
         }
     }
-    records.try_remove(key);
 }
 
 /// Returns 1 if there is a neighbour, and 0 if there is none.

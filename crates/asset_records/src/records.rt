@@ -1,9 +1,11 @@
 //! The update records of the writes that stand, each in the chain of its object and in that of its owner.
 
 use crate::dropping::{counted, drop_at, drop_through, hand_on};
+use crate::handing::{hand_over_along, hand_over_each};
+use crate::owning::add_owner;
 use asset_chains::Chains;
 use asset_names::{NoMemory, Txn};
-use asset_seats::{Seats, add_chains, add_keys};
+use asset_seats::{Seats, add_keys};
 use slab::Slab;
 use std::alloc::Global;
 use std::marker::Model;
@@ -46,8 +48,9 @@ impl Model for Records {
 }
 
 impl Records {
-    ghost use Rattle.std.specs.Prelude.{◌≡◌, ℕ, ◌<◌, ◌≤◌, true, [], ◌∷◌, ◌++◌, length, IfSome, IfNone, OnOk, OnErr, IsOk};
+    ghost use Rattle.std.specs.Prelude.{◌≡◌, ℕ, ◌<◌, ◌≤◌, true, [], ◌∷◌, ◌++◌, length, map, IfSome, IfNone, OnOk, OnErr, IsOk};
     ghost use Rattle.asset_records.specs.Listed.{on, ChangesOn, TakesBack, Settles, HasNone};
+    ghost use Rattle.asset_records.specs.Handed.{renamed};
 
     /// Returns no objects and no records. It does not allocate.
     pub fn new(alloc: Global) -> Records
@@ -90,11 +93,10 @@ impl Records {
             Ok(()) => {}
             Err(_) => return Err(NoMemory),
         }
-        self.owners.reserve()?;
         let key = self.records.vacant_key();
         add_keys(&mut self.by_object, key)?;
         add_keys(&mut self.by_owner, key)?;
-        add_chains(&mut self.by_owner, self.owners.vacant())
+        add_owner(&mut self.by_owner, &mut self.owners, self.records.len())
     }
 
     /// Appends a record to those of its object. It uses the memory that `reserve` reserved.
@@ -105,6 +107,7 @@ impl Records {
     {
         self.by_object.laws();
         self.by_owner.laws();
+        self.owners.laws();
         let chain = self.owners.seat_for(update.owner);
         let key = self.records.insert_reserved(update);
         self.by_object.push(object, key);
@@ -163,5 +166,50 @@ impl Records {
         );
         self.by_object.laws();
         Some(visited)
+    }
+
+    /// Makes the records of the giver on the object the taker's, and changes nothing else. An index past the last object
+    /// has no records, and both may be one, which changes nothing.
+    ///
+    /// It takes no memory. The cost is that of the records of the object.
+    pub fn hand_over_on(&mut self, giver: Txn, taker: Txn, object: usize)
+        ensures lists { ChangesOn object (map (renamed giver.0 taker.0) (on self.old.lists object)) self.old.lists self.new.lists }
+        ensures reserved { self.old.reserved ≡ true → self.new.reserved ≡ true }
+    {
+        if taker.0 == giver.0 {
+            return;
+        }
+        self.by_object.laws();
+        hand_over_along(
+            &mut self.records,
+            &self.by_object,
+            &mut self.by_owner,
+            &mut self.owners,
+            giver,
+            taker,
+            object,
+        );
+    }
+
+    /// Makes each record of the giver the taker's, and changes nothing else. Both may be one, which changes nothing.
+    ///
+    /// It takes no memory. The cost is that of the records that change.
+    pub fn hand_over_all(&mut self, giver: Txn, taker: Txn)
+        ensures many { length self.new.lists ≡ length self.old.lists }
+        ensures lists { (j : ℕ) → on self.new.lists j ≡ map (renamed giver.0 taker.0) (on self.old.lists j) }
+        ensures reserved { self.old.reserved ≡ true → self.new.reserved ≡ true }
+    {
+        if taker.0 == giver.0 {
+            return;
+        }
+        self.by_object.laws();
+        hand_over_each(
+            &mut self.records,
+            &self.by_object,
+            &mut self.by_owner,
+            &mut self.owners,
+            giver,
+            taker,
+        );
     }
 }

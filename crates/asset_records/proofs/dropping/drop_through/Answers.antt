@@ -2,7 +2,6 @@ use Rattle.std.proofs.Common.{◌≡◌, ℕ, length, false, eqb, Some, is_some,
 use Rattle.std.proofs.lemmas.Bool.{ne_eqb}
 use Rattle.asset_chains.specs.Chained.{chain_of, first_of, ahead, behind}
 use Rattle.asset_chains.proofs.Laws.{chain_at_first}
-use Rattle.asset_records.proofs.DropLemmas.{seats_part}
 use Rattle.asset_records.proofs.ThroughLemmas.{few_ahead, first_there, rest_is, others_are, shorter, behind_same, ahead_less, kept_after, home_after}
 use Rattle.asset_records.proofs.dropping.drop_through.Goals as goal
 
@@ -44,11 +43,11 @@ oldest-preserved c =
       many = c.drop_at.ensures.many ∙ c.oldest.invariant.many;
       counted = omega (arith, c.oldest.invariant.counted, less);
       visited = omega (arith, c.oldest.invariant.visited, less, c.counted-in-Some-2.ensures, c.counted.ensures, c.counted-in-Some.ensures);
-      room = λ room. c.drop_at.ensures.room (seats_part c.oldest.records c.oldest.by_object c.oldest.by_owner c.oldest.owners (c.oldest.invariant.room room));
+      room = λ room. c.drop_at.ensures.room;
     }
 
 pub returns-then-key-last-clause-room : goal.returns-then-key-last-clause-room
-returns-then-key-last-clause-room c = λ room. c.drop_at.ensures.room (seats_part c.oldest.records c.oldest.by_object c.oldest.by_owner c.oldest.owners (c.oldest.invariant.room room))
+returns-then-key-last-clause-room c = λ room. c.drop_at.ensures.room
 
 pub returns-then-key-last-clause-counted : goal.returns-then-key-last-clause-counted
 returns-then-key-last-clause-counted c =

@@ -4,6 +4,7 @@ use Rattle.std.proofs.lemmas.Int.{to_z-of_z}
 use Rattle.asset_records.specs.declared.records.Record.{Record}
 use Rattle.asset_records.specs.Dropped.{handed_at, restored_at}
 use Rattle.asset_records.proofs.DropLemmas.{handed_is, handed_none, read_some}
+use Rattle.asset_records.proofs.TotalLemmas.{count_kept}
 use Rattle.asset_records.proofs.dropping.hand_on.Goals as goal
 
 pub returns-in_default-clause-records : goal.returns-in_default-clause-records
@@ -35,3 +36,6 @@ returns-in_default-get_mut-clause-records c = λ k.
 pub returns-in_default-get_mut-clause-restored : goal.returns-in_default-get_mut-clause-restored
 unfolding restored_at
 returns-in_default-get_mut-clause-restored c = sym (ap (λ (o : Option ℕ). restored_at c.args.records.now o c.args.key) c.in-Some.is)
+
+pub returns-in-Some-get_mut-clause-len : goal.returns-in-Some-get_mut-clause-len
+returns-in-Some-get_mut-clause-len c = count_kept c.args.records.now.slots c.in-Some.next c.in-Some-get_mut.later.now _ (sym c.in-Some-get_mut.ensures.value)

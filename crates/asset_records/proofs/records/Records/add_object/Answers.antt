@@ -1,4 +1,4 @@
-use Rattle.std.proofs.Common.{refl, ap, ◌∙◌}
+use Rattle.std.proofs.Common.{refl, ap, ◌∙◌, arith}
 use Rattle.asset_chains.specs.Chained.{Chained, home_of}
 use Rattle.asset_chains.proofs.Laws.{chain_more-home}
 use Rattle.asset_records.proofs.ListedLemmas.{valid_grown, lists_more}
@@ -13,6 +13,8 @@ invariant_of-self c = elim c.match-add_chain.branch [
       (λ k. refl)
       (λ k. refl)
       (λ k. refl)
+      c.self.invariant.chained
+      (omega arith)
   | in-Err w ↦ rw w.in-Err.ensures.unchanged c.self.invariant
 ]
 

@@ -5,8 +5,7 @@ use Rattle.asset_names.specs.declared.names.Txn.{Txn}
 use Rattle.asset_chains.specs.Chained.{home_of}
 use Rattle.asset_chains.proofs.Laws.{chain_at_last}
 use Rattle.asset_records.specs.Dropped.{handed_at, restored_at}
-use Rattle.asset_records.proofs.ListedLemmas.{has_owned, has_reserved}
-use Rattle.asset_records.proofs.DropLemmas.{seats_part}
+use Rattle.asset_records.proofs.ListedLemmas.{has_owned}
 use Rattle.asset_records.proofs.ReserveLemmas.{shown_room}
 use Rattle.asset_records.proofs.BackLemmas.{taken_back, no_record_of, shown_none, shown_back, handed_valid}
 use Rattle.asset_records.proofs.records.Records.take_back.Goals as goal
@@ -27,12 +26,12 @@ returns-in_err-object-clause-none c =
 pub drop_at-requires-clause-valid : goal.drop_at-requires-clause-valid
 drop_at-requires-clause-valid c =
     let inside = c.self.inside in
-    handed_valid inside.records c.hand_on-restored.new.records inside.by_object inside.by_owner inside.owners c.next-next.result c.in_ok-key.key c.self.invariant c.hand_on-restored.ensures.records
+    handed_valid inside.records c.hand_on-restored.new.records inside.by_object inside.by_owner inside.owners c.next-next.result c.in_ok-key.key c.self.invariant c.hand_on-restored.ensures.records c.hand_on-restored.ensures.len
 
 pub drop_at-requires-clause-there : goal.drop_at-requires-clause-there
 drop_at-requires-clause-there c =
     let inside = c.self.inside in
-    let valid = handed_valid inside.records c.hand_on-restored.new.records inside.by_object inside.by_owner inside.owners c.next-next.result c.in_ok-key.key c.self.invariant c.hand_on-restored.ensures.records in
+    let valid = handed_valid inside.records c.hand_on-restored.new.records inside.by_object inside.by_owner inside.owners c.next-next.result c.in_ok-key.key c.self.invariant c.hand_on-restored.ensures.records c.hand_on-restored.ensures.len in
     valid.placed c.in_ok-key.key ∙ sym (ap is_some c.in_ok-object.ensures)
 
 pub returns-clause-taken : goal.returns-clause-taken
@@ -57,7 +56,4 @@ returns-clause-taken c =
     )
 
 pub returns-clause-reserved : goal.returns-clause-reserved
-returns-clause-reserved c = λ reserved.
-    let inside = c.self.inside in
-    let room = seats_part inside.records inside.by_object inside.by_owner inside.owners (has_reserved inside.records inside.by_object inside.by_owner inside.owners c.args.self.now c.self.view_is reserved) in
-    shown_room c.drop_at.new.records c.drop_at.new.by_object c.drop_at.new.by_owner c.drop_at.new.owners (c.drop_at.ensures.room room)
+returns-clause-reserved c = λ reserved. shown_room c.drop_at.new.records c.drop_at.new.by_object c.drop_at.new.by_owner c.drop_at.new.owners c.drop_at.ensures.room
