@@ -1,3 +1,4 @@
 pub mod CellLemmas
 pub mod EndLemmas
 pub mod PlacedLemmas
+pub mod HandLemmas

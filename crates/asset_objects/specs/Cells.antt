@@ -1,5 +1,5 @@
 -- The table of objects: of each object a base and the writes that stand over it.
-use Rattle.std.specs.Prelude.{ℕ, ℤ, Bool, true, cond, not, ◌==◌, List, [], ◌∷◌, filter, find, Option, option_map, is_some}
+use Rattle.std.specs.Prelude.{ℕ, ℤ, Bool, true, cond, not, ◌==◌, List, [], ◌∷◌, filter, find, map, Option, option_map, is_some}
 use Rattle.std.specs.List.{count_by, sum_by}
 use Rattle.asset_names.specs.Steps.{Opening}
 use Rattle.asset_names.specs.Operations.{opening_at}
@@ -75,6 +75,14 @@ newer test (write ∷ older) = cond (test write.owner) [] (write ∷ newer test 
 unfoldable pub settled : (ℕ → Bool) → Cell → Cell
 settled test cell = record { base = settled_value test cell.base cell.records; records = newer test cell.records }
 
+-- the write, which is the taker's if it was the giver's
+unfoldable pub handed_write : ℕ → ℕ → Written → Written
+handed_write giver taker write = cond (write.owner == giver) (record write { owner = taker }) write
+
+-- the writes of the giver are the taker's
+unfoldable pub handed_cell : ℕ → ℕ → Cell → Cell
+handed_cell giver taker cell = record cell { records = map (handed_write giver taker) cell.records }
+
 -- a change of one object
 unfoldable pub change_at : ℕ → (Cell → Cell) → Cells → Cells
 change_at y change cells x = cond (y == x) (option_map change (cells x)) (cells x)
@@ -82,6 +90,10 @@ change_at y change cells x = cond (y == x) (option_map change (cells x)) (cells 
 -- a change of each object
 unfoldable pub change_each : (Cell → Cell) → Cells → Cells
 change_each change cells x = option_map change (cells x)
+
+-- a change of the objects that pass the test
+unfoldable pub change_where : (ℕ → Bool) → (Cell → Cell) → Cells → Cells
+change_where test change cells x = cond (test x) (option_map change (cells x)) (cells x)
 
 -- how many writes of those who pass the test stand
 unfoldable pub writes_by : (ℕ → Bool) → List (ℕ × Cell) → ℕ

@@ -1,8 +1,8 @@
 //! The table of objects and its calls.
 
-use crate::ending;
 use crate::placed::{Placed, place_all};
-use asset_names::{NoMemory, Ob, Txn, least_double};
+use crate::{ending, handing};
+use asset_names::{NoMemory, Ob, ObSet, Txn, least_double};
 use asset_records::Record;
 use std::alloc::Global;
 use std::marker::Model;
@@ -44,7 +44,8 @@ impl Objects {
     ghost use Rattle.std.specs.Prelude.{◌≡◌, ℕ, ◌==◌, ◌≤◌, ◌+◌, ◌*◌, true, is_some, length, map, IfOk, IfErr, IsOk, OnOk, OnErr};
     ghost use Rattle.asset_names.specs.Steps.{Opening};
     ghost use Rattle.asset_names.specs.Sets.{HasNoDouble};
-    ghost use Rattle.asset_objects.specs.Cells.{cells, opened, value_in, has_object, written, undone, settled, change_at, change_each, writes_by, standing};
+    ghost use Rattle.asset_names.specs.InSet.{in_set};
+    ghost use Rattle.asset_objects.specs.Cells.{cells, opened, value_in, has_object, written, undone, settled, handed_cell, change_at, change_each, change_where, writes_by, standing};
     ghost use Rattle.asset_objects.specs.Placed.{IsOpened};
     ghost use Rattle.asset_objects.specs.Faults.{objects_of, IsObjectsFault};
 
@@ -149,6 +150,20 @@ impl Objects {
     {
         let placed = &mut self.placed;
         self.visits = ending::settle(&placed.values, &mut placed.records, t);
+    }
+
+    /// Makes the giver's writes on the objects of the set the taker's. No value changes, and nothing else does. Both may be
+    /// one, which changes nothing.
+    ///
+    /// It takes no memory. For a set of all objects it touches the records that change, and for each listed object those
+    /// on it.
+    pub fn hand_over(&mut self, giver: Txn, taker: Txn, objects: &ObSet)
+        ensures cells { cells self.new ≡ change_where (in_set objects.now) (handed_cell giver.0 taker.0) (cells self.old) }
+        ensures reserved { self.old.reserved ≡ true → self.new.reserved ≡ true }
+        ensures visits { self.new.visits ≡ self.old.visits }
+    {
+        let placed = &mut self.placed;
+        handing::hand_over(&placed.objects, &mut placed.records, giver, taker, objects);
     }
 
     /// Returns how many records the last `undo` or `settle` visited: each one that went, and each time those beside it
