@@ -1,7 +1,11 @@
 pub mod StoreLemmas
 pub mod WalkLemmas
 pub mod OpsLemmas
+pub mod JoinLemmas
 pub mod SuspendLemmas
 pub mod GrantLemmas
+pub mod HandLemmas
+pub mod PassLemmas
 pub mod BlockLemmas
 pub mod TableLemmas
+pub mod HandedRows

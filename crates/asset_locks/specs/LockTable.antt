@@ -6,7 +6,9 @@ use Rattle.asset_names.specs.declared.names.Ob.{Ob}
 use Rattle.asset_names.specs.declared.operations.Op.{Op}
 use Rattle.asset_names.specs.declared.operations.Op.TheVariants as Op'
 use Rattle.asset_names.specs.Operations.{conflict}
-use Rattle.asset_names.specs.OpSets.{has_op, OpSet, only_op, with_op}
+use Rattle.asset_names.specs.OpSets.{has_op, OpSet, op_set, only_op, with_op}
+use Rattle.asset_names.specs.declared.sets.ObSet.{ObSet}
+use Rattle.asset_names.specs.InSet.{in_set}
 use Rattle.asset_locks.specs.declared.lock.Lock.{Lock}
 use Rattle.asset_locks.specs.declared.state.LockState.{LockState}
 use Rattle.asset_locks.specs.declared.state.LockState.TheVariants.{Granted, Suspended}
@@ -147,3 +149,38 @@ granted_row t x op ops who = cond (who.name == t) (record who { pending = None; 
 -- op on x is granted to t
 unfoldable pub grant_in : ℕ → Ob → Op → LockTable → LockTable
 grant_in t x op table = map (granted_row t x op (ops_with op (lock_in table t x.0))) table
+
+-- ---- what a hand-over changes
+-- whether the lock is on an object of the set
+unfoldable pub moved : ObSet → Lock → Bool
+moved set lock = in_set set lock.object.0
+
+-- the operations of both
+unfoldable pub both_ops : OpSet → OpSet → OpSet
+both_ops ops others = op_set (ops.read || others.read) (ops.write || others.write)
+
+-- the operations that these locks carry on x
+unfoldable pub ops_on : ℕ → List Lock → OpSet
+ops_on x locks = op_set (list_any (carries_on x Op'.Read) locks) (list_any (carries_on x Op'.Write) locks)
+
+-- a lock of the taker's after the giver's locks came: if one of them is on its object, it carries the operations of
+-- both, and is suspended
+unfoldable pub joined : List Lock → Lock → Lock
+joined given lock = cond (list_any (is_on lock.object.0) given) (record lock { ops = both_ops lock.ops (ops_on lock.object.0 given); granted = false }) lock
+
+-- the locks that the giver keeps
+unfoldable pub left : ObSet → List Lock → List Lock
+left set locks = filter (λ (lock : Lock). not (moved set lock)) locks
+
+-- the taker's locks after the giver's locks came: those on objects that the taker has no lock on are at the end
+unfoldable pub with_moved : List Lock → List Lock → List Lock
+with_moved given locks = map (joined given) locks ++ filter (λ (lock : Lock). not (list_any (is_on lock.object.0) locks)) given
+
+-- a row after the giver's locks on objects of the set, which are given, became the taker's
+unfoldable pub handed_row : ℕ → ℕ → ObSet → List Lock → Enrolled → Enrolled
+handed_row giver taker set given who =
+    cond (who.name == giver) (record who { locks = left set who.locks }) (cond (who.name == taker) (record who { locks = with_moved given who.locks }) who)
+
+-- the giver's locks on objects of the set become the taker's; nothing changes if both are one
+unfoldable pub hand_over_in : ℕ → ℕ → ObSet → LockTable → LockTable
+hand_over_in giver taker set table = cond (giver == taker) table (map (handed_row giver taker set (filter (moved set) (locks_of table giver))) table)

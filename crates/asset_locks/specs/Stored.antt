@@ -1,5 +1,5 @@
 -- How locks are stored: in a slab, beside two partitions of its keys into chains, by object and by the seat of the owner.
-use Rattle.std.specs.Prelude.{◌≡◌, ℕ, ◌*◌, ◌+◌, ◌<◌, ◌≤◌, Bool, true, false, cond, not, ◌==◌, ◌&&◌, List, [], ◌∷◌, ◌++◌, length, map, position, Option, Some, None, is_some, unwrap_or, slice_index_or}
+use Rattle.std.specs.Prelude.{◌≡◌, ℕ, ◌*◌, ◌+◌, ◌<◌, ◌≤◌, Bool, true, false, cond, not, ◌==◌, ◌&&◌, ◌⊎◌, List, [], ◌∷◌, ◌++◌, length, map, position, Option, Some, None, is_some, unwrap_or, slice_index_or}
 use Rattle.slab.specs.Slab.{Slab, get, HasRoomFor}
 use Rattle.asset_chains.specs.Chained.{Chained, chain_of, home_of, without}
 use Rattle.asset_names.specs.declared.names.Txn.{Txn}
@@ -8,7 +8,7 @@ use Rattle.asset_names.specs.declared.operations.Op.{Op}
 use Rattle.asset_seats.specs.Seated.{Seated, seat}
 use Rattle.asset_locks.specs.declared.lock.Lock.{Lock}
 use Rattle.asset_names.specs.OpSets.{OpSet}
-use Rattle.asset_locks.specs.LockTable.{suspended, Enrolled, LockTable, PendingRequest, both_conflict, one_conflicts}
+use Rattle.asset_locks.specs.LockTable.{suspended, with_moved, Enrolled, LockTable, PendingRequest, both_conflict, one_conflicts}
 use Rattle.asset_locks.specs.Valid.{is_some_op}
 
 pub record Stored : Type 0 where
@@ -125,6 +125,23 @@ pub record IsDropped (key : ℕ) (old new : Stored) : Type 0 where
   pub chains : (c : ℕ) → chain_of new.by_owner c ≡ without key (chain_of old.by_owner c)
   pub homes : (k : ℕ) → home_of new.by_owner k ≡ cond (k == key) None (home_of old.by_owner k)
   pub seats : length new.by_owner.chains ≡ length old.by_owner.chains
+
+-- one lock is another seat's, at the end of those of this seat
+pub record IsMoved (key to : ℕ) (old new : Stored) : Type 0 where
+  pub locks : new.locks ≡ old.locks
+  pub chain : chain_of new.by_owner to ≡ chain_of old.by_owner to ++ key ∷ []
+  pub chains : (d : ℕ) → (d ≡ to → ⊥) → chain_of new.by_owner d ≡ without key (chain_of old.by_owner d)
+  pub homes : (k : ℕ) → home_of new.by_owner k ≡ cond (k == key) (Some to) (home_of old.by_owner k)
+  pub seats : length new.by_owner.chains ≡ length old.by_owner.chains
+
+-- one lock of a seat is another's: by itself, or as one with the lock that the other has on its object
+pub record IsHanded (key from to : ℕ) (old new : Stored) : Type 0 where
+  pub giver : chain_of new.by_owner from ≡ without key (chain_of old.by_owner from)
+  pub kept : (k : ℕ) → home_of old.by_owner k ≡ Some from → (k ≡ key → ⊥) → lock_at new.locks k ≡ lock_at old.locks k
+  pub taker : locks_at new to ≡ with_moved (lock_at old.locks key ∷ []) (locks_at old to)
+  pub others : (d : ℕ) → (d ≡ from → ⊥) → (d ≡ to → ⊥) → locks_at new d ≡ locks_at old d
+  pub seats : length new.by_owner.chains ≡ length old.by_owner.chains
+  pub holders : (k d : ℕ) → home_of new.by_owner k ≡ Some d → (home_of old.by_owner k ≡ Some d) ⊎ (d ≡ to)
 
 -- there is room for one more lock at this key
 pub record HasKey (store : Stored) (key : ℕ) : Type 0 where

@@ -83,7 +83,7 @@ impl LockStore {
     }
 
     /// Returns the number of the object that the lock at the key is on.
-    fn number_at(&self, key: usize) -> usize
+    pub(crate) fn number_at(&self, key: usize) -> usize
         requires { is_some (home_of self.now.by_owner key) ≡ true }
         ensures { number_in self.now.objects (lock_at self.now.locks key).object.0 ≡ Some result }
     {

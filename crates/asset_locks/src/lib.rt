@@ -6,6 +6,7 @@
 #![tactic(auto)]
 
 mod granting;
+mod handing;
 mod lock;
 mod release;
 mod room;

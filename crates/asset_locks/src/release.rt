@@ -8,7 +8,7 @@ impl LockStore {
     ghost use Rattle.asset_locks.specs.Stored.{locks_at, IsDropped};
 
     /// Removes the lock at the key from both of its chains, and from the slab.
-    fn drop_lock(&mut self, key: usize)
+    pub(crate) fn drop_lock(&mut self, key: usize)
         requires { is_some (home_of self.old.by_owner key) ≡ true }
         ensures { IsDropped key self.old self.new }
     {

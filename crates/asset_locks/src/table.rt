@@ -12,7 +12,7 @@ use crate::room::reserve_seat;
 use crate::state::{Asked, LockState};
 use crate::store::LockStore;
 use asset_chains::Chains;
-use asset_names::{NoMemory, Ob, Op, Txn};
+use asset_names::{NoMemory, Ob, ObSet, Op, Txn};
 use asset_permits::Permits;
 use asset_seats::Seats;
 use std::alloc::Global;
@@ -55,7 +55,7 @@ impl Locks {
     ghost use Rattle.std.specs.Prelude.{◌≡◌, ℕ, ◌==◌, true, false, [], None, Some, is_some, slice_get, IfOk, IsOk, IsErr, OnOk, OnErr};
     ghost use Rattle.std.specs.List.{list_any};
     ghost use Rattle.asset_permits.specs.Descriptors.{allows_by};
-    ghost use Rattle.asset_locks.specs.LockTable.{enrol_in, release_in, enrolled_in, is_free_in, lock_in, status_in, held_in, waiters_in};
+    ghost use Rattle.asset_locks.specs.LockTable.{enrol_in, release_in, hand_over_in, enrolled_in, is_free_in, lock_in, status_in, held_in, waiters_in};
     ghost use Rattle.asset_locks.specs.Valid.{answer_where, after_ask, IsValid};
 
     /// Returns a table in which nobody is enrolled. It does not allocate.
@@ -194,6 +194,33 @@ impl Locks {
         self.store.release(c);
         self.order.unlink(c);
         self.seats.leave(c);
+    }
+
+    /// Makes the locks of `giver` on objects of the set those of `taker`; both are enrolled. If `taker` has no lock on an
+    /// object, the lock keeps its operations and its state, and comes at the end of those of `taker`, in the order of
+    /// `giver`. If it has one, the two become one in its place, with the operations of both, which is suspended. Pending
+    /// requests stay. If both are one, nothing changes.
+    ///
+    /// It takes no memory. It looks at each lock of `giver`, and for each that moves, for the lock of `taker`, at the
+    /// locks of `taker` or those on the object, whichever are fewer.
+    pub fn hand_over(&mut self, giver: Txn, taker: Txn, objects: &ObSet)
+        requires giver { is_some (enrolled_in self.old giver.0) ≡ true }
+        requires taker { is_some (enrolled_in self.old taker.0) ≡ true }
+        ensures done { self.new ≡ hand_over_in giver.0 taker.0 objects.now self.old }
+        ensures valid { IsValid self.old }
+    {
+        self.laws();
+        self.order.laws();
+        if giver == taker {
+            return;
+        }
+        let Some(from) = self.seats.seat_of(giver) else {
+            unreachable!();
+        };
+        let Some(to) = self.seats.seat_of(taker) else {
+            unreachable!();
+        };
+        self.store.hand_over(from, to, objects);
     }
 
     /// Says what holds of each table, for proofs. It does nothing.
