@@ -7,9 +7,10 @@ ghost use Rattle.asset_locks.specs.Stored.{is_others};
 use crate::lock::{Request, one_conflicts};
 use crate::store::{LockStore, readers_of, writers_of};
 use asset_chains::Chains;
-use asset_names::{Ob, Op, Txn};
+use asset_names::{NoMemory, Ob, ObSet, Op, Txn};
 use asset_permits::Permits;
 use asset_seats::Seats;
+use std::alloc::Global;
 
 /// Returns whether the lock at the key is another's than the seat's.
 #[tactic(auto, unfolding(crate::specs::Stored::is_others))]
@@ -23,8 +24,9 @@ pub(crate) fn is_others(by_owner: &Chains, key: usize, c: usize) -> bool
 }
 
 impl LockStore {
-    ghost use Rattle.std.specs.Prelude.{◌≡◌, ℕ, ◌+◌, ◌*◌, ◌<◌, ◌^◌, ◌||◌, ◌&&◌, Bool, true, false, Some, map, slice_get, IfSome, IfNone};
+    ghost use Rattle.std.specs.Prelude.{◌≡◌, ℕ, ◌+◌, ◌*◌, ◌<◌, ◌^◌, ◌||◌, ◌&&◌, Bool, true, false, Some, map, filter, slice_get, ◌++◌, IfOk, OnOk, IfSome, IfNone};
     ghost use Rattle.std.specs.List.{list_any};
+    ghost use Rattle.asset_names.specs.InSet.{in_set};
     ghost use Rattle.asset_names.specs.OpSets.{has_op, only_op};
     ghost use Rattle.asset_names.specs.declared.operations.Op.TheVariants as Op';
     ghost use Rattle.asset_chains.specs.Chained.{chain_of, home_of};
@@ -210,5 +212,41 @@ impl LockStore {
             next = self.by_owner.next(key);
         }
         None
+    }
+
+    /// Returns the objects of the set on which the seat has a lock, in order of first grant. If memory runs out, the
+    /// answer is `NoMemory`.
+    pub(crate) fn held_among(
+        &self,
+        alloc: Global,
+        c: usize,
+        objects: &ObSet,
+    ) -> Result<Vec<Ob>, NoMemory>
+        ensures { IfOk result (λ held. held.items ≡ filter (λ (x : Ob). in_set objects.now x.0) (map (λ (lock : Held). lock.object) (locks_at self.now c))) }
+    {
+        let mut held = Vec::new(alloc);
+        match self.add_held(c, objects, &mut held) {
+            Ok(()) => Ok(held),
+            Err(NoMemory) => Err(NoMemory),
+        }
+    }
+
+    /// Adds the objects of the set on which the seat has a lock, in order of first grant, unless memory runs out.
+    fn add_held(&self, c: usize, objects: &ObSet, held: &mut Vec<Ob>) -> Result<(), NoMemory>
+        ensures { OnOk result (held.new.items ≡ held.old.items ++ filter (λ (x : Ob). in_set objects.now x.0) (map (λ (lock : Held). lock.object) (locks_at self.now c))) }
+    {
+        self.by_owner.laws();
+        let mut next = self.by_owner.first(c);
+        'keys: while let Some(key) = next {
+            let x = self.lock(key).object;
+            if objects.has(x) {
+                match held.push(x) {
+                    Ok(()) => {}
+                    Err(_) => return Err(NoMemory),
+                }
+            }
+            next = self.by_owner.next(key);
+        }
+        Ok(())
     }
 }

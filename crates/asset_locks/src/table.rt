@@ -52,9 +52,10 @@ fn waiter_at(seats: &Seats, pending: &[Option<(Ob, Op)>], c: usize, x: Ob) -> Op
 }
 
 impl Locks {
-    ghost use Rattle.std.specs.Prelude.{◌≡◌, ℕ, ◌==◌, true, false, [], None, Some, is_some, slice_get, IfOk, IsOk, IsErr, OnOk, OnErr};
+    ghost use Rattle.std.specs.Prelude.{◌≡◌, ℕ, ◌==◌, true, false, [], None, Some, is_some, slice_get, filter, IfOk, IsOk, IsErr, OnOk, OnErr};
     ghost use Rattle.std.specs.List.{list_any};
     ghost use Rattle.asset_permits.specs.Descriptors.{allows_by};
+    ghost use Rattle.asset_names.specs.InSet.{in_set};
     ghost use Rattle.asset_locks.specs.LockTable.{enrol_in, release_in, hand_over_in, enrolled_in, is_free_in, lock_in, status_in, held_in, waiters_in};
     ghost use Rattle.asset_locks.specs.Valid.{answer_where, after_ask, IsValid};
 
@@ -160,6 +161,22 @@ impl Locks {
         self.order.laws();
         let c = self.seats.seat_of(t)?;
         self.store.held_at(c, n)
+    }
+
+    /// Returns the objects of the set on which `t` has a lock, in the order of `held_by`. It looks at the locks of `t`
+    /// once.
+    ///
+    /// If memory runs out, the answer is `NoMemory`.
+    pub fn held_among(&self, alloc: Global, t: Txn, objects: &ObSet) -> Result<Vec<Ob>, NoMemory>
+        ensures held { IfOk result (λ held. held.items ≡ filter (λ (x : Ob). in_set objects.now x.0) (held_in self.now t.0)) }
+        ensures valid { IsValid self.now }
+    {
+        self.laws();
+        self.order.laws();
+        match self.seats.seat_of(t) {
+            Some(c) => self.store.held_among(alloc, c, objects),
+            None => Ok(Vec::new(alloc)),
+        }
     }
 
     /// Returns the waiter at the index among those whose pending request is on `x`, in order of enrolment from 0, with
