@@ -9,3 +9,4 @@ pub mod PassLemmas
 pub mod BlockLemmas
 pub mod TableLemmas
 pub mod HandedRows
+pub mod HandLaws
