@@ -15,6 +15,8 @@ mod examples;
 #[cfg(test)]
 mod facility;
 #[cfg(test)]
+mod handing;
+#[cfg(test)]
 mod locks;
 #[cfg(test)]
 mod locks_beside_list;

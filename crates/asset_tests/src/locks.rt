@@ -27,7 +27,7 @@ fn enrol(locks: &mut Locks, t: u64) -> Result<(), NoMemory> {
 }
 
 /// Asks as `ask_once` does. If memory runs out once, the same call is made again.
-fn ask(
+pub(crate) fn ask(
     locks: &mut Locks,
     t: u64,
     x: u64,
