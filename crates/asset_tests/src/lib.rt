@@ -17,6 +17,8 @@ mod facility;
 #[cfg(test)]
 mod handing;
 #[cfg(test)]
+mod handing_writes;
+#[cfg(test)]
 mod locks;
 #[cfg(test)]
 mod locks_beside_list;

@@ -5,7 +5,7 @@ use asset_objects::{Objects, ObjectsFault};
 use std::alloc::Global;
 use std::test::Fail;
 
-const TWO: [(Ob, i64); 2] = [(Ob(1), 100), (Ob(2), 200)];
+pub(crate) const TWO: [(Ob, i64); 2] = [(Ob(1), 100), (Ob(2), 200)];
 
 /// Reserves a write, and writes to an object if it exists.
 pub(crate) fn write_once(objects: &mut Objects, t: u64, x: u64, v: i64) -> Result<(), NoMemory> {
@@ -17,7 +17,7 @@ pub(crate) fn write_once(objects: &mut Objects, t: u64, x: u64, v: i64) -> Resul
 }
 
 /// Writes as `write_once` does. If memory runs out, nothing has changed, and the same call is made again.
-fn write(objects: &mut Objects, t: u64, x: u64, v: i64) -> Result<(), NoMemory> {
+pub(crate) fn write(objects: &mut Objects, t: u64, x: u64, v: i64) -> Result<(), NoMemory> {
     let before = objects.value(Ob(x));
     match write_once(objects, t, x, v) {
         Err(NoMemory) if objects.value(Ob(x)) == before => write_once(objects, t, x, v),
@@ -26,7 +26,7 @@ fn write(objects: &mut Objects, t: u64, x: u64, v: i64) -> Result<(), NoMemory> 
 }
 
 /// Opens these objects. If memory runs out once, they are opened again.
-fn opened(alloc: Global, opening: &[(Ob, i64)]) -> Result<Objects, ObjectsFault> {
+pub(crate) fn opened(alloc: Global, opening: &[(Ob, i64)]) -> Result<Objects, ObjectsFault> {
     match Objects::open(alloc, opening) {
         Err(ObjectsFault::NoMemory) => Objects::open(alloc, opening),
         opened => opened,
@@ -40,7 +40,7 @@ fn write_twice(objects: &mut Objects) -> Result<(), NoMemory> {
 }
 
 /// Returns whether the two objects have these values.
-fn shows(objects: &Objects, first: i64, second: i64) -> bool {
+pub(crate) fn shows(objects: &Objects, first: i64, second: i64) -> bool {
     objects.value(Ob(1)) == Some(first)
         && objects.value(Ob(2)) == Some(second)
         && objects.value(Ob(9)) == None

@@ -134,6 +134,29 @@ fn thousand_transactions_are_seated(rt: HostRuntime) -> Result<(), Fail> {
     Ok(())
 }
 
+/// Adds three seats, and lets 7 have the last of them and leave it; returns the seats that were given and how many there
+/// are.
+fn add_seats(seats: &mut Seats) -> Result<(usize, usize, usize), NoMemory> {
+    for _ in 0..3 {
+        if let Err(NoMemory) = seats.add_seat() {
+            seats.add_seat()?;
+        }
+    }
+    let first = sit(seats, 7)?;
+    seats.leave(first);
+    let again = sit(seats, 8)?;
+    Ok((first, again, seats.seats()))
+}
+
+#[test]
+fn added_seats_are_free(rt: HostRuntime) -> Result<(), Fail> {
+    let mut seats = Seats::new(rt.alloc());
+    let added = add_seats(&mut seats);
+    drop(seats);
+    assert_eq!(rt; added, Ok((2, 2, 3)));
+    Ok(())
+}
+
 /// Adds keys up to 100 and chains up to 50, once each; returns how many there are.
 fn add_room(chains: &mut Chains) -> Result<(usize, usize), NoMemory> {
     add_keys(chains, 100)?;
