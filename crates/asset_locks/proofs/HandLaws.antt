@@ -288,7 +288,7 @@ waiters_changed : (change : Enrolled → Enrolled) (x : ℕ) (table : LockTable)
 waiters_changed change x [] names keeps = refl
 waiters_changed change x (who ∷ table) names keeps = λ i. waiting_at x (names who i) (keeps who i) ++ waiters_changed change x table names keeps i
 
-handed_name : (giver taker : ℕ) (set : ObSet) (given : List Lock) (who : Enrolled) → (handed_row giver taker set given who).name ≡ who.name
+pub handed_name : (giver taker : ℕ) (set : ObSet) (given : List Lock) (who : Enrolled) → (handed_row giver taker set given who).name ≡ who.name
 unfolding handed_row
 handed_name giver taker set given who = go (eqb who.name giver) (eqb who.name taker) where
   go : (g t : Bool) → (cond g (record who { locks = left set who.locks }) (cond t (record who { locks = with_moved given who.locks }) who)).name ≡ who.name
@@ -296,7 +296,7 @@ handed_name giver taker set given who = go (eqb who.name giver) (eqb who.name ta
   go false true = refl
   go false false = refl
 
-handed_pending : (giver taker : ℕ) (set : ObSet) (given : List Lock) (who : Enrolled) → (handed_row giver taker set given who).pending ≡ who.pending
+pub handed_pending : (giver taker : ℕ) (set : ObSet) (given : List Lock) (who : Enrolled) → (handed_row giver taker set given who).pending ≡ who.pending
 unfolding handed_row
 handed_pending giver taker set given who = go (eqb who.name giver) (eqb who.name taker) where
   go : (g t : Bool) → (cond g (record who { locks = left set who.locks }) (cond t (record who { locks = with_moved given who.locks }) who)).pending ≡ who.pending

@@ -6,6 +6,7 @@ pub mod SuspendLemmas
 pub mod GrantLemmas
 pub mod HandLemmas
 pub mod PassLemmas
+pub mod OneLemmas
 pub mod BlockLemmas
 pub mod TableLemmas
 pub mod HandedRows

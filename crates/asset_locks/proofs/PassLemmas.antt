@@ -46,7 +46,7 @@ any_filtered p test (lock ∷ locks) none = go (test lock) (or_parts (p lock) (l
   go false first rest = rest
 
 -- if none passes, all fail
-all_fail : (test : Lock → Bool) (locks : List Lock) → filter test locks ≡ [] → filter (λ (lock : Lock). not (test lock)) locks ≡ locks
+pub all_fail : (test : Lock → Bool) (locks : List Lock) → filter test locks ≡ [] → filter (λ (lock : Lock). not (test lock)) locks ≡ locks
 all_fail test [] none = refl
 all_fail test (lock ∷ locks) none = go (test lock) refl (all_fail test locks) where
   some_not : (l : Lock) (ls : List Lock) → l ∷ ls ≡ [] → ⊥
@@ -162,12 +162,12 @@ module _ (set : ObSet) (store : Stored) (from key : ℕ) (at : Option ℕ) (soun
           stays : Lock → Bool
           stays lock = not (moved set lock)
 
-    still_moving : filter (moved set) (locks_at new from) ≡ filter (moved set) (map (lock_at store.locks) rest)
+    pub still_moving : filter (moved set) (locks_at new from) ≡ filter (moved set) (map (lock_at store.locks) rest)
     still_moving =
         ap (filter (moved set)) locks_left ∙ filter-append (moved set) (map (lock_at store.locks) passed.0) (map (lock_at store.locks) rest)
         ∙ ap (λ (l : List Lock). l ++ filter (moved set) (map (lock_at store.locks) rest)) passed.4
 
-    was_moving : filter (moved set) (locks_at store from) ≡ lock_at store.locks key ∷ filter (moved set) (map (lock_at store.locks) rest)
+    pub was_moving : filter (moved set) (locks_at store from) ≡ lock_at store.locks key ∷ filter (moved set) (map (lock_at store.locks) rest)
     was_moving =
         ap (filter (moved set)) locks_split
         ∙ filter-append (moved set) (map (lock_at store.locks) passed.0) (lock_at store.locks key ∷ map (lock_at store.locks) rest)

@@ -7,7 +7,7 @@ ghost use Rattle.asset_locks.specs.Stored.{lock_at};
 
 use crate::lock::Lock;
 use crate::store::{LockStore, writers_of};
-use asset_names::{ObSet, Op, Ops};
+use asset_names::{Ob, ObSet, Op, Ops};
 use slab::Slab;
 
 /// Returns the operations of both.
@@ -41,14 +41,48 @@ fn add_ops(locks: &mut Slab<Lock>, key: usize, ops: Ops)
 
 impl LockStore {
     ghost use Rattle.std.specs.Prelude.{◌≡◌, ◌==◌, ℕ, ◌<◌, ◌⊎◌, cond, true, false, filter, length, Some, is_some};
+    ghost use Rattle.asset_names.specs.declared.sets.ObSet.{ObSet as ObjectSet};
+    ghost use Rattle.asset_names.specs.InSet.{only_in};
     ghost use Rattle.asset_chains.specs.Chained.{home_of};
     ghost use Rattle.asset_locks.specs.LockTable.{is_on, both_ops, moved, left, with_moved};
     ghost use Rattle.asset_locks.specs.Stored.{lock_at, locks_at, IsMoved, IsHanded};
 
     /// Moves the giver's locks on objects of the set to the taker's seat, each at the end or as one with the taker's lock
     /// on its object, which is suspended then. The cost is that of a look at each lock of the giver, and of a search for
-    /// each that moves.
+    /// each that moves; of a set that lists one object, that of a search for each of the two locks on it.
     pub(crate) fn hand_over(&mut self, from: usize, to: usize, objects: &ObSet)
+        requires apart { from ≡ to → ⊥ }
+        requires seat { to < length self.old.by_owner.chains }
+        ensures giver { locks_at self.new from ≡ left objects.now (locks_at self.old from) }
+        ensures taker { locks_at self.new to ≡ with_moved (filter (moved objects.now) (locks_at self.old from)) (locks_at self.old to) }
+        ensures others { (d : ℕ) → (d ≡ from → ⊥) → (d ≡ to → ⊥) → locks_at self.new d ≡ locks_at self.old d }
+        ensures seats { length self.new.by_owner.chains ≡ length self.old.by_owner.chains }
+        ensures holders { (k d : ℕ) → home_of self.new.by_owner k ≡ Some d → (home_of self.old.by_owner k ≡ Some d) ⊎ (d ≡ to) }
+    {
+        match objects.only() {
+            Some(x) => self.hand_one(from, to, x),
+            None => self.hand_each(from, to, objects),
+        }
+    }
+
+    /// Moves the giver's lock on the object, if it has one, as `hand_over` does.
+    fn hand_one(&mut self, from: usize, to: usize, x: Ob)
+        requires apart { from ≡ to → ⊥ }
+        requires seat { to < length self.old.by_owner.chains }
+        ensures giver { (set : ObjectSet) → only_in set ≡ Some x → locks_at self.new from ≡ left set (locks_at self.old from) }
+        ensures taker { (set : ObjectSet) → only_in set ≡ Some x → locks_at self.new to ≡ with_moved (filter (moved set) (locks_at self.old from)) (locks_at self.old to) }
+        ensures others { (d : ℕ) → (d ≡ from → ⊥) → (d ≡ to → ⊥) → locks_at self.new d ≡ locks_at self.old d }
+        ensures seats { length self.new.by_owner.chains ≡ length self.old.by_owner.chains }
+        ensures holders { (k d : ℕ) → home_of self.new.by_owner k ≡ Some d → (home_of self.old.by_owner k ≡ Some d) ⊎ (d ≡ to) }
+    {
+        self.laws();
+        if let Some(key) = self.key_on(self.number(x), from, x) {
+            self.hand_key(key, to);
+        }
+    }
+
+    /// Moves the giver's locks on objects of the set, as `hand_over` does, by a look at each lock of the giver.
+    fn hand_each(&mut self, from: usize, to: usize, objects: &ObSet)
         requires apart { from ≡ to → ⊥ }
         requires seat { to < length self.old.by_owner.chains }
         ensures giver { locks_at self.new from ≡ left objects.now (locks_at self.old from) }

@@ -26,7 +26,8 @@ pub(crate) fn is_others(by_owner: &Chains, key: usize, c: usize) -> bool
 impl LockStore {
     ghost use Rattle.std.specs.Prelude.{◌≡◌, ℕ, ◌+◌, ◌*◌, ◌<◌, ◌^◌, ◌||◌, ◌&&◌, Bool, true, false, Some, map, filter, slice_get, ◌++◌, IfOk, OnOk, IfSome, IfNone};
     ghost use Rattle.std.specs.List.{list_any};
-    ghost use Rattle.asset_names.specs.InSet.{in_set};
+    ghost use Rattle.asset_names.specs.declared.sets.ObSet.{ObSet as ObjectSet};
+    ghost use Rattle.asset_names.specs.InSet.{in_set, only_in};
     ghost use Rattle.asset_names.specs.OpSets.{has_op, only_op};
     ghost use Rattle.asset_names.specs.declared.operations.Op.TheVariants as Op';
     ghost use Rattle.asset_chains.specs.Chained.{chain_of, home_of};
@@ -215,7 +216,8 @@ impl LockStore {
     }
 
     /// Returns the objects of the set on which the seat has a lock, in order of first grant. If memory runs out, the
-    /// answer is `NoMemory`.
+    /// answer is `NoMemory`. It looks at each lock of the seat; for a set that lists one object, it searches for the lock
+    /// on it.
     pub(crate) fn held_among(
         &self,
         alloc: Global,
@@ -225,9 +227,27 @@ impl LockStore {
         ensures { IfOk result (λ held. held.items ≡ filter (λ (x : Ob). in_set objects.now x.0) (map (λ (lock : Held). lock.object) (locks_at self.now c))) }
     {
         let mut held = Vec::new(alloc);
-        match self.add_held(c, objects, &mut held) {
+        let added = match objects.only() {
+            Some(x) => self.add_one(c, x, &mut held),
+            None => self.add_held(c, objects, &mut held),
+        };
+        match added {
             Ok(()) => Ok(held),
             Err(NoMemory) => Err(NoMemory),
+        }
+    }
+
+    /// Adds the object if the seat has a lock on it, unless memory runs out.
+    fn add_one(&self, c: usize, x: Ob, held: &mut Vec<Ob>) -> Result<(), NoMemory>
+        ensures { OnOk result ((set : ObjectSet) → only_in set ≡ Some x → held.new.items ≡ held.old.items ++ filter (λ (y : Ob). in_set set y.0) (map (λ (lock : Held). lock.object) (locks_at self.now c))) }
+    {
+        self.laws();
+        let Some(_key) = self.key_on(self.number(x), c, x) else {
+            return Ok(());
+        };
+        match held.push(x) {
+            Ok(()) => Ok(()),
+            Err(_) => Err(NoMemory),
         }
     }
 

@@ -158,7 +158,7 @@ impl ObList {
 
 impl ObSet {
     ghost use Rattle.std.specs.Prelude.{◌≡◌};
-    ghost use Rattle.asset_names.specs.InSet.{in_set};
+    ghost use Rattle.asset_names.specs.InSet.{in_set, only_in};
 
     /// Returns whether the object is in the set.
     #[tactic(auto, unfolding(crate::specs::InSet::in_set))]
@@ -168,6 +168,22 @@ impl ObSet {
         match self {
             ObSet::All => true,
             ObSet::Listed(list) => list.has(x),
+        }
+    }
+
+    /// Returns the object of a set that lists one alone, and `None` of any other set.
+    #[tactic(auto, unfolding(crate::specs::InSet::only_in))]
+    pub fn only(&self) -> Option<Ob>
+        ensures { result ≡ only_in self.now }
+    {
+        let ObSet::Listed(list) = self else {
+            return None;
+        };
+        let objects = list.objects();
+        if objects.len() == 1 {
+            Some(objects[0])
+        } else {
+            None
         }
     }
 }

@@ -5,7 +5,7 @@ use Rattle.asset_locks.specs.declared.lock.Lock.{Lock}
 use Rattle.asset_locks.specs.LockTable.{moved}
 use Rattle.asset_locks.specs.Stored.{Stored, locks_at}
 use Rattle.asset_locks.proofs.PassLemmas.{key_home, passes_one, fewer_if_stays, passes_moved, fewer_if_moved, keeps_same, gives_same, all_kept, all_given}
-use Rattle.asset_locks.proofs.store.LockStore.hand_over.Goals as goal
+use Rattle.asset_locks.proofs.store.LockStore.hand_each.Goals as goal
 
 pub hand_key-requires-clause-there : goal.hand_key-requires-clause-there
 hand_key-requires-clause-there c = ap is_some (key_home c.args.objects.now c.keys.self c.args.from c.in-Some.key c.keys.next c.laws-in-Some.ensures.owners c.keys.invariant.passed c.in-Some.is)

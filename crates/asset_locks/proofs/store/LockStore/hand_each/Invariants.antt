@@ -4,7 +4,7 @@ use Rattle.asset_chains.proofs.Walks.{from_key}
 use Rattle.asset_locks.specs.LockTable.{moved, left, with_moved}
 use Rattle.asset_locks.specs.Stored.{locks_at}
 use Rattle.asset_locks.proofs.PassLemmas.{IsPassed}
-use Rattle.asset_locks.proofs.store.LockStore.hand_over.Given as goal
+use Rattle.asset_locks.proofs.store.LockStore.hand_each.Given as goal
 
 -- of the keys that were passed none moves, and what moves in the end is the same
 abbrev pub invariant-keys : goal.invariant-keys
