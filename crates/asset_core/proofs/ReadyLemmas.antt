@@ -1,7 +1,7 @@
 -- A step that is answered finds the tables ready for it.
 use Rattle.std.proofs.Common.{◌≡◌, ℕ, Bool, true, false, cond, List, [], refl, sym, ◌∙◌, ap, Some, None}
 use Rattle.std.specs.Prelude.{Option}
-use Rattle.std.proofs.lemmas.Bool.{false≢true}
+use Rattle.std.proofs.lemmas.Bool.{not-false, false≢true}
 use Rattle.asset_names.specs.declared.names.Txn.{Txn}
 use Rattle.asset_names.specs.declared.operations.Op.TheVariants as Op'
 use Rattle.asset_names.specs.declared.statuses.Status.{Status}
@@ -12,17 +12,14 @@ use Rattle.asset_names.specs.declared.replies.Refusal.{Refusal}
 use Rattle.asset_names.specs.declared.replies.Reply.{Reply}
 use Rattle.asset_names.specs.declared.replies.Outcome.{Outcome}
 use Rattle.asset_names.specs.declared.replies.Outcome.TheVariants.{Answer, Wait}
-use Rattle.asset_names.specs.Arrows.{lists}
-use Rattle.asset_names.specs.Steps.{Opening, takes_effect, initiated}
+use Rattle.asset_names.specs.Steps.{Opening, takes_effect}
 use Rattle.asset_names.specs.Endings.{status, is_live_status}
-use Rattle.asset_names.specs.Answers.{answer, outcome_unless, unrefused, rules_for, first_refusal, unknown, ended, begun_before, is_unknown, has_ended, has_begun, is_running, is_completed, commit_outcome}
+use Rattle.asset_names.specs.Answers.{answer, outcome_unless, unrefused, rules_for, first_refusal, unknown, ended, taken, begun_before, is_unknown, has_ended, has_begun, is_running, is_completed, commit_outcome}
 use Rattle.asset_names.proofs.ClassLemmas.{completed_alone}
-use Rattle.asset_names.proofs.LegalLemmas.{effect_unrefused, first_none, initiate_new, complete_runs, permit_live}
+use Rattle.asset_names.proofs.LegalLemmas.{effect_unrefused, first_none, complete_runs, permit_live}
 use Rattle.asset_trans.specs.TransRows.{status_in}
 use Rattle.asset_ends.specs.Shows.{Shows}
 use Rattle.asset_ends.specs.Standing.{Standing, values_of, is_free_for}
-use Rattle.asset_ends.proofs.TransLaws.{row_absent}
-use Rattle.asset_ends.proofs.HistoryLemmas.{lists_reverse}
 use Rattle.asset_ends.proofs.ShowsLemmas.{free_shown, live_shown}
 use Rattle.asset_ends.proofs.StandingLemmas.{object_exists}
 use Rattle.asset_core.specs.Tables.{IsReady, MayWait}
@@ -36,6 +33,15 @@ running_is Status'.Initiated h = absurd (false≢true h)
 running_is Status'.Completed h = absurd (false≢true h)
 running_is Status'.Committed h = absurd (false≢true h)
 running_is Status'.Aborted h = absurd (false≢true h)
+
+unknown_is : (status : Status) → is_unknown status ≡ true → status ≡ Status'.Unknown
+unfolding is_unknown
+unknown_is Status'.Unknown h = refl
+unknown_is Status'.Initiated h = absurd (false≢true h)
+unknown_is Status'.Running h = absurd (false≢true h)
+unknown_is Status'.Completed h = absurd (false≢true h)
+unknown_is Status'.Committed h = absurd (false≢true h)
+unknown_is Status'.Aborted h = absurd (false≢true h)
 
 initiated_is : (status : Status) → is_unknown status ≡ false → has_ended status ≡ false → has_begun status ≡ false → status ≡ Status'.Initiated
 unfolding is_unknown has_ended has_begun
@@ -89,9 +95,9 @@ waits_unrefused opening steps step is = go (first_refusal (rules_for opening ste
   go (Some refusal) h = cc
 
 pub ready : (opening : Opening) (steps : List Step) (tables : Standing) (step : Step) (reply : Reply) → Shows opening steps (values_of tables) → answer opening steps step ≡ Answer reply → takes_effect step reply ≡ true → IsReady step tables
-unfolding rules_for unknown ended begun_before unrefused is_free_for
+unfolding rules_for unknown ended taken begun_before unrefused is_free_for
 ready opening steps tables (Initiate t parent) reply stand is carried =
-    row_absent tables.trans t.0 (ap (λ names. lists names t.0) stand.names ∙ lists_reverse (initiated steps) t.0 ∙ initiate_new opening steps t parent reply is carried)
+    stand.statuses t.0 ∙ unknown_is (status steps t.0) (not-false _ (first_none (taken steps t) [] (effect_unrefused opening steps (Initiate t parent) reply is carried)).0)
 ready opening steps tables (Begin t) reply stand is carried =
     let one = first_none (unknown steps t) _ (effect_unrefused opening steps (Begin t) reply is carried) in
     let two = first_none (ended steps t) _ one.1 in

@@ -1,5 +1,5 @@
 -- The tables of the facility, and when a step finds them ready.
-use Rattle.std.specs.Prelude.{◌≡◌, ℕ, ℤ, pos, ◌+◌, ◌≤◌, ◌==◌, true, false, cond, List, map, length, None, unwrap_or}
+use Rattle.std.specs.Prelude.{◌≡◌, ℕ, ℤ, pos, ◌+◌, ◌≤◌, ◌==◌, true, false, cond, List, map, length, unwrap_or}
 use Rattle.asset_names.specs.declared.operations.Op.TheVariants as Op'
 use Rattle.asset_names.specs.declared.statuses.Status.TheVariants as Status'
 use Rattle.asset_names.specs.declared.steps.Step.{Step}
@@ -13,7 +13,7 @@ use Rattle.asset_names.specs.Answers.{IsLegal, is_completed}
 use Rattle.asset_names.specs.Room.{owed}
 use Rattle.asset_objects.specs.Cells.{cells, value_in, has_object}
 use Rattle.asset_locks.specs.LockTable as Locks
-use Rattle.asset_trans.specs.TransRows.{row_in, status_in}
+use Rattle.asset_trans.specs.TransRows.{status_in}
 use Rattle.asset_core.specs.Recorded.{Recorded}
 use Rattle.asset_core.specs.Pending.{Pending}
 use Rattle.asset_ends.specs.Standing.{Standing, values_of, is_free_for}
@@ -34,7 +34,7 @@ read_outcome tables t x = cond (is_free_for tables t x Op'.Read) (Answer (Reply'
 
 -- what a step that is to take effect asks of the tables
 abbrev pub IsReady : Step → Standing → Type 0
-IsReady (Initiate t parent) tables = row_in tables.trans t.0 ≡ None
+IsReady (Initiate t parent) tables = status_in tables.trans t.0 ≡ Status'.Unknown
 IsReady (Begin t) tables = status_in tables.trans t.0 ≡ Status'.Initiated
 IsReady (Read t x) tables = (status_in tables.trans t.0 ≡ Status'.Running) × (is_free_for tables t.0 x.0 Op'.Read ≡ true)
 IsReady (Write t x v) tables = (status_in tables.trans t.0 ≡ Status'.Running) × (is_free_for tables t.0 x.0 Op'.Write ≡ true) × (has_object (cells tables.objects) x.0 ≡ true)

@@ -56,11 +56,11 @@ pub running_enrolled : (rows : List NamedTransRow) (table : Locks.LockTable) (t 
 unfolding is_live_status
 running_enrolled rows table t enrolled runs = live_enrolled rows table t enrolled (ap is_live_status runs)
 
--- who has no row is not enrolled
-pub new_not_enrolled : (rows : List NamedTransRow) (table : Locks.LockTable) (t : ℕ) → AreEnrolled rows table → row_in rows t ≡ None → Locks.enrolled_in table t ≡ None
-unfolding AreEnrolled Locks.enrolled_in Locks.names_in status_in status_or_unknown is_live_status
-new_not_enrolled rows table t enrolled none =
-    none_of _ (enrolled_named table t ∙ enrolled t ∙ ap (λ row. is_live_status (status_or_unknown row)) none)
+-- who is unknown is not enrolled
+pub new_not_enrolled : (rows : List NamedTransRow) (table : Locks.LockTable) (t : ℕ) → AreEnrolled rows table → status_in rows t ≡ Status'.Unknown → Locks.enrolled_in table t ≡ None
+unfolding AreEnrolled Locks.enrolled_in Locks.names_in is_live_status
+new_not_enrolled rows table t enrolled unknown =
+    none_of _ (enrolled_named table t ∙ enrolled t ∙ ap is_live_status unknown)
 
 -- nobody is there at first
 pub nobody_enrolled : (rows : List NamedTransRow) (table : Locks.LockTable) → rows ≡ [] → table ≡ [] → AreEnrolled rows table

@@ -15,13 +15,13 @@ impl Tables {
     ghost use Rattle.asset_objects.specs.Cells.{cells, value_in, has_object, change_at, written};
     ghost use Rattle.asset_locks.specs.LockTable.{enrol_in};
     ghost use Rattle.asset_locks.specs.Valid.{after_ask};
-    ghost use Rattle.asset_trans.specs.TransRows.{row_in, status_in};
+    ghost use Rattle.asset_trans.specs.TransRows.{status_in};
     ghost use Rattle.asset_ends.specs.Shows.{Shows};
     ghost use Rattle.asset_ends.specs.Standing.{values_of, is_free_for, step_if, SameView};
 
     /// Initiates a transaction that never was. If memory runs out, nothing that any call shows has changed.
     pub fn initiate(&mut self, t: Txn, parent: Option<Txn>) -> Result<(), NoMemory>
-        requires new { row_in self.old.trans t.0 ≡ None }
+        requires new { status_in self.old.trans t.0 ≡ Status.Unknown }
         ensures stand { OnOk result ((opening : Opening) (steps : List Request) → Shows opening steps (values_of self.old) → IsOrderly steps → Shows opening (Request.Initiate t parent ∷ steps) (values_of self.new)) }
         ensures locks { OnOk result (self.new.locks ≡ enrol_in t.0 self.old.locks) }
         ensures unchanged { OnErr result (SameView self.new self.old) }

@@ -85,7 +85,7 @@ fn ended_as(how: End) -> Status
 }
 
 impl Trans {
-    ghost use Rattle.std.specs.Prelude.{◌≡◌, ◌≤◌, true, false, [], OnOk, OnErr, ◌==◌, is_some};
+    ghost use Rattle.std.specs.Prelude.{◌≡◌, ◌≤◌, true, false, [], None, OnOk, OnErr, ◌==◌, is_some};
     ghost use Rattle.asset_names.specs.declared.statuses.Status.{Status};
     ghost use Rattle.asset_names.specs.Room.{owed_to};
     ghost use Rattle.asset_trans.specs.TransRows.{row_in, status_in, parent_in, initiate_in, set_in, ended_as, one_if_live, live_count_in, owed_in};
@@ -109,6 +109,7 @@ impl Trans {
     pub fn initiate(&mut self, t: Txn, parent: Option<Txn>) -> Result<(), NoMemory>
         requires new { status_in self.old t.0 ≡ Status.Unknown }
         ensures done { OnOk result (self.new ≡ initiate_in self.old t parent) }
+        ensures absent { row_in self.old t.0 ≡ None }
         ensures unchanged { OnErr result (self.new ≡ self.old) }
     {
         add_row(&mut self.rows, t, parent)?;

@@ -26,3 +26,9 @@ invariant_of-self-2 c =
 
 pub add_row-requires : goal.add_row-requires
 add_row-requires c = record { absent = unknown_absent c.args.t.0 c.self.inside.rows.entries c.self.invariant.known (rw c.self.view_is c.requires.new) }
+
+pub returns-in_err-add_row-clause-absent : goal.returns-in_err-add_row-clause-absent
+returns-in_err-add_row-clause-absent c = rw (← c.self.view_is) (unknown_absent c.args.t.0 c.self.inside.rows.entries c.self.invariant.known (rw c.self.view_is c.requires.new))
+
+pub returns-clause-absent : goal.returns-clause-absent
+returns-clause-absent c = rw (← c.self.view_is) (unknown_absent c.args.t.0 c.self.inside.rows.entries c.self.invariant.known (rw c.self.view_is c.requires.new))
