@@ -8,7 +8,7 @@ use Rattle.asset_names.specs.declared.names.Ob.{Ob}
 use Rattle.asset_names.specs.declared.operations.Op.{Op}
 use Rattle.asset_names.specs.declared.operations.Op.TheVariants as Op'
 use Rattle.asset_names.specs.declared.steps.Step.{Step}
-use Rattle.asset_names.specs.declared.steps.Step.TheVariants.{Initiate, Begin, Read, Write, Complete, Permit, Commit, Abort, WaitFor}
+use Rattle.asset_names.specs.declared.steps.Step.TheVariants.{Initiate, Begin, Read, Write, Complete, Permit, Delegate, Commit, Abort, WaitFor}
 use Rattle.asset_names.specs.declared.replies.Reply.{Reply}
 use Rattle.asset_names.specs.declared.replies.Outcome.{Outcome}
 use Rattle.asset_names.specs.declared.replies.Outcome.TheVariants.{Answer, Wait}
@@ -21,7 +21,11 @@ use Rattle.asset_names.proofs.EndLemmas.{commits, aborts, commits_nobody, aborts
 use Rattle.asset_names.proofs.ClassLemmas.{commits_alone, aborts_alone}
 use Rattle.asset_names.proofs.Common.{eqb-flip}
 use Rattle.asset_names.specs.OpSets.{OpSet}
+use Rattle.asset_names.specs.declared.sets.ObSet.{ObSet}
+use Rattle.asset_names.proofs.DelegateLemmas.{live_delegated}
+use Rattle.asset_locks.specs.declared.lock.Lock.{Lock}
 use Rattle.asset_locks.specs.LockTable as Locks
+use Rattle.asset_locks.proofs.HandLaws.{handed_name, handed_pending}
 use Rattle.asset_trans.specs.TransRows.{status_in}
 use Rattle.asset_ends.specs.Standing.{Standing, values_of}
 use Rattle.asset_core.specs.Recorded.{after}
@@ -88,6 +92,7 @@ asker_keeps (Initiate t parent) outcome asker = refl
 asker_keeps (Begin t) outcome asker = refl
 asker_keeps (Complete t) outcome asker = refl
 asker_keeps (Permit giver taker obs ops) outcome asker = refl
+asker_keeps (Delegate giver taker obs) outcome asker = refl
 asker_keeps (Commit t) outcome asker = refl
 asker_keeps (Abort t) outcome asker = refl
 asker_keeps (WaitFor t) outcome asker = refl
@@ -120,6 +125,7 @@ asker_unchanged (Initiate t parent) reply asker none = refl
 asker_unchanged (Begin t) reply asker none = refl
 asker_unchanged (Complete t) reply asker none = refl
 asker_unchanged (Permit giver taker obs ops) reply asker none = refl
+asker_unchanged (Delegate giver taker obs) reply asker none = refl
 asker_unchanged (Commit t) reply asker none = refl
 asker_unchanged (Abort t) reply asker none = refl
 asker_unchanged (WaitFor t) reply asker none = refl
@@ -132,6 +138,7 @@ new_unchanged (Read t x) reply none = refl
 new_unchanged (Write t x v) reply none = refl
 new_unchanged (Complete t) reply none = refl
 new_unchanged (Permit giver taker obs ops) reply none = refl
+new_unchanged (Delegate giver taker obs) reply none = refl
 new_unchanged (Commit t) reply none = refl
 new_unchanged (Abort t) reply none = refl
 new_unchanged (WaitFor t) reply none = refl
@@ -175,6 +182,7 @@ waiting_askers (Initiate t parent) tables = same_askers _ _ (λ asker. refl)
 waiting_askers (Begin t) tables = same_askers _ _ (λ asker. refl)
 waiting_askers (Complete t) tables = same_askers _ _ (λ asker. refl)
 waiting_askers (Permit giver taker obs ops) tables = same_askers _ _ (λ asker. refl)
+waiting_askers (Delegate giver taker obs) tables = same_askers _ _ (λ asker. refl)
 waiting_askers (Commit t) tables = same_askers _ _ (λ asker. refl)
 waiting_askers (Abort t) tables = same_askers _ _ (λ asker. refl)
 waiting_askers (WaitFor t) tables = same_askers _ _ (λ asker. refl)
@@ -192,6 +200,7 @@ askers_waiting opening steps tables step stand =
       none (Write t x v) = refl
       none (Complete t) = refl
       none (Permit giver taker obs ops) = refl
+      none (Delegate giver taker obs) = refl
       none (Commit t) = refl
       none (Abort t) = refl
       none (WaitFor t) = refl
@@ -270,6 +279,20 @@ granted_askers step t x op reply tables carried asked =
     sym (askers_changed (Locks.granted_row t x op ops) (asker_after step (Answer reply)) tables.locks
     (λ who. granted_is t x op ops who ∙ sym (asked (asker_of who) ∙ granted_asker step t x op reply (asker_of who) carried)))
 
+-- a hand-over leaves each pending request
+askers_handed : (giver taker : ℕ) (set : ObSet) (table : Locks.LockTable) → pending_requests (Locks.hand_over_in giver taker set table) ≡ pending_requests table
+unfolding Locks.hand_over_in asker_of
+askers_handed giver taker set table = go (eqb giver taker) where
+  given : List Lock
+  given = filter (Locks.moved set) (Locks.locks_of table giver)
+
+  keeps : (who : Locks.Enrolled) → asker_of (Locks.handed_row giver taker set given who) ≡ asker_of who
+  keeps who = λ i. record { name = handed_name giver taker set given who i; request = handed_pending giver taker set given who i }
+
+  go : (same : Bool) → pending_requests (cond same table (map (Locks.handed_row giver taker set given) table)) ≡ pending_requests table
+  go true = refl
+  go false = askers_changed (Locks.handed_row giver taker set given) (λ asker. asker) table keeps ∙ same_askers (λ asker. asker) (map asker_of table) (λ asker. refl)
+
 -- the pending requests after a step that took effect
 pub askers_carried : (opening : Opening) (steps : List Step) (tables : Standing) (step : Step) (reply : Reply) → Shows opening steps (values_of tables) → takes_effect step reply ≡ true
     → ((t : Txn) (parent : Option Txn) → step ≡ Initiate t parent → lists (initiated steps) t.0 ≡ false)
@@ -291,6 +314,10 @@ askers_carried opening steps tables (Write t x v) reply stand carried new =
 askers_carried opening steps tables (Permit giver taker obs ops) reply stand carried new =
     nobody_ended (Permit giver taker obs ops ∷ steps) steps (Permit giver taker obs ops) (Answer reply) (pending_in tables.locks) (λ n listed. live_quiet (Permit giver taker obs ops ∷ steps) steps refl (permit_ends giver taker obs ops steps) n ∙ asker_live opening steps tables stand n listed) refl
     ∙ same_askers _ _ (λ asker. refl)
+askers_carried opening steps tables (Delegate giver taker obs) reply stand carried new =
+    nobody_ended (Delegate giver taker obs ∷ steps) steps (Delegate giver taker obs) (Answer reply) (pending_in tables.locks) (λ n listed. live_delegated giver taker obs steps n ∙ asker_live opening steps tables stand n listed) refl
+    ∙ same_askers _ _ (λ asker. refl)
+    ∙ sym (askers_handed giver.0 taker.0 obs tables.locks)
 askers_carried opening steps tables (Commit t) reply stand carried new =
     ap (λ ps. filter (λ (asker : Pending). live (Commit t ∷ steps) asker.name) ps) (append-nil _ ∙ same_askers _ _ (λ asker. refl)) ∙ ended_askers opening steps (Commit t) tables t.0 (commits steps t.0) stand (live_commit t steps) (λ n. commits_alone steps t.0 n) (λ n. commits_nobody steps t.0 n)
 askers_carried opening steps tables (Abort t) reply stand carried new =

@@ -7,7 +7,7 @@ use Rattle.asset_names.specs.declared.operations.Op.TheVariants as Op'
 use Rattle.asset_names.specs.declared.statuses.Status.{Status}
 use Rattle.asset_names.specs.declared.statuses.Status.TheVariants as Status'
 use Rattle.asset_names.specs.declared.steps.Step.{Step}
-use Rattle.asset_names.specs.declared.steps.Step.TheVariants.{Initiate, Begin, Read, Write, Complete, Permit, Commit, Abort, WaitFor}
+use Rattle.asset_names.specs.declared.steps.Step.TheVariants.{Initiate, Begin, Read, Write, Complete, Permit, Delegate, Commit, Abort, WaitFor}
 use Rattle.asset_names.specs.declared.replies.Refusal.{Refusal}
 use Rattle.asset_names.specs.declared.replies.Reply.{Reply}
 use Rattle.asset_names.specs.declared.replies.Outcome.{Outcome}
@@ -16,7 +16,7 @@ use Rattle.asset_names.specs.Steps.{Opening, takes_effect}
 use Rattle.asset_names.specs.Endings.{status, is_live_status}
 use Rattle.asset_names.specs.Answers.{answer, outcome_unless, unrefused, rules_for, first_refusal, unknown, ended, taken, begun_before, is_unknown, has_ended, has_begun, is_running, is_completed, commit_outcome}
 use Rattle.asset_names.proofs.ClassLemmas.{completed_alone}
-use Rattle.asset_names.proofs.LegalLemmas.{effect_unrefused, first_none, complete_runs, permit_live}
+use Rattle.asset_names.proofs.LegalLemmas.{effect_unrefused, first_none, complete_runs, permit_live, delegate_live}
 use Rattle.asset_trans.specs.TransRows.{status_in}
 use Rattle.asset_ends.specs.Shows.{Shows}
 use Rattle.asset_ends.specs.Standing.{Standing, values_of, is_free_for}
@@ -115,6 +115,9 @@ ready opening steps tables (Complete t) reply stand is carried = stand.statuses 
 ready opening steps tables (Permit giver taker obs ops) reply stand is carried =
     let both = permit_live opening steps giver taker obs ops reply is carried in
     (live_shown opening steps _ _ _ _ giver.0 stand ∙ both.0, live_shown opening steps _ _ _ _ taker.0 stand ∙ both.1)
+ready opening steps tables (Delegate giver taker obs) reply stand is carried =
+    let both = delegate_live opening steps giver taker obs reply is carried in
+    (live_shown opening steps _ _ _ _ giver.0 stand ∙ both.1, live_shown opening steps _ _ _ _ taker.0 stand ∙ both.2)
 ready opening steps tables (Commit t) reply stand is carried = λ alive. ap is_completed (stand.statuses t.0) ∙ commit_ready opening steps t reply is carried (ap is_live_status (sym (stand.statuses t.0)) ∙ alive)
 ready opening steps tables (Abort t) reply stand is carried = tt
 ready opening steps tables (WaitFor t) reply stand is carried = tt
@@ -132,6 +135,7 @@ may_wait opening steps tables (Initiate t parent) stand is = tt
 may_wait opening steps tables (Begin t) stand is = tt
 may_wait opening steps tables (Complete t) stand is = tt
 may_wait opening steps tables (Permit giver taker obs ops) stand is = tt
+may_wait opening steps tables (Delegate giver taker obs) stand is = tt
 may_wait opening steps tables (Commit t) stand is = tt
 may_wait opening steps tables (Abort t) stand is = tt
 may_wait opening steps tables (WaitFor t) stand is = tt

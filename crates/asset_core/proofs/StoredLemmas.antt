@@ -7,13 +7,13 @@ use Rattle.std.proofs.lemmas.List.Folds.{list_all-append}
 use Rattle.std.proofs.Math.Seq.{get_or-append_seam}
 use Rattle.std.proofs.lemmas.Option.{slice_get-get_or, slice_get-map}
 use Rattle.asset_names.specs.declared.steps.Step.{Step}
-use Rattle.asset_names.specs.declared.steps.Step.TheVariants.{Initiate, Begin, Read, Write, Complete, Permit, Commit, Abort, WaitFor}
+use Rattle.asset_names.specs.declared.steps.Step.TheVariants.{Initiate, Begin, Read, Write, Complete, Permit, Delegate, Commit, Abort, WaitFor}
 use Rattle.asset_names.specs.declared.replies.Reply.{Reply}
 use Rattle.asset_core.specs.StoredSets.{StoredSet, set_or_all}
 use Rattle.asset_core.specs.declared.stored.Stored.{Stored}
 use Rattle.asset_core.specs.declared.stored.Stored.TheVariants as Stored'
-use Rattle.asset_core.specs.Stored.{tag_of_two, missing_at, stored_as, sets_after, permit_entry, entry_of, entries_of, has_set, all_have_sets}
-use Rattle.asset_core.proofs.TagLemmas.{again}
+use Rattle.asset_core.specs.Stored.{tag_of_two, missing_at, stored_as, sets_after, permit_entry, delegate_entry, entry_of, entries_of, has_set, all_have_sets}
+use Rattle.asset_core.proofs.TagLemmas.{again, again_of_two}
 
 -- a stored set is found as before when one more comes
 found_before : (sets : List StoredSet) (set : StoredSet) (index : ℕ) → index < length sets → slice_get (sets ++ set ∷ []) index ≡ slice_get sets index
@@ -37,6 +37,7 @@ entry_before sets set (Stored'.Read tag t x v) there = refl
 entry_before sets set (Stored'.Write tag t x v) there = refl
 entry_before sets set (Stored'.Complete tag t) there = refl
 entry_before sets set (Stored'.Permit tag missing ops index giver taker) there = ap (λ found. permit_entry tag missing ops giver taker (set_or_all found)) (found_before sets set index (ltb-true index (length sets) there))
+entry_before sets set (Stored'.Delegate tag missing index giver taker) there = ap (λ found. delegate_entry tag missing giver taker (set_or_all found)) (found_before sets set index (ltb-true index (length sets) there))
 entry_before sets set (Stored'.Commit tag t) there = refl
 entry_before sets set (Stored'.Abort tag t) there = refl
 entry_before sets set (Stored'.WaitFor tag t) there = refl
@@ -53,6 +54,7 @@ entries_after : (step : Step) (sets : List StoredSet) (entries : List Stored) �
     → map (entry_of (sets_after step sets)) entries ≡ map (entry_of sets) entries
 unfolding sets_after
 entries_after (Permit giver taker obs ops) sets entries there = entries_before sets _ entries there
+entries_after (Delegate giver taker obs) sets entries there = entries_before sets _ entries there
 entries_after (Initiate t parent) sets entries there = refl
 entries_after (Begin t) sets entries there = refl
 entries_after (Read t x) sets entries there = refl
@@ -64,13 +66,14 @@ entries_after (WaitFor t) sets entries there = refl
 
 -- an entry that is stored is that step, and its reply made again
 entry_again : (step : Step) (reply : Reply) (sets : List StoredSet) → entry_of (sets_after step sets) (stored_as (length sets) step reply) ≡ (step, again step reply)
-unfolding entry_of stored_as sets_after set_or_all permit_entry again
+unfolding entry_of stored_as sets_after set_or_all permit_entry delegate_entry again again_of_two
 entry_again (Initiate t parent) reply sets = refl
 entry_again (Begin t) reply sets = refl
 entry_again (Read t x) reply sets = refl
 entry_again (Write t x v) reply sets = refl
 entry_again (Complete t) reply sets = refl
 entry_again (Permit giver taker obs ops) reply sets = ap (λ found. permit_entry (tag_of_two giver reply) (missing_at obs reply) ops giver taker (set_or_all found)) (found_last sets (record { obs = obs }))
+entry_again (Delegate giver taker obs) reply sets = ap (λ found. delegate_entry (tag_of_two giver reply) (missing_at obs reply) giver taker (set_or_all found)) (found_last sets (record { obs = obs }))
 entry_again (Commit t) reply sets = refl
 entry_again (Abort t) reply sets = refl
 entry_again (WaitFor t) reply sets = refl
@@ -94,6 +97,9 @@ unfolding sets_after
 sets_more (Permit giver taker obs ops) sets =
     let more = length-append sets (record { obs = obs } ∷ []) in
     (omega (arith, more), omega (arith, more))
+sets_more (Delegate giver taker obs) sets =
+    let more = length-append sets (record { obs = obs } ∷ []) in
+    (omega (arith, more), omega (arith, more))
 sets_more (Initiate t parent) sets = (omega arith, omega arith)
 sets_more (Begin t) sets = (omega arith, omega arith)
 sets_more (Read t x) sets = (omega arith, omega arith)
@@ -107,6 +113,7 @@ sets_more (WaitFor t) sets = (omega arith, omega arith)
 there_more : (fewer more : ℕ) (stored : Stored) → fewer ≤ more → has_set fewer stored ≡ true → has_set more stored ≡ true
 unfolding has_set
 there_more fewer more (Stored'.Permit tag missing ops index giver taker) le there = lt-ltb index more (omega (arith, ltb-true index fewer there))
+there_more fewer more (Stored'.Delegate tag missing index giver taker) le there = lt-ltb index more (omega (arith, ltb-true index fewer there))
 there_more fewer more (Stored'.Initiate tag t parent) le there = refl
 there_more fewer more (Stored'.Begin tag t) le there = refl
 there_more fewer more (Stored'.Read tag t x v) le there = refl
@@ -127,6 +134,7 @@ all_have_sets_more fewer more (stored ∷ entries) le there =
 last_there : (step : Step) (reply : Reply) (sets : List StoredSet) → has_set (length (sets_after step sets)) (stored_as (length sets) step reply) ≡ true
 unfolding has_set stored_as sets_after
 last_there (Permit giver taker obs ops) reply sets = lt-ltb _ _ (omega (arith, length-append sets (record { obs = obs } ∷ [])))
+last_there (Delegate giver taker obs) reply sets = lt-ltb _ _ (omega (arith, length-append sets (record { obs = obs } ∷ [])))
 last_there (Initiate t parent) reply sets = refl
 last_there (Begin t) reply sets = refl
 last_there (Read t x) reply sets = refl

@@ -7,7 +7,7 @@ use Rattle.asset_names.specs.declared.operations.Op.TheVariants as Op'
 use Rattle.asset_names.specs.declared.statuses.Status.{Status}
 use Rattle.asset_names.specs.declared.statuses.Status.TheVariants as Status'
 use Rattle.asset_names.specs.declared.steps.Step.{Step}
-use Rattle.asset_names.specs.declared.steps.Step.TheVariants.{Initiate, Begin, Read, Write, Complete, Permit, Commit, Abort, WaitFor}
+use Rattle.asset_names.specs.declared.steps.Step.TheVariants.{Initiate, Begin, Read, Write, Complete, Permit, Delegate, Commit, Abort, WaitFor}
 use Rattle.asset_names.specs.declared.replies.Reply.{Reply}
 use Rattle.asset_names.specs.declared.replies.Reply.TheVariants as Reply'
 use Rattle.asset_names.specs.declared.replies.Outcome.{Outcome}
@@ -20,11 +20,14 @@ use Rattle.asset_names.specs.declared.names.Ob.{Ob}
 use Rattle.asset_names.specs.declared.sets.ObSet.{ObSet}
 use Rattle.asset_names.specs.declared.sets.ObSet.TheVariants.{All, Listed}
 use Rattle.asset_names.specs.declared.replies.Refusal.TheVariants as Refusal'
-use Rattle.asset_names.specs.OpSets.{OpSet}
 use Rattle.asset_names.specs.Sets.{no_object_name}
 use Rattle.asset_core.specs.declared.reply_tag.ReplyTag.{ReplyTag}
 use Rattle.asset_core.specs.declared.reply_tag.ReplyTag.TheVariants as ReplyTag'
 use Rattle.asset_core.specs.Stored.{tag_of, tag_of_two, value_read, reply_about, reply_of_name, reply_of_two, position, missing_at, object_at}
+
+-- a reply to a step of two transactions and a set, made again from its tag and what the step names
+unfoldable pub again_of_two : Txn → Txn → ObSet → Reply → Reply
+again_of_two giver taker obs reply = reply_of_two giver taker (object_at obs (missing_at obs reply)) (tag_of_two giver reply)
 
 -- a reply to the step, made again from its tag and what the step names
 unfoldable pub again : Step → Reply → Reply
@@ -33,7 +36,8 @@ again (Begin t) reply = reply_of_name t (tag_of reply)
 again (Read t x) reply = reply_about t x (value_read reply) (tag_of reply)
 again (Write t x v) reply = reply_about t x (pos 0) (tag_of reply)
 again (Complete t) reply = reply_of_name t (tag_of reply)
-again (Permit giver taker obs ops) reply = reply_of_two giver taker (object_at obs (missing_at obs reply)) (tag_of_two giver reply)
+again (Permit giver taker obs ops) reply = again_of_two giver taker obs reply
+again (Delegate giver taker obs) reply = again_of_two giver taker obs reply
 again (Commit t) reply = reply_of_name t (tag_of reply)
 again (Abort t) reply = reply_of_name t (tag_of reply)
 again (WaitFor t) reply = reply_of_name t (tag_of reply)
@@ -80,12 +84,12 @@ found_at test (y ∷ objects) x found = by_test (test y) found (found_at test ob
   by_test true is later = let same : y ≡ x = cc in here (eqb y.0 x.0) refl (λ other. absurd (true≢false (sym (eq-eqb y.0 x.0 (ap (λ (o : Ob). o.0) same)) ∙ other)))
   by_test false is later = here (eqb y.0 x.0) refl (λ other. later is)
 
-missing_same : (opening : Opening) (giver taker : Txn) (obs : ObSet) (ops : OpSet) (missing : Option Ob) → missing_in opening obs ≡ missing → (missing_rule missing).0 ≡ true
-    → again (Permit giver taker obs ops) (Reply'.Refused (missing_rule missing).1) ≡ Reply'.Refused (missing_rule missing).1
-unfolding missing_in missing_rule again tag_of_two tag_of reply_of_two reply_about missing_at object_at
-missing_same opening giver taker obs ops None is applies = absurd (false≢true applies)
-missing_same opening giver taker All ops (Some x) is applies = cc
-missing_same opening giver taker (Listed objects) ops (Some x) is applies = ap (λ y. Reply'.Refused (Refusal'.NoObject y)) (found_at _ objects x is)
+missing_same : (opening : Opening) (giver taker : Txn) (obs : ObSet) (missing : Option Ob) → missing_in opening obs ≡ missing → (missing_rule missing).0 ≡ true
+    → again_of_two giver taker obs (Reply'.Refused (missing_rule missing).1) ≡ Reply'.Refused (missing_rule missing).1
+unfolding missing_in missing_rule again_of_two tag_of_two tag_of reply_of_two reply_about missing_at object_at
+missing_same opening giver taker obs None is applies = absurd (false≢true applies)
+missing_same opening giver taker All (Some x) is applies = cc
+missing_same opening giver taker (Listed objects) (Some x) is applies = ap (λ y. Reply'.Refused (Refusal'.NoObject y)) (found_at _ objects x is)
 
 -- a refusal that is about the first of two transactions is found again, whatever tag it would have about the second
 about_first : (first second : Txn) (x : Ob) (own other : ReplyTag) (refused : Txn → Reply) → reply_of_two first second x own ≡ refused first
@@ -100,19 +104,16 @@ about_second first second x own other refused of_first of_second = go (eqb secon
   go true e = of_first ∙ (λ i. refused (record { 0 = sym (eqb-true second.0 first.0 e) i }))
   go false e = of_second
 
-one_name_same : (giver taker : Txn) (obs : ObSet) (ops : OpSet) → again (Permit giver taker obs ops) (Reply'.Refused Refusal'.Same) ≡ Reply'.Refused Refusal'.Same
-unfolding again tag_of_two tag_of reply_of_two reply_about
-one_name_same giver taker obs ops = refl
+one_name_same : (giver taker : Txn) (obs : ObSet) → again_of_two giver taker obs (Reply'.Refused Refusal'.Same) ≡ Reply'.Refused Refusal'.Same
+unfolding again_of_two tag_of_two tag_of reply_of_two reply_about
+one_name_same giver taker obs = refl
 
-refusals_same : (opening : Opening) (steps : List Step) (step : Step) → AreSame (again step) (rules_for opening steps step)
-unfolding AreSame again rules_for unknown ended not_running taken begun_before too_late no_object one_name no_object_of tag_of tag_of_two reply_about reply_of_name reply_of_two
-refusals_same opening steps (Initiate t parent) = (λ _. refl, tt)
-refusals_same opening steps (Begin t) = (λ _. refl, (λ _. refl, (λ _. refl, tt)))
-refusals_same opening steps (Read t x) = (λ _. refl, (λ _. refl, (λ _. refl, (λ _. refl, tt))))
-refusals_same opening steps (Write t x v) = (λ _. refl, (λ _. refl, (λ _. refl, (λ _. refl, tt))))
-refusals_same opening steps (Complete t) = (λ _. refl, (λ _. refl, (λ _. refl, tt)))
-refusals_same opening steps (Permit giver taker obs ops) = (
-  λ _. one_name_same giver taker obs ops,
+-- the refusals of a step of two transactions and a set
+two_same : (opening : Opening) (steps : List Step) (giver taker : Txn) (obs : ObSet)
+    → AreSame (again_of_two giver taker obs) (one_name giver taker ∷ unknown steps giver ∷ unknown steps taker ∷ ended steps giver ∷ ended steps taker ∷ no_object_of opening obs ∷ [])
+unfolding AreSame again_of_two unknown ended one_name no_object_of tag_of tag_of_two reply_about reply_of_two
+two_same opening steps giver taker obs = (
+  λ _. one_name_same giver taker obs,
   (
     λ _. about_first giver taker _ ReplyTag'.Unknown ReplyTag'.SecondUnknown (λ t. Reply'.Refused (Refusal'.Unknown t)) refl,
     (
@@ -121,12 +122,22 @@ refusals_same opening steps (Permit giver taker obs ops) = (
         λ _. about_first giver taker _ ReplyTag'.Ended ReplyTag'.SecondEnded (λ t. Reply'.Refused (Refusal'.Ended t)) refl,
         (
           λ _. about_second giver taker _ ReplyTag'.Ended ReplyTag'.SecondEnded (λ t. Reply'.Refused (Refusal'.Ended t)) refl refl,
-          (λ applies. missing_same opening giver taker obs ops (missing_in opening obs) refl applies, tt),
+          (λ applies. missing_same opening giver taker obs (missing_in opening obs) refl applies, tt),
         ),
       ),
     ),
   ),
 )
+
+refusals_same : (opening : Opening) (steps : List Step) (step : Step) → AreSame (again step) (rules_for opening steps step)
+unfolding AreSame again rules_for unknown ended not_running taken begun_before too_late no_object one_name no_object_of tag_of tag_of_two reply_about reply_of_name reply_of_two
+refusals_same opening steps (Initiate t parent) = (λ _. refl, tt)
+refusals_same opening steps (Begin t) = (λ _. refl, (λ _. refl, (λ _. refl, tt)))
+refusals_same opening steps (Read t x) = (λ _. refl, (λ _. refl, (λ _. refl, (λ _. refl, tt))))
+refusals_same opening steps (Write t x v) = (λ _. refl, (λ _. refl, (λ _. refl, (λ _. refl, tt))))
+refusals_same opening steps (Complete t) = (λ _. refl, (λ _. refl, (λ _. refl, tt)))
+refusals_same opening steps (Permit giver taker obs ops) = two_same opening steps giver taker obs
+refusals_same opening steps (Delegate giver taker obs) = two_same opening steps giver taker obs
 refusals_same opening steps (Commit t) = (λ _. refl, tt)
 refusals_same opening steps (Abort t) = (λ _. refl, (λ _. refl, tt))
 refusals_same opening steps (WaitFor t) = (λ _. refl, tt)
@@ -150,13 +161,14 @@ wait_same t Status'.Initiated = tt
 wait_same t Status'.Running = tt
 
 unrefused_same : (opening : Opening) (steps : List Step) (step : Step) → IsSame (again step) (unrefused opening steps step)
-unfolding IsSame again unrefused tag_of tag_of_two value_read reply_about reply_of_name reply_of_two
+unfolding IsSame again again_of_two unrefused tag_of tag_of_two value_read reply_about reply_of_name reply_of_two
 unrefused_same opening steps (Initiate t parent) = refl
 unrefused_same opening steps (Begin t) = refl
 unrefused_same opening steps (Read t x) = same_if _ (free steps t.0 x.0 Op'.Read) (Reply'.Value (value opening steps x.0)) refl
 unrefused_same opening steps (Write t x v) = same_if _ (free steps t.0 x.0 Op'.Write) Reply'.Done refl
 unrefused_same opening steps (Complete t) = refl
 unrefused_same opening steps (Permit giver taker obs ops) = refl
+unrefused_same opening steps (Delegate giver taker obs) = refl
 unrefused_same opening steps (Commit t) = commit_same t (status steps t.0) (class_completed steps t.0)
 unrefused_same opening steps (Abort t) = refl
 unrefused_same opening steps (WaitFor t) = wait_same t (status steps t.0)

@@ -1,5 +1,5 @@
 -- How the entries of a history are stored: a reply as a tag, since the step has what the reply is about; and the set of
--- objects of a permit, which is large, in a list of sets, with its index in the entry.
+-- objects of a permit or a delegation, which is large, in a list of sets, with its index in the entry.
 use Rattle.std.specs.Prelude.{◌≡◌, ℕ, suc, ℤ, pos, ◌≤◌, ◌==◌, Bool, true, cond, nat_lt, List, [], ◌∷◌, ◌++◌, length, map, reverse, slice_get, unwrap_or}
 use Rattle.std.specs.List.{list_all}
 use Rattle.asset_names.specs.declared.names.Txn.{Txn}
@@ -7,7 +7,7 @@ use Rattle.asset_names.specs.declared.names.Ob.{Ob}
 use Rattle.asset_names.specs.declared.sets.ObSet.{ObSet}
 use Rattle.asset_names.specs.declared.sets.ObSet.TheVariants.{All, Listed}
 use Rattle.asset_names.specs.declared.steps.Step.{Step}
-use Rattle.asset_names.specs.declared.steps.Step.TheVariants.{Initiate, Begin, Read, Write, Complete, Permit, Commit, Abort, WaitFor}
+use Rattle.asset_names.specs.declared.steps.Step.TheVariants.{Initiate, Begin, Read, Write, Complete, Permit, Delegate, Commit, Abort, WaitFor}
 use Rattle.asset_names.specs.declared.replies.Refusal.TheVariants as Refusal'
 use Rattle.asset_names.specs.declared.replies.Reply.{Reply}
 use Rattle.asset_names.specs.declared.replies.Reply.TheVariants as Reply'
@@ -99,6 +99,7 @@ stored_as count (Read t x) reply = Stored'.Read (tag_of reply) t x (value_read r
 stored_as count (Write t x v) reply = Stored'.Write (tag_of reply) t x v
 stored_as count (Complete t) reply = Stored'.Complete (tag_of reply) t
 stored_as count (Permit giver taker obs ops) reply = Stored'.Permit (tag_of_two giver reply) (missing_at obs reply) ops count giver taker
+stored_as count (Delegate giver taker obs) reply = Stored'.Delegate (tag_of_two giver reply) (missing_at obs reply) count giver taker
 stored_as count (Commit t) reply = Stored'.Commit (tag_of reply) t
 stored_as count (Abort t) reply = Stored'.Abort (tag_of reply) t
 stored_as count (WaitFor t) reply = Stored'.WaitFor (tag_of reply) t
@@ -106,11 +107,16 @@ stored_as count (WaitFor t) reply = Stored'.WaitFor (tag_of reply) t
 -- the stored sets after an entry
 unfoldable pub sets_after : Step → List StoredSet → List StoredSet
 sets_after (Permit giver taker obs ops) sets = sets ++ record { obs = obs } ∷ []
+sets_after (Delegate giver taker obs) sets = sets ++ record { obs = obs } ∷ []
 sets_after step sets = sets
 
 -- the entry of a permit by its set
 unfoldable pub permit_entry : ReplyTag → ℕ → OpSet → Txn → Txn → ObSet → Entry
 permit_entry tag missing ops giver taker obs = (Permit giver taker obs ops, reply_of_two giver taker (object_at obs missing) tag)
+
+-- and of a delegation
+unfoldable pub delegate_entry : ReplyTag → ℕ → Txn → Txn → ObSet → Entry
+delegate_entry tag missing giver taker obs = (Delegate giver taker obs, reply_of_two giver taker (object_at obs missing) tag)
 
 -- the entry that is stored
 unfoldable pub entry_of : List StoredSet → Stored → Entry
@@ -120,6 +126,7 @@ entry_of sets (Stored'.Read tag t x v) = (Read t x, reply_about t x v tag)
 entry_of sets (Stored'.Write tag t x v) = (Write t x v, reply_about t x (pos 0) tag)
 entry_of sets (Stored'.Complete tag t) = (Complete t, reply_of_name t tag)
 entry_of sets (Stored'.Permit tag missing ops set giver taker) = permit_entry tag missing ops giver taker (set_or_all (slice_get sets set))
+entry_of sets (Stored'.Delegate tag missing set giver taker) = delegate_entry tag missing giver taker (set_or_all (slice_get sets set))
 entry_of sets (Stored'.Commit tag t) = (Commit t, reply_of_name t tag)
 entry_of sets (Stored'.Abort tag t) = (Abort t, reply_of_name t tag)
 entry_of sets (Stored'.WaitFor tag t) = (WaitFor t, reply_of_name t tag)
@@ -137,6 +144,7 @@ entries_of sets entries = reverse (map (entry_of sets) entries)
 -- whether the set of a stored entry, if it has one, is among `count` stored sets
 unfoldable pub has_set : ℕ → Stored → Bool
 has_set count (Stored'.Permit tag missing ops set giver taker) = nat_lt set count
+has_set count (Stored'.Delegate tag missing set giver taker) = nat_lt set count
 has_set count stored = true
 
 unfoldable pub all_have_sets : ℕ → List Stored → Bool

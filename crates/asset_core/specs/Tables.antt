@@ -3,7 +3,7 @@ use Rattle.std.specs.Prelude.{◌≡◌, ℕ, ℤ, pos, ◌+◌, ◌≤◌, ◌=
 use Rattle.asset_names.specs.declared.operations.Op.TheVariants as Op'
 use Rattle.asset_names.specs.declared.statuses.Status.TheVariants as Status'
 use Rattle.asset_names.specs.declared.steps.Step.{Step}
-use Rattle.asset_names.specs.declared.steps.Step.TheVariants.{Initiate, Begin, Read, Write, Complete, Permit, Commit, Abort, WaitFor}
+use Rattle.asset_names.specs.declared.steps.Step.TheVariants.{Initiate, Begin, Read, Write, Complete, Permit, Delegate, Commit, Abort, WaitFor}
 use Rattle.asset_names.specs.declared.replies.Reply.TheVariants as Reply'
 use Rattle.asset_names.specs.declared.replies.Outcome.{Outcome}
 use Rattle.asset_names.specs.declared.replies.Outcome.TheVariants.{Answer, Wait}
@@ -40,6 +40,7 @@ IsReady (Read t x) tables = (status_in tables.trans t.0 ≡ Status'.Running) × 
 IsReady (Write t x v) tables = (status_in tables.trans t.0 ≡ Status'.Running) × (is_free_for tables t.0 x.0 Op'.Write ≡ true) × (has_object (cells tables.objects) x.0 ≡ true)
 IsReady (Complete t) tables = status_in tables.trans t.0 ≡ Status'.Running
 IsReady (Permit giver taker obs ops) tables = (is_live_status (status_in tables.trans giver.0) ≡ true) × (is_live_status (status_in tables.trans taker.0) ≡ true)
+IsReady (Delegate giver taker obs) tables = (is_live_status (status_in tables.trans giver.0) ≡ true) × (is_live_status (status_in tables.trans taker.0) ≡ true)
 IsReady (Commit t) tables = is_live_status (status_in tables.trans t.0) ≡ true → is_completed (status_in tables.trans t.0) ≡ true
 IsReady (Abort t) tables = Unit {0}
 IsReady (WaitFor t) tables = Unit {0}
@@ -59,6 +60,7 @@ unfoldable pub locks_after : Step → Standing → Locks.LockTable
 locks_after (Initiate t parent) tables = Locks.enrol_in t.0 tables.locks
 locks_after (Read t x) tables = Locks.grant_in t.0 x Op'.Read tables.locks
 locks_after (Write t x v) tables = Locks.grant_in t.0 x Op'.Write tables.locks
+locks_after (Delegate giver taker obs) tables = Locks.hand_over_in giver.0 taker.0 obs tables.locks
 locks_after (Commit t) tables = released tables t.0
 locks_after (Abort t) tables = released tables t.0
 locks_after step tables = tables.locks

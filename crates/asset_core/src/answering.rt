@@ -12,8 +12,8 @@ ghost use Rattle.asset_core.specs.Tables.{value_or_zero, read_outcome};
 
 use asset_ends::Tables;
 use asset_names::{
-    Ob, ObSet, Op, Outcome, Refusal, Reply, Step, Txn, commit_outcome, refusal_to_abort,
-    refusal_to_begin, refusal_to_find, refusal_to_initiate, refusal_to_operate, refusal_to_permit,
+    Ob, ObSet, Op, Outcome, Refusal, Reply, Step, Txn, commit_outcome, refusal_between,
+    refusal_to_abort, refusal_to_begin, refusal_to_find, refusal_to_initiate, refusal_to_operate,
     refusal_to_work, wait_outcome,
 };
 
@@ -33,6 +33,7 @@ fn refusal(tables: &Tables, step: &Step) -> Option<Refusal>
             obs,
             ..
         } => refusal_to_share(tables, giver, taker, &obs),
+        Step::Delegate { giver, taker, obs } => refusal_to_share(tables, giver, taker, &obs),
         Step::Commit { t } => refusal_to_find(t, tables.status(t)),
         Step::WaitFor { t } => refusal_to_find(t, tables.status(t)),
         Step::Abort { t } => refusal_to_abort(t, tables.status(t)),
@@ -48,13 +49,13 @@ fn refusal_to_use(tables: &Tables, t: Txn, x: Ob) -> Option<Refusal>
     refusal_to_operate(t, tables.status(t), x, exists)
 }
 
-/// Returns why the giver may not permit the taker anything on the objects, and `None` if it may.
+/// Returns why the giver may not permit or hand over anything on the objects to the taker, and `None` if it may.
 fn refusal_to_share(tables: &Tables, giver: Txn, taker: Txn, obs: &ObSet) -> Option<Refusal>
     ensures { (opening : Opening) (steps : List Request) → Shows opening steps (values_of tables.now) →
         result ≡ first_refusal (one_name giver taker ∷ unknown steps giver ∷ unknown steps taker ∷ ended steps giver ∷ ended steps taker ∷ no_object_of opening obs.now ∷ []) }
 {
     let missing = missing(tables, obs);
-    refusal_to_permit(
+    refusal_between(
         giver,
         tables.status(giver),
         taker,
@@ -139,6 +140,7 @@ fn unrefused(tables: &mut Tables, step: &Step) -> Outcome
         Step::Begin { .. } => Outcome::Answer(Reply::Done),
         Step::Complete { .. } => Outcome::Answer(Reply::Done),
         Step::Permit { .. } => Outcome::Answer(Reply::Done),
+        Step::Delegate { .. } => Outcome::Answer(Reply::Done),
         Step::Read { t, x } => read_outcome(tables, t, x),
         Step::Write { t, x, .. } => write_outcome(tables, t, x),
         Step::Commit { t } => {

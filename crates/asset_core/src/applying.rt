@@ -12,7 +12,7 @@ ghost use Rattle.asset_locks.specs.LockTable.{wait_in};
 ghost use Rattle.asset_trans.specs.TransRows.{status_in};
 ghost use Rattle.asset_names.specs.Orderly.{IsOrderly};
 ghost use Rattle.asset_ends.specs.Shows.{Shows};
-ghost use Rattle.asset_ends.specs.Standing.{values_of, is_free_for, SameView};
+ghost use Rattle.asset_ends.specs.Standing.{values_of, is_free_for, ShowAlike};
 ghost use Rattle.asset_core.specs.Tables.{value_asked, IsReady, MayWait, locks_after, locks_waiting, released};
 
 use asset_ends::Tables;
@@ -42,7 +42,7 @@ pub(crate) fn apply_if(
     ensures stand { OnOk result ((opening : Opening) (older : List Entry) → Shows opening (applied older) (values_of tables.old) → IsOrderly (applied older) → Shows opening (applied ((step.now, reply) ∷ older)) (values_of tables.new)) }
     ensures locks { OnOk result (tables.new.locks ≡ cond (takes_effect step.now reply) (locks_after step.now tables.old) tables.old.locks) }
     ensures memory { OnErr result ((takes_memory step.now ≡ true) × (takes_effect step.now reply ≡ true)) }
-    ensures unchanged { OnErr result (SameView tables.new tables.old) }
+    ensures unchanged { OnErr result (ShowAlike tables.new tables.old) }
 {
     if effect { apply(tables, step) } else { Ok(()) }
 }
@@ -53,7 +53,7 @@ fn apply(tables: &mut Tables, step: &Step) -> Result<(), NoMemory>
     ensures stand { OnOk result ((opening : Opening) (steps : List Request) → Shows opening steps (values_of tables.old) → IsOrderly steps → Shows opening (step.now ∷ steps) (values_of tables.new)) }
     ensures locks { OnOk result (tables.new.locks ≡ locks_after step.now tables.old) }
     ensures memory { OnErr result (takes_memory step.now ≡ true) }
-    ensures unchanged { OnErr result (SameView tables.new tables.old) }
+    ensures unchanged { OnErr result (ShowAlike tables.new tables.old) }
 {
     match *step {
         Step::Initiate { t, parent } => tables.initiate(t, parent),
@@ -79,6 +79,7 @@ fn apply(tables: &mut Tables, step: &Step) -> Result<(), NoMemory>
             obs,
             ops,
         } => tables.permit(giver, taker, obs, ops),
+        Step::Delegate { giver, taker, obs } => tables.delegate(giver, taker, &obs),
         Step::Commit { t } => {
             commit(tables, t);
             Ok(())
@@ -125,6 +126,7 @@ pub(crate) fn wait(tables: &mut Tables, step: &Step)
         Step::Begin { .. } => {}
         Step::Complete { .. } => {}
         Step::Permit { .. } => {}
+        Step::Delegate { .. } => {}
         Step::Commit { .. } => {}
         Step::Abort { .. } => {}
         Step::WaitFor { .. } => {}

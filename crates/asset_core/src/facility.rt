@@ -124,7 +124,7 @@ impl Core {
     ///
     /// It answers `Full` exactly if the entries with this one, together with those that live transactions are
     /// owed after it, exceed the capacity. A complete, a commit or an abort that changes a status always finds
-    /// room. `NoMemory` can come only if an initiate, a read, a write or a permit would take effect. After
+    /// room. `NoMemory` can come only if an initiate, a read, a write, a permit or a delegation would take effect. After
     /// `Full` and `NoMemory` nothing has changed.
     #[tactic(auto, unfolding(crate::specs::Recorded::after, crate::specs::Recorded::has_room, crate::specs::Recorded::is_ending, asset_names::specs::Answers::outcome_takes_effect))]
     pub fn step(&mut self, step: Step) -> Result<Outcome, Fault>
@@ -178,6 +178,7 @@ impl Core {
             Step::Read { .. } => false,
             Step::Write { .. } => false,
             Step::Permit { .. } => false,
+            Step::Delegate { .. } => false,
             Step::WaitFor { .. } => false,
         }
     }

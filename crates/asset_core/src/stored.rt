@@ -1,4 +1,4 @@
-//! How entries are stored: in 32 bytes each. The set of objects of a permit, which is large, stands in a list of sets,
+//! How entries are stored: in 32 bytes each. The set of objects of a permit or a delegation, which is large, stands in a list of sets,
 //! and the entry has its index.
 
 use crate::applying::value_asked;
@@ -47,6 +47,14 @@ pub(crate) enum Stored {
         giver: Txn,
         taker: Txn,
     },
+    /// Its set and the missing object are as those of a permit.
+    Delegate {
+        tag: ReplyTag,
+        missing: u8,
+        set: usize,
+        giver: Txn,
+        taker: Txn,
+    },
     Commit {
         tag: ReplyTag,
         t: Txn,
@@ -65,7 +73,7 @@ const _: () = prove!(size_of::<Stored>() == 32);
 
 impl Stored {
     ghost use Rattle.std.specs.Prelude.{◌≡◌, true, length};
-    ghost use Rattle.asset_core.specs.Stored.{stored_as, entry_of, permit_entry, value_stored, has_set};
+    ghost use Rattle.asset_core.specs.Stored.{stored_as, entry_of, permit_entry, delegate_entry, value_stored, has_set};
 
     /// Returns the entry as it is stored, if `count` sets are stored.
     #[tactic(auto, unfolding(crate::specs::Stored::stored_as, crate::specs::Tables::value_asked))]
@@ -102,6 +110,13 @@ impl Stored {
                 giver,
                 taker,
             },
+            Step::Delegate { giver, taker, obs } => Stored::Delegate {
+                tag: ReplyTag::of_two(giver, reply),
+                missing: missing_at(&obs, reply),
+                set: count,
+                giver,
+                taker,
+            },
             Step::Commit { t } => Stored::Commit { tag, t },
             Step::Abort { t } => Stored::Abort { tag, t },
             Step::WaitFor { t } => Stored::WaitFor { tag, t },
@@ -109,7 +124,7 @@ impl Stored {
     }
 
     /// Returns the entry, whose set, if it has one, is among the stored sets.
-    #[tactic(auto, unfolding(crate::specs::Stored::entry_of, crate::specs::Stored::value_stored, crate::specs::Stored::permit_entry, crate::specs::StoredSets::set_or_all, crate::specs::Stored::has_set))]
+    #[tactic(auto, unfolding(crate::specs::Stored::entry_of, crate::specs::Stored::value_stored, crate::specs::Stored::permit_entry, crate::specs::Stored::delegate_entry, crate::specs::StoredSets::set_or_all, crate::specs::Stored::has_set))]
     pub(crate) fn entry(&self, sets: &StoredSets) -> (Step, Reply)
         requires there { has_set (length sets.now.sets) self.now ≡ true }
         ensures { result ≡ entry_of sets.now.sets self.now }
@@ -142,6 +157,17 @@ impl Stored {
                     ops,
                 };
                 (step, reply)
+            }
+            Stored::Delegate {
+                tag,
+                missing,
+                set,
+                giver,
+                taker,
+            } => {
+                let obs = sets.set(set);
+                let reply = tag.about_two(giver, taker, object_at(&obs, missing));
+                (Step::Delegate { giver, taker, obs }, reply)
             }
             Stored::Commit { tag, t } => (Step::Commit { t }, tag.about_name(t)),
             Stored::Abort { tag, t } => (Step::Abort { t }, tag.about_name(t)),

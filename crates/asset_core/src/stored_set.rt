@@ -48,7 +48,7 @@ pub(crate) fn object_at(obs: &ObSet, index: u8) -> Ob
     }
 }
 
-/// Appends the set of a permit to the sets, whose room is reserved. Any other step has none.
+/// Appends the set of a permit or a delegation to the sets, whose room is reserved. Any other step has none.
 #[tactic(auto, unfolding(crate::specs::Stored::sets_after))]
 pub(crate) fn push_set(sets: &mut StoredSets, step: &Step)
     requires room { length sets.old.sets < sets.old.room }
@@ -57,6 +57,7 @@ pub(crate) fn push_set(sets: &mut StoredSets, step: &Step)
 {
     match step {
         Step::Permit { obs, .. } => sets.push(obs),
+        Step::Delegate { obs, .. } => sets.push(obs),
         _ => {}
     }
 }

@@ -4,6 +4,7 @@ pub mod LockLaws
 pub mod HistoryLemmas
 pub mod PermitLaws
 pub mod ShowsLemmas
+pub mod DelegateLaws
 pub mod EnrolledLemmas
 pub mod AskedLemmas
 pub mod StandingLemmas

@@ -115,7 +115,7 @@ complete_shows opening steps rows objects table descriptors t shows before = rec
 }
 
 -- the status of a step that initiates, begins, completes and ends nobody
-status_quiet : (step : Step) (steps : List Step) → initiated (step ∷ steps) ≡ initiated steps → begun (step ∷ steps) ≡ begun steps → completed (step ∷ steps) ≡ completed steps
+pub status_quiet : (step : Step) (steps : List Step) → initiated (step ∷ steps) ≡ initiated steps → begun (step ∷ steps) ≡ begun steps → completed (step ∷ steps) ≡ completed steps
     → ((n : ℕ) → end_of (step ∷ steps) n ≡ end_of steps n) → (n : ℕ) → status (step ∷ steps) n ≡ status steps n
 unfolding status
 status_quiet step steps i b c ends n = rw (i, b, c, ends n)

@@ -6,12 +6,12 @@ use Rattle.asset_names.specs.declared.steps.Step.{Step}
 use Rattle.asset_names.specs.Steps.{Opening}
 use Rattle.asset_names.specs.Endings.{end_of}
 use Rattle.asset_names.specs.Operations.{exists, opening_at, operations}
-use Rattle.asset_permits.specs.Descriptors.{Descriptor}
+use Rattle.asset_permits.specs.Descriptors.{Descriptor, one_covers}
 use Rattle.asset_objects.specs.Cells.{Cells, cells, has_object}
 use Rattle.asset_locks.specs.LockTable as Locks
 use Rattle.asset_trans.specs.TransRows.{NamedTransRow}
 use Rattle.asset_ends.specs.Shows.{Shows, cell_of, cell_after, table_values}
-use Rattle.asset_ends.specs.Standing.{Standing, values_of}
+use Rattle.asset_ends.specs.Standing.{Standing, values_of, SameView, ShowAlike}
 
 -- what holds where a call succeeded, of what held there
 pub on_ok : {T E : Type 0} {P Q : Type 0} (r : Result T E) → (P → Q) → OnOk r P → OnOk r Q
@@ -22,10 +22,6 @@ pub on_ok_two : {T E : Type 0} {P Q R : Type 0} (r : Result T E) → (P → Q �
 on_ok_two (Ok x) f p q = f p q
 on_ok_two (Err e) f p q = p
 
-pub on_ok_three : {T E : Type 0} {P Q R S : Type 0} (r : Result T E) → (P → Q → R → S) → OnOk r P → OnOk r Q → OnOk r R → OnOk r S
-on_ok_three (Ok x) f p q s = f p q s
-on_ok_three (Err e) f p q s = p
-
 pub always_ok : {T E : Type 0} {P : Type 0} (r : Result T E) → P → OnOk r P
 always_ok (Ok x) p = p
 always_ok (Err e) p = tt
@@ -33,6 +29,27 @@ always_ok (Err e) p = tt
 pub always_err : {T E : Type 0} {P : Type 0} (r : Result T E) → P → OnErr r P
 always_err (Ok x) p = tt
 always_err (Err e) p = p
+
+-- what holds where a call failed, of what held there
+pub on_err : {T E : Type 0} {P Q : Type 0} (r : Result T E) → (P → Q) → OnErr r P → OnErr r Q
+on_err (Ok x) f p = p
+on_err (Err e) f p = f p
+
+-- tables that are the same show alike
+pub same_alike : (later before : Standing) → SameView later before → ShowAlike later before
+same_alike later before same = record { rows = same.rows; objects = same.objects; locks = same.locks; permits = λ u t x op. ap (λ descriptors. one_covers descriptors u t x op) same.permits }
+
+-- tables that show alike show the same history
+pub alike_shows : (opening : Opening) (steps : List Step) (later before : Standing) → ShowAlike later before → Shows opening steps (values_of before) → Shows opening steps (values_of later)
+alike_shows opening steps later before alike shows = record {
+  names = rw alike.rows shows.names;
+  statuses = λ t. rw alike.rows (shows.statuses t);
+  parents = λ t. rw alike.rows (shows.parents t);
+  cells = λ x. rw alike.objects (shows.cells x);
+  enrolled = rw alike.locks shows.enrolled;
+  locks = λ t x op. rw alike.locks (shows.locks t x op);
+  permits_stand = λ u t x op. alike.permits u t x op ∙ shows.permits_stand u t x op;
+}
 
 -- tables that are as others are stand for what the others do
 pub stand_as : (opening : Opening) (steps : List Step) (later : Standing) (rows : List NamedTransRow) (objects : Cells) (table : Locks.LockTable) (descriptors : List Descriptor) → later.trans ≡ rows → cells later.objects ≡ objects → later.locks ≡ table

@@ -4,7 +4,7 @@ use Rattle.asset_names.specs.declared.operations.Op.{Op}
 use Rattle.asset_names.specs.declared.steps.Step.{Step}
 use Rattle.asset_names.specs.Arrows.{lists}
 use Rattle.asset_names.specs.Endings.{is_live_status}
-use Rattle.asset_permits.specs.Descriptors.{Descriptor, allows_by}
+use Rattle.asset_permits.specs.Descriptors.{Descriptor, one_covers, allows_by}
 use Rattle.asset_objects.specs.Cells.{ObjectTable, cells}
 use Rattle.asset_locks.specs.LockTable as Locks
 use Rattle.asset_trans.specs.TransRows.{NamedTransRow, status_in}
@@ -41,6 +41,13 @@ pub record SameView (later before : Standing) : Type 0 where
   pub objects : cells later.objects ≡ cells before.objects
   pub locks : later.locks ≡ before.locks
   pub permits : later.permits ≡ before.permits
+
+-- the tables show the same as before: the permits cover the same, in whatever order they stand
+pub record ShowAlike (later before : Standing) : Type 0 where
+  pub rows : later.trans ≡ before.trans
+  pub objects : cells later.objects ≡ cells before.objects
+  pub locks : later.locks ≡ before.locks
+  pub permits : (u t x : ℕ) (op : Op) → one_covers later.permits u t x op ≡ one_covers before.permits u t x op
 
 -- exactly those who are live by their status are enrolled for locks
 unfoldable pub AreEnrolled : List NamedTransRow → Locks.LockTable → Type 0

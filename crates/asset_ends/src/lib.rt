@@ -3,6 +3,7 @@
 //! refusals: a call asks that those of its step do not apply.
 #![tactic(auto)]
 
+mod delegating;
 mod ending;
 mod tables;
 mod working;

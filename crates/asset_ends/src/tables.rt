@@ -12,6 +12,7 @@ use std::marker::Model;
 /// `Shows` says. Exactly the live transactions are enrolled for locks.
 #[derive(Drop)]
 pub struct Tables {
+    pub(crate) alloc: Global,
     pub(crate) objects: Objects,
     pub(crate) locks: Locks,
     pub(crate) permits: Permits,
@@ -74,6 +75,7 @@ impl Tables {
         ensures locks { result.locks ≡ [] }
     {
         Tables {
+            alloc,
             objects,
             locks: Locks::new(alloc),
             permits: Permits::new(alloc),

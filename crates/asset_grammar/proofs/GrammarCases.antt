@@ -7,7 +7,7 @@ use Rattle.asset_grammar.specs.Operands.{txn, ob, txn_of, ob_of, both, all_three
 use Rattle.asset_names.specs.declared.sets.ObSet.TheVariants.{All, Listed}
 use Rattle.asset_names.specs.Sets.{numbers, twice, rising, put_in}
 use Rattle.asset_names.specs.OpSets.{op_set}
-use Rattle.asset_grammar.specs.PermitOperands.{txns_ops_and_set}
+use Rattle.asset_grammar.specs.PermitOperands.{txns_ops_and_set, txns_and_set}
 use Rattle.asset_grammar.specs.Sets.{ops_of, one_more_object, gathered, is_list, listed, set_of}
 use Rattle.asset_grammar.specs.Grammar.{step_by, object_command, step_command, command_from, command_of, is_blank, line_by, line_of}
 use Rattle.asset_grammar.specs.Keywords.{keyword_text, all_keywords, keyword_of}
@@ -145,3 +145,24 @@ permit_of_nothing = refl
 permit_of_other_operations : line_of (codes "permit 7 8 wr 1") ≡ Line'.Bad
 unfolding line_of line_by is_blank command_of command_from step_command step_by words parts keyword_of keyword_text all_keywords txns_ops_and_set both txn_of ob_of number_of is_numeral ops_of set_of gathered one_more_object listed is_list numbers twice
 permit_of_other_operations = refl
+
+-- a delegation's objects stand in any order too, and it names no operations
+delegate_line : line_of (codes "delegate 7 8 2,1") ≡ Line'.Command (Ask (Step'.Delegate (txn 7) (txn 8) (Listed (ob 1 ∷ ob 2 ∷ []))))
+unfolding line_of line_by is_blank command_of command_from step_command step_by words parts keyword_of keyword_text all_keywords txns_and_set both txn_of ob_of number_of is_numeral set_of gathered one_more_object listed is_list numbers twice rising put_in
+delegate_line = refl
+
+delegation_of_all : line_of (codes "delegate 7 8 all") ≡ Line'.Command (Ask (Step'.Delegate (txn 7) (txn 8) All))
+unfolding line_of line_by is_blank command_of command_from step_command step_by words parts keyword_of keyword_text all_keywords txns_and_set both txn_of number_of is_numeral set_of
+delegation_of_all = refl
+
+delegation_of_a_double : line_of (codes "delegate 7 8 1,2,1") ≡ Line'.Bad
+unfolding line_of line_by is_blank command_of command_from step_command step_by words parts keyword_of keyword_text all_keywords txns_and_set both txn_of ob_of number_of is_numeral set_of gathered one_more_object listed is_list numbers twice
+delegation_of_a_double = refl
+
+delegation_of_nothing : line_of (codes "delegate 7 8") ≡ Line'.Bad
+unfolding line_of line_by is_blank command_of command_from step_command step_by words parts keyword_of keyword_text all_keywords txns_and_set both txn_of
+delegation_of_nothing = refl
+
+delegation_with_operations : line_of (codes "delegate 7 8 rw 1") ≡ Line'.Bad
+unfolding line_of line_by is_blank command_of command_from step_command step_by words parts keyword_of keyword_text all_keywords txns_and_set both txn_of
+delegation_with_operations = refl

@@ -8,12 +8,12 @@ use Rattle.asset_names.specs.OpSets.{OpSet}
 use Rattle.asset_names.specs.declared.steps.Step.{Step}
 use Rattle.asset_names.specs.declared.steps.Step.TheVariants as Step'
 use Rattle.asset_grammar.specs.declared.keywords.Keyword.{Keyword}
-use Rattle.asset_grammar.specs.declared.keywords.Keyword.TheVariants.{Initiate, Begin, Read, Write, Complete, Permit, Commit, Abort, Wait}
+use Rattle.asset_grammar.specs.declared.keywords.Keyword.TheVariants.{Initiate, Begin, Read, Write, Complete, Permit, Delegate, Commit, Abort, Wait}
 use Rattle.asset_grammar.specs.declared.grammar.Command.{Command}
 use Rattle.asset_grammar.specs.declared.grammar.Command.TheVariants.{Object, Ask}
 use Rattle.asset_grammar.specs.declared.grammar.Line.{Line}
 use Rattle.asset_grammar.specs.declared.grammar.Line.TheVariants as Line'
-use Rattle.asset_grammar.specs.PermitOperands.{txns_ops_and_set}
+use Rattle.asset_grammar.specs.PermitOperands.{txns_ops_and_set, txns_and_set}
 use Rattle.asset_grammar.specs.Words.{words}
 use Rattle.asset_grammar.specs.Keywords.{keyword_of}
 use Rattle.asset_grammar.specs.Operands.{object_and_value, one_txn, txn_and_object, txn_and_parent, txn_object_and_value}
@@ -26,6 +26,7 @@ step_by Read operands = option_map (λ (a : Txn × Ob). Step'.Read a.0 a.1) (txn
 step_by Write operands = option_map (λ (a : Txn × Ob × ℤ). Step'.Write a.0 a.1 a.2) (txn_object_and_value operands)
 step_by Complete operands = option_map Step'.Complete (one_txn operands)
 step_by Permit operands = option_map (λ (a : (Txn × Txn) × (OpSet × ObSet)). Step'.Permit a.0.0 a.0.1 a.1.1 a.1.0) (txns_ops_and_set operands)
+step_by Delegate operands = option_map (λ (a : (Txn × Txn) × ObSet). Step'.Delegate a.0.0 a.0.1 a.1) (txns_and_set operands)
 step_by Commit operands = option_map Step'.Commit (one_txn operands)
 step_by Abort operands = option_map Step'.Abort (one_txn operands)
 step_by Wait operands = option_map Step'.WaitFor (one_txn operands)

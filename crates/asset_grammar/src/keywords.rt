@@ -13,6 +13,7 @@ pub(crate) enum Keyword {
     Write,
     Complete,
     Permit,
+    Delegate,
     Commit,
     Abort,
     Wait,
@@ -22,13 +23,14 @@ impl Keyword {
     ghost use Rattle.asset_grammar.specs.Grammar.{step_by};
     ghost use Rattle.asset_grammar.specs.Keywords.{keyword_of, keyword_text};
 
-    const ALL: [Keyword; 9] = [
+    const ALL: [Keyword; 10] = [
         Keyword::Initiate,
         Keyword::Begin,
         Keyword::Read,
         Keyword::Write,
         Keyword::Complete,
         Keyword::Permit,
+        Keyword::Delegate,
         Keyword::Commit,
         Keyword::Abort,
         Keyword::Wait,
@@ -46,6 +48,7 @@ impl Keyword {
             Keyword::Write => b"write",
             Keyword::Complete => b"complete",
             Keyword::Permit => b"permit",
+            Keyword::Delegate => b"delegate",
             Keyword::Commit => b"commit",
             Keyword::Abort => b"abort",
             Keyword::Wait => b"wait",
@@ -95,6 +98,10 @@ impl Keyword {
                     obs,
                     ops,
                 }
+            }
+            Keyword::Delegate => {
+                let ((giver, taker), obs) = operands.txns_and_set()?;
+                Step::Delegate { giver, taker, obs }
             }
             Keyword::Commit => Step::Commit {
                 t: operands.one_txn()?,

@@ -1,7 +1,7 @@
 //! The operands of a line: the words after its keyword, all of which are read.
 ghost use Rattle.std.specs.Prelude.{◌≡◌};
 ghost use Rattle.asset_grammar.specs.Operands.{ob_of, object_and_value, one_txn, txn_and_object, txn_and_parent, txn_object_and_value, txn_of};
-ghost use Rattle.asset_grammar.specs.PermitOperands.{txns_ops_and_set};
+ghost use Rattle.asset_grammar.specs.PermitOperands.{txns_ops_and_set, txns_and_set};
 
 use crate::numbers::{parse_number, parse_value};
 use crate::sets::{parse_ops, parse_set};
@@ -102,5 +102,22 @@ impl Words<'_> {
         };
         let names = parse_txn(giver).zip(parse_txn(taker));
         names.zip(parse_ops(ops).zip(parse_set(obs)))
+    }
+
+    /// Reads two transactions and a set of objects.
+    #[tactic(auto, unfolding(crate::specs::Operands::both, crate::specs::PermitOperands::txns_and_set))]
+    pub(crate) fn txns_and_set(mut self) -> Option<((Txn, Txn), ObSet)>
+        ensures { result ≡ txns_and_set self.entry }
+    {
+        let (Some(giver), Some(taker), Some(obs), None) = (
+            self.next(),
+            self.next(),
+            self.next(),
+            self.next(),
+        ) else {
+            return None;
+        };
+        let names = parse_txn(giver).zip(parse_txn(taker));
+        names.zip(parse_set(obs))
     }
 }

@@ -22,7 +22,7 @@ same_op-refl Op'.Read = refl
 same_op-refl Op'.Write = refl
 
 -- whether the operation is one on x by which u holds it
-abbrev held_by : ℕ → ℕ → Op → Operation → Bool
+abbrev pub held_by : ℕ → ℕ → Op → Operation → Bool
 held_by u x op o = eqb o.owner u && eqb o.object x && same_op (op_of o.use_of) op
 
 -- an operation by which u holds x blocks t from op only where u does not allow it

@@ -13,7 +13,7 @@ use Rattle.std.specs.List.{list_any}
 use Rattle.asset_names.specs.declared.statuses.End.{End}
 use Rattle.asset_names.specs.declared.statuses.End.TheVariants as End'
 use Rattle.asset_names.specs.declared.steps.Step.{Step}
-use Rattle.asset_names.specs.declared.steps.Step.TheVariants.{Initiate, Begin, Read, Write, Complete, Permit, Commit, Abort, WaitFor}
+use Rattle.asset_names.specs.declared.steps.Step.TheVariants.{Initiate, Begin, Read, Write, Complete, Permit, Delegate, Commit, Abort, WaitFor}
 use Rattle.asset_names.specs.declared.replies.Refusal.{Refusal}
 use Rattle.asset_names.specs.declared.replies.Reply.{Reply}
 use Rattle.asset_names.specs.declared.replies.Reply.TheVariants as Reply'
@@ -21,8 +21,9 @@ use Rattle.asset_names.specs.declared.replies.Outcome.TheVariants.{Answer}
 use Rattle.asset_names.specs.Arrows.{Arrow, lists, has_arrow}
 use Rattle.asset_names.specs.Steps.{Opening, Entry, takes_effect, applied, initiated, initiated_by, begun, begun_by, completed, completed_by}
 use Rattle.asset_names.specs.Endings.{ended_by, end_of, live, status, status_of}
-use Rattle.asset_names.specs.Answers.{Rule, is_unknown, has_ended, is_running, unknown, ended, not_running, one_name, taken, rules_for, first_refusal, unrefused, outcome_unless, answer, IsLegal}
+use Rattle.asset_names.specs.Answers.{Rule, is_unknown, has_ended, is_running, unknown, ended, not_running, one_name, taken, no_object_of, rules_for, first_refusal, unrefused, outcome_unless, answer, IsLegal}
 use Rattle.asset_names.proofs.Common.{option_or_none}
+use Rattle.asset_names.proofs.DelegateLemmas.{owner_handed, delegate_arrow}
 use Rattle.asset_names.proofs.EndLemmas.{live_parts, commits, aborts, commits_live, aborts_live, commit_ends, abort_ends}
 use Rattle.asset_names.specs.Orderly.{IsOrderly}
 
@@ -38,6 +39,7 @@ effect_unrefused opening steps step reply is carried = go (first_refusal (rules_
   never (Write t x v) refusal = refl
   never (Complete t) refusal = refl
   never (Permit giver taker obs ops) refusal = refl
+  never (Delegate giver taker obs) refusal = refl
   never (Commit t) refusal = refl
   never (Abort t) refusal = refl
   never (WaitFor t) refusal = refl
@@ -140,17 +142,30 @@ live_unless steps t = go (lists (initiated steps) t) (lists (begun steps) t) (li
   go true true false None h k = refl
   go true false false None h k = refl
 
--- a permit takes effect only between two live transactions
-pub permit_live : (opening : Opening) (steps : List Step) (giver taker : Txn) (obs : ObSet) (ops : OpSet) (reply : Reply) → answer opening steps (Permit giver taker obs ops) ≡ Answer reply → takes_effect (Permit giver taker obs ops) reply ≡ true
-    → (live steps giver.0 ≡ true) × (live steps taker.0 ≡ true)
-unfolding rules_for unknown ended
-permit_live opening steps giver taker obs ops reply is carried =
-    let zero = first_none (one_name giver taker) _ (effect_unrefused opening steps (Permit giver taker obs ops) reply is carried) in
+-- where no rule on a giver and a taker applies, they are two, and both live
+between_live : (opening : Opening) (steps : List Step) (giver taker : Txn) (obs : ObSet)
+    → first_refusal (one_name giver taker ∷ unknown steps giver ∷ unknown steps taker ∷ ended steps giver ∷ ended steps taker ∷ no_object_of opening obs ∷ []) ≡ None
+    → (eqb giver.0 taker.0 ≡ false) × (live steps giver.0 ≡ true) × (live steps taker.0 ≡ true)
+unfolding unknown ended one_name
+between_live opening steps giver taker obs none =
+    let zero = first_none (one_name giver taker) _ none in
     let one = first_none (unknown steps giver) _ zero.1 in
     let two = first_none (unknown steps taker) _ one.1 in
     let three = first_none (ended steps giver) _ two.1 in
     let four = first_none (ended steps taker) _ three.1 in
-    (live_unless steps giver.0 one.0 three.0, live_unless steps taker.0 two.0 four.0)
+    (zero.0, live_unless steps giver.0 one.0 three.0, live_unless steps taker.0 two.0 four.0)
+
+-- a permit takes effect only between two live transactions
+pub permit_live : (opening : Opening) (steps : List Step) (giver taker : Txn) (obs : ObSet) (ops : OpSet) (reply : Reply) → answer opening steps (Permit giver taker obs ops) ≡ Answer reply → takes_effect (Permit giver taker obs ops) reply ≡ true
+    → (live steps giver.0 ≡ true) × (live steps taker.0 ≡ true)
+unfolding rules_for
+permit_live opening steps giver taker obs ops reply is carried = let parts = between_live opening steps giver taker obs (effect_unrefused opening steps (Permit giver taker obs ops) reply is carried) in (parts.1, parts.2)
+
+-- a delegation takes effect only between two live transactions, which differ
+pub delegate_live : (opening : Opening) (steps : List Step) (giver taker : Txn) (obs : ObSet) (reply : Reply) → answer opening steps (Delegate giver taker obs) ≡ Answer reply → takes_effect (Delegate giver taker obs) reply ≡ true
+    → (eqb giver.0 taker.0 ≡ false) × (live steps giver.0 ≡ true) × (live steps taker.0 ≡ true)
+unfolding rules_for
+delegate_live opening steps giver taker obs reply is carried = between_live opening steps giver taker obs (effect_unrefused opening steps (Delegate giver taker obs) reply is carried)
 
 -- the arrows after a permit: its own, and those before
 permit_arrow : (giver taker : Txn) (obs : ObSet) (ops : OpSet) (steps : List Step) (x : ℕ) (op : Op) (u v : ℕ) → has_arrow (permits (Permit giver taker obs ops ∷ steps) x op) u v ≡ true
@@ -227,6 +242,21 @@ orderly_more opening (Permit giver taker obs ops) steps reply is carried orderly
     | inr before ↦ orderly.permits_known u v x op before
   ];
 }
+orderly_more opening (Delegate giver taker obs) steps reply is carried orderly =
+    let both = delegate_live opening steps giver taker obs reply is carried in
+    let receiver : lists (initiated steps) taker.0 ≡ true = live_known steps taker.0 both.2 in record {
+      different = orderly.different;
+      begun_known = orderly.begun_known;
+      owners_known = λ n owns. elim (owner_handed giver.0 taker.0 obs n (operations steps) owns) [
+        | inl here ↦ subst (λ m. lists (initiated steps) m ≡ true) here receiver
+        | inr before ↦ orderly.owners_known n before
+      ];
+      completed_known = orderly.completed_known;
+      permits_known = λ u v x op arrow. elim (delegate_arrow giver taker obs steps x op u v arrow) [
+        | inl copy ↦ (subst (λ m. lists (initiated steps) m ≡ true) copy.0 receiver, (orderly.permits_known giver.0 v x op copy.1).1)
+        | inr before ↦ orderly.permits_known u v x op before
+      ];
+    }
 orderly_more opening (Commit t) steps reply is carried orderly = record { different = orderly.different; begun_known = orderly.begun_known; owners_known = orderly.owners_known; completed_known = orderly.completed_known; permits_known = orderly.permits_known }
 orderly_more opening (Abort t) steps reply is carried orderly = record { different = orderly.different; begun_known = orderly.begun_known; owners_known = orderly.owners_known; completed_known = orderly.completed_known; permits_known = orderly.permits_known }
 orderly_more opening (WaitFor t) steps reply is carried orderly = record { different = orderly.different; begun_known = orderly.begun_known; owners_known = orderly.owners_known; completed_known = orderly.completed_known; permits_known = orderly.permits_known }
@@ -258,6 +288,7 @@ ended_initiated (Read t x ∷ steps) n h = ended_initiated steps n (subst (λ (e
 ended_initiated (Write t x v ∷ steps) n h = ended_initiated steps n (subst (λ (e : Option End). is_some e ≡ true) (option_or_none (end_of steps n)) h)
 ended_initiated (Complete t ∷ steps) n h = ended_initiated steps n (subst (λ (e : Option End). is_some e ≡ true) (option_or_none (end_of steps n)) h)
 ended_initiated (Permit giver taker obs ops ∷ steps) n h = ended_initiated steps n (subst (λ (e : Option End). is_some e ≡ true) (option_or_none (end_of steps n)) h)
+ended_initiated (Delegate giver taker obs ∷ steps) n h = ended_initiated steps n (subst (λ (e : Option End). is_some e ≡ true) (option_or_none (end_of steps n)) h)
 ended_initiated (Commit t ∷ steps) n h = ended_more End'.Committed steps (commits steps t.0) n (commits_live steps t.0 n) (ended_initiated steps n) (subst (λ (e : Option End). is_some e ≡ true) (commit_ends t steps n) h)
 ended_initiated (Abort t ∷ steps) n h = ended_more End'.Aborted steps (aborts steps t.0) n (aborts_live steps t.0 n) (ended_initiated steps n) (subst (λ (e : Option End). is_some e ≡ true) (abort_ends t steps n) h)
 ended_initiated (WaitFor t ∷ steps) n h = ended_initiated steps n (subst (λ (e : Option End). is_some e ≡ true) (option_or_none (end_of steps n)) h)

@@ -4,9 +4,12 @@ pub mod DoubleLemmas
 pub mod PermitLemmas
 pub mod Cases
 pub mod PermitCases
+pub mod DelegateCases
 pub mod Sorting
 pub mod AppliedLemmas
 pub mod EndLemmas
+pub mod ListLemmas
+pub mod DelegateLemmas
 pub mod LegalLemmas
 pub mod RoomLemmas
 pub mod HolderLemmas

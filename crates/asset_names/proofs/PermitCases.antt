@@ -18,17 +18,17 @@ use Rattle.asset_names.specs.Answers.{is_unknown, has_ended, is_running, is_comp
 use Rattle.asset_names.proofs.Cases.{t, x, Case, ok, refused}
 
 -- read and write, and read alone
-abbrev read_and_write : OpSet
+abbrev pub read_and_write : OpSet
 read_and_write = op_set true true
 
-abbrev read_only : OpSet
+abbrev pub read_only : OpSet
 read_only = op_set true false
 
 -- three names run
-abbrev three_run : List Step
+abbrev pub three_run : List Step
 three_run = Initiate (t 7) None ∷ Begin (t 7) ∷ Initiate (t 8) None ∷ Begin (t 8) ∷ Initiate (t 9) None ∷ Begin (t 9) ∷ []
 
-abbrev six_ok : List Outcome
+abbrev pub six_ok : List Outcome
 six_ok = ok ∷ ok ∷ ok ∷ ok ∷ ok ∷ ok ∷ []
 
 -- a write that a permit let through stands when the giver aborts, and goes with its own writer

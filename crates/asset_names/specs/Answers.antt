@@ -5,7 +5,7 @@ use Rattle.asset_names.specs.declared.names.Txn.{Txn}
 use Rattle.asset_names.specs.declared.names.Ob.{Ob}
 use Rattle.asset_names.specs.declared.operations.Op.TheVariants as Op'
 use Rattle.asset_names.specs.declared.steps.Step.{Step}
-use Rattle.asset_names.specs.declared.steps.Step.TheVariants.{Initiate, Begin, Read, Write, Complete, Permit, Commit, Abort, WaitFor}
+use Rattle.asset_names.specs.declared.steps.Step.TheVariants.{Initiate, Begin, Read, Write, Complete, Permit, Delegate, Commit, Abort, WaitFor}
 use Rattle.asset_names.specs.declared.sets.ObSet.{ObSet}
 use Rattle.asset_names.specs.declared.sets.ObSet.TheVariants.{All, Listed}
 use Rattle.asset_names.specs.Sets.{no_object_name}
@@ -60,7 +60,7 @@ Rule = Bool × Refusal
 unfoldable pub unknown : List Step → Txn → Rule
 unknown steps t = (is_unknown (status steps t.0), Refusal'.Unknown t)
 
--- a begin, a transaction's own work, and a permit by it or for it are refused if it has ended
+-- a begin, a transaction's own work, and a permit or a delegation by it or to it are refused if it has ended
 unfoldable pub ended : List Step → Txn → Rule
 ended steps t = (has_ended (status steps t.0), Refusal'.Ended t)
 
@@ -83,7 +83,7 @@ too_late steps t = (is_committed (status steps t.0), Refusal'.TooLate t)
 unfoldable pub no_object : Opening → Ob → Rule
 no_object opening x = (not (exists opening x.0), Refusal'.NoObject x)
 
--- a permit is refused if its giver is its taker
+-- a permit or a delegation is refused if its giver is its taker
 unfoldable pub one_name : Txn → Txn → Rule
 one_name giver taker = (giver.0 == taker.0, Refusal'.Same)
 
@@ -92,7 +92,7 @@ unfoldable pub missing_in : Opening → ObSet → Option Ob
 missing_in opening All = None
 missing_in opening (Listed list) = find (λ (x : Ob). not (exists opening x.0)) list
 
--- a permit is refused on a set with an object that does not exist
+-- a permit or a delegation is refused on a set with an object that does not exist
 unfoldable pub missing_rule : Option Ob → Rule
 missing_rule None = (false, Refusal'.NoObject no_object_name)
 missing_rule (Some x) = (true, Refusal'.NoObject x)
@@ -108,6 +108,7 @@ rules_for opening steps (Read t x) = unknown steps t ∷ ended steps t ∷ not_r
 rules_for opening steps (Write t x v) = unknown steps t ∷ ended steps t ∷ not_running steps t ∷ no_object opening x ∷ []
 rules_for opening steps (Complete t) = unknown steps t ∷ ended steps t ∷ not_running steps t ∷ []
 rules_for opening steps (Permit giver taker obs ops) = one_name giver taker ∷ unknown steps giver ∷ unknown steps taker ∷ ended steps giver ∷ ended steps taker ∷ no_object_of opening obs ∷ []
+rules_for opening steps (Delegate giver taker obs) = one_name giver taker ∷ unknown steps giver ∷ unknown steps taker ∷ ended steps giver ∷ ended steps taker ∷ no_object_of opening obs ∷ []
 rules_for opening steps (Commit t) = unknown steps t ∷ []
 rules_for opening steps (Abort t) = unknown steps t ∷ too_late steps t ∷ []
 rules_for opening steps (WaitFor t) = unknown steps t ∷ []
@@ -143,6 +144,7 @@ unrefused opening steps (Read t x) = cond (free steps t.0 x.0 Op'.Read) (Answer 
 unrefused opening steps (Write t x v) = cond (free steps t.0 x.0 Op'.Write) (Answer Reply'.Done) Wait
 unrefused opening steps (Complete t) = Answer Reply'.Done
 unrefused opening steps (Permit giver taker obs ops) = Answer Reply'.Done
+unrefused opening steps (Delegate giver taker obs) = Answer Reply'.Done
 unrefused opening steps (Commit t) = commit_outcome (status steps t.0) (class_completed steps t.0)
 unrefused opening steps (Abort t) = Answer Reply'.Aborted
 unrefused opening steps (WaitFor t) = wait_outcome (status steps t.0)
@@ -161,6 +163,7 @@ takes_memory (Initiate t parent) = true
 takes_memory (Read t x) = true
 takes_memory (Write t x v) = true
 takes_memory (Permit giver taker obs ops) = true
+takes_memory (Delegate giver taker obs) = true
 takes_memory step = false
 
 -- whether the outcome is a reply by which the step takes effect

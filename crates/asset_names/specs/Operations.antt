@@ -1,11 +1,12 @@
 -- Operations, who is responsible for them, who holds what, permits and who allows whom, and the value of an object.
-use Rattle.std.specs.Prelude.{ℕ, ℤ, pos, Bool, true, false, cond, not, ◌==◌, ◌&&◌, List, [], ◌∷◌, ◌++◌, Option, Some, None, is_some, unwrap_or, option_map, find}
+use Rattle.std.specs.Prelude.{ℕ, ℤ, pos, Bool, true, false, cond, not, ◌==◌, ◌&&◌, List, [], ◌∷◌, ◌++◌, map, filter, Option, Some, None, is_some, unwrap_or, option_map, find}
 use Rattle.std.specs.List.{list_any}
 use Rattle.asset_names.specs.declared.names.Ob.{Ob}
 use Rattle.asset_names.specs.declared.operations.Op.{Op}
 use Rattle.asset_names.specs.declared.operations.Op.TheVariants as Op'
+use Rattle.asset_names.specs.declared.sets.ObSet.{ObSet}
 use Rattle.asset_names.specs.declared.steps.Step.{Step}
-use Rattle.asset_names.specs.declared.steps.Step.TheVariants.{Read, Write, Permit}
+use Rattle.asset_names.specs.declared.steps.Step.TheVariants.{Read, Write, Permit, Delegate}
 use Rattle.asset_names.specs.Arrows.{Arrow, linked, among}
 use Rattle.asset_names.specs.OpSets.{has_op}
 use Rattle.asset_names.specs.InSet.{in_set}
@@ -44,11 +45,16 @@ conflict Op'.Read Op'.Write = true
 conflict Op'.Write Op'.Read = true
 conflict Op'.Write Op'.Write = true
 
+-- the operation after a delegation: on an object of the set, the taker is responsible for it in place of the giver
+unfoldable pub handed_over : ℕ → ℕ → ObSet → Operation → Operation
+handed_over giver taker obs o = cond (o.owner == giver && in_set obs o.object) (record o { owner = taker }) o
+
 -- the operations after a step that took effect, newest first: a read or a write adds one, for
--- which its transaction is responsible
+-- which its transaction is responsible; a delegation hands over the giver's on the objects of its set
 unfoldable pub operated : Step → List Operation → List Operation
 operated (Read t x) older = record { owner = t.0; object = x.0; use_of = reads } ∷ older
 operated (Write t x v) older = record { owner = t.0; object = x.0; use_of = writes v } ∷ older
+operated (Delegate giver taker obs) older = map (handed_over giver.0 taker.0 obs) older
 operated step older = older
 
 -- the operations of the steps that took effect, newest first
@@ -60,10 +66,19 @@ operations (step ∷ older) = operated step (operations older)
 unfoldable pub holds : List Step → ℕ → ℕ → Op → Bool
 holds steps t x op = live steps t && list_any (λ (o : Operation). o.owner == t && o.object == x && same_op (op_of o.use_of) op) (operations steps)
 
+-- a live transaction holds x where it is responsible for an operation on x
+unfoldable pub holds_object : List Step → ℕ → ℕ → Bool
+holds_object steps t x = live steps t && list_any (λ (o : Operation). o.owner == t && o.object == x) (operations steps)
+
+-- the arrows from the giver, as arrows from the taker
+unfoldable pub copied : ℕ → ℕ → List Arrow → List Arrow
+copied giver taker arrows = map (λ (arrow : Arrow). (taker, arrow.1)) (filter (λ (arrow : Arrow). arrow.0 == giver) arrows)
+
 -- the arrows that a step adds, over the steps before it and their arrows: a permit adds the one from its giver to its
--- taker, if it covers op on x
+-- taker, if it covers op on x; a delegation copies the giver's, if the giver hands over x
 unfoldable pub permitted_by : Step → List Step → List Arrow → ℕ → Op → List Arrow
 permitted_by (Permit giver taker obs ops) older arrows x op = cond (in_set obs x && has_op ops op) ((giver.0, taker.0) ∷ []) []
+permitted_by (Delegate giver taker obs) older arrows x op = cond (in_set obs x && holds_object older giver.0 x) (copied giver.0 taker.0 arrows) []
 permitted_by step older arrows x op = []
 
 -- the arrows from each giver to each taker whom it permits op on x

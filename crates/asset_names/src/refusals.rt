@@ -104,11 +104,11 @@ fn refusal_of_ended(
     }
 }
 
-/// Returns why the giver may not permit anything to the taker; `missing` is the least object of the permit that
-/// does not exist, if there is one. The refusals in order: Same if the two are one transaction; Unknown of the
+/// Returns why the giver may not permit or hand over anything to the taker; `missing` is the least object of the
+/// set that does not exist, if there is one. The refusals in order: Same if the two are one transaction; Unknown of the
 /// giver, then of the taker; Ended of the giver, then of the taker; NoObject of `missing`.
 #[tactic(auto, unfolding(crate::specs::Answers::first_refusal))]
-pub fn refusal_to_permit(
+pub fn refusal_between(
     giver: Txn,
     giver_status: Status,
     taker: Txn,

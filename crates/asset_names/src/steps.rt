@@ -49,6 +49,13 @@ pub enum Step {
         obs: ObSet,
         ops: Ops,
     },
+    /// Hands over to the taker what the giver did on the objects: from then on the taker is responsible for
+    /// it. The taker also gets a copy of the giver's permits on each object so handed over.
+    Delegate {
+        giver: Txn,
+        taker: Txn,
+        obs: ObSet,
+    },
     /// Commits `t`.
     Commit {
         t: Txn,

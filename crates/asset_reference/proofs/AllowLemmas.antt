@@ -1,30 +1,109 @@
--- Going along one more permit, or without it.
-use Rattle.std.proofs.Common.{◌≡◌, ℕ, ◌+◌, ◌-◌, ◌<◌, ◌≤◌, Bool, true, false, ◌&&◌, ◌||◌, List, ◌∷◌, ◌++◌, length, get_or, take, reverse, refl, ◌∙◌, ap, arith}
-use Rattle.std.specs.Prelude.{Option}
-use Rattle.asset_names.specs.declared.names.Txn.{Txn}
+-- Going along arrows that are added, or without them.
+use Rattle.std.proofs.Common.{◌≡◌, ℕ, ◌+◌, ◌-◌, ◌<◌, ◌≤◌, Bool, true, false, cond, eqb, ◌&&◌, ◌||◌, List, [], ◌∷◌, ◌++◌, map, filter, length, get_or, take, reverse, refl, ◌∙◌, ap, arith}
+use Rattle.std.specs.List.{list_any}
+use Rattle.std.proofs.lemmas.List.Elements.{filter-append}
+use Rattle.std.proofs.lemmas.List.Folds.{list_any-append}
 use Rattle.asset_names.specs.declared.operations.Op.{Op}
-use Rattle.asset_names.specs.Arrows.{among}
+use Rattle.asset_names.specs.Arrows.{Arrow, linked, among}
 use Rattle.asset_names.specs.Steps.{Entry, applied}
-use Rattle.asset_names.specs.Operations.{permits}
-use Rattle.asset_reference.specs.Scans.{arrows_of}
+use Rattle.asset_names.specs.Operations.{permits, copied}
+use Rattle.asset_names.proofs.ListLemmas.{any_map, any_filter, all_and}
+use Rattle.asset_reference.specs.declared.allowing.Added.{Added}
+use Rattle.asset_reference.specs.declared.allowing.Added.TheVariants.{Nothing, One, Copies}
+use Rattle.asset_reference.specs.Allowing.{added_arrows, goes_along, leads_on, leads_by}
 use Rattle.asset_reference.proofs.AppliedLemmas.{reverse_take_item}
 
--- the arrows of the first entries of a number: those of the newest of them, and those of the others
-pub arrows_more : (test : ℕ → Bool) (entries : List Entry) (count : ℕ) (item : Entry) (found : Option (Txn × Txn)) (x : ℕ) (op : Op) → 0 < count → count ≤ length entries → item ≡ get_or entries (count - 1) item
-    → ((older : List Entry) → among test (permits (applied (item ∷ older)) x op) ≡ arrows_of found ++ among test (permits (applied older) x op))
-    → among test (permits (applied (reverse (take count entries))) x op) ≡ arrows_of found ++ among test (permits (applied (reverse (take (count - 1) entries))) x op)
-arrows_more test entries count item found x op some within is adds =
+-- the arrows of the first entries of a number: those that the newest of them adds, and those of the others
+pub arrows_more : (entries : List Entry) (count : ℕ) (item : Entry) (added : Added) (x : ℕ) (op : Op) → 0 < count → count ≤ length entries → item ≡ get_or entries (count - 1) item
+    → permits (applied (item ∷ reverse (take (count - 1) entries))) x op
+    ≡ added_arrows added (permits (applied (reverse (take (count - 1) entries))) x op) ++ permits (applied (reverse (take (count - 1) entries))) x op
+    → permits (applied (reverse (take count entries))) x op
+    ≡ added_arrows added (permits (applied (reverse (take (count - 1) entries))) x op) ++ permits (applied (reverse (take (count - 1) entries))) x op
+arrows_more entries count item added x op some within is adds =
     let one_more : count ≡ count - 1 + 1 = omega (arith, some) in
-    ap (λ n. among test (permits (applied (reverse (take n entries))) x op)) one_more
-    ∙ ap (λ es. among test (permits (applied es) x op)) (reverse_take_item entries (count - 1) item (omega (arith, some, within)) is)
-    ∙ adds (reverse (take (count - 1) entries))
+    ap (λ n. permits (applied (reverse (take n entries))) x op) one_more
+    ∙ ap (λ list. permits (applied list) x op) (reverse_take_item entries (count - 1) item (omega (arith, some, within)) is)
+    ∙ adds
 
--- one way leads there, or two that are joined do
-pub first_way : (r p others : Bool) → r ≡ p → r ≡ true → r ≡ (p || others)
-first_way r p others is reached = rw (← is, reached) refl
+-- nothing is added by what is false
+or_none : (p : Bool) → p ≡ (p || false)
+or_none true = refl
+or_none false = refl
 
-pub joined_ways : (r1 r2 r3 p q s : Bool) → r1 ≡ p → r1 ≡ false → r2 ≡ q → r2 ≡ true → r3 ≡ s → r3 ≡ (p || q && s)
-joined_ways r1 r2 r3 p q s one missed two reached three = rw (← one, missed, ← two, reached) three
+swapped : (p q : Bool) → (p || q) ≡ (q || p)
+swapped true true = refl
+swapped true false = refl
+swapped false true = refl
+swapped false false = refl
 
-pub no_way : (r1 r2 p q s : Bool) → r1 ≡ p → r1 ≡ false → r2 ≡ q → r2 ≡ false → r2 ≡ (p || q && s)
-no_way r1 r2 p q s one missed two failed = rw (← one, missed, ← two, failed) refl
+-- one more arrow
+one_link : (test : ℕ → Bool) (g t : ℕ) (arrows : List Arrow) (a b : ℕ) → linked (among test ((g, t) ∷ arrows)) a b
+    ≡ (linked (among test arrows) a b || (test g && (test t && (linked (among test arrows) a g && linked (among test arrows) t b))))
+unfolding linked among
+one_link test g t arrows a b = go (test g) (test t) where
+  go : (gives takes : Bool) → linked (cond (gives && takes) ((g, t) ∷ among test arrows) (among test arrows)) a b
+      ≡ (linked (among test arrows) a b || (gives && (takes && (linked (among test arrows) a g && linked (among test arrows) t b))))
+  go true true = refl
+  go true false = or_none (linked (among test arrows) a b)
+  go false takes = or_none (linked (among test arrows) a b)
+
+-- Copies all lead from one name, so a way needs one of them at most: with one more copy, what was reached from a, what
+-- was reached from the end of that copy, and what it is that is reached.
+one_copy : (ab at any_b any_t vb vt : Bool) → ((ab || (at && any_b)) || ((at || (at && any_t)) && (vb || (vt && any_b)))) ≡ (ab || (at && (vb || any_b)))
+one_copy true at any_b any_t vb vt = refl
+one_copy false false any_b any_t vb vt = refl
+one_copy false true true any_t vb vt = grind arith
+one_copy false true false any_t vb vt = grind arith
+
+-- the copies of the giver's arrows
+copies_link : (test : ℕ → Bool) (others : List Arrow) (g t : ℕ) (arrows : List Arrow) (a b : ℕ) → linked (among test (copied g t arrows) ++ others) a b
+    ≡ (linked others a b || (test t && (linked others a t && list_any (λ (arrow : Arrow). eqb arrow.0 g && (test arrow.1 && linked others arrow.1 b)) arrows)))
+unfolding linked among copied
+copies_link test others g t [] a b = grind arith
+copies_link test others g t (arrow ∷ arrows) a b = given (eqb arrow.0 g) (copies_link test others g t arrows) where
+  any_to : ℕ → Bool
+  any_to n = list_any (λ (other : Arrow). eqb other.0 g && (test other.1 && linked others other.1 n)) arrows
+
+  Before : Type 0
+  Before = (m n : ℕ) → linked (among test (copied g t arrows) ++ others) m n ≡ (linked others m n || (test t && (linked others m t && any_to n)))
+
+  given : (its : Bool) → Before → linked (among test (map (λ (other : Arrow). (t, other.1)) (cond its (arrow ∷ filter (λ (other : Arrow). eqb other.0 g) arrows) (filter (λ (other : Arrow). eqb other.0 g) arrows))) ++ others) a b
+      ≡ (linked others a b || (test t && (linked others a t && ((its && (test arrow.1 && linked others arrow.1 b)) || any_to b))))
+  given false ih = ih a b
+  given true ih = kept (test t) refl (test arrow.1) where
+    kept : (takes : Bool) → test t ≡ takes → (leads : Bool)
+        → linked (cond (takes && leads) ((t, arrow.1) ∷ among test (copied g t arrows)) (among test (copied g t arrows)) ++ others) a b
+        ≡ (linked others a b || (takes && (linked others a t && ((leads && linked others arrow.1 b) || any_to b))))
+    kept true e true = (λ i. ih a b i || (ih a t i && ih arrow.1 b i)) ∙ rw e (one_copy (linked others a b) (linked others a t) (any_to b) (any_to t) (linked others arrow.1 b) (linked others arrow.1 t))
+    kept true e false = ih a b ∙ rw e refl
+    kept false e leads = ih a b ∙ rw e refl
+
+-- with arrows added, a way goes along one of them once or without them
+pub links_added : (test : ℕ → Bool) (added : Added) (arrows : List Arrow) (a b : ℕ) → linked (among test (added_arrows added arrows ++ arrows)) a b
+    ≡ (linked (among test arrows) a b || goes_along test added arrows a b)
+unfolding added_arrows goes_along leads_on among
+links_added test Nothing arrows a b = or_none (linked (among test arrows) a b)
+links_added test (One giver taker) arrows a b = one_link test giver.0 taker.0 arrows a b
+links_added test (Copies giver taker) arrows a b =
+    ap (λ list. linked list a b) (split (copied giver.0 taker.0 arrows))
+    ∙ copies_link test (among test arrows) giver.0 taker.0 arrows a b where
+      split : (ones : List Arrow) → among test (ones ++ arrows) ≡ among test ones ++ among test arrows
+      split ones = filter-append (λ (arrow : Arrow). test arrow.0 && test arrow.1) ones arrows
+
+-- the same of the arrows that lead on from a name
+pub leads_added : (test : ℕ → Bool) (others : List Arrow) (added : Added) (arrows : List Arrow) (a b : ℕ) → leads_on test others (added_arrows added arrows ++ arrows) a b
+    ≡ (leads_on test others arrows a b || leads_by test others added arrows a b)
+unfolding added_arrows leads_on leads_by copied
+leads_added test others Nothing arrows a b = or_none (leads_on test others arrows a b)
+leads_added test others (One giver taker) arrows a b = swapped _ (leads_on test others arrows a b)
+leads_added test others (Copies giver taker) arrows a b =
+    list_any-append leads (copied giver.0 taker.0 arrows) arrows
+    ∙ ap (λ any. any || list_any leads arrows) (any_map leads (λ (arrow : Arrow). (taker.0, arrow.1)) (filter (λ (arrow : Arrow). eqb arrow.0 giver.0) arrows)
+    ∙ all_and (eqb taker.0 a) on (filter (λ (arrow : Arrow). eqb arrow.0 giver.0) arrows)
+    ∙ ap (λ any. eqb taker.0 a && any) (any_filter on (λ (arrow : Arrow). eqb arrow.0 giver.0) arrows))
+    ∙ swapped (eqb taker.0 a && list_any (λ (arrow : Arrow). eqb arrow.0 giver.0 && on arrow) arrows) (list_any leads arrows) where
+      on : Arrow → Bool
+      on arrow = test arrow.1 && linked (among test others) arrow.1 b
+
+      leads : Arrow → Bool
+      leads arrow = eqb arrow.0 a && on arrow

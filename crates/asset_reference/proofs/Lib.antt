@@ -1,4 +1,5 @@
 pub mod AppliedLemmas
 pub mod TrackLemmas
 pub mod ScanLemmas
+pub mod OwnerLemmas
 pub mod AllowLemmas

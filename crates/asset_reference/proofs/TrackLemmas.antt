@@ -6,7 +6,7 @@ use Rattle.std.proofs.lemmas.Bool.{eqb-true}
 use Rattle.asset_names.specs.declared.statuses.End.{End}
 use Rattle.asset_names.specs.declared.statuses.End.TheVariants as End'
 use Rattle.asset_names.specs.declared.steps.Step.{Step}
-use Rattle.asset_names.specs.declared.steps.Step.TheVariants.{Initiate, Begin, Read, Write, Complete, Permit, Commit, Abort, WaitFor}
+use Rattle.asset_names.specs.declared.steps.Step.TheVariants.{Initiate, Begin, Read, Write, Complete, Permit, Delegate, Commit, Abort, WaitFor}
 use Rattle.asset_names.specs.Arrows.{lists, linked, among}
 use Rattle.asset_names.specs.Steps.{Entry, takes_effect, applied, initiated, initiated_by, begun, begun_by, completed, completed_by}
 use Rattle.asset_names.specs.Endings.{class_arrows, doom_arrows, end_of, ended_by, live}
@@ -32,6 +32,7 @@ track_of_more (Read u x) steps t = rw (option_or_none (end_of steps t))
 track_of_more (Write u x v) steps t = rw (option_or_none (end_of steps t))
 track_of_more (Complete u) steps t = rw (option_or_none (end_of steps t))
 track_of_more (Permit giver taker obs ops) steps t = rw (option_or_none (end_of steps t))
+track_of_more (Delegate giver taker obs) steps t = rw (option_or_none (end_of steps t))
 track_of_more (Commit u) steps t = rw (end_alone End'.Committed u.0 t steps)
 track_of_more (Abort u) steps t = rw (end_alone End'.Aborted u.0 t steps)
 track_of_more (WaitFor u) steps t = rw (option_or_none (end_of steps t))

@@ -1,2 +1,4 @@
 pub mod Tracks
+pub mod Owners
 pub mod Scans
+pub mod Allowing

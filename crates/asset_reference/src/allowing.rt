@@ -2,27 +2,29 @@
 
 ghost use Rattle.std.specs.Prelude.{◌≡◌, ◌≤◌, ◌++◌, List, ◌∷◌, length, reverse, take};
 ghost use Rattle.asset_names.specs.Arrows.{Arrow, among, linked};
-ghost use Rattle.asset_names.specs.declared.steps.Step.{Step as Request};
-ghost use Rattle.asset_names.specs.Steps.{Entry, applied};
+ghost use Rattle.asset_names.specs.Steps.{applied};
 ghost use Rattle.asset_names.specs.Endings.{live};
 ghost use Rattle.asset_names.specs.Operations.{permits, permitted_by, allows};
-ghost use Rattle.asset_reference.specs.Scans.{arrows_of};
+ghost use Rattle.asset_reference.specs.Allowing.{added_arrows, goes_along, leads_on, leads_by};
 
-use crate::tracks::status_after;
+use crate::holding::holds_object;
+use crate::tracks::is_live;
 use asset_names::{Ob, Op, Reply, Step, Txn, takes_effect};
 
-/// Returns whether the transaction is live.
-#[tactic(auto, using(asset_names::proofs::LiveLemmas::live_by_status))]
-pub fn is_live(entries: &[(Step, Reply)], t: Txn) -> bool
-    ensures { result ≡ live (applied (reverse entries.now)) t.0 }
-{
-    status_after(entries, t).is_live()
+/// The permits that an entry adds.
+#[derive(Clone, Copy)]
+enum Added {
+    Nothing,
+    /// One of the first transaction for the second.
+    One(Txn, Txn),
+    /// A copy of each permit of the first transaction, given by the second.
+    Copies(Txn, Txn),
 }
 
-/// Returns the giver and the taker of a step that permits `op` on `x`, if both are live.
-#[tactic(auto, unfolding(crate::specs::Scans::arrows_of, asset_names::specs::Operations::permitted_by, asset_names::specs::Arrows::among))]
-fn permit_by(entries: &[(Step, Reply)], step: &Step, x: Ob, op: Op) -> Option<(Txn, Txn)>
-    ensures { (older : List Request) (arrows : List Arrow) → arrows_of result ≡ among (live (applied (reverse entries.now))) (permitted_by step.now older arrows x.0 op) }
+/// Returns the permits of `op` on `x` that a step adds which takes effect after these entries.
+#[tactic(auto, unfolding(crate::specs::Allowing::added_arrows, asset_names::specs::Operations::permitted_by))]
+fn added_by(older: &[(Step, Reply)], step: &Step, x: Ob, op: Op) -> Added
+    ensures { (arrows : List Arrow) → added_arrows result arrows ≡ permitted_by step.now (applied (reverse older.now)) arrows x.0 op }
 {
     match *step {
         Step::Permit {
@@ -30,29 +32,30 @@ fn permit_by(entries: &[(Step, Reply)], step: &Step, x: Ob, op: Op) -> Option<(T
             taker,
             obs,
             ops,
-        } if obs.has(x) && ops.has(op) && is_live(entries, giver) && is_live(entries, taker) => {
-            Some((giver, taker))
+        } if obs.has(x) && ops.has(op) => Added::One(giver, taker),
+        Step::Delegate { giver, taker, obs } if obs.has(x) && holds_object(older, giver, x) => {
+            Added::Copies(giver, taker)
         }
-        _ => None,
+        _ => Added::Nothing,
     }
 }
 
-/// Returns the giver and the taker of an entry that permits `op` on `x`, if both are live.
-#[tactic(auto, unfolding(crate::specs::Scans::arrows_of), using(crate::proofs::ScanLemmas::permits_at_entry))]
-fn permit_of(entries: &[(Step, Reply)], entry: &(Step, Reply), x: Ob, op: Op) -> Option<(Txn, Txn)>
-    ensures { (older : List Entry) →
-        among (live (applied (reverse entries.now))) (permits (applied (entry.now ∷ older)) x.0 op)
-        ≡ arrows_of result ++ among (live (applied (reverse entries.now))) (permits (applied older) x.0 op) }
+/// Returns the permits of `op` on `x` that an entry adds to those of the entries before it.
+#[tactic(auto, unfolding(crate::specs::Allowing::added_arrows), using(crate::proofs::ScanLemmas::permits_at_entry))]
+fn added_at(older: &[(Step, Reply)], entry: &(Step, Reply), x: Ob, op: Op) -> Added
+    ensures { permits (applied (entry.now ∷ reverse older.now)) x.0 op
+        ≡ added_arrows result (permits (applied (reverse older.now)) x.0 op) ++ permits (applied (reverse older.now)) x.0 op }
 {
     if takes_effect(&entry.0, entry.1) {
-        permit_by(entries, &entry.0, x, op)
+        added_by(older, &entry.0, x, op)
     } else {
-        None
+        Added::Nothing
     }
 }
 
 /// Returns whether the first of the two transactions allows the second by the permits among the first `count`
-/// entries: without the newest of them, or by going along it once.
+/// entries: without those that the newest of them adds, or by going along one of those once.
+#[cycle(allowing)]
 fn allows_within(entries: &[(Step, Reply)], count: usize, ends: (Txn, Txn), x: Ob, op: Op) -> bool
     requires { count ≤ length entries.now }
     ensures { result ≡ linked (among (live (applied (reverse entries.now))) (permits (applied (reverse (take count entries.now))) x.0 op)) ends.0.0 ends.1.0 }
@@ -61,13 +64,92 @@ fn allows_within(entries: &[(Step, Reply)], count: usize, ends: (Txn, Txn), x: O
         return ends.0 == ends.1;
     }
     let last = count - 1;
-    match permit_of(entries, &entries[last], x, op) {
-        Some((giver, taker)) => {
-            allows_within(entries, last, ends, x, op)
-                || allows_within(entries, last, (ends.0, giver), x, op)
-                    && allows_within(entries, last, (taker, ends.1), x, op)
+    let added = added_at(&entries[..last], &entries[last], x, op);
+    allows_within(entries, last, ends, x, op) || goes_along(entries, last, added, ends, x, op)
+}
+
+/// Returns whether the first of the two transactions allows the second by going once along one of the permits
+/// that are added to those among the first `count` entries.
+#[cycle(allowing)]
+#[tactic(auto, unfolding(crate::specs::Allowing::goes_along))]
+fn goes_along(
+    entries: &[(Step, Reply)],
+    count: usize,
+    added: Added,
+    ends: (Txn, Txn),
+    x: Ob,
+    op: Op,
+) -> bool
+    requires { count ≤ length entries.now }
+    ensures { result ≡ goes_along (live (applied (reverse entries.now))) added (permits (applied (reverse (take count entries.now))) x.0 op) ends.0.0 ends.1.0 }
+{
+    match added {
+        Added::Nothing => false,
+        Added::One(giver, taker) => {
+            is_live(entries, giver)
+                && is_live(entries, taker)
+                && allows_within(entries, count, (ends.0, giver), x, op)
+                && allows_within(entries, count, (taker, ends.1), x, op)
         }
-        None => allows_within(entries, last, ends, x, op),
+        Added::Copies(giver, taker) => {
+            is_live(entries, taker)
+                && allows_within(entries, count, (ends.0, taker), x, op)
+                && leads_on(entries, (count, count), (giver, ends.1), x, op)
+        }
+    }
+}
+
+/// Returns whether a permit of the first of the two transactions, among the first `counts.0` entries, is for a live
+/// transaction that allows the second by the permits among the first `counts.1` entries.
+#[cycle(allowing)]
+fn leads_on(
+    entries: &[(Step, Reply)],
+    counts: (usize, usize),
+    ends: (Txn, Txn),
+    x: Ob,
+    op: Op,
+) -> bool
+    requires first { counts.0 ≤ length entries.now }
+    requires second { counts.1 ≤ length entries.now }
+    ensures { result ≡ leads_on (live (applied (reverse entries.now))) (permits (applied (reverse (take counts.1 entries.now))) x.0 op)
+        (permits (applied (reverse (take counts.0 entries.now))) x.0 op) ends.0.0 ends.1.0 }
+{
+    let (count, within) = counts;
+    if count == 0 {
+        return false;
+    }
+    let last = count - 1;
+    let added = added_at(&entries[..last], &entries[last], x, op);
+    leads_on(entries, (last, within), ends, x, op)
+        || leads_by(entries, (last, within), added, ends, x, op)
+}
+
+/// Returns the same of the permits that are added to those among the first `counts.0` entries.
+#[cycle(allowing)]
+#[tactic(auto, unfolding(crate::specs::Allowing::leads_by))]
+fn leads_by(
+    entries: &[(Step, Reply)],
+    counts: (usize, usize),
+    added: Added,
+    ends: (Txn, Txn),
+    x: Ob,
+    op: Op,
+) -> bool
+    requires first { counts.0 ≤ length entries.now }
+    requires second { counts.1 ≤ length entries.now }
+    ensures { result ≡ leads_by (live (applied (reverse entries.now))) (permits (applied (reverse (take counts.1 entries.now))) x.0 op) added
+        (permits (applied (reverse (take counts.0 entries.now))) x.0 op) ends.0.0 ends.1.0 }
+{
+    match added {
+        Added::Nothing => false,
+        Added::One(giver, taker) => {
+            giver == ends.0
+                && is_live(entries, taker)
+                && allows_within(entries, counts.1, (taker, ends.1), x, op)
+        }
+        Added::Copies(giver, taker) => {
+            taker == ends.0 && leads_on(entries, counts, (giver, ends.1), x, op)
+        }
     }
 }
 

@@ -52,8 +52,11 @@ fn unrefused(opening: &[(Ob, i64)], entries: &[(Step, Reply)], step: &Step) -> O
     ensures { result ≡ unrefused opening.now (applied (reverse entries.now)) step.now }
 {
     match *step {
-        Step::Initiate { .. } | Step::Begin { .. } | Step::Complete { .. } | Step::Permit { .. } =>
-            Outcome::Answer(Reply::Done),
+        Step::Initiate { .. }
+        | Step::Begin { .. }
+        | Step::Complete { .. }
+        | Step::Permit { .. }
+        | Step::Delegate { .. } => Outcome::Answer(Reply::Done),
         Step::Read { t, x } if is_free(entries, t, x, Op::Read) => {
             Outcome::Answer(Reply::Value(current_value(opening, entries, x)))
         }

@@ -5,7 +5,9 @@
 mod allowing;
 mod answers;
 mod freedom;
+mod holding;
 mod openings;
+mod operating;
 mod refusals;
 mod tracks;
 mod values;

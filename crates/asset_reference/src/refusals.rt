@@ -7,8 +7,8 @@ ghost use Rattle.asset_names.specs.Answers.{first_refusal, rules_for};
 use crate::openings::{missing_in, opening_at};
 use crate::tracks::status_after;
 use asset_names::{
-    Ob, Refusal, Reply, Step, refusal_to_abort, refusal_to_begin, refusal_to_find,
-    refusal_to_initiate, refusal_to_operate, refusal_to_permit, refusal_to_work,
+    Ob, Refusal, Reply, Step, refusal_between, refusal_to_abort, refusal_to_begin, refusal_to_find,
+    refusal_to_initiate, refusal_to_operate, refusal_to_work,
 };
 
 /// Returns the first refusal of the step that applies after these entries.
@@ -29,7 +29,8 @@ pub fn refusal(opening: &[(Ob, i64)], entries: &[(Step, Reply)], step: &Step) ->
             taker,
             obs,
             ..
-        } => refusal_to_permit(
+        }
+        | Step::Delegate { giver, taker, obs } => refusal_between(
             giver,
             status_after(entries, giver),
             taker,

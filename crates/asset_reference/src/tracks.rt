@@ -3,7 +3,7 @@
 ghost use Rattle.std.specs.Prelude.{◌≡◌, List, ◌∷◌, [], reverse};
 ghost use Rattle.asset_names.specs.declared.steps.Step.{Step};
 ghost use Rattle.asset_names.specs.Steps.{applied};
-ghost use Rattle.asset_names.specs.Endings.{status, status_of, end_of};
+ghost use Rattle.asset_names.specs.Endings.{live, status, status_of, end_of};
 ghost use Rattle.asset_names.specs.Operations.{was_aborted};
 ghost use Rattle.asset_reference.specs.Tracks.{track_of};
 
@@ -63,8 +63,11 @@ impl Track {
             Step::Complete { t: named } => next.completed = named == t || self.completed,
             Step::Commit { t: named } => next.end = self.ended(named, t, End::Committed),
             Step::Abort { t: named } => next.end = self.ended(named, t, End::Aborted),
-            Step::Read { .. } | Step::Write { .. } | Step::Permit { .. } | Step::WaitFor { .. } =>
-                {}
+            Step::Read { .. }
+            | Step::Write { .. }
+            | Step::Permit { .. }
+            | Step::Delegate { .. }
+            | Step::WaitFor { .. } => {}
         }
         next
     }
@@ -115,6 +118,14 @@ pub fn status_after(entries: &[(Step, Reply)], t: Txn) -> Status
     ensures { result ≡ status (applied (reverse entries.now)) t.0 }
 {
     track_entries(entries, t).status()
+}
+
+/// Returns whether the transaction is live.
+#[tactic(auto, using(asset_names::proofs::LiveLemmas::live_by_status))]
+pub fn is_live(entries: &[(Step, Reply)], t: Txn) -> bool
+    ensures { result ≡ live (applied (reverse entries.now)) t.0 }
+{
+    status_after(entries, t).is_live()
 }
 
 /// Returns whether `t` ended by an abort.

@@ -3,7 +3,7 @@
 use asset_names::{
     Ob, ObList, ObSet, Op, Ops, Outcome, Refusal, Reply, SetFault, Status, Step, Txn,
     commit_outcome, least_double, refusal_to_abort, refusal_to_begin, refusal_to_find,
-    refusal_to_initiate, refusal_to_operate, refusal_to_permit, refusal_to_work, takes_effect,
+    refusal_to_initiate, refusal_to_operate, refusal_between, refusal_to_work, takes_effect,
     wait_outcome,
 };
 use std::test::Fail;
@@ -104,7 +104,7 @@ fn least_double_of_objects_and_of_pairs(rt: HostRuntime) {
 #[test]
 fn refusals_by_status(rt: HostRuntime) {
     let (t, u, x) = (Txn(7), Txn(8), Ob(1));
-    let ended = refusal_to_permit(t, Status::Running, u, Status::Aborted, Some(x));
+    let ended = refusal_between(t, Status::Running, u, Status::Aborted, Some(x));
     for (answer, refusal) in [
         (refusal_to_initiate(t, Status::Initiated), Refusal::Taken(t)),
         (refusal_to_begin(t, Status::Running), Refusal::Begun(t)),

@@ -50,3 +50,7 @@ returns-in-Write c = λ opening steps stand. rw c.in-Write.is (c.refusal_to_use-
 pub returns-in-Permit : goal.returns-in-Permit
 unfolding rules_for
 returns-in-Permit c = λ opening steps stand. rw c.in-Permit.is (c.refusal_to_share.ensures opening steps stand)
+
+pub returns-in-Delegate : goal.returns-in-Delegate
+unfolding rules_for
+returns-in-Delegate c = λ opening steps stand. rw c.in-Delegate.is (c.refusal_to_share-in-Delegate.ensures opening steps stand)

@@ -9,4 +9,4 @@ returns c = λ opening steps stand.
     let gives : c.status.result ≡ status steps c.args.giver.0 = c.status.ensures.shown opening steps stand in
     let takes : c.status-2.result ≡ status steps c.args.taker.0 = c.status-2.ensures.shown opening steps stand in
     let missing : c.missing-missing.result ≡ missing_in opening c.args.obs.now = c.missing-missing.ensures opening steps stand in
-    rw (← gives, ← takes, ← missing) c.refusal_to_permit.ensures
+    rw (← gives, ← takes, ← missing) c.refusal_between.ensures

@@ -45,3 +45,7 @@ returns-in-WaitFor-clause-outcome c = λ opening steps stand first.
 pub returns-in-Permit-clause-outcome : goal.returns-in-Permit-clause-outcome
 unfolding unrefused
 returns-in-Permit-clause-outcome c = λ opening steps stand first. rw c.in-Permit.is refl
+
+pub returns-in-Delegate-clause-outcome : goal.returns-in-Delegate-clause-outcome
+unfolding unrefused
+returns-in-Delegate-clause-outcome c = λ opening steps stand first. rw c.in-Delegate.is refl

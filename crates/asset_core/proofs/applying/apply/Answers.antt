@@ -98,3 +98,14 @@ unfolding locks_after after_ask
 returns-in_ok-write-in-Write-clause-locks c =
     let free = (rw c.in-Write.is at c.requires.ready).1 in
     rw c.in-Write.is (rw free at c.in_ok-write-in-Write.ensures.locks)
+
+pub returns-in-Delegate-clause-stand : goal.returns-in-Delegate-clause-stand
+returns-in-Delegate-clause-stand c = rw c.in-Delegate.is (on_ok c.delegate.result (λ stands. λ opening steps stand orderly. stands opening steps stand) c.delegate.ensures.stand)
+
+pub returns-in-Delegate-clause-locks : goal.returns-in-Delegate-clause-locks
+unfolding locks_after
+returns-in-Delegate-clause-locks c = rw c.in-Delegate.is c.delegate.ensures.locks
+
+pub returns-in-Delegate-clause-memory : goal.returns-in-Delegate-clause-memory
+unfolding takes_memory
+returns-in-Delegate-clause-memory c = rw c.in-Delegate.is (always_err c.delegate.result refl)

@@ -37,3 +37,7 @@ returns-in-WaitFor-clause-locks c = rw c.in-WaitFor.is refl
 pub returns-in-Permit-clause-locks : goal.returns-in-Permit-clause-locks
 unfolding locks_waiting
 returns-in-Permit-clause-locks c = rw c.in-Permit.is refl
+
+pub returns-in-Delegate-clause-locks : goal.returns-in-Delegate-clause-locks
+unfolding locks_waiting
+returns-in-Delegate-clause-locks c = rw c.in-Delegate.is refl

@@ -1,0 +1,31 @@
+use Rattle.std.proofs.Common.{refl, sym, ◌∙◌, ap}
+use Rattle.asset_names.specs.Arrows.{lists}
+use Rattle.asset_ends.specs.Standing.{AreEnrolled}
+use Rattle.asset_locks.proofs.HandLaws.{names_handed}
+use Rattle.asset_ends.proofs.EnrolledLemmas.{live_enrolled}
+use Rattle.asset_ends.proofs.ShowsLemmas.{live_shown}
+use Rattle.asset_ends.proofs.DelegateLaws.{delegate_shows}
+use Rattle.asset_ends.proofs.StandingLemmas.{stand_as}
+use Rattle.asset_ends.proofs.tables.Tables.delegate.Goals as goal
+
+pub hand_over-requires-clause-giver : goal.hand_over-requires-clause-giver
+hand_over-requires-clause-giver c = live_enrolled _ _ c.args.giver.0 c.self.invariant (rw (← c.self.view_is) at c.requires.giver)
+
+pub hand_over-requires-clause-taker : goal.hand_over-requires-clause-taker
+hand_over-requires-clause-taker c = live_enrolled _ _ c.args.taker.0 c.self.invariant (rw (← c.self.view_is) at c.requires.taker)
+
+pub invariant_of-self-2 : goal.invariant_of-self-2
+unfolding AreEnrolled
+invariant_of-self-2 c = rw c.hand_over.ensures.done (λ t. ap (λ names. lists names t) (names_handed c.args.giver.0 c.args.taker.0 c.args.obs.now c.self.inside.locks) ∙ c.self.invariant t)
+
+pub returns-clause-stand : goal.returns-clause-stand
+returns-clause-stand c =
+    let gives = rw (← c.self.view_is) at c.requires.giver in
+    let takes = rw (← c.self.view_is) at c.requires.taker in
+    let held = c.deref.ensures.value ∙ c.in_ok-moved.ensures.held in
+    rw (← c.self.view_is) (λ opening steps stand.
+    stand_as opening _ _ _ _ _ _ refl c.hand_over-2.ensures.cells c.hand_over.ensures.done refl
+    (delegate_shows opening steps _ _ _ _ c.args.giver c.args.taker c.args.obs.now stand
+    (sym (live_shown opening steps _ _ _ _ c.args.giver.0 stand) ∙ gives) (sym (live_shown opening steps _ _ _ _ c.args.taker.0 stand) ∙ takes)
+    c.hand_over.ensures.valid (live_enrolled _ _ c.args.taker.0 c.self.invariant takes) _
+    (rw held at c.in_ok-copy_for.ensures.covers)))
