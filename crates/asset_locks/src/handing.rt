@@ -111,7 +111,7 @@ impl LockStore {
     {
         self.laws();
         let lock = self.lock(key);
-        match self.key_on(self.number(lock.object), to, lock.object) {
+        match self.key_on(Some(self.number_at(key)), to, lock.object) {
             Some(other) => {
                 self.join_at(other, lock.ops);
                 self.drop_lock(key);
