@@ -1,5 +1,5 @@
 -- The lists of records after one is taken back, or dropped with all before it.
-use Rattle.std.proofs.Common.{◌≡◌, ℕ, ◌+◌, ◌*◌, ◌≤◌, Bool, true, false, cond, eqb, ◌||◌, List, [], ◌∷◌, ◌++◌, map, Option, Some, None, is_some, length, refl, sym, ap, subst, ◌∙◌, arith}
+use Rattle.std.proofs.Common.{◌≡◌, ℕ, ◌+◌, ◌*◌, ◌≤◌, Bool, true, false, cond, eqb, ◌||◌, List, [], ◌∷◌, ◌++◌, map, Option, Some, None, is_some, length, refl, sym, ap, subst, ◌∙◌}
 use Rattle.std.specs.Prelude.{ℤ, unwrap_or}
 use Rattle.std.specs.Option.{option_map}
 use Rattle.std.specs.List.{IsDistinct}
@@ -220,19 +220,19 @@ no_record_of records by_object by_owner owners t valid sound_object sound empty 
         listed_nowhere k c home sat = true≢false (sym (sound.listed c k home) ∙ ap (λ (keys : List ℕ). lists keys k) (empty c sat))
 
 -- ---- what callers see
-pub shown_none : (records : Slab Record) (by_object by_owner : Chained) (owners : Seated) (now : Listed) (t : ℕ) → listed_of records by_object by_owner owners ≡ now → HasNone t (map (at_keys records) by_object.chains) → HasNone t now.lists
-shown_none records by_object by_owner owners now t view none = subst (HasNone t) (sym (lists_are records by_object by_owner owners now view)) none
+pub shown_none : (records : Slab Record) (by_object by_owner : Chained) (owners : Seated) (most : ℕ) (now : Listed) (t : ℕ) → listed_of records by_object by_owner owners most ≡ now → HasNone t (map (at_keys records) by_object.chains) → HasNone t now.lists
+shown_none records by_object by_owner owners most now t view none = subst (HasNone t) (sym (lists_are records by_object by_owner owners most now view)) none
 
-pub shown_back : (records fewer : Slab Record) (by_object less by_owner less_owner : Chained) (owners left : Seated) (now : Listed) (t i : ℕ) (restored : Option ℤ) → listed_of records by_object by_owner owners ≡ now
-    → TakesBack t i restored (map (at_keys records) by_object.chains) (map (at_keys fewer) less.chains) → TakesBack t i restored now.lists (listed_of fewer less less_owner left).lists
+pub shown_back : (records fewer : Slab Record) (by_object less by_owner less_owner : Chained) (owners left : Seated) (most : ℕ) (now : Listed) (t i : ℕ) (restored : Option ℤ) → listed_of records by_object by_owner owners most ≡ now
+    → TakesBack t i restored (map (at_keys records) by_object.chains) (map (at_keys fewer) less.chains) → TakesBack t i restored now.lists (listed_of fewer less less_owner left most).lists
 unfolding listed_of
-shown_back records fewer by_object less by_owner less_owner owners left now t i restored view back =
+shown_back records fewer by_object less by_owner less_owner owners left most now t i restored view back =
     subst (λ (lists : List (List Record)). TakesBack t i restored lists (map (at_keys fewer) less.chains)) (ap (λ (l : Listed). l.lists) view) back
 
-pub shown_settled : (records fewer : Slab Record) (by_object less by_owner less_owner : Chained) (owners left : Seated) (now : Listed) (t visited : ℕ) → listed_of records by_object by_owner owners ≡ now
-    → Settles t visited (map (at_keys records) by_object.chains) (map (at_keys fewer) less.chains) → Settles t visited now.lists (listed_of fewer less less_owner left).lists
+pub shown_settled : (records fewer : Slab Record) (by_object less by_owner less_owner : Chained) (owners left : Seated) (most : ℕ) (now : Listed) (t visited : ℕ) → listed_of records by_object by_owner owners most ≡ now
+    → Settles t visited (map (at_keys records) by_object.chains) (map (at_keys fewer) less.chains) → Settles t visited now.lists (listed_of fewer less less_owner left most).lists
 unfolding listed_of
-shown_settled records fewer by_object less by_owner less_owner owners left now t visited view went =
+shown_settled records fewer by_object less by_owner less_owner owners left most now t visited view went =
     subst (λ (lists : List (List Record)). Settles t visited lists (map (at_keys fewer) less.chains)) (ap (λ (l : Listed). l.lists) view) went
 
 -- a before-image that is handed on moves no record, and changes no owner
@@ -244,7 +244,6 @@ handed_valid records later by_object by_owner owners next key valid hands len = 
   owned = λ k. ap (option_map (λ (one : Record). one.owner)) (hands k) ∙ same_owner next k ∙ valid.owned k;
   seated = valid.seated;
   chained = valid.chained;
-  enough = omega (arith, valid.enough, len);
   counted = valid.counted ∙ sym len;
 } where
   over : Option Record → Option Record

@@ -12,7 +12,8 @@ use Rattle.asset_chains.proofs.SoundLemmas.{listed_once, sound_unlinked}
 use Rattle.asset_records.specs.declared.records.Record.{Record}
 use Rattle.asset_seats.specs.Seated.{Seated, seat}
 use Rattle.asset_records.specs.Listed.{no_record, record_at, owner_at, has_room, total, IsValid}
-use Rattle.asset_records.specs.Dropped.{handed_at, IsLeft}
+use Rattle.asset_names.specs.declared.names.Txn.{Txn}
+use Rattle.asset_records.specs.Dropped.{handed_at, IsLeft, IsReadyFor}
 use Rattle.asset_records.proofs.ListedLemmas.{some_of, first_listed}
 use Rattle.asset_records.proofs.TotalLemmas.{total_unlinked}
 
@@ -42,7 +43,7 @@ homes_without table new k c home is j = let change = unlinks c k table new home 
   go change false e = change.homes j (eqb-false j k e)
 
 module _ (records fewer : Slab Record) (by_object less_object by_owner less_owner : Chained) (owners left : Seated) (k i c : ℕ)
-    (valid : IsValid records by_object by_owner owners) (sound : IsSound by_owner)
+    (valid : IsValid records by_object by_owner owners) (sound_object : IsSound by_object) (sound : IsSound by_owner)
     (on_object : home_of by_object k ≡ Some i) (of_owner : home_of by_owner k ≡ Some c)
     (gone : Updates records fewer k None) (less : less_object ≡ unlinked k by_object) (fewer_owned : less_owner ≡ unlinked k by_owner)
     (leaves : IsLeft c (first_of (chain_of less_owner c)) owners left)
@@ -67,11 +68,10 @@ module _ (records fewer : Slab Record) (by_object less_object by_owner less_owne
     owned = owned;
     seated = seated;
     chained = omega (arith, valid.chained, many, (unlinks c k by_owner less_owner of_owner fewer_owned).same_chains);
-    enough = omega (arith, valid.enough, len, many);
     counted = omega (arith, valid.counted, len, count);
   } where
-    count : total less_owner.chains + 1 ≡ total by_owner.chains
-    count = ap (λ (table : Chained). total table.chains + 1) fewer_owned ∙ total_unlinked c k by_owner sound of_owner
+    count : total less_object.chains + 1 ≡ total by_object.chains
+    count = ap (λ (table : Chained). total table.chains + 1) less ∙ total_unlinked i k by_object sound_object on_object
 
     placed : (j : ℕ) → is_some (get fewer j) ≡ is_some (home_of less_object j)
     placed j = ap is_some (record_is j) ∙ go (eqb j k) ∙ sym (ap is_some (homes_without by_object less_object k i on_object less j)) where
@@ -166,11 +166,11 @@ four true true false d h = absurd (true≢false (sym h))
 four true false c d h = absurd (true≢false (sym h))
 four false b c d h = absurd (true≢false (sym h))
 
-pub makes_room : (records : Slab Record) (by_object by_owner : Chained) (owners : Seated) → slab_len records < records.capacity → records.vacant_key < length by_object.homes → records.vacant_key < length by_owner.homes
-    → slab_len records < length owners.slots → has_room records by_object by_owner owners ≡ true
+pub makes_room : (records : Slab Record) (by_object by_owner : Chained) (owners : Seated) (most : ℕ) → slab_len records < records.capacity → records.vacant_key < length by_object.homes → records.vacant_key < length by_owner.homes
+    → most + 1 < length owners.slots → has_room records by_object by_owner owners most ≡ true
 unfolding has_room
-makes_room records by_object by_owner owners slots object owner seats =
-    all (lt-ltb (slab_len records) records.capacity slots) (lt-ltb records.vacant_key (length by_object.homes) object) (lt-ltb records.vacant_key (length by_owner.homes) owner) (lt-ltb (slab_len records) (length owners.slots) seats) where
+makes_room records by_object by_owner owners most slots object owner seats =
+    all (lt-ltb (slab_len records) records.capacity slots) (lt-ltb records.vacant_key (length by_object.homes) object) (lt-ltb records.vacant_key (length by_owner.homes) owner) (lt-ltb (most + 1) (length owners.slots) seats) where
       all : {a b c d : Bool} → a ≡ true → b ≡ true → c ≡ true → d ≡ true → (a && b && c && d) ≡ true
       all p q r s = λ i. (p i && q i && r i && s i)
 
@@ -186,19 +186,30 @@ kept_if_some c None old new some same = absurd (true≢false (sym some))
 kept_if_some c (Some x) old new some same = λ d. ap (λ (seats : Seated). seat seats d) same
 
 -- what a reservation is
-pub rooms_of : (records : Slab Record) (by_object by_owner : Chained) (owners : Seated) → has_room records by_object by_owner owners ≡ true
-    → (slab_len records < records.capacity) × (records.vacant_key < length by_object.homes) × (records.vacant_key < length by_owner.homes) × (slab_len records < length owners.slots)
+pub rooms_of : (records : Slab Record) (by_object by_owner : Chained) (owners : Seated) (most : ℕ) → has_room records by_object by_owner owners most ≡ true
+    → (slab_len records < records.capacity) × (records.vacant_key < length by_object.homes) × (records.vacant_key < length by_owner.homes) × (most + 1 < length owners.slots)
 unfolding has_room
-rooms_of records by_object by_owner owners room =
-    let parts = four (nat_lt (slab_len records) records.capacity) (nat_lt records.vacant_key (length by_object.homes)) (nat_lt records.vacant_key (length by_owner.homes)) (nat_lt (slab_len records) (length owners.slots)) room in (
+rooms_of records by_object by_owner owners most room =
+    let parts = four (nat_lt (slab_len records) records.capacity) (nat_lt records.vacant_key (length by_object.homes)) (nat_lt records.vacant_key (length by_owner.homes)) (nat_lt (most + 1) (length owners.slots)) room in (
       ltb-true (slab_len records) records.capacity parts.0,
       ltb-true records.vacant_key (length by_object.homes) parts.1,
       ltb-true records.vacant_key (length by_owner.homes) parts.2,
-      ltb-true (slab_len records) (length owners.slots) parts.3,
+      ltb-true (most + 1) (length owners.slots) parts.3,
     )
 
 -- a seat that is given has a chain
-pub seat_has_chain : (by_owner : Chained) (owners : Seated) (c : ℕ) → ((d : ℕ) → is_some (seat owners d) ≡ is_some (first_of (chain_of by_owner d))) → length owners.slots ≤ length by_owner.chains → owners.vacant < length owners.slots
-    → (is_some (seat owners c) ≡ true) ⊎ (c ≡ owners.vacant) → c < length by_owner.chains
-seat_has_chain by_owner owners c seated chained vacant (inl sat) = let first = some_of (first_of (chain_of by_owner c)) (sym (seated c) ∙ sat) in chain_within c first.0 by_owner (first_is_listed first.0 (chain_of by_owner c) first.1)
-seat_has_chain by_owner owners c seated chained vacant (inr is) = omega (arith, is, vacant, chained)
+pub seat_has_chain : (by_owner : Chained) (owners : Seated) (c : ℕ) → ((d : ℕ) → is_some (seat owners d) ≡ is_some (first_of (chain_of by_owner d))) → length owners.slots ≤ length by_owner.chains
+    → (is_some (seat owners c) ≡ true) ⊎ (c < length owners.slots) → c < length by_owner.chains
+seat_has_chain by_owner owners c seated chained (inl sat) = let first = some_of (first_of (chain_of by_owner c)) (sym (seated c) ∙ sat) in chain_within c first.0 by_owner (first_is_listed first.0 (chain_of by_owner c) first.1)
+seat_has_chain by_owner owners c seated chained (inr within) = omega (arith, within, chained)
+
+-- room depends on how many records there are, and on the next key
+pub room_alike : (records more : Slab Record) (by_object by_owner : Chained) (owners : Seated) → slab_len more ≡ slab_len records → more.vacant_key ≡ records.vacant_key → more.capacity ≡ records.capacity
+    → (most : ℕ) → has_room more by_object by_owner owners most ≡ has_room records by_object by_owner owners most
+unfolding has_room
+room_alike records more by_object by_owner owners len vacant capacity most = λ i.
+    (nat_lt (len i) (capacity i) && nat_lt (vacant i) (length by_object.homes) && nat_lt (vacant i) (length by_owner.homes) && nat_lt (most + 1) (length owners.slots))
+
+-- a seat that is free stays free where a seat is left, or nothing changes
+pub ready_if_left : (t : Txn) (old new : Seated) → new.has_room ≡ true → IsReadyFor t old → IsReadyFor t new
+ready_if_left t old new room ready = λ absent. room

@@ -12,13 +12,14 @@ use Rattle.asset_chains.proofs.Laws.{is_pushed, pushes, unlinks, home_within, ke
 use Rattle.asset_chains.proofs.SoundLemmas.{sound_unlinked}
 use Rattle.asset_records.specs.declared.records.Record.{Record}
 use Rattle.asset_seats.specs.Seated.{Seated, seat}
-use Rattle.asset_records.specs.Listed.{Listed, listed_of, on, no_record, record_at, at_keys, total, has_room, IsValid, ChangesOn}
+use Rattle.asset_records.specs.Listed.{Listed, listed_of, on, no_record, record_at, at_keys, total, has_room, stretches_after, IsValid, IsSpared, ChangesOn}
 use Rattle.asset_records.specs.Dropped.{IsLeft}
 use Rattle.asset_records.specs.Handed.{renamed, owned_by, handed_to}
 use Rattle.asset_records.proofs.ListedLemmas.{some_of, on_chain, keys_same, lists_are, valid_grown, home_of_owner, has_owned}
 use Rattle.asset_records.proofs.DropLemmas.{dropped_valid, seat_has_chain}
 use Rattle.asset_records.proofs.PushLemmas.{pushed_valid}
-use Rattle.asset_records.proofs.TotalLemmas.{count_kept, count_less, slot_within, seat_free, total_pushed}
+use Rattle.asset_records.proofs.StretchLemmas.{less_each, less_renamed, more_on, spared_less}
+use Rattle.asset_records.proofs.TotalLemmas.{count_kept, count_less, slot_within, total_pushed, total_unlinked}
 
 -- ---- the slab
 pub handed_here : (records : Slab Record) (key : ℕ) (one : Record) (taker : Txn) → get records key ≡ Some one → get (handed_to taker key records) key ≡ Some (record one { owner = taker })
@@ -68,17 +69,13 @@ module _ (records : Slab Record) (by_object by_owner less_owner : Chained) (owne
   gone_len = count_less records.slots key one there
 
   between : IsValid fewer (unlinked key by_object) less_owner left
-  between = dropped_valid records fewer by_object (unlinked key by_object) by_owner less_owner owners left key on_object.0 c valid sound on_object.1 home gone refl less leaves gone_len many
+  between = dropped_valid records fewer by_object (unlinked key by_object) by_owner less_owner owners left key on_object.0 c valid sound_object sound on_object.1 home gone refl less leaves gone_len many
 
   sound_less : IsSound less_owner
   sound_less = subst IsSound (sym less) (sound_unlinked c key by_owner sound home)
 
-  -- a seat is free for the taker
-  pub seat_for_taker : ((c : ℕ) → c < length left.slots → seat left c ≡ None → left.has_room ≡ true) → left.has_room ≡ true
-  seat_for_taker law = seat_free less_owner left between.seated (omega (arith, between.counted, gone_len, valid.enough, many)) law
-
-  pub taker_chain : (s : ℕ) → left.vacant < length left.slots → (is_some (seat left s) ≡ true) ⊎ (s ≡ left.vacant) → s < length less_owner.chains
-  taker_chain s vacant given = seat_has_chain less_owner left s between.seated between.chained vacant given
+  pub taker_chain : (s : ℕ) → (is_some (seat left s) ≡ true) ⊎ (s < length left.slots) → s < length less_owner.chains
+  taker_chain s given = seat_has_chain less_owner left s between.seated between.chained given
 
   pub key_less : key < length less_owner.homes
   key_less = omega (arith, key_within key c by_owner home, (unlinks c key by_owner less_owner home less).same_keys)
@@ -109,12 +106,19 @@ module _ (records : Slab Record) (by_object by_owner less_owner : Chained) (owne
     owner_change : IsPushed s key less_owner owned_more
     owner_change = pushes s key less_owner owned_more chain key_less push
 
+    counted_back : total (pushed on_object.0 key (unlinked key by_object)).chains ≡ total (unlinked key by_object).chains + 1
+    counted_back =
+        let within = home_within key on_object.0 by_object sound_object on_object.1 in
+        total_pushed on_object.0 key (unlinked key by_object) (omega (arith, within.1, (unlinks on_object.0 key by_object (unlinked key by_object) on_object.1 refl).same_chains))
+
+    counted_all : total by_object.chains ≡ total (pushed on_object.0 key (unlinked key by_object)).chains
+    counted_all = omega (arith, counted_back, total_unlinked on_object.0 key by_object sound_object on_object.1)
+
     after : IsValid (handed_to taker key records) (pushed on_object.0 key (unlinked key by_object)) owned_more seated_more
     after =
         pushed_valid fewer (handed_to taker key records) (unlinked key by_object) (pushed on_object.0 key (unlinked key by_object)) less_owner owned_more left seated_more (record one { owner = taker }) key on_object.0 s
         between object_out sound_less object_free free_less put object_back owner_change sits same
-        (omega (arith, handed_len records key one taker there, gone_len)) (omega (arith, gone_len, valid.enough, many)) seats
-        (ap (λ (table : Chained). total table.chains) push ∙ total_pushed s key less_owner chain)
+        (omega (arith, handed_len records key one taker there, gone_len)) seats counted_back
 
     same_object : (k : ℕ) → home_of by_object k ≡ home_of (pushed on_object.0 key (unlinked key by_object)) k
     same_object k = elim (cases_eq k key) [
@@ -123,14 +127,14 @@ module _ (records : Slab Record) (by_object by_owner less_owner : Chained) (owne
     ]
 
     pub moved_valid : IsValid (handed_to taker key records) by_object owned_more seated_more
-    moved_valid = valid_grown (handed_to taker key records) (pushed on_object.0 key (unlinked key by_object)) by_object owned_more owned_more seated_more seated_more after same_object (λ k. refl) (λ d. refl) (λ d. refl) after.chained (omega arith)
+    moved_valid = valid_grown (handed_to taker key records) (pushed on_object.0 key (unlinked key by_object)) by_object owned_more owned_more seated_more seated_more after same_object (λ k. refl) (λ d. refl) (λ d. refl) after.chained counted_all
 
-    pub moved_room : has_room (handed_to taker key records) by_object owned_more seated_more ≡ has_room records by_object by_owner owners
+    pub moved_room : (most : ℕ) → has_room (handed_to taker key records) by_object owned_more seated_more most ≡ has_room records by_object by_owner owners most
     unfolding has_room handed_to
-    moved_room = same_room (handed_len records key one taker there) (owner_change.same_keys ∙ (unlinks c key by_owner less_owner home less).same_keys) (seats ∙ many) where
+    moved_room most = same_room (handed_len records key one taker there) (owner_change.same_keys ∙ (unlinks c key by_owner less_owner home less).same_keys) (seats ∙ many) where
       same_room : slab_len (handed_to taker key records) ≡ slab_len records → length owned_more.homes ≡ length by_owner.homes → length seated_more.slots ≡ length owners.slots
-          → has_room (handed_to taker key records) by_object owned_more seated_more ≡ has_room records by_object by_owner owners
-      same_room len keys slots = λ i. (nat_lt (len i) records.capacity && nat_lt records.vacant_key (length by_object.homes) && nat_lt records.vacant_key (keys i) && nat_lt (len i) (slots i))
+          → has_room (handed_to taker key records) by_object owned_more seated_more most ≡ has_room records by_object by_owner owners most
+      same_room len keys slots = λ i. (nat_lt (len i) records.capacity && nat_lt records.vacant_key (length by_object.homes) && nat_lt records.vacant_key (keys i) && nat_lt (most + 1) (slots i))
 
 -- ---- names
 -- who is not the giver keeps its records
@@ -205,6 +209,13 @@ module _ (records later : Slab Record) (key : ℕ) (giver taker : Txn) (apart : 
     go true = renamed_twice giver.0 taker.0 apart (get records k)
     go false = refl
 
+  pub passed_there : (k : ℕ) → is_some (get later k) ≡ true → is_some (get records k) ≡ true
+  passed_there k there = go (eqb k key) (get records k) (sym (ap is_some (passes k)) ∙ there) where
+    go : (b : Bool) (o : Option Record) → is_some (cond b (option_map (renamed giver.0 taker.0) o) o) ≡ true → is_some o ≡ true
+    go true None h = h
+    go true (Some one) h = refl
+    go false o h = h
+
   pub passed_here : owned_by giver.0 (get later key) ≡ false
   passed_here = ap (owned_by giver.0) (passes key ∙ ap (λ (b : Bool). cond b (option_map (renamed giver.0 taker.0) (get records key)) (get records key)) (eq-eqb key key refl)) ∙ renamed_apart giver.0 taker.0 apart (get records key)
 
@@ -268,7 +279,7 @@ keys_mapped f old new (k ∷ keys) same = λ i. first i ∷ keys_mapped f old ne
   first : unwrap_or (get new k) no_record ≡ f (unwrap_or (get old k) no_record)
   first = let here = same k (or_left (eqb k k) (lists keys k) (eq-eqb k k refl)) in mapped_at f (get old k) (get new k) here.0 here.1
 
-module _ (records more : Slab Record) (by_object by_owner owned_more : Chained) (owners seated_more : Seated) (now : Listed) (view : listed_of records by_object by_owner owners ≡ now)
+module _ (records more : Slab Record) (by_object by_owner owned_more : Chained) (owners seated_more : Seated) (most : ℕ) (now : Listed) (view : listed_of records by_object by_owner owners most ≡ now)
     (valid : IsValid records by_object by_owner owners) (sound : IsSound by_object) (giver taker : ℕ) where
   on_each : (j : ℕ) → ((k : ℕ) → home_of by_object k ≡ Some j → get more k ≡ option_map (renamed giver taker) (get records k)) → on (map (at_keys more) by_object.chains) j ≡ map (renamed giver taker) (on (map (at_keys records) by_object.chains) j)
   on_each j handed =
@@ -280,37 +291,58 @@ module _ (records more : Slab Record) (by_object by_owner owned_more : Chained) 
   same_many = length-map by_object.chains (at_keys more) ∙ sym (length-map by_object.chains (at_keys records))
 
   shown_here : now.lists ≡ map (at_keys records) by_object.chains
-  shown_here = lists_are records by_object by_owner owners now view
+  shown_here = lists_are records by_object by_owner owners most now view
 
-  pub shown_all : ((k : ℕ) → get more k ≡ option_map (renamed giver taker) (get records k)) → (j : ℕ) → on (listed_of more by_object owned_more seated_more).lists j ≡ map (renamed giver taker) (on now.lists j)
+  changes_on : (i : ℕ) → ((k : ℕ) → home_of by_object k ≡ Some i → get more k ≡ option_map (renamed giver taker) (get records k)) → ((k : ℕ) → (home_of by_object k ≡ Some i → ⊥) → get more k ≡ get records k)
+      → ChangesOn i (map (renamed giver taker) (on (map (at_keys records) by_object.chains) i)) (map (at_keys records) by_object.chains) (map (at_keys more) by_object.chains)
+  unfolding ChangesOn
+  changes_on i handed others = (same_many, each) where
+    other_chain : (j : ℕ) → (i ≡ j → ⊥) → on (map (at_keys more) by_object.chains) j ≡ on (map (at_keys records) by_object.chains) j
+    other_chain j apart =
+        on_chain more by_object j
+        ∙ keys_same records more (chain_of by_object j) (λ k among. read_same k (others k (λ home. apart (one_home k j among home))))
+        ∙ sym (on_chain records by_object j) where
+          one_home : (k j : ℕ) → lists (chain_of by_object j) k ≡ true → home_of by_object k ≡ Some i → i ≡ j
+          one_home k j among home = let both : Some i ≡ Some j = sym home ∙ sound.at_home j k among in cc both
+
+          read_same : (k : ℕ) → get more k ≡ get records k → record_at more k ≡ record_at records k
+          read_same k same = read_as records more k same
+
+    each : (j : ℕ) → on (map (at_keys more) by_object.chains) j ≡ cond (eqb i j) (map (renamed giver taker) (on (map (at_keys records) by_object.chains) i)) (on (map (at_keys records) by_object.chains) j)
+    each j = go (eqb i j) refl where
+      go : (b : Bool) → eqb i j ≡ b → on (map (at_keys more) by_object.chains) j ≡ cond b (map (renamed giver taker) (on (map (at_keys records) by_object.chains) i)) (on (map (at_keys records) by_object.chains) j)
+      go true e = ap (on (map (at_keys more) by_object.chains)) (sym (eqb-true i j e)) ∙ on_each i handed
+      go false e = other_chain j (eqb-false i j e)
+
+  pub shown_all : ((k : ℕ) → get more k ≡ option_map (renamed giver taker) (get records k)) → (j : ℕ) → on (listed_of more by_object owned_more seated_more most).lists j ≡ map (renamed giver taker) (on now.lists j)
   unfolding listed_of
   shown_all handed j = on_each j (λ k home. handed k) ∙ sym (ap (λ (l : List (List Record)). map (renamed giver taker) (on l j)) shown_here)
 
-  pub shown_many : length (listed_of more by_object owned_more seated_more).lists ≡ length now.lists
+  -- and no stretch is more
+  pub spared_all : (left : Seated) → ((k : ℕ) → get more k ≡ option_map (renamed giver taker) (get records k)) → IsSpared records by_object owners most → length left.slots ≡ length owners.slots → IsSpared more by_object left most
+  spared_all left handed spared slots =
+      spared_less records more by_object by_object owners left most spared slots
+      (less_each (map (at_keys records) by_object.chains) (map (at_keys more) by_object.chains) same_many
+      (λ j. omega (arith, ap (stretches_after None) (on_each j (λ k home. handed k)), less_renamed giver taker (on (map (at_keys records) by_object.chains) j))))
+
+  pub spared_on : (left : Seated) (i : ℕ) → ((k : ℕ) → home_of by_object k ≡ Some i → get more k ≡ option_map (renamed giver taker) (get records k)) → ((k : ℕ) → (home_of by_object k ≡ Some i → ⊥) → get more k ≡ get records k)
+      → IsSpared records by_object owners most → length left.slots ≡ length owners.slots → IsSpared more by_object left most
+  spared_on left i handed others spared slots =
+      spared_less records more by_object by_object owners left most spared slots
+      (omega (
+        arith,
+        more_on i 0 0 (map (renamed giver taker) (on (map (at_keys records) by_object.chains) i)) (map (at_keys records) by_object.chains) (map (at_keys more) by_object.chains) (changes_on i handed others)
+            (omega (arith, less_renamed giver taker (on (map (at_keys records) by_object.chains) i))),
+      ))
+
+  pub shown_many : length (listed_of more by_object owned_more seated_more most).lists ≡ length now.lists
   unfolding listed_of
   shown_many = same_many ∙ sym (ap length shown_here)
 
   pub shown_on : (i : ℕ) → ((k : ℕ) → home_of by_object k ≡ Some i → get more k ≡ option_map (renamed giver taker) (get records k)) → ((k : ℕ) → (home_of by_object k ≡ Some i → ⊥) → get more k ≡ get records k)
-      → ChangesOn i (map (renamed giver taker) (on now.lists i)) now.lists (listed_of more by_object owned_more seated_more).lists
-  unfolding listed_of ChangesOn
-  shown_on i handed others = subst (λ (l : List (List Record)). (length (map (at_keys more) by_object.chains) ≡ length l) × ((j : ℕ) → on (map (at_keys more) by_object.chains) j ≡ cond (eqb i j) (map (renamed giver taker) (on l i)) (on l j)))
-      (sym shown_here) (same_many, each) where
-        other_chain : (j : ℕ) → (i ≡ j → ⊥) → on (map (at_keys more) by_object.chains) j ≡ on (map (at_keys records) by_object.chains) j
-        other_chain j apart =
-            on_chain more by_object j
-            ∙ keys_same records more (chain_of by_object j) (λ k among. read_same k (others k (λ home. apart (one_home k j among home))))
-            ∙ sym (on_chain records by_object j) where
-              one_home : (k j : ℕ) → lists (chain_of by_object j) k ≡ true → home_of by_object k ≡ Some i → i ≡ j
-              one_home k j among home = let both : Some i ≡ Some j = sym home ∙ sound.at_home j k among in cc both
-
-              read_same : (k : ℕ) → get more k ≡ get records k → record_at more k ≡ record_at records k
-              read_same k same = read_as records more k same
-
-        each : (j : ℕ) → on (map (at_keys more) by_object.chains) j ≡ cond (eqb i j) (map (renamed giver taker) (on (map (at_keys records) by_object.chains) i)) (on (map (at_keys records) by_object.chains) j)
-        each j = go (eqb i j) refl where
-          go : (b : Bool) → eqb i j ≡ b → on (map (at_keys more) by_object.chains) j ≡ cond b (map (renamed giver taker) (on (map (at_keys records) by_object.chains) i)) (on (map (at_keys records) by_object.chains) j)
-          go true e = ap (on (map (at_keys more) by_object.chains)) (sym (eqb-true i j e)) ∙ on_each i handed
-          go false e = other_chain j (eqb-false i j e)
+      → ChangesOn i (map (renamed giver taker) (on now.lists i)) now.lists (listed_of more by_object owned_more seated_more most).lists
+  unfolding listed_of
+  shown_on i handed others = subst (λ (l : List (List Record)). ChangesOn i (map (renamed giver taker) (on l i)) l (map (at_keys more) by_object.chains)) (sym shown_here) (changes_on i handed others)
 
 map_same_all : (f : Record → Record) → ((one : Record) → f one ≡ one) → (xs : List Record) → map f xs ≡ xs
 map_same_all f same [] = refl

@@ -4,5 +4,6 @@ pub mod DropLemmas
 pub mod PushLemmas
 pub mod BackLemmas
 pub mod ThroughLemmas
+pub mod StretchLemmas
 pub mod ReserveLemmas
 pub mod HandLemmas

@@ -14,7 +14,6 @@ use Rattle.asset_chains.proofs.SoundLemmas.{no_chain_of, no_home_of}
 use Rattle.asset_records.specs.declared.records.Record.{Record}
 use Rattle.asset_seats.specs.Seated.{Seated, seat}
 use Rattle.asset_records.specs.Listed.{Listed, listed_of, has_room, on, record_at, at_keys, owner_at, total, ChangesOn, IsValid}
-use Rattle.asset_records.proofs.TotalLemmas.{total_alike}
 
 -- the records of an object are those of its chain
 pub on_chain : (records : Slab Record) (table : Chained) (j : ℕ) → on (map (at_keys records) table.chains) j ≡ at_keys records (chain_of table j)
@@ -110,53 +109,51 @@ module _ (records : Slab Record) (by_object by_owner : Chained) (owners : Seated
     go (Some one) e = let same : Some one.owner ≡ Some t = sym (ap (option_map (λ (one : Record). one.owner)) e) ∙ is in (one, e, cc same)
 
 -- ---- what callers see
-pub lists_are : (records : Slab Record) (by_object by_owner : Chained) (owners : Seated) (now : Listed) → listed_of records by_object by_owner owners ≡ now → now.lists ≡ map (at_keys records) by_object.chains
+pub lists_are : (records : Slab Record) (by_object by_owner : Chained) (owners : Seated) (most : ℕ) (now : Listed) → listed_of records by_object by_owner owners most ≡ now → now.lists ≡ map (at_keys records) by_object.chains
 unfolding listed_of
-lists_are records by_object by_owner owners now view = sym (ap (λ (l : Listed). l.lists) view)
+lists_are records by_object by_owner owners most now view = sym (ap (λ (l : Listed). l.lists) view)
 
-pub has_reserved : (records : Slab Record) (by_object by_owner : Chained) (owners : Seated) (now : Listed) → listed_of records by_object by_owner owners ≡ now → now.reserved ≡ true → has_room records by_object by_owner owners ≡ true
+pub has_reserved : (records : Slab Record) (by_object by_owner : Chained) (owners : Seated) (most : ℕ) (now : Listed) → listed_of records by_object by_owner owners most ≡ now → now.reserved ≡ true → has_room records by_object by_owner owners most ≡ true
 unfolding listed_of
-has_reserved records by_object by_owner owners now view reserved = ap (λ (l : Listed). l.reserved) view ∙ reserved
+has_reserved records by_object by_owner owners most now view reserved = ap (λ (l : Listed). l.reserved) view ∙ reserved
 
 -- a change of the lists, as callers see it
-pub changes_shown : (records more : Slab Record) (by_object longer by_owner owned_more : Chained) (owners seated_more : Seated) (now : Listed) (i : ℕ) (update : Record) → listed_of records by_object by_owner owners ≡ now
+pub changes_shown : (records more : Slab Record) (by_object longer by_owner owned_more : Chained) (owners seated_more : Seated) (most most_more : ℕ) (now : Listed) (i : ℕ) (update : Record) → listed_of records by_object by_owner owners most ≡ now
     → ChangesOn i (on (map (at_keys records) by_object.chains) i ++ update ∷ []) (map (at_keys records) by_object.chains) (map (at_keys more) longer.chains)
-    → ChangesOn i (on now.lists i ++ update ∷ []) now.lists (listed_of more longer owned_more seated_more).lists
+    → ChangesOn i (on now.lists i ++ update ∷ []) now.lists (listed_of more longer owned_more seated_more most_more).lists
 unfolding listed_of
-changes_shown records more by_object longer by_owner owned_more owners seated_more now i update view changes =
+changes_shown records more by_object longer by_owner owned_more owners seated_more most most_more now i update view changes =
     subst (λ (lists : List (List Record)). ChangesOn i (on lists i ++ update ∷ []) lists (map (at_keys more) longer.chains)) (ap (λ (l : Listed). l.lists) view) changes
 
 -- nothing is listed, at first
-pub valid_nothing : (records : Slab Record) (by_object by_owner : Chained) (owners : Seated) → records.slots ≡ [] → by_object.homes ≡ [] → by_owner.chains ≡ [] → by_owner.homes ≡ [] → ((c : ℕ) → seat owners c ≡ None) → owners.slots ≡ []
+pub valid_nothing : (records : Slab Record) (by_object by_owner : Chained) (owners : Seated) → records.slots ≡ [] → by_object.chains ≡ [] → by_object.homes ≡ [] → by_owner.chains ≡ [] → by_owner.homes ≡ [] → ((c : ℕ) → seat owners c ≡ None) → owners.slots ≡ []
     → IsValid records by_object by_owner owners
 unfolding owner_at
-valid_nothing records by_object by_owner owners none homes chains owner_homes nobody seats = record {
+valid_nothing records by_object by_owner owners none object_chains homes chains owner_homes nobody seats = record {
   placed = λ k. ap is_some (no_record_at k) ∙ sym (ap is_some (no_home_of by_object homes k));
   owned = λ k. ap (option_map (λ (one : Record). one.owner)) (no_record_at k) ∙ sym (ap (owner_at owners) (no_home_of by_owner owner_homes k));
   seated = λ c. ap is_some (nobody c) ∙ sym (ap (λ (keys : List ℕ). is_some (first_of keys)) (no_chain_of by_owner chains c));
   chained = omega (arith, ap length seats);
-  enough = omega (arith, ap (count_by is_some) none);
-  counted = ap total chains ∙ sym (ap (count_by is_some) none);
+  counted = ap total object_chains ∙ sym (ap (count_by is_some) none);
 } where
   no_record_at : (k : ℕ) → get records k ≡ None
   no_record_at k = ap (λ (l : List (Option Record)). slice_index_or l k None) none
 
-pub nothing_listed : (records : Slab Record) (by_object by_owner : Chained) (owners : Seated) → by_object.chains ≡ [] → (listed_of records by_object by_owner owners).lists ≡ []
+pub nothing_listed : (records : Slab Record) (by_object by_owner : Chained) (owners : Seated) (most : ℕ) → by_object.chains ≡ [] → (listed_of records by_object by_owner owners most).lists ≡ []
 unfolding listed_of
-nothing_listed records by_object by_owner owners none = ap (map (at_keys records)) none
+nothing_listed records by_object by_owner owners most none = ap (map (at_keys records)) none
 
 -- another object, or more keys and chains, leave each record where it is
 pub valid_grown : (records : Slab Record) (by_object longer by_owner owned_more : Chained) (owners seated_more : Seated) → IsValid records by_object by_owner owners → ((k : ℕ) → home_of longer k ≡ home_of by_object k)
     → ((k : ℕ) → home_of owned_more k ≡ home_of by_owner k) → ((c : ℕ) → chain_of owned_more c ≡ chain_of by_owner c) → ((c : ℕ) → seat seated_more c ≡ seat owners c)
-    → length seated_more.slots ≤ length owned_more.chains → length owners.slots ≤ length seated_more.slots → IsValid records longer owned_more seated_more
+    → length seated_more.slots ≤ length owned_more.chains → total longer.chains ≡ total by_object.chains → IsValid records longer owned_more seated_more
 unfolding owner_at
 valid_grown records by_object longer by_owner owned_more owners seated_more valid homes owner_homes chains seats chained more = record {
   placed = λ k. valid.placed k ∙ sym (ap is_some (homes k));
   owned = λ k. valid.owned k ∙ same_owner (home_of by_owner k) ∙ sym (ap (owner_at seated_more) (owner_homes k));
   seated = λ c. ap is_some (seats c) ∙ valid.seated c ∙ sym (ap (λ (keys : List ℕ). is_some (first_of keys)) (chains c));
   chained = chained;
-  enough = omega (arith, valid.enough, more);
-  counted = total_alike by_owner owned_more chains ∙ valid.counted;
+  counted = more ∙ valid.counted;
 } where
   same_owner : (o : Option ℕ) → owner_at owners o ≡ owner_at seated_more o
   same_owner None = refl
@@ -169,15 +166,14 @@ valid_slots records more by_object by_owner owners same valid = record {
   owned = λ k. ap (option_map (λ (one : Record). one.owner)) (at k) ∙ valid.owned k;
   seated = valid.seated;
   chained = valid.chained;
-  enough = omega (arith, valid.enough, ap (count_by is_some) same);
   counted = valid.counted ∙ sym (ap (count_by is_some) same);
 } where
   at : (k : ℕ) → get more k ≡ get records k
   at k = ap (λ (l : List (Option Record)). slice_index_or l k None) same
 
 -- one more object has no record
-pub lists_more : (records : Slab Record) (by_object longer by_owner : Chained) (owners : Seated) (now : Listed) → listed_of records by_object by_owner owners ≡ now → longer ≡ one_chain_more by_object
-    → (listed_of records longer by_owner owners).lists ≡ now.lists ++ [] ∷ []
+pub lists_more : (records : Slab Record) (by_object longer by_owner : Chained) (owners : Seated) (most : ℕ) (now : Listed) → listed_of records by_object by_owner owners most ≡ now → longer ≡ one_chain_more by_object
+    → (listed_of records longer by_owner owners most).lists ≡ now.lists ++ [] ∷ []
 unfolding listed_of one_chain_more at_keys
-lists_more records by_object longer by_owner owners now view more =
+lists_more records by_object longer by_owner owners most now view more =
     ap (λ (table : Chained). map (at_keys records) table.chains) more ∙ map-append (at_keys records) by_object.chains ([] ∷ []) ∙ ap (λ (l : Listed). l.lists ++ [] ∷ []) view

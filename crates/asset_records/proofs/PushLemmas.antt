@@ -1,5 +1,5 @@
 -- One more record, in the chain of its object and in that of its owner.
-use Rattle.std.proofs.Common.{◌≡◌, ℕ, Bool, true, false, cond, eqb, List, [], ◌∷◌, ◌++◌, map, Option, Some, None, is_some, length, refl, sym, ap, ◌∙◌, ◌+◌, ◌<◌, arith}
+use Rattle.std.proofs.Common.{◌≡◌, ℕ, Bool, true, false, cond, eqb, List, [], ◌∷◌, ◌++◌, map, Option, Some, None, is_some, length, refl, sym, ap, ◌∙◌, ◌+◌, arith}
 use Rattle.std.specs.Prelude.{unwrap_or}
 use Rattle.std.specs.Option.{option_map}
 use Rattle.std.proofs.lemmas.Bool.{eqb-true, eqb-false, eq-eqb, true≢false}
@@ -32,8 +32,8 @@ module _ (records more : Slab Record) (by_object longer by_owner owned_more : Ch
     (free : home_of by_object k ≡ None) (free_owner : home_of by_owner k ≡ None)
     (put : Updates records more k (Some update)) (object : IsPushed i k by_object longer) (owner : IsPushed c k by_owner owned_more)
     (sits : (d : ℕ) → seat seated_more d ≡ cond (eqb d c) (Some update.owner) (seat owners d)) (same : is_some (seat owners c) ≡ true → seat owners c ≡ Some update.owner)
-    (len : slab_len more ≡ slab_len records + 1) (fits : slab_len records < length owners.slots) (seats : length seated_more.slots ≡ length owners.slots)
-    (count : total owned_more.chains ≡ total by_owner.chains + 1) where
+    (len : slab_len more ≡ slab_len records + 1) (seats : length seated_more.slots ≡ length owners.slots)
+    (count : total longer.chains ≡ total by_object.chains + 1) where
   -- who sat stays
   seat_stays : (j d : ℕ) → home_of by_owner j ≡ Some d → seat owners d ≡ seat seated_more d
   seat_stays j d home = go (eqb d c) refl ∙ sym (sits d) where
@@ -61,7 +61,6 @@ module _ (records more : Slab Record) (by_object longer by_owner owned_more : Ch
     owned = owned;
     seated = seated;
     chained = omega (arith, valid.chained, seats, owner.same_chains);
-    enough = omega (arith, len, fits, seats);
     counted = omega (arith, valid.counted, count, len);
   } where
     placed : (j : ℕ) → is_some (get more j) ≡ is_some (home_of longer j)

@@ -1,6 +1,7 @@
 -- What becomes of a record's before-image, and of its owner's seat, when it goes.
-use Rattle.std.specs.Prelude.{◌≡◌, ℕ, ℤ, ◌==◌, cond, Option, Some, None, option_map}
+use Rattle.std.specs.Prelude.{◌≡◌, ◌≢◌, ℕ, ℤ, true, ◌==◌, cond, Option, Some, None, option_map}
 use Rattle.slab.specs.Slab.{Slab, get}
+use Rattle.asset_names.specs.declared.names.Txn.{Txn}
 use Rattle.asset_seats.specs.Seated.{Seated, seat}
 use Rattle.asset_records.specs.declared.records.Record.{Record}
 use Rattle.asset_records.specs.Listed.{record_at}
@@ -19,3 +20,7 @@ restored_at records (Some next) key = None
 abbrev pub IsLeft : ℕ → Option ℕ → Seated → Seated → Type 0
 IsLeft c None old new = (d : ℕ) → seat new d ≡ cond (d == c) None (seat old d)
 IsLeft c (Some first) old new = (d : ℕ) → seat new d ≡ seat old d
+
+-- a seat is free for the transaction, if it has none
+abbrev pub IsReadyFor : Txn → Seated → Type 0
+IsReadyFor t owners = ((c : ℕ) → seat owners c ≢ Some t) → owners.has_room ≡ true

@@ -1,6 +1,6 @@
 -- The records of each object, in a slab that stands beside two partitions of its keys into chains: by object, and by
 -- owner.
-use Rattle.std.specs.Prelude.{◌≡◌, ℕ, ℤ, pos, ◌+◌, ◌*◌, ◌≤◌, Bool, false, cond, ◌==◌, ◌&&◌, nat_lt, List, [], ◌∷◌, ◌++◌, length, map, Option, Some, None, option_map, is_some, unwrap_or, slice_index_or}
+use Rattle.std.specs.Prelude.{◌≡◌, ℕ, ℤ, pos, ◌+◌, ◌*◌, ◌≤◌, ◌<◌, Bool, false, cond, ◌==◌, ◌&&◌, nat_lt, List, [], ◌∷◌, ◌++◌, length, map, Option, Some, None, option_map, is_some, unwrap_or, slice_index_or}
 use Rattle.std.specs.List.{list_any}
 use Rattle.slab.specs.Slab.{Slab, get, slab_len}
 use Rattle.asset_chains.specs.Chained.{Chained, chain_of, home_of, first_of}
@@ -39,28 +39,52 @@ abbrev pub total : List (List ℕ) → ℕ
 total [] = 0
 total (keys ∷ chains) = length keys + total chains
 
+-- whether a record comes after one of the same owner; no record may stand before it
+abbrev pub follows : Option ℕ → ℕ → Bool
+follows None t = false
+follows (Some before) t = t == before
+
+-- how many stretches of one owner's records begin among these, which come after one of this owner
+abbrev pub stretches_after : Option ℕ → List Record → ℕ
+stretches_after before [] = 0
+stretches_after before (one ∷ later) = cond (follows before one.owner.0) 0 1 + stretches_after (Some one.owner.0) later
+
+-- how many stretches of one owner's records there are, on all objects
+abbrev pub stretches : List (List Record) → ℕ
+stretches [] = 0
+stretches (records ∷ lists) = stretches_after None records + stretches lists
+
 -- whether one more record finds a slot, a key in each partition, and a seat that no owner needs
-unfoldable pub has_room : Slab Record → Chained → Chained → Seated → Bool
-has_room records by_object by_owner owners =
+unfoldable pub has_room : Slab Record → Chained → Chained → Seated → ℕ → Bool
+has_room records by_object by_owner owners most =
     nat_lt (slab_len records) records.capacity
     && nat_lt records.vacant_key (length by_object.homes)
     && nat_lt records.vacant_key (length by_owner.homes)
-    && nat_lt (slab_len records) (length owners.slots)
+    && nat_lt (most + 1) (length owners.slots)
 
 -- the records of each object, by its chain
-unfoldable pub listed_of : Slab Record → Chained → Chained → Seated → Listed
-listed_of records by_object by_owner owners = record { lists = map (at_keys records) by_object.chains; reserved = has_room records by_object by_owner owners }
+unfoldable pub listed_of : Slab Record → Chained → Chained → Seated → ℕ → Listed
+listed_of records by_object by_owner owners most = record { lists = map (at_keys records) by_object.chains; reserved = has_room records by_object by_owner owners most }
 
--- each record is in the chain of an object and in that of its owner, and nothing else is in a chain; exactly those who
--- have a record have a seat; and there is a seat, with its chain, for each record, so that a change of owners takes no
--- memory
+-- each record is in the chain of an object and in that of its owner, and nothing else is in a chain; and exactly those
+-- who have a record have a seat, with its chain
 pub record IsValid (records : Slab Record) (by_object by_owner : Chained) (owners : Seated) : Type 0 where
   pub placed : (k : ℕ) → is_some (get records k) ≡ is_some (home_of by_object k)
   pub owned : (k : ℕ) → option_map (λ (one : Record). one.owner) (get records k) ≡ owner_at owners (home_of by_owner k)
   pub seated : (c : ℕ) → is_some (seat owners c) ≡ is_some (first_of (chain_of by_owner c))
   pub chained : length owners.slots ≤ length by_owner.chains
-  pub enough : slab_len records ≤ length owners.slots
-  pub counted : total by_owner.chains ≡ slab_len records
+  pub counted : total by_object.chains ≡ slab_len records
+
+-- there are at most so many stretches of one owner's records, and more seats than that, so that a change of owners, which
+-- makes no more stretches, takes no memory
+pub record IsSpared (records : Slab Record) (by_object : Chained) (owners : Seated) (most : ℕ) : Type 0 where
+  pub bound : stretches (map (at_keys records) by_object.chains) ≤ most
+  pub spare : 0 < most → most < length owners.slots
+
+-- the records, in their chains, with the seats that they need
+pub record IsWhole (records : Slab Record) (by_object by_owner : Chained) (owners : Seated) (most : ℕ) : Type 0 where
+  pub valid : IsValid records by_object by_owner owners
+  pub spared : IsSpared records by_object owners most
 
 -- whether the record is the transaction's
 unfoldable pub is_of : ℕ → Record → Bool

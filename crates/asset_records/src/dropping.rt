@@ -4,7 +4,8 @@ ghost use Rattle.std.specs.Prelude.{◌≡◌, ℕ, ◌==◌, ◌≤◌, ◌+◌
 ghost use Rattle.slab.specs.Slab.{get, slab_len};
 ghost use Rattle.asset_chains.specs.Chained.{chain_of, home_of, first_of, without, unlinked, ahead, behind};
 ghost use Rattle.asset_records.specs.Listed.{IsValid, has_room};
-ghost use Rattle.asset_records.specs.Dropped.{handed_at, restored_at, IsLeft};
+ghost use Rattle.asset_names.specs.declared.names.Txn.{Txn};
+ghost use Rattle.asset_records.specs.Dropped.{handed_at, restored_at, IsLeft, IsReadyFor};
 
 use crate::records::Record;
 use asset_chains::Chains;
@@ -44,7 +45,8 @@ pub(crate) fn drop_at(
     ensures chains { (j : ℕ) → chain_of by_object.new j ≡ without key (chain_of by_object.old j) }
     ensures homes { (k : ℕ) → home_of by_object.new k ≡ cond (k == key) None (home_of by_object.old k) }
     ensures many { length by_object.new.chains ≡ length by_object.old.chains }
-    ensures room { has_room records.new by_object.new by_owner.new owners.new ≡ true }
+    ensures slots { length owners.new.slots ≡ length owners.old.slots }
+    ensures room { (most : ℕ) → has_room records.old by_object.old by_owner.old owners.old most ≡ true → has_room records.new by_object.new by_owner.new owners.new most ≡ true }
 {
     by_object.laws();
     by_owner.laws();
@@ -59,6 +61,7 @@ pub(crate) fn leave_owner(by_owner: &mut Chains, owners: &mut Seats, key: usize)
     ensures unlinked { by_owner.new ≡ unlinked key by_owner.old }
     ensures left { (c : ℕ) → home_of by_owner.old key ≡ Some c → IsLeft c (first_of (chain_of by_owner.new c)) owners.old owners.new }
     ensures many { length owners.new.slots ≡ length owners.old.slots }
+    ensures ready { (t : Txn) → IsReadyFor t owners.old → IsReadyFor t owners.new }
 {
     if let Some(chain) = by_owner.home(key) {
         by_owner.unlink(key);
@@ -92,9 +95,10 @@ pub(crate) fn drop_through(
     ensures others { (j : ℕ) → (j == object) ≡ false → chain_of by_object.new j ≡ chain_of by_object.old j }
     ensures kept { (k : ℕ) → is_some (get records.new k) ≡ true → get records.new k ≡ get records.old k }
     ensures many { length by_object.new.chains ≡ length by_object.old.chains }
+    ensures slots { length owners.new.slots ≡ length owners.old.slots }
     ensures counted { 1 + length (ahead last (chain_of by_object.old object)) ≤ result }
     ensures visited { result ≤ 4 * (1 + length (ahead last (chain_of by_object.old object))) }
-    ensures room { has_room records.old by_object.old by_owner.old owners.old ≡ true → has_room records.new by_object.new by_owner.new owners.new ≡ true }
+    ensures room { (most : ℕ) → has_room records.old by_object.old by_owner.old owners.old most ≡ true → has_room records.new by_object.new by_owner.new owners.new most ≡ true }
 {
     by_object.laws();
     let mut visited: usize = 0;

@@ -1,4 +1,5 @@
-//! Records that become another transaction's. This takes no memory, because there is a seat for each record.
+//! Records that become another transaction's. This takes no memory, because there is a seat for each stretch of
+//! one owner's records on an object, and one more: these stretches go over whole.
 
 ghost use Rattle.std.specs.Prelude.{◌≡◌, ◌≢◌, ℕ, ◌==◌, cond, true, false, length, is_some, IfSome, IfNone, Some, option_map};
 ghost use Rattle.slab.specs.Slab.{get};
@@ -6,9 +7,11 @@ ghost use Rattle.asset_names.specs.declared.names.Txn.{Txn};
 ghost use Rattle.asset_chains.specs.Chained.{chain_of, home_of, without};
 ghost use Rattle.asset_seats.specs.Seated.{seat};
 ghost use Rattle.asset_records.specs.Listed.{IsValid, has_room};
+ghost use Rattle.asset_records.specs.Dropped.{IsReadyFor};
 ghost use Rattle.asset_records.specs.Handed.{renamed, owned_by, handed_to};
 
 use crate::dropping::leave_owner;
+use crate::owning::seat_for;
 use crate::records::Record;
 use asset_chains::Chains;
 use asset_names::Txn;
@@ -26,7 +29,7 @@ fn rename(records: &mut Slab<Record>, key: usize, taker: Txn)
 }
 
 /// Makes the record at the key the taker's, in the slab and in the chains of owners. An owner who has no other record
-/// leaves its seat, so that there is one for the taker.
+/// leaves its seat.
 fn move_at(
     records: &mut Slab<Record>,
     by_object: &Chains,
@@ -37,15 +40,17 @@ fn move_at(
 )
     requires valid { IsValid records.old by_object.now by_owner.old owners.old }
     requires there { is_some (get records.old key) ≡ true }
+    requires ready { IsReadyFor taker owners.old }
     ensures valid { IsValid records.new by_object.now by_owner.new owners.new }
     ensures records { records.new ≡ handed_to taker key records.old }
-    ensures room { has_room records.new by_object.now by_owner.new owners.new ≡ has_room records.old by_object.now by_owner.old owners.old }
+    ensures ready { IsReadyFor taker owners.new }
+    ensures slots { length owners.new.slots ≡ length owners.old.slots }
+    ensures room { (most : ℕ) → has_room records.new by_object.now by_owner.new owners.new most ≡ has_room records.old by_object.now by_owner.old owners.old most }
 {
     by_object.laws();
     by_owner.laws();
     leave_owner(by_owner, owners, key);
-    owners.laws();
-    let seat = owners.seat_for(taker);
+    let seat = seat_for(owners, taker);
     by_owner.push(seat, key);
     rename(records, key, taker);
 }
@@ -70,10 +75,13 @@ fn pass_on(
     giver: Txn,
     taker: Txn,
 )
-    requires { IsValid records.old by_object.now by_owner.old owners.old }
+    requires valid { IsValid records.old by_object.now by_owner.old owners.old }
+    requires ready { is_some (get records.old key) ≡ true → IsReadyFor taker owners.old }
     ensures valid { IsValid records.new by_object.now by_owner.new owners.new }
     ensures records { (k : ℕ) → get records.new k ≡ cond (k == key) (option_map (renamed giver.0 taker.0) (get records.old k)) (get records.old k) }
-    ensures room { has_room records.new by_object.now by_owner.new owners.new ≡ has_room records.old by_object.now by_owner.old owners.old }
+    ensures ready { IsReadyFor taker owners.old → IsReadyFor taker owners.new }
+    ensures slots { length owners.new.slots ≡ length owners.old.slots }
+    ensures room { (most : ℕ) → has_room records.new by_object.now by_owner.new owners.new most ≡ has_room records.old by_object.now by_owner.old owners.old most }
 {
     if is_of(records, key, giver) {
         move_at(records, by_object, by_owner, owners, key, taker);
@@ -92,10 +100,12 @@ pub(crate) fn hand_over_along(
 )
     requires valid { IsValid records.old by_object.now by_owner.old owners.old }
     requires another { (taker.0 == giver.0) ≡ false }
+    requires ready { (k : ℕ) → is_some (get records.old k) ≡ true → IsReadyFor taker owners.old }
     ensures valid { IsValid records.new by_object.now by_owner.new owners.new }
     ensures handed { (k : ℕ) → home_of by_object.now k ≡ Some object → get records.new k ≡ option_map (renamed giver.0 taker.0) (get records.old k) }
     ensures others { (k : ℕ) → home_of by_object.now k ≢ Some object → get records.new k ≡ get records.old k }
-    ensures room { has_room records.new by_object.now by_owner.new owners.new ≡ has_room records.old by_object.now by_owner.old owners.old }
+    ensures slots { length owners.new.slots ≡ length owners.old.slots }
+    ensures room { (most : ℕ) → has_room records.new by_object.now by_owner.new owners.new most ≡ has_room records.old by_object.now by_owner.old owners.old most }
 {
     by_object.laws();
     let mut next = by_object.first(object);
@@ -126,9 +136,11 @@ pub(crate) fn hand_over_each(
 )
     requires valid { IsValid records.old by_object.now by_owner.old owners.old }
     requires another { (taker.0 == giver.0) ≡ false }
+    requires ready { (k : ℕ) → is_some (get records.old k) ≡ true → IsReadyFor taker owners.old }
     ensures valid { IsValid records.new by_object.now by_owner.new owners.new }
     ensures handed { (k : ℕ) → get records.new k ≡ option_map (renamed giver.0 taker.0) (get records.old k) }
-    ensures room { has_room records.new by_object.now by_owner.new owners.new ≡ has_room records.old by_object.now by_owner.old owners.old }
+    ensures slots { length owners.new.slots ≡ length owners.old.slots }
+    ensures room { (most : ℕ) → has_room records.new by_object.now by_owner.new owners.new most ≡ has_room records.old by_object.now by_owner.old owners.old most }
 {
     'records: while let Some(key) = record_of(by_owner, owners, giver) {
         move_at(records, by_object, by_owner, owners, key, taker);

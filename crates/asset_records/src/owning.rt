@@ -1,24 +1,25 @@
 //! Seats for the owners of records.
 
-ghost use Rattle.std.specs.Prelude.{◌≡◌, ℕ, ◌<◌, ◌≤◌, length, IsOk, OnOk};
+ghost use Rattle.std.specs.Prelude.{◌≡◌, ◌⊎◌, ℕ, ◌==◌, ◌+◌, ◌^◌, [], ◌∷◌, ◌++◌, None, ◌<◌, ◌≤◌, cond, length, is_some, Some, true, IsOk, OnOk};
+ghost use Rattle.slab.specs.Slab.{get};
 ghost use Rattle.asset_chains.specs.Chained.{chain_of};
+ghost use Rattle.asset_names.specs.declared.names.Txn.{Txn};
 ghost use Rattle.asset_seats.specs.Seated.{seat};
+ghost use Rattle.asset_records.specs.Listed.{at_keys, follows, stretches_after};
+ghost use Rattle.asset_records.specs.Dropped.{IsReadyFor};
 
+use crate::records::Record;
 use asset_chains::Chains;
-use asset_names::NoMemory;
+use asset_names::{NoMemory, Txn};
 use asset_seats::{Seats, add_chains};
+use slab::Slab;
 
-/// Makes sure that there are more seats than so many records, each with its chain. If memory runs out, nobody's seat
-/// changes.
-pub(crate) fn add_owner(
-    by_owner: &mut Chains,
-    owners: &mut Seats,
-    records: usize,
-) -> Result<(), NoMemory>
+/// Makes sure that there are more seats than so many, each with its chain. If memory runs out, nobody's seat changes.
+fn add_owner(by_owner: &mut Chains, owners: &mut Seats, many: usize) -> Result<(), NoMemory>
     requires chained { length owners.old.slots ≤ length by_owner.old.chains }
-    requires enough { records ≤ length owners.old.slots }
-    ensures room { OnOk result (records < length owners.new.slots) }
-    ensures standing { records < length owners.old.slots → IsOk result }
+    requires enough { many ≤ length owners.old.slots }
+    ensures room { OnOk result (many < length owners.new.slots) }
+    ensures standing { many < length owners.old.slots → IsOk result }
     ensures chained { length owners.new.slots ≤ length by_owner.new.chains }
     ensures more { length owners.old.slots ≤ length owners.new.slots }
     ensures seats { (c : ℕ) → seat owners.new c ≡ seat owners.old c }
@@ -26,9 +27,68 @@ pub(crate) fn add_owner(
     ensures homes { by_owner.new.homes ≡ by_owner.old.homes }
 {
     let seats = owners.seats();
-    if records < seats {
+    if many < seats {
         return Ok(());
     }
     add_chains(by_owner, seats)?;
     owners.add_seat()
+}
+
+/// Makes sure that there are two seats more than so many, each with its chain. If memory runs out, nobody's seat changes.
+pub(crate) fn add_owners(
+    by_owner: &mut Chains,
+    owners: &mut Seats,
+    many: usize,
+) -> Result<(), NoMemory>
+    requires chained { length owners.old.slots ≤ length by_owner.old.chains }
+    requires enough { many ≤ length owners.old.slots }
+    ensures room { OnOk result (many + 1 < length owners.new.slots) }
+    ensures standing { many + 1 < length owners.old.slots → IsOk result }
+    ensures chained { length owners.new.slots ≤ length by_owner.new.chains }
+    ensures more { length owners.old.slots ≤ length owners.new.slots }
+    ensures seats { (c : ℕ) → seat owners.new c ≡ seat owners.old c }
+    ensures chains { (c : ℕ) → chain_of by_owner.new c ≡ chain_of by_owner.old c }
+    ensures homes { by_owner.new.homes ≡ by_owner.old.homes }
+{
+    by_owner.laws();
+    add_owner(by_owner, owners, many)?;
+    add_owner(by_owner, owners, many + 1)
+}
+
+/// Returns the seat of a transaction, which is given one if it has none. It takes no memory.
+pub(crate) fn seat_for(owners: &mut Seats, t: Txn) -> usize
+    requires { IsReadyFor t owners.old }
+    ensures seats { (d : ℕ) → seat owners.new d ≡ cond (d == result) (Some t) (seat owners.old d) }
+    ensures same { is_some (seat owners.old result) ≡ true → seat owners.old result ≡ Some t }
+    ensures given { (is_some (seat owners.old result) ≡ true) ⊎ (result < length owners.old.slots) }
+    ensures many { length owners.new.slots ≡ length owners.old.slots }
+{
+    owners.laws();
+    match owners.seat_of(t) {
+        Some(c) => c,
+        None => owners.sit(t),
+    }
+}
+
+/// Returns how many stretches there may be once a record of this owner is the last one on the object, if there may be so
+/// many now: one more, unless the last one is the owner's already.
+pub(crate) fn with_record(
+    records: &Slab<Record>,
+    by_object: &Chains,
+    object: usize,
+    update: Record,
+    many: usize,
+) -> usize
+    requires { many + 1 < 2 ^ 64 }
+    ensures bound { result ≤ many + 1 }
+    ensures counted { stretches_after None (at_keys records.now (chain_of by_object.now object) ++ update ∷ []) + many ≤ stretches_after None (at_keys records.now (chain_of by_object.now object)) + result }
+{
+    by_object.laws();
+    let Some(key) = by_object.last(object) else {
+        return many + 1;
+    };
+    match records.get(key) {
+        Some(record) if record.owner.0 == update.owner.0 => many,
+        _ => many + 1,
+    }
 }

@@ -2,7 +2,7 @@
 
 use crate::dropping::{counted, drop_at, drop_through, hand_on};
 use crate::handing::{hand_over_along, hand_over_each};
-use crate::owning::add_owner;
+use crate::owning::{add_owners, seat_for, with_record};
 use asset_chains::Chains;
 use asset_names::{NoMemory, Txn};
 use asset_seats::{Seats, add_keys};
@@ -29,22 +29,25 @@ pub struct Undone {
 
 /// The records of each object, objects being numbers from 0 on. Contracts see the records of each object, oldest
 /// first, and whether there is room for one more.
+///
+/// There are at most `most` stretches of one owner's records, and a seat for each, so that owners can change.
 #[derive(Drop)]
 pub struct Records {
     records: Slab<Record>,
     by_object: Chains,
     by_owner: Chains,
     owners: Seats,
+    most: usize,
 }
 
 impl Model for Records {
-    ghost use Rattle.asset_records.specs.Listed.{Listed, listed_of, IsValid};
+    ghost use Rattle.asset_records.specs.Listed.{Listed, listed_of, IsWhole};
 
     ghost Value = { Listed };
 
-    ghost view = { λ r. listed_of r.records r.by_object r.by_owner r.owners };
+    ghost view = { λ r. listed_of r.records r.by_object r.by_owner r.owners r.most };
 
-    ghost invariant = { λ r. IsValid r.records r.by_object r.by_owner r.owners };
+    ghost invariant = { λ r. IsWhole r.records r.by_object r.by_owner r.owners r.most };
 }
 
 impl Records {
@@ -61,6 +64,7 @@ impl Records {
             by_object: Chains::new(alloc),
             by_owner: Chains::new(alloc),
             owners: Seats::new(alloc),
+            most: 0,
         }
     }
 
@@ -96,7 +100,8 @@ impl Records {
         let key = self.records.vacant_key();
         add_keys(&mut self.by_object, key)?;
         add_keys(&mut self.by_owner, key)?;
-        add_owner(&mut self.by_owner, &mut self.owners, self.records.len())
+        self.most = lesser(self.most, self.records.len());
+        add_owners(&mut self.by_owner, &mut self.owners, self.most)
     }
 
     /// Appends a record to those of its object. It uses the memory that `reserve` reserved.
@@ -108,7 +113,8 @@ impl Records {
         self.by_object.laws();
         self.by_owner.laws();
         self.owners.laws();
-        let chain = self.owners.seat_for(update.owner);
+        self.most = with_record(&self.records, &self.by_object, object, update, self.most);
+        let chain = seat_for(&mut self.owners, update.owner);
         let key = self.records.insert_reserved(update);
         self.by_object.push(object, key);
         self.by_owner.push(chain, key);
@@ -180,6 +186,8 @@ impl Records {
             return;
         }
         self.by_object.laws();
+        self.by_owner.laws();
+        self.owners.laws();
         hand_over_along(
             &mut self.records,
             &self.by_object,
@@ -203,6 +211,8 @@ impl Records {
             return;
         }
         self.by_object.laws();
+        self.by_owner.laws();
+        self.owners.laws();
         hand_over_each(
             &mut self.records,
             &self.by_object,
@@ -212,4 +222,13 @@ impl Records {
             taker,
         );
     }
+}
+
+ghost use Rattle.std.specs.Prelude.{◌⊎◌, ◌≡◌, ◌≤◌};
+
+/// Returns the lesser of two numbers.
+fn lesser(a: usize, b: usize) -> usize
+    ensures { (result ≤ a) × (result ≤ b) × ((result ≡ a) ⊎ (result ≡ b)) }
+{
+    if a < b { a } else { b }
 }

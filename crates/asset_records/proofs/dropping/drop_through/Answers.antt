@@ -43,11 +43,12 @@ oldest-preserved c =
       many = c.drop_at.ensures.many ∙ c.oldest.invariant.many;
       counted = omega (arith, c.oldest.invariant.counted, less);
       visited = omega (arith, c.oldest.invariant.visited, less, c.counted-in-Some-2.ensures, c.counted.ensures, c.counted-in-Some.ensures);
-      room = λ room. c.drop_at.ensures.room;
+      slots = c.drop_at.ensures.slots ∙ c.oldest.invariant.slots;
+      room = λ most room. c.drop_at.ensures.room most (c.oldest.invariant.room most room);
     }
 
 pub returns-then-key-last-clause-room : goal.returns-then-key-last-clause-room
-returns-then-key-last-clause-room c = λ room. c.drop_at.ensures.room
+returns-then-key-last-clause-room c = λ most room. c.drop_at.ensures.room most (c.oldest.invariant.room most room)
 
 pub returns-then-key-last-clause-counted : goal.returns-then-key-last-clause-counted
 returns-then-key-last-clause-counted c =

@@ -16,7 +16,8 @@ invariant-oldest l = record {
   many : length l.by_object.chains ≡ length l.initial.by_object.chains;
   counted : length (ahead l.last (chain_of l.initial.by_object l.object)) ≤ l.visited + length (ahead l.last (chain_of l.by_object l.object));
   visited : l.visited + 4 * length (ahead l.last (chain_of l.by_object l.object)) ≤ 4 * length (ahead l.last (chain_of l.initial.by_object l.object));
-  room : has_room l.initial.records l.initial.by_object l.initial.by_owner l.initial.owners ≡ true → has_room l.records l.by_object l.by_owner l.owners ≡ true;
+  slots : length l.owners.slots ≡ length l.initial.owners.slots;
+  room : (most : ℕ) → has_room l.initial.records l.initial.by_object l.initial.by_owner l.initial.owners most ≡ true → has_room l.records l.by_object l.by_owner l.owners most ≡ true;
 }
 
 abbrev pub decreases-oldest : goal.decreases-oldest

@@ -4,7 +4,7 @@ use Rattle.asset_chains.specs.Chained.{chain_of, lists, home_of}
 use Rattle.asset_chains.proofs.Laws.{chain_at_first}
 use Rattle.asset_chains.proofs.Walks.{from_key, from_first, next_home, walk_more, walk_ends, walk_less}
 use Rattle.asset_records.specs.Handed.{owned_by}
-use Rattle.asset_records.proofs.HandLemmas.{passed_told, passed_here, passed_before, passed_other, renamed_all}
+use Rattle.asset_records.proofs.HandLemmas.{passed_there, passed_told, passed_here, passed_before, passed_other, renamed_all}
 use Rattle.asset_records.proofs.handing.hand_over_along.Goals as goal
 
 pub keys-init : goal.keys-init
@@ -14,7 +14,9 @@ keys-init c = record {
   passed = λ k there. inl (ap (λ (o : Option ℕ). lists (from_key o (chain_of c.args.by_object.now c.args.object)) k) c.first-next.ensures ∙ ap (λ (l : List ℕ). lists l k) (from_first (chain_of c.args.by_object.now c.args.object)) ∙ there);
   told = λ k. refl;
   others = λ k other. refl;
-  room = refl;
+  ready = c.requires.ready;
+  slots = refl;
+  room = λ most. refl;
 }
 
 pub keys-smaller : goal.keys-smaller
@@ -45,7 +47,9 @@ keys-preserved c =
           (passed_here c.keys.records c.pass_on.new.records c.in-Some.key c.args.giver c.args.taker c.requires.another passes) k there);
       told = λ k. passed_told c.keys.records c.pass_on.new.records c.in-Some.key c.args.giver c.args.taker c.requires.another passes k ∙ c.keys.invariant.told k;
       others = λ k other. passed_other c.keys.records c.pass_on.new.records c.in-Some.key c.args.giver c.args.taker c.requires.another passes k (λ same. other (ap (home_of c.args.by_object.now) same ∙ home)) ∙ c.keys.invariant.others k other;
-      room = c.pass_on.ensures.room ∙ c.keys.invariant.room;
+      ready = λ k there. c.pass_on.ensures.ready (c.keys.invariant.ready k (passed_there c.keys.records c.pass_on.new.records c.in-Some.key c.args.giver c.args.taker c.requires.another passes k there));
+      slots = c.pass_on.ensures.slots ∙ c.keys.invariant.slots;
+      room = λ most. c.pass_on.ensures.room most ∙ c.keys.invariant.room most;
     }
 
 pub returns-clause-handed : goal.returns-clause-handed

@@ -32,7 +32,9 @@ records-preserved c =
           passed_told c.records.records c.move_at.new.records c.in-Some.key c.args.giver c.args.taker c.requires.another
           (λ j. ap (λ (slab : Slab Record). get slab j) c.move_at.ensures.records ∙ handed_is c.records.records c.in-Some.key c.args.giver c.args.taker owned j) k
           ∙ c.records.invariant.told k;
-      room = c.move_at.ensures.room ∙ c.records.invariant.room;
+      ready = λ k there. c.move_at.ensures.ready;
+      slots = c.move_at.ensures.slots ∙ c.records.invariant.slots;
+      room = λ most. c.move_at.ensures.room most ∙ c.records.invariant.room most;
     }
 
 pub returns-clause-handed : goal.returns-clause-handed
@@ -40,3 +42,9 @@ returns-clause-handed c = λ k.
     let none = subst (λ (o : Option ℕ). IfNone o ((j d : ℕ) → home_of c.records.by_owner j ≡ Some d → seat c.records.owners d ≡ Some c.args.giver → ⊥)) c.in_default.is c.record_of.ensures.none in
     renamed_all c.args.giver.0 c.args.taker.0 (get c.args.records.now k) (get c.records.records k) (c.records.invariant.told k)
     (none_owned c.records.records c.args.by_object.now c.records.by_owner c.records.owners c.args.giver c.records.invariant.valid none k)
+
+pub move_at-requires-clause-ready : goal.move_at-requires-clause-ready
+move_at-requires-clause-ready c =
+    let at = c.in-Some.ensures.found in
+    let owned = owned_key c.records.records c.args.by_object.now c.records.by_owner c.records.owners c.args.giver c.in-Some.key at.0 c.records.invariant.valid at.1.0 at.1.1 in
+    c.records.invariant.ready c.in-Some.key (owned_some c.args.giver.0 (get c.records.records c.in-Some.key) owned)

@@ -13,3 +13,6 @@ returns-then-is_of-clause-records c = λ k.
 
 pub returns-else-is_of-clause-records : goal.returns-else-is_of-clause-records
 returns-else-is_of-clause-records c = λ k. handed_not c.args.records.now c.args.key c.args.giver c.args.taker (sym c.is_of.ensures ∙ c.if-is_of.false) k
+
+pub move_at-requires-clause-ready : goal.move_at-requires-clause-ready
+move_at-requires-clause-ready c = c.requires.ready (owned_some c.args.giver.0 (get c.args.records.now c.args.key) (sym c.is_of.ensures ∙ c.if-is_of.true))
