@@ -65,6 +65,73 @@ ok
 committed
 ";
 
+/// The script `delegation.asset`.
+const DELEGATION: &str = "\
+# A design task is handed from one worker to another, and the first then gives up.
+# Objects 1 and 2 are two parts of a design. Transaction 7 is the first worker, 8 the second, and 9 reviews.
+object 1 100
+object 2 200
+initiate 7
+begin 7
+initiate 8
+begin 8
+initiate 9
+begin 9
+
+# 7 works on both parts, and lets the reviewer read part 1.
+write 7 1 50
+write 7 2 60
+permit 7 9 r 1
+
+# 7 hands part 1 over to 8, which is responsible for it from then on: 7 itself has to wait for it now. The reviewer may
+# still read it, because 8 gets a copy of the permit on what it takes over.
+delegate 7 8 1
+read 7 1
+read 9 1
+complete 9
+commit 9
+
+# 7 gives up. Its abort takes back its write of part 2, and leaves part 1 alone.
+abort 7
+read 8 1
+read 8 2
+
+# 8 finishes part 1, and its commit makes that stand.
+write 8 1 55
+complete 8
+commit 8
+initiate 10
+begin 10
+read 10 1
+";
+
+/// Its transcript.
+const DELEGATION_OUT: &str = "\
+ok
+ok
+ok
+ok
+ok
+ok
+ok
+ok
+ok
+ok
+wait
+50
+ok
+committed
+aborted
+50
+200
+ok
+ok
+committed
+ok
+ok
+55
+";
+
 /// The script `permits.asset`.
 const PERMITS: &str = "\
 # Two transactions work on one object. Transaction 7 lets 8 read and write it.
@@ -177,6 +244,11 @@ committed
 #[test]
 fn first_example_has_its_transcript(rt: HostRuntime) -> Result<(), Fail> {
     expect(&rt, FIRST, FIRST_OUT)
+}
+
+#[test]
+fn delegation_example_has_its_transcript(rt: HostRuntime) -> Result<(), Fail> {
+    expect(&rt, DELEGATION, DELEGATION_OUT)
 }
 
 #[test]

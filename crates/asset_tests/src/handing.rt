@@ -214,6 +214,7 @@ fn held_objects_are_listed(locks: &mut Locks, permits: &mut Permits, alloc: Glob
             &[Ob(2), Ob(1)],
         )
         && are_held(locks, alloc, 7, &ObSet::All, &[Ob(2), Ob(3), Ob(1)])
+        && are_held(locks, alloc, 7, &listed(&[Ob(3)]), &[Ob(3)])
         && are_held(locks, alloc, 7, &listed(&[Ob(4)]), &[])
         && are_held(locks, alloc, 9, &ObSet::All, &[])
 }

@@ -41,4 +41,6 @@ mod seats;
 #[cfg(test)]
 mod sizes;
 #[cfg(test)]
+mod tables;
+#[cfg(test)]
 mod trans;

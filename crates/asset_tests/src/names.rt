@@ -2,8 +2,8 @@
 
 use asset_names::{
     Ob, ObList, ObSet, Op, Ops, Outcome, Refusal, Reply, SetFault, Status, Step, Txn,
-    commit_outcome, least_double, refusal_to_abort, refusal_to_begin, refusal_to_find,
-    refusal_to_initiate, refusal_to_operate, refusal_between, refusal_to_work, takes_effect,
+    commit_outcome, least_double, refusal_between, refusal_to_abort, refusal_to_begin,
+    refusal_to_find, refusal_to_initiate, refusal_to_operate, refusal_to_work, takes_effect,
     wait_outcome,
 };
 use std::test::Fail;

@@ -5,7 +5,7 @@ ghost use Rattle.std.specs.Prelude.{◌<◌};
 use crate::handing::{hand, listed};
 use crate::locks::ask_once;
 use asset_locks::{Asked, LockState, Locks};
-use asset_names::{Ob, ObSet, Op, Txn};
+use asset_names::{Ob, ObList, ObSet, Op, Txn};
 use asset_permits::Permits;
 
 /// How many objects 7 locks.
@@ -87,6 +87,19 @@ fn first_not_moved(locks: &Locks) -> Option<usize> {
     None
 }
 
+/// Hands each object over by itself. Returns the first that 8 does not hold then, in this order, or that 7 still holds.
+fn first_not_handed(locks: &mut Locks) -> Option<usize> {
+    for i in 0..LOCKED {
+        let x = Ob(i as u64);
+        let one = ObSet::Listed(ObList::one(x));
+        let handed = hand(locks, 7, 8, &one) && is_held(locks, 8, i, x);
+        if !handed || locks.status(Txn(7), x) != None {
+            return Some(i);
+        }
+    }
+    None
+}
+
 /// Hands the twentieths over. Returns whether it could, with the first index that goes wrong of each.
 fn hand_listed(locks: &mut Locks) -> (bool, [Option<usize>; 2]) {
     let handed = hand(locks, 7, 8, &listed(&TWENTIETHS))
@@ -115,4 +128,18 @@ fn three_hundred_locks_are_handed_over(rt: HostRuntime) {
     assert_eq!(rt; not_granted, None);
     assert_eq!(rt; listed, (true, [None; 2]));
     assert_eq!(rt; others, (true, [None; 2]));
+}
+
+#[test]
+fn locks_go_over_one_by_one(rt: HostRuntime) {
+    let mut permits = Permits::new(rt.alloc());
+    let mut locks = Locks::new(rt.alloc());
+    let not_granted = first_not_granted(&mut locks, &mut permits);
+    let not_handed = first_not_handed(&mut locks);
+    let left = locks.held_by(Txn(7), 0);
+    drop(locks);
+    drop(permits);
+    assert_eq!(rt; not_granted, None);
+    assert_eq!(rt; not_handed, None);
+    assert_eq!(rt; left, None);
 }
