@@ -75,6 +75,9 @@ class Script:
     def permit(self, giver, taker, ops, objects):
         self.say(f"permit {giver} {taker} {ops} {objects}")
 
+    def delegate(self, giver, taker, objects):
+        self.say(f"delegate {giver} {taker} {objects}")
+
 
 # Transactions that share nothing.
 
@@ -289,6 +292,55 @@ def two_writers(steps, seed):
     return script
 
 
+# Delegations.
+
+
+def many_children(steps, seed):
+    """One parent permits children, one after another, who write, and hand all that they did over to it."""
+    script = Script(steps, seed, 1000)
+    parent = script.start()
+    while script.has_room(10):
+        child = script.start()
+        script.permit(parent, child, "rw", "all")
+        for _ in range(3):
+            script.write(child, script.object())
+        script.delegate(child, parent, "all")
+        script.finish(child)
+    script.finish(parent)
+    return script
+
+
+def to_and_fro(steps, seed):
+    """Two transactions hand one object over to each other all the time, and hold a thousand others."""
+    script = Script(steps, seed, 1001)
+    one, other = script.start_many(2)
+    for x in range(1, min(1001, steps // 4) + 1):
+        script.write(one, x)
+    while script.has_room(2):
+        script.delegate(one, other, 1)
+        script.delegate(other, one, 1)
+    script.finish(one, "abort")
+    script.finish(other)
+    return script
+
+
+def hand_over_all(steps, seed):
+    """One transaction writes an object for every two steps, and hands all to and fro, eight times; then one by one."""
+    script = Script(steps, seed, max(4, steps // 2 - 8))
+    one, other = script.start_many(2)
+    for x in range(1, script.objects + 1):
+        script.write(one, x)
+    for _ in range(4):
+        script.delegate(one, other, "all")
+        script.delegate(other, one, "all")
+    for x in range(1, script.objects + 1):
+        if script.has_room(1):
+            script.delegate(one, other, x)
+    script.finish(one, "abort")
+    script.finish(other)
+    return script
+
+
 # Transactions that live long.
 
 
@@ -341,6 +393,9 @@ LOADS = {
         standing_permits,
         one_giver,
         two_writers,
+        many_children,
+        to_and_fro,
+        hand_over_all,
     ]
 }
 
