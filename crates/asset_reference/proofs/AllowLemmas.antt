@@ -25,7 +25,7 @@ arrows_more entries count item added x op some within is adds =
     ∙ ap (λ list. permits (applied list) x op) (reverse_take_item entries (count - 1) item (omega (arith, some, within)) is)
     ∙ adds
 
--- nothing is added by what is false
+-- what is false adds nothing, and the order of two ways does not matter
 or_none : (p : Bool) → p ≡ (p || false)
 or_none true = refl
 or_none false = refl
@@ -47,8 +47,9 @@ one_link test g t arrows a b = go (test g) (test t) where
   go true false = or_none (linked (among test arrows) a b)
   go false takes = or_none (linked (among test arrows) a b)
 
--- Copies all lead from one name, so a way needs one of them at most: with one more copy, what was reached from a, what
--- was reached from the end of that copy, and what it is that is reached.
+-- All copies lead from one name, so a way needs at most one of them. Without copies, `ab` says whether a way leads from
+-- a to b, and `at` whether one leads from a to that name; `vb` and `vt` say the same of ways from the end of one copy, and
+-- `any_b` and `any_t` whether another copy leads on to b or to that name.
 one_copy : (ab at any_b any_t vb vt : Bool) → ((ab || (at && any_b)) || ((at || (at && any_t)) && (vb || (vt && any_b)))) ≡ (ab || (at && (vb || any_b)))
 one_copy true at any_b any_t vb vt = refl
 one_copy false false any_b any_t vb vt = refl
