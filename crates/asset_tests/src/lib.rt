@@ -11,6 +11,8 @@ mod again;
 #[cfg(test)]
 mod chains;
 #[cfg(test)]
+mod copies;
+#[cfg(test)]
 mod examples;
 #[cfg(test)]
 mod facility;
