@@ -13,6 +13,8 @@ mod chains;
 #[cfg(test)]
 mod copies;
 #[cfg(test)]
+mod delegations;
+#[cfg(test)]
 mod examples;
 #[cfg(test)]
 mod facility;

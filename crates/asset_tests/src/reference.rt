@@ -1,6 +1,7 @@
 //! The facility and the reference give the same answers, on worked histories and on generated scripts.
 
 use crate::again::{ask, opened};
+use crate::handing::listed;
 use crate::steps::{abort, begin, commit, complete, initiate, read, write};
 use asset_core::Core;
 use asset_names::{Fault, Ob, ObList, ObSet, Ops, Outcome, Reply, Step, Txn};
@@ -20,7 +21,7 @@ const SCRIPTS: u64 = 2_000;
 const STEPS: usize = 24;
 
 /// Room for all entries of a script.
-const ROOM: usize = 100;
+pub(crate) const ROOM: usize = 100;
 
 /// Room for fewer entries than a generated script has.
 const LITTLE_ROOM: usize = 10;
@@ -42,6 +43,15 @@ pub(crate) fn permit(giver: u64, taker: u64, objects: &[Ob], (read, write): (boo
             ops,
         },
         None => begin(giver),
+    }
+}
+
+/// Returns a delegation of one transaction to another, of all objects if none is given.
+pub(crate) fn delegate(giver: u64, taker: u64, objects: &[Ob]) -> Step {
+    Step::Delegate {
+        giver: Txn(giver),
+        taker: Txn(taker),
+        obs: listed(objects),
     }
 }
 
@@ -114,7 +124,7 @@ fn agree_over(
 }
 
 /// Returns whether the facility and the reference agree on these steps.
-fn agree(alloc: Global, steps: &[Step], capacity: usize) -> Result<bool, Fail> {
+pub(crate) fn agree(alloc: Global, steps: &[Step], capacity: usize) -> Result<bool, Fail> {
     let mut core = opened(alloc, &THREE, capacity)?;
     let agreed = agree_over(&mut core, &mut Vec::new(alloc), steps, capacity);
     drop(core);
@@ -132,7 +142,7 @@ fn drawn(number: u64) -> Step {
     let t = 5 + (number >> 40) % 5;
     let x = 1 + (number >> 20) % 4;
     let taker = 5 + (number >> 30) % 5;
-    match (number >> 50) % 15 {
+    match (number >> 50) % 17 {
         0 | 1 => initiate(t),
         2 | 3 => begin(t),
         4 | 5 => read(t, x),
@@ -142,7 +152,9 @@ fn drawn(number: u64) -> Step {
         10 => abort(t),
         11 => Step::WaitFor { t: Txn(t) },
         12 | 13 => permit(t, taker, &[Ob(x)], (number % 3 != 0, number % 3 != 1)),
-        _ => permit(t, taker, &[], (true, true)),
+        14 => permit(t, taker, &[], (true, true)),
+        15 => delegate(t, taker, &[Ob(x)]),
+        _ => delegate(t, taker, &[]),
     }
 }
 

@@ -1,4 +1,5 @@
 //! Scripts from their bytes to the text that answers them, and devices that fail in mid-stream.
+mod delegations;
 mod devices;
 mod lines;
 mod memory;

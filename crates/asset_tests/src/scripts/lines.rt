@@ -51,7 +51,12 @@ fn lines_that_are_bad(rt: HostRuntime) -> Result<(), Fail> {
         "permit 7 8 r 1,2,1",
         "permit 7 8 r 1;2",
         "permit 7 8 r all,1",
-        "delegate 7 8 all",
+        "delegate 7 8",
+        "delegate 7 8 1 2",
+        "delegate 7 8 rw all",
+        "delegate 7 8 1,",
+        "delegate 7 8 1,2,1",
+        "delegate 7 8 all,1",
         "depend cd 7 8",
     ] {
         expect_bad(&rt, script, 1)?;
