@@ -8,5 +8,6 @@ pub mod Steps
 pub mod Endings
 pub mod Operations
 pub mod Orderly
+pub mod Paths
 pub mod Answers
 pub mod Room
