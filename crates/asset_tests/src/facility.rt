@@ -276,3 +276,50 @@ fn permits_stand(core: &mut Core) -> bool {
 fn permits_are_entries_with_their_objects(rt: HostRuntime) {
     assert!(rt; holds(rt.alloc(), &THREE, ROOM, permits_stand));
 }
+
+/// Returns a delegation of these objects by 7 to 8, of all if there are none.
+fn delegate(objects: &[Ob]) -> Step {
+    Step::Delegate {
+        giver: Txn(7),
+        taker: Txn(8),
+        obs: match ObList::of(objects) {
+            Ok(list) => ObSet::Listed(list),
+            Err(_) => ObSet::All,
+        },
+    }
+}
+
+/// Returns whether delegations are answered as they must be, and stand whole: of a list with a missing object, of one
+/// without, and of all objects.
+fn delegations_stand(core: &mut Core) -> bool {
+    let (four, one, all) = (
+        delegate(&[Ob(4), Ob(3)]),
+        delegate(&[Ob(2), Ob(1)]),
+        delegate(&[]),
+    );
+    let missing = Reply::Refused(Refusal::NoObject(Ob(4)));
+    let before = [
+        (initiate(7), OK),
+        (begin(7), OK),
+        (initiate(8), OK),
+        (begin(8), OK),
+        (write(7, 1, 50), OK),
+        (four, Ok(Outcome::Answer(missing))),
+        (one, OK),
+        (write(8, 1, 60), OK),
+        (read(7, 1), WAIT),
+        (all, OK),
+        (abort(7), ABORTED),
+        (read(8, 1), value(60)),
+    ];
+    plays(core, &before)
+        && recorded(core, 5, &four, missing)
+        && recorded(core, 6, &one, Reply::Done)
+        && recorded(core, 8, &all, Reply::Done)
+        && recorded(core, 10, &read(8, 1), Reply::Value(60))
+}
+
+#[test]
+fn delegations_are_entries_with_their_objects(rt: HostRuntime) {
+    assert!(rt; holds(rt.alloc(), &THREE, ROOM, delegations_stand));
+}

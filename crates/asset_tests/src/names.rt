@@ -55,6 +55,17 @@ fn list_is_kept_rising(rt: HostRuntime) {
     assert!(rt; ObSet::All.has(Ob(3)));
 }
 
+#[test]
+fn only_object_of_a_set(rt: HostRuntime) {
+    let one = ObList::one(Ob(5));
+    assert_eq!(rt; one.objects(), [Ob(5)].as_slice());
+    assert_eq!(rt; ObList::of(&[Ob(5)]), Ok(one));
+    assert_eq!(rt; ObSet::Listed(one).only(), Some(Ob(5)));
+    let two = ObList::of(&[Ob(5), Ob(0)]);
+    assert_eq!(rt; two.map(|two| ObSet::Listed(two).only()), Ok(None));
+    assert_eq!(rt; ObSet::All.only(), None);
+}
+
 /// Returns one object more than a list has, of which none is given twice.
 fn one_too_many() -> [Ob; TOO_MANY] {
     let mut objects = [Ob(0); TOO_MANY];
