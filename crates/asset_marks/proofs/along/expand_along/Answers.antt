@@ -1,0 +1,85 @@
+use Rattle.std.proofs.Common.{◌≡◌, ℕ, ◌<◌, true, [], Option, Some, None, refl, sym, ap, subst, ◌∙◌, inl, inr}
+use Rattle.std.proofs.lemmas.List.{append-nil}
+use Rattle.slab.specs.Slab.{get}
+use Rattle.asset_names.specs.Arrows.{lists as lists_node}
+use Rattle.asset_chains.specs.Chained.{chain_of, home_of, ahead, lists}
+use Rattle.asset_marks.specs.Searched.{arrows_along, leads_to}
+use Rattle.asset_marks.proofs.KeyWalkLemmas.{walk_starts, walk_steps, passed, left}
+use Rattle.asset_marks.proofs.KeyedLemmas.{item_leads, item_of_arrow}
+use Rattle.asset_marks.proofs.WalkLemmas.{no_more, met_more, met_here, met_listed}
+use Rattle.asset_marks.proofs.along.expand_along.Goals as goal
+use Rattle.asset_marks.proofs.along.expand_along.Goals.{in-Some-end_of, in_default-end_of}
+
+pub keys-init : goal.keys-init
+keys-init g c =
+    let start = walk_starts c.args.way.now.along.now c.args.node c.laws.ensures.sound c.first-next.result c.first-next.ensures in
+    record { size = refl; on = start.0; more = record { more = []; kept = sym (append-nil c.args.marks.now.nodes); is_linked = λ t there. no_more t there }; passed = λ k t there leads. absurd (start.1 k there) }
+
+pub keys-smaller : goal.keys-smaller
+keys-smaller g c =
+    let along = c.args.way.now.along.now in
+    let home = c.keys.invariant.on c.in-Some.key c.in-Some.is in
+    let stepped = walk_steps along c.args.node c.in-Some.key c.laws.ensures.sound home c.next-next.result (c.next-next.ensures.next c.args.node home) in
+    subst (λ (o : Option ℕ). left c.next-next.result (chain_of along c.args.node) < left o (chain_of along c.args.node)) (sym c.in-Some.is) stepped.2
+
+pub keys-preserved : goal.keys-preserved
+keys-preserved g c =
+    let way = c.args.way.now in
+    let test = g.P.Pick.passes c.args.pick.now in
+    let arrows = arrows_along test way.items.now way.along.now way.ends.now in
+    let key = c.in-Some.key in
+    let nodes = c.keys.marks.nodes in
+    let home = c.keys.invariant.on key c.in-Some.is in
+    let stepped = walk_steps way.along.now c.args.node key c.laws.ensures.sound home c.next-next.result (c.next-next.ensures.next c.args.node home) in
+    let before = λ (k t : ℕ) (there : lists (ahead key (chain_of way.along.now c.args.node)) k ≡ true). c.keys.invariant.passed k t (ap (λ (o : Option ℕ). lists (passed o (chain_of way.along.now c.args.node)) k) c.in-Some.is ∙ there) in
+    elim c.match-end_of.branch [
+      | in-Some-end_of w ↦
+          let leads : leads_to test (get way.items.now key) (home_of way.ends.now key) ≡ Some w.in-Some-end_of.end = sym c.end_of.ensures ∙ w.in-Some-end_of.is in
+          let arrow = item_leads test way.items.now way.along.now way.ends.now key c.args.node w.in-Some-end_of.end home leads in
+          rw w.marks-is (record {
+            size = w.meet.ensures.size ∙ c.keys.invariant.size;
+            on = stepped.0;
+            more = met_more arrows c.args.node c.args.marks.now.nodes nodes w.meet.new.self.nodes w.in-Some-end_of.end c.keys.invariant.more arrow w.meet.ensures.nodes;
+            passed = λ k t there goes. elim (stepped.1 k there) [
+              | inl here ↦
+                  let same : Some t ≡ Some w.in-Some-end_of.end = sym goes ∙ ap (λ n. leads_to test (get way.items.now n) (home_of way.ends.now n)) here ∙ leads in
+                  let is : t ≡ w.in-Some-end_of.end = cc same in
+                  ap (lists_node w.meet.new.self.nodes) is ∙ met_here nodes w.meet.new.self.nodes w.in-Some-end_of.end w.meet.ensures.nodes
+              | inr old ↦ met_listed nodes w.meet.new.self.nodes w.in-Some-end_of.end t w.meet.ensures.nodes (before k t old goes)
+            ];
+          })
+      | in_default-end_of w ↦ rw w.marks-is (record {
+        size = c.keys.invariant.size;
+        on = stepped.0;
+        more = c.keys.invariant.more;
+        passed = λ k t there goes. elim (stepped.1 k there) [
+          | inl here ↦
+              let none : Some t ≡ None = sym goes ∙ ap (λ n. leads_to test (get way.items.now n) (home_of way.ends.now n)) here ∙ sym c.end_of.ensures ∙ w.in_default-end_of.is in
+              cc none
+          | inr old ↦ before k t old goes
+        ];
+      })
+    ]
+
+pub returns-clause-expanded : goal.returns-clause-expanded
+returns-clause-expanded g c =
+    let way = c.args.way.now in
+    let test = g.P.Pick.passes c.args.pick.now in
+    let chain = chain_of way.along.now c.args.node in
+    let more = c.keys.invariant.more in
+    record {
+      more = more.more;
+      kept = more.kept;
+      is_linked = more.is_linked;
+      all = λ t arrow.
+          let found = item_of_arrow test way.items.now way.along.now way.ends.now c.args.node t arrow in
+          c.keys.invariant.passed found.0 t (ap (λ (o : Option ℕ). lists (passed o chain) found.0) c.in_default.is ∙ c.laws.ensures.sound.listed c.args.node found.0 found.1) found.2;
+    }
+
+pub meet-requires : goal.meet-requires
+meet-requires g c =
+    let way = c.args.way.now in
+    let test = g.P.Pick.passes c.args.pick.now in
+    let home = c.keys.invariant.on c.in-Some.key c.in-Some.is in
+    let arrow = item_leads test way.items.now way.along.now way.ends.now c.in-Some.key c.args.node c.in-Some-end_of.end home (sym c.end_of.ensures ∙ c.in-Some-end_of.is) in
+    subst (λ n. c.in-Some-end_of.end < n) (sym c.keys.invariant.size) (c.requires c.args.node c.in-Some-end_of.end arrow)

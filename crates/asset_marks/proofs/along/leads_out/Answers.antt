@@ -1,0 +1,76 @@
+use Rattle.std.proofs.Common.{◌≡◌, ◌<◌, ℕ, true, Option, Some, None, sym, ap, subst, ◌∙◌, inl, inr}
+use Rattle.slab.specs.Slab.{get}
+use Rattle.asset_names.specs.Arrows.{lists as lists_node}
+use Rattle.asset_chains.specs.Chained.{chain_of, home_of, ahead, lists}
+use Rattle.asset_marks.specs.Searched.{leads_to}
+use Rattle.asset_marks.proofs.KeyWalkLemmas.{walk_starts, walk_steps, passed, left}
+use Rattle.asset_marks.proofs.KeyedLemmas.{item_leads, item_of_arrow}
+use Rattle.asset_marks.proofs.along.leads_out.Goals as goal
+use Rattle.asset_marks.proofs.along.leads_out.Goals.{in-Some-end_of+else-not-has, in_default-end_of}
+
+pub keys-init : goal.keys-init
+keys-init g c =
+    let start = walk_starts c.args.way.now.along.now c.args.node c.laws.ensures.sound c.first-next.result c.first-next.ensures in
+    record { on = start.0; passed = λ k t there leads. absurd (start.1 k there) }
+
+pub has-requires : goal.has-requires
+has-requires g c =
+    let way = c.args.way.now in
+    let test = g.P.Pick.passes c.args.pick.now in
+    let home = c.keys.invariant.on c.in-Some.key c.in-Some.is in
+    c.requires c.args.node c.in-Some-end_of.end (item_leads test way.items.now way.along.now way.ends.now c.in-Some.key c.args.node c.in-Some-end_of.end home (sym c.end_of.ensures ∙ c.in-Some-end_of.is))
+
+pub returns-then-not-has-clause-leads : goal.returns-then-not-has-clause-leads
+returns-then-not-has-clause-leads g c = λ here.
+    let way = c.args.way.now in
+    let test = g.P.Pick.passes c.args.pick.now in
+    let home = c.keys.invariant.on c.in-Some.key c.in-Some.is in (
+      c.in-Some-end_of.end,
+      item_leads test way.items.now way.along.now way.ends.now c.in-Some.key c.args.node c.in-Some-end_of.end home (sym c.end_of.ensures ∙ c.in-Some-end_of.is),
+      sym c.has.ensures ∙ c.if-not-has.true,
+    )
+
+pub keys-smaller : goal.keys-smaller
+keys-smaller g c =
+    let along = c.args.way.now.along.now in
+    let home = c.keys.invariant.on c.in-Some.key c.in-Some.is in
+    let stepped = walk_steps along c.args.node c.in-Some.key c.laws.ensures.sound home c.next-next.result (c.next-next.ensures.next c.args.node home) in
+    subst (λ (o : Option ℕ). left c.next-next.result (chain_of along c.args.node) < left o (chain_of along c.args.node)) (sym c.in-Some.is) stepped.2
+
+pub keys-preserved : goal.keys-preserved
+keys-preserved g c =
+    let way = c.args.way.now in
+    let test = g.P.Pick.passes c.args.pick.now in
+    let key = c.in-Some.key in
+    let home = c.keys.invariant.on key c.in-Some.is in
+    let stepped = walk_steps way.along.now c.args.node key c.laws.ensures.sound home c.next-next.result (c.next-next.ensures.next c.args.node home) in
+    let before = λ (k t : ℕ) (there : lists (ahead key (chain_of way.along.now c.args.node)) k ≡ true). c.keys.invariant.passed k t (ap (λ (o : Option ℕ). lists (passed o (chain_of way.along.now c.args.node)) k) c.in-Some.is ∙ there) in
+    elim c.match-end_of.branch [
+      | in-Some-end_of+else-not-has w ↦ record {
+        on = stepped.0;
+        passed = λ k t there goes. elim (stepped.1 k there) [
+          | inl here ↦
+              let same : Some t ≡ Some w.in-Some-end_of.end = sym goes ∙ ap (λ n. leads_to test (get way.items.now n) (home_of way.ends.now n)) here ∙ sym c.end_of.ensures ∙ w.in-Some-end_of.is in
+              let is : t ≡ w.in-Some-end_of.end = cc same in
+              ap (lists_node c.args.marks.now.nodes) is ∙ sym w.has.ensures ∙ w.if-not-has.false
+          | inr old ↦ before k t old goes
+        ];
+      }
+      | in_default-end_of w ↦ record {
+        on = stepped.0;
+        passed = λ k t there goes. elim (stepped.1 k there) [
+          | inl here ↦
+              let none : Some t ≡ None = sym goes ∙ ap (λ n. leads_to test (get way.items.now n) (home_of way.ends.now n)) here ∙ sym c.end_of.ensures ∙ w.in_default-end_of.is in
+              cc none
+          | inr old ↦ before k t old goes
+        ];
+      }
+    ]
+
+pub returns-clause-met : goal.returns-clause-met
+returns-clause-met g c = λ here t arrow.
+    let way = c.args.way.now in
+    let test = g.P.Pick.passes c.args.pick.now in
+    let chain = chain_of way.along.now c.args.node in
+    let found = item_of_arrow test way.items.now way.along.now way.ends.now c.args.node t arrow in
+    c.keys.invariant.passed found.0 t (ap (λ (o : Option ℕ). lists (passed o chain) found.0) c.in_default.is ∙ c.laws.ensures.sound.listed c.args.node found.0 found.1) found.2

@@ -1,0 +1,85 @@
+//! Arrows of items in a slab, each of which is in two chains: it leads from its home in the one partition to its home in
+//! the other.
+
+ghost use Rattle.std.specs.Prelude.{◌≡◌, ℕ, ◌<◌, true, false, Some};
+ghost use Rattle.slab.specs.Slab.{get};
+ghost use Rattle.asset_names.specs.Arrows.{lists, has_arrow};
+ghost use Rattle.asset_chains.specs.Chained.{home_of};
+ghost use Rattle.asset_marks.specs.Searched.{arrows_along, leads_to, AreWithin, Expands};
+
+use crate::marks::Marks;
+use asset_chains::Chains;
+use slab::Slab;
+
+/// A test of items: along those that pass it a search goes.
+pub trait Pick<T> {
+    ghost use Rattle.std.specs.Prelude.{◌≡◌, Bool};
+
+    ghost passes: { Self → T → Bool };
+
+    /// Returns whether the item passes.
+    fn passes(&self, item: &T) -> bool
+        ensures { result ≡ passes self.now item.now };
+}
+
+/// Items, the chains along which a search goes, and those of their other ends.
+#[derive(Clone, Copy)]
+pub struct Way<'a, T> {
+    /// The items.
+    pub items: &'a Slab<T>,
+    /// The chains along which the search goes.
+    pub along: &'a Chains,
+    /// The chains of the other ends.
+    pub ends: &'a Chains,
+}
+
+/// Returns the node to which the item at the key leads, if it is there and passes.
+fn end_of<T, P: Pick<T>>(way: &Way<T>, pick: &P, key: usize) -> Option<usize>
+    ensures { result ≡ leads_to (P.passes pick.now) (get way.now.items.now key) (home_of way.now.ends.now key) }
+{
+    match way.items.get(key) {
+        Some(item) => {
+            if pick.passes(item) {
+                way.ends.home(key)
+            } else {
+                None
+            }
+        }
+        None => None,
+    }
+}
+
+/// Meets the nodes to which the items in the chain of the node lead that pass.
+pub fn expand_along<T, P: Pick<T>>(way: &Way<T>, pick: &P, node: usize, marks: &mut Marks)
+    requires { AreWithin (arrows_along (P.passes pick.now) way.now.items.now way.now.along.now way.now.ends.now) marks.old.size }
+    ensures size { marks.new.size ≡ marks.old.size }
+    ensures expanded { Expands (arrows_along (P.passes pick.now) way.now.items.now way.now.along.now way.now.ends.now) node marks.old.nodes marks.new.nodes }
+{
+    way.along.laws();
+    let mut next = way.along.first(node);
+    'keys: while let Some(key) = next {
+        if let Some(end) = end_of(way, pick, key) {
+            marks.meet(end);
+        }
+        next = way.along.next(key);
+    }
+}
+
+/// Returns whether an item in the chain of the node that passes leads to a node that is not met.
+pub fn leads_out<T, P: Pick<T>>(way: &Way<T>, pick: &P, node: usize, marks: &Marks) -> bool
+    requires { AreWithin (arrows_along (P.passes pick.now) way.now.items.now way.now.along.now way.now.ends.now) marks.now.size }
+    ensures leads { result ≡ true → (t : ℕ) × (has_arrow (arrows_along (P.passes pick.now) way.now.items.now way.now.along.now way.now.ends.now) node t ≡ true) × (lists marks.now.nodes t ≡ false) }
+    ensures met { result ≡ false → (t : ℕ) → has_arrow (arrows_along (P.passes pick.now) way.now.items.now way.now.along.now way.now.ends.now) node t ≡ true → lists marks.now.nodes t ≡ true }
+{
+    way.along.laws();
+    let mut next = way.along.first(node);
+    'keys: while let Some(key) = next {
+        if let Some(end) = end_of(way, pick, key) {
+            if !marks.has(end) {
+                return true;
+            }
+        }
+        next = way.along.next(key);
+    }
+    false
+}
