@@ -1,30 +1,10 @@
 -- Laws of who allows whom, for the tables above.
-use Rattle.std.proofs.Common.{◌≡◌, ℕ, Bool, true, false, cond, eqb, ◌&&◌, ◌||◌, List, [], ◌∷◌, map, filter, refl, sym, ap, subst, ◌∙◌, inl, inr}
-use Rattle.std.proofs.lemmas.Bool.{or_cases, or_left, or_right, and_from, and_parts, eqb-true, eq-eqb}
+use Rattle.std.proofs.Common.{◌≡◌, ℕ, Bool, true, false, cond, eqb, ◌&&◌, ◌||◌, List, [], ◌∷◌, map, filter, refl, sym, ap, ◌∙◌}
 use Rattle.asset_names.specs.declared.operations.Op.{Op}
 use Rattle.asset_names.specs.Arrows.{Arrow, linked, Chain, has_arrow}
-use Rattle.asset_names.proofs.PermitLemmas.{linked_has, linked_same}
-use Rattle.asset_names.proofs.Arrows.{linked_refl, linked_trans, chain_from_linked, linked_from_chain}
+use Rattle.asset_names.proofs.PermitLemmas.{linked_same}
+use Rattle.asset_names.proofs.Arrows.{linked_refl, chain_from_linked, linked_from_chain}
 use Rattle.asset_permits.specs.Descriptors.{Descriptor, covers, lets, one_covers, arrows_for, allows_by}
-
--- a way, and an arrow behind it
-pub linked_step : (arrows : List Arrow) (a u t : ℕ) → linked arrows a u ≡ true → has_arrow arrows u t ≡ true → linked arrows a t ≡ true
-linked_step arrows a u t way arrow = linked_trans arrows a u t way (linked_has arrows u t arrow)
-
--- what each arrow keeps is kept along the arrows
-pub closed_linked : (test : ℕ → Bool) (arrows : List Arrow) → ((u t : ℕ) → has_arrow arrows u t ≡ true → test u ≡ true → test t ≡ true)
-    → (a b : ℕ) → linked arrows a b ≡ true → test a ≡ true → test b ≡ true
-unfolding has_arrow linked
-closed_linked test [] closed a b h at = subst (λ n. test n ≡ true) (eqb-true a b h) at
-closed_linked test (arrow ∷ arrows) closed a b h at =
-    let rest = λ (u t : ℕ) (there : has_arrow arrows u t ≡ true). closed u t (or_right (eqb arrow.0 u && eqb arrow.1 t) _ there) in
-    elim (or_cases (linked arrows a b) _ h) [
-      | inl p ↦ closed_linked test arrows rest a b p at
-      | inr q ↦
-          let parts = and_parts (linked arrows a arrow.0) (linked arrows arrow.1 b) q in
-          let from = closed_linked test arrows rest a arrow.0 parts.0 at in
-          closed_linked test arrows rest arrow.1 b parts.1 (closed arrow.0 arrow.1 (or_left _ _ (and_from (eqb arrow.0 arrow.0) (eqb arrow.1 arrow.1) (eq-eqb arrow.0 arrow.0 refl) (eq-eqb arrow.1 arrow.1 refl))) from)
-    ]
 
 -- both with what is true, and with what is false
 and_true : (p : Bool) → (p && true) ≡ p

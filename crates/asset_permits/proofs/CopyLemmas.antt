@@ -18,7 +18,7 @@ use Rattle.asset_permits.specs.Descriptors.{Descriptor, same_descriptor, stands,
 use Rattle.asset_permits.specs.Valid.{descriptors_of}
 use Rattle.asset_permits.specs.Copies.{cut_of, copy_of, gives_on, cuts_on, cuts_in, given_by, copies, AddsCuts}
 use Rattle.asset_permits.proofs.DescriptorLemmas.{same_is, same_self}
-use Rattle.asset_permits.proofs.MarkLemmas.{same_truth}
+use Rattle.asset_marks.proofs.MarkLemmas.{same_truth}
 use Rattle.asset_permits.proofs.SlotLemmas.{key_of_standing, stands_at}
 
 -- what holds if a call succeeded, of what held there

@@ -1,11 +1,8 @@
 pub mod ArrowLaws
 pub mod DescriptorLemmas
 pub mod DropLemmas
-pub mod KeyWalkLemmas
-pub mod MarkLemmas
 pub mod SearchLemmas
 pub mod SeatLemmas
 pub mod SlotLemmas
 pub mod CopyLemmas
 pub mod TableLemmas
-pub mod WalkLemmas

@@ -1,147 +1,20 @@
 -- A search along seats: the arrows between seats, and those between the transactions that have them.
-use Rattle.std.proofs.Common.{◌≡◌, ℕ, zero, suc, ◌+◌, Bool, true, false, cond, eqb, not, ◌&&◌, ◌||◌, List, [], ◌∷◌, ◌++◌, map, filter, filter_map, get_or, Option, Some, None, is_some, refl, sym, ap, subst, ◌∙◌, arith, inl, inr}
+use Rattle.std.proofs.Common.{◌≡◌, ℕ, suc, ◌+◌, Bool, true, false, cond, eqb, not, ◌&&◌, ◌||◌, List, [], ◌∷◌, ◌++◌, map, filter, filter_map, get_or, Option, Some, None, is_some, refl, sym, ap, subst, ◌∙◌, arith}
 use Rattle.std.specs.Prelude.{unwrap_or, option_map}
-use Rattle.std.proofs.lemmas.Bool.{or_cases, or_left, or_right, and_from, and_parts, eqb-true, eq-eqb, ne_eqb, eqb-false, false≢true, true≢false, false_from_ne_true}
-use Rattle.std.proofs.lemmas.List.Folds.{list_any-append}
-use Rattle.slab.specs.Slab.{Slab, get}
+use Rattle.std.proofs.lemmas.Bool.{eqb-true, eq-eqb, ne_eqb, eqb-false, true≢false, false_from_ne_true}
+use Rattle.slab.specs.Slab.{get}
 use Rattle.asset_names.specs.declared.names.Txn.{Txn}
 use Rattle.asset_names.specs.declared.operations.Op.{Op}
 use Rattle.asset_names.specs.Arrows.{Arrow, linked, has_arrow}
-use Rattle.asset_chains.specs.Chained.{Chained, home_of}
+use Rattle.asset_chains.specs.Chained.{home_of}
 use Rattle.asset_seats.specs.Seated.{Seated, seat}
 use Rattle.asset_permits.specs.Descriptors.{Descriptor, covers, lets, one_covers, arrows_for, allows_by}
 use Rattle.asset_permits.specs.Valid.{Parts, descriptors_of, IsValid}
-use Rattle.asset_permits.specs.Searched.{arrow_between, arrows_from, seat_arrows, leads_to}
-use Rattle.asset_permits.proofs.ArrowLaws.{closed_linked, arrows_stand}
+use Rattle.asset_marks.specs.Searched.{arrow_between, arrows_from, arrows_along}
+use Rattle.asset_marks.proofs.ArrowLemmas.{closed_linked}
+use Rattle.asset_permits.proofs.ArrowLaws.{arrows_stand}
 use Rattle.asset_permits.proofs.SeatLemmas.{some_of, home_along, home_at_end}
 use Rattle.asset_permits.proofs.SlotLemmas.{key_of_any, lets_owned, lets_to}
-
--- ---- an arrow for each permit that covers
-arrow-append : (xs ys : List Arrow) (u t : ℕ) → has_arrow (xs ++ ys) u t ≡ (has_arrow xs u t || has_arrow ys u t)
-unfolding has_arrow
-arrow-append xs ys u t = list_any-append (λ (a : Arrow). eqb a.0 u && eqb a.1 t) xs ys
-
-nothing_leads : (u t : ℕ) → has_arrow [] u t ≡ false
-unfolding has_arrow
-nothing_leads u t = refl
-
-between_leads : (u t : ℕ) → has_arrow (arrow_between (Some u) (Some t)) u t ≡ true
-unfolding has_arrow
-between_leads u t = or_left _ false (and_from (eqb u u) (eqb t t) (eq-eqb u u refl) (eq-eqb t t refl))
-
-between_is : (o p : Option ℕ) (u t : ℕ) → has_arrow (arrow_between o p) u t ≡ true → (o ≡ Some u) × (p ≡ Some t)
-unfolding has_arrow
-between_is (Some v) (Some w) u t h = elim (or_cases (eqb v u && eqb w t) false h) [
-  | inl here ↦ let names = and_parts (eqb v u) (eqb w t) here in (ap Some (eqb-true v u names.0), ap Some (eqb-true w t names.1))
-  | inr wrong ↦ absurd (false≢true wrong)
-]
-between_is (Some v) None u t h = absurd (false≢true h)
-between_is None p u t h = absurd (false≢true h)
-
-module _ (along ends : Chained) (x : ℕ) (op : Op) where
-  slot_leads : (slots : List (Option Descriptor)) (k i j : ℕ) (d : Descriptor) (u t : ℕ) → j ≡ k + i → get_or slots i None ≡ Some d → covers x op d ≡ true → home_of along j ≡ Some u → home_of ends j ≡ Some t
-      → has_arrow (arrows_from along ends x op k slots) u t ≡ true
-  slot_leads [] k i j d u t at there covered home end = cc there
-  slot_leads (None ∷ slots) k zero j d u t at there covered home end = cc there
-  slot_leads (None ∷ slots) k (suc i) j d u t at there covered home end = slot_leads slots (k + 1) i j d u t (omega (arith, at)) there covered home end
-  slot_leads (Some e ∷ slots) k zero j d u t at there covered home end =
-      let same : e ≡ d = cc there in
-      let here : k ≡ j = omega (arith, at) in
-      let arrow : cond (covers x op e) (arrow_between (home_of along k) (home_of ends k)) [] ≡ arrow_between (Some u) (Some t) =
-      ap (λ (b : Bool). cond b (arrow_between (home_of along k) (home_of ends k)) []) (ap (covers x op) same ∙ covered) ∙ (λ m. arrow_between ((ap (home_of along) here ∙ home) m) ((ap (home_of ends) here ∙ end) m))
-      in
-      arrow-append (cond (covers x op e) (arrow_between (home_of along k) (home_of ends k)) []) _ u t ∙ or_left _ _ (ap (λ (l : List Arrow). has_arrow l u t) arrow ∙ between_leads u t)
-  slot_leads (Some e ∷ slots) k (suc i) j d u t at there covered home end =
-      arrow-append (cond (covers x op e) (arrow_between (home_of along k) (home_of ends k)) []) _ u t ∙ or_right _ _ (slot_leads slots (k + 1) i j d u t (omega (arith, at)) there covered home end)
-
-  permit_of : (slots : List (Option Descriptor)) (k u t : ℕ) → has_arrow (arrows_from along ends x op k slots) u t ≡ true
-      → (i : ℕ) × (d : Descriptor) × (get_or slots i None ≡ Some d) × (covers x op d ≡ true) × (home_of along (k + i) ≡ Some u) × (home_of ends (k + i) ≡ Some t)
-  permit_of [] k u t h = absurd (false≢true (sym (nothing_leads u t) ∙ h))
-  permit_of (None ∷ slots) k u t h =
-      let found = permit_of slots (k + 1) u t h in
-      let same : k + 1 + found.0 ≡ k + suc found.0 = omega arith in
-      (suc found.0, found.1, found.2, found.3, ap (home_of along) (sym same) ∙ found.4, ap (home_of ends) (sym same) ∙ found.5)
-  permit_of (Some e ∷ slots) k u t h =
-      elim (or_cases (has_arrow (cond (covers x op e) (arrow_between (home_of along k) (home_of ends k)) []) u t) _ (sym (arrow-append (cond (covers x op e) (arrow_between (home_of along k) (home_of ends k)) []) _ u t) ∙ h)) [
-        | inl here ↦ at (covers x op e) refl here
-        | inr later ↦
-            let found = permit_of slots (k + 1) u t later in
-            let same : k + 1 + found.0 ≡ k + suc found.0 = omega arith in
-            (suc found.0, found.1, found.2, found.3, ap (home_of along) (sym same) ∙ found.4, ap (home_of ends) (sym same) ∙ found.5)
-      ] where
-        at : (b : Bool) → covers x op e ≡ b → has_arrow (cond b (arrow_between (home_of along k) (home_of ends k)) []) u t ≡ true
-            → (i : ℕ) × (d : Descriptor) × (get_or (Some e ∷ slots) i None ≡ Some d) × (covers x op d ≡ true) × (home_of along (k + i) ≡ Some u) × (home_of ends (k + i) ≡ Some t)
-        at true covered leads =
-            let homes = between_is (home_of along k) (home_of ends k) u t leads in
-            let same : k ≡ k + 0 = omega arith in
-            (0, e, refl, covered, ap (home_of along) (sym same) ∙ homes.0, ap (home_of ends) (sym same) ∙ homes.1)
-        at false covered leads = absurd (false≢true (sym (nothing_leads u t) ∙ leads))
-
--- a permit that covers has an arrow
-pub permit_leads : (permits : Slab Descriptor) (along ends : Chained) (x : ℕ) (op : Op) (k u t : ℕ) → home_of along k ≡ Some u → leads_to (get permits k) (home_of ends k) x op ≡ Some t → has_arrow (seat_arrows permits along ends x op) u t ≡ true
-unfolding seat_arrows
-permit_leads permits along ends x op k u t home leads = go (get permits k) refl leads where
-  go : (o : Option Descriptor) → get permits k ≡ o → leads_to o (home_of ends k) x op ≡ Some t → has_arrow (arrows_from along ends x op 0 permits.slots) u t ≡ true
-  go None there e = cc e
-  go (Some d) there e = at (covers x op d) refl e where
-    at : (b : Bool) → covers x op d ≡ b → cond b (home_of ends k) None ≡ Some t → has_arrow (arrows_from along ends x op 0 permits.slots) u t ≡ true
-    at true covered end = slot_leads along ends x op permits.slots 0 k k d u t (omega arith) there covered home end
-    at false covered end = cc end
-
--- and an arrow is that of a permit
-pub permit_of_arrow : (permits : Slab Descriptor) (along ends : Chained) (x : ℕ) (op : Op) (u t : ℕ) → has_arrow (seat_arrows permits along ends x op) u t ≡ true → (k : ℕ) × (home_of along k ≡ Some u) × (leads_to (get permits k) (home_of ends k) x op ≡ Some t)
-unfolding seat_arrows
-permit_of_arrow permits along ends x op u t h =
-    let found = permit_of along ends x op permits.slots 0 u t h in
-    let same : 0 + found.0 ≡ found.0 = omega arith in (
-      found.0,
-      ap (home_of along) (sym same) ∙ found.4,
-      ap (λ (o : Option Descriptor). leads_to o (home_of ends found.0) x op) found.2
-          ∙ ap (λ (b : Bool). cond b (home_of ends found.0) None) found.3
-          ∙ ap (home_of ends) (sym same)
-          ∙ found.5,
-    )
-
--- ---- arrows that are turned round
-abbrev turned : List Arrow → List Arrow
-turned arrows = map (λ (a : Arrow). (a.1, a.0)) arrows
-
-linked_turned : (arrows : List Arrow) (a b : ℕ) → linked (turned arrows) b a ≡ linked arrows a b
-unfolding linked
-linked_turned [] a b = flip (eqb b a) refl where
-  flip : (c : Bool) → eqb b a ≡ c → c ≡ eqb a b
-  flip true e = sym (eq-eqb a b (sym (eqb-true b a e)))
-  flip false e = sym (ne_eqb a b (λ same. eqb-false b a e (sym same)))
-linked_turned (arrow ∷ arrows) a b =
-    (λ m. linked_turned arrows a b m || linked_turned arrows arrow.1 b m && linked_turned arrows a arrow.0 m) ∙ ap (λ (c : Bool). linked arrows a b || c) (swap (linked arrows arrow.1 b) (linked arrows a arrow.0)) where
-      swap : (p q : Bool) → (p && q) ≡ (q && p)
-      swap true true = refl
-      swap true false = refl
-      swap false true = refl
-      swap false false = refl
-
-turned_append : (xs ys : List Arrow) → turned (xs ++ ys) ≡ turned xs ++ turned ys
-turned_append [] ys = refl
-turned_append (arrow ∷ xs) ys = ap (λ (l : List Arrow). (arrow.1, arrow.0) ∷ l) (turned_append xs ys)
-
-arrows_turned : (along ends : Chained) (x : ℕ) (op : Op) (k : ℕ) (slots : List (Option Descriptor)) → arrows_from ends along x op k slots ≡ turned (arrows_from along ends x op k slots)
-arrows_turned along ends x op k [] = refl
-arrows_turned along ends x op k (None ∷ slots) = arrows_turned along ends x op (k + 1) slots
-arrows_turned along ends x op k (Some d ∷ slots) =
-    (λ m. one (covers x op d) (home_of along k) (home_of ends k) m ++ arrows_turned along ends x op (k + 1) slots m)
-    ∙ sym (turned_append (cond (covers x op d) (arrow_between (home_of along k) (home_of ends k)) []) (arrows_from along ends x op (k + 1) slots)) where
-      one : (b : Bool) (o p : Option ℕ) → cond b (arrow_between p o) [] ≡ turned (cond b (arrow_between o p) [])
-      one true (Some u) (Some t) = refl
-      one true (Some u) None = refl
-      one true None (Some t) = refl
-      one true None None = refl
-      one false o p = refl
-
--- the search backwards finds what the search forwards finds
-pub linked_backwards : (permits : Slab Descriptor) (along ends : Chained) (x : ℕ) (op : Op) (from to : ℕ) → linked (seat_arrows permits ends along x op) to from ≡ linked (seat_arrows permits along ends x op) from to
-unfolding seat_arrows
-linked_backwards permits along ends x op from to =
-    ap (λ (arrows : List Arrow). linked arrows to from) (arrows_turned along ends x op 0 permits.slots) ∙ linked_turned (arrows_from along ends x op 0 permits.slots) from to
 
 -- ---- from seats to transactions
 -- who has a seat; 0 stands for nobody
@@ -212,13 +85,13 @@ module _ (p : Parts) (size : ℕ) (valid : IsValid p size) (x : ℕ) (op : Op) w
   -- the arrows of the permits in the slots have the names of the seats
   abbrev AreNamed : List (Option Descriptor) → ℕ → Type 0
   AreNamed slots k =
-      (map (λ (d : Descriptor). (d.giver, d.taker)) (filter (covers x op) (filter_map (λ (slot : Option Descriptor). slot) slots)) ≡ named p.seats (arrows_from p.along p.ends x op k slots))
-      × AreTaken p.seats (arrows_from p.along p.ends x op k slots)
+      (map (λ (d : Descriptor). (d.giver, d.taker)) (filter (covers x op) (filter_map (λ (slot : Option Descriptor). slot) slots)) ≡ named p.seats (arrows_from (covers x op) p.along p.ends k slots))
+      × AreTaken p.seats (arrows_from (covers x op) p.along p.ends k slots)
 
   slot_named : (e : Descriptor) (slots : List (Option Descriptor)) (k : ℕ) → HasEnds p k e → AreNamed slots (k + 1) → AreNamed (Some e ∷ slots) k
   slot_named e slots k here rest = (
-    one (covers x op e) ∙ sym (named_append p.seats (cond (covers x op e) (arrow_between (home_of p.along k) (home_of p.ends k)) []) (arrows_from p.along p.ends x op (k + 1) slots)),
-    taken_append p.seats (cond (covers x op e) (arrow_between (home_of p.along k) (home_of p.ends k)) []) (arrows_from p.along p.ends x op (k + 1) slots) (first (covers x op e)) rest.1,
+    one (covers x op e) ∙ sym (named_append p.seats (cond (covers x op e) (arrow_between (home_of p.along k) (home_of p.ends k)) []) (arrows_from (covers x op) p.along p.ends (k + 1) slots)),
+    taken_append p.seats (cond (covers x op e) (arrow_between (home_of p.along k) (home_of p.ends k)) []) (arrows_from (covers x op) p.along p.ends (k + 1) slots) (first (covers x op e)) rest.1,
   ) where
     arrow : arrow_between (home_of p.along k) (home_of p.ends k) ≡ (here.from, here.to) ∷ []
     arrow = λ m. arrow_between (here.home m) (here.end m)
@@ -228,26 +101,26 @@ module _ (p : Parts) (size : ℕ) (valid : IsValid p size) (x : ℕ) (op : Op) w
     first false = tt
 
     one : (b : Bool) → map (λ (d : Descriptor). (d.giver, d.taker)) (cond b (e ∷ filter (covers x op) (filter_map (λ (slot : Option Descriptor). slot) slots)) (filter (covers x op) (filter_map (λ (slot : Option Descriptor). slot) slots)))
-        ≡ named p.seats (cond b (arrow_between (home_of p.along k) (home_of p.ends k)) []) ++ named p.seats (arrows_from p.along p.ends x op (k + 1) slots)
+        ≡ named p.seats (cond b (arrow_between (home_of p.along k) (home_of p.ends k)) []) ++ named p.seats (arrows_from (covers x op) p.along p.ends (k + 1) slots)
     one true =
         (λ m. (sym (name_is p.seats here.from (record { 0 = e.giver }) here.giver) m, sym (name_is p.seats here.to (record { 0 = e.taker }) here.taker) m) ∷ rest.0 m)
-        ∙ ap (λ (l : List Arrow). named p.seats l ++ named p.seats (arrows_from p.along p.ends x op (k + 1) slots)) (sym arrow)
+        ∙ ap (λ (l : List Arrow). named p.seats l ++ named p.seats (arrows_from (covers x op) p.along p.ends (k + 1) slots)) (sym arrow)
     one false = rest.0
 
   slots_named : (slots : List (Option Descriptor)) (k : ℕ) → ((i : ℕ) (d : Descriptor) → get_or slots i None ≡ Some d → HasEnds p (k + i) d)
-      → (map (λ (d : Descriptor). (d.giver, d.taker)) (filter (covers x op) (filter_map (λ (slot : Option Descriptor). slot) slots)) ≡ named p.seats (arrows_from p.along p.ends x op k slots))
-      × AreTaken p.seats (arrows_from p.along p.ends x op k slots)
+      → (map (λ (d : Descriptor). (d.giver, d.taker)) (filter (covers x op) (filter_map (λ (slot : Option Descriptor). slot) slots)) ≡ named p.seats (arrows_from (covers x op) p.along p.ends k slots))
+      × AreTaken p.seats (arrows_from (covers x op) p.along p.ends k slots)
   slots_named [] k have = (refl, tt)
   slots_named (None ∷ slots) k have = slots_named slots (k + 1) (λ i d there. subst (λ n. HasEnds p n d) (omega arith) (have (suc i) d there))
   slots_named (Some e ∷ slots) k have = slot_named e slots k (have_first k e (have 0 e refl)) (slots_named slots (k + 1) (λ i d there. subst (λ n. HasEnds p n d) (omega arith) (have (suc i) d there)))
 
   -- a search along seats says who allows whom
   pub linked_allows : ((t : Txn) (c d : ℕ) → seat p.seats c ≡ Some t → seat p.seats d ≡ Some t → d ≡ c) → (giver taker : Txn) (from to : ℕ) → seat p.seats from ≡ Some giver → seat p.seats to ≡ Some taker
-      → linked (seat_arrows p.permits p.along p.ends x op) from to ≡ allows_by (descriptors_of p.permits) giver.0 taker.0 x op
-  unfolding seat_arrows allows_by arrows_for descriptors_of
+      → linked (arrows_along (covers x op) p.permits p.along p.ends) from to ≡ allows_by (descriptors_of p.permits) giver.0 taker.0 x op
+  unfolding arrows_along allows_by arrows_for descriptors_of
   linked_allows single giver taker from to sat other =
       let both = slots_named p.permits.slots 0 (λ i d there. subst (λ n. HasEnds p n d) (omega arith) (has_ends p size valid i d there)) in
-      sym (linked_named p.seats single (arrows_from p.along p.ends x op 0 p.permits.slots) both.1 from to (ap is_some sat) (ap is_some other))
+      sym (linked_named p.seats single (arrows_from (covers x op) p.along p.ends 0 p.permits.slots) both.1 from to (ap is_some sat) (ap is_some other))
       ∙ (λ m. linked (sym both.0 m) (name_is p.seats from giver sat m) (name_is p.seats to taker other m))
 
   ends_of_arrow : (u t : ℕ) → has_arrow (arrows_for (descriptors_of p.permits) x op) u t ≡ true

@@ -1,41 +1,26 @@
 -- The permits that stand, by the slots that have them.
-use Rattle.std.proofs.Common.{◌≡◌, ℕ, zero, suc, Bool, true, false, eqb, not, ◌&&◌, ◌||◌, List, [], ◌∷◌, get_or, filter_map, Option, Some, None, refl, sym, ap, ◌∙◌, arith, inl, inr}
+use Rattle.std.proofs.Common.{◌≡◌, ℕ, suc, Bool, true, false, eqb, not, ◌&&◌, ◌||◌, List, [], ◌∷◌, get_or, filter_map, Option, Some, None, refl, ap, ◌∙◌, arith, inl, inr}
 use Rattle.std.specs.List.{list_any}
-use Rattle.std.proofs.lemmas.Bool.{or_cases, or_left, or_right, and_from, and_parts, eqb-true, false≢true, true≢false, false_from_ne_true, cases_eq}
+use Rattle.std.proofs.lemmas.Bool.{or_cases, or_left, or_right, and_parts, eqb-true, false≢true, false_from_ne_true}
 use Rattle.slab.specs.Slab.{Slab, get, Updates}
 use Rattle.asset_names.specs.declared.operations.Op.{Op}
 use Rattle.asset_permits.specs.Descriptors.{Descriptor, same_descriptor, stands, lets, one_covers, AreDifferent}
 use Rattle.asset_permits.specs.Valid.{descriptors_of}
 use Rattle.asset_permits.proofs.DescriptorLemmas.{same_is, same_self}
-use Rattle.asset_permits.proofs.MarkLemmas.{same_truth}
+use Rattle.asset_marks.proofs.SlotLemmas.{IsRid, any_has as item_passes, key_of_any as key_of_item, slot_of_any as slot_of_item, any_added as item_added, any_dropped as item_dropped}
 
 -- the permits in some slots
 abbrev in_slots : List (Option Descriptor) → List Descriptor
 in_slots slots = filter_map (λ (slot : Option Descriptor). slot) slots
 
-any_in_slots : (test : Descriptor → Bool) (slots : List (Option Descriptor)) (i : ℕ) (d : Descriptor) → get_or slots i None ≡ Some d → test d ≡ true → list_any test (in_slots slots) ≡ true
-any_in_slots test [] i d there passes = cc there
-any_in_slots test (None ∷ slots) zero d there passes = cc there
-any_in_slots test (None ∷ slots) (suc i) d there passes = any_in_slots test slots i d there passes
-any_in_slots test (Some e ∷ slots) zero d there passes = let same : e ≡ d = cc there in or_left (test e) _ (ap test same ∙ passes)
-any_in_slots test (Some e ∷ slots) (suc i) d there passes = or_right (test e) _ (any_in_slots test slots i d there passes)
-
-slot_of_any : (test : Descriptor → Bool) (slots : List (Option Descriptor)) → list_any test (in_slots slots) ≡ true → (i : ℕ) × (d : Descriptor) × (get_or slots i None ≡ Some d) × (test d ≡ true)
-slot_of_any test [] h = absurd (false≢true h)
-slot_of_any test (None ∷ slots) h = let found = slot_of_any test slots h in (suc found.0, found.1, found.2, found.3)
-slot_of_any test (Some e ∷ slots) h = elim (or_cases (test e) _ h) [
-  | inl here ↦ (0, e, refl, here)
-  | inr later ↦ let found = slot_of_any test slots later in (suc found.0, found.1, found.2, found.3)
-]
-
 -- a permit at a key stands, and one that stands is at a key
 pub any_has : (test : Descriptor → Bool) (permits : Slab Descriptor) (k : ℕ) (d : Descriptor) → get permits k ≡ Some d → test d ≡ true → list_any test (descriptors_of permits) ≡ true
 unfolding descriptors_of
-any_has test permits k d there passes = any_in_slots test permits.slots k d there passes
+any_has test permits k d there passes = item_passes test permits k d there passes
 
 pub key_of_any : (test : Descriptor → Bool) (permits : Slab Descriptor) → list_any test (descriptors_of permits) ≡ true → (k : ℕ) × (d : Descriptor) × (get permits k ≡ Some d) × (test d ≡ true)
 unfolding descriptors_of
-key_of_any test permits h = slot_of_any test permits.slots h
+key_of_any test permits h = key_of_item test permits h
 
 pub key_of_standing : (permits : Slab Descriptor) (e : Descriptor) → stands (descriptors_of permits) e ≡ true → (k : ℕ) × (get permits k ≡ Some e)
 unfolding stands
@@ -55,7 +40,7 @@ different_slots (None ∷ slots) single = different_slots slots (λ i j d here t
 different_slots (Some e ∷ slots) single = (alone, different_slots slots (λ i j d here there. omega (arith, single (suc i) (suc j) d here there))) where
   alone : list_any (λ (d : Descriptor). same_descriptor d e) (in_slots slots) ≡ false
   alone = false_from_ne_true _ (λ h.
-      let found = slot_of_any (λ (d : Descriptor). same_descriptor d e) slots h in
+      let found = slot_of_item (λ (d : Descriptor). same_descriptor d e) slots h in
       let twice : 0 ≡ suc found.0 = single 0 (suc found.0) e refl (found.2 ∙ ap Some (same_is found.1 e found.3)) in
       absurd (omega (arith, twice)))
 
@@ -66,62 +51,18 @@ are_different permits single = different_slots permits.slots single
 -- ---- one more
 pub any_added : (test : Descriptor → Bool) (permits more : Slab Descriptor) (k : ℕ) (d : Descriptor) → get permits k ≡ None → Updates permits more k (Some d)
     → list_any test (descriptors_of more) ≡ (list_any test (descriptors_of permits) || test d)
-any_added test permits more k d free put = same_truth _ _ to back where
-  to : list_any test (descriptors_of more) ≡ true → (list_any test (descriptors_of permits) || test d) ≡ true
-  to h =
-      let found = key_of_any test more h in
-      elim (cases_eq found.0 k) [
-        | inl is ↦ let same : Some found.1 ≡ Some d = sym found.2 ∙ ap (get more) is ∙ put.changed in let one : found.1 ≡ d = cc same in or_right (list_any test (descriptors_of permits)) (test d) (ap test (sym one) ∙ found.3)
-        | inr other ↦ or_left _ (test d) (any_has test permits found.0 found.1 (sym (put.others found.0 other) ∙ found.2) found.3)
-      ]
-
-  back : (list_any test (descriptors_of permits) || test d) ≡ true → list_any test (descriptors_of more) ≡ true
-  back h = elim (or_cases _ (test d) h) [
-    | inl old ↦
-        let found = key_of_any test permits old in
-        let other : found.0 ≡ k → ⊥ = λ is. cc (sym free ∙ ap (get permits) (sym is) ∙ found.2) in
-        any_has test more found.0 found.1 (put.others found.0 other ∙ found.2) found.3
-    | inr new ↦ any_has test more k d put.changed new
-  ]
+unfolding descriptors_of
+any_added test permits more k d free put = item_added test permits more k d free put
 
 -- ---- some go
--- what is left is what neither gives nor takes
-pub record IsRid (t : ℕ) (permits fewer : Slab Descriptor) : Type 0 where
-  pub still : (k : ℕ) (d : Descriptor) → get fewer k ≡ Some d → get permits k ≡ Some d
-  pub giver : (k : ℕ) (d : Descriptor) → get fewer k ≡ Some d → eqb d.giver t ≡ false
-  pub taker : (k : ℕ) (d : Descriptor) → get fewer k ≡ Some d → eqb d.taker t ≡ false
-  pub kept : (k : ℕ) (d : Descriptor) → get permits k ≡ Some d → eqb d.giver t ≡ false → eqb d.taker t ≡ false → get fewer k ≡ Some d
+-- what is left is what t neither gives nor takes
+abbrev pub IsRidOf : ℕ → Slab Descriptor → Slab Descriptor → Type 0
+IsRidOf t permits fewer = IsRid (λ (d : Descriptor). d.giver) (λ (d : Descriptor). d.taker) t permits fewer
 
-not_false : (p : Bool) → p ≡ false → not p ≡ true
-not_false true h = absurd (true≢false h)
-not_false false h = refl
-
-not_true : (p : Bool) → not p ≡ true → p ≡ false
-not_true true h = absurd (false≢true h)
-not_true false h = refl
-
-pub any_dropped : (test : Descriptor → Bool) (t u v : ℕ) (permits fewer : Slab Descriptor) → ((d : Descriptor) → test d ≡ true → d.giver ≡ u) → ((d : Descriptor) → test d ≡ true → d.taker ≡ v) → IsRid t permits fewer
+pub any_dropped : (test : Descriptor → Bool) (t u v : ℕ) (permits fewer : Slab Descriptor) → ((d : Descriptor) → test d ≡ true → d.giver ≡ u) → ((d : Descriptor) → test d ≡ true → d.taker ≡ v) → IsRidOf t permits fewer
     → list_any test (descriptors_of fewer) ≡ (list_any test (descriptors_of permits) && not (eqb u t) && not (eqb v t))
-any_dropped test t u v permits fewer owns to_taker rid = same_truth _ _ to back where
-  regroup : (a b c : Bool) → (a && (b && c)) ≡ (a && b && c)
-  regroup true b c = refl
-  regroup false b c = refl
-
-  to : list_any test (descriptors_of fewer) ≡ true → (list_any test (descriptors_of permits) && not (eqb u t) && not (eqb v t)) ≡ true
-  to h =
-      let found = key_of_any test fewer h in
-      let giver : eqb u t ≡ false = ap (λ n. eqb n t) (sym (owns found.1 found.3)) ∙ rid.giver found.0 found.1 found.2 in
-      let taker : eqb v t ≡ false = ap (λ n. eqb n t) (sym (to_taker found.1 found.3)) ∙ rid.taker found.0 found.1 found.2 in
-      sym (regroup (list_any test (descriptors_of permits)) (not (eqb u t)) (not (eqb v t))) ∙ and_from _ _ (any_has test permits found.0 found.1 (rid.still found.0 found.1 found.2) found.3) (and_from _ _ (not_false (eqb u t) giver) (not_false (eqb v t) taker))
-
-  back : (list_any test (descriptors_of permits) && not (eqb u t) && not (eqb v t)) ≡ true → list_any test (descriptors_of fewer) ≡ true
-  back h =
-      let parts = and_parts (list_any test (descriptors_of permits)) (not (eqb u t) && not (eqb v t)) (regroup (list_any test (descriptors_of permits)) (not (eqb u t)) (not (eqb v t)) ∙ h) in
-      let names = and_parts (not (eqb u t)) (not (eqb v t)) parts.1 in
-      let found = key_of_any test permits parts.0 in
-      let giver : eqb found.1.giver t ≡ false = ap (λ n. eqb n t) (owns found.1 found.3) ∙ not_true (eqb u t) names.0 in
-      let taker : eqb found.1.taker t ≡ false = ap (λ n. eqb n t) (to_taker found.1 found.3) ∙ not_true (eqb v t) names.1 in
-      any_has test fewer found.0 found.1 (rid.kept found.0 found.1 found.2 giver taker) found.3
+unfolding descriptors_of
+any_dropped test t u v permits fewer owns to_taker rid = item_dropped (λ (d : Descriptor). d.giver) (λ (d : Descriptor). d.taker) test t u v permits fewer owns to_taker rid
 
 -- ---- of whom and for whom a descriptor is that passes
 pub same_owned : (e d : Descriptor) → same_descriptor d e ≡ true → d.giver ≡ e.giver

@@ -13,8 +13,8 @@ use Rattle.asset_permits.specs.Valid.{Parts, parts, descriptors_of, is_used, IsS
 use Rattle.asset_permits.specs.Changes.{IsGrown, BothSit, Shrinks}
 use Rattle.asset_permits.proofs.SeatLemmas.{used_same, used_along, used_ends, home_along, home_at_end}
 use Rattle.asset_permits.proofs.SearchLemmas.{has_ends}
-use Rattle.asset_permits.proofs.SlotLemmas.{IsRid, key_of_standing, stands_at, any_has, key_of_any}
-use Rattle.asset_permits.proofs.MarkLemmas.{same_truth}
+use Rattle.asset_permits.proofs.SlotLemmas.{IsRidOf, key_of_standing, stands_at, any_has, key_of_any}
+use Rattle.asset_marks.proofs.MarkLemmas.{same_truth}
 use Rattle.asset_permits.proofs.CopyLemmas.{any_cut}
 use Rattle.asset_permits.specs.declared.copying.Cut.{Cut}
 use Rattle.asset_permits.specs.Copies.{cut_of, cuts_on, gives_on}
@@ -205,17 +205,17 @@ module _ (permits more : Slab Descriptor) (along longer ends longer_ends : Chain
 -- ---- the permits of one transaction are gone
 pub rid_of : (old mid new : Parts) (size : ℕ) (t : Txn) (s : ℕ) → IsValid old size → seat old.seats s ≡ Some t → ((c : ℕ) → seat old.seats c ≡ Some t → c ≡ s) → Shrinks old mid → ((k : ℕ) → home_of mid.along k ≡ Some s → ⊥)
     → ((k : ℕ) → (home_of old.along k ≡ Some s → ⊥) → get mid.permits k ≡ get old.permits k) → Shrinks mid new → IsSeated new → ((k : ℕ) → home_of new.ends k ≡ Some s → ⊥)
-    → ((k : ℕ) → (home_of mid.ends k ≡ Some s → ⊥) → get new.permits k ≡ get mid.permits k) → IsRid t.0 old.permits new.permits
+    → ((k : ℕ) → (home_of mid.ends k ≡ Some s → ⊥) → get new.permits k ≡ get mid.permits k) → IsRidOf t.0 old.permits new.permits
 rid_of old mid new size t s valid sat alone first gone kept second seated gone_ends kept_ends = record {
   still = λ k d there. first.permits k d (second.permits k d there);
-  giver = λ k d there.
+  begins = λ k d there.
       let home = home_along new k d seated there in
       let old_there = first.permits k d (second.permits k d there) in
       ne_eqb d.giver t.0 (λ is.
       let at = valid.given k home.0 d old_there (first.along k home.0 (second.along k home.0 home.1)) in
       let here = alone home.0 (at ∙ (λ i. Some (record { 0 = is i }))) in
       gone k (second.along k s (home.1 ∙ ap Some here)));
-  taker = λ k d there.
+  ends = λ k d there.
       let end = home_at_end new k d seated there in
       let old_there = first.permits k d (second.permits k d there) in
       ne_eqb d.taker t.0 (λ is.
@@ -229,11 +229,11 @@ rid_of old mid new size t s valid sat alone first gone kept second seated gone_e
   named : (t : Txn) (n : ℕ) → Some (record { 0 = n }) ≡ Some t → n ≡ t.0
   named t n same = let is : record { 0 = n } ≡ t = cc same in ap (λ (u : Txn). u.0) is
 
-pub rid_of_nobody : (p : Parts) (size : ℕ) (t : Txn) → IsValid p size → ((c : ℕ) → seat p.seats c ≡ Some t → ⊥) → IsRid t.0 p.permits p.permits
+pub rid_of_nobody : (p : Parts) (size : ℕ) (t : Txn) → IsValid p size → ((c : ℕ) → seat p.seats c ≡ Some t → ⊥) → IsRidOf t.0 p.permits p.permits
 rid_of_nobody p size t valid absent = record {
   still = λ k d there. there;
-  giver = λ k d there. ne_eqb d.giver t.0 (λ is. let ends = has_ends p size valid k d there in absent ends.from (ends.giver ∙ (λ i. Some (record { 0 = is i }))));
-  taker = λ k d there. ne_eqb d.taker t.0 (λ is. let ends = has_ends p size valid k d there in absent ends.to (ends.taker ∙ (λ i. Some (record { 0 = is i }))));
+  begins = λ k d there. ne_eqb d.giver t.0 (λ is. let ends = has_ends p size valid k d there in absent ends.from (ends.giver ∙ (λ i. Some (record { 0 = is i }))));
+  ends = λ k d there. ne_eqb d.taker t.0 (λ is. let ends = has_ends p size valid k d there in absent ends.to (ends.taker ∙ (λ i. Some (record { 0 = is i }))));
   kept = λ k d there giver taker. there;
 }
 

@@ -8,7 +8,6 @@ mod copying;
 mod dropping;
 mod finding;
 mod laws;
-mod marks;
 mod permit;
 mod permit_objects;
 mod search;

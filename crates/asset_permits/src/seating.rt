@@ -5,8 +5,8 @@ ghost use Rattle.asset_seats.specs.Seated.{seat};
 ghost use Rattle.asset_permits.specs.Valid.{is_used, IsWithin};
 ghost use Rattle.asset_permits.specs.Changes.{IsGrown, Sits, BothSit};
 
-use crate::marks::Marks;
 use asset_chains::Chains;
+use asset_marks::Marks;
 use asset_names::{NoMemory, Txn};
 use asset_seats::{Seats, add_chains};
 

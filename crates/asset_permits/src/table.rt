@@ -3,11 +3,11 @@
 use crate::adding::{insert, reserve};
 use crate::dropping::drop_along;
 use crate::finding::find;
-use crate::marks::Marks;
 use crate::permit::{Permit, Sought};
-use crate::search::{Way, is_linked};
+use crate::search::{Covered, Search};
 use crate::seating::seat_both;
 use asset_chains::Chains;
+use asset_marks::{Marks, is_linked};
 use asset_names::{NoMemory, Ob, ObSet, Op, Ops, Txn};
 use asset_seats::Seats;
 use slab::Slab;
@@ -161,19 +161,21 @@ impl Permits {
         self.by_giver.laws();
         self.by_taker.laws();
         if self.by_giver.len(from) <= self.by_taker.len(to) {
-            let way = Way {
+            let search = Search {
                 permits: &self.permits,
                 along: &self.by_giver,
                 ends: &self.by_taker,
+                covered: Covered { x, op },
             };
-            is_linked(&way, from, to, &mut self.marks, x, op)
+            is_linked(&search, from, to, &mut self.marks)
         } else {
-            let way = Way {
+            let search = Search {
                 permits: &self.permits,
                 along: &self.by_taker,
                 ends: &self.by_giver,
+                covered: Covered { x, op },
             };
-            is_linked(&way, to, from, &mut self.marks, x, op)
+            is_linked(&search, to, from, &mut self.marks)
         }
     }
 

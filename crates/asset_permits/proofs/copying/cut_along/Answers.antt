@@ -1,7 +1,7 @@
 use Rattle.std.proofs.Common.{◌≡◌, ℕ, ◌<◌, Option, true, None, sym, ap, subst, ◌∙◌, inl, inr}
 use Rattle.slab.specs.Slab.{get}
 use Rattle.asset_chains.specs.Chained.{chain_of, lists}
-use Rattle.asset_permits.proofs.KeyWalkLemmas.{walk_starts, walk_steps, passed, left}
+use Rattle.asset_marks.proofs.KeyWalkLemmas.{walk_starts, walk_steps, passed, left}
 use Rattle.asset_permits.proofs.copying.cut_along.Goals as goal
 
 pub keys-init : goal.keys-init

@@ -6,7 +6,7 @@ use Rattle.asset_chains.specs.Chained.{chain_of, home_of, lists}
 use Rattle.asset_permits.specs.declared.copying.Cut.{Cut}
 use Rattle.asset_permits.specs.Descriptors.{Descriptor}
 use Rattle.asset_permits.specs.Copies.{cut_of}
-use Rattle.asset_permits.proofs.KeyWalkLemmas.{passed, left, IsOn}
+use Rattle.asset_marks.proofs.KeyWalkLemmas.{passed, left, IsOn}
 use Rattle.asset_permits.proofs.copying.cut_along.Given as goal
 
 -- what is copied is of the permits at the keys that are passed

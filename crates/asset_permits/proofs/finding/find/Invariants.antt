@@ -2,7 +2,7 @@ use Rattle.std.proofs.Common.{◌≡◌, ℕ, true, Some}
 use Rattle.slab.specs.Slab.{get}
 use Rattle.asset_chains.specs.Chained.{chain_of, lists}
 use Rattle.asset_permits.specs.Stored.{asked}
-use Rattle.asset_permits.proofs.KeyWalkLemmas.{passed, left, IsOn}
+use Rattle.asset_marks.proofs.KeyWalkLemmas.{passed, left, IsOn}
 use Rattle.asset_permits.proofs.finding.find.Given as goal
 
 -- none of the keys that are passed has the permit

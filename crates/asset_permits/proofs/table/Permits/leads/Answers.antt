@@ -1,8 +1,9 @@
 use Rattle.std.proofs.Common.{sym, subst, ◌∙◌}
-use Rattle.asset_permits.specs.Descriptors.{AreDifferent}
+use Rattle.asset_marks.proofs.KeyedLemmas.{linked_backwards, item_of_arrow, leads_by}
+use Rattle.asset_permits.specs.Descriptors.{AreDifferent, covers}
 use Rattle.asset_permits.specs.Valid.{parts}
 use Rattle.asset_permits.proofs.SlotLemmas.{are_different}
-use Rattle.asset_permits.proofs.SearchLemmas.{linked_allows, linked_backwards, gives_nothing, takes_nothing}
+use Rattle.asset_permits.proofs.SearchLemmas.{linked_allows, gives_nothing, takes_nothing}
 use Rattle.asset_permits.proofs.TableLemmas.{marked_end, marked_home}
 use Rattle.asset_permits.proofs.table.Permits.leads.Goals as goal
 
@@ -22,15 +23,19 @@ returns-in_default-seat_of-clause-leads c =
 pub returns-in_default-seat_of-clause-different : goal.returns-in_default-seat_of-clause-different
 returns-in_default-seat_of-clause-different c = subst AreDifferent c.self.view_is (are_different c.self.inside.permits c.self.invariant.single)
 
-pub is_linked-requires-clause-marked : goal.is_linked-requires-clause-marked
-is_linked-requires-clause-marked c = λ k d home.
+pub is_linked-requires-clause-within : goal.is_linked-requires-clause-within
+is_linked-requires-clause-within c = λ u t arrow.
     let inside = c.self.inside in
-    marked_end (parts inside.permits inside.by_giver inside.by_taker inside.seats) inside.marks.size c.self.invariant c.laws-3.ensures.sound k d home
+    let found = item_of_arrow (covers c.args.x.0 c.args.op) inside.permits inside.by_giver inside.by_taker u t arrow in
+    let item = leads_by (covers c.args.x.0 c.args.op) _ _ t found.2 in
+    marked_end (parts inside.permits inside.by_giver inside.by_taker inside.seats) inside.marks.size c.self.invariant c.laws-3.ensures.sound found.0 t item.3
 
-pub is_linked-requires-else-len-clause-marked : goal.is_linked-requires-else-len-clause-marked
-is_linked-requires-else-len-clause-marked c = λ k d home.
+pub is_linked-requires-else-len-clause-within : goal.is_linked-requires-else-len-clause-within
+is_linked-requires-else-len-clause-within c = λ u t arrow.
     let inside = c.self.inside in
-    marked_home (parts inside.permits inside.by_giver inside.by_taker inside.seats) inside.marks.size c.self.invariant c.laws-2.ensures.sound k d home
+    let found = item_of_arrow (covers c.args.x.0 c.args.op) inside.permits inside.by_taker inside.by_giver u t arrow in
+    let item = leads_by (covers c.args.x.0 c.args.op) _ _ t found.2 in
+    marked_home (parts inside.permits inside.by_giver inside.by_taker inside.seats) inside.marks.size c.self.invariant c.laws-2.ensures.sound found.0 t item.3
 
 pub returns-then-len-clause-leads : goal.returns-then-len-clause-leads
 returns-then-len-clause-leads c =
@@ -47,7 +52,7 @@ returns-else-len-clause-leads c =
     let inside = c.self.inside in
     rw (← c.self.view_is)
     (c.is_linked-else-len.ensures.is_linked
-    ∙ linked_backwards inside.permits inside.by_giver inside.by_taker c.args.x.0 c.args.op c.in-Some.from c.in-Some-seat_of.to
+    ∙ linked_backwards (covers c.args.x.0 c.args.op) inside.permits inside.by_giver inside.by_taker c.in-Some.from c.in-Some-seat_of.to
     ∙ linked_allows (parts inside.permits inside.by_giver inside.by_taker inside.seats) inside.marks.size c.self.invariant c.args.x.0 c.args.op c.laws.ensures.one c.args.giver c.args.taker c.in-Some.from c.in-Some-seat_of.to c.in-Some.ensures.found.0 c.in-Some-seat_of.ensures.found.0)
 
 pub returns-else-len-clause-different : goal.returns-else-len-clause-different
