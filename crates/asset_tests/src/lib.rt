@@ -15,6 +15,10 @@ mod copies;
 #[cfg(test)]
 mod delegations;
 #[cfg(test)]
+mod deps;
+#[cfg(test)]
+mod deps_beside_list;
+#[cfg(test)]
 mod examples;
 #[cfg(test)]
 mod facility;

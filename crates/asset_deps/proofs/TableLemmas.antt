@@ -1,0 +1,342 @@
+-- What a call makes of the table of dependencies.
+use Rattle.std.proofs.Common.{◌≡◌, ℕ, ◌<◌, ◌≤◌, Bool, true, false, cond, eqb, not, ◌&&◌, ◌||◌, List, [], length, filter_map, Option, Some, None, is_some, refl, sym, ap, ◌∙◌, arith, inl, inr}
+use Rattle.std.specs.Prelude.{slice_index_or, option_map}
+use Rattle.std.specs.List.{list_any}
+use Rattle.std.proofs.lemmas.Bool.{or_left, and_from, and_parts, eqb-true, eqb-false, eq-eqb, ne_eqb, true≢false, false≢true, cases_eq}
+use Rattle.slab.specs.Slab.{Slab, get, values, Updates}
+use Rattle.asset_names.specs.declared.names.Txn.{Txn}
+use Rattle.asset_names.specs.declared.steps.Kind.{Kind}
+use Rattle.asset_names.specs.Arrows.{lists, has_arrow}
+use Rattle.asset_names.specs.Paths.{same_kind}
+use Rattle.asset_names.proofs.Common.{eqb-flip}
+use Rattle.asset_chains.specs.Chained.{Chained, home_of}
+use Rattle.asset_chains.proofs.Laws.{IsPushed}
+use Rattle.asset_chains.proofs.SoundLemmas.{no_home_of}
+use Rattle.asset_seats.specs.Seated.{Seated, seat}
+use Rattle.asset_marks.specs.Marked.{Met}
+use Rattle.asset_marks.proofs.MarkLemmas.{same_truth}
+use Rattle.asset_marks.proofs.SlotLemmas.{any_has, key_of_any, any_added, any_dropped, IsRid}
+use Rattle.asset_deps.specs.Dependencies.{Dependency, DepTable, arrows_of}
+use Rattle.asset_deps.specs.Valid.{Parts, parts, dependencies_of, names_of, marked_of, IsPlaced, IsNamed, IsWithin, IsValid}
+use Rattle.asset_deps.specs.Changes.{IsGrown, Shrinks}
+use Rattle.asset_deps.proofs.KindLemmas.{joins, arrow_of}
+use Rattle.asset_deps.proofs.LinkLemmas.{kind_is, kind_self}
+use Rattle.asset_deps.proofs.NamedLemmas.{has_ends, joins_parts, joins_from, joins_source, joins_dependent}
+use Rattle.asset_deps.proofs.SeatLemmas.{some_of, named_seat, marked_seat, seat_marked, marked_same, nobody_marked, nothing_marked, names_same}
+
+-- the dependencies of a kind
+abbrev pub of_kind : Kind → Dependency → Bool
+of_kind kind d = same_kind kind d.kind
+
+-- a dependency of a kind stands between two where an arrow leads
+pub link_of_arrow : (links : Slab Dependency) (kind : Kind) (u v : ℕ) → has_arrow (arrows_of kind (dependencies_of links)) u v ≡ true → (k : ℕ) × (get links k ≡ Some (record { kind = kind; source = u; dependent = v }))
+unfolding dependencies_of
+link_of_arrow links kind u v arrow =
+    let found = key_of_any (joins (of_kind kind) u v) links (sym (arrow_of kind (values links) u v) ∙ arrow) in
+    let parts = joins_parts (of_kind kind) u v found.1 found.3 in
+    let is = kind_is kind found.1.kind parts.0 in
+    (found.0, found.2 ∙ (λ i. Some (record { kind = sym is i; source = parts.1 i; dependent = parts.2 i })))
+
+pub arrow_of_link : (links : Slab Dependency) (kind : Kind) (u v k : ℕ) → get links k ≡ Some (record { kind = kind; source = u; dependent = v }) → has_arrow (arrows_of kind (dependencies_of links)) u v ≡ true
+unfolding dependencies_of
+arrow_of_link links kind u v k there =
+    arrow_of kind (values links) u v ∙ any_has (joins (of_kind kind) u v) links k (record { kind = kind; source = u; dependent = v }) there (joins_from (of_kind kind) u v (record { kind = kind; source = u; dependent = v }) (kind_self kind) refl refl)
+
+-- who depends or is depended on is enrolled
+pub ends_enrolled : (p : Parts) (size : ℕ) (marked : Met) → IsValid p size marked → (kind : Kind) (u v : ℕ) → has_arrow (arrows_of kind (dependencies_of p.links)) u v ≡ true → (lists (names_of p.seats) u ≡ true) × (lists (names_of p.seats) v ≡ true)
+ends_enrolled p size marked valid kind u v arrow =
+    let found = link_of_arrow p.links kind u v arrow in
+    let ends = has_ends p size marked valid found.0 (record { kind = kind; source = u; dependent = v }) found.1 in
+    (named_seat p.seats ends.from (record { 0 = u }) ends.source, named_seat p.seats ends.to (record { 0 = v }) ends.dependent)
+
+-- ---- whether a dependency stands
+no_arrow : (links : Slab Dependency) (kind : Kind) (u v : ℕ) → ((k : ℕ) → get links k ≡ Some (record { kind = kind; source = u; dependent = v }) → ⊥) → has_arrow (arrows_of kind (dependencies_of links)) u v ≡ false
+no_arrow links kind u v absent = go (has_arrow (arrows_of kind (dependencies_of links)) u v) refl where
+  go : (b : Bool) → has_arrow (arrows_of kind (dependencies_of links)) u v ≡ b → b ≡ false
+  go true is = let found = link_of_arrow links kind u v is in absurd (absent found.0 found.1)
+  go false is = refl
+
+module _ (p : Parts) (size : ℕ) (marked : Met) (valid : IsValid p size marked) (kind : Kind) (a b : Txn) where
+  abbrev sought : Dependency
+  sought = record { kind = kind; source = a.0; dependent = b.0 }
+
+  pub no_source : ((c : ℕ) → seat p.seats c ≡ Some a → ⊥) → false ≡ has_arrow (arrows_of kind (dependencies_of p.links)) a.0 b.0
+  no_source absent = sym (no_arrow p.links kind a.0 b.0 (λ k there. let ends = has_ends p size marked valid k sought there in absent ends.from ends.source))
+
+  pub no_dependent : ((c : ℕ) → seat p.seats c ≡ Some b → ⊥) → false ≡ has_arrow (arrows_of kind (dependencies_of p.links)) a.0 b.0
+  no_dependent absent = sym (no_arrow p.links kind a.0 b.0 (λ k there. let ends = has_ends p size marked valid k sought there in absent ends.to ends.dependent))
+
+  -- what a walk along a chain has found
+  pub found_source : (from : ℕ) → ((c : ℕ) → seat p.seats c ≡ Some a → c ≡ from) → (d : Dependency) → d ≡ sought → (result : Bool) → (result ≡ true → (k : ℕ) × (get p.links k ≡ Some d)) → (result ≡ false → (k : ℕ) → home_of p.along k ≡ Some from → get p.links k ≡ Some d → ⊥)
+      → result ≡ has_arrow (arrows_of kind (dependencies_of p.links)) a.0 b.0
+  found_source from alone d is true found absent = let there = found refl in sym (arrow_of_link p.links kind a.0 b.0 there.0 (there.1 ∙ ap Some is))
+  found_source from alone d is false found absent =
+      sym (no_arrow p.links kind a.0 b.0 (λ k there.
+      let ends = has_ends p size marked valid k sought there in
+      absent refl k (ends.home ∙ ap Some (alone ends.from ends.source)) (there ∙ ap Some (sym is))))
+
+  pub found_dependent : (to : ℕ) → ((c : ℕ) → seat p.seats c ≡ Some b → c ≡ to) → (d : Dependency) → d ≡ sought → (result : Bool) → (result ≡ true → (k : ℕ) × (get p.links k ≡ Some d)) → (result ≡ false → (k : ℕ) → home_of p.ends k ≡ Some to → get p.links k ≡ Some d → ⊥)
+      → result ≡ has_arrow (arrows_of kind (dependencies_of p.links)) a.0 b.0
+  found_dependent to alone d is true found absent = let there = found refl in sym (arrow_of_link p.links kind a.0 b.0 there.0 (there.1 ∙ ap Some is))
+  found_dependent to alone d is false found absent =
+      sym (no_arrow p.links kind a.0 b.0 (λ k there.
+      let ends = has_ends p size marked valid k sought there in
+      absent refl k (ends.end ∙ ap Some (alone ends.to ends.dependent)) (there ∙ ap Some (sym is))))
+
+-- ---- a new table
+pub valid_nothing : (links : Slab Dependency) (along ends : Chained) (seats : Seated) (size : ℕ) (marked : Met) → links.slots ≡ [] → along.homes ≡ [] → ends.homes ≡ [] → ((c : ℕ) → seat seats c ≡ None) → marked.nodes ≡ []
+    → IsValid (parts links along ends seats) size marked
+unfolding lists
+valid_nothing links along ends seats size marked none homes homes_ends nobody unmarked = record {
+  placed = record {
+    along = λ k. ap is_some (nothing k) ∙ sym (ap is_some (no_home_of along homes k));
+    ends = λ k. ap is_some (nothing k) ∙ sym (ap is_some (no_home_of ends homes_ends k));
+  };
+  sources = λ k c d there home. cc (sym there ∙ nothing k);
+  dependents = λ k c d there home. cc (sym there ∙ nothing k);
+  within = λ c sat. absurd (true≢false (sym sat ∙ ap is_some (nobody c)));
+  taken = λ c listed. absurd (true≢false (sym listed ∙ ap (λ (l : List ℕ). list_any (λ m. eqb m c) l) unmarked));
+} where
+  nothing : (k : ℕ) → get links k ≡ None
+  nothing k = ap (λ (l : List (Option Dependency)). slice_index_or l k None) none
+
+pub nothing_stands : (links : Slab Dependency) → links.slots ≡ [] → dependencies_of links ≡ []
+unfolding dependencies_of
+nothing_stands links none = ap (λ (l : List (Option Dependency)). filter_map (λ (slot : Option Dependency). slot) l) none
+
+pub slots_stand : (links more : Slab Dependency) → more.slots ≡ links.slots → dependencies_of more ≡ dependencies_of links
+unfolding dependencies_of
+slots_stand links more same = ap (λ (l : List (Option Dependency)). filter_map (λ (slot : Option Dependency). slot) l) same
+
+-- ---- there is more room, and somebody sat down, or nobody
+module _ (links more : Slab Dependency) (along longer ends longer_ends : Chained) (seats new : Seated) (size most : ℕ) (marked grown : Met) (valid : IsValid (parts links along ends seats) size marked)
+    (slots : more.slots ≡ links.slots) (on : IsGrown along longer) (back : IsGrown ends longer_ends) (nodes : grown.nodes ≡ marked.nodes) where
+  slot_same : (k : ℕ) → get more k ≡ get links k
+  slot_same k = ap (λ (l : List (Option Dependency)). slice_index_or l k None) slots
+
+  pub valid_grown : ((c : ℕ) (t : Txn) → seat seats c ≡ Some t → seat new c ≡ Some t) → IsWithin longer longer_ends new most grown.size → IsValid (parts more longer longer_ends new) most grown
+  valid_grown kept within = record {
+    placed = record {
+      along = λ k. ap is_some (slot_same k) ∙ valid.placed.along k ∙ sym (ap is_some (on.homes k));
+      ends = λ k. ap is_some (slot_same k) ∙ valid.placed.ends k ∙ sym (ap is_some (back.homes k));
+    };
+    sources = λ k c d there home. kept c (record { 0 = d.source }) (valid.sources k c d (sym (slot_same k) ∙ there) (sym (on.homes k) ∙ home));
+    dependents = λ k c d there home. kept c (record { 0 = d.dependent }) (valid.dependents k c d (sym (slot_same k) ∙ there) (sym (back.homes k) ∙ home));
+    within = within;
+    taken = λ c listed. let t = some_of (seat seats c) (valid.taken c (ap (λ (l : List ℕ). lists l c) (sym nodes) ∙ listed)) in ap is_some (kept c t.0 t.1);
+  }
+
+  -- the seats that were there have their room still
+  pub within_grown : ((c : ℕ) → is_some (seat new c) ≡ true → is_some (seat seats c) ≡ true) → size ≤ most → marked.size ≤ grown.size → IsWithin longer longer_ends new most grown.size
+  within_grown were bound marks c sat =
+      let old = valid.within c (were c sat) in
+      (omega (arith, old.0, on.more), omega (arith, old.1, back.more), omega (arith, old.2, bound), omega (arith, old.3, marks))
+
+  -- and so has the seat on which somebody sits down
+  pub within_sits : (s : ℕ) (t : Txn) → ((c : ℕ) → seat new c ≡ cond (eqb c s) (Some t) (seat seats c)) → size ≤ most → marked.size ≤ grown.size → s < length longer.chains → s < length longer_ends.chains → s < most → s < grown.size
+      → IsWithin longer longer_ends new most grown.size
+  within_sits s t sits bound marks first second third fourth c sat = go (eqb c s) refl where
+    go : (b : Bool) → eqb c s ≡ b → (c < length longer.chains) × (c < length longer_ends.chains) × (c < most) × (c < grown.size)
+    go true at = let here : c ≡ s = eqb-true c s at in rw here (first, second, third, fourth)
+    go false at =
+        let old = valid.within c (sym (ap is_some (sits c ∙ ap (λ b. cond b (Some t) (seat seats c)) at)) ∙ sat) in
+        (omega (arith, old.0, on.more), omega (arith, old.1, back.more), omega (arith, old.2, bound), omega (arith, old.3, marks))
+
+-- who sat before sits still
+pub sits_still : (s : ℕ) (t : Txn) (old new : Seated) → seat old s ≡ None → ((c : ℕ) → seat new c ≡ cond (eqb c s) (Some t) (seat old c)) → (c : ℕ) (u : Txn) → seat old c ≡ Some u → seat new c ≡ Some u
+sits_still s t old new free sits c u sat = sits c ∙ ap (λ b. cond b (Some t) (seat old c)) (ne_eqb c s (λ is. cc (sym free ∙ ap (seat old) (sym is) ∙ sat))) ∙ sat
+
+-- ---- one more dependency
+module _ (links more : Slab Dependency) (along longer ends longer_ends : Chained) (seats : Seated) (size : ℕ) (marked : Met) (d : Dependency) (key from to : ℕ) (valid : IsValid (parts links along ends seats) size marked)
+    (source : seat seats from ≡ Some (record { 0 = d.source })) (dependent : seat seats to ≡ Some (record { 0 = d.dependent })) (put : Updates links more key (Some d)) (on : IsPushed from key along longer) (back : IsPushed to key ends longer_ends) where
+  pub valid_added : IsValid (parts more longer longer_ends seats) size marked
+  valid_added = record {
+    placed = record { along = placed; ends = placed_ends };
+    sources = sources;
+    dependents = dependents;
+    within = λ c sat. let old = valid.within c sat in (omega (arith, old.0, on.same_chains), omega (arith, old.1, back.same_chains), old.2, old.3);
+    taken = valid.taken;
+  } where
+    placed : (k : ℕ) → is_some (get more k) ≡ is_some (home_of longer k)
+    placed k = elim (cases_eq k key) [
+      | inl here ↦ ap is_some (ap (get more) here ∙ put.changed) ∙ sym (ap is_some (ap (home_of longer) here ∙ on.home))
+      | inr other ↦ ap is_some (put.others k other) ∙ valid.placed.along k ∙ sym (ap is_some (on.homes k other))
+    ]
+
+    placed_ends : (k : ℕ) → is_some (get more k) ≡ is_some (home_of longer_ends k)
+    placed_ends k = elim (cases_eq k key) [
+      | inl here ↦ ap is_some (ap (get more) here ∙ put.changed) ∙ sym (ap is_some (ap (home_of longer_ends) here ∙ back.home))
+      | inr other ↦ ap is_some (put.others k other) ∙ valid.placed.ends k ∙ sym (ap is_some (back.homes k other))
+    ]
+
+    sources : IsNamed (λ (d : Dependency). d.source) more longer seats
+    sources k c e there home = elim (cases_eq k key) [
+      | inl here ↦
+          let same : Some e ≡ Some d = sym there ∙ ap (get more) here ∙ put.changed in
+          let seat_is : Some c ≡ Some from = sym home ∙ ap (home_of longer) here ∙ on.home in
+          let at : c ≡ from = cc seat_is in
+          let is : e ≡ d = cc same in
+          ap (seat seats) at ∙ source ∙ (λ i. Some (record { 0 = (sym is i).source }))
+      | inr other ↦ valid.sources k c e (sym (put.others k other) ∙ there) (sym (on.homes k other) ∙ home)
+    ]
+
+    dependents : IsNamed (λ (d : Dependency). d.dependent) more longer_ends seats
+    dependents k c e there home = elim (cases_eq k key) [
+      | inl here ↦
+          let same : Some e ≡ Some d = sym there ∙ ap (get more) here ∙ put.changed in
+          let seat_is : Some c ≡ Some to = sym home ∙ ap (home_of longer_ends) here ∙ back.home in
+          let at : c ≡ to = cc seat_is in
+          let is : e ≡ d = cc same in
+          ap (seat seats) at ∙ dependent ∙ (λ i. Some (record { 0 = (sym is i).dependent }))
+      | inr other ↦ valid.dependents k c e (sym (put.others k other) ∙ there) (sym (back.homes k other) ∙ home)
+    ]
+
+pub arrow_added : (links more : Slab Dependency) (key : ℕ) (kind : Kind) (a b : ℕ) → get links key ≡ None → Updates links more key (Some (record { kind = kind; source = a; dependent = b }))
+    → (k : Kind) (u v : ℕ) → has_arrow (arrows_of k (dependencies_of more)) u v ≡ (has_arrow (arrows_of k (dependencies_of links)) u v || same_kind k kind && eqb u a && eqb v b)
+unfolding dependencies_of
+arrow_added links more key kind a b free put k u v =
+    arrow_of k (values more) u v
+    ∙ any_added (joins (of_kind k) u v) links more key (record { kind = kind; source = a; dependent = b }) free put
+    ∙ (λ i. sym (arrow_of k (values links) u v) i || (same_kind k kind && eqb-flip a u i && eqb-flip b v i))
+
+-- one that stands is not new
+pub arrow_again : (ds : List Dependency) (kind : Kind) (a b : ℕ) → has_arrow (arrows_of kind ds) a b ≡ true → (k : Kind) (u v : ℕ) → has_arrow (arrows_of k ds) u v ≡ (has_arrow (arrows_of k ds) u v || same_kind k kind && eqb u a && eqb v b)
+arrow_again ds kind a b there k u v = go (same_kind k kind) refl (eqb u a) refl (eqb v b) refl where
+  or_none : (x : Bool) → x ≡ (x || false)
+  or_none true = refl
+  or_none false = refl
+
+  go : (p : Bool) → same_kind k kind ≡ p → (q : Bool) → eqb u a ≡ q → (r : Bool) → eqb v b ≡ r → has_arrow (arrows_of k ds) u v ≡ (has_arrow (arrows_of k ds) u v || p && q && r)
+  go true is true first true second =
+      let stands : has_arrow (arrows_of k ds) u v ≡ true = (λ i. has_arrow (arrows_of (kind_is k kind is i) ds) (eqb-true u a first i) (eqb-true v b second i)) ∙ there in
+      stands ∙ sym (or_left (has_arrow (arrows_of k ds) u v) true stands)
+  go true is true first false second = or_none (has_arrow (arrows_of k ds) u v)
+  go true is false first r second = or_none (has_arrow (arrows_of k ds) u v)
+  go false is q first r second = or_none (has_arrow (arrows_of k ds) u v)
+
+-- ---- a transaction ends
+module _ (links mid new : Slab Dependency) (on mid_on less back mid_back less_back : Chained) (seats left : Seated) (size : ℕ) (marked fewer : Met) (t : Txn) (s : ℕ) (valid : IsValid (parts links on back seats) size marked)
+    (sat : seat seats s ≡ Some t) (alone : (c : ℕ) → seat seats c ≡ Some t → c ≡ s) (first : Shrinks links mid on mid_on back mid_back) (gone : (k : ℕ) → home_of mid_on k ≡ Some s → ⊥) (kept : (k : ℕ) → (home_of on k ≡ Some s → ⊥) → get mid k ≡ get links k)
+    (second : Shrinks mid new mid_on less mid_back less_back) (placed : IsPlaced new less less_back) (gone_back : (k : ℕ) → home_of less_back k ≡ Some s → ⊥) (kept_back : (k : ℕ) → (home_of mid_back k ≡ Some s → ⊥) → get new k ≡ get mid k)
+    (leaves : (c : ℕ) → seat left c ≡ cond (eqb c s) None (seat seats c)) (forgets : (n : ℕ) → lists fewer.nodes n ≡ (lists marked.nodes n && not (eqb n s))) (same_size : fewer.size ≡ marked.size) where
+  named : (n : ℕ) → Some (record { 0 = n }) ≡ Some t → n ≡ t.0
+  named n same = let is : record { 0 = n } ≡ t = cc same in ap (λ (u : Txn). u.0) is
+
+  -- who has another seat keeps it
+  sits : (c : ℕ) → (c ≡ s → ⊥) → seat left c ≡ seat seats c
+  sits c apart = leaves c ∙ ap (λ b. cond b None (seat seats c)) (ne_eqb c s apart)
+
+  still_taken : (c : ℕ) → is_some (seat left c) ≡ true → (c ≡ s → ⊥) × (is_some (seat seats c) ≡ true)
+  still_taken c some = go (eqb c s) refl where
+    go : (b : Bool) → eqb c s ≡ b → (c ≡ s → ⊥) × (is_some (seat seats c) ≡ true)
+    go true at = absurd (true≢false (sym some ∙ ap is_some (leaves c ∙ ap (λ b. cond b None (seat seats c)) at)))
+    go false at = (eqb-false c s at, sym (ap is_some (leaves c ∙ ap (λ b. cond b None (seat seats c)) at)) ∙ some)
+
+  pub valid_ended : IsValid (parts new less less_back left) size fewer
+  valid_ended = record {
+    placed = placed;
+    sources = λ k c d there home.
+        sits c (λ is. gone k (second.along k s (home ∙ ap Some is))) ∙ valid.sources k c d (first.links k d (second.links k d there)) (first.along k c (second.along k c home));
+    dependents = λ k c d there home. sits c (λ is. gone_back k (home ∙ ap Some is)) ∙ valid.dependents k c d (first.links k d (second.links k d there)) (first.ends k c (second.ends k c home));
+    within = λ c some.
+        let old = valid.within c (still_taken c some).1 in
+        (omega (arith, old.0, first.many_along, second.many_along), omega (arith, old.1, first.many_ends, second.many_ends), old.2, omega (arith, old.3, same_size));
+    taken = λ c listed.
+        let both = and_parts (lists marked.nodes c) (not (eqb c s)) (sym (forgets c) ∙ listed) in
+        ap is_some (sits c (λ is. false≢true (ap not (sym (eq-eqb c s is)) ∙ both.1))) ∙ valid.taken c both.0;
+  }
+
+  rid : IsRid (λ (d : Dependency). d.source) (λ (d : Dependency). d.dependent) t.0 links new
+  rid = record {
+    still = λ k d there. first.links k d (second.links k d there);
+    begins = λ k d there.
+        let home = some_of (home_of less k) (sym (placed.along k) ∙ ap is_some there) in
+        ne_eqb d.source t.0 (λ is.
+        let at = valid.sources k home.0 d (first.links k d (second.links k d there)) (first.along k home.0 (second.along k home.0 home.1)) in
+        let here = alone home.0 (at ∙ (λ i. Some (record { 0 = is i }))) in
+        gone k (second.along k s (home.1 ∙ ap Some here)));
+    ends = λ k d there.
+        let end = some_of (home_of less_back k) (sym (placed.ends k) ∙ ap is_some there) in
+        ne_eqb d.dependent t.0 (λ is.
+        let at = valid.dependents k end.0 d (first.links k d (second.links k d there)) (first.ends k end.0 (second.ends k end.0 end.1)) in
+        let here = alone end.0 (at ∙ (λ i. Some (record { 0 = is i }))) in
+        gone_back k (end.1 ∙ ap Some here));
+    kept = λ k d there source dependent.
+        let mid_there : get mid k ≡ Some d = kept k (λ home. eqb-false d.source t.0 source (named d.source (sym (valid.sources k s d there home) ∙ sat))) ∙ there in
+        kept_back k (λ end. eqb-false d.dependent t.0 dependent (named d.dependent (sym (valid.dependents k s d there (first.ends k s end)) ∙ sat))) ∙ mid_there;
+  }
+
+  pub arrow_ended : (k : Kind) (u v : ℕ) → has_arrow (arrows_of k (dependencies_of new)) u v ≡ (has_arrow (arrows_of k (dependencies_of links)) u v && not (eqb u t.0) && not (eqb v t.0))
+  unfolding dependencies_of
+  arrow_ended k u v =
+      arrow_of k (values new) u v
+      ∙ any_dropped (λ (d : Dependency). d.source) (λ (d : Dependency). d.dependent) (joins (of_kind k) u v) t.0 u v links new (joins_source (of_kind k) u v) (joins_dependent (of_kind k) u v) rid
+      ∙ ap (λ b. b && not (eqb u t.0) && not (eqb v t.0)) (sym (arrow_of k (values links) u v))
+
+  pub marked_ended : (n : ℕ) → lists (marked_of left fewer.nodes) n ≡ (lists (marked_of seats marked.nodes) n && not (eqb n t.0))
+  marked_ended n = same_truth _ _ to back' where
+    to : lists (marked_of left fewer.nodes) n ≡ true → (lists (marked_of seats marked.nodes) n && not (eqb n t.0)) ≡ true
+    to h =
+        let found = marked_seat left fewer.nodes n valid_ended.taken h in
+        let both = and_parts (lists marked.nodes found.0) (not (eqb found.0 s)) (sym (forgets found.0) ∙ found.1) in
+        let apart : found.0 ≡ s → ⊥ = λ is. false≢true (ap not (sym (eq-eqb found.0 s is)) ∙ both.1) in
+        let was : seat seats found.0 ≡ Some (record { 0 = n }) = sym (sits found.0 apart) ∙ found.2 in
+        and_from _ _ (seat_marked seats marked.nodes found.0 (record { 0 = n }) was both.0) (ap not (ne_eqb n t.0 (λ is. apart (alone found.0 (was ∙ (λ i. Some (record { 0 = is i })))))))
+
+    back' : (lists (marked_of seats marked.nodes) n && not (eqb n t.0)) ≡ true → lists (marked_of left fewer.nodes) n ≡ true
+    back' h =
+        let both = and_parts (lists (marked_of seats marked.nodes) n) (not (eqb n t.0)) h in
+        let found = marked_seat seats marked.nodes n valid.taken both.0 in
+        let apart : found.0 ≡ s → ⊥ = λ is. false≢true (ap not (sym (eq-eqb n t.0 (named n (sym found.2 ∙ ap (seat seats) is ∙ sat)))) ∙ both.1) in
+        seat_marked left fewer.nodes found.0 (record { 0 = n }) (sits found.0 apart ∙ found.2) (forgets found.0 ∙ and_from _ _ found.1 (ap not (ne_eqb found.0 s apart)))
+
+  pub unmarked_ended : (lists marked.nodes s ≡ false → fewer ≡ marked) → lists (marked_of seats marked.nodes) t.0 ≡ false → marked_of left fewer.nodes ≡ marked_of seats marked.nodes
+  unmarked_ended unchanged absent =
+      let apart = go (lists marked.nodes s) refl in
+      ap (λ (m : Met). marked_of left m.nodes) (unchanged apart)
+      ∙ marked_same seats left marked.nodes (λ c listed. sits c (λ is. true≢false (sym listed ∙ ap (lists marked.nodes) is ∙ apart))) where
+        go : (b : Bool) → lists marked.nodes s ≡ b → b ≡ false
+        go true is = absurd (true≢false (sym (seat_marked seats marked.nodes s t sat is) ∙ absent))
+        go false is = refl
+
+-- one who is not enrolled leaves nothing behind
+module _ (p : Parts) (size : ℕ) (marked : Met) (valid : IsValid p size marked) (t : Txn) (absent : (c : ℕ) → seat p.seats c ≡ Some t → ⊥) where
+  pub no_arrow_of : (k : Kind) (u v : ℕ) → has_arrow (arrows_of k (dependencies_of p.links)) u v ≡ (has_arrow (arrows_of k (dependencies_of p.links)) u v && not (eqb u t.0) && not (eqb v t.0))
+  no_arrow_of k u v = go (has_arrow (arrows_of k (dependencies_of p.links)) u v) refl where
+    go : (b : Bool) → has_arrow (arrows_of k (dependencies_of p.links)) u v ≡ b → b ≡ (b && not (eqb u t.0) && not (eqb v t.0))
+    go true is =
+        let found = link_of_arrow p.links k u v is in
+        let ends = has_ends p size marked valid found.0 (record { kind = k; source = u; dependent = v }) found.1 in
+        let first = ne_eqb u t.0 (λ same. absent ends.from (ends.source ∙ (λ i. Some (record { 0 = same i })))) in
+        let second = ne_eqb v t.0 (λ same. absent ends.to (ends.dependent ∙ (λ i. Some (record { 0 = same i })))) in
+        λ i. true && not (sym first i) && not (sym second i)
+    go false is = refl
+
+  pub no_mark_of : (n : ℕ) → lists (marked_of p.seats marked.nodes) n ≡ (lists (marked_of p.seats marked.nodes) n && not (eqb n t.0))
+  no_mark_of n = go (lists (marked_of p.seats marked.nodes) n) (eqb n t.0) refl refl where
+    go : (l b : Bool) → lists (marked_of p.seats marked.nodes) n ≡ l → eqb n t.0 ≡ b → l ≡ (l && not b)
+    go true true is at = absurd (true≢false (sym is ∙ ap (lists (marked_of p.seats marked.nodes)) (eqb-true n t.0 at) ∙ nobody_marked p.seats marked.nodes t valid.taken absent))
+    go true false is at = refl
+    go false true is at = refl
+    go false false is at = refl
+
+-- what a table shows
+abbrev pub table_of : Slab Dependency → Seated → List ℕ → DepTable
+table_of links seats nodes = record { names = names_of seats; dependencies = dependencies_of links; marked = marked_of seats nodes }
+
+pub new_is : (links : Slab Dependency) (seats : Seated) (nodes : List ℕ) → links.slots ≡ [] → seats.slots ≡ [] → nodes ≡ []
+    → table_of links seats nodes ≡ record { names = []; dependencies = []; marked = [] }
+unfolding names_of
+new_is links seats nodes none nobody unmarked = λ i. record {
+  names = ap (λ (l : List (Option Txn)). filter_map (λ (slot : Option Txn). option_map (λ (t : Txn). t.0) slot) l) nobody i;
+  dependencies = nothing_stands links none i;
+  marked = nothing_marked seats nodes unmarked i;
+}
+
+-- the table shows the same while its room grows
+pub shows_same : (links more : Slab Dependency) (seats new : Seated) (nodes met : List ℕ) → more.slots ≡ links.slots → ((c : ℕ) → seat new c ≡ seat seats c) → met ≡ nodes → table_of more new met ≡ table_of links seats nodes
+shows_same links more seats new nodes met slots same is = λ i. record {
+  names = names_same seats new same i;
+  dependencies = slots_stand links more slots i;
+  marked = (ap (marked_of new) is ∙ marked_same seats new nodes (λ c listed. same c)) i;
+}

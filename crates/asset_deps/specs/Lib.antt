@@ -1,0 +1,4 @@
+pub mod Changes
+pub mod Dependencies
+pub mod Reached
+pub mod Valid

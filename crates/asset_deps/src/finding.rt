@@ -1,0 +1,49 @@
+//! The dependency that is asked for, in a chain, and the seat of a transaction that is enrolled.
+
+ghost use Rattle.std.specs.Prelude.{◌≡◌, ◌≢◌, ℕ, true, false, Some};
+ghost use Rattle.slab.specs.Slab.{get};
+ghost use Rattle.asset_names.specs.Arrows.{lists};
+ghost use Rattle.asset_chains.specs.Chained.{home_of};
+ghost use Rattle.asset_seats.specs.Seated.{seat};
+ghost use Rattle.asset_deps.specs.Valid.{names_of};
+
+use crate::link::Link;
+use asset_chains::Chains;
+use asset_names::Txn;
+use asset_seats::Seats;
+use slab::Slab;
+
+/// Returns whether the dependency that is asked for is in the chain of the seat, or there at all.
+pub(crate) fn is_there(links: &Slab<Link>, along: &Chains, seat: usize, sought: &Link) -> bool
+    ensures found { result ≡ true → (k : ℕ) × (get links.now k ≡ Some sought.now) }
+    ensures absent { result ≡ false → (k : ℕ) → home_of along.now k ≡ Some seat → get links.now k ≢ Some sought.now }
+{
+    along.laws();
+    let mut next = along.first(seat);
+    'keys: while let Some(key) = next {
+        if is_at(links, key, sought) {
+            return true;
+        }
+        next = along.next(key);
+    }
+    false
+}
+
+/// Returns whether the dependency at the key is the one that is asked for.
+fn is_at(links: &Slab<Link>, key: usize, sought: &Link) -> bool
+    ensures found { result ≡ true → get links.now key ≡ Some sought.now }
+    ensures absent { result ≡ false → get links.now key ≢ Some sought.now }
+{
+    match links.get(key) {
+        Some(link) => link.is_same(sought),
+        None => false,
+    }
+}
+
+/// Returns the seat of a transaction that is enrolled.
+pub(crate) fn seat_in(seats: &Seats, t: Txn) -> usize
+    requires { lists (names_of seats.now) t.0 ≡ true }
+    ensures { seat seats.now result ≡ Some t }
+{
+    seats.seat_of(t).unwrap()
+}

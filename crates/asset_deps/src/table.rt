@@ -1,0 +1,183 @@
+//! The table of dependencies: who is enrolled, and what comes and goes.
+
+use crate::adding::{insert, make_room, reserve};
+use crate::dropping::drop_along;
+use crate::finding::{is_there, seat_in};
+use crate::link::Link;
+use asset_chains::Chains;
+use asset_marks::Marks;
+use asset_names::{Kind, NoMemory, Txn};
+use asset_seats::Seats;
+use slab::Slab;
+use std::alloc::Global;
+use std::marker::Model;
+
+/// The dependencies that stand between enrolled transactions, and those of them that are marked. Each dependency is in the
+/// chain of its source and in that of its dependent, and exactly those who are enrolled have a seat.
+///
+/// A transaction that never depends on another nor is depended on needs no place here.
+#[derive(Drop)]
+pub struct Deps {
+    pub(crate) links: Slab<Link>,
+    pub(crate) by_source: Chains,
+    pub(crate) by_dependent: Chains,
+    pub(crate) seats: Seats,
+    pub(crate) marks: Marks,
+    pub(crate) marked: Marks,
+}
+
+impl Model for Deps {
+    ghost use Rattle.asset_deps.specs.Dependencies.{DepTable};
+    ghost use Rattle.asset_deps.specs.Valid.{parts, IsValid, names_of, dependencies_of, marked_of};
+
+    ghost Value = { DepTable };
+
+    ghost view = { λ p. record { names = names_of p.seats; dependencies = dependencies_of p.links; marked = marked_of p.seats p.marked.nodes } };
+
+    ghost invariant = { λ p. IsValid (parts p.links p.by_source p.by_dependent p.seats) p.marks.size p.marked };
+}
+
+impl Deps {
+    ghost use Rattle.std.specs.Prelude.{◌≡◌, ℕ, ◌==◌, ◌&&◌, ◌||◌, not, nat_eq, [], true, false, IsOk, OnOk, OnErr};
+    ghost use Rattle.std.specs.List.{IsDistinct};
+    ghost use Rattle.asset_names.specs.declared.steps.Kind.{Kind};
+    ghost use Rattle.asset_names.specs.Arrows.{lists, has_arrow};
+    ghost use Rattle.asset_names.specs.Paths.{same_kind};
+    ghost use Rattle.asset_deps.specs.Dependencies.{arrows_of, class_in, doomed_in, would_cycle_in, outside_source_in};
+
+    /// Returns a table without transactions. It does not allocate.
+    pub fn new(alloc: Global) -> Deps
+        ensures { result ≡ record { names = []; dependencies = []; marked = [] } }
+    {
+        Deps {
+            links: Slab::new(alloc),
+            by_source: Chains::new(alloc),
+            by_dependent: Chains::new(alloc),
+            seats: Seats::new(alloc),
+            marks: Marks::new(alloc),
+            marked: Marks::new(alloc),
+        }
+    }
+
+    /// Returns whether the transaction is enrolled. One that is not depends on nobody, and nobody on it.
+    pub fn is_enrolled(&self, t: Txn) -> bool
+        ensures enrolled { result ≡ lists self.now.names t.0 }
+        ensures alone { result ≡ false → (n : ℕ) → (class_in self.now.dependencies t.0 n ≡ (t.0 == n)) × (doomed_in self.now.dependencies t.0 n ≡ (t.0 == n)) }
+        ensures no_source { result ≡ false → outside_source_in self.now.dependencies t.0 ≡ false }
+    {
+        self.seats.seat_of(t).is_some()
+    }
+
+    /// Enrols a transaction. If it is enrolled already, nothing changes.
+    ///
+    /// If memory runs out, nothing changes.
+    pub fn enrol(&mut self, t: Txn) -> Result<(), NoMemory>
+        ensures names { OnOk result ((n : ℕ) → lists self.new.names n ≡ (lists self.old.names n || n == t.0)) }
+        ensures dependencies { self.new.dependencies ≡ self.old.dependencies }
+        ensures marked { self.new.marked ≡ self.old.marked }
+        ensures unchanged { OnErr result (self.new ≡ self.old) }
+        ensures again { lists self.old.names t.0 ≡ true → IsOk result × (self.new ≡ self.old) }
+    {
+        if self.is_enrolled(t) {
+            return Ok(());
+        }
+        self.seats.reserve()?;
+        let vacant = self.seats.vacant();
+        make_room(
+            &mut self.by_source,
+            &mut self.by_dependent,
+            &mut self.marks,
+            &mut self.marked,
+            vacant,
+        )?;
+        self.seats.sit(t);
+        Ok(())
+    }
+
+    /// Makes `b` depend on `a`, until one of the two is dropped by `end`. A dependency that stands already is not added
+    /// again. It is looked for among those of which `a` is the source, or among those of the dependent `b` if there are
+    /// fewer.
+    ///
+    /// If memory runs out, nothing changes.
+    pub fn add(&mut self, kind: Kind, a: Txn, b: Txn) -> Result<(), NoMemory>
+        requires source { lists self.old.names a.0 ≡ true }
+        requires dependent { lists self.old.names b.0 ≡ true }
+        requires no_cycle { would_cycle_in self.old.dependencies kind a.0 b.0 ≡ false }
+        ensures added { OnOk result ((k : Kind) (u v : ℕ) → has_arrow (arrows_of k self.new.dependencies) u v ≡ (has_arrow (arrows_of k self.old.dependencies) u v || same_kind k kind && u == a.0 && v == b.0)) }
+        ensures names { self.new.names ≡ self.old.names }
+        ensures marked { self.new.marked ≡ self.old.marked }
+        ensures unchanged { OnErr result (self.new ≡ self.old) }
+        ensures again { has_arrow (arrows_of kind self.old.dependencies) a.0 b.0 ≡ true → IsOk result × (self.new ≡ self.old) }
+    {
+        if self.has(kind, a, b) {
+            return Ok(());
+        }
+        reserve(&mut self.links, &mut self.by_source, &mut self.by_dependent)?;
+        let from = seat_in(&self.seats, a);
+        let to = seat_in(&self.seats, b);
+        insert(
+            &mut self.links,
+            &mut self.by_source,
+            &mut self.by_dependent,
+            from,
+            to,
+            Link::of(kind, a, b),
+        );
+        Ok(())
+    }
+
+    /// Returns whether the dependency stands.
+    fn has(&self, kind: Kind, a: Txn, b: Txn) -> bool
+        ensures { result ≡ has_arrow (arrows_of kind self.now.dependencies) a.0 b.0 }
+    {
+        let Some(from) = self.seats.seat_of(a) else {
+            return false;
+        };
+        let Some(to) = self.seats.seat_of(b) else {
+            return false;
+        };
+        let sought = Link::of(kind, a, b);
+        if self.by_source.len(from) <= self.by_dependent.len(to) {
+            is_there(&self.links, &self.by_source, from, &sought)
+        } else {
+            is_there(&self.links, &self.by_dependent, to, &sought)
+        }
+    }
+
+    /// Drops the dependencies of the transaction and those on it, and its mark. It is not enrolled from then on. If it
+    /// is not enrolled, nothing changes. It looks at no other dependencies.
+    pub fn end(&mut self, t: Txn)
+        ensures names { (n : ℕ) → lists self.new.names n ≡ (lists self.old.names n && not (n == t.0)) }
+        ensures dependencies { (k : Kind) (u v : ℕ) → has_arrow (arrows_of k self.new.dependencies) u v ≡ (has_arrow (arrows_of k self.old.dependencies) u v && not (u == t.0) && not (v == t.0)) }
+        ensures marked { (n : ℕ) → lists self.new.marked n ≡ (lists self.old.marked n && not (n == t.0)) }
+        ensures unmarked { lists self.old.marked t.0 ≡ false → self.new.marked ≡ self.old.marked }
+    {
+        let Some(seat) = self.seats.seat_of(t) else {
+            return;
+        };
+        drop_along(
+            &mut self.links,
+            &mut self.by_source,
+            &mut self.by_dependent,
+            seat,
+        );
+        drop_along(
+            &mut self.links,
+            &mut self.by_dependent,
+            &mut self.by_source,
+            seat,
+        );
+        self.marked.forget(seat);
+        self.seats.leave(seat);
+    }
+
+    /// Says what holds of all dependencies, for proofs. It does nothing.
+    pub fn laws(&self)
+        ensures enrolled { (k : Kind) (u v : ℕ) → has_arrow (arrows_of k self.now.dependencies) u v ≡ true → (lists self.now.names u ≡ true) × (lists self.now.names v ≡ true) }
+        ensures marked { (n : ℕ) → lists self.now.marked n ≡ true → lists self.now.names n ≡ true }
+        ensures once { IsDistinct nat_eq self.now.marked }
+    {
+        self.seats.laws();
+        self.marked.laws();
+    }
+}
