@@ -1,24 +1,20 @@
 //! Dependencies on worked values, and what is left if memory runs out.
 
-ghost use Rattle.std.specs.Prelude.{◌≡◌, true, OnOk, OnErr};
-ghost use Rattle.asset_names.specs.Arrows.{lists};
-
 use asset_deps::Deps;
 use asset_names::{Kind, NoMemory, Txn};
 
 /// How many transactions there are past any small constant.
 const MANY: u64 = 300;
 
-/// Returns whether the dependency could be added again, at most once, and whether nothing had changed if memory ran out:
-/// `Ok` of whether it was added, that is, would close no cycle.
+/// Enrols both and adds the dependency, unless it would close a cycle. Returns whether it was added.
 pub(crate) fn add(deps: &mut Deps, kind: Kind, a: u64, b: u64) -> Result<bool, NoMemory> {
     enrol(deps, a)?;
     enrol(deps, b)?;
     add_between(deps, kind, Txn(a), Txn(b))
 }
 
-/// Adds a dependency between two that are enrolled, unless it would close a cycle. If memory runs out, the same call is
-/// made again.
+/// Adds a dependency between two that are enrolled, unless it would close a cycle, and returns whether it was added. If
+/// memory runs out, the same call is made again.
 pub(crate) fn add_between(deps: &mut Deps, kind: Kind, a: Txn, b: Txn) -> Result<bool, NoMemory> {
     if !deps.is_enrolled(a) || !deps.is_enrolled(b) || deps.would_cycle(kind, a, b) {
         return Ok(false);
