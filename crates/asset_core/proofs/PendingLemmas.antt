@@ -8,7 +8,7 @@ use Rattle.asset_names.specs.declared.names.Ob.{Ob}
 use Rattle.asset_names.specs.declared.operations.Op.{Op}
 use Rattle.asset_names.specs.declared.operations.Op.TheVariants as Op'
 use Rattle.asset_names.specs.declared.steps.Step.{Step}
-use Rattle.asset_names.specs.declared.steps.Step.TheVariants.{Initiate, Begin, Read, Write, Complete, Permit, Delegate, Commit, Abort, WaitFor}
+use Rattle.asset_names.specs.declared.steps.Step.TheVariants.{Initiate, Begin, Read, Write, Complete, Permit, Delegate, Depend, Commit, Abort, WaitFor}
 use Rattle.asset_names.specs.declared.replies.Reply.{Reply}
 use Rattle.asset_names.specs.declared.replies.Outcome.{Outcome}
 use Rattle.asset_names.specs.declared.replies.Outcome.TheVariants.{Answer, Wait}
@@ -18,7 +18,8 @@ use Rattle.asset_names.specs.Endings.{live, is_live_status}
 use Rattle.asset_names.specs.Answers.{outcome_takes_effect}
 use Rattle.asset_names.proofs.LiveLemmas.{live_initiate, live_commit, live_abort}
 use Rattle.asset_names.proofs.EndLemmas.{commits, aborts, commits_nobody, aborts_nobody}
-use Rattle.asset_names.proofs.ClassLemmas.{commits_alone, aborts_alone}
+use Rattle.asset_ends.proofs.DependLaws.{commits_shown, aborts_shown, depend_ends}
+use Rattle.asset_deps.specs.Dependencies.{class_in, doomed_in}
 use Rattle.asset_names.proofs.Common.{eqb-flip}
 use Rattle.asset_names.specs.OpSets.{OpSet}
 use Rattle.asset_names.specs.declared.sets.ObSet.{ObSet}
@@ -93,6 +94,7 @@ asker_keeps (Begin t) outcome asker = refl
 asker_keeps (Complete t) outcome asker = refl
 asker_keeps (Permit giver taker obs ops) outcome asker = refl
 asker_keeps (Delegate giver taker obs) outcome asker = refl
+asker_keeps (Depend kind a b) outcome asker = refl
 asker_keeps (Commit t) outcome asker = refl
 asker_keeps (Abort t) outcome asker = refl
 asker_keeps (WaitFor t) outcome asker = refl
@@ -126,6 +128,7 @@ asker_unchanged (Begin t) reply asker none = refl
 asker_unchanged (Complete t) reply asker none = refl
 asker_unchanged (Permit giver taker obs ops) reply asker none = refl
 asker_unchanged (Delegate giver taker obs) reply asker none = refl
+asker_unchanged (Depend kind a b) reply asker none = refl
 asker_unchanged (Commit t) reply asker none = refl
 asker_unchanged (Abort t) reply asker none = refl
 asker_unchanged (WaitFor t) reply asker none = refl
@@ -139,6 +142,7 @@ new_unchanged (Write t x v) reply none = refl
 new_unchanged (Complete t) reply none = refl
 new_unchanged (Permit giver taker obs ops) reply none = refl
 new_unchanged (Delegate giver taker obs) reply none = refl
+new_unchanged (Depend kind a b) reply none = refl
 new_unchanged (Commit t) reply none = refl
 new_unchanged (Abort t) reply none = refl
 new_unchanged (WaitFor t) reply none = refl
@@ -183,6 +187,7 @@ waiting_askers (Begin t) tables = same_askers _ _ (λ asker. refl)
 waiting_askers (Complete t) tables = same_askers _ _ (λ asker. refl)
 waiting_askers (Permit giver taker obs ops) tables = same_askers _ _ (λ asker. refl)
 waiting_askers (Delegate giver taker obs) tables = same_askers _ _ (λ asker. refl)
+waiting_askers (Depend kind a b) tables = same_askers _ _ (λ asker. refl)
 waiting_askers (Commit t) tables = same_askers _ _ (λ asker. refl)
 waiting_askers (Abort t) tables = same_askers _ _ (λ asker. refl)
 waiting_askers (WaitFor t) tables = same_askers _ _ (λ asker. refl)
@@ -201,6 +206,7 @@ askers_waiting opening steps tables step stand =
       none (Complete t) = refl
       none (Permit giver taker obs ops) = refl
       none (Delegate giver taker obs) = refl
+      none (Depend kind a b) = refl
       none (Commit t) = refl
       none (Abort t) = refl
       none (WaitFor t) = refl
@@ -233,22 +239,22 @@ askers_alike p q (asker ∷ ps) same =
     rw (same asker.name (or_left _ _ (eq-eqb asker.name asker.name refl)), askers_alike p q ps (λ n listed. same n (or_right _ _ listed)))
 
 -- after an end the pending requests of those whom it ends have gone
-ended_askers : (opening : Opening) (steps : List Step) (step : Step) (tables : Standing) (t : ℕ) (test : ℕ → Bool) → Shows opening steps (values_of tables) → ((n : ℕ) → live (step ∷ steps) n ≡ (not (test n) && live steps n))
-    → ((n : ℕ) → live steps t ≡ true → test n ≡ eqb t n) → ((n : ℕ) → live steps t ≡ false → test n ≡ false)
-    → filter (λ (asker : Pending). live (step ∷ steps) asker.name) (pending_in tables.locks) ≡ pending_requests (released tables t)
+ended_askers : (opening : Opening) (steps : List Step) (step : Step) (tables : Standing) (t : ℕ) (test whom : ℕ → Bool) → Shows opening steps (values_of tables) → ((n : ℕ) → live (step ∷ steps) n ≡ (not (test n) && live steps n))
+    → (live steps t ≡ true → (n : ℕ) → test n ≡ whom n) → ((n : ℕ) → live steps t ≡ false → test n ≡ false)
+    → filter (λ (asker : Pending). live (step ∷ steps) asker.name) (pending_in tables.locks) ≡ pending_requests (released tables t whom)
 unfolding pending_in released Locks.release_in
-ended_askers opening steps step tables t test stand ends alone nobody = go (is_live_status (status_in tables.trans t)) refl where
+ended_askers opening steps step tables t test whom stand ends those nobody = go (is_live_status (status_in tables.trans t)) refl where
   ps : List Pending
   ps = pending_in tables.locks
 
   go : (alive : Bool) → is_live_status (status_in tables.trans t) ≡ alive
-      → filter (λ (asker : Pending). live (step ∷ steps) asker.name) ps ≡ pending_requests (cond alive (Locks.release_in (λ n. eqb n t) tables.locks) tables.locks)
+      → filter (λ (asker : Pending). live (step ∷ steps) asker.name) ps ≡ pending_requests (cond alive (Locks.release_in whom tables.locks) tables.locks)
   go true e =
-      let alive = sym (live_shown opening steps _ _ _ _ t stand) ∙ e in
-      askers_alike (live (step ∷ steps)) (λ n. not (eqb n t)) ps (λ n listed. ends n ∙ rw (asker_live opening steps tables stand n listed, alone n alive, eqb-flip t n) (grind arith))
-      ∙ sym (askers_without (λ n. eqb n t) tables.locks)
+      let alive = sym (live_shown opening steps _ _ _ _ _ t stand) ∙ e in
+      askers_alike (live (step ∷ steps)) (λ n. not (whom n)) ps (λ n listed. ends n ∙ rw (asker_live opening steps tables stand n listed, those alive n) (grind arith))
+      ∙ sym (askers_without whom tables.locks)
   go false e =
-      let dead = sym (live_shown opening steps _ _ _ _ t stand) ∙ e in
+      let dead = sym (live_shown opening steps _ _ _ _ _ t stand) ∙ e in
       all_stay (live (step ∷ steps)) ps (λ n listed. ends n ∙ rw (nobody n dead, asker_live opening steps tables stand n listed) refl)
 
 -- a new transaction has the last pending request, and it is empty
@@ -318,10 +324,13 @@ askers_carried opening steps tables (Delegate giver taker obs) reply stand carri
     nobody_ended (Delegate giver taker obs ∷ steps) steps (Delegate giver taker obs) (Answer reply) (pending_in tables.locks) (λ n listed. live_delegated giver taker obs steps n ∙ asker_live opening steps tables stand n listed) refl
     ∙ same_askers _ _ (λ asker. refl)
     ∙ sym (askers_handed giver.0 taker.0 obs tables.locks)
+askers_carried opening steps tables (Depend kind a b) reply stand carried new =
+    nobody_ended (Depend kind a b ∷ steps) steps (Depend kind a b) (Answer reply) (pending_in tables.locks) (λ n listed. live_quiet (Depend kind a b ∷ steps) steps refl (depend_ends kind a b steps) n ∙ asker_live opening steps tables stand n listed) refl
+    ∙ same_askers _ _ (λ asker. refl)
 askers_carried opening steps tables (Commit t) reply stand carried new =
-    ap (λ ps. filter (λ (asker : Pending). live (Commit t ∷ steps) asker.name) ps) (append-nil _ ∙ same_askers _ _ (λ asker. refl)) ∙ ended_askers opening steps (Commit t) tables t.0 (commits steps t.0) stand (live_commit t steps) (λ n. commits_alone steps t.0 n) (λ n. commits_nobody steps t.0 n)
+    ap (λ ps. filter (λ (asker : Pending). live (Commit t ∷ steps) asker.name) ps) (append-nil _ ∙ same_askers _ _ (λ asker. refl)) ∙ ended_askers opening steps (Commit t) tables t.0 (commits steps t.0) (class_in tables.deps t.0) stand (live_commit t steps) (λ alive n. sym (commits_shown steps tables.deps stand.dependencies_stand t.0 alive n)) (λ n. commits_nobody steps t.0 n)
 askers_carried opening steps tables (Abort t) reply stand carried new =
-    ap (λ ps. filter (λ (asker : Pending). live (Abort t ∷ steps) asker.name) ps) (append-nil _ ∙ same_askers _ _ (λ asker. refl)) ∙ ended_askers opening steps (Abort t) tables t.0 (aborts steps t.0) stand (live_abort t steps) (λ n. aborts_alone steps t.0 n) (λ n. aborts_nobody steps t.0 n)
+    ap (λ ps. filter (λ (asker : Pending). live (Abort t ∷ steps) asker.name) ps) (append-nil _ ∙ same_askers _ _ (λ asker. refl)) ∙ ended_askers opening steps (Abort t) tables t.0 (aborts steps t.0) (doomed_in tables.deps t.0) stand (live_abort t steps) (λ alive n. sym (aborts_shown steps tables.deps stand.dependencies_stand t.0 alive n)) (λ n. aborts_nobody steps t.0 n)
 askers_carried opening steps tables (WaitFor t) reply stand carried new = absurd (false≢true carried)
 
 -- who waits for an object, by the table and by the pending_requests

@@ -7,20 +7,21 @@ use Rattle.asset_names.specs.declared.operations.Op.TheVariants as Op'
 use Rattle.asset_names.specs.declared.statuses.Status.{Status}
 use Rattle.asset_names.specs.declared.statuses.Status.TheVariants as Status'
 use Rattle.asset_names.specs.declared.steps.Step.{Step}
-use Rattle.asset_names.specs.declared.steps.Step.TheVariants.{Initiate, Begin, Read, Write, Complete, Permit, Delegate, Commit, Abort, WaitFor}
+use Rattle.asset_names.specs.declared.steps.Step.TheVariants.{Initiate, Begin, Read, Write, Complete, Permit, Delegate, Depend, Commit, Abort, WaitFor}
 use Rattle.asset_names.specs.declared.replies.Refusal.{Refusal}
 use Rattle.asset_names.specs.declared.replies.Reply.{Reply}
 use Rattle.asset_names.specs.declared.replies.Outcome.{Outcome}
 use Rattle.asset_names.specs.declared.replies.Outcome.TheVariants.{Answer, Wait}
 use Rattle.asset_names.specs.Steps.{Opening, takes_effect}
 use Rattle.asset_names.specs.Endings.{status, is_live_status}
-use Rattle.asset_names.specs.Answers.{answer, outcome_unless, unrefused, rules_for, first_refusal, unknown, ended, taken, begun_before, is_unknown, has_ended, has_begun, is_running, is_completed, commit_outcome}
-use Rattle.asset_names.proofs.ClassLemmas.{completed_alone}
-use Rattle.asset_names.proofs.LegalLemmas.{effect_unrefused, first_none, complete_runs, permit_live, delegate_live}
+use Rattle.asset_names.specs.Answers.{answer, outcome_unless, unrefused, rules_for, first_refusal, unknown, ended, taken, begun_before, is_unknown, has_ended, has_begun, is_running, may_commit, commit_outcome}
+use Rattle.asset_names.proofs.LegalLemmas.{effect_unrefused, first_none, complete_runs, permit_live, delegate_live, depend_live}
 use Rattle.asset_trans.specs.TransRows.{status_in}
 use Rattle.asset_ends.specs.Shows.{Shows}
 use Rattle.asset_ends.specs.Standing.{Standing, values_of, is_free_for}
 use Rattle.asset_ends.proofs.ShowsLemmas.{free_shown, live_shown}
+use Rattle.asset_ends.proofs.DependLaws.{would_cycle_shown}
+use Rattle.asset_ends.proofs.EndingLemmas.{may_commit_shown}
 use Rattle.asset_ends.proofs.StandingLemmas.{object_exists}
 use Rattle.asset_core.specs.Tables.{IsReady, MayWait}
 use Rattle.asset_core.proofs.AnswerLemmas.{read_unrefused, write_unrefused}
@@ -70,21 +71,19 @@ answered_unrefused : (opening : Opening) (steps : List Step) (step : Step) (outc
 unfolding answer outcome_unless
 answered_unrefused opening steps step outcome is none = rw none at is
 
--- who is live and whose commit takes effect has completed
-commit_ready : (opening : Opening) (steps : List Step) (t : Txn) (reply : Reply) → answer opening steps (Commit t) ≡ Answer reply → takes_effect (Commit t) reply ≡ true → is_live_status (status steps t.0) ≡ true → is_completed (status steps t.0) ≡ true
-unfolding unrefused rules_for unknown is_live_status commit_outcome is_completed
+-- the class of who is live and whose commit takes effect may commit
+commit_ready : (opening : Opening) (steps : List Step) (t : Txn) (reply : Reply) → answer opening steps (Commit t) ≡ Answer reply → takes_effect (Commit t) reply ≡ true → is_live_status (status steps t.0) ≡ true → may_commit steps t.0 ≡ true
+unfolding unrefused is_live_status commit_outcome
 commit_ready opening steps t reply is carried alive =
-    let none = effect_unrefused opening steps (Commit t) reply is carried in
-    let there = (first_none (unknown steps t) [] none).0 in
-    go (status steps t.0) (is_completed (status steps t.0)) refl alive (ap (commit_outcome (status steps t.0)) (sym (completed_alone steps t.0 there)) ∙ answered_unrefused opening steps (Commit t) (Answer reply) is none) where
-      go : (now : Status) (completed : Bool) → is_completed now ≡ completed → is_live_status now ≡ true → commit_outcome now completed ≡ Answer reply → completed ≡ true
-      go now true e live outcome = refl
-      go Status'.Initiated false e live outcome = cc
-      go Status'.Running false e live outcome = cc
-      go Status'.Completed false e live outcome = sym e
-      go Status'.Unknown false e live outcome = live
-      go Status'.Committed false e live outcome = live
-      go Status'.Aborted false e live outcome = live
+    go (status steps t.0) (may_commit steps t.0) alive (answered_unrefused opening steps (Commit t) (Answer reply) is (effect_unrefused opening steps (Commit t) reply is carried)) where
+      go : (now : Status) (ready : Bool) → is_live_status now ≡ true → commit_outcome now ready ≡ Answer reply → ready ≡ true
+      go now true live outcome = refl
+      go Status'.Initiated false live outcome = cc
+      go Status'.Running false live outcome = cc
+      go Status'.Completed false live outcome = cc
+      go Status'.Unknown false live outcome = live
+      go Status'.Committed false live outcome = live
+      go Status'.Aborted false live outcome = live
 
 -- a step that waits is not refused
 waits_unrefused : (opening : Opening) (steps : List Step) (step : Step) → answer opening steps step ≡ Wait → first_refusal (rules_for opening steps step) ≡ None
@@ -106,19 +105,22 @@ ready opening steps tables (Begin t) reply stand is carried =
 ready opening steps tables (Read t x) reply stand is carried =
     let none = effect_unrefused opening steps (Read t x) reply is carried in
     let there = read_unrefused opening steps t x none in
-    (runs opening steps tables t.0 stand there.0, free_shown opening steps _ _ _ _ t.0 x.0 Op'.Read stand ∙ free_if _ reply _ (answered_unrefused opening steps (Read t x) (Answer reply) is none))
+    (runs opening steps tables t.0 stand there.0, free_shown opening steps _ _ _ _ _ t.0 x.0 Op'.Read stand ∙ free_if _ reply _ (answered_unrefused opening steps (Read t x) (Answer reply) is none))
 ready opening steps tables (Write t x v) reply stand is carried =
     let none = effect_unrefused opening steps (Write t x v) reply is carried in
     let there = write_unrefused opening steps t x v none in
-    (runs opening steps tables t.0 stand there.0, free_shown opening steps _ _ _ _ t.0 x.0 Op'.Write stand ∙ free_if _ reply _ (answered_unrefused opening steps (Write t x v) (Answer reply) is none), object_exists opening steps tables x.0 stand ∙ there.1)
+    (runs opening steps tables t.0 stand there.0, free_shown opening steps _ _ _ _ _ t.0 x.0 Op'.Write stand ∙ free_if _ reply _ (answered_unrefused opening steps (Write t x v) (Answer reply) is none), object_exists opening steps tables x.0 stand ∙ there.1)
 ready opening steps tables (Complete t) reply stand is carried = stand.statuses t.0 ∙ running_is (status steps t.0) (complete_runs opening steps t reply is carried)
 ready opening steps tables (Permit giver taker obs ops) reply stand is carried =
     let both = permit_live opening steps giver taker obs ops reply is carried in
-    (live_shown opening steps _ _ _ _ giver.0 stand ∙ both.0, live_shown opening steps _ _ _ _ taker.0 stand ∙ both.1)
+    (live_shown opening steps _ _ _ _ _ giver.0 stand ∙ both.0, live_shown opening steps _ _ _ _ _ taker.0 stand ∙ both.1)
 ready opening steps tables (Delegate giver taker obs) reply stand is carried =
     let both = delegate_live opening steps giver taker obs reply is carried in
-    (live_shown opening steps _ _ _ _ giver.0 stand ∙ both.1, live_shown opening steps _ _ _ _ taker.0 stand ∙ both.2)
-ready opening steps tables (Commit t) reply stand is carried = λ alive. ap is_completed (stand.statuses t.0) ∙ commit_ready opening steps t reply is carried (ap is_live_status (sym (stand.statuses t.0)) ∙ alive)
+    (live_shown opening steps _ _ _ _ _ giver.0 stand ∙ both.1, live_shown opening steps _ _ _ _ _ taker.0 stand ∙ both.2)
+ready opening steps tables (Depend kind a b) reply stand is carried =
+    let all = depend_live opening steps kind a b reply is carried in
+    (live_shown opening steps _ _ _ _ _ a.0 stand ∙ all.1, live_shown opening steps _ _ _ _ _ b.0 stand ∙ all.2, would_cycle_shown steps tables.deps stand.dependencies_stand kind a.0 b.0 ∙ all.3)
+ready opening steps tables (Commit t) reply stand is carried = λ alive. may_commit_shown opening steps tables t.0 stand ∙ commit_ready opening steps t reply is carried (ap is_live_status (sym (stand.statuses t.0)) ∙ alive)
 ready opening steps tables (Abort t) reply stand is carried = tt
 ready opening steps tables (WaitFor t) reply stand is carried = tt
 
@@ -126,16 +128,17 @@ pub may_wait : (opening : Opening) (steps : List Step) (tables : Standing) (step
 unfolding unrefused is_free_for
 may_wait opening steps tables (Read t x) stand is =
     let none = waits_unrefused opening steps (Read t x) is in
-    (runs opening steps tables t.0 stand (read_unrefused opening steps t x none).0, free_shown opening steps _ _ _ _ t.0 x.0 Op'.Read stand ∙ blocked_if _ _ (answered_unrefused opening steps (Read t x) Wait is none))
+    (runs opening steps tables t.0 stand (read_unrefused opening steps t x none).0, free_shown opening steps _ _ _ _ _ t.0 x.0 Op'.Read stand ∙ blocked_if _ _ (answered_unrefused opening steps (Read t x) Wait is none))
 may_wait opening steps tables (Write t x v) stand is =
     let none = waits_unrefused opening steps (Write t x v) is in
     let there = write_unrefused opening steps t x v none in
-    (runs opening steps tables t.0 stand there.0, free_shown opening steps _ _ _ _ t.0 x.0 Op'.Write stand ∙ blocked_if _ _ (answered_unrefused opening steps (Write t x v) Wait is none), object_exists opening steps tables x.0 stand ∙ there.1)
+    (runs opening steps tables t.0 stand there.0, free_shown opening steps _ _ _ _ _ t.0 x.0 Op'.Write stand ∙ blocked_if _ _ (answered_unrefused opening steps (Write t x v) Wait is none), object_exists opening steps tables x.0 stand ∙ there.1)
 may_wait opening steps tables (Initiate t parent) stand is = tt
 may_wait opening steps tables (Begin t) stand is = tt
 may_wait opening steps tables (Complete t) stand is = tt
 may_wait opening steps tables (Permit giver taker obs ops) stand is = tt
 may_wait opening steps tables (Delegate giver taker obs) stand is = tt
+may_wait opening steps tables (Depend kind a b) stand is = tt
 may_wait opening steps tables (Commit t) stand is = tt
 may_wait opening steps tables (Abort t) stand is = tt
 may_wait opening steps tables (WaitFor t) stand is = tt

@@ -7,7 +7,7 @@ use Rattle.std.proofs.lemmas.List.Folds.{list_all-append}
 use Rattle.std.proofs.Math.Seq.{get_or-append_seam}
 use Rattle.std.proofs.lemmas.Option.{slice_get-get_or, slice_get-map}
 use Rattle.asset_names.specs.declared.steps.Step.{Step}
-use Rattle.asset_names.specs.declared.steps.Step.TheVariants.{Initiate, Begin, Read, Write, Complete, Permit, Delegate, Commit, Abort, WaitFor}
+use Rattle.asset_names.specs.declared.steps.Step.TheVariants.{Initiate, Begin, Read, Write, Complete, Permit, Delegate, Depend, Commit, Abort, WaitFor}
 use Rattle.asset_names.specs.declared.replies.Reply.{Reply}
 use Rattle.asset_core.specs.StoredSets.{StoredSet, set_or_all}
 use Rattle.asset_core.specs.declared.stored.Stored.{Stored}
@@ -38,6 +38,7 @@ entry_before sets set (Stored'.Write tag t x v) there = refl
 entry_before sets set (Stored'.Complete tag t) there = refl
 entry_before sets set (Stored'.Permit tag missing ops index giver taker) there = ap (λ found. permit_entry tag missing ops giver taker (set_or_all found)) (found_before sets set index (ltb-true index (length sets) there))
 entry_before sets set (Stored'.Delegate tag missing index giver taker) there = ap (λ found. delegate_entry tag missing giver taker (set_or_all found)) (found_before sets set index (ltb-true index (length sets) there))
+entry_before sets set (Stored'.Depend tag kind a b) there = refl
 entry_before sets set (Stored'.Commit tag t) there = refl
 entry_before sets set (Stored'.Abort tag t) there = refl
 entry_before sets set (Stored'.WaitFor tag t) there = refl
@@ -60,6 +61,7 @@ entries_after (Begin t) sets entries there = refl
 entries_after (Read t x) sets entries there = refl
 entries_after (Write t x v) sets entries there = refl
 entries_after (Complete t) sets entries there = refl
+entries_after (Depend kind a b) sets entries there = refl
 entries_after (Commit t) sets entries there = refl
 entries_after (Abort t) sets entries there = refl
 entries_after (WaitFor t) sets entries there = refl
@@ -74,6 +76,7 @@ entry_again (Write t x v) reply sets = refl
 entry_again (Complete t) reply sets = refl
 entry_again (Permit giver taker obs ops) reply sets = ap (λ found. permit_entry (tag_of_two giver reply) (missing_at obs reply) ops giver taker (set_or_all found)) (found_last sets (record { obs = obs }))
 entry_again (Delegate giver taker obs) reply sets = ap (λ found. delegate_entry (tag_of_two giver reply) (missing_at obs reply) giver taker (set_or_all found)) (found_last sets (record { obs = obs }))
+entry_again (Depend kind a b) reply sets = refl
 entry_again (Commit t) reply sets = refl
 entry_again (Abort t) reply sets = refl
 entry_again (WaitFor t) reply sets = refl
@@ -105,6 +108,7 @@ sets_more (Begin t) sets = (omega arith, omega arith)
 sets_more (Read t x) sets = (omega arith, omega arith)
 sets_more (Write t x v) sets = (omega arith, omega arith)
 sets_more (Complete t) sets = (omega arith, omega arith)
+sets_more (Depend kind a b) sets = (omega arith, omega arith)
 sets_more (Commit t) sets = (omega arith, omega arith)
 sets_more (Abort t) sets = (omega arith, omega arith)
 sets_more (WaitFor t) sets = (omega arith, omega arith)
@@ -119,6 +123,7 @@ there_more fewer more (Stored'.Begin tag t) le there = refl
 there_more fewer more (Stored'.Read tag t x v) le there = refl
 there_more fewer more (Stored'.Write tag t x v) le there = refl
 there_more fewer more (Stored'.Complete tag t) le there = refl
+there_more fewer more (Stored'.Depend tag kind a b) le there = refl
 there_more fewer more (Stored'.Commit tag t) le there = refl
 there_more fewer more (Stored'.Abort tag t) le there = refl
 there_more fewer more (Stored'.WaitFor tag t) le there = refl
@@ -140,6 +145,7 @@ last_there (Begin t) reply sets = refl
 last_there (Read t x) reply sets = refl
 last_there (Write t x v) reply sets = refl
 last_there (Complete t) reply sets = refl
+last_there (Depend kind a b) reply sets = refl
 last_there (Commit t) reply sets = refl
 last_there (Abort t) reply sets = refl
 last_there (WaitFor t) reply sets = refl

@@ -7,7 +7,7 @@ use Rattle.asset_names.specs.declared.operations.Op.TheVariants as Op'
 use Rattle.asset_names.specs.declared.statuses.Status.{Status}
 use Rattle.asset_names.specs.declared.statuses.Status.TheVariants as Status'
 use Rattle.asset_names.specs.declared.steps.Step.{Step}
-use Rattle.asset_names.specs.declared.steps.Step.TheVariants.{Initiate, Begin, Read, Write, Complete, Permit, Delegate, Commit, Abort, WaitFor}
+use Rattle.asset_names.specs.declared.steps.Step.TheVariants.{Initiate, Begin, Read, Write, Complete, Permit, Delegate, Depend, Commit, Abort, WaitFor}
 use Rattle.asset_names.specs.declared.replies.Reply.{Reply}
 use Rattle.asset_names.specs.declared.replies.Reply.TheVariants as Reply'
 use Rattle.asset_names.specs.declared.replies.Outcome.{Outcome}
@@ -15,7 +15,7 @@ use Rattle.asset_names.specs.declared.replies.Outcome.TheVariants.{Answer, Wait}
 use Rattle.asset_names.specs.Steps.{Opening}
 use Rattle.asset_names.specs.Endings.{status}
 use Rattle.asset_names.specs.Operations.{free, value}
-use Rattle.asset_names.specs.Answers.{Rule, rules_for, first_refusal, class_completed, commit_outcome, wait_outcome, unrefused, outcome_unless, answer, unknown, ended, not_running, taken, begun_before, too_late, no_object, one_name, missing_in, missing_rule, no_object_of}
+use Rattle.asset_names.specs.Answers.{Rule, rules_for, first_refusal, may_commit, commit_outcome, wait_outcome, unrefused, outcome_unless, answer, unknown, ended, not_running, taken, begun_before, too_late, no_object, one_name, cycle, missing_in, missing_rule, no_object_of}
 use Rattle.asset_names.specs.declared.names.Ob.{Ob}
 use Rattle.asset_names.specs.declared.sets.ObSet.{ObSet}
 use Rattle.asset_names.specs.declared.sets.ObSet.TheVariants.{All, Listed}
@@ -38,6 +38,7 @@ again (Write t x v) reply = reply_about t x (pos 0) (tag_of reply)
 again (Complete t) reply = reply_of_name t (tag_of reply)
 again (Permit giver taker obs ops) reply = again_of_two giver taker obs reply
 again (Delegate giver taker obs) reply = again_of_two giver taker obs reply
+again (Depend kind a b) reply = reply_of_two a b no_object_name (tag_of_two a reply)
 again (Commit t) reply = reply_of_name t (tag_of reply)
 again (Abort t) reply = reply_of_name t (tag_of reply)
 again (WaitFor t) reply = reply_of_name t (tag_of reply)
@@ -130,7 +131,7 @@ two_same opening steps giver taker obs = (
 )
 
 refusals_same : (opening : Opening) (steps : List Step) (step : Step) → AreSame (again step) (rules_for opening steps step)
-unfolding AreSame again rules_for unknown ended not_running taken begun_before too_late no_object one_name no_object_of tag_of tag_of_two reply_about reply_of_name reply_of_two
+unfolding AreSame again rules_for unknown ended not_running taken begun_before too_late no_object one_name cycle no_object_of tag_of tag_of_two reply_about reply_of_name reply_of_two
 refusals_same opening steps (Initiate t parent) = (λ _. refl, tt)
 refusals_same opening steps (Begin t) = (λ _. refl, (λ _. refl, (λ _. refl, tt)))
 refusals_same opening steps (Read t x) = (λ _. refl, (λ _. refl, (λ _. refl, (λ _. refl, tt))))
@@ -138,6 +139,22 @@ refusals_same opening steps (Write t x v) = (λ _. refl, (λ _. refl, (λ _. ref
 refusals_same opening steps (Complete t) = (λ _. refl, (λ _. refl, (λ _. refl, tt)))
 refusals_same opening steps (Permit giver taker obs ops) = two_same opening steps giver taker obs
 refusals_same opening steps (Delegate giver taker obs) = two_same opening steps giver taker obs
+refusals_same opening steps (Depend kind a b) = (
+  λ _. refl,
+  (
+    λ _. about_first a b _ ReplyTag'.Unknown ReplyTag'.SecondUnknown (λ t. Reply'.Refused (Refusal'.Unknown t)) refl,
+    (
+      λ _. about_second a b _ ReplyTag'.Unknown ReplyTag'.SecondUnknown (λ t. Reply'.Refused (Refusal'.Unknown t)) refl refl,
+      (
+        λ _. about_first a b _ ReplyTag'.Ended ReplyTag'.SecondEnded (λ t. Reply'.Refused (Refusal'.Ended t)) refl,
+        (
+          λ _. about_second a b _ ReplyTag'.Ended ReplyTag'.SecondEnded (λ t. Reply'.Refused (Refusal'.Ended t)) refl refl,
+          (λ _. refl, tt),
+        ),
+      ),
+    ),
+  ),
+)
 refusals_same opening steps (Commit t) = (λ _. refl, tt)
 refusals_same opening steps (Abort t) = (λ _. refl, (λ _. refl, tt))
 refusals_same opening steps (WaitFor t) = (λ _. refl, tt)
@@ -169,7 +186,8 @@ unrefused_same opening steps (Write t x v) = same_if _ (free steps t.0 x.0 Op'.W
 unrefused_same opening steps (Complete t) = refl
 unrefused_same opening steps (Permit giver taker obs ops) = refl
 unrefused_same opening steps (Delegate giver taker obs) = refl
-unrefused_same opening steps (Commit t) = commit_same t (status steps t.0) (class_completed steps t.0)
+unrefused_same opening steps (Depend kind a b) = refl
+unrefused_same opening steps (Commit t) = commit_same t (status steps t.0) (may_commit steps t.0)
 unrefused_same opening steps (Abort t) = refl
 unrefused_same opening steps (WaitFor t) = wait_same t (status steps t.0)
 

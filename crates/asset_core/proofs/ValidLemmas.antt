@@ -4,7 +4,7 @@ use Rattle.std.specs.Prelude.{Option}
 use Rattle.std.proofs.lemmas.Bool.{false≢true}
 use Rattle.asset_names.specs.declared.names.Txn.{Txn}
 use Rattle.asset_names.specs.declared.steps.Step.{Step}
-use Rattle.asset_names.specs.declared.steps.Step.TheVariants.{Initiate, Begin, Read, Write, Complete, Permit, Delegate, Commit, Abort, WaitFor}
+use Rattle.asset_names.specs.declared.steps.Step.TheVariants.{Initiate, Begin, Read, Write, Complete, Permit, Delegate, Depend, Commit, Abort, WaitFor}
 use Rattle.asset_names.specs.declared.replies.Reply.{Reply}
 use Rattle.asset_names.specs.declared.replies.Outcome.TheVariants.{Answer}
 use Rattle.asset_names.specs.Arrows.{lists}
@@ -29,7 +29,7 @@ valid_orderly history tables kept = legal_orderly history.opening history.entrie
 
 -- what the table counts is what is owed
 pub valid_owed : (history : Recorded) (tables : Standing) → IsValid history tables → owed_in tables.trans ≡ owed (applied history.entries)
-valid_owed history tables kept = owed_shown history.opening (applied history.entries) _ _ _ _ kept.stand (valid_orderly history tables kept)
+valid_owed history tables kept = owed_shown history.opening (applied history.entries) _ _ _ _ _ kept.stand (valid_orderly history tables kept)
 
 -- a step that takes memory changes no status for good
 pub no_ending : (steps : List Step) (step : Step) (reply : Reply) → takes_memory step ≡ true → changes_status steps step reply ≡ false
@@ -39,6 +39,7 @@ no_ending steps (Read t x) reply takes = refl
 no_ending steps (Write t x v) reply takes = refl
 no_ending steps (Permit giver taker obs ops) reply takes = refl
 no_ending steps (Delegate giver taker obs) reply takes = refl
+no_ending steps (Depend kind a b) reply takes = refl
 no_ending steps (Begin t) reply takes = refl
 no_ending steps (WaitFor t) reply takes = refl
 no_ending steps (Complete t) reply takes = absurd (false≢true takes)

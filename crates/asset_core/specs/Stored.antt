@@ -7,7 +7,7 @@ use Rattle.asset_names.specs.declared.names.Ob.{Ob}
 use Rattle.asset_names.specs.declared.sets.ObSet.{ObSet}
 use Rattle.asset_names.specs.declared.sets.ObSet.TheVariants.{All, Listed}
 use Rattle.asset_names.specs.declared.steps.Step.{Step}
-use Rattle.asset_names.specs.declared.steps.Step.TheVariants.{Initiate, Begin, Read, Write, Complete, Permit, Delegate, Commit, Abort, WaitFor}
+use Rattle.asset_names.specs.declared.steps.Step.TheVariants.{Initiate, Begin, Read, Write, Complete, Permit, Delegate, Depend, Commit, Abort, WaitFor}
 use Rattle.asset_names.specs.declared.replies.Refusal.TheVariants as Refusal'
 use Rattle.asset_names.specs.declared.replies.Reply.{Reply}
 use Rattle.asset_names.specs.declared.replies.Reply.TheVariants as Reply'
@@ -100,6 +100,7 @@ stored_as count (Write t x v) reply = Stored'.Write (tag_of reply) t x v
 stored_as count (Complete t) reply = Stored'.Complete (tag_of reply) t
 stored_as count (Permit giver taker obs ops) reply = Stored'.Permit (tag_of_two giver reply) (missing_at obs reply) ops count giver taker
 stored_as count (Delegate giver taker obs) reply = Stored'.Delegate (tag_of_two giver reply) (missing_at obs reply) count giver taker
+stored_as count (Depend kind a b) reply = Stored'.Depend (tag_of_two a reply) kind a b
 stored_as count (Commit t) reply = Stored'.Commit (tag_of reply) t
 stored_as count (Abort t) reply = Stored'.Abort (tag_of reply) t
 stored_as count (WaitFor t) reply = Stored'.WaitFor (tag_of reply) t
@@ -127,6 +128,7 @@ entry_of sets (Stored'.Write tag t x v) = (Write t x v, reply_about t x (pos 0) 
 entry_of sets (Stored'.Complete tag t) = (Complete t, reply_of_name t tag)
 entry_of sets (Stored'.Permit tag missing ops set giver taker) = permit_entry tag missing ops giver taker (set_or_all (slice_get sets set))
 entry_of sets (Stored'.Delegate tag missing set giver taker) = delegate_entry tag missing giver taker (set_or_all (slice_get sets set))
+entry_of sets (Stored'.Depend tag kind a b) = (Depend kind a b, reply_of_two a b no_object_name tag)
 entry_of sets (Stored'.Commit tag t) = (Commit t, reply_of_name t tag)
 entry_of sets (Stored'.Abort tag t) = (Abort t, reply_of_name t tag)
 entry_of sets (Stored'.WaitFor tag t) = (WaitFor t, reply_of_name t tag)

@@ -1,22 +1,23 @@
 -- The tables of the facility, and when a step finds them ready.
-use Rattle.std.specs.Prelude.{◌≡◌, ℕ, ℤ, pos, ◌+◌, ◌≤◌, ◌==◌, true, false, cond, List, map, length, unwrap_or}
+use Rattle.std.specs.Prelude.{◌≡◌, ℕ, ℤ, pos, ◌+◌, ◌≤◌, Bool, true, false, cond, List, map, length, unwrap_or}
 use Rattle.asset_names.specs.declared.operations.Op.TheVariants as Op'
 use Rattle.asset_names.specs.declared.statuses.Status.TheVariants as Status'
 use Rattle.asset_names.specs.declared.steps.Step.{Step}
-use Rattle.asset_names.specs.declared.steps.Step.TheVariants.{Initiate, Begin, Read, Write, Complete, Permit, Delegate, Commit, Abort, WaitFor}
+use Rattle.asset_names.specs.declared.steps.Step.TheVariants.{Initiate, Begin, Read, Write, Complete, Permit, Delegate, Depend, Commit, Abort, WaitFor}
 use Rattle.asset_names.specs.declared.replies.Reply.TheVariants as Reply'
 use Rattle.asset_names.specs.declared.replies.Outcome.{Outcome}
 use Rattle.asset_names.specs.declared.replies.Outcome.TheVariants.{Answer, Wait}
 use Rattle.asset_names.specs.Steps.{applied}
 use Rattle.asset_names.specs.Endings.{is_live_status}
-use Rattle.asset_names.specs.Answers.{IsLegal, is_completed}
+use Rattle.asset_names.specs.Answers.{IsLegal}
 use Rattle.asset_names.specs.Room.{owed}
 use Rattle.asset_objects.specs.Cells.{cells, value_in, has_object}
+use Rattle.asset_deps.specs.Dependencies.{class_in, doomed_in, would_cycle_in}
 use Rattle.asset_locks.specs.LockTable as Locks
 use Rattle.asset_trans.specs.TransRows.{status_in}
 use Rattle.asset_core.specs.Recorded.{Recorded}
 use Rattle.asset_core.specs.Pending.{Pending}
-use Rattle.asset_ends.specs.Standing.{Standing, values_of, is_free_for}
+use Rattle.asset_ends.specs.Standing.{Standing, values_of, is_free_for, may_commit_in}
 use Rattle.asset_ends.specs.Shows.{Shows}
 
 -- the value that a write asks for, and 0 of another step
@@ -41,7 +42,8 @@ IsReady (Write t x v) tables = (status_in tables.trans t.0 ≡ Status'.Running) 
 IsReady (Complete t) tables = status_in tables.trans t.0 ≡ Status'.Running
 IsReady (Permit giver taker obs ops) tables = (is_live_status (status_in tables.trans giver.0) ≡ true) × (is_live_status (status_in tables.trans taker.0) ≡ true)
 IsReady (Delegate giver taker obs) tables = (is_live_status (status_in tables.trans giver.0) ≡ true) × (is_live_status (status_in tables.trans taker.0) ≡ true)
-IsReady (Commit t) tables = is_live_status (status_in tables.trans t.0) ≡ true → is_completed (status_in tables.trans t.0) ≡ true
+IsReady (Depend kind a b) tables = (is_live_status (status_in tables.trans a.0) ≡ true) × (is_live_status (status_in tables.trans b.0) ≡ true) × (would_cycle_in tables.deps kind a.0 b.0 ≡ false)
+IsReady (Commit t) tables = is_live_status (status_in tables.trans t.0) ≡ true → may_commit_in tables t.0 ≡ true
 IsReady (Abort t) tables = Unit {0}
 IsReady (WaitFor t) tables = Unit {0}
 
@@ -51,9 +53,9 @@ MayWait (Read t x) tables = (status_in tables.trans t.0 ≡ Status'.Running) × 
 MayWait (Write t x v) tables = (status_in tables.trans t.0 ≡ Status'.Running) × (is_free_for tables t.0 x.0 Op'.Write ≡ false) × (has_object (cells tables.objects) x.0 ≡ true)
 MayWait step tables = Unit {0}
 
--- who ends is released, if it was live
-unfoldable pub released : Standing → ℕ → Locks.LockTable
-released tables t = cond (is_live_status (status_in tables.trans t)) (Locks.release_in (λ n. n == t) tables.locks) tables.locks
+-- those whom an end of t takes are released, if t was live
+unfoldable pub released : Standing → ℕ → (ℕ → Bool) → Locks.LockTable
+released tables t test = cond (is_live_status (status_in tables.trans t)) (Locks.release_in test tables.locks) tables.locks
 
 -- the locks after a step that took effect
 unfoldable pub locks_after : Step → Standing → Locks.LockTable
@@ -61,8 +63,8 @@ locks_after (Initiate t parent) tables = Locks.enrol_in t.0 tables.locks
 locks_after (Read t x) tables = Locks.grant_in t.0 x Op'.Read tables.locks
 locks_after (Write t x v) tables = Locks.grant_in t.0 x Op'.Write tables.locks
 locks_after (Delegate giver taker obs) tables = Locks.hand_over_in giver.0 taker.0 obs tables.locks
-locks_after (Commit t) tables = released tables t.0
-locks_after (Abort t) tables = released tables t.0
+locks_after (Commit t) tables = released tables t.0 (class_in tables.deps t.0)
+locks_after (Abort t) tables = released tables t.0 (doomed_in tables.deps t.0)
 locks_after step tables = tables.locks
 
 -- the locks after a request that waits

@@ -1,10 +1,11 @@
 //! What the tables answer to a step: the first refusal that applies, or else what the step itself says.
 
-ghost use Rattle.std.specs.Prelude.{◌≡◌, ℕ, ℤ, not, find, List, [], ◌∷◌, None};
+ghost use Rattle.std.specs.Prelude.{◌≡◌, ℕ, ℤ, not, find, List, [], ◌∷◌, None, false};
 ghost use Rattle.asset_names.specs.declared.steps.Step.{Step as Request};
 ghost use Rattle.asset_names.specs.declared.operations.Op.{Op as Operation};
 ghost use Rattle.asset_names.specs.Steps.{Opening};
-ghost use Rattle.asset_names.specs.Answers.{first_refusal, rules_for, unrefused, answer, unknown, ended, not_running, no_object, one_name, missing_in, no_object_of};
+ghost use Rattle.asset_names.specs.Endings.{status};
+ghost use Rattle.asset_names.specs.Answers.{first_refusal, rules_for, unrefused, answer, unknown, ended, not_running, no_object, one_name, cycle, is_unknown, commit_outcome, may_commit, missing_in, no_object_of};
 ghost use Rattle.asset_objects.specs.Cells.{cells, has_object};
 ghost use Rattle.asset_ends.specs.Shows.{Shows};
 ghost use Rattle.asset_ends.specs.Standing.{values_of};
@@ -12,14 +13,15 @@ ghost use Rattle.asset_core.specs.Tables.{value_or_zero, read_outcome};
 
 use asset_ends::Tables;
 use asset_names::{
-    Ob, ObSet, Op, Outcome, Refusal, Reply, Step, Txn, commit_outcome, refusal_between,
-    refusal_to_abort, refusal_to_begin, refusal_to_find, refusal_to_initiate, refusal_to_operate,
-    refusal_to_work, wait_outcome,
+    Kind, Ob, ObSet, Op, Outcome, Refusal, Reply, Step, Txn, commit_outcome, refusal_between,
+    refusal_to_abort, refusal_to_begin, refusal_to_depend, refusal_to_find, refusal_to_initiate,
+    refusal_to_operate, refusal_to_work, wait_outcome,
 };
 
-/// Returns the first refusal of a step, if one applies.
-fn refusal(tables: &Tables, step: &Step) -> Option<Refusal>
-    ensures { (opening : Opening) (steps : List Request) → Shows opening steps (values_of tables.now) → result ≡ first_refusal (rules_for opening steps step.now) }
+/// Returns the first refusal of a step, if one applies. Nothing changes.
+fn refusal(tables: &mut Tables, step: &Step) -> Option<Refusal>
+    ensures refusal { (opening : Opening) (steps : List Request) → Shows opening steps (values_of tables.old) → result ≡ first_refusal (rules_for opening steps step.now) }
+    ensures same { tables.new ≡ tables.old }
 {
     match *step {
         Step::Initiate { t, .. } => refusal_to_initiate(t, tables.status(t)),
@@ -34,6 +36,7 @@ fn refusal(tables: &Tables, step: &Step) -> Option<Refusal>
             ..
         } => refusal_to_share(tables, giver, taker, &obs),
         Step::Delegate { giver, taker, obs } => refusal_to_share(tables, giver, taker, &obs),
+        Step::Depend { kind, a, b } => refusal_of_dependency(tables, kind, a, b),
         Step::Commit { t } => refusal_to_find(t, tables.status(t)),
         Step::WaitFor { t } => refusal_to_find(t, tables.status(t)),
         Step::Abort { t } => refusal_to_abort(t, tables.status(t)),
@@ -62,6 +65,31 @@ fn refusal_to_share(tables: &Tables, giver: Txn, taker: Txn, obs: &ObSet) -> Opt
         tables.status(taker),
         missing,
     )
+}
+
+/// Returns why `b` may not be made to depend on `a`, and `None` if it may. Whether that would close a cycle is looked at
+/// last. Nothing changes.
+fn refusal_of_dependency(tables: &mut Tables, kind: Kind, a: Txn, b: Txn) -> Option<Refusal>
+    ensures refusal { (opening : Opening) (steps : List Request) → Shows opening steps (values_of tables.old) →
+        result ≡ first_refusal (one_name a b ∷ unknown steps a ∷ unknown steps b ∷ ended steps a ∷ ended steps b ∷ cycle steps kind a b ∷ []) }
+    ensures same { tables.new ≡ tables.old }
+{
+    match refusal_to_depend(a, tables.status(a), b, tables.status(b)) {
+        Some(refusal) => Some(refusal),
+        None => refusal_of_cycle(tables, kind, a, b),
+    }
+}
+
+/// Returns Cycle if a dependency of `b` on `a` would close a cycle. Nothing changes.
+fn refusal_of_cycle(tables: &mut Tables, kind: Kind, a: Txn, b: Txn) -> Option<Refusal>
+    ensures refusal { (opening : Opening) (steps : List Request) → Shows opening steps (values_of tables.old) → result ≡ first_refusal (cycle steps kind a b ∷ []) }
+    ensures same { tables.new ≡ tables.old }
+{
+    if tables.would_cycle(kind, a, b) {
+        Some(Refusal::Cycle)
+    } else {
+        None
+    }
 }
 
 /// Returns the least object of the set that does not exist, if there is one.
@@ -129,6 +157,20 @@ fn write_outcome(tables: &mut Tables, t: Txn, x: Ob) -> Outcome
     }
 }
 
+/// Returns the outcome of a commit of a transaction that was initiated. Nothing changes.
+fn commit_outcome_of(tables: &mut Tables, t: Txn) -> Outcome
+    ensures outcome { (opening : Opening) (steps : List Request) → Shows opening steps (values_of tables.old) → is_unknown (status steps t.0) ≡ false →
+        result ≡ commit_outcome (status steps t.0) (may_commit steps t.0) }
+    ensures same { tables.new ≡ tables.old }
+{
+    let status = tables.status(t);
+    if status.is_live() {
+        commit_outcome(status, tables.may_commit(t))
+    } else {
+        commit_outcome(status, false)
+    }
+}
+
 /// Returns the outcome of a step that is not refused. Nothing changes.
 fn unrefused(tables: &mut Tables, step: &Step) -> Outcome
     ensures outcome { (opening : Opening) (steps : List Request) → Shows opening steps (values_of tables.old) → first_refusal (rules_for opening steps step.now) ≡ None →
@@ -141,12 +183,10 @@ fn unrefused(tables: &mut Tables, step: &Step) -> Outcome
         Step::Complete { .. } => Outcome::Answer(Reply::Done),
         Step::Permit { .. } => Outcome::Answer(Reply::Done),
         Step::Delegate { .. } => Outcome::Answer(Reply::Done),
+        Step::Depend { .. } => Outcome::Answer(Reply::Done),
         Step::Read { t, x } => read_outcome(tables, t, x),
         Step::Write { t, x, .. } => write_outcome(tables, t, x),
-        Step::Commit { t } => {
-            let status = tables.status(t);
-            commit_outcome(status, status.is_completed())
-        }
+        Step::Commit { t } => commit_outcome_of(tables, t),
         Step::Abort { .. } => Outcome::Answer(Reply::Aborted),
         Step::WaitFor { t } => wait_outcome(tables.status(t)),
     }

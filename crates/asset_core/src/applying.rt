@@ -6,13 +6,14 @@ ghost use Rattle.asset_names.specs.Steps.{Opening, Entry, takes_effect, applied}
 ghost use Rattle.asset_names.specs.declared.operations.Op.{Op as Operation};
 ghost use Rattle.asset_names.specs.declared.statuses.Status.{Status};
 ghost use Rattle.asset_names.specs.Endings.{is_live_status};
-ghost use Rattle.asset_names.specs.Answers.{takes_memory, is_completed};
+ghost use Rattle.asset_names.specs.Answers.{takes_memory};
+ghost use Rattle.asset_deps.specs.Dependencies.{class_in, doomed_in};
 ghost use Rattle.asset_objects.specs.Cells.{cells, has_object};
 ghost use Rattle.asset_locks.specs.LockTable.{wait_in};
 ghost use Rattle.asset_trans.specs.TransRows.{status_in};
 ghost use Rattle.asset_names.specs.Orderly.{IsOrderly};
 ghost use Rattle.asset_ends.specs.Shows.{Shows};
-ghost use Rattle.asset_ends.specs.Standing.{values_of, is_free_for, ShowAlike};
+ghost use Rattle.asset_ends.specs.Standing.{values_of, is_free_for, may_commit_in, ShowAlike};
 ghost use Rattle.asset_core.specs.Tables.{value_asked, IsReady, MayWait, locks_after, locks_waiting, released};
 
 use asset_ends::Tables;
@@ -80,6 +81,7 @@ fn apply(tables: &mut Tables, step: &Step) -> Result<(), NoMemory>
             ops,
         } => tables.permit(giver, taker, obs, ops),
         Step::Delegate { giver, taker, obs } => tables.delegate(giver, taker, &obs),
+        Step::Depend { kind, a, b } => tables.depend(kind, a, b),
         Step::Commit { t } => {
             commit(tables, t);
             Ok(())
@@ -92,21 +94,21 @@ fn apply(tables: &mut Tables, step: &Step) -> Result<(), NoMemory>
     }
 }
 
-/// Commits a transaction that has completed. One that has ended stays as it is.
+/// Commits a transaction whose class may commit, with its whole class. One that has ended stays as it is.
 fn commit(tables: &mut Tables, t: Txn)
-    requires completed { is_live_status (status_in tables.old.trans t.0) ≡ true → is_completed (status_in tables.old.trans t.0) ≡ true }
+    requires ready { is_live_status (status_in tables.old.trans t.0) ≡ true → may_commit_in tables.old t.0 ≡ true }
     ensures stand { (opening : Opening) (steps : List Request) → Shows opening steps (values_of tables.old) → Shows opening (Request.Commit t ∷ steps) (values_of tables.new) }
-    ensures locks { tables.new.locks ≡ released tables.old t.0 }
+    ensures locks { tables.new.locks ≡ released tables.old t.0 (class_in tables.old.deps t.0) }
 {
     if tables.status(t).is_live() {
         tables.try_commit(t);
     }
 }
 
-/// Aborts a transaction that is live. One that has ended stays as it is.
+/// Aborts a transaction that is live, with all whom that takes. One that has ended stays as it is.
 fn abort(tables: &mut Tables, t: Txn)
     ensures stand { (opening : Opening) (steps : List Request) → Shows opening steps (values_of tables.old) → Shows opening (Request.Abort t ∷ steps) (values_of tables.new) }
-    ensures locks { tables.new.locks ≡ released tables.old t.0 }
+    ensures locks { tables.new.locks ≡ released tables.old t.0 (doomed_in tables.old.deps t.0) }
 {
     if tables.status(t).is_live() {
         tables.abort(t);
@@ -127,6 +129,7 @@ pub(crate) fn wait(tables: &mut Tables, step: &Step)
         Step::Complete { .. } => {}
         Step::Permit { .. } => {}
         Step::Delegate { .. } => {}
+        Step::Depend { .. } => {}
         Step::Commit { .. } => {}
         Step::Abort { .. } => {}
         Step::WaitFor { .. } => {}

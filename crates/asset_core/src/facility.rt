@@ -124,8 +124,8 @@ impl Core {
     ///
     /// It answers `Full` exactly if the entries with this one, together with those that live transactions are
     /// owed after it, exceed the capacity. A complete, a commit or an abort that changes a status always finds
-    /// room. `NoMemory` can come only if an initiate, a read, a write, a permit or a delegation would take effect. After
-    /// `Full` and `NoMemory` nothing has changed.
+    /// room. `NoMemory` can come only if an initiate, a read, a write, a permit, a delegation or a dependency would take
+    /// effect. After `Full` and `NoMemory` nothing has changed.
     #[tactic(auto, unfolding(crate::specs::Recorded::after, crate::specs::Recorded::has_room, crate::specs::Recorded::is_ending, asset_names::specs::Answers::outcome_takes_effect))]
     pub fn step(&mut self, step: Step) -> Result<Outcome, Fault>
         ensures answered { IfOk result (λ outcome. outcome ≡ answer_to self.old.history step) }
@@ -179,6 +179,7 @@ impl Core {
             Step::Write { .. } => false,
             Step::Permit { .. } => false,
             Step::Delegate { .. } => false,
+            Step::Depend { .. } => false,
             Step::WaitFor { .. } => false,
         }
     }

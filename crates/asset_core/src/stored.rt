@@ -5,7 +5,7 @@ use crate::applying::value_asked;
 use crate::reply_tag::{ReplyTag, value_read};
 use crate::stored_set::{missing_at, object_at};
 use crate::stored_sets::StoredSets;
-use asset_names::{Ob, Ops, Reply, Step, Txn};
+use asset_names::{Kind, Ob, Ops, Reply, Step, Txn};
 use std::mem::size_of;
 
 /// An entry as it is stored: the step, and the tag of its reply. A read has the value that it read, or 0. The tag comes
@@ -54,6 +54,12 @@ pub(crate) enum Stored {
         set: usize,
         giver: Txn,
         taker: Txn,
+    },
+    Depend {
+        tag: ReplyTag,
+        kind: Kind,
+        a: Txn,
+        b: Txn,
     },
     Commit {
         tag: ReplyTag,
@@ -117,6 +123,12 @@ impl Stored {
                 giver,
                 taker,
             },
+            Step::Depend { kind, a, b } => Stored::Depend {
+                tag: ReplyTag::of_two(a, reply),
+                kind,
+                a,
+                b,
+            },
             Step::Commit { t } => Stored::Commit { tag, t },
             Step::Abort { t } => Stored::Abort { tag, t },
             Step::WaitFor { t } => Stored::WaitFor { tag, t },
@@ -169,6 +181,10 @@ impl Stored {
                 let reply = tag.about_two(giver, taker, object_at(&obs, missing));
                 (Step::Delegate { giver, taker, obs }, reply)
             }
+            Stored::Depend { tag, kind, a, b } => (
+                Step::Depend { kind, a, b },
+                tag.about_two(a, b, Ob::default()),
+            ),
             Stored::Commit { tag, t } => (Step::Commit { t }, tag.about_name(t)),
             Stored::Abort { tag, t } => (Step::Abort { t }, tag.about_name(t)),
             Stored::WaitFor { tag, t } => (Step::WaitFor { t }, tag.about_name(t)),

@@ -9,6 +9,7 @@ use Rattle.asset_names.specs.declared.steps.Step.TheVariants.{Read, Write}
 use Rattle.asset_names.specs.Steps.{Opening}
 use Rattle.asset_names.specs.Endings.{live}
 use Rattle.asset_objects.specs.Cells.{Cells, change_at, written}
+use Rattle.asset_deps.specs.Dependencies.{Dependency}
 use Rattle.asset_permits.specs.Descriptors.{Descriptor}
 use Rattle.asset_locks.specs.declared.state.Asked.TheVariants.{Granted, Pending}
 use Rattle.asset_locks.specs.LockTable as Locks
@@ -30,17 +31,17 @@ pending_blocked false h = refl
 pending_blocked true h = cc
 
 -- a read that was asked for
-pub read_asked_shows : (opening : Opening) (steps : List Step) (rows : List NamedTransRow) (objects : Cells) (table : Locks.LockTable) (descriptors : List Descriptor) (t : Txn) (x : Ob) (free : Bool) → Shows opening steps (table_values rows objects table descriptors)
+pub read_asked_shows : (opening : Opening) (steps : List Step) (rows : List NamedTransRow) (objects : Cells) (table : Locks.LockTable) (descriptors : List Descriptor) (deps : List Dependency) (t : Txn) (x : Ob) (free : Bool) → Shows opening steps (table_values rows objects table descriptors deps)
     → live steps t.0 ≡ true → is_some (Locks.enrolled_in table t.0) ≡ true
-    → Shows opening (step_if free (Read t x) steps) (table_values rows objects (after_ask free t.0 x Op'.Read table) descriptors)
+    → Shows opening (step_if free (Read t x) steps) (table_values rows objects (after_ask free t.0 x Op'.Read table) descriptors deps)
 unfolding step_if after_ask
-read_asked_shows opening steps rows objects table descriptors t x true stand alive enrolled = read_shows opening steps rows objects table descriptors t x stand alive enrolled
-read_asked_shows opening steps rows objects table descriptors t x false stand alive enrolled = waiting_shows opening steps rows objects table descriptors t.0 x Op'.Read stand
+read_asked_shows opening steps rows objects table descriptors deps t x true stand alive enrolled = read_shows opening steps rows objects table descriptors deps t x stand alive enrolled
+read_asked_shows opening steps rows objects table descriptors deps t x false stand alive enrolled = waiting_shows opening steps rows objects table descriptors deps t.0 x Op'.Read stand
 
 -- a write that was asked for
-pub write_asked_shows : (opening : Opening) (steps : List Step) (rows : List NamedTransRow) (objects : Cells) (table : Locks.LockTable) (descriptors : List Descriptor) (t : Txn) (x : Ob) (v : ℤ) (free : Bool) → Shows opening steps (table_values rows objects table descriptors)
+pub write_asked_shows : (opening : Opening) (steps : List Step) (rows : List NamedTransRow) (objects : Cells) (table : Locks.LockTable) (descriptors : List Descriptor) (deps : List Dependency) (t : Txn) (x : Ob) (v : ℤ) (free : Bool) → Shows opening steps (table_values rows objects table descriptors deps)
     → live steps t.0 ≡ true → is_some (Locks.enrolled_in table t.0) ≡ true
-    → Shows opening (step_if free (Write t x v) steps) (table_values rows (cond free (change_at x.0 (written t.0 v) objects) objects) (after_ask free t.0 x Op'.Write table) descriptors)
+    → Shows opening (step_if free (Write t x v) steps) (table_values rows (cond free (change_at x.0 (written t.0 v) objects) objects) (after_ask free t.0 x Op'.Write table) descriptors deps)
 unfolding step_if after_ask
-write_asked_shows opening steps rows objects table descriptors t x v true stand alive enrolled = write_shows opening steps rows objects table descriptors t x v stand alive enrolled
-write_asked_shows opening steps rows objects table descriptors t x v false stand alive enrolled = waiting_shows opening steps rows objects table descriptors t.0 x Op'.Write stand
+write_asked_shows opening steps rows objects table descriptors deps t x v true stand alive enrolled = write_shows opening steps rows objects table descriptors deps t x v stand alive enrolled
+write_asked_shows opening steps rows objects table descriptors deps t x v false stand alive enrolled = waiting_shows opening steps rows objects table descriptors deps t.0 x Op'.Write stand

@@ -18,7 +18,7 @@ use Rattle.asset_names.specs.Sets.{numbers}
 use Rattle.asset_names.specs.InSet.{in_set}
 use Rattle.asset_names.specs.OpSets.{has_op}
 use Rattle.asset_names.specs.Steps.{Opening, initiated, initiated_by, begun, begun_by, completed, completed_by, parent_of, parent_by}
-use Rattle.asset_names.specs.Endings.{live, end_of}
+use Rattle.asset_names.specs.Endings.{dependencies, dependency_by, live, end_of}
 use Rattle.asset_names.specs.Operations.{Use, Operation, operations, operated, opening_at, handed_over, holds, holds_object, permits}
 use Rattle.asset_names.specs.Operations.Use.{reads, writes}
 use Rattle.asset_names.proofs.Common.{eqb-flip}
@@ -29,10 +29,12 @@ use Rattle.asset_locks.specs.declared.lock.Lock.{Lock}
 use Rattle.asset_locks.specs.LockTable as Locks
 use Rattle.asset_locks.specs.Valid.{IsValid, is_some_op}
 use Rattle.asset_locks.proofs.HandLaws.{carries_handed, carries_own, names_handed}
+use Rattle.asset_deps.specs.Dependencies.{Dependency}
 use Rattle.asset_permits.specs.Descriptors.{Descriptor, one_covers}
 use Rattle.asset_trans.specs.TransRows.{NamedTransRow}
 use Rattle.asset_ends.specs.Shows.{Shows, placed, used, cell_after, cell_of, permitted, table_values}
 use Rattle.asset_ends.proofs.CellLemmas.{cell_same}
+use Rattle.asset_ends.proofs.DependLaws.{depended_quiet}
 use Rattle.asset_ends.proofs.HistoryLemmas.{enrolled_quiet}
 use Rattle.asset_ends.proofs.ShowsLemmas.{status_quiet}
 
@@ -211,12 +213,12 @@ unfolding change_where
 changed_where test change one other x same = rw same
 
 -- a delegation between live transactions
-pub delegate_shows : (opening : Opening) (steps : List Step) (rows : List NamedTransRow) (objects : Cells) (table : Locks.LockTable) (descriptors : List Descriptor) (giver taker : Txn) (obs : ObSet) → Shows opening steps (table_values rows objects table descriptors)
+pub delegate_shows : (opening : Opening) (steps : List Step) (rows : List NamedTransRow) (objects : Cells) (table : Locks.LockTable) (descriptors : List Descriptor) (deps : List Dependency) (giver taker : Txn) (obs : ObSet) → Shows opening steps (table_values rows objects table descriptors deps)
     → live steps giver.0 ≡ true → live steps taker.0 ≡ true → IsValid table → is_some (Locks.enrolled_in table taker.0) ≡ true → (later : List Descriptor)
     → IsCopied giver.0 taker.0 (numbers (filter (λ (o : Ob). in_set obs o.0) (Locks.held_in table giver.0))) descriptors later
-    → Shows opening (Delegate giver taker obs ∷ steps) (table_values rows (change_where (in_set obs) (handed_cell giver.0 taker.0) objects) (Locks.hand_over_in giver.0 taker.0 obs table) later)
-unfolding initiated initiated_by begun begun_by completed completed_by parent_of parent_by
-delegate_shows opening steps rows objects table descriptors giver taker obs shows gives takes valid enrolled later copied = record {
+    → Shows opening (Delegate giver taker obs ∷ steps) (table_values rows (change_where (in_set obs) (handed_cell giver.0 taker.0) objects) (Locks.hand_over_in giver.0 taker.0 obs table) later deps)
+unfolding initiated initiated_by begun begun_by completed completed_by parent_of parent_by dependencies dependency_by
+delegate_shows opening steps rows objects table descriptors deps giver taker obs shows gives takes valid enrolled later copied = record {
   names = shows.names;
   statuses = λ n. shows.statuses n ∙ sym (status_quiet (Delegate giver taker obs) steps refl refl refl (delegate_ends giver taker obs steps) n);
   parents = shows.parents;
@@ -224,4 +226,5 @@ delegate_shows opening steps rows objects table descriptors giver taker obs show
   enrolled = names_handed giver.0 taker.0 obs table ∙ shows.enrolled ∙ sym (enrolled_quiet (Delegate giver taker obs ∷ steps) steps refl (delegate_ends giver taker obs steps));
   locks = λ n x op. carries_given giver.0 taker.0 obs table n x op valid enrolled ∙ rw (shows.locks giver.0 x op, shows.locks n x op) (sym (holds_delegated giver taker obs steps gives takes n x op));
   permits_stand = λ u n x op. copied u n x op ∙ rw (lists_moved steps table giver.0 obs valid shows.locks x, shows.permits_stand u n x op, shows.permits_stand giver.0 n x op) (sym (permitted_delegate giver taker obs steps gives takes u n x op));
+  dependencies_stand = λ k u v. shows.dependencies_stand k u v ∙ sym (depended_quiet (Delegate giver taker obs ∷ steps) steps refl (delegate_ends giver taker obs steps) (λ y. refl) k u v);
 }

@@ -1,7 +1,7 @@
 -- Exactly those who are live are enrolled for locks, after each change of the tables.
-use Rattle.std.proofs.Common.{◌≡◌, ℕ, Bool, true, false, cond, not, eqb, ◌&&◌, ◌||◌, List, [], ◌∷◌, filter, map, refl, sym, ◌∙◌, ap, subst, arith, Some, None}
+use Rattle.std.proofs.Common.{◌≡◌, ℕ, Bool, true, false, cond, not, eqb, ◌&&◌, ◌||◌, List, [], ◌∷◌, filter, map, refl, sym, ◌∙◌, ap, subst, arith, Some, None, inl, inr}
 use Rattle.std.specs.Prelude.{Option, find, is_some}
-use Rattle.std.proofs.lemmas.Bool.{eqb-true, false≢true}
+use Rattle.std.proofs.lemmas.Bool.{or_cases, eqb-true, false≢true}
 use Rattle.asset_names.specs.declared.names.Txn.{Txn}
 use Rattle.asset_names.specs.declared.names.Ob.{Ob}
 use Rattle.asset_names.specs.declared.operations.Op.{Op}
@@ -11,13 +11,14 @@ use Rattle.asset_names.specs.Arrows.{lists}
 use Rattle.asset_names.specs.Endings.{is_live_status}
 use Rattle.asset_names.specs.Answers.{is_unknown}
 use Rattle.asset_names.proofs.Common.{eqb-flip}
+use Rattle.asset_deps.specs.Dependencies.{DepTable}
 use Rattle.asset_locks.specs.LockTable as Locks
 use Rattle.asset_locks.specs.Valid.{after_ask}
 use Rattle.asset_trans.specs.TransRows.{NamedTransRow, row_in, status_in, status_or_unknown, initiate_in, set_in}
-use Rattle.asset_ends.specs.Standing.{AreEnrolled}
+use Rattle.asset_ends.specs.Standing.{AreEnrolled, DependAlive}
 use Rattle.asset_ends.proofs.CellLemmas.{is_name}
 use Rattle.asset_ends.proofs.HistoryLemmas.{lists_pushed}
-use Rattle.asset_ends.proofs.LockLaws.{names_enrolled, names_granted, names_waiting, names_released}
+use Rattle.asset_ends.proofs.LockLaws.{names_enrolled, names_granted, names_waiting}
 use Rattle.asset_ends.proofs.TransLaws.{status_initiate_in}
 use Rattle.asset_ends.proofs.ShowsLemmas.{set_alone}
 
@@ -84,15 +85,6 @@ changed_enrolled rows table t after known same enrolled = λ n. enrolled n ∙ g
   go n true e = subst (λ m. is_live_status (status_in rows m) ≡ is_live_status after) (eqb-true t n e) same
   go n false e = refl
 
--- after an end
-pub ended_enrolled : (rows : List NamedTransRow) (table : Locks.LockTable) (t : ℕ) (after : Status) → is_unknown (status_in rows t) ≡ false → is_live_status after ≡ false → AreEnrolled rows table → AreEnrolled (set_in (is_name t) after rows) (Locks.release_in (is_name t) table)
-unfolding AreEnrolled
-ended_enrolled rows table t after known gone enrolled = λ n.
-    ap (λ names. lists names n) (names_released (is_name t) table) ∙ lists_filter (λ m. not (eqb m t)) (Locks.names_in table) n ∙ rw (eqb-flip n t) (go n (eqb t n) (enrolled n)) ∙ ap is_live_status (sym (set_alone rows t after known n)) where
-      go : (n : ℕ) (own : Bool) → lists (Locks.names_in table) n ≡ is_live_status (status_in rows n) → (not own && lists (Locks.names_in table) n) ≡ is_live_status (cond own after (status_in rows n))
-      go n true same = sym gone
-      go n false same = same
-
 -- after a request
 pub asked_enrolled : (rows : List NamedTransRow) (table : Locks.LockTable) (free : Bool) (t : ℕ) (x : Ob) (op : Op) → AreEnrolled rows table → AreEnrolled rows (after_ask free t x op table)
 unfolding AreEnrolled after_ask
@@ -108,3 +100,38 @@ live_known Status'.Running h = refl
 live_known Status'.Completed h = refl
 live_known Status'.Committed h = refl
 live_known Status'.Aborted h = refl
+
+-- ---- those who may have dependencies are live
+
+pub nobody_depends : (rows : List NamedTransRow) (deps : DepTable) → deps.names ≡ [] → DependAlive rows deps
+unfolding DependAlive lists
+nobody_depends rows deps none = λ n listed. absurd (false≢true (sym (ap (λ names. lists names n) none) ∙ listed))
+
+-- after an initiate
+pub initiate_depends : (rows : List NamedTransRow) (deps : DepTable) (t : Txn) (parent : Option Txn) → row_in rows t.0 ≡ None → DependAlive rows deps → DependAlive (initiate_in rows t parent) deps
+unfolding DependAlive is_live_status
+initiate_depends rows deps t parent none alive = λ n listed. ap is_live_status (status_initiate_in rows t parent n none) ∙ go n (eqb t.0 n) (alive n listed) where
+  go : (n : ℕ) (own : Bool) → is_live_status (status_in rows n) ≡ true → is_live_status (cond own Status'.Initiated (status_in rows n)) ≡ true
+  go n true now = refl
+  go n false now = now
+
+-- after a change of status from one that is live to another
+pub changed_depends : (rows : List NamedTransRow) (deps : DepTable) (t : ℕ) (after : Status) → is_unknown (status_in rows t) ≡ false → is_live_status after ≡ true → DependAlive rows deps → DependAlive (set_in (is_name t) after rows) deps
+unfolding DependAlive
+changed_depends rows deps t after known now alive = λ n listed. ap is_live_status (set_alone rows t after known n) ∙ go n (eqb t n) (alive n listed) where
+  go : (n : ℕ) (own : Bool) → is_live_status (status_in rows n) ≡ true → is_live_status (cond own after (status_in rows n)) ≡ true
+  go n true before = now
+  go n false before = before
+
+-- after an enrolment of one that is live
+pub joined_depends : (rows : List NamedTransRow) (before later : DepTable) (t : ℕ) → is_live_status (status_in rows t) ≡ true → ((n : ℕ) → lists later.names n ≡ (lists before.names n || eqb n t)) → DependAlive rows before → DependAlive rows later
+unfolding DependAlive
+joined_depends rows before later t now names alive = λ n listed. elim (or_cases (lists before.names n) _ (sym (names n) ∙ listed)) [
+  | inl there ↦ alive n there
+  | inr own ↦ subst (λ m. is_live_status (status_in rows m) ≡ true) (sym (eqb-true n t own)) now
+]
+
+-- where the enrolled are the same
+pub same_depends : (rows : List NamedTransRow) (before later : DepTable) → later.names ≡ before.names → DependAlive rows before → DependAlive rows later
+unfolding DependAlive
+same_depends rows before later names alive = λ n listed. alive n (ap (λ ns. lists ns n) (sym names) ∙ listed)

@@ -8,11 +8,12 @@ use Rattle.asset_names.specs.declared.names.Txn.{Txn}
 use Rattle.asset_names.specs.declared.names.Ob.{Ob}
 use Rattle.asset_names.specs.declared.operations.Op.{Op}
 use Rattle.asset_names.specs.declared.statuses.End.{End}
+use Rattle.asset_names.specs.declared.steps.Kind.{Kind}
 use Rattle.asset_names.specs.declared.steps.Step.{Step}
 use Rattle.asset_names.specs.declared.steps.Step.TheVariants.{Initiate, Begin, Read, Write, Complete, Commit, Abort, WaitFor}
 use Rattle.asset_names.specs.Arrows.{lists}
 use Rattle.asset_names.specs.Steps.{Opening, initiated, initiated_by}
-use Rattle.asset_names.specs.Endings.{live, end_of, ended_by}
+use Rattle.asset_names.specs.Endings.{dependencies, dependency_by, live, end_of, ended_by}
 use Rattle.asset_names.specs.Operations.{Use, Operation, operations, operated, opening_at, op_of, same_op, holds, permits, permitted_by}
 use Rattle.asset_names.specs.Orderly.{IsOrderly}
 use Rattle.asset_names.proofs.LiveLemmas.{live_initiate}
@@ -70,12 +71,13 @@ cell_as opening ends later os x same = go (opening_at opening x) where
   go None = refl
   go (Some v) = ap Some (cell_same ends later same x v os)
 
--- what a step that initiates nobody, ends nobody, operates on nothing and permits nothing leaves
+-- what a step that initiates nobody, ends nobody, operates on nothing, permits nothing and makes no dependency leaves
 pub record IsQuiet (later steps : List Step) : Type 0 where
   pub names : initiated later ≡ initiated steps
   pub applied : operations later ≡ operations steps
   pub ends : (n : ℕ) → end_of later n ≡ end_of steps n
   pub arrows : (x : ℕ) (op : Op) → permits later x op ≡ permits steps x op
+  pub kept : (kind : Kind) → dependencies kind later ≡ dependencies kind steps
 
 pub live_quiet : (later steps : List Step) → initiated later ≡ initiated steps → ((n : ℕ) → end_of later n ≡ end_of steps n) → (n : ℕ) → live later n ≡ live steps n
 unfolding live
@@ -101,12 +103,12 @@ enrolled_quiet later steps names ends = rw names (filter_same (live later) (live
 
 -- steps that are quiet
 pub begin_quiet : (t : Txn) (steps : List Step) → IsQuiet (Begin t ∷ steps) steps
-unfolding initiated initiated_by operations operated end_of ended_by permits permitted_by
-begin_quiet t steps = record { names = refl; applied = refl; arrows = λ x op. refl; ends = λ n. option_or_none (end_of steps n) }
+unfolding initiated initiated_by operations operated end_of ended_by permits permitted_by dependencies dependency_by
+begin_quiet t steps = record { names = refl; applied = refl; arrows = λ x op. refl; kept = λ k. refl; ends = λ n. option_or_none (end_of steps n) }
 
 pub complete_quiet : (t : Txn) (steps : List Step) → IsQuiet (Complete t ∷ steps) steps
-unfolding initiated initiated_by operations operated end_of ended_by permits permitted_by
-complete_quiet t steps = record { names = refl; applied = refl; arrows = λ x op. refl; ends = λ n. option_or_none (end_of steps n) }
+unfolding initiated initiated_by operations operated end_of ended_by permits permitted_by dependencies dependency_by
+complete_quiet t steps = record { names = refl; applied = refl; arrows = λ x op. refl; kept = λ k. refl; ends = λ n. option_or_none (end_of steps n) }
 
 -- a new name
 pub enrolled_initiate : (u : Txn) (parent : Option Txn) (steps : List Step) → lists (initiated steps) u.0 ≡ false

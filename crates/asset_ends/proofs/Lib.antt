@@ -3,8 +3,11 @@ pub mod TransLaws
 pub mod LockLaws
 pub mod HistoryLemmas
 pub mod PermitLaws
+pub mod DependLaws
 pub mod ShowsLemmas
+pub mod TwiceLemmas
 pub mod DelegateLaws
 pub mod EnrolledLemmas
+pub mod EndingLemmas
 pub mod AskedLemmas
 pub mod StandingLemmas

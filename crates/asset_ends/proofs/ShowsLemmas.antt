@@ -9,11 +9,12 @@ use Rattle.asset_names.specs.declared.operations.Op.{Op}
 use Rattle.asset_names.specs.declared.operations.Op.TheVariants as Op'
 use Rattle.asset_names.specs.declared.statuses.Status.{Status}
 use Rattle.asset_names.specs.declared.statuses.Status.TheVariants as Status'
+use Rattle.asset_names.specs.declared.steps.Kind.{Kind}
 use Rattle.asset_names.specs.declared.steps.Step.{Step}
-use Rattle.asset_names.specs.declared.steps.Step.TheVariants.{Initiate, Begin, Read, Write, Complete, Permit, Commit, Abort, WaitFor}
-use Rattle.asset_names.specs.Arrows.{lists}
+use Rattle.asset_names.specs.declared.steps.Step.TheVariants.{Initiate, Begin, Read, Write, Complete, Permit, Depend, Commit, Abort, WaitFor}
+use Rattle.asset_names.specs.Arrows.{lists, has_arrow}
 use Rattle.asset_names.specs.Steps.{Opening, initiated, initiated_by, begun, begun_by, completed, completed_by, parent_of, parent_by}
-use Rattle.asset_names.specs.Endings.{live, end_of, status, status_of, is_live_status}
+use Rattle.asset_names.specs.Endings.{dependencies, dependency_by, live, end_of, status, status_of, is_live_status}
 use Rattle.asset_names.specs.Operations.{operations, operated, op_of, holds, permits, permitted_by, allows, free, exists, value, value_if_any}
 use Rattle.asset_names.specs.OpSets.{OpSet}
 use Rattle.asset_names.specs.Operations.Use.{reads, writes}
@@ -22,20 +23,21 @@ use Rattle.asset_names.specs.Room.{owed, owed_to}
 use Rattle.asset_names.specs.Orderly.{IsOrderly, Distinct}
 use Rattle.asset_names.proofs.LiveLemmas.{live_by_status, status_initiate, status_begin, status_complete, status_commit, status_abort, live_commit, live_abort}
 use Rattle.asset_names.proofs.EndLemmas.{commits, aborts, commits_live, aborts_live, commits_nobody, aborts_nobody, commit_ends, abort_ends}
-use Rattle.asset_names.proofs.ClassLemmas.{commits_alone, aborts_alone}
 use Rattle.asset_names.proofs.HolderLemmas.{free_allowed, allowed_free}
 use Rattle.asset_names.proofs.RoomLemmas.{sum_same}
 use Rattle.asset_names.specs.declared.sets.ObSet.{ObSet}
 use Rattle.asset_names.proofs.PermitLemmas.{allows_linked}
-use Rattle.asset_names.proofs.Common.{eqb-flip}
+use Rattle.asset_names.proofs.Common.{eqb-flip, both_follow}
+use Rattle.asset_deps.specs.Dependencies.{Dependency, arrows_of}
 use Rattle.asset_permits.specs.Descriptors.{Descriptor, allows_by, one_covers, arrows_for}
 use Rattle.asset_objects.specs.Cells.{Cell, Cells, opened, shown, value_in, written, undone, settled, change_at, change_each}
 use Rattle.asset_locks.specs.LockTable as Locks
 use Rattle.asset_trans.specs.TransRows.{NamedTransRow, names_of, row_in, status_in, status_or_unknown, parent_in, parent_or_none, initiate_in, set_in, owed_in}
-use Rattle.asset_ends.specs.Shows.{Shows, cell_of, cell_after, permitted, table_values}
+use Rattle.asset_ends.specs.Shows.{Shows, cell_of, cell_after, permitted, depended, table_values}
 use Rattle.asset_permits.proofs.ArrowLaws.{arrows_stand}
-use Rattle.asset_ends.specs.PermitChanges.{IsDropped}
+use Rattle.asset_ends.specs.Ended.{IsDropped, AreLeft}
 use Rattle.asset_ends.proofs.PermitLaws.{IsAdded, permitted_quiet, permitted_initiate, permitted_end, permitted_permit, permit_ends}
+use Rattle.asset_ends.proofs.DependLaws.{IsJoined, depended_quiet, depended_initiate, depended_end, depended_depend, depend_ends}
 use Rattle.asset_ends.proofs.CellLemmas.{is_name, value_shown}
 use Rattle.asset_ends.proofs.TransLaws.{names_set, status_set, parent_set, names_initiate, status_initiate_in, parent_initiate_in, row_named, row_absent, owed_by_names}
 use Rattle.asset_ends.proofs.LockLaws.{carries_granted, carries_released, carries_enrolled, names_granted, names_waiting, carries_waiting, names_enrolled, names_released, free_by_locks, locks_by_free}
@@ -71,10 +73,10 @@ unfolding change_each
 changed_each change one other x same = rw same
 
 -- an initiate
-pub initiate_shows : (opening : Opening) (steps : List Step) (rows : List NamedTransRow) (objects : Cells) (table : Locks.LockTable) (descriptors : List Descriptor) (t : Txn) (parent : Option Txn) → Shows opening steps (table_values rows objects table descriptors)
-    → IsOrderly steps → lists (initiated steps) t.0 ≡ false → Shows opening (Initiate t parent ∷ steps) (table_values (initiate_in rows t parent) objects (Locks.enrol_in t.0 table) descriptors)
+pub initiate_shows : (opening : Opening) (steps : List Step) (rows : List NamedTransRow) (objects : Cells) (table : Locks.LockTable) (descriptors : List Descriptor) (deps : List Dependency) (t : Txn) (parent : Option Txn) → Shows opening steps (table_values rows objects table descriptors deps)
+    → IsOrderly steps → lists (initiated steps) t.0 ≡ false → Shows opening (Initiate t parent ∷ steps) (table_values (initiate_in rows t parent) objects (Locks.enrol_in t.0 table) descriptors deps)
 unfolding initiated initiated_by parent_of parent_by
-initiate_shows opening steps rows objects table descriptors t parent shows orderly new = record {
+initiate_shows opening steps rows objects table descriptors deps t parent shows orderly new = record {
   names = names_initiate rows t parent ∙ rw (shows.names, reverse-cons (initiated steps) t.0);
   statuses = λ n. status_initiate_in rows t parent n absent ∙ changed_as rows steps t.0 Status'.Initiated n (shows.statuses n) ∙ sym (status_initiate t parent steps n orderly new);
   parents = λ n. parent_initiate_in rows t parent n absent ∙ rw (shows.parents n);
@@ -82,15 +84,16 @@ initiate_shows opening steps rows objects table descriptors t parent shows order
   enrolled = names_enrolled t.0 table ∙ rw shows.enrolled (enrolled_initiate t parent steps new);
   locks = λ n x op. carries_enrolled t.0 table n x op ∙ shows.locks n x op ∙ sym (holds_initiate t parent steps new orderly n x op);
   permits_stand = λ u n x op. shows.permits_stand u n x op ∙ sym (permitted_initiate t parent steps new orderly u n x op);
+  dependencies_stand = λ k m n. shows.dependencies_stand k m n ∙ sym (depended_initiate t parent steps new orderly k m n);
 } where
   absent : row_in rows t.0 ≡ None
   absent = row_absent rows t.0 (rw (shows.names, lists_reverse (initiated steps) t.0) new)
 
 -- a begin
-pub begin_shows : (opening : Opening) (steps : List Step) (rows : List NamedTransRow) (objects : Cells) (table : Locks.LockTable) (descriptors : List Descriptor) (t : Txn) → Shows opening steps (table_values rows objects table descriptors)
-    → status steps t.0 ≡ Status'.Initiated → Shows opening (Begin t ∷ steps) (table_values (set_in (is_name t.0) Status'.Running rows) objects table descriptors)
-unfolding initiated initiated_by parent_of parent_by is_unknown permits permitted_by
-begin_shows opening steps rows objects table descriptors t shows before = record {
+pub begin_shows : (opening : Opening) (steps : List Step) (rows : List NamedTransRow) (objects : Cells) (table : Locks.LockTable) (descriptors : List Descriptor) (deps : List Dependency) (t : Txn) → Shows opening steps (table_values rows objects table descriptors deps)
+    → status steps t.0 ≡ Status'.Initiated → Shows opening (Begin t ∷ steps) (table_values (set_in (is_name t.0) Status'.Running rows) objects table descriptors deps)
+unfolding initiated initiated_by parent_of parent_by is_unknown permits permitted_by dependencies dependency_by
+begin_shows opening steps rows objects table descriptors deps t shows before = record {
   names = names_set (is_name t.0) Status'.Running rows ∙ shows.names;
   statuses = λ n. set_alone rows t.0 Status'.Running (ap is_unknown (shows.statuses t.0 ∙ before)) n ∙ changed_as rows steps t.0 Status'.Running n (shows.statuses n) ∙ sym (status_begin t steps n before);
   parents = λ n. parent_set (is_name t.0) Status'.Running rows n ∙ shows.parents n;
@@ -98,13 +101,14 @@ begin_shows opening steps rows objects table descriptors t shows before = record
   enrolled = shows.enrolled ∙ sym (enrolled_quiet (Begin t ∷ steps) steps refl (begin_quiet t steps).ends);
   locks = λ n x op. shows.locks n x op ∙ sym (holds_quiet (Begin t ∷ steps) steps (begin_quiet t steps) n x op);
   permits_stand = λ u n x op. shows.permits_stand u n x op ∙ sym (permitted_quiet (Begin t ∷ steps) steps refl (begin_quiet t steps).ends (λ y o. refl) u n x op);
+  dependencies_stand = λ k m n. shows.dependencies_stand k m n ∙ sym (depended_quiet (Begin t ∷ steps) steps refl (begin_quiet t steps).ends (λ y. refl) k m n);
 }
 
 -- a complete
-pub complete_shows : (opening : Opening) (steps : List Step) (rows : List NamedTransRow) (objects : Cells) (table : Locks.LockTable) (descriptors : List Descriptor) (t : Txn) → Shows opening steps (table_values rows objects table descriptors)
-    → status steps t.0 ≡ Status'.Running → Shows opening (Complete t ∷ steps) (table_values (set_in (is_name t.0) Status'.Completed rows) objects table descriptors)
-unfolding initiated initiated_by parent_of parent_by is_unknown permits permitted_by
-complete_shows opening steps rows objects table descriptors t shows before = record {
+pub complete_shows : (opening : Opening) (steps : List Step) (rows : List NamedTransRow) (objects : Cells) (table : Locks.LockTable) (descriptors : List Descriptor) (deps : List Dependency) (t : Txn) → Shows opening steps (table_values rows objects table descriptors deps)
+    → status steps t.0 ≡ Status'.Running → Shows opening (Complete t ∷ steps) (table_values (set_in (is_name t.0) Status'.Completed rows) objects table descriptors deps)
+unfolding initiated initiated_by parent_of parent_by is_unknown permits permitted_by dependencies dependency_by
+complete_shows opening steps rows objects table descriptors deps t shows before = record {
   names = names_set (is_name t.0) Status'.Completed rows ∙ shows.names;
   statuses = λ n. set_alone rows t.0 Status'.Completed (ap is_unknown (shows.statuses t.0 ∙ before)) n ∙ changed_as rows steps t.0 Status'.Completed n (shows.statuses n) ∙ sym (status_complete t steps n before);
   parents = λ n. parent_set (is_name t.0) Status'.Completed rows n ∙ shows.parents n;
@@ -112,6 +116,7 @@ complete_shows opening steps rows objects table descriptors t shows before = rec
   enrolled = shows.enrolled ∙ sym (enrolled_quiet (Complete t ∷ steps) steps refl (complete_quiet t steps).ends);
   locks = λ n x op. shows.locks n x op ∙ sym (holds_quiet (Complete t ∷ steps) steps (complete_quiet t steps) n x op);
   permits_stand = λ u n x op. shows.permits_stand u n x op ∙ sym (permitted_quiet (Complete t ∷ steps) steps refl (complete_quiet t steps).ends (λ y o. refl) u n x op);
+  dependencies_stand = λ k m n. shows.dependencies_stand k m n ∙ sym (depended_quiet (Complete t ∷ steps) steps refl (complete_quiet t steps).ends (λ y. refl) k m n);
 }
 
 -- the status of a step that initiates, begins, completes and ends nobody
@@ -121,10 +126,10 @@ unfolding status
 status_quiet step steps i b c ends n = rw (i, b, c, ends n)
 
 -- a read
-pub read_shows : (opening : Opening) (steps : List Step) (rows : List NamedTransRow) (objects : Cells) (table : Locks.LockTable) (descriptors : List Descriptor) (t : Txn) (y : Ob) → Shows opening steps (table_values rows objects table descriptors)
-    → live steps t.0 ≡ true → is_some (Locks.enrolled_in table t.0) ≡ true → Shows opening (Read t y ∷ steps) (table_values rows objects (Locks.grant_in t.0 y Op'.Read table) descriptors)
-unfolding initiated initiated_by begun begun_by completed completed_by parent_of parent_by operations operated op_of permits permitted_by
-read_shows opening steps rows objects table descriptors t y shows alive different = record {
+pub read_shows : (opening : Opening) (steps : List Step) (rows : List NamedTransRow) (objects : Cells) (table : Locks.LockTable) (descriptors : List Descriptor) (deps : List Dependency) (t : Txn) (y : Ob) → Shows opening steps (table_values rows objects table descriptors deps)
+    → live steps t.0 ≡ true → is_some (Locks.enrolled_in table t.0) ≡ true → Shows opening (Read t y ∷ steps) (table_values rows objects (Locks.grant_in t.0 y Op'.Read table) descriptors deps)
+unfolding initiated initiated_by begun begun_by completed completed_by parent_of parent_by operations operated op_of permits permitted_by dependencies dependency_by
+read_shows opening steps rows objects table descriptors deps t y shows alive different = record {
   names = shows.names;
   statuses = λ n. shows.statuses n ∙ sym (status_quiet (Read t y) steps refl refl refl (read_ends t y steps) n);
   parents = shows.parents;
@@ -132,13 +137,14 @@ read_shows opening steps rows objects table descriptors t y shows alive differen
   enrolled = names_granted t.0 y Op'.Read table ∙ shows.enrolled ∙ sym (enrolled_quiet (Read t y ∷ steps) steps refl (read_ends t y steps));
   locks = λ n x op. carries_granted t.0 y Op'.Read table n x op different ∙ rw (shows.locks n x op) (sym (holds_operation (Read t y) steps t.0 y.0 reads refl refl (read_ends t y steps) alive n x op));
   permits_stand = λ u n x op. shows.permits_stand u n x op ∙ sym (permitted_quiet (Read t y ∷ steps) steps refl (read_ends t y steps) (λ y o. refl) u n x op);
+  dependencies_stand = λ k m n. shows.dependencies_stand k m n ∙ sym (depended_quiet (Read t y ∷ steps) steps refl (read_ends t y steps) (λ y. refl) k m n);
 }
 
 -- a write
-pub write_shows : (opening : Opening) (steps : List Step) (rows : List NamedTransRow) (objects : Cells) (table : Locks.LockTable) (descriptors : List Descriptor) (t : Txn) (y : Ob) (v : ℤ) → Shows opening steps (table_values rows objects table descriptors)
-    → live steps t.0 ≡ true → is_some (Locks.enrolled_in table t.0) ≡ true → Shows opening (Write t y v ∷ steps) (table_values rows (change_at y.0 (written t.0 v) objects) (Locks.grant_in t.0 y Op'.Write table) descriptors)
-unfolding initiated initiated_by begun begun_by completed completed_by parent_of parent_by operations operated op_of permits permitted_by
-write_shows opening steps rows objects table descriptors t y v shows alive different = record {
+pub write_shows : (opening : Opening) (steps : List Step) (rows : List NamedTransRow) (objects : Cells) (table : Locks.LockTable) (descriptors : List Descriptor) (deps : List Dependency) (t : Txn) (y : Ob) (v : ℤ) → Shows opening steps (table_values rows objects table descriptors deps)
+    → live steps t.0 ≡ true → is_some (Locks.enrolled_in table t.0) ≡ true → Shows opening (Write t y v ∷ steps) (table_values rows (change_at y.0 (written t.0 v) objects) (Locks.grant_in t.0 y Op'.Write table) descriptors deps)
+unfolding initiated initiated_by begun begun_by completed completed_by parent_of parent_by operations operated op_of permits permitted_by dependencies dependency_by
+write_shows opening steps rows objects table descriptors deps t y v shows alive different = record {
   names = shows.names;
   statuses = λ n. shows.statuses n ∙ sym (status_quiet (Write t y v) steps refl refl refl (write_ends t y v steps) n);
   parents = shows.parents;
@@ -146,6 +152,7 @@ write_shows opening steps rows objects table descriptors t y v shows alive diffe
   enrolled = names_granted t.0 y Op'.Write table ∙ shows.enrolled ∙ sym (enrolled_quiet (Write t y v ∷ steps) steps refl (write_ends t y v steps));
   locks = λ n x op. carries_granted t.0 y Op'.Write table n x op different ∙ rw (shows.locks n x op) (sym (holds_operation (Write t y v) steps t.0 y.0 (writes v) refl refl (write_ends t y v steps) alive n x op));
   permits_stand = λ u n x op. shows.permits_stand u n x op ∙ sym (permitted_quiet (Write t y v ∷ steps) steps refl (write_ends t y v steps) (λ y o. refl) u n x op);
+  dependencies_stand = λ k m n. shows.dependencies_stand k m n ∙ sym (depended_quiet (Write t y v ∷ steps) steps refl (write_ends t y v steps) (λ y. refl) k m n);
 }
 
 -- some live transactions get a status
@@ -166,10 +173,10 @@ set_known test after rows steps alive n is = status_set test after rows n ∙ rw
   go true e = rw (row_known rows n (known (status_in rows n) (ap is_live_status is ∙ sym (live_by_status steps n) ∙ alive n e))) refl
 
 -- a commit: the tables after it, by the test of those whom it ends
-pub commit_shows : (opening : Opening) (steps : List Step) (rows : List NamedTransRow) (objects : Cells) (table : Locks.LockTable) (descriptors : List Descriptor) (t : Txn) → Shows opening steps (table_values rows objects table descriptors) → (later : List Descriptor) → IsDropped (commits steps t.0) descriptors later
-    → Shows opening (Commit t ∷ steps) (table_values (set_in (commits steps t.0) Status'.Committed rows) (change_each (settled (commits steps t.0)) objects) (Locks.release_in (commits steps t.0) table) later)
-unfolding initiated initiated_by parent_of parent_by operations operated permits permitted_by
-commit_shows opening steps rows objects table descriptors t shows later dropped = record {
+pub commit_shows : (opening : Opening) (steps : List Step) (rows : List NamedTransRow) (objects : Cells) (table : Locks.LockTable) (descriptors : List Descriptor) (deps : List Dependency) (t : Txn) → Shows opening steps (table_values rows objects table descriptors deps) → (later : List Descriptor) → IsDropped (commits steps t.0) descriptors later
+    → (left : List Dependency) → AreLeft (commits steps t.0) deps left → Shows opening (Commit t ∷ steps) (table_values (set_in (commits steps t.0) Status'.Committed rows) (change_each (settled (commits steps t.0)) objects) (Locks.release_in (commits steps t.0) table) later left)
+unfolding initiated initiated_by parent_of parent_by operations operated permits permitted_by dependencies dependency_by
+commit_shows opening steps rows objects table descriptors deps t shows later dropped left left_over = record {
   names = names_set (commits steps t.0) Status'.Committed rows ∙ shows.names;
   statuses = λ n. set_known (commits steps t.0) Status'.Committed rows steps (commits_live steps t.0) n (shows.statuses n) ∙ sym (status_commit t steps n);
   parents = λ n. parent_set (commits steps t.0) Status'.Committed rows n ∙ shows.parents n;
@@ -177,21 +184,14 @@ commit_shows opening steps rows objects table descriptors t shows later dropped 
   enrolled = names_released (commits steps t.0) table ∙ rw shows.enrolled (enrolled_end (Commit t ∷ steps) steps (commits steps t.0) refl (live_commit t steps));
   locks = λ n x op. carries_released (commits steps t.0) table n x op ∙ rw (shows.locks n x op) (sym (holds_end (Commit t) steps (commits steps t.0) refl (live_commit t steps) n x op));
   permits_stand = λ u n x op. dropped u n x op ∙ rw (shows.permits_stand u n x op) (sym (permitted_end (Commit t ∷ steps) steps (commits steps t.0) (live_commit t steps) (λ y o. refl) u n x op));
+  dependencies_stand = λ k m n. left_over k m n ∙ rw (shows.dependencies_stand k m n) (sym (depended_end (Commit t ∷ steps) steps (commits steps t.0) (live_commit t steps) (λ y. refl) k m n));
 }
 
--- the same for a live transaction that ends alone
-pub commit_alone_shows : (opening : Opening) (steps : List Step) (rows : List NamedTransRow) (objects : Cells) (table : Locks.LockTable) (descriptors : List Descriptor) (t : Txn) → Shows opening steps (table_values rows objects table descriptors) → live steps t.0 ≡ true → (later : List Descriptor) → IsDropped (is_name t.0) descriptors later
-    → Shows opening (Commit t ∷ steps) (table_values (set_in (is_name t.0) Status'.Committed rows) (change_each (settled (is_name t.0)) objects) (Locks.release_in (is_name t.0) table) later)
-commit_alone_shows opening steps rows objects table descriptors t shows alive later dropped =
-    let alone : commits steps t.0 ≡ is_name t.0 = λ i. λ n. (commits_alone steps t.0 n alive ∙ eqb-flip t.0 n) i in
-    subst (λ (test : ℕ → Bool). Shows opening (Commit t ∷ steps) (table_values (set_in test Status'.Committed rows) (change_each (settled test) objects) (Locks.release_in test table) later)) alone
-    (commit_shows opening steps rows objects table descriptors t shows later (subst (λ (test : ℕ → Bool). IsDropped test descriptors later) (sym alone) dropped))
-
 -- an abort: the tables after it, by the test of those whom it ends
-pub abort_shows : (opening : Opening) (steps : List Step) (rows : List NamedTransRow) (objects : Cells) (table : Locks.LockTable) (descriptors : List Descriptor) (t : Txn) → Shows opening steps (table_values rows objects table descriptors) → (later : List Descriptor) → IsDropped (aborts steps t.0) descriptors later
-    → Shows opening (Abort t ∷ steps) (table_values (set_in (aborts steps t.0) Status'.Aborted rows) (change_each (undone (aborts steps t.0)) objects) (Locks.release_in (aborts steps t.0) table) later)
-unfolding initiated initiated_by parent_of parent_by operations operated permits permitted_by
-abort_shows opening steps rows objects table descriptors t shows later dropped = record {
+pub abort_shows : (opening : Opening) (steps : List Step) (rows : List NamedTransRow) (objects : Cells) (table : Locks.LockTable) (descriptors : List Descriptor) (deps : List Dependency) (t : Txn) → Shows opening steps (table_values rows objects table descriptors deps) → (later : List Descriptor) → IsDropped (aborts steps t.0) descriptors later
+    → (left : List Dependency) → AreLeft (aborts steps t.0) deps left → Shows opening (Abort t ∷ steps) (table_values (set_in (aborts steps t.0) Status'.Aborted rows) (change_each (undone (aborts steps t.0)) objects) (Locks.release_in (aborts steps t.0) table) later left)
+unfolding initiated initiated_by parent_of parent_by operations operated permits permitted_by dependencies dependency_by
+abort_shows opening steps rows objects table descriptors deps t shows later dropped left left_over = record {
   names = names_set (aborts steps t.0) Status'.Aborted rows ∙ shows.names;
   statuses = λ n. set_known (aborts steps t.0) Status'.Aborted rows steps (aborts_live steps t.0) n (shows.statuses n) ∙ sym (status_abort t steps n);
   parents = λ n. parent_set (aborts steps t.0) Status'.Aborted rows n ∙ shows.parents n;
@@ -199,21 +199,14 @@ abort_shows opening steps rows objects table descriptors t shows later dropped =
   enrolled = names_released (aborts steps t.0) table ∙ rw shows.enrolled (enrolled_end (Abort t ∷ steps) steps (aborts steps t.0) refl (live_abort t steps));
   locks = λ n x op. carries_released (aborts steps t.0) table n x op ∙ rw (shows.locks n x op) (sym (holds_end (Abort t) steps (aborts steps t.0) refl (live_abort t steps) n x op));
   permits_stand = λ u n x op. dropped u n x op ∙ rw (shows.permits_stand u n x op) (sym (permitted_end (Abort t ∷ steps) steps (aborts steps t.0) (live_abort t steps) (λ y o. refl) u n x op));
+  dependencies_stand = λ k m n. left_over k m n ∙ rw (shows.dependencies_stand k m n) (sym (depended_end (Abort t ∷ steps) steps (aborts steps t.0) (live_abort t steps) (λ y. refl) k m n));
 }
 
--- the same for a live transaction that ends alone
-pub abort_alone_shows : (opening : Opening) (steps : List Step) (rows : List NamedTransRow) (objects : Cells) (table : Locks.LockTable) (descriptors : List Descriptor) (t : Txn) → Shows opening steps (table_values rows objects table descriptors) → live steps t.0 ≡ true → (later : List Descriptor) → IsDropped (is_name t.0) descriptors later
-    → Shows opening (Abort t ∷ steps) (table_values (set_in (is_name t.0) Status'.Aborted rows) (change_each (undone (is_name t.0)) objects) (Locks.release_in (is_name t.0) table) later)
-abort_alone_shows opening steps rows objects table descriptors t shows alive later dropped =
-    let alone : aborts steps t.0 ≡ is_name t.0 = λ i. λ n. (aborts_alone steps t.0 n alive ∙ eqb-flip t.0 n) i in
-    subst (λ (test : ℕ → Bool). Shows opening (Abort t ∷ steps) (table_values (set_in test Status'.Aborted rows) (change_each (undone test) objects) (Locks.release_in test table) later)) alone
-    (abort_shows opening steps rows objects table descriptors t shows later (subst (λ (test : ℕ → Bool). IsDropped test descriptors later) (sym alone) dropped))
-
 -- an end of a name that has ended changes nothing
-quiet_shows : (opening : Opening) (step : Step) (steps : List Step) (rows : List NamedTransRow) (objects : Cells) (table : Locks.LockTable) (descriptors : List Descriptor) → Shows opening steps (table_values rows objects table descriptors)
+quiet_shows : (opening : Opening) (step : Step) (steps : List Step) (rows : List NamedTransRow) (objects : Cells) (table : Locks.LockTable) (descriptors : List Descriptor) (deps : List Dependency) → Shows opening steps (table_values rows objects table descriptors deps)
     → begun (step ∷ steps) ≡ begun steps → completed (step ∷ steps) ≡ completed steps → ((n : ℕ) → parent_of (step ∷ steps) n ≡ parent_of steps n)
-    → IsQuiet (step ∷ steps) steps → Shows opening (step ∷ steps) (table_values rows objects table descriptors)
-quiet_shows opening step steps rows objects table descriptors shows b c p quiet = record {
+    → IsQuiet (step ∷ steps) steps → Shows opening (step ∷ steps) (table_values rows objects table descriptors deps)
+quiet_shows opening step steps rows objects table descriptors deps shows b c p quiet = record {
   names = shows.names ∙ ap reverse (sym quiet.names);
   statuses = λ n. shows.statuses n ∙ sym (status_quiet step steps quiet.names b c quiet.ends n);
   parents = λ n. shows.parents n ∙ sym (p n);
@@ -221,25 +214,26 @@ quiet_shows opening step steps rows objects table descriptors shows b c p quiet 
   enrolled = shows.enrolled ∙ sym (enrolled_quiet (step ∷ steps) steps quiet.names quiet.ends);
   locks = λ n x op. shows.locks n x op ∙ sym (holds_quiet (step ∷ steps) steps quiet n x op);
   permits_stand = λ u n x op. shows.permits_stand u n x op ∙ sym (permitted_quiet (step ∷ steps) steps quiet.names quiet.ends quiet.arrows u n x op);
+  dependencies_stand = λ k m n. shows.dependencies_stand k m n ∙ sym (depended_quiet (step ∷ steps) steps quiet.names quiet.ends quiet.kept k m n);
 }
 
-pub commit_again_shows : (opening : Opening) (steps : List Step) (rows : List NamedTransRow) (objects : Cells) (table : Locks.LockTable) (descriptors : List Descriptor) (t : Txn) → Shows opening steps (table_values rows objects table descriptors)
-    → live steps t.0 ≡ false → Shows opening (Commit t ∷ steps) (table_values rows objects table descriptors)
-unfolding initiated initiated_by begun begun_by completed completed_by parent_of parent_by operations operated permits permitted_by
-commit_again_shows opening steps rows objects table descriptors t shows dead =
-    quiet_shows opening (Commit t) steps rows objects table descriptors shows refl refl (λ n. refl) (record { names = refl; applied = refl; arrows = λ x op. refl; ends = λ n. commit_ends t steps n ∙ rw (commits_nobody steps t.0 n dead) refl })
+pub commit_again_shows : (opening : Opening) (steps : List Step) (rows : List NamedTransRow) (objects : Cells) (table : Locks.LockTable) (descriptors : List Descriptor) (deps : List Dependency) (t : Txn) → Shows opening steps (table_values rows objects table descriptors deps)
+    → live steps t.0 ≡ false → Shows opening (Commit t ∷ steps) (table_values rows objects table descriptors deps)
+unfolding initiated initiated_by begun begun_by completed completed_by parent_of parent_by operations operated permits permitted_by dependencies dependency_by
+commit_again_shows opening steps rows objects table descriptors deps t shows dead =
+    quiet_shows opening (Commit t) steps rows objects table descriptors deps shows refl refl (λ n. refl) (record { names = refl; applied = refl; arrows = λ x op. refl; kept = λ k. refl; ends = λ n. commit_ends t steps n ∙ rw (commits_nobody steps t.0 n dead) refl })
 
-pub abort_again_shows : (opening : Opening) (steps : List Step) (rows : List NamedTransRow) (objects : Cells) (table : Locks.LockTable) (descriptors : List Descriptor) (t : Txn) → Shows opening steps (table_values rows objects table descriptors)
-    → live steps t.0 ≡ false → Shows opening (Abort t ∷ steps) (table_values rows objects table descriptors)
-unfolding initiated initiated_by begun begun_by completed completed_by parent_of parent_by operations operated permits permitted_by
-abort_again_shows opening steps rows objects table descriptors t shows dead =
-    quiet_shows opening (Abort t) steps rows objects table descriptors shows refl refl (λ n. refl) (record { names = refl; applied = refl; arrows = λ x op. refl; ends = λ n. abort_ends t steps n ∙ rw (aborts_nobody steps t.0 n dead) refl })
+pub abort_again_shows : (opening : Opening) (steps : List Step) (rows : List NamedTransRow) (objects : Cells) (table : Locks.LockTable) (descriptors : List Descriptor) (deps : List Dependency) (t : Txn) → Shows opening steps (table_values rows objects table descriptors deps)
+    → live steps t.0 ≡ false → Shows opening (Abort t ∷ steps) (table_values rows objects table descriptors deps)
+unfolding initiated initiated_by begun begun_by completed completed_by parent_of parent_by operations operated permits permitted_by dependencies dependency_by
+abort_again_shows opening steps rows objects table descriptors deps t shows dead =
+    quiet_shows opening (Abort t) steps rows objects table descriptors deps shows refl refl (λ n. refl) (record { names = refl; applied = refl; arrows = λ x op. refl; kept = λ k. refl; ends = λ n. abort_ends t steps n ∙ rw (aborts_nobody steps t.0 n dead) refl })
 
 -- a permit
-pub permit_shows : (opening : Opening) (steps : List Step) (rows : List NamedTransRow) (objects : Cells) (table : Locks.LockTable) (descriptors : List Descriptor) (giver taker : Txn) (obs : ObSet) (ops : OpSet) → Shows opening steps (table_values rows objects table descriptors)
-    → live steps giver.0 ≡ true → live steps taker.0 ≡ true → (later : List Descriptor) → IsAdded giver.0 taker.0 obs ops descriptors later → Shows opening (Permit giver taker obs ops ∷ steps) (table_values rows objects table later)
-unfolding initiated initiated_by begun begun_by completed completed_by parent_of parent_by operations operated
-permit_shows opening steps rows objects table descriptors giver taker obs ops shows gives takes later added = record {
+pub permit_shows : (opening : Opening) (steps : List Step) (rows : List NamedTransRow) (objects : Cells) (table : Locks.LockTable) (descriptors : List Descriptor) (deps : List Dependency) (giver taker : Txn) (obs : ObSet) (ops : OpSet) → Shows opening steps (table_values rows objects table descriptors deps)
+    → live steps giver.0 ≡ true → live steps taker.0 ≡ true → (later : List Descriptor) → IsAdded giver.0 taker.0 obs ops descriptors later → Shows opening (Permit giver taker obs ops ∷ steps) (table_values rows objects table later deps)
+unfolding initiated initiated_by begun begun_by completed completed_by parent_of parent_by operations operated dependencies dependency_by
+permit_shows opening steps rows objects table descriptors deps giver taker obs ops shows gives takes later added = record {
   names = shows.names;
   statuses = λ n. shows.statuses n ∙ sym (status_quiet (Permit giver taker obs ops) steps refl refl refl (permit_ends giver taker obs ops steps) n);
   parents = shows.parents;
@@ -247,35 +241,45 @@ permit_shows opening steps rows objects table descriptors giver taker obs ops sh
   enrolled = shows.enrolled ∙ sym (enrolled_quiet (Permit giver taker obs ops ∷ steps) steps refl (permit_ends giver taker obs ops steps));
   locks = λ n x op. shows.locks n x op ∙ sym (holds_same_steps (Permit giver taker obs ops ∷ steps) steps refl refl (permit_ends giver taker obs ops steps) n x op);
   permits_stand = λ u n x op. added u n x op ∙ rw (shows.permits_stand u n x op) (sym (permitted_permit giver taker obs ops steps gives takes u n x op));
+  dependencies_stand = λ k m n. shows.dependencies_stand k m n ∙ sym (depended_quiet (Permit giver taker obs ops ∷ steps) steps refl (permit_ends giver taker obs ops steps) (λ y. refl) k m n);
 }
 
--- two Bools that follow from one another are one
-both_follow : (a b : Bool) → (a ≡ true → b ≡ true) → (b ≡ true → a ≡ true) → a ≡ b
-both_follow true b there back = sym (there refl)
-both_follow false false there back = refl
-both_follow false true there back = back refl
+-- a dependency
+pub depend_shows : (opening : Opening) (steps : List Step) (rows : List NamedTransRow) (objects : Cells) (table : Locks.LockTable) (descriptors : List Descriptor) (deps : List Dependency) (kind : Kind) (a b : Txn) → Shows opening steps (table_values rows objects table descriptors deps)
+    → live steps a.0 ≡ true → live steps b.0 ≡ true → (later : List Dependency) → IsJoined kind a.0 b.0 deps later → Shows opening (Depend kind a b ∷ steps) (table_values rows objects table descriptors later)
+unfolding initiated initiated_by begun begun_by completed completed_by parent_of parent_by operations operated permits permitted_by
+depend_shows opening steps rows objects table descriptors deps kind a b shows one other later joined = record {
+  names = shows.names;
+  statuses = λ n. shows.statuses n ∙ sym (status_quiet (Depend kind a b) steps refl refl refl (depend_ends kind a b steps) n);
+  parents = shows.parents;
+  cells = λ x. shows.cells x ∙ sym (cell_same_steps opening (Depend kind a b ∷ steps) steps refl (depend_ends kind a b steps) x);
+  enrolled = shows.enrolled ∙ sym (enrolled_quiet (Depend kind a b ∷ steps) steps refl (depend_ends kind a b steps));
+  locks = λ n x op. shows.locks n x op ∙ sym (holds_same_steps (Depend kind a b ∷ steps) steps refl refl (depend_ends kind a b steps) n x op);
+  permits_stand = λ u n x op. shows.permits_stand u n x op ∙ sym (permitted_quiet (Depend kind a b ∷ steps) steps refl (depend_ends kind a b steps) (λ y o. refl) u n x op);
+  dependencies_stand = λ k m n. joined k m n ∙ rw (shows.dependencies_stand k m n) (sym (depended_depend kind a b steps one other k m n));
+}
 
 -- who allows whom by the descriptors does by the history
-pub allows_shown : (opening : Opening) (steps : List Step) (rows : List NamedTransRow) (objects : Cells) (table : Locks.LockTable) (descriptors : List Descriptor) (u t x : ℕ) (op : Op) → Shows opening steps (table_values rows objects table descriptors)
+pub allows_shown : (opening : Opening) (steps : List Step) (rows : List NamedTransRow) (objects : Cells) (table : Locks.LockTable) (descriptors : List Descriptor) (deps : List Dependency) (u t x : ℕ) (op : Op) → Shows opening steps (table_values rows objects table descriptors deps)
     → allows_by descriptors u t x op ≡ allows steps u t x op
 unfolding allows_by permitted
-allows_shown opening steps rows objects table descriptors u t x op shows =
+allows_shown opening steps rows objects table descriptors deps u t x op shows =
     allows_linked steps x op (arrows_for descriptors x op) (λ m n. arrows_stand descriptors m n x op ∙ shows.permits_stand m n x op) u t
 
 -- who is free by the tables is free by the history
-pub free_shown : (opening : Opening) (steps : List Step) (rows : List NamedTransRow) (objects : Cells) (table : Locks.LockTable) (descriptors : List Descriptor) (t x : ℕ) (op : Op) → Shows opening steps (table_values rows objects table descriptors)
+pub free_shown : (opening : Opening) (steps : List Step) (rows : List NamedTransRow) (objects : Cells) (table : Locks.LockTable) (descriptors : List Descriptor) (deps : List Dependency) (t x : ℕ) (op : Op) → Shows opening steps (table_values rows objects table descriptors deps)
     → Locks.is_free_in table (λ u. allows_by descriptors u t x op) t x op ≡ free steps t x op
-free_shown opening steps rows objects table descriptors t x op shows = both_follow _ _
+free_shown opening steps rows objects table descriptors deps t x op shows = both_follow _ _
     (λ is_free. allowed_free steps t x op (λ u other held conflicts apart. sym (alike u) ∙ free_by_locks table _ t x op is_free u other (shows.locks u x other ∙ held) conflicts apart))
     (λ is_free. locks_by_free table _ t x op (λ u other held conflicts apart. alike u ∙ free_allowed steps t x op is_free u other (sym (shows.locks u x other) ∙ held) conflicts apart)) where
       alike : (u : ℕ) → allows_by descriptors u t x op ≡ allows steps u t x op
-      alike u = allows_shown opening steps rows objects table descriptors u t x op shows
+      alike u = allows_shown opening steps rows objects table descriptors deps u t x op shows
 
 -- the value that the tables show is that of the history
-pub value_of_tables : (opening : Opening) (steps : List Step) (rows : List NamedTransRow) (objects : Cells) (table : Locks.LockTable) (descriptors : List Descriptor) (x : ℕ) → Shows opening steps (table_values rows objects table descriptors)
+pub value_of_tables : (opening : Opening) (steps : List Step) (rows : List NamedTransRow) (objects : Cells) (table : Locks.LockTable) (descriptors : List Descriptor) (deps : List Dependency) (x : ℕ) → Shows opening steps (table_values rows objects table descriptors deps)
     → value_in objects x ≡ value_if_any opening steps x
 unfolding value_in
-value_of_tables opening steps rows objects table descriptors x shows = ap (option_map shown) (shows.cells x) ∙ value_shown opening steps x
+value_of_tables opening steps rows objects table descriptors deps x shows = ap (option_map shown) (shows.cells x) ∙ value_shown opening steps x
 
 -- different names are different in reverse
 distinct_pushed : (names : List ℕ) (n : ℕ) → Distinct names → lists names n ≡ false → Distinct (names ++ n ∷ [])
@@ -294,26 +298,26 @@ sum_by_reverse f [] = refl
 sum_by_reverse f (n ∷ names) = rw (reverse-cons names n) (omega (arith, sum_by_push f (reverse names) n, sum_by_reverse f names, sum_by-cons f n names))
 
 -- what the table says is owed is owed
-pub owed_shown : (opening : Opening) (steps : List Step) (rows : List NamedTransRow) (objects : Cells) (table : Locks.LockTable) (descriptors : List Descriptor) → Shows opening steps (table_values rows objects table descriptors) → IsOrderly steps → owed_in rows ≡ owed steps
+pub owed_shown : (opening : Opening) (steps : List Step) (rows : List NamedTransRow) (objects : Cells) (table : Locks.LockTable) (descriptors : List Descriptor) (deps : List Dependency) → Shows opening steps (table_values rows objects table descriptors deps) → IsOrderly steps → owed_in rows ≡ owed steps
 unfolding owed
-owed_shown opening steps rows objects table descriptors shows orderly =
+owed_shown opening steps rows objects table descriptors deps shows orderly =
     let names = reverse (initiated steps) in
     owed_by_names rows (rw shows.names (distinct_reverse (initiated steps) orderly.different))
     ∙ sum_same (λ n. owed_to (status steps n)) (λ n. owed_to (status_in rows n)) (names_of rows) (λ n listed. ap owed_to (shows.statuses n))
     ∙ rw shows.names (sum_by_reverse (λ n. owed_to (status steps n)) (initiated steps))
 
 -- which objects exist, by the tables
-pub exists_shown : (opening : Opening) (steps : List Step) (rows : List NamedTransRow) (objects : Cells) (table : Locks.LockTable) (descriptors : List Descriptor) (x : ℕ) → Shows opening steps (table_values rows objects table descriptors)
+pub exists_shown : (opening : Opening) (steps : List Step) (rows : List NamedTransRow) (objects : Cells) (table : Locks.LockTable) (descriptors : List Descriptor) (deps : List Dependency) (x : ℕ) → Shows opening steps (table_values rows objects table descriptors deps)
     → is_some (value_in objects x) ≡ exists opening x
 unfolding value_if_any
-exists_shown opening steps rows objects table descriptors x shows = ap is_some (value_of_tables opening steps rows objects table descriptors x shows) ∙ go (exists opening x) where
+exists_shown opening steps rows objects table descriptors deps x shows = ap is_some (value_of_tables opening steps rows objects table descriptors deps x shows) ∙ go (exists opening x) where
   go : (there : Bool) → is_some (cond there (Some (value opening steps x)) None) ≡ there
   go true = refl
   go false = refl
 
 -- the tables of an opening, before the first step
-pub opened_shows : (opening : Opening) → Shows opening [] (table_values [] (opened opening) [] [])
-unfolding one_covers permitted names_of initiated status_in row_in status_or_unknown parent_in parent_or_none parent_of opened cell_of cell_after operations Locks.names_in Locks.carries holds live end_of lists status status_of begun completed
+pub opened_shows : (opening : Opening) → Shows opening [] (table_values [] (opened opening) [] [] [])
+unfolding arrows_of depended has_arrow dependencies one_covers permitted names_of initiated status_in row_in status_or_unknown parent_in parent_or_none parent_of opened cell_of cell_after operations Locks.names_in Locks.carries holds live end_of lists status status_of begun completed
 opened_shows opening = record {
   names = refl;
   statuses = λ t. refl;
@@ -322,31 +326,32 @@ opened_shows opening = record {
   enrolled = refl;
   locks = λ t x op. refl;
   permits_stand = λ u t x op. refl;
+  dependencies_stand = λ k u v. refl;
 }
 
 -- a name without a row was not initiated
-pub new_name : (opening : Opening) (steps : List Step) (rows : List NamedTransRow) (objects : Cells) (table : Locks.LockTable) (descriptors : List Descriptor) (t : ℕ) → Shows opening steps (table_values rows objects table descriptors) → row_in rows t ≡ None → lists (initiated steps) t ≡ false
-new_name opening steps rows objects table descriptors t shows none =
+pub new_name : (opening : Opening) (steps : List Step) (rows : List NamedTransRow) (objects : Cells) (table : Locks.LockTable) (descriptors : List Descriptor) (deps : List Dependency) (t : ℕ) → Shows opening steps (table_values rows objects table descriptors deps) → row_in rows t ≡ None → lists (initiated steps) t ≡ false
+new_name opening steps rows objects table descriptors deps t shows none =
     sym (lists_reverse (initiated steps) t) ∙ ap (λ names. lists names t) (sym shows.names) ∙ sym (row_named rows t) ∙ ap is_some none
 
 -- who runs by the table is live
-pub running_live : (opening : Opening) (steps : List Step) (rows : List NamedTransRow) (objects : Cells) (table : Locks.LockTable) (descriptors : List Descriptor) (t : ℕ) → Shows opening steps (table_values rows objects table descriptors) → status_in rows t ≡ Status'.Running → live steps t ≡ true
+pub running_live : (opening : Opening) (steps : List Step) (rows : List NamedTransRow) (objects : Cells) (table : Locks.LockTable) (descriptors : List Descriptor) (deps : List Dependency) (t : ℕ) → Shows opening steps (table_values rows objects table descriptors deps) → status_in rows t ≡ Status'.Running → live steps t ≡ true
 unfolding is_live_status
-running_live opening steps rows objects table descriptors t shows runs = live_by_status steps t ∙ ap is_live_status (sym (shows.statuses t) ∙ runs)
+running_live opening steps rows objects table descriptors deps t shows runs = live_by_status steps t ∙ ap is_live_status (sym (shows.statuses t) ∙ runs)
 
 -- who is live by the table is live
-pub live_shown : (opening : Opening) (steps : List Step) (rows : List NamedTransRow) (objects : Cells) (table : Locks.LockTable) (descriptors : List Descriptor) (t : ℕ) → Shows opening steps (table_values rows objects table descriptors) → is_live_status (status_in rows t) ≡ live steps t
-live_shown opening steps rows objects table descriptors t shows = ap is_live_status (shows.statuses t) ∙ sym (live_by_status steps t)
+pub live_shown : (opening : Opening) (steps : List Step) (rows : List NamedTransRow) (objects : Cells) (table : Locks.LockTable) (descriptors : List Descriptor) (deps : List Dependency) (t : ℕ) → Shows opening steps (table_values rows objects table descriptors deps) → is_live_status (status_in rows t) ≡ live steps t
+live_shown opening steps rows objects table descriptors deps t shows = ap is_live_status (shows.statuses t) ∙ sym (live_by_status steps t)
 
 -- a wait for a name changes nothing
-pub wait_shows : (opening : Opening) (steps : List Step) (rows : List NamedTransRow) (objects : Cells) (table : Locks.LockTable) (descriptors : List Descriptor) (t : Txn) → Shows opening steps (table_values rows objects table descriptors) → Shows opening (WaitFor t ∷ steps) (table_values rows objects table descriptors)
-unfolding initiated initiated_by begun begun_by completed completed_by parent_of parent_by operations operated permits permitted_by
-wait_shows opening steps rows objects table descriptors t shows =
-    quiet_shows opening (WaitFor t) steps rows objects table descriptors shows refl refl (λ n. refl) (record { names = refl; applied = refl; arrows = λ x op. refl; ends = λ n. wait_ends t steps n })
+pub wait_shows : (opening : Opening) (steps : List Step) (rows : List NamedTransRow) (objects : Cells) (table : Locks.LockTable) (descriptors : List Descriptor) (deps : List Dependency) (t : Txn) → Shows opening steps (table_values rows objects table descriptors deps) → Shows opening (WaitFor t ∷ steps) (table_values rows objects table descriptors deps)
+unfolding initiated initiated_by begun begun_by completed completed_by parent_of parent_by operations operated permits permitted_by dependencies dependency_by
+wait_shows opening steps rows objects table descriptors deps t shows =
+    quiet_shows opening (WaitFor t) steps rows objects table descriptors deps shows refl refl (λ n. refl) (record { names = refl; applied = refl; arrows = λ x op. refl; kept = λ k. refl; ends = λ n. wait_ends t steps n })
 
 -- a request that waits changes no lock and no enrolment
-pub waiting_shows : (opening : Opening) (steps : List Step) (rows : List NamedTransRow) (objects : Cells) (table : Locks.LockTable) (descriptors : List Descriptor) (t : ℕ) (x : Ob) (op : Op) → Shows opening steps (table_values rows objects table descriptors) → Shows opening steps (table_values rows objects (Locks.wait_in t x op table) descriptors)
-waiting_shows opening steps rows objects table descriptors t x op shows = record {
+pub waiting_shows : (opening : Opening) (steps : List Step) (rows : List NamedTransRow) (objects : Cells) (table : Locks.LockTable) (descriptors : List Descriptor) (deps : List Dependency) (t : ℕ) (x : Ob) (op : Op) → Shows opening steps (table_values rows objects table descriptors deps) → Shows opening steps (table_values rows objects (Locks.wait_in t x op table) descriptors deps)
+waiting_shows opening steps rows objects table descriptors deps t x op shows = record {
   names = shows.names;
   statuses = shows.statuses;
   parents = shows.parents;
@@ -354,4 +359,5 @@ waiting_shows opening steps rows objects table descriptors t x op shows = record
   enrolled = names_waiting t x op table ∙ shows.enrolled;
   locks = λ n y other. carries_waiting t x op table n y other ∙ shows.locks n y other;
   permits_stand = shows.permits_stand;
+  dependencies_stand = shows.dependencies_stand;
 }

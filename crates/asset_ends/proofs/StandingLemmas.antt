@@ -6,6 +6,7 @@ use Rattle.asset_names.specs.declared.steps.Step.{Step}
 use Rattle.asset_names.specs.Steps.{Opening}
 use Rattle.asset_names.specs.Endings.{end_of}
 use Rattle.asset_names.specs.Operations.{exists, opening_at, operations}
+use Rattle.asset_deps.specs.Dependencies.{Dependency}
 use Rattle.asset_permits.specs.Descriptors.{Descriptor, one_covers}
 use Rattle.asset_objects.specs.Cells.{Cells, cells, has_object}
 use Rattle.asset_locks.specs.LockTable as Locks
@@ -37,7 +38,7 @@ on_err (Err e) f p = f p
 
 -- tables that are the same show alike
 pub same_alike : (later before : Standing) → SameView later before → ShowAlike later before
-same_alike later before same = record { rows = same.rows; objects = same.objects; locks = same.locks; permits = λ u t x op. ap (λ descriptors. one_covers descriptors u t x op) same.permits }
+same_alike later before same = record { rows = same.rows; objects = same.objects; locks = same.locks; permits = λ u t x op. ap (λ descriptors. one_covers descriptors u t x op) same.permits; deps = same.deps }
 
 -- tables that show alike show the same history
 pub alike_shows : (opening : Opening) (steps : List Step) (later before : Standing) → ShowAlike later before → Shows opening steps (values_of before) → Shows opening steps (values_of later)
@@ -49,12 +50,13 @@ alike_shows opening steps later before alike shows = record {
   enrolled = rw alike.locks shows.enrolled;
   locks = λ t x op. rw alike.locks (shows.locks t x op);
   permits_stand = λ u t x op. alike.permits u t x op ∙ shows.permits_stand u t x op;
+  dependencies_stand = λ k u v. rw alike.deps (shows.dependencies_stand k u v);
 }
 
 -- tables that are as others are stand for what the others do
-pub stand_as : (opening : Opening) (steps : List Step) (later : Standing) (rows : List NamedTransRow) (objects : Cells) (table : Locks.LockTable) (descriptors : List Descriptor) → later.trans ≡ rows → cells later.objects ≡ objects → later.locks ≡ table
-    → later.permits ≡ descriptors → Shows opening steps (table_values rows objects table descriptors) → Shows opening steps (values_of later)
-stand_as opening steps later rows objects table descriptors r o l p shows = rw (r, o, l, p) shows
+pub stand_as : (opening : Opening) (steps : List Step) (later : Standing) (rows : List NamedTransRow) (objects : Cells) (table : Locks.LockTable) (descriptors : List Descriptor) (deps : List Dependency) → later.trans ≡ rows → cells later.objects ≡ objects → later.locks ≡ table
+    → later.permits ≡ descriptors → later.deps ≡ deps → Shows opening steps (table_values rows objects table descriptors deps) → Shows opening steps (values_of later)
+stand_as opening steps later rows objects table descriptors deps r o l p d shows = rw (r, o, l, p, d) shows
 
 -- an enrolment that is given back leaves the table as it was
 none_named : (t : ℕ) (everyone : List Locks.Enrolled) → find (λ (who : Locks.Enrolled). eqb who.name t) everyone ≡ None

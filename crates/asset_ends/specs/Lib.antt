@@ -1,3 +1,3 @@
 pub mod Shows
-pub mod PermitChanges
+pub mod Ended
 pub mod Standing

@@ -1,27 +1,32 @@
 -- What the tables hold together, and what they show.
-use Rattle.std.specs.Prelude.{◌≡◌, ℕ, Bool, cond, List, ◌∷◌}
+use Rattle.std.specs.Prelude.{◌≡◌, ℕ, Bool, true, cond, not, ◌==◌, ◌&&◌, ◌||◌, List, ◌∷◌}
+use Rattle.std.specs.List.{list_all}
 use Rattle.asset_names.specs.declared.operations.Op.{Op}
+use Rattle.asset_names.specs.declared.steps.Kind.{Kind}
 use Rattle.asset_names.specs.declared.steps.Step.{Step}
 use Rattle.asset_names.specs.Arrows.{lists}
 use Rattle.asset_names.specs.Endings.{is_live_status}
+use Rattle.asset_names.specs.Answers.{is_completed}
 use Rattle.asset_permits.specs.Descriptors.{Descriptor, one_covers, allows_by}
 use Rattle.asset_objects.specs.Cells.{ObjectTable, cells}
+use Rattle.asset_deps.specs.Dependencies.{Dependency, DepTable, class_in, outside_source_in}
 use Rattle.asset_locks.specs.LockTable as Locks
-use Rattle.asset_trans.specs.TransRows.{NamedTransRow, status_in}
+use Rattle.asset_trans.specs.TransRows.{NamedTransRow, names_of, status_in}
 use Rattle.asset_ends.specs.declared.ending.Tried.{Tried}
 use Rattle.asset_ends.specs.declared.ending.Tried.TheVariants as Tried'
 use Rattle.asset_ends.specs.Shows.{TableValues, table_values}
 
--- the rows of the transactions, the objects, the locks, and the permits
+-- the rows of the transactions, the objects, the locks, the permits, and the dependencies
 pub record Standing : Type 0 where
   pub trans : List NamedTransRow
   pub objects : ObjectTable
   pub locks : Locks.LockTable
   pub permits : List Descriptor
+  pub deps : List Dependency
 
 -- what the tables hold, each object by its cell
 abbrev pub values_of : Standing → TableValues
-values_of tables = table_values tables.trans (cells tables.objects) tables.locks tables.permits
+values_of tables = table_values tables.trans (cells tables.objects) tables.locks tables.permits tables.deps
 
 -- the object is free by the locks
 unfoldable pub is_free_for : Standing → ℕ → ℕ → Op → Bool
@@ -31,9 +36,14 @@ is_free_for tables t x op = Locks.is_free_in tables.locks (λ u. allows_by table
 unfoldable pub step_if : Bool → Step → List Step → List Step
 step_if effect step steps = cond effect (step ∷ steps) steps
 
--- what became of a commit, by whether the transaction has completed
+-- whether each member of t's class has completed, and no source of a member is outside it, by the tables
+unfoldable pub may_commit_in : Standing → ℕ → Bool
+may_commit_in tables t = list_all (λ n. not (class_in tables.deps t n) || is_completed (status_in tables.trans n)) (names_of tables.trans)
+    && not (outside_source_in tables.deps t)
+
+-- what became of a commit, by whether the class may commit
 unfoldable pub tried : Bool → Tried
-tried completed = cond completed Tried'.Committed Tried'.Wait
+tried may = cond may Tried'.Committed Tried'.Wait
 
 -- the tables show the same as before
 pub record SameView (later before : Standing) : Type 0 where
@@ -41,6 +51,7 @@ pub record SameView (later before : Standing) : Type 0 where
   pub objects : cells later.objects ≡ cells before.objects
   pub locks : later.locks ≡ before.locks
   pub permits : later.permits ≡ before.permits
+  pub deps : later.deps ≡ before.deps
 
 -- the tables show the same as before: the permits cover the same, in whatever order they stand
 pub record ShowAlike (later before : Standing) : Type 0 where
@@ -48,7 +59,17 @@ pub record ShowAlike (later before : Standing) : Type 0 where
   pub objects : cells later.objects ≡ cells before.objects
   pub locks : later.locks ≡ before.locks
   pub permits : (u t x : ℕ) (op : Op) → one_covers later.permits u t x op ≡ one_covers before.permits u t x op
+  pub deps : later.deps ≡ before.deps
 
 -- exactly those who are live by their status are enrolled for locks
 unfoldable pub AreEnrolled : List NamedTransRow → Locks.LockTable → Type 0
 AreEnrolled rows table = (t : ℕ) → lists (Locks.names_in table) t ≡ is_live_status (status_in rows t)
+
+-- only transactions that are live by their status are enrolled for dependencies
+unfoldable pub DependAlive : List NamedTransRow → DepTable → Type 0
+DependAlive rows deps = (t : ℕ) → lists deps.names t ≡ true → is_live_status (status_in rows t) ≡ true
+
+-- the live are enrolled for locks, and of them those who may have dependencies for these
+pub record IsValid (rows : List NamedTransRow) (table : Locks.LockTable) (dependencies : DepTable) : Type 0 where
+  pub locks : AreEnrolled rows table
+  pub deps : DependAlive rows dependencies

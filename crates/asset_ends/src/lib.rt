@@ -1,9 +1,10 @@
-//! The tables together: objects, locks, permits and transactions. Each call that does a step takes tables that show a
+//! The tables together: objects, locks, permits, transactions and dependencies. Each call that does a step takes tables that show a
 //! history to tables that show it with that step, and one that waits leaves them showing it. Who calls answers for the
 //! refusals: a call asks that those of its step do not apply.
 #![tactic(auto)]
 
 mod delegating;
+mod depending;
 mod ending;
 mod tables;
 mod working;

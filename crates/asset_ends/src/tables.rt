@@ -1,5 +1,6 @@
 //! The tables, and what they show.
 
+use asset_deps::Deps;
 use asset_locks::Locks;
 use asset_names::{NoMemory, Ob, Op, Status, Txn};
 use asset_objects::{Objects, ObjectsFault};
@@ -8,8 +9,9 @@ use asset_trans::Trans;
 use std::alloc::Global;
 use std::marker::Model;
 
-/// The tables of objects, locks, permits and transactions. Contracts see what each holds; which history they show,
-/// `Shows` says. Exactly the live transactions are enrolled for locks.
+/// The tables of objects, locks, permits, transactions and dependencies. Contracts see what each holds; which history
+/// they show, `Shows` says. Exactly the live transactions are enrolled for locks, and of these the ones that may have
+/// dependencies for dependencies.
 #[derive(Drop)]
 pub struct Tables {
     pub(crate) alloc: Global,
@@ -17,16 +19,17 @@ pub struct Tables {
     pub(crate) locks: Locks,
     pub(crate) permits: Permits,
     pub(crate) trans: Trans,
+    pub(crate) deps: Deps,
 }
 
 impl Model for Tables {
-    ghost use Rattle.asset_ends.specs.Standing.{Standing, AreEnrolled};
+    ghost use Rattle.asset_ends.specs.Standing.{Standing, IsValid};
 
     ghost Value = { Standing };
 
-    ghost view = { λ t. record { trans = t.trans; objects = t.objects; locks = t.locks; permits = t.permits } };
+    ghost view = { λ t. record { trans = t.trans; objects = t.objects; locks = t.locks; permits = t.permits; deps = t.deps.dependencies } };
 
-    ghost invariant = { λ t. AreEnrolled t.trans t.locks };
+    ghost invariant = { λ t. IsValid t.trans t.locks t.deps };
 }
 
 impl Tables {
@@ -80,6 +83,7 @@ impl Tables {
             locks: Locks::new(alloc),
             permits: Permits::new(alloc),
             trans: Trans::new(alloc),
+            deps: Deps::new(alloc),
         }
     }
 

@@ -91,6 +91,7 @@ impl Tables {
         ensures answer { IfOk result (λ written. written ≡ is_free_for self.old t.0 x.0 Operation.Write) }
         ensures rows { self.new.trans ≡ self.old.trans }
         ensures permits { self.new.permits ≡ self.old.permits }
+        ensures deps { self.new.deps ≡ self.old.deps }
         ensures objects { OnOk result (cells self.new.objects ≡ cond (is_free_for self.old t.0 x.0 Operation.Write) (change_at x.0 (written t.0 v) (cells self.old.objects)) (cells self.old.objects)) }
         ensures locks { OnOk result (self.new.locks ≡ after_ask (is_free_for self.old t.0 x.0 Operation.Write) t.0 x Operation.Write self.old.locks) }
         ensures memory { IsErr result → is_free_for self.old t.0 x.0 Operation.Write ≡ true }
@@ -113,6 +114,7 @@ impl Tables {
         ensures blocked { OnOk result (is_free_for self.old t.0 x.0 Operation.Write ≡ false) }
         ensures rows { self.new.trans ≡ self.old.trans }
         ensures permits { self.new.permits ≡ self.old.permits }
+        ensures deps { self.new.deps ≡ self.old.deps }
         ensures objects { self.new.objects ≡ self.old.objects }
         ensures locks { OnOk result (self.new.locks ≡ after_ask (is_free_for self.old t.0 x.0 Operation.Write) t.0 x Operation.Write self.old.locks) }
         ensures memory { IsErr result → is_free_for self.old t.0 x.0 Operation.Write ≡ true }

@@ -7,6 +7,8 @@ use Rattle.asset_grammar.specs.Operands.{txn, ob, txn_of, ob_of, both, all_three
 use Rattle.asset_names.specs.declared.sets.ObSet.TheVariants.{All, Listed}
 use Rattle.asset_names.specs.Sets.{numbers, twice, rising, put_in}
 use Rattle.asset_names.specs.OpSets.{op_set}
+use Rattle.asset_names.specs.declared.steps.Kind.TheVariants.{Ad}
+use Rattle.asset_grammar.specs.DependOperands.{kind_of, kind_and_txns}
 use Rattle.asset_grammar.specs.PermitOperands.{txns_ops_and_set, txns_and_set}
 use Rattle.asset_grammar.specs.Sets.{ops_of, one_more_object, gathered, is_list, listed, set_of}
 use Rattle.asset_grammar.specs.Grammar.{step_by, object_command, step_command, command_from, command_of, is_blank, line_by, line_of}
@@ -166,3 +168,16 @@ delegation_of_nothing = refl
 delegation_with_operations : line_of (codes "delegate 7 8 rw 1") ≡ Line'.Bad
 unfolding line_of line_by is_blank command_of command_from step_command step_by words parts keyword_of keyword_text all_keywords txns_and_set both txn_of
 delegation_with_operations = refl
+
+-- a dependency names its kind first
+depend_line : line_of (codes "depend ad 7 8") ≡ Line'.Command (Ask (Step'.Depend Ad (txn 7) (txn 8)))
+unfolding line_of line_by is_blank command_of command_from step_command step_by words parts keyword_of keyword_text all_keywords kind_and_txns kind_of both txn_of number_of is_numeral
+depend_line = refl
+
+dependency_of_another_kind : line_of (codes "depend xd 7 8") ≡ Line'.Bad
+unfolding line_of line_by is_blank command_of command_from step_command step_by words parts keyword_of keyword_text all_keywords kind_and_txns kind_of both txn_of number_of is_numeral
+dependency_of_another_kind = refl
+
+dependency_of_one : line_of (codes "depend gc 7") ≡ Line'.Bad
+unfolding line_of line_by is_blank command_of command_from step_command step_by words parts keyword_of keyword_text all_keywords kind_and_txns
+dependency_of_one = refl

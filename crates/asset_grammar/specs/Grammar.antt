@@ -5,14 +5,16 @@ use Rattle.asset_names.specs.declared.names.Txn.{Txn}
 use Rattle.asset_names.specs.declared.names.Ob.{Ob}
 use Rattle.asset_names.specs.declared.sets.ObSet.{ObSet}
 use Rattle.asset_names.specs.OpSets.{OpSet}
+use Rattle.asset_names.specs.declared.steps.Kind.{Kind}
 use Rattle.asset_names.specs.declared.steps.Step.{Step}
 use Rattle.asset_names.specs.declared.steps.Step.TheVariants as Step'
 use Rattle.asset_grammar.specs.declared.keywords.Keyword.{Keyword}
-use Rattle.asset_grammar.specs.declared.keywords.Keyword.TheVariants.{Initiate, Begin, Read, Write, Complete, Permit, Delegate, Commit, Abort, Wait}
+use Rattle.asset_grammar.specs.declared.keywords.Keyword.TheVariants.{Initiate, Begin, Read, Write, Complete, Permit, Delegate, Depend, Commit, Abort, Wait}
 use Rattle.asset_grammar.specs.declared.grammar.Command.{Command}
 use Rattle.asset_grammar.specs.declared.grammar.Command.TheVariants.{Object, Ask}
 use Rattle.asset_grammar.specs.declared.grammar.Line.{Line}
 use Rattle.asset_grammar.specs.declared.grammar.Line.TheVariants as Line'
+use Rattle.asset_grammar.specs.DependOperands.{kind_and_txns}
 use Rattle.asset_grammar.specs.PermitOperands.{txns_ops_and_set, txns_and_set}
 use Rattle.asset_grammar.specs.Words.{words}
 use Rattle.asset_grammar.specs.Keywords.{keyword_of}
@@ -27,6 +29,7 @@ step_by Write operands = option_map (λ (a : Txn × Ob × ℤ). Step'.Write a.0 
 step_by Complete operands = option_map Step'.Complete (one_txn operands)
 step_by Permit operands = option_map (λ (a : (Txn × Txn) × (OpSet × ObSet)). Step'.Permit a.0.0 a.0.1 a.1.1 a.1.0) (txns_ops_and_set operands)
 step_by Delegate operands = option_map (λ (a : (Txn × Txn) × ObSet). Step'.Delegate a.0.0 a.0.1 a.1) (txns_and_set operands)
+step_by Depend operands = option_map (λ (a : Kind × (Txn × Txn)). Step'.Depend a.0 a.1.0 a.1.1) (kind_and_txns operands)
 step_by Commit operands = option_map Step'.Commit (one_txn operands)
 step_by Abort operands = option_map Step'.Abort (one_txn operands)
 step_by Wait operands = option_map Step'.WaitFor (one_txn operands)

@@ -2,7 +2,7 @@
 use Rattle.std.specs.Prelude.{ℕ, List, [], ◌∷◌, Option, find, codes}
 use Rattle.std.specs.Str.{bytes_eq}
 use Rattle.asset_grammar.specs.declared.keywords.Keyword.{Keyword}
-use Rattle.asset_grammar.specs.declared.keywords.Keyword.TheVariants.{Initiate, Begin, Read, Write, Complete, Permit, Delegate, Commit, Abort, Wait}
+use Rattle.asset_grammar.specs.declared.keywords.Keyword.TheVariants.{Initiate, Begin, Read, Write, Complete, Permit, Delegate, Depend, Commit, Abort, Wait}
 
 -- how a keyword is written
 unfoldable pub keyword_text : Keyword → List ℕ
@@ -13,13 +13,14 @@ keyword_text Write = codes "write"
 keyword_text Complete = codes "complete"
 keyword_text Permit = codes "permit"
 keyword_text Delegate = codes "delegate"
+keyword_text Depend = codes "depend"
 keyword_text Commit = codes "commit"
 keyword_text Abort = codes "abort"
 keyword_text Wait = codes "wait"
 
 -- every keyword
 unfoldable pub all_keywords : List Keyword
-all_keywords = Initiate ∷ Begin ∷ Read ∷ Write ∷ Complete ∷ Permit ∷ Delegate ∷ Commit ∷ Abort ∷ Wait ∷ []
+all_keywords = Initiate ∷ Begin ∷ Read ∷ Write ∷ Complete ∷ Permit ∷ Commit ∷ Abort ∷ Wait ∷ Delegate ∷ Depend ∷ []
 
 -- the keyword that a word writes
 unfoldable pub keyword_of : List ℕ → Option Keyword

@@ -4,6 +4,7 @@ pub mod Numbers
 pub mod Keywords
 pub mod Operands
 pub mod PermitOperands
+pub mod DependOperands
 pub mod Sets
 pub mod Grammar
 pub mod Texts

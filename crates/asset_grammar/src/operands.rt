@@ -2,11 +2,37 @@
 ghost use Rattle.std.specs.Prelude.{◌≡◌};
 ghost use Rattle.asset_grammar.specs.Operands.{ob_of, object_and_value, one_txn, txn_and_object, txn_and_parent, txn_object_and_value, txn_of};
 ghost use Rattle.asset_grammar.specs.PermitOperands.{txns_ops_and_set, txns_and_set};
+ghost use Rattle.asset_grammar.specs.DependOperands.{kind_of, kind_and_txns};
 
 use crate::numbers::{parse_number, parse_value};
 use crate::sets::{parse_ops, parse_set};
 use crate::words::Words;
-use asset_names::{Ob, ObSet, Ops, Txn};
+use asset_names::{Kind, Ob, ObSet, Ops, Txn};
+
+/// The word for a commit dependency.
+const COMMIT: &[u8] = b"cd";
+
+/// The word for an abort dependency.
+const ABORT: &[u8] = b"ad";
+
+/// The word for a group commit.
+const GROUP: &[u8] = b"gc";
+
+/// Returns the kind of dependency that a word names.
+#[tactic(auto, unfolding(crate::specs::DependOperands::kind_of))]
+fn parse_kind(word: &[u8]) -> Option<Kind>
+    ensures { result ≡ kind_of word.now }
+{
+    if word == COMMIT {
+        Some(Kind::Cd)
+    } else if word == ABORT {
+        Some(Kind::Ad)
+    } else if word == GROUP {
+        Some(Kind::Gc)
+    } else {
+        None
+    }
+}
 
 /// Returns the transaction that a word names.
 #[tactic(auto, unfolding(crate::specs::Operands::txn_of))]
@@ -119,5 +145,21 @@ impl Words<'_> {
         };
         let names = parse_txn(giver).zip(parse_txn(taker));
         names.zip(parse_set(obs))
+    }
+
+    /// Reads a kind of dependency and two transactions.
+    #[tactic(auto, unfolding(crate::specs::Operands::both, crate::specs::DependOperands::kind_and_txns))]
+    pub(crate) fn kind_and_txns(mut self) -> Option<(Kind, (Txn, Txn))>
+        ensures { result ≡ kind_and_txns self.entry }
+    {
+        let (Some(kind), Some(a), Some(b), None) = (
+            self.next(),
+            self.next(),
+            self.next(),
+            self.next(),
+        ) else {
+            return None;
+        };
+        parse_kind(kind).zip(parse_txn(a).zip(parse_txn(b)))
     }
 }

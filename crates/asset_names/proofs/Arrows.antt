@@ -7,7 +7,7 @@ use Rattle.asset_names.specs.Arrows.{Arrow, linked, Chain}
 use Rattle.asset_names.specs.Arrows.Chain.{stay, along}
 
 -- what one more arrow links: a way without it, or a way to it and a way on
-linked_ways : (arrow : Arrow) (arrows : List Arrow) (a b : ℕ) → linked (arrow ∷ arrows) a b ≡ true
+pub linked_ways : (arrow : Arrow) (arrows : List Arrow) (a b : ℕ) → linked (arrow ∷ arrows) a b ≡ true
     → (linked arrows a b ≡ true) ⊎ ((linked arrows a arrow.0 ≡ true) × (linked arrows arrow.1 b ≡ true))
 unfolding linked
 linked_ways arrow arrows a b h =

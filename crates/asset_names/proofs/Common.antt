@@ -1,5 +1,5 @@
 -- Small laws that the proofs of several crates need.
-use Rattle.std.proofs.Common.{◌≡◌, ℕ, Bool, true, false, cond, eqb, Some, None, refl, arith}
+use Rattle.std.proofs.Common.{◌≡◌, ℕ, Bool, true, false, cond, eqb, Some, None, refl, sym, arith}
 use Rattle.std.specs.Prelude.{Option}
 use Rattle.std.specs.Option.{option_or}
 
@@ -16,3 +16,9 @@ cond_same false x = refl
 pub option_or_none : {A : Type 0} (found : Option A) → option_or found None ≡ found
 option_or_none None = refl
 option_or_none (Some x) = refl
+
+-- two truths that follow from each other are one
+pub both_follow : (a b : Bool) → (a ≡ true → b ≡ true) → (b ≡ true → a ≡ true) → a ≡ b
+both_follow true b there back = sym (there refl)
+both_follow false false there back = refl
+both_follow false true there back = back refl

@@ -12,18 +12,20 @@ use Rattle.asset_names.specs.OpSets.{has_op, OpSet}
 use Rattle.std.specs.List.{list_any}
 use Rattle.asset_names.specs.declared.statuses.End.{End}
 use Rattle.asset_names.specs.declared.statuses.End.TheVariants as End'
+use Rattle.asset_names.specs.declared.steps.Kind.{Kind}
 use Rattle.asset_names.specs.declared.steps.Step.{Step}
-use Rattle.asset_names.specs.declared.steps.Step.TheVariants.{Initiate, Begin, Read, Write, Complete, Permit, Delegate, Commit, Abort, WaitFor}
+use Rattle.asset_names.specs.declared.steps.Step.TheVariants.{Initiate, Begin, Read, Write, Complete, Permit, Delegate, Depend, Commit, Abort, WaitFor}
 use Rattle.asset_names.specs.declared.replies.Refusal.{Refusal}
 use Rattle.asset_names.specs.declared.replies.Reply.{Reply}
 use Rattle.asset_names.specs.declared.replies.Reply.TheVariants as Reply'
 use Rattle.asset_names.specs.declared.replies.Outcome.TheVariants.{Answer}
 use Rattle.asset_names.specs.Arrows.{Arrow, lists, has_arrow}
 use Rattle.asset_names.specs.Steps.{Opening, Entry, takes_effect, applied, initiated, initiated_by, begun, begun_by, completed, completed_by}
-use Rattle.asset_names.specs.Endings.{ended_by, end_of, live, status, status_of}
-use Rattle.asset_names.specs.Answers.{Rule, is_unknown, has_ended, is_running, unknown, ended, not_running, one_name, taken, no_object_of, rules_for, first_refusal, unrefused, outcome_unless, answer, IsLegal}
+use Rattle.asset_names.specs.Endings.{dependency_by, dependencies, would_cycle, ended_by, end_of, live, status, status_of}
+use Rattle.asset_names.specs.Answers.{Rule, is_unknown, has_ended, is_running, unknown, ended, not_running, one_name, taken, no_object_of, cycle, rules_for, first_refusal, unrefused, outcome_unless, answer, IsLegal}
 use Rattle.asset_names.proofs.Common.{option_or_none}
 use Rattle.asset_names.proofs.DelegateLemmas.{owner_handed, delegate_arrow}
+use Rattle.asset_names.proofs.DependLemmas.{depend_arrow}
 use Rattle.asset_names.proofs.EndLemmas.{live_parts, commits, aborts, commits_live, aborts_live, commit_ends, abort_ends}
 use Rattle.asset_names.specs.Orderly.{IsOrderly}
 
@@ -40,6 +42,7 @@ effect_unrefused opening steps step reply is carried = go (first_refusal (rules_
   never (Complete t) refusal = refl
   never (Permit giver taker obs ops) refusal = refl
   never (Delegate giver taker obs) refusal = refl
+  never (Depend kind a b) refusal = refl
   never (Commit t) refusal = refl
   never (Abort t) refusal = refl
   never (WaitFor t) refusal = refl
@@ -142,30 +145,38 @@ live_unless steps t = go (lists (initiated steps) t) (lists (begun steps) t) (li
   go true true false None h k = refl
   go true false false None h k = refl
 
--- where no rule on a giver and a taker applies, they are two, and both live
-between_live : (opening : Opening) (steps : List Step) (giver taker : Txn) (obs : ObSet)
-    → first_refusal (one_name giver taker ∷ unknown steps giver ∷ unknown steps taker ∷ ended steps giver ∷ ended steps taker ∷ no_object_of opening obs ∷ []) ≡ None
-    → (eqb giver.0 taker.0 ≡ false) × (live steps giver.0 ≡ true) × (live steps taker.0 ≡ true)
+-- where none of the rules on two transactions applies, they are two, and both live; no later rule applies
+between_live : (steps : List Step) (a b : Txn) (rules : List Rule)
+    → first_refusal (one_name a b ∷ unknown steps a ∷ unknown steps b ∷ ended steps a ∷ ended steps b ∷ rules) ≡ None
+    → (eqb a.0 b.0 ≡ false) × (live steps a.0 ≡ true) × (live steps b.0 ≡ true) × (first_refusal rules ≡ None)
 unfolding unknown ended one_name
-between_live opening steps giver taker obs none =
-    let zero = first_none (one_name giver taker) _ none in
-    let one = first_none (unknown steps giver) _ zero.1 in
-    let two = first_none (unknown steps taker) _ one.1 in
-    let three = first_none (ended steps giver) _ two.1 in
-    let four = first_none (ended steps taker) _ three.1 in
-    (zero.0, live_unless steps giver.0 one.0 three.0, live_unless steps taker.0 two.0 four.0)
+between_live steps a b rules none =
+    let zero = first_none (one_name a b) _ none in
+    let one = first_none (unknown steps a) _ zero.1 in
+    let two = first_none (unknown steps b) _ one.1 in
+    let three = first_none (ended steps a) _ two.1 in
+    let four = first_none (ended steps b) _ three.1 in
+    (zero.0, live_unless steps a.0 one.0 three.0, live_unless steps b.0 two.0 four.0, four.1)
 
 -- a permit takes effect only between two live transactions
 pub permit_live : (opening : Opening) (steps : List Step) (giver taker : Txn) (obs : ObSet) (ops : OpSet) (reply : Reply) → answer opening steps (Permit giver taker obs ops) ≡ Answer reply → takes_effect (Permit giver taker obs ops) reply ≡ true
     → (live steps giver.0 ≡ true) × (live steps taker.0 ≡ true)
 unfolding rules_for
-permit_live opening steps giver taker obs ops reply is carried = let parts = between_live opening steps giver taker obs (effect_unrefused opening steps (Permit giver taker obs ops) reply is carried) in (parts.1, parts.2)
+permit_live opening steps giver taker obs ops reply is carried = let parts = between_live steps giver taker (no_object_of opening obs ∷ []) (effect_unrefused opening steps (Permit giver taker obs ops) reply is carried) in (parts.1, parts.2)
 
 -- a delegation takes effect only between two live transactions, which differ
 pub delegate_live : (opening : Opening) (steps : List Step) (giver taker : Txn) (obs : ObSet) (reply : Reply) → answer opening steps (Delegate giver taker obs) ≡ Answer reply → takes_effect (Delegate giver taker obs) reply ≡ true
     → (eqb giver.0 taker.0 ≡ false) × (live steps giver.0 ≡ true) × (live steps taker.0 ≡ true)
 unfolding rules_for
-delegate_live opening steps giver taker obs reply is carried = between_live opening steps giver taker obs (effect_unrefused opening steps (Delegate giver taker obs) reply is carried)
+delegate_live opening steps giver taker obs reply is carried = let parts = between_live steps giver taker (no_object_of opening obs ∷ []) (effect_unrefused opening steps (Delegate giver taker obs) reply is carried) in (parts.0, parts.1, parts.2)
+
+-- a dependency takes effect only between two live transactions, which differ, and where it closes no cycle
+pub depend_live : (opening : Opening) (steps : List Step) (kind : Kind) (a b : Txn) (reply : Reply) → answer opening steps (Depend kind a b) ≡ Answer reply → takes_effect (Depend kind a b) reply ≡ true
+    → (eqb a.0 b.0 ≡ false) × (live steps a.0 ≡ true) × (live steps b.0 ≡ true) × (would_cycle steps kind a.0 b.0 ≡ false)
+unfolding rules_for cycle
+depend_live opening steps kind a b reply is carried =
+    let parts = between_live steps a b (cycle steps kind a b ∷ []) (effect_unrefused opening steps (Depend kind a b) reply is carried) in
+    (parts.0, parts.1, parts.2, (first_none (cycle steps kind a b) [] parts.3).0)
 
 -- the arrows after a permit: its own, and those before
 permit_arrow : (giver taker : Txn) (obs : ObSet) (ops : OpSet) (steps : List Step) (x : ℕ) (op : Op) (u v : ℕ) → has_arrow (permits (Permit giver taker obs ops ∷ steps) x op) u v ≡ true
@@ -182,13 +193,14 @@ permit_arrow giver taker obs ops steps x op u v h = go (in_set obs x && has_op o
 
 -- one more step that took effect keeps a history orderly
 orderly_more : (opening : Opening) (step : Step) (steps : List Step) (reply : Reply) → answer opening steps step ≡ Answer reply → takes_effect step reply ≡ true → IsOrderly steps → IsOrderly (step ∷ steps)
-unfolding initiated initiated_by begun begun_by completed completed_by lists operations operated permits permitted_by
+unfolding initiated initiated_by begun begun_by completed completed_by lists operations operated permits permitted_by dependencies dependency_by
 orderly_more opening (Initiate t parent) steps reply is carried orderly = record {
   different = (initiate_new opening steps t parent reply is carried, orderly.different);
   begun_known = λ n done. or_right (eqb t.0 n) _ (orderly.begun_known n done);
   owners_known = λ n owns. or_right (eqb t.0 n) _ (orderly.owners_known n owns);
   completed_known = λ n done. or_right (eqb t.0 n) _ (orderly.completed_known n done);
   permits_known = λ u v x op arrow. let both = orderly.permits_known u v x op arrow in (or_right (eqb t.0 u) _ both.0, or_right (eqb t.0 v) _ both.1);
+  dependencies_known = λ kind u v arrow. let both = orderly.dependencies_known kind u v arrow in (or_right (eqb t.0 u) _ both.0, or_right (eqb t.0 v) _ both.1);
 }
 orderly_more opening (Begin t) steps reply is carried orderly = record {
   different = orderly.different;
@@ -199,6 +211,7 @@ orderly_more opening (Begin t) steps reply is carried orderly = record {
   owners_known = orderly.owners_known;
   completed_known = orderly.completed_known;
   permits_known = orderly.permits_known;
+  dependencies_known = orderly.dependencies_known;
 }
 orderly_more opening (Read t x) steps reply is carried orderly = record {
   different = orderly.different;
@@ -209,6 +222,7 @@ orderly_more opening (Read t x) steps reply is carried orderly = record {
   ];
   completed_known = orderly.completed_known;
   permits_known = orderly.permits_known;
+  dependencies_known = orderly.dependencies_known;
 }
 orderly_more opening (Write t x v) steps reply is carried orderly = record {
   different = orderly.different;
@@ -219,6 +233,7 @@ orderly_more opening (Write t x v) steps reply is carried orderly = record {
   ];
   completed_known = orderly.completed_known;
   permits_known = orderly.permits_known;
+  dependencies_known = orderly.dependencies_known;
 }
 orderly_more opening (Complete t) steps reply is carried orderly = record {
   different = orderly.different;
@@ -229,6 +244,7 @@ orderly_more opening (Complete t) steps reply is carried orderly = record {
     | inr before ↦ orderly.completed_known n before
   ];
   permits_known = orderly.permits_known;
+  dependencies_known = orderly.dependencies_known;
 }
 orderly_more opening (Permit giver taker obs ops) steps reply is carried orderly = record {
   different = orderly.different;
@@ -241,6 +257,7 @@ orderly_more opening (Permit giver taker obs ops) steps reply is carried orderly
         (subst (λ m. lists (initiated steps) m ≡ true) here.0 (live_known steps giver.0 both.0), subst (λ m. lists (initiated steps) m ≡ true) here.1 (live_known steps taker.0 both.1))
     | inr before ↦ orderly.permits_known u v x op before
   ];
+  dependencies_known = orderly.dependencies_known;
 }
 orderly_more opening (Delegate giver taker obs) steps reply is carried orderly =
     let both = delegate_live opening steps giver taker obs reply is carried in
@@ -256,15 +273,28 @@ orderly_more opening (Delegate giver taker obs) steps reply is carried orderly =
         | inl copy ↦ (subst (λ m. lists (initiated steps) m ≡ true) copy.0 receiver, (orderly.permits_known giver.0 v x op copy.1).1)
         | inr before ↦ orderly.permits_known u v x op before
       ];
+      dependencies_known = orderly.dependencies_known;
     }
-orderly_more opening (Commit t) steps reply is carried orderly = record { different = orderly.different; begun_known = orderly.begun_known; owners_known = orderly.owners_known; completed_known = orderly.completed_known; permits_known = orderly.permits_known }
-orderly_more opening (Abort t) steps reply is carried orderly = record { different = orderly.different; begun_known = orderly.begun_known; owners_known = orderly.owners_known; completed_known = orderly.completed_known; permits_known = orderly.permits_known }
-orderly_more opening (WaitFor t) steps reply is carried orderly = record { different = orderly.different; begun_known = orderly.begun_known; owners_known = orderly.owners_known; completed_known = orderly.completed_known; permits_known = orderly.permits_known }
+orderly_more opening (Depend kind a b) steps reply is carried orderly =
+    let both = depend_live opening steps kind a b reply is carried in record {
+      different = orderly.different;
+      begun_known = orderly.begun_known;
+      owners_known = orderly.owners_known;
+      completed_known = orderly.completed_known;
+      permits_known = orderly.permits_known;
+      dependencies_known = λ k u v arrow. elim (depend_arrow kind a b steps k u v arrow) [
+        | inl here ↦ (subst (λ m. lists (initiated steps) m ≡ true) here.0 (live_known steps a.0 both.1), subst (λ m. lists (initiated steps) m ≡ true) here.1 (live_known steps b.0 both.2))
+        | inr before ↦ orderly.dependencies_known k u v before
+      ];
+    }
+orderly_more opening (Commit t) steps reply is carried orderly = record { different = orderly.different; begun_known = orderly.begun_known; owners_known = orderly.owners_known; completed_known = orderly.completed_known; permits_known = orderly.permits_known; dependencies_known = orderly.dependencies_known }
+orderly_more opening (Abort t) steps reply is carried orderly = record { different = orderly.different; begun_known = orderly.begun_known; owners_known = orderly.owners_known; completed_known = orderly.completed_known; permits_known = orderly.permits_known; dependencies_known = orderly.dependencies_known }
+orderly_more opening (WaitFor t) steps reply is carried orderly = record { different = orderly.different; begun_known = orderly.begun_known; owners_known = orderly.owners_known; completed_known = orderly.completed_known; permits_known = orderly.permits_known; dependencies_known = orderly.dependencies_known }
 
 -- each legal history is orderly
 pub legal_orderly : (opening : Opening) (entries : List Entry) → IsLegal opening entries → IsOrderly (applied entries)
-unfolding IsLegal applied initiated begun completed lists operations permits has_arrow
-legal_orderly opening [] legal = record { different = tt; begun_known = λ n done. done; owners_known = λ n owns. owns; completed_known = λ n done. done; permits_known = λ u t x op arrow. absurd (false≢true arrow) }
+unfolding IsLegal applied initiated begun completed lists operations permits dependencies has_arrow
+legal_orderly opening [] legal = record { different = tt; begun_known = λ n done. done; owners_known = λ n owns. owns; completed_known = λ n done. done; permits_known = λ u t x op arrow. absurd (false≢true arrow); dependencies_known = λ kind u v arrow. absurd (false≢true arrow) }
 legal_orderly opening (entry ∷ older) legal = go (takes_effect entry.0 entry.1) refl (legal_orderly opening older legal.1) where
   go : (carried : Bool) → takes_effect entry.0 entry.1 ≡ carried → IsOrderly (applied older) → IsOrderly (cond carried (entry.0 ∷ applied older) (applied older))
   go true e orderly = orderly_more opening entry.0 (applied older) entry.1 legal.0 e orderly
@@ -289,6 +319,7 @@ ended_initiated (Write t x v ∷ steps) n h = ended_initiated steps n (subst (λ
 ended_initiated (Complete t ∷ steps) n h = ended_initiated steps n (subst (λ (e : Option End). is_some e ≡ true) (option_or_none (end_of steps n)) h)
 ended_initiated (Permit giver taker obs ops ∷ steps) n h = ended_initiated steps n (subst (λ (e : Option End). is_some e ≡ true) (option_or_none (end_of steps n)) h)
 ended_initiated (Delegate giver taker obs ∷ steps) n h = ended_initiated steps n (subst (λ (e : Option End). is_some e ≡ true) (option_or_none (end_of steps n)) h)
+ended_initiated (Depend kind a b ∷ steps) n h = ended_initiated steps n (subst (λ (e : Option End). is_some e ≡ true) (option_or_none (end_of steps n)) h)
 ended_initiated (Commit t ∷ steps) n h = ended_more End'.Committed steps (commits steps t.0) n (commits_live steps t.0 n) (ended_initiated steps n) (subst (λ (e : Option End). is_some e ≡ true) (commit_ends t steps n) h)
 ended_initiated (Abort t ∷ steps) n h = ended_more End'.Aborted steps (aborts steps t.0) n (aborts_live steps t.0 n) (ended_initiated steps n) (subst (λ (e : Option End). is_some e ≡ true) (abort_ends t steps n) h)
 ended_initiated (WaitFor t ∷ steps) n h = ended_initiated steps n (subst (λ (e : Option End). is_some e ≡ true) (option_or_none (end_of steps n)) h)

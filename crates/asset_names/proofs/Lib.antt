@@ -5,14 +5,15 @@ pub mod PermitLemmas
 pub mod Cases
 pub mod PermitCases
 pub mod DelegateCases
+pub mod DependCases
 pub mod Sorting
 pub mod AppliedLemmas
 pub mod EndLemmas
 pub mod ListLemmas
 pub mod DelegateLemmas
+pub mod DependLemmas
 pub mod LegalLemmas
 pub mod RoomLemmas
 pub mod HolderLemmas
 pub mod LiveLemmas
-pub mod ClassLemmas
 pub mod RisingLemmas

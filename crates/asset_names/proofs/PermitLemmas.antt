@@ -17,7 +17,7 @@ use Rattle.asset_names.specs.OpSets.{has_op, OpSet}
 use Rattle.asset_names.proofs.Arrows.{linked_refl, linked_trans, chain_from_linked}
 
 -- an arrow that is listed leads
-has_listed : (arrows : List Arrow) (a b : ℕ) → Contains arrows (a, b) → has_arrow arrows a b ≡ true
+pub has_listed : (arrows : List Arrow) (a b : ℕ) → Contains arrows (a, b) → has_arrow arrows a b ≡ true
 unfolding has_arrow
 has_listed [] a b h = absurd (omega (arith, h.1))
 has_listed (arrow ∷ arrows) a b h = elim (Contains-append_cases (arrow ∷ []) arrows (a, b) h) [
@@ -42,7 +42,7 @@ linked_has (arrow ∷ arrows) a b h = elim (or_cases (eqb arrow.0 a && eqb arrow
 ]
 
 -- what is linked by arrows is linked by those that lead as these do, and perhaps by more
-linked_more : (fewer more : List Arrow) → ((u v : ℕ) → has_arrow fewer u v ≡ true → has_arrow more u v ≡ true) → (a b : ℕ) → linked fewer a b ≡ true → linked more a b ≡ true
+pub linked_more : (fewer more : List Arrow) → ((u v : ℕ) → has_arrow fewer u v ≡ true → has_arrow more u v ≡ true) → (a b : ℕ) → linked fewer a b ≡ true → linked more a b ≡ true
 linked_more fewer more leads a b h = go a b (chain_from_linked fewer a b h) where
   go : (a b : ℕ) → Chain fewer a b → linked more a b ≡ true
   go a b (stay n) = linked_refl more a

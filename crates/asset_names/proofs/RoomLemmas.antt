@@ -7,7 +7,7 @@ use Rattle.asset_names.specs.declared.statuses.End.{End}
 use Rattle.asset_names.specs.declared.statuses.End.TheVariants as End'
 use Rattle.asset_names.specs.declared.names.Txn.{Txn}
 use Rattle.asset_names.specs.declared.steps.Step.{Step}
-use Rattle.asset_names.specs.declared.steps.Step.TheVariants.{Initiate, Begin, Read, Write, Complete, Permit, Delegate, Commit, Abort, WaitFor}
+use Rattle.asset_names.specs.declared.steps.Step.TheVariants.{Initiate, Begin, Read, Write, Complete, Permit, Delegate, Depend, Commit, Abort, WaitFor}
 use Rattle.asset_names.specs.Arrows.{lists}
 use Rattle.asset_names.specs.Steps.{Opening, Entry, takes_effect, applied, initiated, initiated_by, begun, completed, completed_by}
 use Rattle.asset_names.specs.Endings.{ended_by, end_of, live, status, status_of}
@@ -89,6 +89,10 @@ owed_permit giver taker obs ops steps = sum_same _ _ (initiated steps) (λ n lis
 pub owed_delegate : (giver taker : Txn) (obs : _) (steps : List Step) → owed (Delegate giver taker obs ∷ steps) ≡ owed steps
 unfolding owed initiated initiated_by completed completed_by end_of ended_by
 owed_delegate giver taker obs steps = sum_same _ _ (initiated steps) (λ n listed. same_parts steps (Delegate giver taker obs ∷ steps) n refl refl (option_or_none (end_of steps n)))
+
+pub owed_depend : (kind : _) (a b : Txn) (steps : List Step) → owed (Depend kind a b ∷ steps) ≡ owed steps
+unfolding owed initiated initiated_by completed completed_by end_of ended_by
+owed_depend kind a b steps = sum_same _ _ (initiated steps) (λ n listed. same_parts steps (Depend kind a b ∷ steps) n refl refl (option_or_none (end_of steps n)))
 
 pub owed_wait : (t : Txn) (steps : List Step) → owed (WaitFor t ∷ steps) ≡ owed steps
 unfolding owed initiated initiated_by completed completed_by end_of ended_by
@@ -203,6 +207,7 @@ owed_new opening steps (Write t x v) reply orderly is effect new = absurd (false
 owed_new opening steps (Complete t) reply orderly is effect new = absurd (false≢true new)
 owed_new opening steps (Permit giver taker obs ops) reply orderly is effect new = absurd (false≢true new)
 owed_new opening steps (Delegate giver taker obs) reply orderly is effect new = absurd (false≢true new)
+owed_new opening steps (Depend kind a b) reply orderly is effect new = absurd (false≢true new)
 owed_new opening steps (Commit t) reply orderly is effect new = absurd (false≢true new)
 owed_new opening steps (Abort t) reply orderly is effect new = absurd (false≢true new)
 owed_new opening steps (WaitFor t) reply orderly is effect new = absurd (false≢true new)
@@ -217,6 +222,7 @@ owed_stays steps (Write t x v) reply orderly effect quiet other = owed_write t x
 owed_stays steps (Complete t) reply orderly effect quiet other = absurd (true≢false (sym effect ∙ quiet))
 owed_stays steps (Permit giver taker obs ops) reply orderly effect quiet other = owed_permit giver taker obs ops steps
 owed_stays steps (Delegate giver taker obs) reply orderly effect quiet other = owed_delegate giver taker obs steps
+owed_stays steps (Depend kind a b) reply orderly effect quiet other = owed_depend kind a b steps
 owed_stays steps (Commit t) reply orderly effect quiet other =
     let dead : live steps t.0 ≡ false = sym (ap (λ b. b && live steps t.0) effect) ∙ quiet in
     owed_unended (commits steps t.0) End'.Committed steps (Commit t ∷ steps) refl refl (commit_ends t steps) (λ n. commits_nobody steps t.0 n dead)
@@ -241,6 +247,7 @@ owed_less opening steps (Read t x) reply orderly is changes = absurd (false≢tr
 owed_less opening steps (Write t x v) reply orderly is changes = absurd (false≢true changes)
 owed_less opening steps (Permit giver taker obs ops) reply orderly is changes = absurd (false≢true changes)
 owed_less opening steps (Delegate giver taker obs) reply orderly is changes = absurd (false≢true changes)
+owed_less opening steps (Depend kind a b) reply orderly is changes = absurd (false≢true changes)
 owed_less opening steps (WaitFor t) reply orderly is changes = absurd (false≢true changes)
 
 -- such a step finds room in each legal history that fits

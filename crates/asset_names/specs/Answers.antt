@@ -1,11 +1,12 @@
 -- The refusals of a step, its one answer, and legal histories.
-use Rattle.std.specs.Prelude.{◌≡◌, ℕ, ◌==◌, Bool, true, false, cond, not, ◌||◌, List, [], ◌∷◌, Option, Some, None, find}
+use Rattle.std.specs.Prelude.{◌≡◌, ℕ, ◌==◌, Bool, true, false, cond, not, ◌&&◌, ◌||◌, List, [], ◌∷◌, Option, Some, None, find}
 use Rattle.std.specs.List.{list_all}
 use Rattle.asset_names.specs.declared.names.Txn.{Txn}
 use Rattle.asset_names.specs.declared.names.Ob.{Ob}
 use Rattle.asset_names.specs.declared.operations.Op.TheVariants as Op'
+use Rattle.asset_names.specs.declared.steps.Kind.{Kind}
 use Rattle.asset_names.specs.declared.steps.Step.{Step}
-use Rattle.asset_names.specs.declared.steps.Step.TheVariants.{Initiate, Begin, Read, Write, Complete, Permit, Delegate, Commit, Abort, WaitFor}
+use Rattle.asset_names.specs.declared.steps.Step.TheVariants.{Initiate, Begin, Read, Write, Complete, Permit, Delegate, Depend, Commit, Abort, WaitFor}
 use Rattle.asset_names.specs.declared.sets.ObSet.{ObSet}
 use Rattle.asset_names.specs.declared.sets.ObSet.TheVariants.{All, Listed}
 use Rattle.asset_names.specs.Sets.{no_object_name}
@@ -17,7 +18,7 @@ use Rattle.asset_names.specs.declared.replies.Reply.TheVariants as Reply'
 use Rattle.asset_names.specs.declared.replies.Outcome.{Outcome}
 use Rattle.asset_names.specs.declared.replies.Outcome.TheVariants.{Answer, Wait}
 use Rattle.asset_names.specs.Steps.{Opening, Entry, takes_effect, applied, initiated}
-use Rattle.asset_names.specs.Endings.{status, same_class}
+use Rattle.asset_names.specs.Endings.{status, same_class, has_outside_source, would_cycle}
 use Rattle.asset_names.specs.Operations.{free, value, exists}
 
 -- the transaction was never initiated
@@ -60,7 +61,8 @@ Rule = Bool × Refusal
 unfoldable pub unknown : List Step → Txn → Rule
 unknown steps t = (is_unknown (status steps t.0), Refusal'.Unknown t)
 
--- a begin, a transaction's own work, and a permit or a delegation by it or to it are refused if it has ended
+-- a begin, a transaction's own work, and a permit, a delegation or a dependency between it and another are refused if it
+-- has ended
 unfoldable pub ended : List Step → Txn → Rule
 ended steps t = (has_ended (status steps t.0), Refusal'.Ended t)
 
@@ -83,9 +85,13 @@ too_late steps t = (is_committed (status steps t.0), Refusal'.TooLate t)
 unfoldable pub no_object : Opening → Ob → Rule
 no_object opening x = (not (exists opening x.0), Refusal'.NoObject x)
 
--- a permit or a delegation is refused if its giver is its taker
+-- a permit, a delegation or a dependency between a transaction and itself is refused
 unfoldable pub one_name : Txn → Txn → Rule
 one_name giver taker = (giver.0 == taker.0, Refusal'.Same)
+
+-- a dependency is refused if it would close a cycle
+unfoldable pub cycle : List Step → Kind → Txn → Txn → Rule
+cycle steps kind a b = (would_cycle steps kind a.0 b.0, Refusal'.Cycle)
 
 -- the first object of a set that does not exist: of a list, which rises, the least; all objects exist
 unfoldable pub missing_in : Opening → ObSet → Option Ob
@@ -109,6 +115,7 @@ rules_for opening steps (Write t x v) = unknown steps t ∷ ended steps t ∷ no
 rules_for opening steps (Complete t) = unknown steps t ∷ ended steps t ∷ not_running steps t ∷ []
 rules_for opening steps (Permit giver taker obs ops) = one_name giver taker ∷ unknown steps giver ∷ unknown steps taker ∷ ended steps giver ∷ ended steps taker ∷ no_object_of opening obs ∷ []
 rules_for opening steps (Delegate giver taker obs) = one_name giver taker ∷ unknown steps giver ∷ unknown steps taker ∷ ended steps giver ∷ ended steps taker ∷ no_object_of opening obs ∷ []
+rules_for opening steps (Depend kind a b) = one_name a b ∷ unknown steps a ∷ unknown steps b ∷ ended steps a ∷ ended steps b ∷ cycle steps kind a b ∷ []
 rules_for opening steps (Commit t) = unknown steps t ∷ []
 rules_for opening steps (Abort t) = unknown steps t ∷ too_late steps t ∷ []
 rules_for opening steps (WaitFor t) = unknown steps t ∷ []
@@ -122,8 +129,12 @@ first_refusal (rule ∷ rules) = cond rule.0 (Some rule.1) (first_refusal rules)
 unfoldable pub class_completed : List Step → ℕ → Bool
 class_completed steps t = list_all (λ n. not (same_class steps t n) || is_completed (status steps n)) (initiated steps)
 
--- A commit of a transaction that has ended answers how it ended. Otherwise the whole class commits at once when
--- each member has completed, and waits until then.
+-- whether t's class may commit: each member has completed, and no live transaction outside it is a source of a member
+unfoldable pub may_commit : List Step → ℕ → Bool
+may_commit steps t = class_completed steps t && not (has_outside_source steps t)
+
+-- A commit of a transaction that has ended answers how it ended. Otherwise the whole class commits at once when it may,
+-- and waits until then.
 unfoldable pub commit_outcome : Status → Bool → Outcome
 commit_outcome Status'.Committed ready = Answer Reply'.Committed
 commit_outcome Status'.Aborted ready = Answer Reply'.Aborted
@@ -145,7 +156,8 @@ unrefused opening steps (Write t x v) = cond (free steps t.0 x.0 Op'.Write) (Ans
 unrefused opening steps (Complete t) = Answer Reply'.Done
 unrefused opening steps (Permit giver taker obs ops) = Answer Reply'.Done
 unrefused opening steps (Delegate giver taker obs) = Answer Reply'.Done
-unrefused opening steps (Commit t) = commit_outcome (status steps t.0) (class_completed steps t.0)
+unrefused opening steps (Depend kind a b) = Answer Reply'.Done
+unrefused opening steps (Commit t) = commit_outcome (status steps t.0) (may_commit steps t.0)
 unrefused opening steps (Abort t) = Answer Reply'.Aborted
 unrefused opening steps (WaitFor t) = wait_outcome (status steps t.0)
 
@@ -164,6 +176,7 @@ takes_memory (Read t x) = true
 takes_memory (Write t x v) = true
 takes_memory (Permit giver taker obs ops) = true
 takes_memory (Delegate giver taker obs) = true
+takes_memory (Depend kind a b) = true
 takes_memory step = false
 
 -- whether the outcome is a reply by which the step takes effect

@@ -1,22 +1,38 @@
--- Classes, how transactions end, and their status.
-use Rattle.std.specs.Prelude.{ℕ, Bool, true, false, cond, ◌&&◌, List, [], ◌∷◌, Option, Some, None, is_none}
+-- Dependencies, classes, how transactions end, and their status.
+use Rattle.std.specs.Prelude.{ℕ, Bool, true, false, cond, ◌&&◌, List, [], ◌∷◌, ◌++◌, flat_map, Option, Some, None, is_none}
 use Rattle.std.specs.Option.{option_or}
 use Rattle.asset_names.specs.declared.steps.Step.{Step}
-use Rattle.asset_names.specs.declared.steps.Step.TheVariants.{Commit, Abort}
+use Rattle.asset_names.specs.declared.steps.Kind.{Kind}
+use Rattle.asset_names.specs.declared.steps.Kind.TheVariants.{Cd, Ad, Gc}
+use Rattle.asset_names.specs.declared.steps.Step.TheVariants.{Depend, Commit, Abort}
 use Rattle.asset_names.specs.declared.statuses.End.{End}
 use Rattle.asset_names.specs.declared.statuses.End.TheVariants as End'
 use Rattle.asset_names.specs.declared.statuses.Status.{Status}
 use Rattle.asset_names.specs.declared.statuses.Status.TheVariants as Status'
 use Rattle.asset_names.specs.Arrows.{Arrow, lists, linked, among}
+use Rattle.asset_names.specs.Paths.{same_kind, both_ways, closes_cycle, has_outside}
 use Rattle.asset_names.specs.Steps.{initiated, begun, completed}
 
--- the arrows that make classes: no step joins two transactions yet
-unfoldable pub class_arrows : List Step → List Arrow
-class_arrows steps = []
+-- the arrow of a dependency of this kind that the step makes, from the source to the dependent
+unfoldable pub dependency_by : Kind → Step → List Arrow
+dependency_by kind (Depend k a b) = cond (same_kind kind k) ((a.0, b.0) ∷ []) []
+dependency_by kind step = []
 
--- the arrows along which an abort spreads: over a class, both ways
+-- the arrows of the dependencies of this kind
+unfoldable pub dependencies : Kind → List Step → List Arrow
+dependencies kind steps = flat_map (dependency_by kind) steps
+
+-- the arrows that make classes: those of group commits, both ways
+unfoldable pub class_arrows : List Step → List Arrow
+class_arrows steps = both_ways (dependencies Gc steps)
+
+-- the arrows of order: a dependent ends after its source by a commit dependency, and by an abort dependency
+unfoldable pub order_arrows : List Step → List Arrow
+order_arrows steps = dependencies Cd steps ++ dependencies Ad steps
+
+-- the arrows along which an abort spreads: over a class, and from a source to those with an abort dependency on it
 unfoldable pub doom_arrows : List Step → List Arrow
-doom_arrows steps = class_arrows steps
+doom_arrows steps = class_arrows steps ++ dependencies Ad steps
 
 -- How a step ends t. A commit ends the whole class of a live transaction, and an abort all that it spreads to;
 -- `live` says who was live before it.
@@ -53,6 +69,14 @@ is_live_status Status'.Running = true
 is_live_status Status'.Completed = true
 is_live_status status = false
 
--- two live transactions are of one class, and each is of its own
+-- two live transactions are of one class if group commits between live ones join them; each is of its own
 unfoldable pub same_class : List Step → ℕ → ℕ → Bool
 same_class steps a b = linked (among (live steps) (class_arrows steps)) a b
+
+-- whether a live transaction outside the class of t is the source of a commit or an abort dependency of a member
+unfoldable pub has_outside_source : List Step → ℕ → Bool
+has_outside_source steps t = has_outside (among (live steps) (class_arrows steps)) (among (live steps) (order_arrows steps)) t
+
+-- whether a dependency of this kind of b on a would close a cycle among the classes of live transactions
+unfoldable pub would_cycle : List Step → Kind → ℕ → ℕ → Bool
+would_cycle steps kind a b = closes_cycle kind (among (live steps) (class_arrows steps)) (among (live steps) (order_arrows steps)) a b

@@ -4,7 +4,6 @@
 #![tactic(auto)]
 
 mod doubles;
-mod laws;
 mod names;
 mod operations;
 mod outcomes;
@@ -15,13 +14,12 @@ mod statuses;
 mod steps;
 
 pub use doubles::{NamesObject, least_double};
-pub use laws::{endings_find_room, free_is_allowed_by_holders, linked_is_chain};
 pub use names::{Ob, Txn};
 pub use operations::{Op, Ops};
 pub use outcomes::{commit_outcome, takes_effect, wait_outcome};
 pub use refusals::{
-    refusal_between, refusal_to_abort, refusal_to_begin, refusal_to_find, refusal_to_initiate,
-    refusal_to_operate, refusal_to_work,
+    refusal_between, refusal_to_abort, refusal_to_begin, refusal_to_depend, refusal_to_find,
+    refusal_to_initiate, refusal_to_operate, refusal_to_work,
 };
 pub use replies::{Fault, NoMemory, Outcome, Refusal, Reply};
 pub use sets::{MOST_OBJECTS, ObList, ObSet, SetFault};

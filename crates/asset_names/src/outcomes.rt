@@ -9,7 +9,7 @@ use crate::statuses::Status;
 use crate::steps::Step;
 
 /// Returns the outcome of a commit of a transaction with this status. If it has ended, the outcome says how.
-/// Otherwise it is Committed if `ready`, that is, if each member of its class has completed, and Wait if not.
+/// Otherwise it is Committed if `ready`, that is, if its class may commit, and Wait if not.
 #[tactic(auto, unfolding(crate::specs::Answers::commit_outcome))]
 pub fn commit_outcome(status: Status, ready: bool) -> Outcome
     ensures { result ≡ commit_outcome status ready }

@@ -127,3 +127,25 @@ pub fn refusal_between(
         refusal_of_ended(giver, giver_status, taker, taker_status, missing)
     }
 }
+
+/// Returns why no dependency may be made between two transactions, as far as their statuses say. The refusals in order:
+/// Same if the two are one transaction; Unknown of the source, then of the dependent; Ended of the source, then of the
+/// dependent. What is left is whether it would close a cycle.
+#[tactic(auto, unfolding(crate::specs::Answers::first_refusal, crate::specs::Answers::has_ended))]
+pub fn refusal_to_depend(a: Txn, a_status: Status, b: Txn, b_status: Status) -> Option<Refusal>
+    ensures { result ≡ first_refusal ((a.0 == b.0, Refusal.Same) ∷ (is_unknown a_status, Refusal.Unknown a) ∷ (is_unknown b_status, Refusal.Unknown b) ∷ (has_ended a_status, Refusal.Ended a) ∷ (has_ended b_status, Refusal.Ended b) ∷ []) }
+{
+    if a.0 == b.0 {
+        Some(Refusal::Same)
+    } else if a_status.is_unknown() {
+        Some(Refusal::Unknown(a))
+    } else if b_status.is_unknown() {
+        Some(Refusal::Unknown(b))
+    } else if a_status.has_ended() {
+        Some(Refusal::Ended(a))
+    } else if b_status.has_ended() {
+        Some(Refusal::Ended(b))
+    } else {
+        None
+    }
+}

@@ -56,11 +56,18 @@ pub enum Step {
         taker: Txn,
         obs: ObSet,
     },
-    /// Commits `t`.
+    /// Makes a dependency of this kind between two transactions: `b` depends on its source `a`, and by a group
+    /// commit each depends on the other.
+    Depend {
+        kind: Kind,
+        a: Txn,
+        b: Txn,
+    },
+    /// Commits `t`, with its whole class.
     Commit {
         t: Txn,
     },
-    /// Aborts `t`.
+    /// Aborts `t`, with its whole class and all that an abort dependency draws in.
     Abort {
         t: Txn,
     },

@@ -1,11 +1,12 @@
 //! The one answer to a step after some entries.
 
-ghost use Rattle.std.specs.Prelude.{◌≡◌, false, None, reverse};
+ghost use Rattle.std.specs.Prelude.{◌≡◌, reverse};
 ghost use Rattle.asset_names.specs.Steps.{applied};
 ghost use Rattle.asset_names.specs.Operations.{value, value_if_any};
 ghost use Rattle.asset_names.specs.Endings.{status};
-ghost use Rattle.asset_names.specs.Answers.{is_unknown, class_completed, commit_outcome, first_refusal, rules_for, unrefused, answer};
+ghost use Rattle.asset_names.specs.Answers.{may_commit, commit_outcome, unrefused, answer};
 
+use crate::depending::{class_completed, has_outside_source};
 use crate::freedom::is_free;
 use crate::openings::opening_at;
 use crate::refusals::refusal;
@@ -35,20 +36,18 @@ pub fn value_if_any(opening: &[(Ob, i64)], entries: &[(Step, Reply)], x: Ob) -> 
     }
 }
 
-/// Returns the outcome of a commit that is not refused. Each class has one member as long as no step joins two.
-#[tactic(auto, unfolding(asset_names::specs::Answers::is_unknown), using(asset_names::proofs::ClassLemmas::completed_alone))]
+/// Returns the outcome of a commit that is not refused.
+#[tactic(auto, unfolding(asset_names::specs::Answers::may_commit))]
 fn outcome_of_commit(entries: &[(Step, Reply)], t: Txn) -> Outcome
-    requires { is_unknown (status (applied (reverse entries.now)) t.0) ≡ false }
-    ensures { result ≡ commit_outcome (status (applied (reverse entries.now)) t.0) (class_completed (applied (reverse entries.now)) t.0) }
+    ensures { result ≡ commit_outcome (status (applied (reverse entries.now)) t.0) (may_commit (applied (reverse entries.now)) t.0) }
 {
-    let status = status_after(entries, t);
-    commit_outcome(status, status.is_completed())
+    let ready = class_completed(entries, t) && !has_outside_source(entries, t);
+    commit_outcome(status_after(entries, t), ready)
 }
 
 /// Returns the outcome of a step that is not refused.
 #[tactic(auto, unfolding(asset_names::specs::Answers::unrefused))]
 fn unrefused(opening: &[(Ob, i64)], entries: &[(Step, Reply)], step: &Step) -> Outcome
-    requires { first_refusal (rules_for opening.now (applied (reverse entries.now)) step.now) ≡ None }
     ensures { result ≡ unrefused opening.now (applied (reverse entries.now)) step.now }
 {
     match *step {
@@ -56,7 +55,8 @@ fn unrefused(opening: &[(Ob, i64)], entries: &[(Step, Reply)], step: &Step) -> O
         | Step::Begin { .. }
         | Step::Complete { .. }
         | Step::Permit { .. }
-        | Step::Delegate { .. } => Outcome::Answer(Reply::Done),
+        | Step::Delegate { .. }
+        | Step::Depend { .. } => Outcome::Answer(Reply::Done),
         Step::Read { t, x } if is_free(entries, t, x, Op::Read) => {
             Outcome::Answer(Reply::Value(current_value(opening, entries, x)))
         }

@@ -4,6 +4,8 @@
 
 mod allowing;
 mod answers;
+mod depending;
+mod endings;
 mod freedom;
 mod holding;
 mod openings;

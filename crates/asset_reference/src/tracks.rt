@@ -1,12 +1,14 @@
 //! The status of a transaction, by going over the entries.
 
-ghost use Rattle.std.specs.Prelude.{◌≡◌, List, ◌∷◌, [], reverse};
+ghost use Rattle.std.specs.Prelude.{◌≡◌, ◌≤◌, List, ◌∷◌, [], length, reverse, take};
+ghost use Rattle.asset_names.specs.Arrows.{lists};
 ghost use Rattle.asset_names.specs.declared.steps.Step.{Step};
-ghost use Rattle.asset_names.specs.Steps.{applied};
+ghost use Rattle.asset_names.specs.Steps.{applied, initiated};
 ghost use Rattle.asset_names.specs.Endings.{live, status, status_of, end_of};
 ghost use Rattle.asset_names.specs.Operations.{was_aborted};
 ghost use Rattle.asset_reference.specs.Tracks.{track_of};
 
+use crate::endings::end_within;
 use asset_names::{End, Reply, Status, Step, Txn, takes_effect};
 
 /// What the steps that took effect say of one transaction.
@@ -15,19 +17,17 @@ pub struct Track {
     pub initiated: bool,
     pub begun: bool,
     pub completed: bool,
-    pub end: Option<End>,
 }
 
 impl Track {
-    ghost use Rattle.std.specs.Prelude.{◌≡◌, ℕ, List, [], ◌∷◌, cond, ◌==◌, ◌&&◌, is_none};
-    ghost use Rattle.std.specs.Option.{option_or};
+    ghost use Rattle.std.specs.Prelude.{◌≡◌, ℕ, List, [], ◌∷◌};
     ghost use Rattle.asset_names.specs.declared.steps.Step.{Step};
     ghost use Rattle.asset_names.specs.Steps.{Entry, applied};
     ghost use Rattle.asset_names.specs.Endings.{status_of};
     ghost use Rattle.asset_reference.specs.Tracks.{track_of, track_after};
 
     /// Returns the track of a transaction that no step names.
-    #[tactic(auto, unfolding(crate::specs::Tracks::track_of, asset_names::specs::Arrows::lists, asset_names::specs::Steps::initiated, asset_names::specs::Steps::begun, asset_names::specs::Steps::completed, asset_names::specs::Endings::end_of))]
+    #[tactic(auto, unfolding(crate::specs::Tracks::track_of, asset_names::specs::Arrows::lists, asset_names::specs::Steps::initiated, asset_names::specs::Steps::begun, asset_names::specs::Steps::completed))]
     pub fn new() -> Track
         ensures { (t : ℕ) → result ≡ track_of [] t }
     {
@@ -35,7 +35,6 @@ impl Track {
             initiated: false,
             begun: false,
             completed: false,
-            end: None,
         }
     }
 
@@ -61,37 +60,27 @@ impl Track {
             Step::Initiate { t: named, .. } => next.initiated = named == t || self.initiated,
             Step::Begin { t: named } => next.begun = named == t || self.begun,
             Step::Complete { t: named } => next.completed = named == t || self.completed,
-            Step::Commit { t: named } => next.end = self.ended(named, t, End::Committed),
-            Step::Abort { t: named } => next.end = self.ended(named, t, End::Aborted),
             Step::Read { .. }
             | Step::Write { .. }
             | Step::Permit { .. }
             | Step::Delegate { .. }
+            | Step::Depend { .. }
+            | Step::Commit { .. }
+            | Step::Abort { .. }
             | Step::WaitFor { .. } => {}
         }
         next
     }
 
-    /// Returns how `t` has ended after `named` was ended in this way.
-    fn ended(self, named: Txn, t: Txn, how: End) -> Option<End>
-        ensures { result ≡ option_or self.end (cond (named.0 == t.0 && self.initiated) (Some how) None) }
-    {
-        match self.end {
-            Some(end) => Some(end),
-            None if named == t && self.initiated => Some(how),
-            None => None,
-        }
-    }
-
-    /// Returns the status by the track.
+    /// Returns the status by the track, and by how the transaction ended.
     #[tactic(auto, unfolding(asset_names::specs::Endings::status_of))]
-    pub fn status(self) -> Status
-        ensures { result ≡ status_of self.initiated self.begun self.completed self.end }
+    fn status(self, end: Option<End>) -> Status
+        ensures { result ≡ status_of self.initiated self.begun self.completed end }
     {
         if !self.initiated {
             return Status::Unknown;
         }
-        match self.end {
+        match end {
             Some(End::Committed) => Status::Committed,
             Some(End::Aborted) => Status::Aborted,
             None if self.completed => Status::Completed,
@@ -112,12 +101,29 @@ fn track_entries(entries: &[(Step, Reply)], t: Txn) -> Track
     track
 }
 
+/// Returns whether `t` was initiated by the first `count` entries.
+#[tactic(auto, unfolding(crate::specs::Tracks::track_of))]
+pub fn initiated_within(entries: &[(Step, Reply)], count: usize, t: Txn) -> bool
+    requires { count ≤ length entries.now }
+    ensures { result ≡ lists (initiated (applied (reverse (take count entries.now)))) t.0 }
+{
+    track_entries(&entries[..count], t).initiated
+}
+
+/// Returns how `t` ended by these entries, if it did.
+#[tactic(auto, using(std::proofs::lemmas::List::take_all))]
+fn end_after(entries: &[(Step, Reply)], t: Txn) -> Option<End>
+    ensures { result ≡ end_of (applied (reverse entries.now)) t.0 }
+{
+    end_within(entries, entries.len(), t)
+}
+
 /// Returns the status of `t` after these entries.
 #[tactic(auto, unfolding(crate::specs::Tracks::track_of, asset_names::specs::Endings::status))]
 pub fn status_after(entries: &[(Step, Reply)], t: Txn) -> Status
     ensures { result ≡ status (applied (reverse entries.now)) t.0 }
 {
-    track_entries(entries, t).status()
+    track_entries(entries, t).status(end_after(entries, t))
 }
 
 /// Returns whether the transaction is live.
@@ -129,9 +135,9 @@ pub fn is_live(entries: &[(Step, Reply)], t: Txn) -> bool
 }
 
 /// Returns whether `t` ended by an abort.
-#[tactic(auto, unfolding(crate::specs::Tracks::track_of, asset_names::specs::Operations::was_aborted))]
+#[tactic(auto, unfolding(asset_names::specs::Operations::was_aborted))]
 pub fn was_aborted(entries: &[(Step, Reply)], t: Txn) -> bool
     ensures { result ≡ was_aborted (end_of (applied (reverse entries.now)) t.0) }
 {
-    matches!(track_entries(entries, t).end, Some(End::Aborted))
+    matches!(end_after(entries, t), Some(End::Aborted))
 }

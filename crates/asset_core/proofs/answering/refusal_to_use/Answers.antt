@@ -9,5 +9,5 @@ pub returns : goal.returns
 unfolding unknown ended not_running no_object
 returns c = λ opening steps stand.
     let known : c.status.result ≡ status steps c.args.t.0 = c.status.ensures.shown opening steps stand in
-    let there : c.is_some-exists.result ≡ exists opening c.args.x.0 = c.is_some-exists.ensures ∙ ap is_some c.value.ensures.cell ∙ exists_shown opening steps _ _ _ _ c.args.x.0 stand in
+    let there : c.is_some-exists.result ≡ exists opening c.args.x.0 = c.is_some-exists.ensures ∙ ap is_some c.value.ensures.cell ∙ exists_shown opening steps _ _ _ _ _ c.args.x.0 stand in
     rw (← known, ← there) c.refusal_to_operate.ensures

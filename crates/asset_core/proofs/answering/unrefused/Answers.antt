@@ -1,7 +1,6 @@
 use Rattle.std.proofs.Common.{◌≡◌, [], ◌∙◌, refl}
 use Rattle.asset_names.specs.Endings.{status}
 use Rattle.asset_names.specs.Answers.{unrefused, rules_for, unknown}
-use Rattle.asset_names.proofs.ClassLemmas.{completed_alone}
 use Rattle.asset_names.proofs.LegalLemmas.{first_none}
 use Rattle.asset_core.proofs.AnswerLemmas.{read_unrefused, read_answered}
 use Rattle.asset_core.proofs.answering.unrefused.Goals as goal
@@ -32,9 +31,7 @@ returns-in-Write-clause-outcome c = λ opening steps stand first. rw c.in-Write.
 pub returns-in-Commit-clause-outcome : goal.returns-in-Commit-clause-outcome
 unfolding unrefused rules_for unknown
 returns-in-Commit-clause-outcome c = λ opening steps stand first.
-    let known : c.status-status.result ≡ status steps c.in-Commit.t.0 = c.status-status.ensures.shown opening steps stand in
-    let there = (first_none (unknown steps c.in-Commit.t) [] (rw c.in-Commit.is at first)).0 in
-    rw (c.in-Commit.is, completed_alone steps c.in-Commit.t.0 there, ← known, ← c.is_completed.ensures) c.commit_outcome.ensures
+    rw c.in-Commit.is (c.commit_outcome_of.ensures.outcome opening steps stand (first_none (unknown steps c.in-Commit.t) [] (rw c.in-Commit.is at first)).0)
 
 pub returns-in-WaitFor-clause-outcome : goal.returns-in-WaitFor-clause-outcome
 unfolding unrefused
@@ -49,3 +46,7 @@ returns-in-Permit-clause-outcome c = λ opening steps stand first. rw c.in-Permi
 pub returns-in-Delegate-clause-outcome : goal.returns-in-Delegate-clause-outcome
 unfolding unrefused
 returns-in-Delegate-clause-outcome c = λ opening steps stand first. rw c.in-Delegate.is refl
+
+pub returns-in-Depend-clause-outcome : goal.returns-in-Depend-clause-outcome
+unfolding unrefused
+returns-in-Depend-clause-outcome c = λ opening steps stand first. rw c.in-Depend.is refl

@@ -16,7 +16,7 @@ returns-then-is_live-clause-locks c =
 pub returns-else-is_live-clause-stand : goal.returns-else-is_live-clause-stand
 returns-else-is_live-clause-stand c =
     let ended = rw (c.is_live.ensures, c.status.ensures.row) at c.if-is_live.false in
-    λ opening steps stand. abort_again_shows opening steps _ _ _ _ c.args.t stand (sym (live_shown opening steps _ _ _ _ c.args.t.0 stand) ∙ ended)
+    λ opening steps stand. abort_again_shows opening steps _ _ _ _ _ c.args.t stand (sym (live_shown opening steps _ _ _ _ _ c.args.t.0 stand) ∙ ended)
 
 pub returns-else-is_live-clause-locks : goal.returns-else-is_live-clause-locks
 unfolding released

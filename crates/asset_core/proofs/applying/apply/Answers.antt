@@ -48,7 +48,7 @@ unfolding locks_after
 returns-in-Abort-clause-locks c = rw c.in-Abort.is c.abort.ensures.locks
 
 pub returns-in-WaitFor-clause-stand : goal.returns-in-WaitFor-clause-stand
-returns-in-WaitFor-clause-stand c = rw c.in-WaitFor.is (λ opening steps stand orderly. wait_shows opening steps _ _ _ _ c.in-WaitFor.t stand)
+returns-in-WaitFor-clause-stand c = rw c.in-WaitFor.is (λ opening steps stand orderly. wait_shows opening steps _ _ _ _ _ c.in-WaitFor.t stand)
 
 pub returns-in-WaitFor-clause-locks : goal.returns-in-WaitFor-clause-locks
 unfolding locks_after
@@ -109,3 +109,14 @@ returns-in-Delegate-clause-locks c = rw c.in-Delegate.is c.delegate.ensures.lock
 pub returns-in-Delegate-clause-memory : goal.returns-in-Delegate-clause-memory
 unfolding takes_memory
 returns-in-Delegate-clause-memory c = rw c.in-Delegate.is (always_err c.delegate.result refl)
+
+pub returns-in-Depend-clause-stand : goal.returns-in-Depend-clause-stand
+returns-in-Depend-clause-stand c = rw c.in-Depend.is (on_ok c.depend.result (λ stands. λ opening steps stand orderly. stands opening steps stand) c.depend.ensures.stand)
+
+pub returns-in-Depend-clause-locks : goal.returns-in-Depend-clause-locks
+unfolding locks_after
+returns-in-Depend-clause-locks c = rw c.in-Depend.is (always_ok c.depend.result c.depend.ensures.locks)
+
+pub returns-in-Depend-clause-memory : goal.returns-in-Depend-clause-memory
+unfolding takes_memory
+returns-in-Depend-clause-memory c = rw c.in-Depend.is (always_err c.depend.result refl)

@@ -41,3 +41,7 @@ returns-in-Permit-clause-locks c = rw c.in-Permit.is refl
 pub returns-in-Delegate-clause-locks : goal.returns-in-Delegate-clause-locks
 unfolding locks_waiting
 returns-in-Delegate-clause-locks c = rw c.in-Delegate.is refl
+
+pub returns-in-Depend-clause-locks : goal.returns-in-Depend-clause-locks
+unfolding locks_waiting
+returns-in-Depend-clause-locks c = rw c.in-Depend.is refl

@@ -2,7 +2,7 @@ use Rattle.std.proofs.Common.{refl, sym, ◌∙◌, ap}
 use Rattle.asset_names.specs.Answers.{is_unknown}
 use Rattle.asset_names.specs.Endings.{is_live_status}
 use Rattle.asset_names.specs.declared.statuses.Status.TheVariants as Status'
-use Rattle.asset_ends.proofs.EnrolledLemmas.{changed_enrolled}
+use Rattle.asset_ends.proofs.EnrolledLemmas.{changed_enrolled, changed_depends}
 use Rattle.asset_ends.proofs.ShowsLemmas.{begin_shows}
 use Rattle.asset_ends.proofs.StandingLemmas.{stand_as}
 use Rattle.asset_ends.proofs.tables.Tables.begin.Goals as goal
@@ -11,10 +11,13 @@ pub invariant_of-self : goal.invariant_of-self
 unfolding is_unknown is_live_status
 invariant_of-self c =
     let initiated = rw (← c.self.view_is) at c.requires.initiated in
-    rw c.begin.ensures (changed_enrolled c.self.inside.trans c.self.inside.locks c.args.t.0 Status'.Running (ap is_unknown initiated) (ap is_live_status initiated) c.self.invariant)
+    rw c.begin.ensures (record {
+      locks = changed_enrolled c.self.inside.trans c.self.inside.locks c.args.t.0 Status'.Running (ap is_unknown initiated) (ap is_live_status initiated) c.self.invariant.locks;
+      deps = changed_depends c.self.inside.trans c.self.inside.deps c.args.t.0 Status'.Running (ap is_unknown initiated) refl c.self.invariant.deps;
+    })
 
 pub returns-clause-stand : goal.returns-clause-stand
 returns-clause-stand c =
     let initiated = rw (← c.self.view_is) at c.requires.initiated in
     rw (← c.self.view_is) (λ opening steps stand.
-    stand_as opening _ _ _ _ _ _ c.begin.ensures refl refl refl (begin_shows opening steps _ _ _ _ c.args.t stand (sym (stand.statuses c.args.t.0) ∙ initiated)))
+    stand_as opening _ _ _ _ _ _ _ c.begin.ensures refl refl refl refl (begin_shows opening steps _ _ _ _ _ c.args.t stand (sym (stand.statuses c.args.t.0) ∙ initiated)))

@@ -1,22 +1,33 @@
-use Rattle.std.proofs.Common.{refl, sym, ◌∙◌}
+use Rattle.std.proofs.Common.{◌≡◌, ◌∙◌, refl, sym, ap, subst, eqb}
+use Rattle.std.proofs.lemmas.Bool.{eqb-true}
 use Rattle.asset_names.specs.Endings.{is_live_status}
-use Rattle.asset_names.specs.declared.statuses.Status.TheVariants as Status'
-use Rattle.asset_trans.specs.TransRows.{ended_as}
-use Rattle.asset_ends.proofs.EnrolledLemmas.{ended_enrolled, live_known}
-use Rattle.asset_ends.proofs.ShowsLemmas.{commit_alone_shows, live_shown}
-use Rattle.asset_ends.proofs.StandingLemmas.{stand_as}
+use Rattle.asset_names.specs.declared.statuses.End.TheVariants as End'
+use Rattle.asset_names.proofs.Common.{eqb-flip}
+use Rattle.asset_trans.specs.TransRows.{status_in}
+use Rattle.asset_ends.specs.Ended.{parts}
+use Rattle.asset_deps.specs.Dependencies.{class_in}
+use Rattle.asset_ends.proofs.EndingLemmas.{commit_stands, ended_valid, marked_live, one_live, same_valid}
 use Rattle.asset_ends.proofs.tables.Tables.commit.Goals as goal
 
-pub invariant_of-self : goal.invariant_of-self
-unfolding is_live_status ended_as
-invariant_of-self c =
-    let alive = rw (← c.self.view_is) at c.requires.live in
-    rw (c.end.ensures, c.release.ensures) (ended_enrolled c.self.inside.trans c.self.inside.locks c.args.t.0 Status'.Committed (live_known _ alive) refl c.self.invariant)
+pub end_marked-requires : goal.end_marked-requires
+end_marked-requires c = record { live = marked_live c.self.inside.trans c.self.inside.deps c.mark_class.new.self c.self.invariant.deps c.laws.ensures.marked c.mark_class.ensures.names }
 
-pub returns-clause-stand : goal.returns-clause-stand
-unfolding ended_as
-returns-clause-stand c =
+pub invariant_of-self : goal.invariant_of-self
+invariant_of-self c = ended_valid _ End'.Committed _ _ c.end_marked.ensures.ended (marked_live c.self.inside.trans c.self.inside.deps c.mark_class.new.self c.self.invariant.deps c.laws.ensures.marked c.mark_class.ensures.names) (same_valid c.self.inside.trans c.self.inside.locks c.self.inside.deps c.mark_class.new.self c.mark_class.ensures.names c.self.invariant)
+
+pub invariant_of-self-else-is_enrolled : goal.invariant_of-self-else-is_enrolled
+invariant_of-self-else-is_enrolled c = ended_valid _ End'.Committed _ _ c.end_one.ensures.ended (one_live _ c.args.t.0 (rw (← c.self.view_is) at c.requires.live)) c.self.invariant
+
+pub returns-then-is_enrolled-clause-stand : goal.returns-then-is_enrolled-clause-stand
+returns-then-is_enrolled-clause-stand c =
     let alive = rw (← c.self.view_is) at c.requires.live in
     rw (← c.self.view_is) (λ opening steps stand.
-    stand_as opening _ _ _ _ _ _ c.end.ensures c.settle.ensures.cells c.release.ensures refl
-    (commit_alone_shows opening steps _ _ _ _ c.args.t stand (sym (live_shown opening steps _ _ _ _ c.args.t.0 stand) ∙ alive) _ c.drop_all.ensures.covers))
+    commit_stands opening steps _ (parts c.self.inside.trans c.self.inside.objects c.self.inside.locks c.self.inside.permits c.mark_class.new.self) _ c.args.t c.end_marked.ensures.ended
+    (λ n. c.mark_class.ensures.marked n ∙ ap (λ deps. class_in deps c.args.t.0 n) (sym c.mark_class.ensures.dependencies)) alive (rw c.mark_class.ensures.dependencies stand))
+
+pub returns-else-is_enrolled-clause-stand : goal.returns-else-is_enrolled-clause-stand
+returns-else-is_enrolled-clause-stand c =
+    let alive = rw (← c.self.view_is) at c.requires.live in
+    rw (← c.self.view_is) (λ opening steps stand.
+    commit_stands opening steps _ (parts c.self.inside.trans c.self.inside.objects c.self.inside.locks c.self.inside.permits c.self.inside.deps) _ c.args.t c.end_one.ensures.ended
+    (λ n. eqb-flip n c.args.t.0 ∙ sym ((c.is_enrolled.ensures.alone c.if-is_enrolled.false) n).0) alive stand)

@@ -9,14 +9,17 @@ use Rattle.asset_ends.proofs.StandingLemmas.{stand_as}
 use Rattle.asset_ends.proofs.tables.Tables.delegate.Goals as goal
 
 pub hand_over-requires-clause-giver : goal.hand_over-requires-clause-giver
-hand_over-requires-clause-giver c = live_enrolled _ _ c.args.giver.0 c.self.invariant (rw (← c.self.view_is) at c.requires.giver)
+hand_over-requires-clause-giver c = live_enrolled _ _ c.args.giver.0 c.self.invariant.locks (rw (← c.self.view_is) at c.requires.giver)
 
 pub hand_over-requires-clause-taker : goal.hand_over-requires-clause-taker
-hand_over-requires-clause-taker c = live_enrolled _ _ c.args.taker.0 c.self.invariant (rw (← c.self.view_is) at c.requires.taker)
+hand_over-requires-clause-taker c = live_enrolled _ _ c.args.taker.0 c.self.invariant.locks (rw (← c.self.view_is) at c.requires.taker)
 
 pub invariant_of-self-2 : goal.invariant_of-self-2
 unfolding AreEnrolled
-invariant_of-self-2 c = rw c.hand_over.ensures.done (λ t. ap (λ names. lists names t) (names_handed c.args.giver.0 c.args.taker.0 c.args.obs.now c.self.inside.locks) ∙ c.self.invariant t)
+invariant_of-self-2 c = record {
+  locks = rw c.hand_over.ensures.done (λ t. ap (λ names. lists names t) (names_handed c.args.giver.0 c.args.taker.0 c.args.obs.now c.self.inside.locks) ∙ c.self.invariant.locks t);
+  deps = c.self.invariant.deps;
+}
 
 pub returns-clause-stand : goal.returns-clause-stand
 returns-clause-stand c =
@@ -24,8 +27,8 @@ returns-clause-stand c =
     let takes = rw (← c.self.view_is) at c.requires.taker in
     let held = c.deref.ensures.value ∙ c.in_ok-moved.ensures.held in
     rw (← c.self.view_is) (λ opening steps stand.
-    stand_as opening _ _ _ _ _ _ refl c.hand_over-2.ensures.cells c.hand_over.ensures.done refl
-    (delegate_shows opening steps _ _ _ _ c.args.giver c.args.taker c.args.obs.now stand
-    (sym (live_shown opening steps _ _ _ _ c.args.giver.0 stand) ∙ gives) (sym (live_shown opening steps _ _ _ _ c.args.taker.0 stand) ∙ takes)
-    c.hand_over.ensures.valid (live_enrolled _ _ c.args.taker.0 c.self.invariant takes) _
+    stand_as opening _ _ _ _ _ _ _ refl c.hand_over-2.ensures.cells c.hand_over.ensures.done refl refl
+    (delegate_shows opening steps _ _ _ _ _ c.args.giver c.args.taker c.args.obs.now stand
+    (sym (live_shown opening steps _ _ _ _ _ c.args.giver.0 stand) ∙ gives) (sym (live_shown opening steps _ _ _ _ _ c.args.taker.0 stand) ∙ takes)
+    c.hand_over.ensures.valid (live_enrolled _ _ c.args.taker.0 c.self.invariant.locks takes) _
     (rw held at c.in_ok-copy_for.ensures.covers)))

@@ -8,7 +8,7 @@ unfolding is_free_for
 returns-clause-free c = rw (← c.self.view_is) c.is_free.ensures.free
 
 pub returns-clause-shown : goal.returns-clause-shown
-returns-clause-shown c = rw (← c.self.view_is) (λ opening steps stand. c.is_free.ensures.free ∙ free_shown opening steps _ _ _ _ c.args.t.0 c.args.x.0 c.args.op stand)
+returns-clause-shown c = rw (← c.self.view_is) (λ opening steps stand. c.is_free.ensures.free ∙ free_shown opening steps _ _ _ _ _ c.args.t.0 c.args.x.0 c.args.op stand)
 
 pub returns-clause-allowed : goal.returns-clause-allowed
-returns-clause-allowed c = λ opening steps stand u v y o. allows_shown opening steps _ _ _ _ u v y o stand
+returns-clause-allowed c = λ opening steps stand u v y o. allows_shown opening steps _ _ _ _ _ u v y o stand

@@ -8,6 +8,6 @@ returns-clause-stand c =
     let gives = rw (← c.self.view_is) at c.requires.giver in
     let takes = rw (← c.self.view_is) at c.requires.taker in
     rw (← c.self.view_is) (on_ok c.add.result
-    (λ added. λ opening steps stand. stand_as opening _ _ _ _ _ _ refl refl refl refl
-    (permit_shows opening steps _ _ _ _ c.args.giver c.args.taker c.args.obs c.args.ops stand (sym (live_shown opening steps _ _ _ _ c.args.giver.0 stand) ∙ gives) (sym (live_shown opening steps _ _ _ _ c.args.taker.0 stand) ∙ takes) _ added))
+    (λ added. λ opening steps stand. stand_as opening _ _ _ _ _ _ _ refl refl refl refl refl
+    (permit_shows opening steps _ _ _ _ _ c.args.giver c.args.taker c.args.obs c.args.ops stand (sym (live_shown opening steps _ _ _ _ _ c.args.giver.0 stand) ∙ gives) (sym (live_shown opening steps _ _ _ _ _ c.args.taker.0 stand) ∙ takes) _ added))
     c.add.ensures.covers)

@@ -9,14 +9,14 @@ use Rattle.asset_ends.proofs.tables.Tables.read.Goals as goal
 use Rattle.asset_ends.proofs.tables.Tables.read.Goals.{in-Granted, in-Pending}
 
 pub ask-requires : goal.ask-requires
-ask-requires c = record { enrolled = running_enrolled _ _ c.args.t.0 c.self.invariant (rw (← c.self.view_is) at c.requires.runs) }
+ask-requires c = record { enrolled = running_enrolled _ _ c.args.t.0 c.self.invariant.locks (rw (← c.self.view_is) at c.requires.runs) }
 
 pub returns-in_err-ask-clause-memory : goal.returns-in_err-ask-clause-memory
 unfolding is_free_for
 returns-in_err-ask-clause-memory c = rw (← c.self.view_is) (λ failed. c.in_err-ask.ensures.memory refl)
 
 pub invariant_of-self-2 : goal.invariant_of-self-2
-invariant_of-self-2 c = rw c.in_ok-ask.ensures.done (asked_enrolled _ _ _ c.args.t.0 c.args.x Op'.Read c.self.invariant)
+invariant_of-self-2 c = record { locks = rw c.in_ok-ask.ensures.done (asked_enrolled _ _ _ c.args.t.0 c.args.x Op'.Read c.self.invariant.locks); deps = c.self.invariant.deps }
 
 pub returns-clause-answer : goal.returns-clause-answer
 unfolding is_free_for
@@ -34,8 +34,8 @@ unfolding is_free_for
 returns-clause-stand c =
     let runs = rw (← c.self.view_is) at c.requires.runs in
     rw (← c.self.view_is) (always_ok c.match-branch-2.result (λ opening steps stand.
-    stand_as opening _ _ _ _ _ _ refl refl c.in_ok-ask.ensures.done c.ask.ensures.permits
-    (read_asked_shows opening steps _ _ _ _ c.args.t c.args.x _ stand (running_live opening steps _ _ _ _ c.args.t.0 stand runs) (running_enrolled _ _ c.args.t.0 c.self.invariant runs))))
+    stand_as opening _ _ _ _ _ _ _ refl refl c.in_ok-ask.ensures.done c.ask.ensures.permits refl
+    (read_asked_shows opening steps _ _ _ _ _ c.args.t c.args.x _ stand (running_live opening steps _ _ _ _ _ c.args.t.0 stand runs) (running_enrolled _ _ c.args.t.0 c.self.invariant.locks runs))))
 
 pub returns-clause-locks : goal.returns-clause-locks
 unfolding is_free_for

@@ -9,10 +9,10 @@ unfolding is_free_for
 returns-then-is_free-clause-memory c = rw (← c.self.view_is) (λ failed. sym c.is_free.ensures.free ∙ c.if-is_free.true)
 
 pub ask-requires : goal.ask-requires
-ask-requires c = record { enrolled = running_enrolled _ _ c.args.t.0 c.self.invariant (rw (← c.self.view_is) at c.requires.runs) }
+ask-requires c = record { enrolled = running_enrolled _ _ c.args.t.0 c.self.invariant.locks (rw (← c.self.view_is) at c.requires.runs) }
 
 pub invariant_of-self-2 : goal.invariant_of-self-2
-invariant_of-self-2 c = rw c.in_ok-ask.ensures.done (asked_enrolled _ _ _ c.args.t.0 c.args.x Op'.Write c.self.invariant)
+invariant_of-self-2 c = record { locks = rw c.in_ok-ask.ensures.done (asked_enrolled _ _ _ c.args.t.0 c.args.x Op'.Write c.self.invariant.locks); deps = c.self.invariant.deps }
 
 pub returns-clause-answer : goal.returns-clause-answer
 unfolding is_free_for

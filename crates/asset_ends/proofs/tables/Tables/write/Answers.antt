@@ -19,8 +19,8 @@ returns-in-Ok-clause-stand c =
     let runs = rw (← c.self.view_is) at c.requires.runs in
     rw (← c.self.view_is) (on_ok_two c.write_reserved.result
     (λ objects locks. λ opening steps stand.
-    stand_as opening _ _ _ _ _ _ c.write_reserved.ensures.rows objects locks c.write_reserved.ensures.permits
-    (rw c.in-Ok.ensures.cells (write_asked_shows opening steps _ _ _ _ c.args.t c.args.x c.args.v _ stand (running_live opening steps _ _ _ _ c.args.t.0 stand runs) (running_enrolled _ _ c.args.t.0 c.self.invariant runs))))
+    stand_as opening _ _ _ _ _ _ _ c.write_reserved.ensures.rows objects locks c.write_reserved.ensures.permits c.write_reserved.ensures.deps
+    (rw c.in-Ok.ensures.cells (write_asked_shows opening steps _ _ _ _ _ c.args.t c.args.x c.args.v _ stand (running_live opening steps _ _ _ _ _ c.args.t.0 stand runs) (running_enrolled _ _ c.args.t.0 c.self.invariant.locks runs))))
     (rw fits at c.write_reserved.ensures.objects) c.write_reserved.ensures.locks)
 
 pub returns-in-Ok-clause-locks : goal.returns-in-Ok-clause-locks
@@ -37,6 +37,6 @@ returns-in-Err-clause-stand c =
     let runs = rw (← c.self.view_is) at c.requires.runs in
     rw (← c.self.view_is) (on_ok_two c.wait_unless_free.result
     (λ blocked locks. λ opening steps stand. rw blocked
-    (stand_as opening _ _ _ _ _ _ c.wait_unless_free.ensures.rows (ap cells c.wait_unless_free.ensures.objects ∙ c.reserve_write.ensures.cells) (rw blocked at locks) c.wait_unless_free.ensures.permits
-    (write_asked_shows opening steps _ _ _ _ c.args.t c.args.x c.args.v false stand (running_live opening steps _ _ _ _ c.args.t.0 stand runs) (running_enrolled _ _ c.args.t.0 c.self.invariant runs))))
+    (stand_as opening _ _ _ _ _ _ _ c.wait_unless_free.ensures.rows (ap cells c.wait_unless_free.ensures.objects ∙ c.reserve_write.ensures.cells) (rw blocked at locks) c.wait_unless_free.ensures.permits c.wait_unless_free.ensures.deps
+    (write_asked_shows opening steps _ _ _ _ _ c.args.t c.args.x c.args.v false stand (running_live opening steps _ _ _ _ _ c.args.t.0 stand runs) (running_enrolled _ _ c.args.t.0 c.self.invariant.locks runs))))
     c.wait_unless_free.ensures.blocked c.wait_unless_free.ensures.locks)

@@ -7,17 +7,17 @@ use Rattle.asset_ends.proofs.EnrolledLemmas.{running_enrolled, asked_enrolled}
 use Rattle.asset_ends.proofs.tables.Tables.write_reserved.Goals as goal
 
 pub ask-requires : goal.ask-requires
-ask-requires c = record { enrolled = running_enrolled _ _ c.args.t.0 c.self.invariant (rw (← c.self.view_is) at c.requires.runs) }
+ask-requires c = record { enrolled = running_enrolled _ _ c.args.t.0 c.self.invariant.locks (rw (← c.self.view_is) at c.requires.runs) }
 
 pub returns-in_err-ask-clause-memory : goal.returns-in_err-ask-clause-memory
 unfolding is_free_for
 returns-in_err-ask-clause-memory c = rw (← c.self.view_is) (λ failed. c.in_err-ask.ensures.memory refl)
 
 pub invariant_of-self-in-Granted : goal.invariant_of-self-in-Granted
-invariant_of-self-in-Granted c = rw c.in_ok-ask.ensures.done (asked_enrolled _ _ _ c.args.t.0 c.args.x Op'.Write c.self.invariant)
+invariant_of-self-in-Granted c = record { locks = rw c.in_ok-ask.ensures.done (asked_enrolled _ _ _ c.args.t.0 c.args.x Op'.Write c.self.invariant.locks); deps = c.self.invariant.deps }
 
 pub invariant_of-self-in-Pending : goal.invariant_of-self-in-Pending
-invariant_of-self-in-Pending c = rw c.in_ok-ask.ensures.done (asked_enrolled _ _ _ c.args.t.0 c.args.x Op'.Write c.self.invariant)
+invariant_of-self-in-Pending c = record { locks = rw c.in_ok-ask.ensures.done (asked_enrolled _ _ _ c.args.t.0 c.args.x Op'.Write c.self.invariant.locks); deps = c.self.invariant.deps }
 
 pub returns-in-Granted-clause-answer : goal.returns-in-Granted-clause-answer
 unfolding is_free_for

@@ -1,0 +1,10 @@
+//! Laws of the definitions over all histories. Each stands on the contract of a function that does nothing.
+#![tactic(auto)]
+
+mod dependencies;
+mod laws;
+
+pub use dependencies::{
+    abort_takes_the_least, classes_are_never_split, no_cycle_stands, path_is_leading,
+};
+pub use laws::{endings_find_room, free_is_allowed_by_holders, linked_is_chain};
