@@ -12,6 +12,13 @@ use Rattle.asset_reference.proofs.AppliedLemmas.{reverse_take_item}
 use Rattle.asset_reference.proofs.ScanLemmas.{at_applied}
 use Rattle.asset_reference.proofs.WayLemmas.{classes_are, aborts_are}
 
+-- both hold, in either order
+turned : (p q : Bool) → (p && q) ≡ (q && p)
+turned true true = refl
+turned true false = refl
+turned false true = refl
+turned false false = refl
+
 -- one more step that took effect
 end_at_step : (step : Step) (steps : List Step) (t : ℕ) → end_of (step ∷ steps) t ≡ option_or (end_of steps t) (ends_by step steps t)
 unfolding end_of ended_by ends_by takes_along live
@@ -23,8 +30,8 @@ end_at_step (Complete u) steps t = refl
 end_at_step (Permit giver taker obs ops) steps t = refl
 end_at_step (Delegate giver taker obs) steps t = refl
 end_at_step (Depend kind a b) steps t = refl
-end_at_step (Commit u) steps t = ap (λ linked. option_or (end_of steps t) (cond (live steps u.0 && linked) (Some End'.Committed) None)) (sym (classes_are steps u.0 t))
-end_at_step (Abort u) steps t = ap (λ linked. option_or (end_of steps t) (cond (live steps u.0 && linked) (Some End'.Aborted) None)) (sym (aborts_are steps u.0 t))
+end_at_step (Commit u) steps t = ap (λ takes. option_or (end_of steps t) (cond takes (Some End'.Committed) None)) (ap (λ linked. live steps u.0 && linked) (sym (classes_are steps u.0 t)) ∙ turned (live steps u.0) _)
+end_at_step (Abort u) steps t = ap (λ takes. option_or (end_of steps t) (cond takes (Some End'.Aborted) None)) (ap (λ linked. live steps u.0 && linked) (sym (aborts_are steps u.0 t)) ∙ turned (live steps u.0) _)
 end_at_step (WaitFor u) steps t = refl
 
 -- how somebody ended by the first entries of a number: by those before the newest, or by that

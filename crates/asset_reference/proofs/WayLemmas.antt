@@ -1,5 +1,7 @@
 -- The ways that entries open, and what they lead to.
 use Rattle.std.proofs.Common.{◌≡◌, ℕ, ◌+◌, ◌-◌, ◌<◌, ◌≤◌, Bool, true, false, cond, eqb, ◌&&◌, ◌||◌, List, [], ◌∷◌, ◌++◌, length, get_or, take, reverse, refl, sym, ◌∙◌, ap, arith}
+use Rattle.std.specs.List.{list_any}
+use Rattle.std.proofs.lemmas.List.Folds.{list_any-append}
 use Rattle.std.proofs.lemmas.Bool.{false≢true, eqb-true}
 use Rattle.asset_names.specs.declared.steps.Kind.TheVariants.{Cd, Ad, Gc}
 use Rattle.asset_names.specs.declared.steps.Step.{Step}
@@ -9,13 +11,14 @@ use Rattle.asset_names.specs.Paths.{same_kind, both_ways, leads}
 use Rattle.asset_names.specs.Steps.{Entry, takes_effect, applied}
 use Rattle.asset_names.specs.Endings.{dependency_by, dependencies, class_arrows, order_arrows, doom_arrows, live}
 use Rattle.asset_names.proofs.Arrows.{linked_refl, linked_trans}
+use Rattle.asset_names.proofs.Common.{eqb-flip}
 use Rattle.asset_names.proofs.PermitLemmas.{has_among, linked_same}
 use Rattle.asset_names.proofs.DependLemmas.{has_append}
 use Rattle.asset_reference.specs.declared.endings.Along.{Along}
 use Rattle.asset_reference.specs.declared.endings.Along.TheVariants.{Classes, Aborts, Paths}
 use Rattle.asset_reference.specs.declared.endings.Way.{Way}
 use Rattle.asset_reference.specs.declared.endings.Way.TheVariants.{Nowhere, Forth, Both}
-use Rattle.asset_reference.specs.Ways.{way_of, way_by, way_at, ways, way_arrows, goes_by}
+use Rattle.asset_reference.specs.Ways.{way_of, way_by, way_at, ways, way_arrows, goes_by, leaves, enters}
 use Rattle.asset_reference.proofs.AppliedLemmas.{reverse_take_item}
 use Rattle.asset_reference.proofs.ScanLemmas.{at_applied}
 
@@ -35,6 +38,11 @@ ways_more along entries count item some within is =
     ap (λ n. ways along (applied (reverse (take n entries)))) one_more
     ∙ ap (λ list. ways along (applied list)) (reverse_take_item entries (count - 1) item (omega (arith, some, within)) is)
     ∙ ways_at_entry along item (reverse (take (count - 1) entries))
+
+-- neither of two holds
+or_parts : (p q : Bool) → (p || q) ≡ false → (p ≡ false) × (q ≡ false)
+or_parts false q none = (refl, none)
+or_parts true q none = absurd (false≢true (sym none))
 
 or_none : (p : Bool) → p ≡ (p || false)
 or_none true = refl
@@ -200,3 +208,48 @@ paths_are steps = linked_same (among (live steps) (ways Paths steps)) (among (li
 -- each is linked to itself
 pub link_itself : (arrows : List Arrow) (a b : ℕ) → eqb a b ≡ true → true ≡ linked arrows a b
 link_itself arrows a b same = rw (eqb-true a b same) (sym (linked_refl arrows b))
+
+-- nothing leads away from a name along arrows of which none starts there, and nothing to one along arrows of which none
+-- ends there
+pub stays_without_leaving : (test : ℕ → Bool) (arrows : List Arrow) (a b : ℕ) → leaves arrows a ≡ false → linked (among test arrows) a b ≡ eqb a b
+unfolding leaves linked among
+stays_without_leaving test [] a b none = refl
+stays_without_leaving test (arrow ∷ arrows) a b none =
+    let parts = or_parts (eqb arrow.0 a) (list_any (λ (other : Arrow). eqb other.0 a) arrows) none in
+    go (test arrow.0 && test arrow.1) (stays_without_leaving test arrows a b parts.1) (stays_without_leaving test arrows a arrow.0 parts.1 ∙ eqb-flip a arrow.0 ∙ parts.0) where
+      go : (kept : Bool) → linked (among test arrows) a b ≡ eqb a b → linked (among test arrows) a arrow.0 ≡ false
+          → linked (cond kept (arrow ∷ among test arrows) (among test arrows)) a b ≡ eqb a b
+      go false straight to = straight
+      go true straight to = rw (straight, to) (sym (or_none (eqb a b)))
+
+pub stays_without_entering : (test : ℕ → Bool) (arrows : List Arrow) (a b : ℕ) → enters arrows b ≡ false → linked (among test arrows) a b ≡ eqb a b
+unfolding enters linked among
+stays_without_entering test [] a b none = refl
+stays_without_entering test (arrow ∷ arrows) a b none =
+    let parts = or_parts (eqb arrow.1 b) (list_any (λ (other : Arrow). eqb other.1 b) arrows) none in
+    go (test arrow.0 && test arrow.1) (stays_without_entering test arrows a b parts.1) (stays_without_entering test arrows arrow.1 b parts.1 ∙ parts.0) where
+      go : (kept : Bool) → linked (among test arrows) a b ≡ eqb a b → linked (among test arrows) arrow.1 b ≡ false
+          → linked (cond kept (arrow ∷ among test arrows) (among test arrows)) a b ≡ eqb a b
+      go false straight on = straight
+      go true straight on = rw (straight, on) (none_of (eqb a b) (linked (among test arrows) a arrow.0)) where
+        none_of : (p q : Bool) → (p || (q && false)) ≡ p
+        none_of true q = refl
+        none_of false true = refl
+        none_of false false = refl
+
+-- the arrows that one more entry adds, and those before it
+pub leaves_more : (along : Along) (entries : List Entry) (i : ℕ) (item : Entry) (way : Way) (a : ℕ) → i < length entries → item ≡ get_or entries i item → way_arrows way ≡ way_at along item
+    → leaves (ways along (applied (reverse (take (i + 1) entries)))) a ≡ (leaves (way_arrows way) a || leaves (ways along (applied (reverse (take i entries)))) a)
+unfolding leaves
+leaves_more along entries i item way a below is opens =
+    ap (λ list. list_any (λ (arrow : Arrow). eqb arrow.0 a) (ways along (applied list))) (reverse_take_item entries i item below is)
+    ∙ ap (list_any (λ (arrow : Arrow). eqb arrow.0 a)) (ways_at_entry along item (reverse (take i entries)) ∙ ap (λ ones. ones ++ ways along (applied (reverse (take i entries)))) (sym opens))
+    ∙ list_any-append (λ (arrow : Arrow). eqb arrow.0 a) (way_arrows way) (ways along (applied (reverse (take i entries))))
+
+pub enters_more : (along : Along) (entries : List Entry) (i : ℕ) (item : Entry) (way : Way) (b : ℕ) → i < length entries → item ≡ get_or entries i item → way_arrows way ≡ way_at along item
+    → enters (ways along (applied (reverse (take (i + 1) entries)))) b ≡ (enters (way_arrows way) b || enters (ways along (applied (reverse (take i entries)))) b)
+unfolding enters
+enters_more along entries i item way b below is opens =
+    ap (λ list. list_any (λ (arrow : Arrow). eqb arrow.1 b) (ways along (applied list))) (reverse_take_item entries i item below is)
+    ∙ ap (list_any (λ (arrow : Arrow). eqb arrow.1 b)) (ways_at_entry along item (reverse (take i entries)) ∙ ap (λ ones. ones ++ ways along (applied (reverse (take i entries)))) (sym opens))
+    ∙ list_any-append (λ (arrow : Arrow). eqb arrow.1 b) (way_arrows way) (ways along (applied (reverse (take i entries))))

@@ -10,9 +10,9 @@ use Rattle.asset_reference.specs.declared.endings.Along.{Along}
 use Rattle.asset_reference.specs.declared.endings.Along.TheVariants.{Classes, Aborts}
 use Rattle.asset_reference.specs.Ways.{ways}
 
--- whether an end of u takes t: u is live, and a way leads to t
+-- whether an end of u takes t: a way leads to t, and u is live
 unfoldable pub takes_along : List Step → Along → ℕ → ℕ → Bool
-takes_along steps along u t = live steps u && linked (among (live steps) (ways along steps)) u t
+takes_along steps along u t = linked (among (live steps) (ways along steps)) u t && live steps u
 
 -- how a step ends t after these steps
 unfoldable pub ends_by : Step → List Step → ℕ → Option End

@@ -1,5 +1,6 @@
 -- The arrows of dependencies in the order of their entries, and going along one of them once.
-use Rattle.std.specs.Prelude.{ℕ, Bool, false, cond, ◌&&◌, ◌||◌, List, [], ◌∷◌, flat_map}
+use Rattle.std.specs.Prelude.{ℕ, Bool, false, cond, ◌&&◌, ◌||◌, ◌==◌, List, [], ◌∷◌, flat_map}
+use Rattle.std.specs.List.{list_any}
 use Rattle.asset_names.specs.declared.steps.Kind.{Kind}
 use Rattle.asset_names.specs.declared.steps.Kind.TheVariants.{Ad, Gc}
 use Rattle.asset_names.specs.declared.steps.Step.{Step}
@@ -36,6 +37,13 @@ unfoldable pub way_arrows : Way → List Arrow
 way_arrows Nowhere = []
 way_arrows (Forth a b) = (a.0, b.0) ∷ []
 way_arrows (Both a b) = (a.0, b.0) ∷ (b.0, a.0) ∷ []
+
+-- whether one of the arrows leads away from a name, and whether one leads to it
+unfoldable pub leaves : List Arrow → ℕ → Bool
+leaves arrows a = list_any (λ (arrow : Arrow). arrow.0 == a) arrows
+
+unfoldable pub enters : List Arrow → ℕ → Bool
+enters arrows b = list_any (λ (arrow : Arrow). arrow.1 == b) arrows
 
 -- whether a way on from a to b goes along one more way, and else along the arrows among those who pass the test
 unfoldable pub goes_by : (ℕ → Bool) → Way → List Arrow → ℕ → ℕ → Bool

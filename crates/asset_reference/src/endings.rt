@@ -1,10 +1,10 @@
 //! How transactions ended, by going over the entries: who is joined with whom, and whom an abort takes along.
 
-ghost use Rattle.std.specs.Prelude.{◌≡◌, ◌≤◌, length, reverse, take};
+ghost use Rattle.std.specs.Prelude.{◌≡◌, ◌≤◌, ◌<◌, ◌+◌, ◌||◌, length, reverse, take};
 ghost use Rattle.asset_names.specs.Arrows.{among, linked};
 ghost use Rattle.asset_names.specs.Steps.{applied};
 ghost use Rattle.asset_names.specs.Endings.{live, end_of};
-ghost use Rattle.asset_reference.specs.Ways.{ways, way_of, way_at, way_arrows, goes_by};
+ghost use Rattle.asset_reference.specs.Ways.{ways, way_of, way_at, way_arrows, goes_by, leaves, enters};
 ghost use Rattle.asset_reference.specs.Ends.{ends_by, takes_along};
 
 use crate::tracks::initiated_within;
@@ -55,6 +55,72 @@ fn way_at(entry: &(Step, Reply), along: Along) -> Way
     }
 }
 
+/// Returns whether one of the arrows leads away from `u`.
+#[tactic(auto, unfolding(crate::specs::Ways::leaves, crate::specs::Ways::way_arrows))]
+fn way_leaves(way: Way, u: Txn) -> bool
+    ensures { result ≡ leaves (way_arrows way) u.0 }
+{
+    match way {
+        Way::Nowhere => false,
+        Way::Forth(a, _) => a == u,
+        Way::Both(a, b) => a == u || b == u,
+    }
+}
+
+/// Returns whether one of the arrows leads to `t`.
+#[tactic(auto, unfolding(crate::specs::Ways::enters, crate::specs::Ways::way_arrows))]
+fn way_enters(way: Way, t: Txn) -> bool
+    ensures { result ≡ enters (way_arrows way) t.0 }
+{
+    match way {
+        Way::Nowhere => false,
+        Way::Forth(_, b) => b == t,
+        Way::Both(a, b) => b == t || a == t,
+    }
+}
+
+/// Returns whether an arrow of the entry of this index leads away from `u`.
+fn entry_leaves(entries: &[(Step, Reply)], index: usize, along: Along, u: Txn) -> bool
+    requires { index < length entries.now }
+    ensures { leaves (ways along (applied (reverse (take (index + 1) entries.now)))) u.0 ≡ (result || leaves (ways along (applied (reverse (take index entries.now)))) u.0) }
+{
+    let way = way_at(&entries[index], along);
+    way_leaves(way, u)
+}
+
+/// Returns whether an arrow of the first `count` entries leads away from `u`.
+fn leaves(entries: &[(Step, Reply)], count: usize, along: Along, u: Txn) -> bool
+    requires { count ≤ length entries.now }
+    ensures { result ≡ leaves (ways along (applied (reverse (take count entries.now)))) u.0 }
+{
+    let mut found = false;
+    'entries: for index in 0..count {
+        found = entry_leaves(entries, index, along, u) || found;
+    }
+    found
+}
+
+/// Returns whether an arrow of the entry of this index leads to `t`.
+fn entry_enters(entries: &[(Step, Reply)], index: usize, along: Along, t: Txn) -> bool
+    requires { index < length entries.now }
+    ensures { enters (ways along (applied (reverse (take (index + 1) entries.now)))) t.0 ≡ (result || enters (ways along (applied (reverse (take index entries.now)))) t.0) }
+{
+    let way = way_at(&entries[index], along);
+    way_enters(way, t)
+}
+
+/// Returns whether an arrow of the first `count` entries leads to `t`.
+fn enters(entries: &[(Step, Reply)], count: usize, along: Along, t: Txn) -> bool
+    requires { count ≤ length entries.now }
+    ensures { result ≡ enters (ways along (applied (reverse (take count entries.now)))) t.0 }
+{
+    let mut found = false;
+    'entries: for index in 0..count {
+        found = entry_enters(entries, index, along, t) || found;
+    }
+    found
+}
+
 /// Returns whether the transaction was live after the first `count` entries.
 #[cycle(ending)]
 #[tactic(auto, unfolding(asset_names::specs::Endings::live))]
@@ -100,14 +166,14 @@ fn ended_by(entries: &[(Step, Reply)], count: usize, step: &Step, t: Txn) -> Opt
     }
 }
 
-/// Returns whether an end of `u` after the first `count` entries takes `t`: `u` is live, and linked with it.
+/// Returns whether an end of `u` after the first `count` entries takes `t`: it is linked with `u`, which is live.
 #[cycle(ending)]
 #[tactic(auto, unfolding(crate::specs::Ends::takes_along))]
 fn takes(entries: &[(Step, Reply)], count: usize, along: Along, u: Txn, t: Txn) -> bool
     requires { count ≤ length entries.now }
     ensures { result ≡ takes_along (applied (reverse (take count entries.now))) along u.0 t.0 }
 {
-    live_within(entries, count, u) && linked_within(entries, (count, count), along, u, t)
+    linked_within(entries, (count, count), along, u, t) && live_within(entries, count, u)
 }
 
 /// Returns whether `t` is reached from `u` along what the first `counts.1` entries say, between those who were live after
@@ -127,6 +193,12 @@ pub fn linked_within(
     let (among, count) = counts;
     if u == t {
         return true;
+    }
+    if !leaves(entries, count, along, u) {
+        return false;
+    }
+    if !enters(entries, count, along, t) {
+        return false;
     }
     if count == 0 {
         return false;
