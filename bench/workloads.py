@@ -57,6 +57,14 @@ class Script:
         self.random.shuffle(order)
         self.finish_some(order, aborts)
 
+    def finish_together(self, members, how="commit"):
+        """Ends all of them by one step of the first, for which dependencies have to take the others along."""
+        self.left += 2 * len(members)
+        if how == "commit":
+            for t in members:
+                self.say(f"complete {t}")
+        self.say(f"{how} {members[0]}")
+
     def object(self):
         return self.random.randint(1, self.objects)
 
@@ -77,6 +85,9 @@ class Script:
 
     def delegate(self, giver, taker, objects):
         self.say(f"delegate {giver} {taker} {objects}")
+
+    def depend(self, kind, source, dependent):
+        self.say(f"depend {kind} {source} {dependent}")
 
 
 # Transactions that share nothing.
@@ -341,6 +352,111 @@ def hand_over_all(steps, seed):
     return script
 
 
+# Dependencies.
+
+
+def start_chain(script, kind, count, each):
+    """Transactions of which each depends on the one before it; each writes an object, and takes `each` steps in all."""
+    chain = []
+    while len(chain) < count and script.has_room(each):
+        t = script.start()
+        script.write(t, script.object())
+        if chain:
+            script.depend(kind, chain[-1], t)
+        chain.append(t)
+    return chain
+
+
+def classes_of_1000(steps, seed):
+    """Classes of 1,000 transactions, each joined to the one before it; a commit or an abort of one ends each class."""
+    script = Script(steps, seed, 20_000)
+    hows = ["commit", "abort"]
+    while script.has_room(6):
+        members = start_chain(script, "gc", 1000, 6)
+        script.finish_together(members, hows[0])
+        hows.reverse()
+    return script
+
+
+def stars_of_1000(steps, seed):
+    """The same, with all joined to the first."""
+    script = Script(steps, seed, 20_000)
+    hows = ["commit", "abort"]
+    while script.has_room(6):
+        members = [script.start()]
+        while len(members) < 1000 and script.has_room(6):
+            members.append(script.start())
+            script.write(members[-1], script.object())
+            script.depend("gc", members[0], members[-1])
+        script.finish_together(members, hows[0])
+        hows.reverse()
+    return script
+
+
+def workflows(steps, seed):
+    """Three parts that commit together, and a step that depends on one of them; in a quarter of them a part aborts."""
+    script = Script(steps, seed, 20_000)
+    while script.has_room(24):
+        parts = script.start_many(3)
+        after = script.start()
+        script.depend("gc", parts[0], parts[1])
+        script.depend("gc", parts[1], parts[2])
+        script.depend("ad", parts[2], after)
+        for t in [*parts, after]:
+            script.write(t, script.object())
+        if script.random.random() < 0.25:
+            script.finish_together([*parts, after], "abort")
+        else:
+            script.finish_together(parts)
+            script.finish(after)
+    return script
+
+
+def chain_of_commits(steps, seed):
+    """Chains of 10,000, each with a commit dependency on the one before it; they commit from the source on."""
+    script = Script(steps, seed, 20_000)
+    while script.has_room(6):
+        script.finish_some(start_chain(script, "cd", 10_000, 6), 0.0)
+    return script
+
+
+def chain_of_aborts(steps, seed):
+    """Chains of 10,000, each with an abort dependency on the one before it; an abort of the first ends all."""
+    script = Script(steps, seed, 20_000)
+    while script.has_room(6):
+        script.finish_together(start_chain(script, "ad", 10_000, 6), "abort")
+    return script
+
+
+def fan_out(steps, seed):
+    """10,000 with an abort dependency on one source, which aborts and takes all."""
+    script = Script(steps, seed, 20_000)
+    while script.has_room(10):
+        source = script.start()
+        fan = [source]
+        while len(fan) <= 10_000 and script.has_room(6):
+            fan.append(script.start())
+            script.write(fan[-1], script.object())
+            script.depend("ad", source, fan[-1])
+        script.finish_together(fan, "abort")
+    return script
+
+
+def fan_in(steps, seed):
+    """One with a commit dependency on each of 10,000 sources; half of them abort, and then it commits."""
+    script = Script(steps, seed, 20_000)
+    while script.has_room(10):
+        dependent = script.start()
+        fan = []
+        while len(fan) < 10_000 and script.has_room(6):
+            fan.append(script.start())
+            script.write(fan[-1], script.object())
+            script.depend("cd", fan[-1], dependent)
+        script.finish_shuffled(fan, aborts=0.5)
+        script.finish(dependent)
+    return script
+
+
 # Transactions that live long.
 
 
@@ -396,6 +512,13 @@ LOADS = {
         many_children,
         to_and_fro,
         hand_over_all,
+        classes_of_1000,
+        stars_of_1000,
+        workflows,
+        chain_of_commits,
+        chain_of_aborts,
+        fan_out,
+        fan_in,
     ]
 }
 
