@@ -4,7 +4,7 @@
 
 mod steps;
 
-pub use steps::{abort, begin, commit, complete, initiate, read, write};
+pub use steps::{abort, begin, commit, complete, depend, initiate, read, write};
 
 #[cfg(test)]
 mod again;
