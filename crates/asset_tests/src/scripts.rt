@@ -1,5 +1,6 @@
 //! Scripts from their bytes to the text that answers them, and devices that fail in mid-stream.
 mod delegations;
+mod dependencies;
 mod devices;
 mod lines;
 mod memory;

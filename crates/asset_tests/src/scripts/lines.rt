@@ -13,14 +13,15 @@ fn lines_that_ask(rt: HostRuntime) -> Result<(), Fail> {
     expect(&rt, script, text, RunEnd::Finished)
 }
 
-/// Each refusal that a line can get so far has its text.
+/// Each refusal that a line can get has its text.
 #[test]
 fn refusals_in_text(rt: HostRuntime) -> Result<(), Fail> {
     let script = b"begin 18446744073709551615\ninitiate 7\ninitiate 7\nread 7 1\nbegin 7\n\
-        begin 7\nread 7 3\npermit 7 7 r all\ncomplete 7\ncommit 7\nabort 7\nbegin 7\n";
+        begin 7\nread 7 3\npermit 7 7 r all\ninitiate 8\ndepend cd 7 8\ndepend gc 8 7\n\
+        complete 7\ncommit 7\nabort 7\nbegin 7\n";
     let text = "refused unknown 18446744073709551615\nok\nrefused taken 7\n\
         refused not running 7\nok\nrefused begun 7\nrefused no object 3\nrefused same\n\
-        ok\ncommitted\nrefused too late 7\nrefused ended 7\n";
+        ok\nok\nrefused cycle\nok\ncommitted\nrefused too late 7\nrefused ended 7\n";
     expect(&rt, script, text, RunEnd::Finished)
 }
 
@@ -57,7 +58,16 @@ fn lines_that_are_bad(rt: HostRuntime) -> Result<(), Fail> {
         "delegate 7 8 1,",
         "delegate 7 8 1,2,1",
         "delegate 7 8 all,1",
-        "depend cd 7 8",
+        "depend",
+        "depend 7 8",
+        "depend xd 7 8",
+        "depend CD 7 8",
+        "depend cd 7",
+        "depend cd 7 8 9",
+        "depend 7 8 cd",
+        "depend cd 07 8",
+        "depend cd 7 -8",
+        "depend cd,ad 7 8",
     ] {
         expect_bad(&rt, script, 1)?;
     }
