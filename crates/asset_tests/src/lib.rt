@@ -51,4 +51,6 @@ mod sizes;
 #[cfg(test)]
 mod tables;
 #[cfg(test)]
+mod tables_depending;
+#[cfg(test)]
 mod trans;

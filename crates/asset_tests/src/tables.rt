@@ -10,7 +10,7 @@ use std::test::Fail;
 const THREE: [(Ob, i64); 3] = [(Ob(1), 100), (Ob(2), 200), (Ob(3), 300)];
 
 /// Opens the tables of these objects. If memory runs out once, the same call is made again.
-fn open(alloc: Global) -> Result<Tables, ObjectsFault> {
+pub(crate) fn open(alloc: Global) -> Result<Tables, ObjectsFault> {
     match Tables::open(alloc, &THREE) {
         Ok(tables) => Ok(tables),
         Err(_) => Tables::open(alloc, &THREE),
@@ -60,7 +60,7 @@ fn read_once(tables: &mut Tables, t: u64, x: u64) -> Result<Option<i64>, NoMemor
 }
 
 /// Reads as `read_once` does. If memory runs out once, the same call is made again.
-fn read(tables: &mut Tables, t: u64, x: u64) -> Option<i64> {
+pub(crate) fn read(tables: &mut Tables, t: u64, x: u64) -> Option<i64> {
     match read_once(tables, t, x) {
         Ok(read) => read,
         Err(NoMemory) => match read_once(tables, t, x) {
@@ -80,7 +80,7 @@ fn write_once(tables: &mut Tables, t: u64, x: u64, v: i64) -> Result<bool, NoMem
 }
 
 /// Writes as `write_once` does. If memory runs out once, the same call is made again.
-fn write(tables: &mut Tables, t: u64, x: u64, v: i64) -> bool {
+pub(crate) fn write(tables: &mut Tables, t: u64, x: u64, v: i64) -> bool {
     match write_once(tables, t, x, v) {
         Ok(written) => written,
         Err(NoMemory) => write_once(tables, t, x, v) == Ok(true),
@@ -96,7 +96,7 @@ fn commit(tables: &mut Tables, t: u64) -> bool {
 }
 
 /// Aborts a transaction if it is live, and returns whether it was.
-fn abort(tables: &mut Tables, t: u64) -> bool {
+pub(crate) fn abort(tables: &mut Tables, t: u64) -> bool {
     if tables.status(Txn(t)).is_live() {
         tables.abort(Txn(t));
         true
@@ -192,7 +192,7 @@ fn one_transaction(tables: &mut Tables) -> bool {
 }
 
 /// Starts transactions 7, 8 and 9, and returns whether they are new.
-fn start_three(tables: &mut Tables) -> bool {
+pub(crate) fn start_three(tables: &mut Tables) -> bool {
     start(tables, 7) && start(tables, 8) && start(tables, 9)
 }
 
