@@ -10,7 +10,7 @@ use asset_names::{
 use std::alloc::Global;
 use std::test::Fail;
 
-const THREE: [(Ob, i64); 3] = [(Ob(1), 100), (Ob(2), 200), (Ob(3), 300)];
+pub(crate) const THREE: [(Ob, i64); 3] = [(Ob(1), 100), (Ob(2), 200), (Ob(3), 300)];
 
 const NONE: [(Ob, i64); 0] = [];
 
@@ -18,15 +18,15 @@ const NONE: [(Ob, i64); 0] = [];
 const MOST_ENTRIES: usize = 1_000_000;
 
 /// Room for more entries than a test asks for.
-const ROOM: usize = 100;
+pub(crate) const ROOM: usize = 100;
 
-const OK: Result<Outcome, Fault> = Ok(Outcome::Answer(Reply::Done));
+pub(crate) const OK: Result<Outcome, Fault> = Ok(Outcome::Answer(Reply::Done));
 
-const WAIT: Result<Outcome, Fault> = Ok(Outcome::Wait);
+pub(crate) const WAIT: Result<Outcome, Fault> = Ok(Outcome::Wait);
 
-const COMMITTED: Result<Outcome, Fault> = Ok(Outcome::Answer(Reply::Committed));
+pub(crate) const COMMITTED: Result<Outcome, Fault> = Ok(Outcome::Answer(Reply::Committed));
 
-const ABORTED: Result<Outcome, Fault> = Ok(Outcome::Answer(Reply::Aborted));
+pub(crate) const ABORTED: Result<Outcome, Fault> = Ok(Outcome::Answer(Reply::Aborted));
 
 const FULL: Result<Outcome, Fault> = Err(Fault::Full);
 
@@ -35,7 +35,7 @@ fn value(v: i64) -> Result<Outcome, Fault> {
 }
 
 /// Returns whether the steps have these outcomes, one after another.
-fn plays(core: &mut Core, script: &[(Step, Result<Outcome, Fault>)]) -> bool {
+pub(crate) fn plays(core: &mut Core, script: &[(Step, Result<Outcome, Fault>)]) -> bool {
     let mut alike = true;
     for (step, outcome) in script {
         alike = ask(core, step) == *outcome && alike;
@@ -82,7 +82,7 @@ fn different_objects_are_opened(rt: HostRuntime) -> Result<(), Fail> {
 }
 
 /// Returns whether the check holds of a facility that is opened.
-fn holds<F: FnOnce(&mut Core) -> bool>(
+pub(crate) fn holds<F: FnOnce(&mut Core) -> bool>(
     alloc: Global,
     opening: &[(Ob, i64)],
     capacity: usize,
@@ -185,7 +185,7 @@ fn permit(objects: &[Ob]) -> Option<Step> {
 }
 
 /// Returns whether the entry of this index is the step with the reply.
-fn recorded(core: &Core, index: usize, step: &Step, reply: Reply) -> bool {
+pub(crate) fn recorded(core: &Core, index: usize, step: &Step, reply: Reply) -> bool {
     match core.history().entry(index) {
         Some((asked, answer)) => asked == *step && answer == reply,
         None => false,
@@ -193,7 +193,7 @@ fn recorded(core: &Core, index: usize, step: &Step, reply: Reply) -> bool {
 }
 
 /// Returns whether the entries are these, none of which waits or meets a fault.
-fn stands(core: &Core, script: &[(Step, Result<Outcome, Fault>)]) -> bool {
+pub(crate) fn stands(core: &Core, script: &[(Step, Result<Outcome, Fault>)]) -> bool {
     let mut alike = core.history().len() == script.len();
     for (index, (step, outcome)) in script.iter().enumerate() {
         alike = alike
@@ -205,11 +205,11 @@ fn stands(core: &Core, script: &[(Step, Result<Outcome, Fault>)]) -> bool {
     alike
 }
 
-fn refused(refusal: Refusal) -> Result<Outcome, Fault> {
+pub(crate) fn refused(refusal: Refusal) -> Result<Outcome, Fault> {
     Ok(Outcome::Answer(Reply::Refused(refusal)))
 }
 
-/// Returns whether entries of each kind but permits, with each refusal that they can get, stand as they were
+/// Returns whether entries of each kind that names one transaction, with each refusal that they can get, stand as they were
 /// answered.
 fn entries_stand(core: &mut Core) -> bool {
     let child = Step::Initiate {

@@ -23,6 +23,8 @@ mod examples;
 #[cfg(test)]
 mod facility;
 #[cfg(test)]
+mod facility_depending;
+#[cfg(test)]
 mod handing;
 #[cfg(test)]
 mod handing_writes;
