@@ -241,6 +241,117 @@ ok
 committed
 ";
 
+/// The script `workflow.asset`.
+const WORKFLOW: &str = "\
+# A trip is booked in three parts that commit together. A tour waits for the trip, and a bus falls with the tour.
+# Objects 1 to 5 count what is free: seats, rooms, cars, places in the tour and places in the bus.
+object 1 20
+object 2 10
+object 3 5
+object 4 8
+object 5 30
+
+# Transaction 7 books a seat, 8 a room and 9 a car. 10 books the tour, and 11 the bus.
+initiate 7
+begin 7
+initiate 8
+begin 8
+initiate 9
+begin 9
+initiate 10
+begin 10
+initiate 11
+begin 11
+
+# Group commits: seat, room and car are booked together, or none of them is.
+depend gc 7 8
+depend gc 8 9
+
+# Commit dependency: the tour is settled only when the trip has ended.
+depend cd 9 10
+
+# Abort dependency: the bus is of no use without the tour, so 11 aborts if 10 does.
+depend ad 10 11
+
+# Each takes one from its object.
+write 7 1 19
+write 8 2 9
+write 9 3 4
+write 10 4 7
+write 11 5 29
+
+# The seat and the room are done, but the car is not: a commit of any of the three has to wait.
+complete 7
+complete 8
+commit 7
+
+# The tour is done too, and has to wait for the trip.
+complete 10
+commit 10
+
+# The tour is called off. The bus falls with it, and both writes are undone. The trip goes on.
+abort 10
+wait 11
+
+# The car is done, and one commit ends all three. Now it is too late to give back one of them.
+complete 9
+commit 8
+wait 7
+wait 9
+abort 9
+
+# The next guest finds one seat, room and car less, and all places in the tour and the bus.
+initiate 12
+begin 12
+read 12 1
+read 12 2
+read 12 3
+read 12 4
+read 12 5
+";
+
+/// Its transcript.
+const WORKFLOW_OUT: &str = "\
+ok
+ok
+ok
+ok
+ok
+ok
+ok
+ok
+ok
+ok
+ok
+ok
+ok
+ok
+ok
+ok
+ok
+ok
+ok
+ok
+ok
+wait
+ok
+wait
+aborted
+aborted
+ok
+committed
+committed
+committed
+refused too late 9
+ok
+ok
+19
+9
+4
+8
+30
+";
+
 #[test]
 fn first_example_has_its_transcript(rt: HostRuntime) -> Result<(), Fail> {
     expect(&rt, FIRST, FIRST_OUT)
@@ -264,4 +375,9 @@ fn refusals_example_has_its_transcript(rt: HostRuntime) -> Result<(), Fail> {
 #[test]
 fn waiting_example_has_its_transcript(rt: HostRuntime) -> Result<(), Fail> {
     expect(&rt, WAITING, WAITING_OUT)
+}
+
+#[test]
+fn workflow_example_has_its_transcript(rt: HostRuntime) -> Result<(), Fail> {
+    expect(&rt, WORKFLOW, WORKFLOW_OUT)
 }
