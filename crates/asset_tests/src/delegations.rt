@@ -107,9 +107,13 @@ fn after_five(alloc: Global, steps: &[Step]) -> Result<Vec<Step>, Fail> {
 }
 
 /// Returns whether facility and reference agree on these steps after five transactions have begun.
-fn agree_after_five(alloc: Global, steps: &[Step]) -> Result<bool, Fail> {
+pub(crate) fn agree_after_five(
+    alloc: Global,
+    steps: &[Step],
+    capacity: usize,
+) -> Result<bool, Fail> {
     let script = after_five(alloc, steps)?;
-    agree(alloc, &script, ROOM)
+    agree(alloc, &script, capacity)
 }
 
 #[test]
@@ -119,7 +123,7 @@ fn facility_agrees_on_delegations(rt: HostRuntime) -> Result<(), Fail> {
         &write_goes_round()[..],
         &permits_come_back()[..],
     ] {
-        assert!(rt; agree_after_five(rt.alloc(), steps)?);
+        assert!(rt; agree_after_five(rt.alloc(), steps, ROOM)?);
     }
     Ok(())
 }
@@ -164,7 +168,10 @@ fn facility_agrees_on_generated_delegations(rt: HostRuntime) -> Result<(), Fail>
     let mut seed = 7;
     for script in 0..SCRIPTS {
         let steps = generated(&mut seed);
-        assert!(rt; agree_after_five(rt.alloc(), &steps)?, "script {script}");
+        assert!(rt;
+            agree_after_five(rt.alloc(), &steps, ROOM)?,
+            "script {script}"
+        );
     }
     Ok(())
 }

@@ -133,7 +133,7 @@ fn agrees(deps: &mut Deps, list: &[Plain], enrolled: u64) -> bool {
 }
 
 /// Returns the kind that a number stands for.
-fn kind_of(number: u64) -> Kind {
+pub(crate) fn kind_of(number: u64) -> Kind {
     match number % 3 {
         0 => Kind::Cd,
         1 => Kind::Ad,

@@ -15,6 +15,8 @@ mod copies;
 #[cfg(test)]
 mod delegations;
 #[cfg(test)]
+mod dependencies;
+#[cfg(test)]
 mod deps;
 #[cfg(test)]
 mod deps_beside_list;
