@@ -209,8 +209,8 @@ pub(crate) fn refused(refusal: Refusal) -> Result<Outcome, Fault> {
     Ok(Outcome::Answer(Reply::Refused(refusal)))
 }
 
-/// Returns whether entries of each kind that names one transaction, with each refusal that they can get, stand as they were
-/// answered.
+/// Returns whether entries of each kind that names one transaction, with each refusal that they can get, stand as they
+/// were answered.
 fn entries_stand(core: &mut Core) -> bool {
     let child = Step::Initiate {
         t: Txn(8),
