@@ -11,3 +11,5 @@ pub mod Orderly
 pub mod Paths
 pub mod Answers
 pub mod Room
+pub mod Groups
+pub mod Sources
