@@ -1,14 +1,14 @@
 -- Classes end together, and an abort takes the least closed set.
-use Rattle.std.proofs.Common.{◌≡◌, ℕ, Bool, true, false, cond, not, ◌&&◌, List, ◌∷◌, refl, sym, ◌∙◌, ap, None, Some, inl, inr}
+use Rattle.std.proofs.Common.{◌≡◌, ℕ, Bool, true, false, cond, not, ◌&&◌, List, ◌∷◌, refl, sym, ◌∙◌, None, Some, inl, inr}
 use Rattle.std.specs.Prelude.{Option}
-use Rattle.std.proofs.lemmas.Bool.{or_cases, or_left, or_right, and_parts, and_from, false≢true}
+use Rattle.std.proofs.lemmas.Bool.{or_cases, or_left, or_right, and_parts, and_from}
 use Rattle.asset_names.specs.declared.names.Txn.{Txn}
 use Rattle.asset_names.specs.declared.statuses.End.{End}
 use Rattle.asset_names.specs.declared.statuses.End.TheVariants as End'
 use Rattle.asset_names.specs.declared.steps.Kind.TheVariants.{Ad, Gc}
 use Rattle.asset_names.specs.declared.steps.Step.{Step}
 use Rattle.asset_names.specs.declared.steps.Step.TheVariants.{Initiate, Begin, Read, Write, Complete, Permit, Delegate, Depend, Commit, Abort, WaitFor}
-use Rattle.asset_names.specs.Arrows.{Arrow, linked, has_arrow, among}
+use Rattle.asset_names.specs.Arrows.{linked, has_arrow, among}
 use Rattle.asset_names.specs.Endings.{dependencies, class_arrows, doom_arrows, ended_by, end_of, live, same_class}
 use Rattle.asset_names.proofs.Arrows.{linked_trans}
 use Rattle.asset_names.proofs.Common.{both_follow}

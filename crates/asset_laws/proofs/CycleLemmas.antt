@@ -1,5 +1,5 @@
 -- No cycle stands among the classes of live transactions.
-use Rattle.std.proofs.Common.{◌≡◌, ℕ, Bool, true, false, cond, eqb, not, ◌&&◌, ◌||◌, List, [], ◌∷◌, ◌++◌, refl, sym, ◌∙◌, ap, subst, ◌⊎◌, inl, inr, arith}
+use Rattle.std.proofs.Common.{◌≡◌, ℕ, Bool, true, false, cond, eqb, not, ◌&&◌, ◌||◌, List, [], ◌∷◌, ◌++◌, refl, sym, ◌∙◌, ap, ◌⊎◌, inl, inr}
 use Rattle.std.specs.Prelude.{Option, Some, None, is_none}
 use Rattle.std.specs.Option.{option_or}
 use Rattle.std.proofs.lemmas.Bool.{or_cases, or_left, or_right, or_parts, and_parts, and_from, eqb-true, eq-eqb, false≢true}
@@ -14,11 +14,11 @@ use Rattle.asset_names.specs.declared.steps.Step.TheVariants.{Initiate, Begin, R
 use Rattle.asset_names.specs.Arrows.{Arrow, lists, linked, has_arrow, among}
 use Rattle.asset_names.specs.Paths.{same_kind, both_ways, leads, closes_cycle}
 use Rattle.asset_names.specs.Steps.{Opening, Entry, takes_effect, applied, initiated}
-use Rattle.asset_names.specs.Endings.{dependency_by, dependencies, class_arrows, order_arrows, would_cycle, ended_by, end_of, live}
+use Rattle.asset_names.specs.Endings.{dependency_by, dependencies, class_arrows, order_arrows, would_cycle, end_of, live}
 use Rattle.asset_names.specs.Answers.{answer, IsLegal}
 use Rattle.asset_names.specs.Orderly.{IsOrderly}
-use Rattle.asset_names.proofs.Arrows.{linked_refl, linked_trans, linked_ways}
-use Rattle.asset_names.proofs.PermitLemmas.{linked_has, linked_more, has_among}
+use Rattle.asset_names.proofs.Arrows.{linked_ways}
+use Rattle.asset_names.proofs.PermitLemmas.{linked_more, has_among}
 use Rattle.asset_names.proofs.DependLemmas.{has_append, has_both, depend_arrow}
 use Rattle.asset_names.proofs.LegalLemmas.{depend_live, legal_orderly}
 use Rattle.asset_laws.specs.Textbook.{IsAcyclic}

@@ -1,3 +1,10 @@
 pub mod PathLemmas
 pub mod ClassLemmas
 pub mod CycleLemmas
+pub mod KeepLinks
+pub mod AlikeLemmas
+pub mod AnswersAlike
+pub mod KeptSteps
+pub mod KeptOperations
+pub mod KeptLemmas
+pub mod GroupLemmas

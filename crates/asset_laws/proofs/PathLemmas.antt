@@ -1,6 +1,6 @@
 -- Laws of arrows: what is closed along them, what leads back, and paths over classes.
-use Rattle.std.proofs.Common.{◌≡◌, ℕ, Bool, true, false, ◌&&◌, ◌||◌, List, ◌∷◌, ◌++◌, refl, sym, ◌∙◌, arith, inl, inr}
-use Rattle.std.proofs.lemmas.Bool.{or_cases, or_left, or_right, and_parts, and_from}
+use Rattle.std.proofs.Common.{◌≡◌, ℕ, Bool, true, false, ◌&&◌, ◌||◌, List, ◌++◌, refl, sym, ◌∙◌, inl, inr}
+use Rattle.std.proofs.lemmas.Bool.{or_cases, or_left, or_right}
 use Rattle.asset_names.specs.Arrows.{Arrow, linked, has_arrow, among, Chain}
 use Rattle.asset_names.specs.Arrows.Chain.{stay, along}
 use Rattle.asset_names.specs.Paths.{both_ways, leads}

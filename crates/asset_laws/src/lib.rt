@@ -1,9 +1,11 @@
 //! Laws of the definitions over all histories. Each stands on the contract of a function that does nothing.
 #![tactic(auto)]
 
+mod deletion;
 mod dependencies;
 mod laws;
 
+pub use deletion::{dead_groups_have_not_committed, history_without_dead_groups_is_legal};
 pub use dependencies::{
     abort_takes_the_least, classes_are_never_split, no_cycle_stands, path_is_leading,
 };
