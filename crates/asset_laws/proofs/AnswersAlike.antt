@@ -100,7 +100,7 @@ rules_alike keep some all alike opening (Abort t) one other = rw (status_alike k
 rules_alike keep some all alike opening (WaitFor t) one other = rw (status_alike keep some all alike t.0 one) refl
 
 -- whoever was answered did not wait
-not_waiting : (is_free : Bool) (outcome : Outcome) (reply : Reply) → cond is_free outcome Wait ≡ Answer reply → is_free ≡ true
+pub not_waiting : (is_free : Bool) (outcome : Outcome) (reply : Reply) → cond is_free outcome Wait ≡ Answer reply → is_free ≡ true
 not_waiting true outcome reply h = refl
 not_waiting false outcome reply h = cc
 

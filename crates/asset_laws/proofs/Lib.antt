@@ -8,3 +8,6 @@ pub mod KeptSteps
 pub mod KeptOperations
 pub mod KeptLemmas
 pub mod GroupLemmas
+pub mod SharingLemmas
+pub mod SourceLemmas
+pub mod GroupCases

@@ -1,10 +1,17 @@
 //! Laws of deletion: what is left of a legal history without dead groups, and who shares a group.
 
-ghost use Rattle.std.specs.Prelude.{◌≡◌, ◌≢◌, ℕ, true, false, List, Some};
+ghost use Rattle.std.specs.Prelude.{◌≡◌, ◌≢◌, ℕ, ℤ, true, false, List, ◌∷◌, ◌++◌, Some};
+ghost use Rattle.asset_names.specs.declared.names.Txn.{Txn};
+ghost use Rattle.asset_names.specs.declared.names.Ob.{Ob};
+ghost use Rattle.asset_names.specs.declared.operations.Op.{Op};
+ghost use Rattle.asset_names.specs.declared.steps.Step.TheVariants.{Read};
+ghost use Rattle.asset_names.specs.declared.replies.Reply.TheVariants.{Value};
 ghost use Rattle.asset_names.specs.declared.statuses.End.TheVariants.{Committed};
 ghost use Rattle.asset_names.specs.Steps.{Opening, Entry, applied};
 ghost use Rattle.asset_names.specs.Endings.{end_of};
+ghost use Rattle.asset_names.specs.Operations.{conflict, holds, value};
 ghost use Rattle.asset_names.specs.Groups.{same_group, dead, stays, without};
+ghost use Rattle.asset_names.specs.Sources.{source, source_value, IsAlone, IsOwnOrCommitted};
 ghost use Rattle.asset_names.specs.Answers.{IsLegal};
 
 /// What is left of a legal history without chosen dead groups is legal: every remaining step, with the reply that it
@@ -19,4 +26,18 @@ pub fn history_without_dead_groups_is_legal()
 pub fn dead_groups_have_not_committed()
     ensures uncommitted { (entries : List Entry) (t n : ℕ) → dead entries t ≡ true → same_group entries t n ≡ true → end_of (applied entries) n ≢ Some Committed }
     ensures together { (entries : List Entry) (t n : ℕ) → same_group entries t n ≡ true → dead entries t ≡ dead entries n }
+{}
+
+/// Two transactions that hold one object by conflicting operations are of one group, also after delegations.
+pub fn conflicting_holders_share_a_group()
+    ensures { (opening : Opening) (entries : List Entry) (u t x : ℕ) (op other : Op) → IsLegal opening entries →
+        holds (applied entries) u x op ≡ true → holds (applied entries) t x other ≡ true → conflict op other ≡ true → same_group entries u t ≡ true }
+{}
+
+/// A transaction that is alone in its group reads opening values, its own writes and committed ones alone: such is the
+/// source of each value that it reads. The value of an object is that of its source.
+pub fn alone_reads_own_or_committed()
+    ensures alone { (opening : Opening) (newer older : List Entry) (t : Txn) (x : Ob) (v : ℤ) → IsLegal opening (newer ++ (Read t x, Value v) ∷ older) →
+        IsAlone (newer ++ (Read t x, Value v) ∷ older) t.0 → IsOwnOrCommitted older t x (source older x.0) }
+    ensures sourced { (opening : Opening) (entries : List Entry) (x : ℕ) → value opening (applied entries) x ≡ source_value opening x (source entries x) }
 {}

@@ -5,7 +5,10 @@ mod deletion;
 mod dependencies;
 mod laws;
 
-pub use deletion::{dead_groups_have_not_committed, history_without_dead_groups_is_legal};
+pub use deletion::{
+    alone_reads_own_or_committed, conflicting_holders_share_a_group,
+    dead_groups_have_not_committed, history_without_dead_groups_is_legal,
+};
 pub use dependencies::{
     abort_takes_the_least, classes_are_never_split, no_cycle_stands, path_is_leading,
 };

@@ -9,7 +9,7 @@ use Rattle.asset_names.specs.Endings.{live}
 use Rattle.asset_names.specs.Operations.{Operation, op_of, same_op, conflict, operations, holds, allows, blocks, free}
 
 -- the same kind of operation is one kind
-same_op-true : (a b : Op) → same_op a b ≡ true → a ≡ b
+pub same_op-true : (a b : Op) → same_op a b ≡ true → a ≡ b
 unfolding same_op
 same_op-true Op'.Read Op'.Read h = refl
 same_op-true Op'.Write Op'.Write h = refl

@@ -5,9 +5,9 @@ use Rattle.asset_names.specs.declared.names.Ob.{Ob}
 use Rattle.asset_names.specs.declared.steps.Step.{Step}
 use Rattle.asset_names.specs.declared.steps.Step.TheVariants.{Read, Write}
 use Rattle.asset_names.specs.declared.replies.Reply.TheVariants as Reply'
-use Rattle.asset_names.specs.Steps.{Entry, takes_effect, applied}
+use Rattle.asset_names.specs.Steps.{Opening, Entry, takes_effect, applied}
 use Rattle.asset_names.specs.Endings.{end_of}
-use Rattle.asset_names.specs.Operations.{Use, reads, writes, Operation, operations, stands}
+use Rattle.asset_names.specs.Operations.{Use, reads, writes, Operation, operations, stands, opening_value, after_use}
 use Rattle.asset_names.specs.Groups.{same_group, was_committed}
 
 -- an operation, and the number of its entry, from 0
@@ -41,6 +41,11 @@ stands_on entries x found = found.1.object == x && is_write found.1.use_of && st
 -- the source of x after the entries: the last write on x that stands, and none if x has its opening value
 unfoldable pub source : List Entry → ℕ → Option Numbered
 source entries x = find (stands_on entries x) (numbered entries)
+
+-- the value that a source gives: what its write wrote, or the opening value
+unfoldable pub source_value : Opening → ℕ → Option Numbered → ℤ
+source_value opening x None = opening_value opening x
+source_value opening x (Some found) = after_use found.1.use_of (opening_value opening x)
 
 -- the entry with this number, from 0
 unfoldable pub entry_at : List Entry → ℕ → Option Entry

@@ -1,0 +1,251 @@
+-- Where a read's value comes from, of a transaction that is alone in its group.
+use Rattle.std.proofs.Common.{◌≡◌, ℕ, suc, ℤ, Bool, true, false, cond, not, eqb, ◌&&◌, ◌<◌, List, [], ◌∷◌, ◌++◌, length, map, refl, sym, ◌∙◌, ap, arith, ◌⊎◌, inl, inr, None, Some}
+use Rattle.std.specs.Prelude.{Option, zip, find}
+use Rattle.std.specs.List.{list_any}
+use Rattle.std.proofs.lemmas.List.{length-map}
+use Rattle.std.proofs.lemmas.Bool.{or_parts, or_left, or_right, and_parts, eqb-true, eq-eqb, false≢true, not-true}
+use Rattle.asset_names.specs.declared.names.Txn.{Txn}
+use Rattle.asset_names.specs.declared.names.Ob.{Ob}
+use Rattle.asset_names.specs.declared.operations.Op.TheVariants as Op'
+use Rattle.asset_names.specs.declared.sets.ObSet.{ObSet}
+use Rattle.asset_names.specs.declared.statuses.End.{End}
+use Rattle.asset_names.specs.declared.statuses.End.TheVariants as End'
+use Rattle.asset_names.specs.declared.steps.Step.{Step}
+use Rattle.asset_names.specs.declared.steps.Step.TheVariants.{Initiate, Begin, Read, Write, Complete, Permit, Delegate, Depend, Commit, Abort, WaitFor}
+use Rattle.asset_names.specs.declared.replies.Reply.{Reply}
+use Rattle.asset_names.specs.declared.replies.Reply.TheVariants as Reply'
+use Rattle.asset_names.specs.Arrows.{lists}
+use Rattle.asset_names.specs.InSet.{in_set}
+use Rattle.asset_names.specs.Steps.{Opening, Entry, takes_effect, applied, initiated}
+use Rattle.asset_names.specs.Endings.{end_of, live}
+use Rattle.asset_names.specs.Operations.{Use, reads, writes, Operation, op_of, conflict, handed_over, operated, operations, permits, allows, blocks, free, was_aborted, stands, opening_value, after_use, value_after, value}
+use Rattle.asset_names.specs.Groups.{actor, partner, same_group, was_committed}
+use Rattle.asset_names.specs.Sources.{Numbered, is_operation, is_write, operation_numbers, numbered, stands_on, source, source_value, entry_at, IsAlone, IsOwnOrCommitted}
+use Rattle.asset_names.specs.Answers.{unrefused, IsLegal}
+use Rattle.asset_names.proofs.LegalLemmas.{legal_orderly}
+use Rattle.asset_laws.proofs.KeepLinks.{Keeps}
+use Rattle.asset_laws.proofs.AlikeLemmas.{allows_keeps}
+use Rattle.asset_laws.proofs.AnswersAlike.{not_waiting}
+use Rattle.asset_laws.proofs.KeptLemmas.{RespectsEntries, respects_applied, kept_alike}
+use Rattle.asset_laws.proofs.GroupLemmas.{group_refl, group_keeps, keeps_respects, legal_rest, respects_rest}
+use Rattle.asset_laws.proofs.SharingLemmas.{effect_answer}
+
+-- ---- entries by their numbers
+
+entry_below : (entries : List Entry) (m : ℕ) (entry : Entry) → entry_at entries m ≡ Some entry → m < length entries
+unfolding entry_at
+entry_below [] m entry h = cc
+entry_below (first ∷ older) m entry h = go (eqb m (length older)) refl (entry_below older m entry) h where
+  go : (here : Bool) → eqb m (length older) ≡ here → (entry_at older m ≡ Some entry → m < length older) → cond here (Some first) (entry_at older m) ≡ Some entry → m < length (first ∷ older)
+  go true e below is = let at = eqb-true m (length older) e in omega (arith, at)
+  go false e below is = let under = below is in omega (arith, under)
+
+-- an older entry keeps its number
+entry_stays : (first : Entry) (older : List Entry) (m : ℕ) (entry : Entry) → entry_at older m ≡ Some entry → entry_at (first ∷ older) m ≡ Some entry
+unfolding entry_at
+entry_stays first older m entry h = go (eqb m (length older)) refl where
+  go : (here : Bool) → eqb m (length older) ≡ here → cond here (Some first) (entry_at older m) ≡ Some entry
+  go false e = h
+  go true e = let below = entry_below older m entry h in let at = eqb-true m (length older) e in absurd (omega (arith, below, at))
+
+entry_first : (first : Entry) (older : List Entry) → entry_at (first ∷ older) (length older) ≡ Some first
+unfolding entry_at
+entry_first first older = rw (eq-eqb (length older) (length older) refl) refl
+
+-- ---- who asked for a write
+
+-- the entry with the number of a write is that write, and who asked for it is kept as who is responsible for it
+IsAsked : (ℕ → Bool) → List Entry → Numbered → Type 0
+IsAsked keep entries found = is_write found.1.use_of ≡ true
+    → (t : Txn) × (x : Ob) × (v : ℤ) × (entry_at entries found.0 ≡ Some (Write t x v, Reply'.Done)) × (x.0 ≡ found.1.object) × (keep t.0 ≡ keep found.1.owner)
+
+AllAsked : (ℕ → Bool) → List Entry → List Numbered → Type 0
+AllAsked keep entries [] = Unit {0}
+AllAsked keep entries (found ∷ rest) = IsAsked keep entries found × AllAsked keep entries rest
+
+asked_later : (keep : ℕ → Bool) (first : Entry) (older : List Entry) (ns : List Numbered) → AllAsked keep older ns → AllAsked keep (first ∷ older) ns
+unfolding IsAsked AllAsked
+asked_later keep first older [] asked = asked
+asked_later keep first older (found ∷ rest) asked =
+    (λ write. let by = asked.0 write in (by.0, by.1, by.2, entry_stays first older found.0 (Write by.0 by.1 by.2, Reply'.Done) by.3, by.4, by.5), asked_later keep first older rest asked.1)
+
+-- a delegation leaves the objects, the uses, and how the responsible ones are kept
+asked_handed : (keep : ℕ → Bool) (entries : List Entry) (giver taker : ℕ) (obs : ObSet) → keep giver ≡ keep taker → (numbers : List ℕ) (os : List Operation)
+    → AllAsked keep entries (zip numbers os) → AllAsked keep entries (zip numbers (map (handed_over giver taker obs) os))
+unfolding IsAsked AllAsked handed_over
+asked_handed keep entries giver taker obs same [] os asked = asked
+asked_handed keep entries giver taker obs same (m ∷ numbers) [] asked = asked
+asked_handed keep entries giver taker obs same (m ∷ numbers) (o ∷ os) asked =
+    (go (eqb o.owner giver) refl (in_set obs o.object), asked_handed keep entries giver taker obs same numbers os asked.1) where
+      go : (own : Bool) → eqb o.owner giver ≡ own → (listed : Bool) → IsAsked keep entries (m, cond (own && listed) (record o { owner = taker }) o)
+      go true e true = λ write. let by = asked.0 write in (by.0, by.1, by.2, by.3, by.4, by.5 ∙ ap keep (eqb-true o.owner giver e) ∙ same)
+      go true e false = asked.0
+      go false e listed = asked.0
+
+-- a write that took effect was answered by done
+write_done : (t : Txn) (x : Ob) (v : ℤ) (reply : Reply) → takes_effect (Write t x v) reply ≡ true → reply ≡ Reply'.Done
+unfolding takes_effect
+write_done t x v Reply'.Done h = refl
+write_done t x v (Reply'.Value w) h = absurd (false≢true h)
+write_done t x v Reply'.Committed h = absurd (false≢true h)
+write_done t x v Reply'.Aborted h = absurd (false≢true h)
+write_done t x v (Reply'.Refused refusal) h = absurd (false≢true h)
+
+-- one more step that took effect
+asked_more : (keep : ℕ → Bool) (step : Step) (reply : Reply) (older : List Entry) → takes_effect step reply ≡ true → keep (actor step).0 ≡ keep (partner step).0 → AllAsked keep older (numbered older)
+    → AllAsked keep ((step, reply) ∷ older) (zip (cond (is_operation step) (length older ∷ operation_numbers older) (operation_numbers older)) (operated step (operations (applied older))))
+unfolding IsAsked AllAsked numbered is_operation is_write operated actor partner
+asked_more keep (Initiate t parent) reply older effect same asked = asked_later keep (Initiate t parent, reply) older _ asked
+asked_more keep (Begin t) reply older effect same asked = asked_later keep (Begin t, reply) older _ asked
+asked_more keep (Read t x) reply older effect same asked = (λ write. absurd (false≢true write), asked_later keep (Read t x, reply) older _ asked)
+asked_more keep (Write t x v) reply older effect same asked = (
+  λ write. (t, x, v, ap (λ r. entry_at ((Write t x v, r) ∷ older) (length older)) (write_done t x v reply effect) ∙ entry_first (Write t x v, Reply'.Done) older, refl, refl),
+  asked_later keep (Write t x v, reply) older _ asked,
+)
+asked_more keep (Complete t) reply older effect same asked = asked_later keep (Complete t, reply) older _ asked
+asked_more keep (Permit giver taker obs ops) reply older effect same asked = asked_later keep (Permit giver taker obs ops, reply) older _ asked
+asked_more keep (Delegate giver taker obs) reply older effect same asked =
+    asked_handed keep ((Delegate giver taker obs, reply) ∷ older) giver.0 taker.0 obs same (operation_numbers older) (operations (applied older)) (asked_later keep (Delegate giver taker obs, reply) older _ asked)
+asked_more keep (Depend kind a b) reply older effect same asked = asked_later keep (Depend kind a b, reply) older _ asked
+asked_more keep (Commit t) reply older effect same asked = asked_later keep (Commit t, reply) older _ asked
+asked_more keep (Abort t) reply older effect same asked = asked_later keep (Abort t, reply) older _ asked
+asked_more keep (WaitFor t) reply older effect same asked = asked_later keep (WaitFor t, reply) older _ asked
+
+-- each numbered write is one that somebody asked for
+all_asked : (keep : ℕ → Bool) (entries : List Entry) → RespectsEntries keep entries → AllAsked keep entries (numbered entries)
+unfolding RespectsEntries AllAsked numbered operation_numbers applied operations
+all_asked keep [] respects = respects
+all_asked keep (entry ∷ older) respects = go (takes_effect entry.0 entry.1) refl (all_asked keep older respects.1) where
+  go : (effect : Bool) → takes_effect entry.0 entry.1 ≡ effect → AllAsked keep older (numbered older)
+      → AllAsked keep (entry ∷ older) (zip (cond (effect && is_operation entry.0) (length older ∷ operation_numbers older) (operation_numbers older)) (operations (cond effect (entry.0 ∷ applied older) (applied older))))
+  go true e asked = asked_more keep entry.0 entry.1 older e respects.0 asked
+  go false e asked = asked_later keep entry older (numbered older) asked
+
+-- ---- the source of a read
+
+-- a live owner whose write does not block a kept reader is kept
+unblocked : (keep : ℕ → Bool) (steps : List Step) (t x : ℕ) → keep t ≡ true → Keeps keep (permits steps x Op'.Read) → (o : Operation) → (eqb o.object x && is_write o.use_of) ≡ true
+    → blocks steps t x Op'.Read o ≡ false → live steps o.owner ≡ true → keep o.owner ≡ true
+unfolding blocks conflict is_write op_of
+unblocked keep steps t x stays keeps o here clear alive = go (eqb o.owner t) refl (allows steps o.owner t x Op'.Read) refl where
+  parts : (eqb o.object x ≡ true) × (is_write o.use_of ≡ true)
+  parts = and_parts (eqb o.object x) _ here
+
+  conflicts : (how : Use) → is_write how ≡ true → conflict (op_of how) Op'.Read ≡ true
+  conflicts (writes v) h = refl
+  conflicts reads h = h
+
+  go : (own : Bool) → eqb o.owner t ≡ own → (allowed : Bool) → allows steps o.owner t x Op'.Read ≡ allowed → keep o.owner ≡ true
+  go true e allowed f = ap keep (eqb-true o.owner t e) ∙ stays
+  go false e true f = allows_keeps keep steps x Op'.Read keeps o.owner t f ∙ stays
+  go false e false f = absurd (false≢true (sym clear ∙ rw (parts.0, conflicts o.use_of parts.1, e, alive, f) refl))
+
+-- a write that stands is a kept one's, or a committed one's
+kept_or_committed : (keep : ℕ → Bool) (steps : List Step) (t x : ℕ) → keep t ≡ true → Keeps keep (permits steps x Op'.Read) → (o : Operation) → (eqb o.object x && is_write o.use_of) ≡ true
+    → stands steps o ≡ true → blocks steps t x Op'.Read o ≡ false → lists (initiated steps) o.owner ≡ true → (keep o.owner ≡ true) ⊎ (was_committed (end_of steps o.owner) ≡ true)
+unfolding stands was_aborted was_committed live
+kept_or_committed keep steps t x stays keeps o here stays_up clear known = go (end_of steps o.owner) refl where
+  go : (end : Option End) → end_of steps o.owner ≡ end → (keep o.owner ≡ true) ⊎ (was_committed (end_of steps o.owner) ≡ true)
+  go None e = inl (unblocked keep steps t x stays keeps o here clear (rw (known, e) refl))
+  go (Some End'.Committed) e = inr (ap was_committed e)
+  go (Some End'.Aborted) e = absurd (false≢true (ap (λ end. not (was_aborted end)) (sym e) ∙ stays_up))
+
+-- a write by its names
+abbrev written : Txn → Ob → ℤ → Option Entry
+written t x v = Some (Write t x v, Reply'.Done)
+
+same_write : (u t : Txn) (y x : Ob) (v : ℤ) → u.0 ≡ t.0 → y.0 ≡ x.0 → written u y v ≡ written t x v
+same_write u t y x v p q = λ i. written (record { 0 = p i }) (record { 0 = q i }) v
+
+-- the first write that stands, of numbered operations that do not block a reader who is alone
+own_or_committed : (entries : List Entry) (keep : ℕ → Bool) (t : Txn) (x : Ob) → keep t.0 ≡ true → ((n : ℕ) → keep n ≡ true → n ≡ t.0) → Keeps keep (permits (applied entries) x.0 Op'.Read)
+    → (numbers : List ℕ) (os : List Operation) → AllAsked keep entries (zip numbers os) → list_any (blocks (applied entries) t.0 x.0 Op'.Read) os ≡ false
+    → ((n : ℕ) → list_any (λ (o : Operation). eqb o.owner n) os ≡ true → lists (initiated (applied entries)) n ≡ true)
+    → IsOwnOrCommitted entries t x (find (stands_on entries x.0) (zip numbers os))
+unfolding AllAsked IsAsked stands_on
+own_or_committed entries keep t x stays alone keeps [] os asked clear known = tt
+own_or_committed entries keep t x stays alone keeps (m ∷ numbers) [] asked clear known = tt
+own_or_committed entries keep t x stays alone keeps (m ∷ numbers) (o ∷ os) asked clear known =
+    go (stands_on entries x.0 (m, o)) refl (own_or_committed entries keep t x stays alone keeps numbers os asked.1 parts.1 (λ n owns. known n (or_right (eqb o.owner n) _ owns))) where
+      parts : (blocks (applied entries) t.0 x.0 Op'.Read o ≡ false) × (list_any (blocks (applied entries) t.0 x.0 Op'.Read) os ≡ false)
+      parts = or_parts (blocks (applied entries) t.0 x.0 Op'.Read o) _ clear
+
+      go : (here : Bool) → stands_on entries x.0 (m, o) ≡ here → IsOwnOrCommitted entries t x (find (stands_on entries x.0) (zip numbers os))
+          → IsOwnOrCommitted entries t x (cond here (Some (m, o)) (find (stands_on entries x.0) (zip numbers os)))
+      go false e rest = rest
+      go true e rest = by (kept_or_committed keep (applied entries) t.0 x.0 stays keeps o found.0 found.1 parts.0 (known o.owner (or_left _ _ (eq-eqb o.owner o.owner refl)))) where
+        found : ((eqb o.object x.0 && is_write o.use_of) ≡ true) × (stands (applied entries) o ≡ true)
+        found = and_parts (eqb o.object x.0 && is_write o.use_of) (stands (applied entries) o) e
+
+        here : (eqb o.object x.0 ≡ true) × (is_write o.use_of ≡ true)
+        here = and_parts (eqb o.object x.0) (is_write o.use_of) found.0
+
+        by : (keep o.owner ≡ true) ⊎ (was_committed (end_of (applied entries) o.owner) ≡ true) → IsOwnOrCommitted entries t x (Some (m, o))
+        by (inr committed) = inr committed
+        by (inl own) = inl (asker.2, asker.3 ∙ same_write asker.0 t asker.1 x asker.2 (alone asker.0.0 (asker.5 ∙ own)) (asker.4 ∙ eqb-true o.object x.0 here.0)) where
+          asker : (u : Txn) × (y : Ob) × (v : ℤ) × (entry_at entries m ≡ Some (Write u y v, Reply'.Done)) × (y.0 ≡ o.object) × (keep u.0 ≡ keep o.owner)
+          asker = asked.0 here.1
+
+-- the source of a value that a transaction read which is alone in its group
+pub alone_source : (opening : Opening) (newer older : List Entry) (t : Txn) (x : Ob) (v : ℤ) → IsLegal opening (newer ++ (Read t x, Reply'.Value v) ∷ older)
+    → IsAlone (newer ++ (Read t x, Reply'.Value v) ∷ older) t.0 → IsOwnOrCommitted older t x (source older x.0)
+unfolding IsLegal RespectsEntries free numbered source takes_effect unrefused
+alone_source opening newer older t x v legal alone =
+    let all = newer ++ (Read t x, Reply'.Value v) ∷ older in
+    let keep = same_group (newer ++ (Read t x, Reply'.Value v) ∷ older) t.0 in
+    let here = legal_rest opening newer ((Read t x, Reply'.Value v) ∷ older) legal in
+    let respects = respects_rest keep newer ((Read t x, Reply'.Value v) ∷ older) (keeps_respects keep all (group_keeps all t.0)) in
+    let alike = kept_alike keep (applied older) (respects_applied keep older respects.1) in
+    let is_free = not_waiting (free (applied older) t.0 x.0 Op'.Read) _ (Reply'.Value v) (effect_answer opening (applied older) (Read t x) (Reply'.Value v) here.0 refl) in
+    own_or_committed older keep t x (group_refl all t.0) alone (alike.permits_keep x.0 Op'.Read) (operation_numbers older) (operations (applied older))
+    (all_asked keep older respects.1) (not-true _ is_free) (legal_orderly opening older here.1).owners_known
+
+-- ---- the value of a source
+
+-- each operation has a number
+numbers_length : (entries : List Entry) → length (operation_numbers entries) ≡ length (operations (applied entries))
+unfolding operation_numbers applied operations operated is_operation
+numbers_length [] = refl
+numbers_length (entry ∷ older) = go (takes_effect entry.0 entry.1) (numbers_length older) where
+  by : (step : Step) → length (operation_numbers older) ≡ length (operations (applied older))
+      → length (cond (is_operation step) (length older ∷ operation_numbers older) (operation_numbers older)) ≡ length (operated step (operations (applied older)))
+  by (Initiate t parent) same = same
+  by (Begin t) same = same
+  by (Read t x) same = ap suc same
+  by (Write t x v) same = ap suc same
+  by (Complete t) same = same
+  by (Permit giver taker obs ops) same = same
+  by (Delegate giver taker obs) same = same ∙ sym (length-map (operations (applied older)) (handed_over giver.0 taker.0 obs))
+  by (Depend kind a b) same = same
+  by (Commit t) same = same
+  by (Abort t) same = same
+  by (WaitFor t) same = same
+
+  go : (effect : Bool) → length (operation_numbers older) ≡ length (operations (applied older))
+      → length (cond (effect && is_operation entry.0) (length older ∷ operation_numbers older) (operation_numbers older)) ≡ length (operations (cond effect (entry.0 ∷ applied older) (applied older)))
+  go true same = by entry.0 same
+  go false same = same
+
+-- the first write that stands gives the value
+value_found : (opening : Opening) (entries : List Entry) (x : ℕ) (numbers : List ℕ) (os : List Operation) → length numbers ≡ length os
+    → value_after (stands (applied entries)) x (opening_value opening x) os ≡ source_value opening x (find (stands_on entries x) (zip numbers os))
+unfolding value_after source_value stands_on is_write after_use
+value_found opening entries x [] [] same = refl
+value_found opening entries x [] (o ∷ os) same = absurd (omega (arith, same))
+value_found opening entries x (m ∷ numbers) [] same = absurd (omega (arith, same))
+value_found opening entries x (m ∷ numbers) (o ∷ os) same = go (eqb o.object x) refl (stands (applied entries) o) refl o.use_of refl (value_found opening entries x numbers os (omega (arith, same))) where
+  Rest : Type 0
+  Rest = value_after (stands (applied entries)) x (opening_value opening x) os ≡ source_value opening x (find (stands_on entries x) (zip numbers os))
+
+  go : (here : Bool) → eqb o.object x ≡ here → (up : Bool) → stands (applied entries) o ≡ up → (how : Use) → o.use_of ≡ how → Rest
+      → cond (here && up) (after_use how (value_after (stands (applied entries)) x (opening_value opening x) os)) (value_after (stands (applied entries)) x (opening_value opening x) os)
+      ≡ source_value opening x (cond (here && is_write how && up) (Some (m, o)) (find (stands_on entries x) (zip numbers os)))
+  go true e true f (writes v) g rest = rw (g) refl
+  go true e true f reads g rest = rest
+  go true e false f (writes v) g rest = rest
+  go true e false f reads g rest = rest
+  go false e up f how g rest = rest
+
+pub source_gives : (opening : Opening) (entries : List Entry) (x : ℕ) → value opening (applied entries) x ≡ source_value opening x (source entries x)
+unfolding value source numbered
+source_gives opening entries x = value_found opening entries x (operation_numbers entries) (operations (applied entries)) (numbers_length entries)

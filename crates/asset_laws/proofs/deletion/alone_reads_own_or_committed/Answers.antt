@@ -1,0 +1,8 @@
+use Rattle.asset_laws.proofs.SourceLemmas.{alone_source, source_gives}
+use Rattle.asset_laws.proofs.deletion.alone_reads_own_or_committed.Goals as goal
+
+pub returns-clause-alone : goal.returns-clause-alone
+returns-clause-alone c = alone_source
+
+pub returns-clause-sourced : goal.returns-clause-sourced
+returns-clause-sourced c = source_gives
