@@ -1,0 +1,3 @@
+pub mod Forest
+pub mod Labelled
+pub mod Numbered
