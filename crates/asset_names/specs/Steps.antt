@@ -1,5 +1,5 @@
 -- Entries of a history, and which of their steps took effect.
-use Rattle.std.specs.Prelude.{ℕ, ℤ, Bool, true, false, cond, ◌==◌, List, [], ◌∷◌, flat_map, Option, None}
+use Rattle.std.specs.Prelude.{ℕ, ℤ, pos, Bool, true, false, cond, ◌==◌, List, [], ◌∷◌, flat_map, Option, None}
 use Rattle.asset_names.specs.declared.names.Txn.{Txn}
 use Rattle.asset_names.specs.declared.names.Ob.{Ob}
 use Rattle.asset_names.specs.declared.steps.Step.{Step}
@@ -28,6 +28,11 @@ takes_effect (Depend kind a b) Reply'.Done = true
 takes_effect (Commit t) Reply'.Committed = true
 takes_effect (Abort t) Reply'.Aborted = true
 takes_effect step reply = false
+
+-- the value that a write asks for, and 0 of another step
+unfoldable pub value_asked : Step → ℤ
+value_asked (Write t x v) = v
+value_asked step = pos 0
 
 -- the steps that took effect, newest first as the entries are
 unfoldable pub applied : List Entry → List Step

@@ -24,4 +24,4 @@ pub use refusals::{
 pub use replies::{Fault, NoMemory, Outcome, Refusal, Reply};
 pub use sets::{MOST_OBJECTS, ObList, ObSet, SetFault};
 pub use statuses::{End, Status};
-pub use steps::{Kind, Step};
+pub use steps::{Kind, Step, value_asked};

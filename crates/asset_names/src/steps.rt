@@ -1,5 +1,8 @@
 //! The steps that clients ask for.
 
+ghost use Rattle.std.specs.Prelude.{◌≡◌};
+ghost use Rattle.asset_names.specs.Steps.{value_asked};
+
 use crate::names::{Ob, Txn};
 use crate::operations::Ops;
 use crate::sets::ObSet;
@@ -75,4 +78,16 @@ pub enum Step {
     WaitFor {
         t: Txn,
     },
+}
+
+/// Returns the value that a write asks for, and 0 for any other step. A signed number from a step is passed on
+/// as the result of a call, so that the proof knows its range.
+#[tactic(auto, unfolding(crate::specs::Steps::value_asked))]
+pub fn value_asked(step: &Step) -> i64
+    ensures { result ≡ value_asked step.now }
+{
+    match *step {
+        Step::Write { v, .. } => v,
+        _ => 0,
+    }
 }
