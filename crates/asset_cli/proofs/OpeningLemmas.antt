@@ -10,7 +10,7 @@ use Rattle.asset_names.specs.Sets.{HasNoDouble}
 use Rattle.asset_names.specs.Operations.{exists, opening_at}
 use Rattle.asset_names.proofs.DoubleLemmas.{no_double_push}
 use Rattle.asset_names.proofs.Common.{eqb-flip}
-use Rattle.asset_core.specs.Recorded.{objects_of}
+use Rattle.asset_core.specs.OpenFaults.{objects_of}
 
 -- an object exists if it comes first or later
 listed_first : (pair : Ob × ℤ) (opening : Opening) (x : ℕ) (here : Bool) → is_some (option_map (λ (pair : Ob × ℤ). pair.1) (find (λ (pair : Ob × ℤ). eqb pair.0.0 x) opening)) ≡ list_any (λ (pair : Ob × ℤ). eqb pair.0.0 x) opening

@@ -1,7 +1,7 @@
 -- What the object lines do.
 use Rattle.std.specs.Prelude.{◌≡◌, ℕ, ◌+◌, List, ◌∷◌}
 use Rattle.asset_names.specs.Steps.{Opening}
-use Rattle.asset_core.specs.Recorded.{opened}
+use Rattle.asset_history.specs.Recorded.{opened}
 use Rattle.asset_cli.specs.declared.preamble.ObjectLine.{ObjectLine}
 use Rattle.asset_cli.specs.declared.preamble.ObjectLine.TheVariants.{More, First, Bad}
 use Rattle.asset_cli.specs.Transcript.{Transcript, objects_transcript, steps_from, stopped, finished}

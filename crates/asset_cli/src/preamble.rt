@@ -1,7 +1,7 @@
 //! The object lines, which stand before the first step.
 ghost use Rattle.std.specs.Prelude.{◌≡◌, ℕ, ◌+◌, ◌^◌, ◌<◌, ◌≤◌, [], length, IfOk, OnOk, IfErr};
 ghost use Rattle.asset_names.specs.Sets.{HasNoDouble};
-ghost use Rattle.asset_core.specs.Recorded.{objects_of};
+ghost use Rattle.asset_core.specs.OpenFaults.{objects_of};
 ghost use Rattle.asset_grammar.specs.Lines.{lines};
 ghost use Rattle.asset_cli.specs.Transcript.{objects_transcript};
 ghost use Rattle.asset_cli.specs.Preamble.{Takes, transcript_from};

@@ -3,7 +3,8 @@
 ghost use Rattle.std.specs.Bool.{OnTrue, OnFalse};
 ghost use Rattle.std.specs.Prelude.{◌≡◌, ℕ, ◌+◌, ◌^◌, ◌<◌, ◌≤◌, List, ◌∷◌, ◌++◌, length, IfOk, OnOk, IfErr, string_bytes};
 ghost use Rattle.asset_names.specs.Sets.{HasNoDouble};
-ghost use Rattle.asset_core.specs.Recorded.{answer_to, objects_of};
+ghost use Rattle.asset_history.specs.Recorded.{answer_to};
+ghost use Rattle.asset_core.specs.OpenFaults.{objects_of};
 ghost use Rattle.asset_core.specs.OpenFaults.{IsCapacity};
 ghost use Rattle.asset_grammar.specs.Lines.{lines};
 ghost use Rattle.asset_cli.specs.Transfers.{input_limit};

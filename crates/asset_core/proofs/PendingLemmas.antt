@@ -29,7 +29,7 @@ use Rattle.asset_locks.specs.LockTable as Locks
 use Rattle.asset_locks.proofs.HandLaws.{handed_name, handed_pending}
 use Rattle.asset_trans.specs.TransRows.{status_in}
 use Rattle.asset_ends.specs.Standing.{Standing, values_of}
-use Rattle.asset_core.specs.Recorded.{after}
+use Rattle.asset_history.specs.Recorded.{after}
 use Rattle.asset_core.specs.Pending.{Pending, asker_after, request_after, new_asker, waiter_of, waiting_for}
 use Rattle.asset_core.specs.Tables.{asker_of, pending_in, locks_after, locks_waiting, released}
 use Rattle.asset_ends.proofs.HistoryLemmas.{lists_pushed, live_quiet, begin_quiet, complete_quiet, read_ends, write_ends}

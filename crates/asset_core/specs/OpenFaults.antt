@@ -1,10 +1,10 @@
 -- When nothing is opened.
+pub use Rattle.asset_objects.specs.Faults.{objects_of}
 use Rattle.std.specs.Prelude.{ℕ, ◌≤◌}
 use Rattle.asset_names.specs.Sets.{IsLeastDouble, HasNoDouble}
 use Rattle.asset_names.specs.Steps.{Opening}
-use Rattle.asset_core.specs.declared.history.OpenFault.{OpenFault}
-use Rattle.asset_core.specs.declared.history.OpenFault.TheVariants.{BadCapacity, DoubleObject, NoMemory}
-use Rattle.asset_core.specs.Recorded.{objects_of}
+use Rattle.asset_core.specs.declared.open_fault.OpenFault.{OpenFault}
+use Rattle.asset_core.specs.declared.open_fault.OpenFault.TheVariants.{BadCapacity, DoubleObject, NoMemory}
 
 -- a capacity from 1 to 1,000,000
 abbrev pub IsCapacity : ℕ → Type 0

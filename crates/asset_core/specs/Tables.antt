@@ -15,15 +15,10 @@ use Rattle.asset_objects.specs.Cells.{cells, value_in, has_object}
 use Rattle.asset_deps.specs.Dependencies.{class_in, doomed_in, would_cycle_in}
 use Rattle.asset_locks.specs.LockTable as Locks
 use Rattle.asset_trans.specs.TransRows.{status_in}
-use Rattle.asset_core.specs.Recorded.{Recorded}
+use Rattle.asset_history.specs.Recorded.{Recorded}
 use Rattle.asset_core.specs.Pending.{Pending}
 use Rattle.asset_ends.specs.Standing.{Standing, values_of, is_free_for, may_commit_in}
 use Rattle.asset_ends.specs.Shows.{Shows}
-
--- the value that a write asks for, and 0 of another step
-unfoldable pub value_asked : Step → ℤ
-value_asked (Write t x v) = v
-value_asked step = pos 0
 
 -- the value of an object, and 0 if there is no such object
 unfoldable pub value_or_zero : Standing → ℕ → ℤ

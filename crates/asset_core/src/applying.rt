@@ -14,22 +14,10 @@ ghost use Rattle.asset_trans.specs.TransRows.{status_in};
 ghost use Rattle.asset_names.specs.Orderly.{IsOrderly};
 ghost use Rattle.asset_ends.specs.Shows.{Shows};
 ghost use Rattle.asset_ends.specs.Standing.{values_of, is_free_for, may_commit_in, ShowAlike};
-ghost use Rattle.asset_core.specs.Tables.{value_asked, IsReady, MayWait, locks_after, locks_waiting, released};
+ghost use Rattle.asset_core.specs.Tables.{IsReady, MayWait, locks_after, locks_waiting, released};
 
 use asset_ends::Tables;
-use asset_names::{NoMemory, Ob, Reply, Step, Txn};
-
-/// Returns the value that a write asks for, and 0 for any other step. A signed number from a step is passed on
-/// as the result of a call, so that the proof knows its range.
-#[tactic(auto, unfolding(crate::specs::Tables::value_asked))]
-pub(crate) fn value_asked(step: &Step) -> i64
-    ensures { result ≡ value_asked step.now }
-{
-    match *step {
-        Step::Write { v, .. } => v,
-        _ => 0,
-    }
-}
+use asset_names::{NoMemory, Ob, Reply, Step, Txn, value_asked};
 
 /// Applies a step if it takes effect, as `effect` says. If memory runs out, the tables show what they did before.
 pub(crate) fn apply_if(

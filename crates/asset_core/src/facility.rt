@@ -3,9 +3,9 @@
 ghost use Rattle.std.specs.Prelude.{◌≡◌};
 ghost use Rattle.asset_names.specs.Room.{initiates};
 
-use crate::history::{History, OpenFault};
-use crate::{answering, applying};
+use crate::{OpenFault, answering, applying};
 use asset_ends::Tables;
+use asset_history::History;
 use asset_names::{Fault, NoMemory, Ob, Op, Outcome, Reply, Status, Step, Txn, takes_effect};
 use asset_objects::ObjectsFault;
 use std::alloc::Global;
@@ -49,7 +49,8 @@ impl Core {
     ghost use Rattle.asset_names.specs.declared.replies.Outcome.TheVariants.{Answer, Wait as Waits};
     ghost use Rattle.asset_names.specs.Room.{initiates, owed, fits, changes_status};
     ghost use Rattle.asset_names.specs.Answers.{takes_memory, outcome_takes_effect};
-    ghost use Rattle.asset_core.specs.Recorded.{objects_of, answer_to, after, with_entry, has_room, is_ending};
+    ghost use Rattle.asset_history.specs.Recorded.{answer_to, after, with_entry, has_room, is_ending};
+    ghost use Rattle.asset_core.specs.OpenFaults.{objects_of};
     ghost use Rattle.asset_core.specs.Pending.{facility_of, pending_after, waiting_for};
     ghost use Rattle.asset_names.specs.Sets.{HasNoDouble};
     ghost use Rattle.asset_core.specs.OpenFaults.{IsCapacity, MayOpen, IsOpenFault};
@@ -126,7 +127,7 @@ impl Core {
     /// owed after it, exceed the capacity. A complete, a commit or an abort that changes a status always finds
     /// room. `NoMemory` can come only if an initiate, a read, a write, a permit, a delegation or a dependency would take
     /// effect. After `Full` and `NoMemory` nothing has changed.
-    #[tactic(auto, unfolding(crate::specs::Recorded::after, crate::specs::Recorded::has_room, crate::specs::Recorded::is_ending, asset_names::specs::Answers::outcome_takes_effect))]
+    #[tactic(auto, unfolding(asset_history::specs::Recorded::after, asset_history::specs::Recorded::has_room, asset_history::specs::Recorded::is_ending, asset_names::specs::Answers::outcome_takes_effect))]
     pub fn step(&mut self, step: Step) -> Result<Outcome, Fault>
         ensures answered { IfOk result (λ outcome. outcome ≡ answer_to self.old.history step) }
         ensures grown { IfOk result (λ outcome. self.new.history ≡ after self.old.history step outcome) }
@@ -217,7 +218,7 @@ impl Core {
         ensures ending { is_ending self.now.history step.now (Answer reply) ≡ true → result ≡ true }
         ensures within { result ≡ true → length self.now.history.entries < self.now.history.capacity }
     {
-        let capacity = self.history.capacity();
+        let capacity = self.history.room();
         if self.is_ending(step, reply, effect) {
             return true;
         }
@@ -241,7 +242,7 @@ impl Core {
         }
         match applying::apply_if(&mut self.tables, step, reply, effect) {
             Ok(()) => {
-                self.history.append(step, reply);
+                self.history.append(*step, reply);
                 Ok(Outcome::Answer(reply))
             }
             Err(_) => Err(Fault::NoMemory),

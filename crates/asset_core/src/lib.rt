@@ -5,11 +5,8 @@
 mod answering;
 mod applying;
 mod facility;
-mod history;
-mod reply_tag;
-mod stored;
-mod stored_set;
-mod stored_sets;
+mod open_fault;
 
+pub use asset_history::History;
 pub use facility::Core;
-pub use history::{History, OpenFault};
+pub use open_fault::OpenFault;

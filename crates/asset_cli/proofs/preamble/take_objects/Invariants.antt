@@ -1,6 +1,6 @@
 use Rattle.std.proofs.Common.{◌≡◌, ℕ, ◌+◌, [], length}
 use Rattle.asset_names.specs.Sets.{HasNoDouble}
-use Rattle.asset_core.specs.Recorded.{objects_of}
+use Rattle.asset_core.specs.OpenFaults.{objects_of}
 use Rattle.asset_grammar.specs.Lines.{lines}
 use Rattle.asset_cli.specs.Transcript.{objects_transcript}
 use Rattle.asset_cli.proofs.preamble.take_objects.Given as goal

@@ -3,7 +3,8 @@ use Rattle.std.proofs.lemmas.Int.{to_z-of_z}
 use Rattle.asset_names.specs.Answers.{takes_memory}
 use Rattle.asset_locks.specs.Valid.{after_ask}
 use Rattle.asset_ends.specs.Standing.{step_if}
-use Rattle.asset_core.specs.Tables.{value_asked, locks_after}
+use Rattle.asset_names.specs.Steps.{value_asked}
+use Rattle.asset_core.specs.Tables.{locks_after}
 use Rattle.asset_ends.proofs.StandingLemmas.{on_ok, always_ok, always_err}
 use Rattle.asset_ends.proofs.ShowsLemmas.{wait_shows}
 use Rattle.asset_core.proofs.applying.apply.Goals as goal

@@ -3,7 +3,7 @@ use Rattle.std.proofs.lemmas.Bool.{le-leb, leb-true, true≢false}
 use Rattle.asset_names.specs.Steps.{applied}
 use Rattle.asset_names.specs.Room.{fits}
 use Rattle.asset_names.proofs.RoomLemmas.{ending_fits}
-use Rattle.asset_core.specs.Recorded.{answer_to, has_room, is_ending}
+use Rattle.asset_history.specs.Recorded.{answer_to, has_room, is_ending}
 use Rattle.asset_core.proofs.facility.Core.has_room.Goals as goal
 
 pub returns-then-is_ending-clause-room : goal.returns-then-is_ending-clause-room
@@ -25,7 +25,7 @@ returns-then-is_ending-clause-within c = λ _.
 
 pub returns-clause-room : goal.returns-clause-room
 unfolding has_room fits
-returns-clause-room c = rw (c.len.ensures.len, c.owed_after.ensures.owed, c.capacity-capacity.ensures, ← c.self.view_is) refl
+returns-clause-room c = rw (c.len.ensures.len, c.owed_after.ensures.owed, c.room-capacity.ensures, ← c.self.view_is) refl
 
 pub returns-clause-ending : goal.returns-clause-ending
 unfolding is_ending

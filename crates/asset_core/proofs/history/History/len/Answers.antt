@@ -1,6 +1,0 @@
-use Rattle.std.proofs.Common.{arith}
-use Rattle.asset_core.proofs.StoredLemmas.{entries_length}
-use Rattle.asset_core.proofs.history.History.len.Goals as goal
-
-pub returns-clause-len : goal.returns-clause-len
-returns-clause-len c = rw (← c.self.view_is) (omega (arith, c.len.ensures, entries_length c.self.inside.sets.sets c.self.inside.entries.items))

@@ -1,0 +1,3 @@
+pub mod TagLemmas
+pub mod StoredLemmas
+pub mod StoredSetLemmas

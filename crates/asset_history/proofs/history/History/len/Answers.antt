@@ -1,0 +1,9 @@
+use Rattle.std.proofs.Common.{arith}
+use Rattle.asset_history.proofs.StoredLemmas.{entries_length}
+use Rattle.asset_history.proofs.history.History.len.Goals as goal
+
+pub returns-clause-len : goal.returns-clause-len
+returns-clause-len c = rw (← c.self.view_is) (omega (arith, c.len.ensures, entries_length c.self.inside.sets.sets c.self.inside.entries.items))
+
+pub returns-clause-within : goal.returns-clause-within
+returns-clause-within c = rw (← c.self.view_is) (omega (arith, entries_length c.self.inside.sets.sets c.self.inside.entries.items, c.self.invariant.within))

@@ -1,0 +1,18 @@
+use Rattle.std.proofs.Common.{arith, refl}
+use Rattle.asset_names.specs.Answers.{IsLegal}
+use Rattle.asset_history.specs.Stored.{entries_of, all_have_sets}
+use Rattle.asset_history.proofs.history.History.with_room.Goals as goal
+
+pub invariant_of-result : goal.invariant_of-result
+unfolding IsLegal entries_of all_have_sets
+invariant_of-result c =
+    let taken = c.in_ok-with_capacity.ensures in
+    let sets_room = c.in_ok-with_room.ensures in
+    record {
+      legal = rw taken.items tt;
+      there = rw taken.items refl;
+      fewer = rw (taken.items, sets_room.sets) (omega arith);
+      within = rw taken.items (omega arith);
+      taken = taken.capacity;
+      taken_sets = omega (arith, sets_room.room);
+    }

@@ -1,0 +1,136 @@
+//! A history: the opening, and the entries in order.
+
+use crate::stored::Stored;
+use crate::stored_set::push_set;
+use crate::stored_sets::StoredSets;
+use asset_names::{NoMemory, Ob, Reply, Step};
+use std::alloc::{AllocError, Global};
+use std::marker::Model;
+
+/// The opening values of the objects, and the entries: each is a step with its reply. A history is always
+/// legal: each reply is the one answer to its step after the entries before it. Contracts see the opening, the
+/// entries with the newest first, and the capacity.
+#[derive(Drop)]
+pub struct History {
+    opening: Vec<(Ob, i64)>,
+    entries: Vec<Stored>,
+    sets: StoredSets,
+    capacity: usize,
+}
+
+impl Model for History {
+    ghost use Rattle.std.specs.Prelude.{vec_capacity};
+    ghost use Rattle.asset_history.specs.Recorded.{Recorded};
+    ghost use Rattle.asset_history.specs.Stored.{entries_of, IsValid};
+
+    ghost Value = { Recorded };
+
+    ghost view = { λ h. record { opening = h.opening.items; entries = entries_of h.sets.sets h.entries.items; capacity = h.capacity } };
+
+    ghost invariant = { λ h. IsValid h.opening.items h.entries.items h.sets.sets h.capacity (vec_capacity h.entries) h.sets.room };
+}
+
+impl History {
+    ghost use Rattle.std.specs.Prelude.{◌≡◌, ◌<◌, ◌≤◌, ◌↔◌, [], length, reverse, slice_get, IfOk, IsTrue};
+    ghost use Rattle.asset_names.specs.Answers.{IsLegal};
+    ghost use Rattle.asset_names.specs.declared.replies.Outcome.TheVariants.{Answer};
+    ghost use Rattle.asset_history.specs.Recorded.{opened, answer_to, with_entry};
+
+    /// Returns a history of these opening values without entries, with room for `capacity` of them. It takes that
+    /// room here, and fails if memory runs out.
+    pub fn open(alloc: Global, opening: &[(Ob, i64)], capacity: usize) -> Result<History, NoMemory>
+        ensures { IfOk result (λ history. history ≡ opened opening.now capacity) }
+    {
+        match History::with_room(alloc, opening, capacity) {
+            Ok(history) => Ok(history),
+            Err(_) => Err(NoMemory),
+        }
+    }
+
+    /// Returns a history without entries, as `open` does.
+    #[tactic(auto, unfolding(crate::specs::Recorded::opened, crate::specs::Stored::entries_of))]
+    fn with_room(
+        alloc: Global,
+        opening: &[(Ob, i64)],
+        capacity: usize,
+    ) -> Result<History, AllocError>
+        ensures { IfOk result (λ history. history ≡ opened opening.now capacity) }
+    {
+        Ok(History {
+            opening: opening.to_vec(alloc)?,
+            entries: Vec::with_capacity(alloc, capacity)?,
+            sets: StoredSets::with_room(alloc, capacity)?,
+            capacity,
+        })
+    }
+
+    /// Returns a history of the same opening values with the same room, without entries. It takes that room here, and
+    /// fails if memory runs out.
+    pub fn empty_like(&self) -> Result<History, NoMemory>
+        ensures { IfOk result (λ history. history ≡ opened self.now.opening self.now.capacity) }
+    {
+        History::open(*self.entries.allocator(), self.opening(), self.room())
+    }
+
+    /// Returns the objects with their opening values, in the order in which they were given.
+    pub fn opening(&self) -> &[(Ob, i64)]
+        ensures { result.now ≡ self.now.opening }
+    {
+        self.opening.as_slice()
+    }
+
+    /// Returns the number of entries.
+    pub fn len(&self) -> usize
+        ensures len { result ≡ length self.now.entries }
+        ensures within { length self.now.entries ≤ self.now.capacity }
+        ensures legal { IsLegal self.now.opening self.now.entries }
+    {
+        self.entries.len()
+    }
+
+    /// Returns whether there is no entry.
+    pub fn is_empty(&self) -> bool
+        ensures { IsTrue result ↔ (self.now.entries ≡ []) }
+    {
+        self.len() == 0
+    }
+
+    /// Returns the entry at the index, oldest first from 0, and `None` past the end.
+    pub fn entry(&self, index: usize) -> Option<(Step, Reply)>
+        ensures entry { result ≡ slice_get (reverse self.now.entries) index }
+        ensures legal { IsLegal self.now.opening self.now.entries }
+    {
+        match self.entries.get(index) {
+            Some(stored) => Some(stored.entry(&self.sets)),
+            None => None,
+        }
+    }
+
+    /// Returns the number of entries that there is room for in all.
+    pub fn room(&self) -> usize
+        ensures { result ≡ self.now.capacity }
+    {
+        self.capacity
+    }
+
+    /// Appends the step with its reply, which is its one answer here. The room was taken when the history was
+    /// opened, so it does not allocate.
+    pub fn append(&mut self, step: Step, reply: Reply)
+        requires answer { answer_to self.old step ≡ Answer reply }
+        requires room { length self.old.entries < self.old.capacity }
+        ensures { self.new ≡ with_entry self.old step reply }
+    {
+        self.append_lent(&step, reply);
+    }
+
+    /// Appends the step with its reply, as `append` does.
+    fn append_lent(&mut self, step: &Step, reply: Reply)
+        requires answer { answer_to self.old step.now ≡ Answer reply }
+        requires room { length self.old.entries < self.old.capacity }
+        ensures { self.new ≡ with_entry self.old step.now reply }
+    {
+        let stored = Stored::of(step, reply, self.sets.len());
+        push_set(&mut self.sets, step);
+        self.entries.push(stored).unwrap();
+    }
+}

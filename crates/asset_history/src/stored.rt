@@ -1,0 +1,204 @@
+//! How entries are stored: in 32 bytes each. The set of objects of a permit or a delegation, which is large, stands in a list of sets,
+//! and the entry has its index.
+
+use crate::reply_tag::{ReplyTag, value_read};
+use crate::stored_set::{missing_at, object_at};
+use crate::stored_sets::StoredSets;
+use asset_names::{Kind, Ob, Ops, Reply, Step, Txn, value_asked};
+use std::mem::size_of;
+
+/// An entry as it is stored: the step, and the tag of its reply. A read has the value that it read, or 0. The tag comes
+/// first, because fields lie in this order, and so it fits beside that of the variant.
+#[derive(Clone, Copy)]
+pub(crate) enum Stored {
+    Initiate {
+        tag: ReplyTag,
+        t: Txn,
+        parent: Option<Txn>,
+    },
+    Begin {
+        tag: ReplyTag,
+        t: Txn,
+    },
+    Read {
+        tag: ReplyTag,
+        t: Txn,
+        x: Ob,
+        v: i64,
+    },
+    Write {
+        tag: ReplyTag,
+        t: Txn,
+        x: Ob,
+        v: i64,
+    },
+    Complete {
+        tag: ReplyTag,
+        t: Txn,
+    },
+    /// Its set is the stored one at the index `set`; a refusal may say that the object at the index `missing` of that
+    /// set does not exist.
+    Permit {
+        tag: ReplyTag,
+        missing: u8,
+        ops: Ops,
+        set: usize,
+        giver: Txn,
+        taker: Txn,
+    },
+    /// Its set and the missing object are as those of a permit.
+    Delegate {
+        tag: ReplyTag,
+        missing: u8,
+        set: usize,
+        giver: Txn,
+        taker: Txn,
+    },
+    Depend {
+        tag: ReplyTag,
+        kind: Kind,
+        a: Txn,
+        b: Txn,
+    },
+    Commit {
+        tag: ReplyTag,
+        t: Txn,
+    },
+    Abort {
+        tag: ReplyTag,
+        t: Txn,
+    },
+    WaitFor {
+        tag: ReplyTag,
+        t: Txn,
+    },
+}
+
+const _: () = prove!(size_of::<Stored>() == 32);
+
+impl Stored {
+    ghost use Rattle.std.specs.Prelude.{◌≡◌, true, length};
+    ghost use Rattle.asset_history.specs.Stored.{stored_as, entry_of, permit_entry, delegate_entry, value_stored, has_set};
+
+    /// Returns the entry as it is stored, if `count` sets are stored.
+    #[tactic(auto, unfolding(crate::specs::Stored::stored_as, asset_names::specs::Steps::value_asked))]
+    pub(crate) fn of(step: &Step, reply: Reply, count: usize) -> Stored
+        ensures { result ≡ stored_as count step.now reply }
+    {
+        let tag = ReplyTag::of(reply);
+        match *step {
+            Step::Initiate { t, parent } => Stored::Initiate { tag, t, parent },
+            Step::Begin { t } => Stored::Begin { tag, t },
+            Step::Read { t, x } => Stored::Read {
+                tag,
+                t,
+                x,
+                v: value_read(reply),
+            },
+            Step::Write { t, x, .. } => Stored::Write {
+                tag,
+                t,
+                x,
+                v: value_asked(step),
+            },
+            Step::Complete { t } => Stored::Complete { tag, t },
+            Step::Permit {
+                giver,
+                taker,
+                obs,
+                ops,
+            } => Stored::Permit {
+                tag: ReplyTag::of_two(giver, reply),
+                missing: missing_at(&obs, reply),
+                ops,
+                set: count,
+                giver,
+                taker,
+            },
+            Step::Delegate { giver, taker, obs } => Stored::Delegate {
+                tag: ReplyTag::of_two(giver, reply),
+                missing: missing_at(&obs, reply),
+                set: count,
+                giver,
+                taker,
+            },
+            Step::Depend { kind, a, b } => Stored::Depend {
+                tag: ReplyTag::of_two(a, reply),
+                kind,
+                a,
+                b,
+            },
+            Step::Commit { t } => Stored::Commit { tag, t },
+            Step::Abort { t } => Stored::Abort { tag, t },
+            Step::WaitFor { t } => Stored::WaitFor { tag, t },
+        }
+    }
+
+    /// Returns the entry, whose set, if it has one, is among the stored sets.
+    #[tactic(auto, unfolding(crate::specs::Stored::entry_of, crate::specs::Stored::value_stored, crate::specs::Stored::permit_entry, crate::specs::Stored::delegate_entry, crate::specs::StoredSets::set_or_all, crate::specs::Stored::has_set))]
+    pub(crate) fn entry(&self, sets: &StoredSets) -> (Step, Reply)
+        requires there { has_set (length sets.now.sets) self.now ≡ true }
+        ensures { result ≡ entry_of sets.now.sets self.now }
+    {
+        match *self {
+            Stored::Initiate { tag, t, parent } => {
+                (Step::Initiate { t, parent }, tag.about_name(t))
+            }
+            Stored::Begin { tag, t } => (Step::Begin { t }, tag.about_name(t)),
+            Stored::Read { tag, t, x, .. } => (Step::Read { t, x }, tag.about(t, x, self.value())),
+            Stored::Write { tag, t, x, .. } => {
+                let v = self.value();
+                (Step::Write { t, x, v }, tag.about(t, x, 0))
+            }
+            Stored::Complete { tag, t } => (Step::Complete { t }, tag.about_name(t)),
+            Stored::Permit {
+                tag,
+                missing,
+                ops,
+                set,
+                giver,
+                taker,
+            } => {
+                let obs = sets.set(set);
+                let reply = tag.about_two(giver, taker, object_at(&obs, missing));
+                let step = Step::Permit {
+                    giver,
+                    taker,
+                    obs,
+                    ops,
+                };
+                (step, reply)
+            }
+            Stored::Delegate {
+                tag,
+                missing,
+                set,
+                giver,
+                taker,
+            } => {
+                let obs = sets.set(set);
+                let reply = tag.about_two(giver, taker, object_at(&obs, missing));
+                (Step::Delegate { giver, taker, obs }, reply)
+            }
+            Stored::Depend { tag, kind, a, b } => (
+                Step::Depend { kind, a, b },
+                tag.about_two(a, b, Ob::default()),
+            ),
+            Stored::Commit { tag, t } => (Step::Commit { t }, tag.about_name(t)),
+            Stored::Abort { tag, t } => (Step::Abort { t }, tag.about_name(t)),
+            Stored::WaitFor { tag, t } => (Step::WaitFor { t }, tag.about_name(t)),
+        }
+    }
+
+    /// Returns the value that a stored entry reads or writes, and 0 for any other.
+    #[tactic(auto, unfolding(crate::specs::Stored::value_stored))]
+    fn value(&self) -> i64
+        ensures { result ≡ value_stored self.now }
+    {
+        match *self {
+            Stored::Read { v, .. } => v,
+            Stored::Write { v, .. } => v,
+            _ => 0,
+        }
+    }
+}

@@ -1,0 +1,63 @@
+//! The set of objects of an entry, and the object of it that a refusal is about.
+
+ghost use Rattle.std.specs.Prelude.{◌≡◌, ◌<◌, ◌≤◌, length};
+ghost use Rattle.asset_history.specs.Stored.{missing_at, object_at, position, sets_after};
+
+use crate::stored_sets::StoredSets;
+use asset_names::{Ob, ObSet, Refusal, Reply, Step};
+
+/// Returns the index of the object in the list, and the length of the list if it is not there.
+fn position(objects: &[Ob], x: Ob) -> usize
+    ensures index { result ≡ position x objects.now }
+    ensures within { result ≤ length objects.now }
+{
+    let mut index = 0;
+    'objects: while index < objects.len() {
+        if objects[index].0 == x.0 {
+            return index;
+        }
+        index += 1;
+    }
+    index
+}
+
+/// Returns the index in its set of the object that the reply says is missing, and 0 for any other reply.
+#[tactic(auto, unfolding(crate::specs::Stored::missing_at))]
+pub(crate) fn missing_at(obs: &ObSet, reply: Reply) -> u8
+    ensures { result ≡ missing_at obs.now reply }
+{
+    match (obs, reply) {
+        (ObSet::Listed(list), Reply::Refused(Refusal::NoObject(x))) => {
+            position(list.objects(), x) as u8
+        }
+        _ => 0,
+    }
+}
+
+/// Returns the object at the index of a set, and the default object past the end.
+#[tactic(auto, unfolding(crate::specs::Stored::object_at))]
+pub(crate) fn object_at(obs: &ObSet, index: u8) -> Ob
+    ensures { result ≡ object_at obs.now index }
+{
+    match obs {
+        ObSet::All => Ob::default(),
+        ObSet::Listed(list) => match list.objects().get(index as usize) {
+            Some(x) => *x,
+            None => Ob::default(),
+        },
+    }
+}
+
+/// Appends the set of a permit or a delegation to the sets, whose room is reserved. Any other step has none.
+#[tactic(auto, unfolding(crate::specs::Stored::sets_after))]
+pub(crate) fn push_set(sets: &mut StoredSets, step: &Step)
+    requires room { length sets.old.sets < sets.old.room }
+    ensures sets { sets.new.sets ≡ sets_after step.now sets.old.sets }
+    ensures room { sets.new.room ≡ sets.old.room }
+{
+    match step {
+        Step::Permit { obs, .. } => sets.push(obs),
+        Step::Delegate { obs, .. } => sets.push(obs),
+        _ => {}
+    }
+}
