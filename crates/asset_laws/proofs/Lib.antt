@@ -11,3 +11,5 @@ pub mod GroupLemmas
 pub mod SharingLemmas
 pub mod SourceLemmas
 pub mod GroupCases
+pub mod ShapeLemmas
+pub mod RelabelLemmas

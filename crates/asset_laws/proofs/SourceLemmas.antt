@@ -203,7 +203,7 @@ alone_source opening newer older t x v legal alone =
 -- ---- the value of a source
 
 -- each operation has a number
-numbers_length : (entries : List Entry) → length (operation_numbers entries) ≡ length (operations (applied entries))
+pub numbers_length : (entries : List Entry) → length (operation_numbers entries) ≡ length (operations (applied entries))
 unfolding operation_numbers applied operations operated is_operation
 numbers_length [] = refl
 numbers_length (entry ∷ older) = go (takes_effect entry.0 entry.1) (numbers_length older) where

@@ -1,1 +1,2 @@
 pub mod Textbook
+pub mod Relabelled

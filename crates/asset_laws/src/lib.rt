@@ -8,6 +8,7 @@ mod laws;
 pub use deletion::{
     alone_reads_own_or_committed, conflicting_holders_share_a_group,
     dead_groups_have_not_committed, history_without_dead_groups_is_legal,
+    sources_are_read_as_numbers,
 };
 pub use dependencies::{
     abort_takes_the_least, classes_are_never_split, no_cycle_stands, path_is_leading,

@@ -1,0 +1,250 @@
+-- A legal history with the numbers of entries in place of values is legal, and each object has the number of its source.
+use Rattle.std.proofs.Common.{◌≡◌, ℕ, suc, ℤ, pos, Bool, true, false, cond, not, eqb, ◌&&◌, List, [], ◌∷◌, map, length, refl, sym, ◌∙◌, ap, None, Some}
+use Rattle.std.specs.Prelude.{Option, find, zip, is_some, option_map, unwrap_or}
+use Rattle.asset_names.specs.declared.names.Ob.{Ob}
+use Rattle.asset_names.specs.declared.operations.Op.TheVariants as Op'
+use Rattle.asset_names.specs.declared.sets.ObSet.{ObSet}
+use Rattle.asset_names.specs.declared.sets.ObSet.TheVariants.{All, Listed}
+use Rattle.asset_names.specs.declared.steps.Step.{Step}
+use Rattle.asset_names.specs.declared.steps.Step.TheVariants.{Initiate, Begin, Read, Write, Complete, Permit, Delegate, Depend, Commit, Abort, WaitFor}
+use Rattle.asset_names.specs.declared.replies.Refusal.{Refusal}
+use Rattle.asset_names.specs.declared.replies.Reply.{Reply}
+use Rattle.asset_names.specs.declared.replies.Reply.TheVariants as Reply'
+use Rattle.asset_names.specs.declared.replies.Outcome.TheVariants.{Answer}
+use Rattle.asset_names.specs.InSet.{in_set}
+use Rattle.asset_names.specs.Steps.{Opening, Entry, takes_effect, applied}
+use Rattle.asset_names.specs.Endings.{end_of}
+use Rattle.asset_names.specs.Operations.{Use, reads, writes, Operation, handed_over, operated, operations, free, was_aborted, stands, exists, opening_at, opening_value, after_use, value_after, value}
+use Rattle.asset_names.specs.Answers.{unknown, ended, not_running, taken, begun_before, too_late, no_object, cycle, missing_in, missing_rule, no_object_of, rules_for, first_refusal, unrefused, outcome_unless, answer, IsLegal}
+use Rattle.asset_names.specs.Sources.{Numbered, is_operation, is_write, operation_numbers, numbered, stands_on, source}
+use Rattle.asset_laws.specs.Relabelled.{source_number, writing, reading, relabelled, zeroed}
+use Rattle.asset_laws.proofs.AnswersAlike.{not_waiting}
+use Rattle.asset_laws.proofs.ShapeLemmas.{IsSameShape, shape, status_same, would_cycle_same, may_commit_same, free_same, same_more}
+
+-- ---- the opening
+
+zeroed_at : (opening : Opening) (x : ℕ) → opening_at (zeroed opening) x ≡ option_map (λ (v : ℤ). pos 0) (opening_at opening x)
+unfolding opening_at zeroed
+zeroed_at [] x = refl
+zeroed_at (given ∷ opening) x = go (eqb given.0.0 x) (zeroed_at opening x) where
+  zero_of : Ob × ℤ → Ob × ℤ
+  zero_of pair = (pair.0, pos 0)
+
+  first : Opening → Option (Ob × ℤ)
+  first pairs = find (λ (pair : Ob × ℤ). eqb pair.0.0 x) pairs
+
+  go : (here : Bool) → option_map (λ (pair : Ob × ℤ). pair.1) (first (zeroed opening)) ≡ option_map (λ (v : ℤ). pos 0) (option_map (λ (pair : Ob × ℤ). pair.1) (first opening))
+      → option_map (λ (pair : Ob × ℤ). pair.1) (cond here (Some (zero_of given)) (first (zeroed opening))) ≡ option_map (λ (v : ℤ). pos 0) (option_map (λ (pair : Ob × ℤ). pair.1) (cond here (Some given) (first opening)))
+  go true rest = refl
+  go false rest = rest
+
+exists_zeroed : (opening : Opening) → exists (zeroed opening) ≡ exists opening
+unfolding exists
+exists_zeroed opening = λ i x. (ap is_some (zeroed_at opening x) ∙ some (opening_at opening x)) i where
+  some : (found : Option ℤ) → is_some (option_map (λ (v : ℤ). pos 0) found) ≡ is_some found
+  some None = refl
+  some (Some v) = refl
+
+value_zeroed : (opening : Opening) (x : ℕ) → opening_value (zeroed opening) x ≡ pos 0
+unfolding opening_value
+value_zeroed opening x = ap (λ found. unwrap_or found (pos 0)) (zeroed_at opening x) ∙ none (opening_at opening x) where
+  none : (found : Option ℤ) → unwrap_or (option_map (λ (v : ℤ). pos 0) found) (pos 0) ≡ pos 0
+  none None = refl
+  none (Some v) = refl
+
+missing_zeroed : (opening : Opening) (obs : ObSet) → no_object_of (zeroed opening) obs ≡ no_object_of opening obs
+unfolding no_object_of missing_in
+missing_zeroed opening All = refl
+missing_zeroed opening (Listed list) = λ i. missing_rule (find (λ (x : Ob). not (exists_zeroed opening i x.0)) list)
+
+-- ---- steps
+
+-- the same steps take effect
+effect_same : (n : ℕ) (older : List Entry) (step : Step) (reply : Reply) → takes_effect (writing n step) (reading older step reply) ≡ takes_effect step reply
+unfolding writing reading takes_effect
+effect_same n older (Initiate t parent) reply = refl
+effect_same n older (Begin t) reply = refl
+effect_same n older (Read t x) Reply'.Done = refl
+effect_same n older (Read t x) (Reply'.Value v) = refl
+effect_same n older (Read t x) Reply'.Committed = refl
+effect_same n older (Read t x) Reply'.Aborted = refl
+effect_same n older (Read t x) (Reply'.Refused refusal) = refl
+effect_same n older (Write t x v) reply = by reply where
+  by : (reply : Reply) → takes_effect (Write t x (pos (suc n))) reply ≡ takes_effect (Write t x v) reply
+  by Reply'.Done = refl
+  by (Reply'.Value w) = refl
+  by Reply'.Committed = refl
+  by Reply'.Aborted = refl
+  by (Reply'.Refused refusal) = refl
+effect_same n older (Complete t) reply = refl
+effect_same n older (Permit giver taker obs ops) reply = refl
+effect_same n older (Delegate giver taker obs) reply = refl
+effect_same n older (Depend kind a b) reply = refl
+effect_same n older (Commit t) reply = refl
+effect_same n older (Abort t) reply = refl
+effect_same n older (WaitFor t) reply = refl
+
+same_none : IsSameShape [] []
+unfolding shape
+same_none = record { initiated_same = refl; begun_same = refl; completed_same = refl; ends_same = λ n. refl; dependencies_same = λ kind. refl; shapes_same = refl; permits_same = λ x op. refl }
+
+-- the steps that take effect say the same but for the values that are written
+pub relabelled_same : (entries : List Entry) → IsSameShape (applied (relabelled entries)) (applied entries)
+unfolding applied relabelled
+relabelled_same [] = same_none
+relabelled_same (entry ∷ older) = rw (effect_same (length older) older entry.0 entry.1) (go (takes_effect entry.0 entry.1) (relabelled_same older)) where
+  go : (effect : Bool) → IsSameShape (applied (relabelled older)) (applied older)
+      → IsSameShape (cond effect (writing (length older) entry.0 ∷ applied (relabelled older)) (applied (relabelled older))) (cond effect (entry.0 ∷ applied older) (applied older))
+  go true same = same_more (applied (relabelled older)) (applied older) same (length older) entry.0
+  go false same = same
+
+-- ---- operations
+
+-- what a use becomes, and an operation: a write writes its number
+relabelled_use : ℕ → Use → Use
+relabelled_use m reads = reads
+relabelled_use m (writes v) = writes (pos (suc m))
+
+as_number : Numbered → Operation
+as_number found = record { owner = found.1.owner; object = found.1.object; use_of = relabelled_use found.0 found.1.use_of }
+
+handed_numbers : (giver taker : ℕ) (obs : ObSet) (numbers : List ℕ) (os : List Operation) → map (handed_over giver taker obs) (map as_number (zip numbers os)) ≡ map as_number (zip numbers (map (handed_over giver taker obs) os))
+unfolding handed_over as_number
+handed_numbers giver taker obs [] os = refl
+handed_numbers giver taker obs (m ∷ numbers) [] = refl
+handed_numbers giver taker obs (m ∷ numbers) (o ∷ os) = λ i. one (eqb o.owner giver && in_set obs o.object) i ∷ handed_numbers giver taker obs numbers os i where
+  one : (moves : Bool) → cond moves (record (as_number (m, o)) { owner = taker }) (as_number (m, o)) ≡ as_number (m, cond moves (record o { owner = taker }) o)
+  one true = refl
+  one false = refl
+
+-- the operations are the numbered ones, each write with its number
+numbered_operations : (entries : List Entry) → operations (applied (relabelled entries)) ≡ map as_number (zip (operation_numbers entries) (operations (applied entries)))
+unfolding applied relabelled operation_numbers operations operated is_operation writing as_number relabelled_use
+numbered_operations [] = refl
+numbered_operations (entry ∷ older) = rw (effect_same (length older) older entry.0 entry.1) (go (takes_effect entry.0 entry.1) (numbered_operations older)) where
+  Rest : Type 0
+  Rest = operations (applied (relabelled older)) ≡ map as_number (zip (operation_numbers older) (operations (applied older)))
+
+  by : (step : Step) → Rest → operated (writing (length older) step) (operations (applied (relabelled older)))
+      ≡ map as_number (zip (cond (is_operation step) (length older ∷ operation_numbers older) (operation_numbers older)) (operated step (operations (applied older))))
+  by (Initiate t parent) rest = rest
+  by (Begin t) rest = rest
+  by (Read t x) rest = ap (λ os. record { owner = t.0; object = x.0; use_of = reads } ∷ os) rest
+  by (Write t x v) rest = ap (λ os. record { owner = t.0; object = x.0; use_of = writes (pos (suc (length older))) } ∷ os) rest
+  by (Complete t) rest = rest
+  by (Permit giver taker obs ops) rest = rest
+  by (Delegate giver taker obs) rest = ap (map (handed_over giver.0 taker.0 obs)) rest ∙ handed_numbers giver.0 taker.0 obs (operation_numbers older) (operations (applied older))
+  by (Depend kind a b) rest = rest
+  by (Commit t) rest = rest
+  by (Abort t) rest = rest
+  by (WaitFor t) rest = rest
+
+  go : (effect : Bool) → Rest → operations (cond effect (writing (length older) entry.0 ∷ applied (relabelled older)) (applied (relabelled older)))
+      ≡ map as_number (zip (cond (effect && is_operation entry.0) (length older ∷ operation_numbers older) (operation_numbers older)) (operations (cond effect (entry.0 ∷ applied older) (applied older))))
+  go true rest = by entry.0 rest
+  go false rest = rest
+
+-- ---- values
+
+-- the value after numbered operations is the number of the first write that stands
+number_found : (entries : List Entry) (ones : List Step) → ((n : ℕ) → end_of ones n ≡ end_of (applied entries) n) → (x : ℕ) (numbers : List ℕ) (os : List Operation)
+    → value_after (stands ones) x (pos 0) (map as_number (zip numbers os)) ≡ source_number (find (stands_on entries x) (zip numbers os))
+unfolding value_after source_number stands_on stands is_write after_use as_number relabelled_use
+number_found entries ones ends x [] os = refl
+number_found entries ones ends x (m ∷ numbers) [] = refl
+number_found entries ones ends x (m ∷ numbers) (o ∷ os) = rw (ends o.owner) (go (eqb o.object x) (not (was_aborted (end_of (applied entries) o.owner))) o.use_of (number_found entries ones ends x numbers os)) where
+  Rest : Type 0
+  Rest = value_after (stands ones) x (pos 0) (map as_number (zip numbers os)) ≡ source_number (find (stands_on entries x) (zip numbers os))
+
+  go : (here up : Bool) (how : Use) → Rest
+      → cond (here && up) (after_use (relabelled_use m how) (value_after (stands ones) x (pos 0) (map as_number (zip numbers os)))) (value_after (stands ones) x (pos 0) (map as_number (zip numbers os)))
+      ≡ source_number (cond (here && is_write how && up) (Some (m, o)) (find (stands_on entries x) (zip numbers os)))
+  go true true (writes v) rest = refl
+  go true true reads rest = rest
+  go true false (writes v) rest = rest
+  go true false reads rest = rest
+  go false up how rest = rest
+
+-- each object has the number of its source
+pub value_is_source : (opening : Opening) (entries : List Entry) (x : ℕ) → value (zeroed opening) (applied (relabelled entries)) x ≡ source_number (source entries x)
+unfolding value source numbered
+value_is_source opening entries x =
+    rw (value_zeroed opening x, numbered_operations entries)
+    (number_found entries (applied (relabelled entries)) (relabelled_same entries).ends_same x (operation_numbers entries) (operations (applied entries)))
+
+-- ---- answers
+
+rules_same : (opening : Opening) (ones others : List Step) → IsSameShape ones others → (n : ℕ) (step : Step) → rules_for (zeroed opening) ones (writing n step) ≡ rules_for opening others step
+unfolding rules_for unknown ended not_running taken begun_before too_late no_object cycle writing
+rules_same opening ones others same n (Initiate t parent) = rw (status_same ones others same t.0) refl
+rules_same opening ones others same n (Begin t) = rw (status_same ones others same t.0) refl
+rules_same opening ones others same n (Read t x) = rw (status_same ones others same t.0, ap (λ e. e x.0) (exists_zeroed opening)) refl
+rules_same opening ones others same n (Write t x v) = rw (status_same ones others same t.0, ap (λ e. e x.0) (exists_zeroed opening)) refl
+rules_same opening ones others same n (Complete t) = rw (status_same ones others same t.0) refl
+rules_same opening ones others same n (Permit giver taker obs ops) = rw (status_same ones others same giver.0, status_same ones others same taker.0, missing_zeroed opening obs) refl
+rules_same opening ones others same n (Delegate giver taker obs) = rw (status_same ones others same giver.0, status_same ones others same taker.0, missing_zeroed opening obs) refl
+rules_same opening ones others same n (Depend kind a b) = rw (status_same ones others same a.0, status_same ones others same b.0, would_cycle_same ones others same kind a.0 b.0) refl
+rules_same opening ones others same n (Commit t) = rw (status_same ones others same t.0) refl
+rules_same opening ones others same n (Abort t) = rw (status_same ones others same t.0) refl
+rules_same opening ones others same n (WaitFor t) = rw (status_same ones others same t.0) refl
+
+-- a refusal is read as it is
+reading_refused : (older : List Entry) (step : Step) (refusal : Refusal) → reading older step (Reply'.Refused refusal) ≡ Reply'.Refused refusal
+unfolding reading
+reading_refused older (Initiate t parent) refusal = refl
+reading_refused older (Begin t) refusal = refl
+reading_refused older (Read t x) refusal = refl
+reading_refused older (Write t x v) refusal = refl
+reading_refused older (Complete t) refusal = refl
+reading_refused older (Permit giver taker obs ops) refusal = refl
+reading_refused older (Delegate giver taker obs) refusal = refl
+reading_refused older (Depend kind a b) refusal = refl
+reading_refused older (Commit t) refusal = refl
+reading_refused older (Abort t) refusal = refl
+reading_refused older (WaitFor t) refusal = refl
+
+unrefused_same : (opening : Opening) (ones : List Step) (older : List Entry) → IsSameShape ones (applied older) → ((x : ℕ) → value (zeroed opening) ones x ≡ source_number (source older x)) → (n : ℕ) (step : Step) (reply : Reply)
+    → unrefused opening (applied older) step ≡ Answer reply → unrefused (zeroed opening) ones (writing n step) ≡ Answer (reading older step reply)
+unfolding unrefused writing reading
+unrefused_same opening ones older same sources n (Initiate t parent) reply is = is
+unrefused_same opening ones older same sources n (Begin t) reply is = is
+unrefused_same opening ones older same sources n (Read t x) reply is =
+    let is_free = not_waiting (free (applied older) t.0 x.0 Op'.Read) _ reply is in
+    rw (free_same ones (applied older) same t.0 x.0 Op'.Read, is_free, sources x.0) (by reply (rw is_free at is)) where
+      by : (reply : Reply) → Answer (Reply'.Value (value opening (applied older) x.0)) ≡ Answer reply → Answer (Reply'.Value (source_number (source older x.0))) ≡ Answer (reading older (Read t x) reply)
+      by (Reply'.Value v) h = refl
+      by Reply'.Done h = cc
+      by Reply'.Committed h = cc
+      by Reply'.Aborted h = cc
+      by (Reply'.Refused refusal) h = cc
+unrefused_same opening ones older same sources n (Write t x v) reply is = rw (free_same ones (applied older) same t.0 x.0 Op'.Write) is
+unrefused_same opening ones older same sources n (Complete t) reply is = is
+unrefused_same opening ones older same sources n (Permit giver taker obs ops) reply is = is
+unrefused_same opening ones older same sources n (Delegate giver taker obs) reply is = is
+unrefused_same opening ones older same sources n (Depend kind a b) reply is = is
+unrefused_same opening ones older same sources n (Commit t) reply is = rw (status_same ones (applied older) same t.0, may_commit_same ones (applied older) same t.0) is
+unrefused_same opening ones older same sources n (Abort t) reply is = is
+unrefused_same opening ones older same sources n (WaitFor t) reply is = rw (status_same ones (applied older) same t.0) is
+
+relabelled_answer : (opening : Opening) (entry : Entry) (older : List Entry) → answer opening (applied older) entry.0 ≡ Answer entry.1
+    → answer (zeroed opening) (applied (relabelled older)) (writing (length older) entry.0) ≡ Answer (reading older entry.0 entry.1)
+unfolding answer outcome_unless
+relabelled_answer opening entry older is =
+    rw (rules_same opening (applied (relabelled older)) (applied older) (relabelled_same older) (length older) entry.0) (go (first_refusal (rules_for opening (applied older) entry.0)) is) where
+      refused : (refusal : Refusal) (reply : Reply) → Answer (Reply'.Refused refusal) ≡ Answer reply → Answer (Reply'.Refused refusal) ≡ Answer (reading older entry.0 reply)
+      refused refusal (Reply'.Refused other) h = h ∙ ap Answer (sym (reading_refused older entry.0 other))
+      refused refusal Reply'.Done h = cc
+      refused refusal (Reply'.Value v) h = cc
+      refused refusal Reply'.Committed h = cc
+      refused refusal Reply'.Aborted h = cc
+
+      go : (first : Option Refusal) → outcome_unless first (unrefused opening (applied older) entry.0) ≡ Answer entry.1
+          → outcome_unless first (unrefused (zeroed opening) (applied (relabelled older)) (writing (length older) entry.0)) ≡ Answer (reading older entry.0 entry.1)
+      go None h = unrefused_same opening (applied (relabelled older)) older (relabelled_same older) (value_is_source opening older) (length older) entry.0 entry.1 h
+      go (Some refusal) h = refused refusal entry.1 h
+
+-- the history with numbers in place of values is legal
+pub relabelled_legal : (opening : Opening) (entries : List Entry) → IsLegal opening entries → IsLegal (zeroed opening) (relabelled entries)
+unfolding IsLegal relabelled
+relabelled_legal opening [] legal = legal
+relabelled_legal opening (entry ∷ older) legal = (relabelled_answer opening entry older legal.0, relabelled_legal opening older legal.1)

@@ -1,0 +1,33 @@
+-- A history in which each write writes the number of its entry, so that each read reads the number of its source.
+use Rattle.std.specs.Prelude.{ℕ, suc, ℤ, pos, List, [], ◌∷◌, length, map, Option, None, Some}
+use Rattle.asset_names.specs.declared.names.Ob.{Ob}
+use Rattle.asset_names.specs.declared.steps.Step.{Step}
+use Rattle.asset_names.specs.declared.steps.Step.TheVariants.{Read, Write}
+use Rattle.asset_names.specs.declared.replies.Reply.{Reply}
+use Rattle.asset_names.specs.declared.replies.Reply.TheVariants.{Value}
+use Rattle.asset_names.specs.Steps.{Opening, Entry}
+use Rattle.asset_names.specs.Sources.{Numbered, source}
+
+-- the number of a source, counted from 1; 0 is the opening
+unfoldable pub source_number : Option Numbered → ℤ
+source_number None = pos 0
+source_number (Some found) = pos (suc found.0)
+
+-- the step with this number, from 0: a write writes its number, counted from 1
+unfoldable pub writing : ℕ → Step → Step
+writing n (Write t x v) = Write t x (pos (suc n))
+writing n step = step
+
+-- the reply to a step after the older entries: a read reads the number of its source
+unfoldable pub reading : List Entry → Step → Reply → Reply
+reading older (Read t x) (Value v) = Value (source_number (source older x.0))
+reading older step reply = reply
+
+-- the entries with numbers in place of values
+unfoldable pub relabelled : List Entry → List Entry
+relabelled [] = []
+relabelled (entry ∷ older) = (writing (length older) entry.0, reading older entry.0 entry.1) ∷ relabelled older
+
+-- the opening with 0 in place of each value
+unfoldable pub zeroed : Opening → Opening
+zeroed opening = map (λ (given : Ob × ℤ). (given.0, pos 0)) opening
