@@ -31,6 +31,8 @@ mod handing;
 #[cfg(test)]
 mod handing_writes;
 #[cfg(test)]
+mod history;
+#[cfg(test)]
 mod labels;
 #[cfg(test)]
 mod locks;
