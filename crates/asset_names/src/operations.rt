@@ -99,4 +99,11 @@ impl Ops {
             Op::Write => self.write,
         }
     }
+
+    /// Says what holds of all sets, for proofs. It does nothing.
+    pub fn laws(self)
+        ensures { (self.read || self.write) ≡ true }
+    {
+        let _ = self.read;
+    }
 }
