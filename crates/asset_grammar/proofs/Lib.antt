@@ -1,5 +1,5 @@
 pub mod LineLemmas
 pub mod NumberLemmas
 mod GrammarCases
-mod NumberLaws
+pub mod NumberLaws
 pub mod SetLemmas

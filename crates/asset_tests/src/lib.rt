@@ -47,6 +47,8 @@ mod objects_beside_list;
 #[cfg(test)]
 mod permits;
 #[cfg(test)]
+mod printing;
+#[cfg(test)]
 mod records;
 #[cfg(test)]
 mod reference;

@@ -1,0 +1,64 @@
+//! Sets of objects as words.
+ghost use Rattle.std.specs.Prelude.{◌≡◌, ◌++◌, ◌<◌, ◌≤◌, ◌^◌, ◌∷◌, OnOk, Some, length, string_bytes};
+ghost use Rattle.std.specs.Fmt.{decimal};
+ghost use Rattle.asset_grammar.specs.Lines.{Lacks};
+ghost use Rattle.asset_grammar.specs.Sets.{set_of};
+ghost use Rattle.asset_printing.specs.Printed.{AreNumbers, list_text, more_text, set_text};
+
+use asset_names::{Ob, ObSet};
+use std::alloc::AllocError;
+
+/// Appends a number. It is passed by itself, so that the proof knows its range.
+fn push_number(text: &mut String, number: u64) -> Result<(), AllocError>
+    ensures text { OnOk result (string_bytes text.new ≡ string_bytes text.old ++ decimal number) }
+    ensures small { number < 2 ^ 64 }
+{
+    write!(text, "{number}")
+}
+
+/// Appends a comma and a number.
+fn push_further(text: &mut String, number: u64) -> Result<(), AllocError>
+    ensures text { OnOk result (string_bytes text.new ≡ string_bytes text.old ++ 44 ∷ decimal number) }
+    ensures small { number < 2 ^ 64 }
+{
+    write!(text, ",{number}")
+}
+
+/// Appends the numbers of the objects, each after a comma.
+fn push_more(text: &mut String, objects: &[Ob]) -> Result<(), AllocError>
+    ensures text { OnOk result (string_bytes text.new ≡ string_bytes text.old ++ more_text objects.now) }
+    ensures small { OnOk result (AreNumbers objects.now) }
+{
+    'objects: for x in objects {
+        push_further(text, x.0)?;
+    }
+    Ok(())
+}
+
+/// Appends the numbers of the objects, with commas between them.
+#[tactic(auto, unfolding(crate::specs::Printed::list_text))]
+fn push_list(text: &mut String, objects: &[Ob]) -> Result<(), AllocError>
+    ensures text { OnOk result (string_bytes text.new ≡ string_bytes text.old ++ list_text objects.now) }
+    ensures small { OnOk result (AreNumbers objects.now) }
+{
+    match objects.split_first() {
+        None => Ok(()),
+        Some((first, rest)) => {
+            push_number(text, first.0)?;
+            push_more(text, rest)
+        }
+    }
+}
+
+/// Appends a set of objects as a word.
+#[tactic(auto, unfolding(crate::specs::Printed::set_text))]
+pub(crate) fn push_set(text: &mut String, obs: &ObSet) -> Result<(), AllocError>
+    ensures text { OnOk result (string_bytes text.new ≡ string_bytes text.old ++ set_text obs.now) }
+    ensures reads { OnOk result (set_of (set_text obs.now) ≡ Some obs.now) }
+    ensures word { OnOk result (Lacks 32 (set_text obs.now)) }
+{
+    match obs {
+        ObSet::All => text.push_str("all"),
+        ObSet::Listed(list) => push_list(text, list.objects()),
+    }
+}
