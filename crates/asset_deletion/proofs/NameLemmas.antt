@@ -1,0 +1,77 @@
+-- Names in order of first use, entry by entry.
+use Rattle.std.proofs.Common.{◌≡◌, ℕ, ◌+◌, ◌<◌, true, false, cond, eqb, List, [], ◌∷◌, ◌++◌, length, get_or, take, reverse, refl, sym, ap, ◌∙◌, arith, inl, inr, Some, None}
+use Rattle.std.specs.Prelude.{Option, slice_get}
+use Rattle.std.specs.List.{list_any}
+use Rattle.std.specs.Option.{option_map}
+use Rattle.std.proofs.lemmas.Bool.{eqb-true}
+use Rattle.std.proofs.lemmas.List.{length-append, get_or_append_left, take_more, reverse-append}
+use Rattle.std.proofs.lemmas.Option.{slice_get_cases, slice_get_within, get_or_from_slice_get}
+use Rattle.indexmap.specs.IndexSet.{insert_key}
+use Rattle.asset_names.specs.declared.names.Txn.{Txn}
+use Rattle.asset_names.specs.Arrows.{lists}
+use Rattle.asset_names.specs.Steps.{Entry}
+use Rattle.asset_names.specs.Groups.{actor, partner, same_group}
+use Rattle.asset_names.proofs.Common.{eqb-flip}
+use Rattle.asset_names.proofs.ListLemmas.{any_alike}
+use Rattle.asset_deletion.specs.Named.{both_of, with_name, names_of, joined}
+use Rattle.asset_deletion.proofs.MeansLemmas.{entry_joins}
+
+-- ---- one more name
+pub listed_as : (names : List ℕ) (n : ℕ) → list_any (eqb n) names ≡ lists names n
+unfolding lists
+listed_as names n = any_alike (eqb n) (λ m. eqb m n) names (λ m. eqb-flip n m)
+
+pub inserted : (names : List ℕ) (n : ℕ) → insert_key eqb names n ≡ with_name names n
+unfolding with_name
+inserted names n = ap (λ b. cond b names (names ++ n ∷ [])) (listed_as names n)
+
+pub with_new : (names : List ℕ) (n : ℕ) → lists names n ≡ false → with_name names n ≡ names ++ n ∷ []
+unfolding with_name
+with_new names n new = ap (λ b. cond b names (names ++ n ∷ [])) new
+
+pub with_old : (names : List ℕ) (n : ℕ) → lists names n ≡ true → with_name names n ≡ names
+unfolding with_name
+with_old names n old = ap (λ b. cond b names (names ++ n ∷ [])) old
+
+-- the names before stay where they are
+pub with_name_at : (names : List ℕ) (n k : ℕ) → k < length names → (k < length (with_name names n)) × (get_or (with_name names n) k 0 ≡ get_or names k 0)
+unfolding with_name
+with_name_at names n k below = elim (lists names n) as (λ b. (k < length (cond b names (names ++ n ∷ []))) × (get_or (cond b names (names ++ n ∷ [])) k 0 ≡ get_or names k 0)) [
+  | true ↦ (below, refl)
+  | false ↦ (omega (arith, length-append names (n ∷ [])), get_or_append_left names (n ∷ []) 0 k below)
+]
+
+pub name_at : (names : List ℕ) (k n m : ℕ) → slice_get names k ≡ Some m → eqb n m ≡ true → get_or names k 0 ≡ n
+name_at names k n m at is = get_or_from_slice_get names k m 0 at ∙ sym (eqb-true n m is)
+
+-- ---- one more entry
+pub next_entry : (entries : List Entry) (i : ℕ) (entry : Entry) → slice_get entries i ≡ Some entry → reverse (take (i + 1) entries) ≡ entry ∷ reverse (take i entries)
+next_entry entries i entry at =
+    ap reverse (take_more entries i entry (slice_get_within entries i entry at)) ∙ reverse-append (take i entries) (get_or entries i entry ∷ [])
+    ∙ ap (λ (x : Entry). x ∷ reverse (take i entries)) (get_or_from_slice_get entries i entry entry at)
+
+abbrev pair : Txn → Txn → Txn × Txn
+pair t u = (t, u)
+
+-- what the entry at i adds to the names and joins
+pub entry_named : (entries : List Entry) (i : ℕ) (t u : Txn) → Some (pair t u) ≡ option_map both_of (slice_get entries i)
+    → (names_of (reverse (take (i + 1) entries)) ≡ with_name (with_name (names_of (reverse (take i entries))) t.0) u.0)
+    × ((n m : ℕ) → joined (same_group (reverse (take i entries))) t.0 u.0 n m ≡ same_group (reverse (take (i + 1) entries)) n m)
+unfolding names_of
+entry_named entries i t u is = go (slice_get entries i) refl is where
+  go : (found : Option Entry) → slice_get entries i ≡ found → Some (pair t u) ≡ option_map both_of found
+      → (names_of (reverse (take (i + 1) entries)) ≡ with_name (with_name (names_of (reverse (take i entries))) t.0) u.0)
+      × ((n m : ℕ) → joined (same_group (reverse (take i entries))) t.0 u.0 n m ≡ same_group (reverse (take (i + 1) entries)) n m)
+  go None at is = absurd (cc)
+  go (Some entry) at is =
+      let same : pair t u ≡ both_of entry = cc in
+      let first : t ≡ actor entry.0 = ap (λ (p : Txn × Txn). p.0) same in
+      let second : u ≡ partner entry.0 = ap (λ (p : Txn × Txn). p.1) same in
+      rw (first, second, next_entry entries i entry at) (refl, λ n m. sym (entry_joins entry (reverse (take i entries)) n m))
+
+-- there is no entry past the end
+pub entry_there : (entries : List Entry) (i : ℕ) → i < length entries → None ≡ option_map both_of (slice_get entries i) → ⊥
+entry_there entries i below none = elim (slice_get_cases entries i).1 [
+  | inl here ↦ let is : None ≡ option_map both_of (Some here.0) = rw here.2 at none in cc
+  | inr past ↦ omega (arith, past.0)
+]

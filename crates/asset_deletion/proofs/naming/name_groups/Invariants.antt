@@ -1,0 +1,13 @@
+use Rattle.std.proofs.Common.{◌≡◌, take, reverse}
+use Rattle.asset_names.specs.Groups.{same_group}
+use Rattle.asset_deletion.specs.Named.{names_of, Means}
+use Rattle.asset_deletion.proofs.naming.name_groups.Given as goal
+
+-- the first entries are named and joined
+abbrev pub invariant-entries : goal.invariant-entries
+invariant-entries l =
+    let older = reverse (take l.i (reverse l.history.entries)) in
+    record {
+      names : l.names.keys ≡ names_of older;
+      means : Means (same_group older) l.names.keys l.labels;
+    }

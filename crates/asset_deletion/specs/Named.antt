@@ -1,0 +1,37 @@
+-- Names in order of first use, and labels that say which of them are of one group.
+use Rattle.std.specs.Prelude.{◌≡◌, ℕ, ◌<◌, ◌≤◌, Bool, false, cond, ◌&&◌, ◌||◌, nat_eq, List, [], ◌∷◌, ◌++◌, length, slice_index}
+use Rattle.asset_names.specs.declared.names.Txn.{Txn}
+use Rattle.asset_names.specs.Arrows.{lists}
+use Rattle.asset_names.specs.Steps.{Entry}
+use Rattle.asset_names.specs.Groups.{actor, partner}
+
+-- the two transactions that the entry's step acts on
+abbrev pub both_of : Entry → Txn × Txn
+both_of entry = (actor entry.0, partner entry.0)
+
+-- the names with one more, unless it is listed
+unfoldable pub with_name : List ℕ → ℕ → List ℕ
+with_name names n = cond (lists names n) names (names ++ n ∷ [])
+
+-- the transactions that the entries' steps act on, in order of first use, and of a step the first before the second
+unfoldable pub names_of : List Entry → List ℕ
+names_of [] = []
+names_of (entry ∷ older) = with_name (with_name (names_of older) (actor entry.0).0) (partner entry.0).0
+
+-- n leads to m as before, or by one arrow from a to b
+unfoldable pub along : (ℕ → ℕ → Bool) → ℕ → ℕ → ℕ → ℕ → Bool
+along leads a b n m = leads n m || leads n a && leads b m
+
+-- n leads to m as before, or by a join of a and b
+unfoldable pub joined : (ℕ → ℕ → Bool) → ℕ → ℕ → ℕ → ℕ → Bool
+joined leads a b n m = along (along leads b a) a b n m
+
+-- Each name's label is the index of the first name that it leads to or comes from, and two names have one label if they
+-- lead to each other. A name that is not listed leads to itself alone.
+pub record Means (leads : ℕ → ℕ → Bool) (names labels : List ℕ) : Type 0 where
+  pub long : length labels ≡ length names
+  pub low : (k : ℕ) → k < length names → slice_index labels k ≤ k
+  pub own : (k : ℕ) → k < length names → slice_index labels (slice_index labels k) ≡ slice_index labels k
+  pub same : (i j : ℕ) → i < length names → j < length names → nat_eq (slice_index labels i) (slice_index labels j) ≡ leads (slice_index names i) (slice_index names j)
+  pub first : (n m : ℕ) → lists names n ≡ false → leads n m ≡ nat_eq n m
+  pub second : (n m : ℕ) → lists names m ≡ false → leads n m ≡ nat_eq n m

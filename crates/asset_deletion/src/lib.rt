@@ -1,0 +1,7 @@
+//! Groups of a history, and the history without its dead groups.
+#![tactic(auto)]
+
+mod acting;
+mod naming;
+
+pub use acting::{actor, partner};
