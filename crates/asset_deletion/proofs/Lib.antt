@@ -1,2 +1,4 @@
 pub mod MeansLemmas
 pub mod NameLemmas
+pub mod DeadLemmas
+pub mod MarkLemmas

@@ -58,7 +58,7 @@ lists_at names n i below is = list_any_at (λ m. eqb m n) names i 0 below (eq-eq
 unlisted : (names : List ℕ) (n i : ℕ) → lists names n ≡ false → i < length names → eqb n (get_or names i 0) ≡ false
 unlisted names n i not below = ne_eqb n (get_or names i 0) (λ is. false≢true (sym not ∙ lists_at names n i below (sym is)))
 
-unlisted_back : (names : List ℕ) (n i : ℕ) → lists names n ≡ false → i < length names → eqb (get_or names i 0) n ≡ false
+pub unlisted_back : (names : List ℕ) (n i : ℕ) → lists names n ≡ false → i < length names → eqb (get_or names i 0) n ≡ false
 unlisted_back names n i not below = ne_eqb (get_or names i 0) n (λ is. false≢true (sym not ∙ lists_at names n i below is))
 
 -- ---- a join of two listed names

@@ -1,1 +1,2 @@
+pub mod Committing
 pub mod Named

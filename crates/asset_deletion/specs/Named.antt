@@ -35,3 +35,11 @@ pub record Means (leads : ℕ → ℕ → Bool) (names labels : List ℕ) : Type
   pub same : (i j : ℕ) → i < length names → j < length names → nat_eq (slice_index labels i) (slice_index labels j) ≡ leads (slice_index names i) (slice_index names j)
   pub first : (n m : ℕ) → lists names n ≡ false → leads n m ≡ nat_eq n m
   pub second : (n m : ℕ) → lists names m ≡ false → leads n m ≡ nat_eq n m
+
+-- Each name has the number of its group, below the count, and two names have one number if they lead to each other.
+-- Nothing else leads to a name that is not listed.
+pub record IsNumbered (leads : ℕ → ℕ → Bool) (names numbers : List ℕ) (count : ℕ) : Type 0 where
+  pub long : length numbers ≡ length names
+  pub below : (k : ℕ) → k < length names → slice_index numbers k < count
+  pub same : (i j : ℕ) → i < length names → j < length names → nat_eq (slice_index numbers i) (slice_index numbers j) ≡ leads (slice_index names i) (slice_index names j)
+  pub second : (n m : ℕ) → lists names m ≡ false → leads n m ≡ nat_eq n m

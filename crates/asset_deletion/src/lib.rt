@@ -2,6 +2,7 @@
 #![tactic(auto)]
 
 mod acting;
+mod marking;
 mod naming;
 
 pub use acting::{actor, partner};
