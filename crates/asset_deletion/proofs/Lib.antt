@@ -2,3 +2,4 @@ pub mod MeansLemmas
 pub mod NameLemmas
 pub mod DeadLemmas
 pub mod MarkLemmas
+pub mod GroupingLemmas

@@ -1,2 +1,3 @@
 pub mod Committing
+pub mod Grouping
 pub mod Named

@@ -1,8 +1,12 @@
-//! Groups of a history, and the history without its dead groups.
+//! Groups of a history: transactions that shared something, or asked to. Only want of memory is a fault.
 #![tactic(auto)]
 
 mod acting;
+mod grouped;
+mod grouping;
 mod marking;
 mod naming;
 
 pub use acting::{actor, partner};
+pub use grouped::Groups;
+pub use grouping::groups;

@@ -1,0 +1,53 @@
+//! The call that finds the groups of a history.
+
+ghost use Rattle.std.specs.Prelude.{◌≡◌, IfOk};
+ghost use Rattle.asset_names.specs.Groups.{same_group};
+ghost use Rattle.asset_deletion.specs.Grouping.{grouping_of};
+ghost use Rattle.asset_deletion.specs.Named.{names_of, Means};
+
+use crate::grouped::Groups;
+use crate::marking::mark_committed;
+use crate::naming::name_groups;
+use asset_history::History;
+use asset_labels::Labels;
+use asset_names::NoMemory;
+use indexmap::IndexSet;
+use std::alloc::Global;
+
+/// Returns the groups of a history, or `NoMemory` if memory runs out. It goes over the entries twice, and takes time that
+/// is nearly in proportion to them.
+pub fn groups(alloc: Global, history: &History) -> Result<Groups, NoMemory>
+    ensures { IfOk result (λ g. g ≡ grouping_of history.now.entries) }
+{
+    let mut names = IndexSet::new(alloc);
+    let mut labels = Labels::new(alloc);
+    match name_groups(history, &mut names, &mut labels) {
+        Ok(()) => with_numbers(alloc, history, names, labels),
+        Err(_) => Err(NoMemory),
+    }
+}
+
+/// Returns the groups of the names by their labels.
+fn with_numbers(
+    alloc: Global,
+    history: &History,
+    names: IndexSet<u64>,
+    labels: Labels,
+) -> Result<Groups, NoMemory>
+    requires names { names.keys ≡ names_of history.now.entries }
+    requires means { Means (same_group history.now.entries) names.keys labels }
+    ensures { IfOk result (λ g. g ≡ grouping_of history.now.entries) }
+{
+    let numbers = labels.into_numbers();
+    match vec![in alloc; true; numbers.count] {
+        Ok(mut is_dead) => {
+            mark_committed(history, &names, &numbers.numbers, &mut is_dead);
+            Ok(Groups {
+                names,
+                numbers: numbers.numbers,
+                is_dead,
+            })
+        }
+        Err(_) => Err(NoMemory),
+    }
+}
