@@ -1,5 +1,5 @@
 -- The numbers of groups, and what they say of entries.
-use Rattle.std.proofs.Common.{◌≡◌, ℕ, ◌+◌, ◌<◌, ◌≤◌, Bool, true, not, cond, ltb, ◌&&◌, eqb, List, [], ◌∷◌, ◌++◌, length, get_or, map, refl, sym, ap, subst, ◌∙◌, arith, suc, zero, inl, inr, ◌⊎◌, Some, None, false}
+use Rattle.std.proofs.Common.{◌≡◌, ℕ, ◌<◌, ◌≤◌, Bool, true, not, cond, ltb, ◌&&◌, eqb, List, [], ◌∷◌, ◌++◌, length, get_or, map, refl, sym, ap, subst, ◌∙◌, arith, suc, inl, inr, ◌⊎◌, Some, None, false}
 use Rattle.std.specs.Prelude.{Option, position, is_some}
 use Rattle.std.specs.List.{position_or_len, list_any}
 use Rattle.std.proofs.lemmas.Bool.{ltb-false, cases_eq, cases_lt, eq-eqb, ne_eqb, eqb-true, or_cases, false≢true}
@@ -43,18 +43,18 @@ numbers_same labels n i j long low own is_i is_j =
     rw (number_at labels i (omega arith), number_at labels j (omega arith)) (elim (cases_eq a b) [
       | inl same ↦ eq-eqb (groups_before labels a) (groups_before labels b) (ap (groups_before labels) same) ∙ sym (eq-eqb a b same)
       | inr other ↦ ne_eqb (groups_before labels a) (groups_before labels b) (λ same. elim (cases_lt a b) [
-          | inl less ↦ omega (arith, before_more labels b a less (own i is_i))
-          | inr more ↦ omega (arith, before_more labels a b (omega arith) (own j is_j))
-        ]) ∙ sym (ne_eqb a b other)
+        | inl less ↦ omega (arith, before_more labels b a less (own i is_i))
+        | inr more ↦ omega (arith, before_more labels a b (omega arith) (own j is_j))
+      ]) ∙ sym (ne_eqb a b other)
     ])
 
 pub numbers_mean : (leads : ℕ → ℕ → Bool) (names labels : List ℕ) → Means leads names labels → IsNumbered leads names (group_numbers labels) (group_count labels)
 unfolding group_count
 numbers_mean leads names labels means = record {
-    long = numbers_long labels ∙ means.long;
-    below = λ k below. rw (number_at labels k (omega (arith, means.long))) (before_more labels (length labels) (get_or labels k 0) (omega (arith, means.long, means.low k below)) (means.own k below));
-    same = λ i j is_i is_j. numbers_same labels (length names) i j means.long means.low means.own is_i is_j ∙ means.same i j is_i is_j;
-    second = means.second;
+  long = numbers_long labels ∙ means.long;
+  below = λ k below. rw (number_at labels k (omega (arith, means.long))) (before_more labels (length labels) (get_or labels k 0) (omega (arith, means.long, means.low k below)) (means.own k below));
+  same = λ i j is_i is_j. numbers_same labels (length names) i j means.long means.low means.own is_i is_j ∙ means.same i j is_i is_j;
+  second = means.second;
 }
 
 -- ---- each history has labels
@@ -71,8 +71,11 @@ one_named : (leads : ℕ → ℕ → Bool) (names labels : List ℕ) (n : ℕ) �
 one_named leads names labels n means = go (lists names n) refl where
   go : (b : Bool) → lists names n ≡ b → (more : List ℕ) × (Means leads (with_name names n) more) × (lists (with_name names n) n ≡ true)
   go true e = (labels, rw (with_old names n e) means, rw (with_old names n e) e)
-  go false e = (labels ++ length labels ∷ [], rw (with_new names n e) (named_means leads names labels n means e),
-      rw (with_new names n e) (lists_at (names ++ n ∷ []) n (length names) (omega (arith, length_push names n)) (get_or_push names n 0 (length names) refl)))
+  go false e = (
+    labels ++ length labels ∷ [],
+    rw (with_new names n e) (named_means leads names labels n means e),
+    rw (with_new names n e) (lists_at (names ++ n ∷ []) n (length names) (omega (arith, length_push names n)) (get_or_push names n 0 (length names) refl)),
+  )
 
 two_named : (leads : ℕ → ℕ → Bool) (names labels : List ℕ) (a b : ℕ) → Means leads names labels → (more : List ℕ) × Means (joined leads a b) (with_name (with_name names a) b) more
 two_named leads names labels a b means =
@@ -114,11 +117,11 @@ grouping_is entries names numbers labels is_dead named means numbered counted ma
     let numbers_are : numbers ≡ group_numbers (first_labels (same_group entries) (names_of entries)) = numbered ∙ ap group_numbers first in
     let count_is : length is_dead ≡ group_count (first_labels (same_group entries) (names_of entries)) = counted ∙ ap group_count first in
     let dead_are : map (λ g. get_or is_dead g false) numbers ≡ map (dead entries) (names_of entries) =
-        ext_get_or false (map (λ g. get_or is_dead g false) numbers) (map (dead entries) names) (length-map numbers (λ g. get_or is_dead g false) ∙ long ∙ sym (length-map names (dead entries)))
-        (λ k below.
-        let inside : k < length numbers = omega (arith, length-map numbers (λ g. get_or is_dead g false)) in
-        get_or-map (λ g. get_or is_dead g false) numbers k 0 false inside ∙ marked k (omega arith) ∙ sym (get_or-map (dead entries) names k 0 false (omega arith)))
-        ∙ ap (map (dead entries)) named in
+    ext_get_or false (map (λ g. get_or is_dead g false) numbers) (map (dead entries) names) (length-map numbers (λ g. get_or is_dead g false) ∙ long ∙ sym (length-map names (dead entries)))
+    (λ k below.
+    let inside : k < length numbers = omega (arith, length-map numbers (λ g. get_or is_dead g false)) in
+    get_or-map (λ g. get_or is_dead g false) numbers k 0 false inside ∙ marked k (omega arith) ∙ sym (get_or-map (dead entries) names k 0 false (omega arith)))
+    ∙ ap (map (dead entries)) named in
     λ i. record { names = named i; numbers = numbers_are i; count = count_is i; dead = dead_are i }
 
 -- ---- what a grouping says of entries

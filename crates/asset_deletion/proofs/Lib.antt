@@ -3,3 +3,4 @@ pub mod NameLemmas
 pub mod DeadLemmas
 pub mod MarkLemmas
 pub mod GroupingLemmas
+pub mod WithoutLemmas

@@ -1,5 +1,5 @@
 -- The groups of a history as callers see them.
-use Rattle.std.specs.Prelude.{ℕ, Bool, true, false, ◌==◌, nat_eq, List, map, Option, Some, None, position, slice_index, slice_index_or}
+use Rattle.std.specs.Prelude.{ℕ, Bool, false, ◌==◌, nat_eq, List, map, Option, Some, None, position, slice_index, slice_index_or}
 use Rattle.std.specs.List.{position_or_len}
 use Rattle.std.specs.Option.{option_map}
 use Rattle.asset_names.specs.declared.names.Txn.{Txn}
@@ -23,10 +23,10 @@ first_labels leads names = map (λ n. position_or_len (λ m. leads m n) names) n
 -- the groups of entries, numbered in order of their first names
 unfoldable pub grouping_of : List Entry → Grouping
 grouping_of entries = record {
-    names = names_of entries;
-    numbers = group_numbers (first_labels (same_group entries) (names_of entries));
-    count = group_count (first_labels (same_group entries) (names_of entries));
-    dead = map (dead entries) (names_of entries);
+  names = names_of entries;
+  numbers = group_numbers (first_labels (same_group entries) (names_of entries));
+  count = group_count (first_labels (same_group entries) (names_of entries));
+  dead = map (dead entries) (names_of entries);
 }
 
 -- a transaction by its name

@@ -20,10 +20,10 @@ impl Model for Groups {
     ghost Value = { Grouping };
 
     ghost view = { λ g. record {
-        names = g.names.keys;
-        numbers = g.numbers.items;
-        count = length g.is_dead.items;
-        dead = map (λ k. slice_index_or g.is_dead.items k false) g.numbers.items
+      names = g.names.keys;
+      numbers = g.numbers.items;
+      count = length g.is_dead.items;
+      dead = map (λ k. slice_index_or g.is_dead.items k false) g.numbers.items;
     } };
 
     ghost invariant = { λ g. (length g.numbers.items ≡ length g.names.keys)

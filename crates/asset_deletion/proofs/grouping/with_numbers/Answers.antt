@@ -1,7 +1,6 @@
-use Rattle.std.proofs.Common.{◌≡◌, ◌<◌, length, List, ℕ, sym, ap, ◌∙◌, arith}
+use Rattle.std.proofs.Common.{◌≡◌, length, arith}
 use Rattle.asset_names.specs.Groups.{same_group}
-use Rattle.asset_labels.specs.Numbered.{group_numbers, group_count}
-use Rattle.asset_deletion.specs.Named.{IsNumbered}
+use Rattle.asset_labels.specs.Numbered.{group_count}
 use Rattle.asset_deletion.proofs.GroupingLemmas.{numbers_mean, grouping_is}
 use Rattle.asset_deletion.proofs.grouping.with_numbers.Goals as goal
 

@@ -1,11 +1,7 @@
-use Rattle.std.proofs.Common.{◌≡◌, ℕ, List, length, get_or, Some, None, refl, sym, ap, ◌∙◌, arith}
+use Rattle.std.proofs.Common.{◌≡◌, get_or, refl, ap, ◌∙◌, arith}
 use Rattle.std.specs.Prelude.{is_some}
-use Rattle.std.specs.Option.{option_map}
 use Rattle.std.proofs.lemmas.List.{get_or_read}
-use Rattle.asset_names.specs.Steps.{Entry}
-use Rattle.asset_names.specs.Arrows.{lists}
-use Rattle.asset_deletion.specs.Named.{names_of}
-use Rattle.asset_deletion.specs.Grouping.{Grouping, grouping_of, number_in}
+use Rattle.asset_deletion.specs.Grouping.{Grouping, number_in}
 use Rattle.asset_deletion.proofs.MarkLemmas.{listed_where}
 use Rattle.asset_deletion.proofs.GroupingLemmas.{named_in_group}
 use Rattle.asset_deletion.proofs.grouped.Groups.of.Goals as goal

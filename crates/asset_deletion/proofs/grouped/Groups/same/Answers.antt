@@ -1,4 +1,4 @@
-use Rattle.std.proofs.Common.{◌≡◌, refl, sym, ap, ◌∙◌}
+use Rattle.std.proofs.Common.{refl, ap, ◌∙◌}
 use Rattle.asset_deletion.specs.Grouping.{Grouping, number_in, same_number}
 use Rattle.asset_deletion.proofs.GroupingLemmas.{same_in_group}
 use Rattle.asset_deletion.proofs.grouped.Groups.same.Goals as goal
