@@ -135,7 +135,7 @@ fn label_in(list: &[usize], node: usize) -> usize {
 }
 
 /// Joins two groups in the list, by a scan.
-fn join_in(list: &mut [usize], i: usize, j: usize) {
+pub(crate) fn join_in(list: &mut [usize], i: usize, j: usize) {
     let a = label_in(list, i);
     let b = label_in(list, j);
     for label in list.iter_mut() {

@@ -27,6 +27,8 @@ mod facility;
 #[cfg(test)]
 mod facility_depending;
 #[cfg(test)]
+mod groups;
+#[cfg(test)]
 mod handing;
 #[cfg(test)]
 mod handing_writes;
