@@ -1,4 +1,5 @@
-//! Groups of a history: transactions that shared something, or asked to. Only want of memory is a fault.
+//! Groups of a history, which are transactions that shared something or asked to, and the history without dead ones. The
+//! one fault is that memory runs out.
 #![tactic(auto)]
 
 mod acting;

@@ -15,6 +15,8 @@ mod copies;
 #[cfg(test)]
 mod delegations;
 #[cfg(test)]
+mod deletion;
+#[cfg(test)]
 mod dependencies;
 #[cfg(test)]
 mod deps;
