@@ -12,4 +12,4 @@ pub mod SharingLemmas
 pub mod SourceLemmas
 pub mod GroupCases
 pub mod ShapeLemmas
-pub mod RelabelLemmas
+pub mod RenumberLemmas

@@ -21,7 +21,7 @@ use Rattle.asset_names.specs.Endings.{dependencies, dependency_by, class_arrows,
 use Rattle.asset_names.specs.Operations.{reads, writes, Operation, op_of, conflict, handed_over, operated, operations, holds_object, copied, permits, permitted_by, allows, blocks, free}
 use Rattle.asset_names.specs.Answers.{is_completed, class_completed, may_commit}
 use Rattle.asset_names.proofs.ListLemmas.{any_map}
-use Rattle.asset_laws.specs.Relabelled.{writing}
+use Rattle.asset_laws.specs.Renumbered.{writing}
 
 -- what an operation is but for the value that it writes
 unfoldable pub shape : Operation → ℕ × ℕ × Op

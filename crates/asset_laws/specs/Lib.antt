@@ -1,2 +1,2 @@
 pub mod Textbook
-pub mod Relabelled
+pub mod Renumbered

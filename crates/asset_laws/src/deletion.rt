@@ -13,7 +13,7 @@ ghost use Rattle.asset_names.specs.Operations.{conflict, holds, value};
 ghost use Rattle.asset_names.specs.Groups.{same_group, dead, stays, without};
 ghost use Rattle.asset_names.specs.Sources.{source, source_value, IsAlone, IsOwnOrCommitted};
 ghost use Rattle.asset_names.specs.Answers.{IsLegal};
-ghost use Rattle.asset_laws.specs.Relabelled.{source_number, relabelled, zeroed};
+ghost use Rattle.asset_laws.specs.Renumbered.{source_number, renumbered, zeroed};
 
 /// What is left of a legal history without chosen dead groups is legal: every remaining step, with the reply that it
 /// got, is answered so again. Groups stay or go whole, and each one that is not dead stays.
@@ -46,6 +46,6 @@ pub fn alone_reads_own_or_committed()
 /// Sources are what is read if each write writes the number of its entry, counted from 1, and each opening value is 0: that
 /// history is legal if the one with values is, and each object has the number of its source.
 pub fn sources_are_read_as_numbers()
-    ensures legal { (opening : Opening) (entries : List Entry) → IsLegal opening entries → IsLegal (zeroed opening) (relabelled entries) }
-    ensures read { (opening : Opening) (entries : List Entry) (x : ℕ) → value (zeroed opening) (applied (relabelled entries)) x ≡ source_number (source entries x) }
+    ensures legal { (opening : Opening) (entries : List Entry) → IsLegal opening entries → IsLegal (zeroed opening) (renumbered entries) }
+    ensures read { (opening : Opening) (entries : List Entry) (x : ℕ) → value (zeroed opening) (applied (renumbered entries)) x ≡ source_number (source entries x) }
 {}

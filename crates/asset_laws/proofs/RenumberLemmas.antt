@@ -17,7 +17,7 @@ use Rattle.asset_names.specs.Endings.{end_of}
 use Rattle.asset_names.specs.Operations.{Use, reads, writes, Operation, handed_over, operated, operations, free, was_aborted, stands, exists, opening_at, opening_value, after_use, value_after, value}
 use Rattle.asset_names.specs.Answers.{unknown, ended, not_running, taken, begun_before, too_late, no_object, cycle, missing_in, missing_rule, no_object_of, rules_for, first_refusal, unrefused, outcome_unless, answer, IsLegal}
 use Rattle.asset_names.specs.Sources.{Numbered, is_operation, is_write, operation_numbers, numbered, stands_on, source}
-use Rattle.asset_laws.specs.Relabelled.{source_number, writing, reading, relabelled, zeroed}
+use Rattle.asset_laws.specs.Renumbered.{source_number, writing, reading, renumbered, zeroed}
 use Rattle.asset_laws.proofs.AnswersAlike.{not_waiting}
 use Rattle.asset_laws.proofs.ShapeLemmas.{IsSameShape, shape, status_same, would_cycle_same, may_commit_same, free_same, same_more}
 
@@ -89,24 +89,24 @@ unfolding shape
 same_none = record { initiated_same = refl; begun_same = refl; completed_same = refl; ends_same = λ n. refl; dependencies_same = λ kind. refl; shapes_same = refl; permits_same = λ x op. refl }
 
 -- the steps that take effect say the same but for the values that are written
-pub relabelled_same : (entries : List Entry) → IsSameShape (applied (relabelled entries)) (applied entries)
-unfolding applied relabelled
-relabelled_same [] = same_none
-relabelled_same (entry ∷ older) = rw (effect_same (length older) older entry.0 entry.1) (go (takes_effect entry.0 entry.1) (relabelled_same older)) where
-  go : (effect : Bool) → IsSameShape (applied (relabelled older)) (applied older)
-      → IsSameShape (cond effect (writing (length older) entry.0 ∷ applied (relabelled older)) (applied (relabelled older))) (cond effect (entry.0 ∷ applied older) (applied older))
-  go true same = same_more (applied (relabelled older)) (applied older) same (length older) entry.0
+pub renumbered_same : (entries : List Entry) → IsSameShape (applied (renumbered entries)) (applied entries)
+unfolding applied renumbered
+renumbered_same [] = same_none
+renumbered_same (entry ∷ older) = rw (effect_same (length older) older entry.0 entry.1) (go (takes_effect entry.0 entry.1) (renumbered_same older)) where
+  go : (effect : Bool) → IsSameShape (applied (renumbered older)) (applied older)
+      → IsSameShape (cond effect (writing (length older) entry.0 ∷ applied (renumbered older)) (applied (renumbered older))) (cond effect (entry.0 ∷ applied older) (applied older))
+  go true same = same_more (applied (renumbered older)) (applied older) same (length older) entry.0
   go false same = same
 
 -- ---- operations
 
 -- what a use becomes, and an operation: a write writes its number
-relabelled_use : ℕ → Use → Use
-relabelled_use m reads = reads
-relabelled_use m (writes v) = writes (pos (suc m))
+renumbered_use : ℕ → Use → Use
+renumbered_use m reads = reads
+renumbered_use m (writes v) = writes (pos (suc m))
 
 as_number : Numbered → Operation
-as_number found = record { owner = found.1.owner; object = found.1.object; use_of = relabelled_use found.0 found.1.use_of }
+as_number found = record { owner = found.1.owner; object = found.1.object; use_of = renumbered_use found.0 found.1.use_of }
 
 handed_numbers : (giver taker : ℕ) (obs : ObSet) (numbers : List ℕ) (os : List Operation) → map (handed_over giver taker obs) (map as_number (zip numbers os)) ≡ map as_number (zip numbers (map (handed_over giver taker obs) os))
 unfolding handed_over as_number
@@ -118,14 +118,14 @@ handed_numbers giver taker obs (m ∷ numbers) (o ∷ os) = λ i. one (eqb o.own
   one false = refl
 
 -- the operations are the numbered ones, each write with its number
-numbered_operations : (entries : List Entry) → operations (applied (relabelled entries)) ≡ map as_number (zip (operation_numbers entries) (operations (applied entries)))
-unfolding applied relabelled operation_numbers operations operated is_operation writing as_number relabelled_use
+numbered_operations : (entries : List Entry) → operations (applied (renumbered entries)) ≡ map as_number (zip (operation_numbers entries) (operations (applied entries)))
+unfolding applied renumbered operation_numbers operations operated is_operation writing as_number renumbered_use
 numbered_operations [] = refl
 numbered_operations (entry ∷ older) = rw (effect_same (length older) older entry.0 entry.1) (go (takes_effect entry.0 entry.1) (numbered_operations older)) where
   Rest : Type 0
-  Rest = operations (applied (relabelled older)) ≡ map as_number (zip (operation_numbers older) (operations (applied older)))
+  Rest = operations (applied (renumbered older)) ≡ map as_number (zip (operation_numbers older) (operations (applied older)))
 
-  by : (step : Step) → Rest → operated (writing (length older) step) (operations (applied (relabelled older)))
+  by : (step : Step) → Rest → operated (writing (length older) step) (operations (applied (renumbered older)))
       ≡ map as_number (zip (cond (is_operation step) (length older ∷ operation_numbers older) (operation_numbers older)) (operated step (operations (applied older))))
   by (Initiate t parent) rest = rest
   by (Begin t) rest = rest
@@ -139,7 +139,7 @@ numbered_operations (entry ∷ older) = rw (effect_same (length older) older ent
   by (Abort t) rest = rest
   by (WaitFor t) rest = rest
 
-  go : (effect : Bool) → Rest → operations (cond effect (writing (length older) entry.0 ∷ applied (relabelled older)) (applied (relabelled older)))
+  go : (effect : Bool) → Rest → operations (cond effect (writing (length older) entry.0 ∷ applied (renumbered older)) (applied (renumbered older)))
       ≡ map as_number (zip (cond (effect && is_operation entry.0) (length older ∷ operation_numbers older) (operation_numbers older)) (operations (cond effect (entry.0 ∷ applied older) (applied older))))
   go true rest = by entry.0 rest
   go false rest = rest
@@ -149,7 +149,7 @@ numbered_operations (entry ∷ older) = rw (effect_same (length older) older ent
 -- the value after numbered operations is the number of the first write that stands
 number_found : (entries : List Entry) (ones : List Step) → ((n : ℕ) → end_of ones n ≡ end_of (applied entries) n) → (x : ℕ) (numbers : List ℕ) (os : List Operation)
     → value_after (stands ones) x (pos 0) (map as_number (zip numbers os)) ≡ source_number (find (stands_on entries x) (zip numbers os))
-unfolding value_after source_number stands_on stands is_write after_use as_number relabelled_use
+unfolding value_after source_number stands_on stands is_write after_use as_number renumbered_use
 number_found entries ones ends x [] os = refl
 number_found entries ones ends x (m ∷ numbers) [] = refl
 number_found entries ones ends x (m ∷ numbers) (o ∷ os) = rw (ends o.owner) (go (eqb o.object x) (not (was_aborted (end_of (applied entries) o.owner))) o.use_of (number_found entries ones ends x numbers os)) where
@@ -157,7 +157,7 @@ number_found entries ones ends x (m ∷ numbers) (o ∷ os) = rw (ends o.owner) 
   Rest = value_after (stands ones) x (pos 0) (map as_number (zip numbers os)) ≡ source_number (find (stands_on entries x) (zip numbers os))
 
   go : (here up : Bool) (how : Use) → Rest
-      → cond (here && up) (after_use (relabelled_use m how) (value_after (stands ones) x (pos 0) (map as_number (zip numbers os)))) (value_after (stands ones) x (pos 0) (map as_number (zip numbers os)))
+      → cond (here && up) (after_use (renumbered_use m how) (value_after (stands ones) x (pos 0) (map as_number (zip numbers os)))) (value_after (stands ones) x (pos 0) (map as_number (zip numbers os)))
       ≡ source_number (cond (here && is_write how && up) (Some (m, o)) (find (stands_on entries x) (zip numbers os)))
   go true true (writes v) rest = refl
   go true true reads rest = rest
@@ -166,11 +166,11 @@ number_found entries ones ends x (m ∷ numbers) (o ∷ os) = rw (ends o.owner) 
   go false up how rest = rest
 
 -- each object has the number of its source
-pub value_is_source : (opening : Opening) (entries : List Entry) (x : ℕ) → value (zeroed opening) (applied (relabelled entries)) x ≡ source_number (source entries x)
+pub value_is_source : (opening : Opening) (entries : List Entry) (x : ℕ) → value (zeroed opening) (applied (renumbered entries)) x ≡ source_number (source entries x)
 unfolding value source numbered
 value_is_source opening entries x =
     rw (value_zeroed opening x, numbered_operations entries)
-    (number_found entries (applied (relabelled entries)) (relabelled_same entries).ends_same x (operation_numbers entries) (operations (applied entries)))
+    (number_found entries (applied (renumbered entries)) (renumbered_same entries).ends_same x (operation_numbers entries) (operations (applied entries)))
 
 -- ---- answers
 
@@ -226,11 +226,11 @@ unrefused_same opening ones older same sources n (Commit t) reply is = rw (statu
 unrefused_same opening ones older same sources n (Abort t) reply is = is
 unrefused_same opening ones older same sources n (WaitFor t) reply is = rw (status_same ones (applied older) same t.0) is
 
-relabelled_answer : (opening : Opening) (entry : Entry) (older : List Entry) → answer opening (applied older) entry.0 ≡ Answer entry.1
-    → answer (zeroed opening) (applied (relabelled older)) (writing (length older) entry.0) ≡ Answer (reading older entry.0 entry.1)
+renumbered_answer : (opening : Opening) (entry : Entry) (older : List Entry) → answer opening (applied older) entry.0 ≡ Answer entry.1
+    → answer (zeroed opening) (applied (renumbered older)) (writing (length older) entry.0) ≡ Answer (reading older entry.0 entry.1)
 unfolding answer outcome_unless
-relabelled_answer opening entry older is =
-    rw (rules_same opening (applied (relabelled older)) (applied older) (relabelled_same older) (length older) entry.0) (go (first_refusal (rules_for opening (applied older) entry.0)) is) where
+renumbered_answer opening entry older is =
+    rw (rules_same opening (applied (renumbered older)) (applied older) (renumbered_same older) (length older) entry.0) (go (first_refusal (rules_for opening (applied older) entry.0)) is) where
       refused : (refusal : Refusal) (reply : Reply) → Answer (Reply'.Refused refusal) ≡ Answer reply → Answer (Reply'.Refused refusal) ≡ Answer (reading older entry.0 reply)
       refused refusal (Reply'.Refused other) h = h ∙ ap Answer (sym (reading_refused older entry.0 other))
       refused refusal Reply'.Done h = cc
@@ -239,12 +239,12 @@ relabelled_answer opening entry older is =
       refused refusal Reply'.Aborted h = cc
 
       go : (first : Option Refusal) → outcome_unless first (unrefused opening (applied older) entry.0) ≡ Answer entry.1
-          → outcome_unless first (unrefused (zeroed opening) (applied (relabelled older)) (writing (length older) entry.0)) ≡ Answer (reading older entry.0 entry.1)
-      go None h = unrefused_same opening (applied (relabelled older)) older (relabelled_same older) (value_is_source opening older) (length older) entry.0 entry.1 h
+          → outcome_unless first (unrefused (zeroed opening) (applied (renumbered older)) (writing (length older) entry.0)) ≡ Answer (reading older entry.0 entry.1)
+      go None h = unrefused_same opening (applied (renumbered older)) older (renumbered_same older) (value_is_source opening older) (length older) entry.0 entry.1 h
       go (Some refusal) h = refused refusal entry.1 h
 
 -- the history with numbers in place of values is legal
-pub relabelled_legal : (opening : Opening) (entries : List Entry) → IsLegal opening entries → IsLegal (zeroed opening) (relabelled entries)
-unfolding IsLegal relabelled
-relabelled_legal opening [] legal = legal
-relabelled_legal opening (entry ∷ older) legal = (relabelled_answer opening entry older legal.0, relabelled_legal opening older legal.1)
+pub renumbered_legal : (opening : Opening) (entries : List Entry) → IsLegal opening entries → IsLegal (zeroed opening) (renumbered entries)
+unfolding IsLegal renumbered
+renumbered_legal opening [] legal = legal
+renumbered_legal opening (entry ∷ older) legal = (renumbered_answer opening entry older legal.0, renumbered_legal opening older legal.1)

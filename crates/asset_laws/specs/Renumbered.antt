@@ -24,9 +24,9 @@ reading older (Read t x) (Value v) = Value (source_number (source older x.0))
 reading older step reply = reply
 
 -- the entries with numbers in place of values
-unfoldable pub relabelled : List Entry → List Entry
-relabelled [] = []
-relabelled (entry ∷ older) = (writing (length older) entry.0, reading older entry.0 entry.1) ∷ relabelled older
+unfoldable pub renumbered : List Entry → List Entry
+renumbered [] = []
+renumbered (entry ∷ older) = (writing (length older) entry.0, reading older entry.0 entry.1) ∷ renumbered older
 
 -- the opening with 0 in place of each value
 unfoldable pub zeroed : Opening → Opening
