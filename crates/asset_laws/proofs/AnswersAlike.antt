@@ -83,7 +83,7 @@ value_alike keep some all alike uncommitted orderly opening t x stays is_free =
 -- ---- answers
 
 -- the refusals of a kept step are the same
-rules_alike : (keep : ℕ → Bool) (some all : List Step) → IsAlike keep some all → (opening : Opening) (step : Step) → keep (actor step).0 ≡ true → keep (partner step).0 ≡ true
+pub rules_alike : (keep : ℕ → Bool) (some all : List Step) → IsAlike keep some all → (opening : Opening) (step : Step) → keep (actor step).0 ≡ true → keep (partner step).0 ≡ true
     → rules_for opening some step ≡ rules_for opening all step
 unfolding rules_for unknown ended not_running taken begun_before too_late cycle actor partner
 rules_alike keep some all alike opening (Initiate t parent) one other = rw (status_alike keep some all alike t.0 one) refl

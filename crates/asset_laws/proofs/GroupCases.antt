@@ -19,7 +19,7 @@ use Rattle.asset_names.proofs.Cases.{t, x}
 use Rattle.asset_names.proofs.PermitCases.{read_only}
 
 -- an entry that was done, and three transactions that run
-abbrev done : Step → Entry
+abbrev pub done : Step → Entry
 done step = (step, Done)
 
 abbrev three_run : List Entry

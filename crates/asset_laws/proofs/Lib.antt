@@ -13,3 +13,10 @@ pub mod SourceLemmas
 pub mod GroupCases
 pub mod ShapeLemmas
 pub mod RenumberLemmas
+pub mod SerialPlain
+pub mod SerialValues
+pub mod SerialBlocks
+pub mod SerialLegal
+pub mod SerialWorld
+pub mod SerialLemmas
+pub mod SerialCases

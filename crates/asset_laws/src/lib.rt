@@ -4,6 +4,7 @@
 mod deletion;
 mod dependencies;
 mod laws;
+mod serial;
 
 pub use deletion::{
     alone_reads_own_or_committed, conflicting_holders_share_a_group,
@@ -14,3 +15,4 @@ pub use dependencies::{
     abort_takes_the_least, classes_are_never_split, no_cycle_stands, path_is_leading,
 };
 pub use laws::{endings_find_room, free_is_allowed_by_holders, linked_is_chain};
+pub use serial::committed_could_have_run_alone;

@@ -1,0 +1,230 @@
+-- Values where nobody shares: the writes of a transaction that has not ended come last on what it uses.
+use Rattle.std.proofs.Common.{◌≡◌, ℕ, ℤ, Bool, true, false, cond, not, eqb, ◌&&◌, ◌||◌, List, [], ◌∷◌, ◌++◌, filter, refl, sym, ◌∙◌, ap, inl, inr, ◌⊎◌, None}
+use Rattle.std.specs.List.{list_any}
+use Rattle.std.proofs.lemmas.Bool.{or_right, and_parts, eqb-true, false≢true, not-true, not-false}
+use Rattle.asset_names.specs.declared.names.Txn.{Txn}
+use Rattle.asset_names.specs.declared.names.Ob.{Ob}
+use Rattle.asset_names.specs.declared.operations.Op.TheVariants as Op'
+use Rattle.asset_names.specs.declared.steps.Step.{Step}
+use Rattle.asset_names.specs.declared.steps.Step.TheVariants.{Initiate, Begin, Read, Write, Complete, Permit, Delegate, Depend, Commit, Abort, WaitFor}
+use Rattle.asset_names.specs.declared.replies.Reply.{Reply}
+use Rattle.asset_names.specs.declared.replies.Outcome.TheVariants.{Answer}
+use Rattle.asset_names.specs.Arrows.{lists}
+use Rattle.asset_names.specs.Steps.{Opening, Entry, takes_effect, applied, initiated}
+use Rattle.asset_names.specs.Endings.{end_of, live, status}
+use Rattle.asset_names.specs.Groups.{actor}
+use Rattle.asset_names.specs.Operations.{Use, reads, writes, Operation, op_of, conflict, operated, operations, blocks, free, was_aborted, stands, opening_value, after_use, value_after, value}
+use Rattle.asset_names.specs.Answers.{is_running, unknown, ended, not_running, rules_for, unrefused, answer, IsLegal}
+use Rattle.asset_names.specs.Orderly.{IsOrderly}
+use Rattle.asset_names.proofs.Common.{cond_same, eqb-flip}
+use Rattle.asset_names.proofs.ListLemmas.{any_filter}
+use Rattle.asset_names.proofs.LegalLemmas.{effect_unrefused, first_none, legal_orderly}
+use Rattle.asset_laws.proofs.KeepLinks.{any_fewer}
+use Rattle.asset_laws.proofs.AnswersAlike.{not_waiting}
+use Rattle.asset_laws.proofs.SharingLemmas.{effect_answer}
+use Rattle.asset_laws.proofs.SerialPlain.{plain, AllPlain, AllSingle, allows_plain, effect_plain, legal_plain}
+
+-- every operation counts
+unfoldable pub always : Operation → Bool
+always o = true
+
+-- t's operations, and those of others
+unfoldable pub own_of : ℕ → List Operation → List Operation
+own_of t os = filter (λ (o : Operation). eqb o.owner t) os
+
+unfoldable pub others_of : ℕ → List Operation → List Operation
+others_of t os = filter (λ (o : Operation). not (eqb o.owner t)) os
+
+-- whether t is responsible for an operation on x
+unfoldable pub uses : ℕ → ℕ → List Operation → Bool
+uses t x os = list_any (λ (o : Operation). eqb o.owner t && eqb o.object x) os
+
+-- ---- lists of operations
+
+-- the value is that of the operations on the object
+value_none : (x : ℕ) (first : ℤ) (os : List Operation) → list_any (λ (o : Operation). eqb o.object x) os ≡ false → value_after always x first os ≡ first
+unfolding value_after always
+value_none x first [] none = refl
+value_none x first (o ∷ os) none = go (eqb o.object x) none (value_none x first os) where
+  go : (here : Bool) → (here || list_any (λ (p : Operation). eqb p.object x) os) ≡ false → (list_any (λ (p : Operation). eqb p.object x) os ≡ false → value_after always x first os ≡ first)
+      → cond (here && true) (after_use o.use_of (value_after always x first os)) (value_after always x first os) ≡ first
+  go true h rest = absurd (false≢true (sym h))
+  go false h rest = rest h
+
+pub value_append : (x : ℕ) (first : ℤ) (newer older : List Operation) → value_after always x first (newer ++ older) ≡ value_after always x (value_after always x first older) newer
+unfolding value_after
+value_append x first [] older = refl
+value_append x first (o ∷ newer) older = rw (value_append x first newer older) refl
+
+-- tests that agree count alike
+pub value_counts : (test other : Operation → Bool) (x : ℕ) (first : ℤ) (os : List Operation) → ((o : Operation) → test o ≡ other o) → value_after test x first os ≡ value_after other x first os
+unfolding value_after
+value_counts test other x first [] same = refl
+value_counts test other x first (o ∷ os) same = rw (same o, value_counts test other x first os same) refl
+
+-- nobody has aborted
+abbrev pub NobodyAborted : List Step → Type 0
+NobodyAborted steps = (n : ℕ) → was_aborted (end_of steps n) ≡ false
+
+pub value_always : (opening : Opening) (steps : List Step) (x : ℕ) → NobodyAborted steps → value opening steps x ≡ value_after always x (opening_value opening x) (operations steps)
+unfolding value stands always
+value_always opening steps x none = value_counts (stands steps) always x (opening_value opening x) (operations steps) (λ o. ap not (none o.owner))
+
+-- ---- what blocks others
+
+-- an operation of a live transaction blocks another's write
+blocked : (steps : List Step) → AllPlain steps → (t u x : ℕ) → eqb t u ≡ false → live steps t ≡ true → (o : Operation) → (eqb o.owner t && eqb o.object x) ≡ true → blocks steps u x Op'.Write o ≡ true
+unfolding blocks conflict op_of
+blocked steps all t u x apart alive o h =
+    let parts = and_parts (eqb o.owner t) (eqb o.object x) h in
+    rw (parts.1, conflicts o.use_of, eqb-true o.owner t parts.0, apart, alive, allows_plain steps all t u x Op'.Write, apart) refl where
+      conflicts : (how : Use) → conflict (op_of how) Op'.Write ≡ true
+      conflicts reads = refl
+      conflicts (writes v) = refl
+
+-- who uses an object is responsible for an operation
+user_owns : (t x : ℕ) (os : List Operation) → list_any (λ (o : Operation). eqb o.owner t) os ≡ false → uses t x os ≡ false
+unfolding uses
+user_owns t x os none = any_fewer (λ (o : Operation). eqb o.owner t && eqb o.object x) (λ (o : Operation). eqb o.owner t) os (λ o h. (and_parts (eqb o.owner t) _ h).0) none
+
+-- where another may write x, a transaction that has not ended does not use it
+pub unused : (steps : List Step) → AllPlain steps → IsOrderly steps → (t u x : ℕ) → eqb t u ≡ false → end_of steps t ≡ None → free steps u x Op'.Write ≡ true → uses t x (operations steps) ≡ false
+unfolding free live uses
+unused steps all orderly t u x apart running is_free = go (lists (initiated steps) t) refl where
+  none_owned : lists (initiated steps) t ≡ false → (b : Bool) → list_any (λ (o : Operation). eqb o.owner t) (operations steps) ≡ b → b ≡ false
+  none_owned absent false e = refl
+  none_owned absent true e = absurd (false≢true (sym absent ∙ orderly.owners_known t e))
+
+  go : (known : Bool) → lists (initiated steps) t ≡ known → list_any (λ (o : Operation). eqb o.owner t && eqb o.object x) (operations steps) ≡ false
+  go true e = any_fewer (λ (o : Operation). eqb o.owner t && eqb o.object x) (blocks steps u x Op'.Write) (operations steps) (blocked steps all t u x apart (rw (e, running) refl)) (not-true _ is_free)
+  go false e = user_owns t x (operations steps) (none_owned e (list_any (λ (o : Operation). eqb o.owner t) (operations steps)) refl)
+
+-- ---- own writes come last
+
+-- the value, with t's own operations taken last
+unfoldable pub OwnLast : ℕ → List Operation → Type 0
+OwnLast t os = (x : ℕ) (first : ℤ) → value_after always x first os ≡ value_after always x (value_after always x first (others_of t os)) (own_of t os)
+
+-- a read, or a write by t, comes last as it is
+own_last_read : (t u y : ℕ) (os : List Operation) → OwnLast t os → OwnLast t (record { owner = u; object = y; use_of = reads } ∷ os)
+unfolding OwnLast own_of others_of value_after always after_use
+own_last_read t u y os last x first = go (eqb u t) where
+  skip : (here : Bool) (v : ℤ) → cond (here && true) v v ≡ v
+  skip true v = refl
+  skip false v = refl
+
+  go : (own : Bool) → cond (eqb y x && true) (value_after always x first os) (value_after always x first os)
+      ≡ value_after always x (value_after always x first (cond (not own) (record { owner = u; object = y; use_of = reads } ∷ others_of t os) (others_of t os))) (cond own (record { owner = u; object = y; use_of = reads } ∷ own_of t os) (own_of t os))
+  go true = skip (eqb y x) _ ∙ last x first ∙ sym (skip (eqb y x) _)
+  go false = skip (eqb y x) _ ∙ last x first ∙ ap (λ v. value_after always x v (own_of t os)) (sym (skip (eqb y x) _))
+
+own_last_write : (t u y : ℕ) (v : ℤ) (os : List Operation) → (eqb u t ≡ true) ⊎ (uses t y os ≡ false) → OwnLast t os → OwnLast t (record { owner = u; object = y; use_of = writes v } ∷ os)
+unfolding OwnLast own_of others_of value_after always after_use uses
+own_last_write t u y v os (inl own) last x first = rw (own) (ap (λ w. cond (eqb y x && true) v w) (last x first))
+own_last_write t u y v os (inr none) last x first = go (eqb u t) (eqb y x) refl where
+  absent : eqb y x ≡ true → list_any (λ (o : Operation). eqb o.object x) (own_of t os) ≡ false
+  absent e = any_filter (λ (o : Operation). eqb o.object x) (λ (o : Operation). eqb o.owner t) os ∙ ap (λ n. list_any (λ (o : Operation). eqb o.owner t && eqb o.object n) os) (sym (eqb-true y x e)) ∙ none
+
+  go : (own here : Bool) → eqb y x ≡ here → cond (here && true) v (value_after always x first os)
+      ≡ value_after always x (value_after always x first (cond (not own) (record { owner = u; object = y; use_of = writes v } ∷ others_of t os) (others_of t os))) (cond own (record { owner = u; object = y; use_of = writes v } ∷ own_of t os) (own_of t os))
+  go true true e = rw (e) refl
+  go true false e = rw (e) (last x first)
+  go false true e = rw (e) (sym (value_none x v (own_of t os) (absent e)))
+  go false false e = rw (e) (last x first)
+
+-- t is the last to commit: each entry is its own, or comes before it has ended, or is of one that does not run
+unfoldable pub ComesLast : ℕ → List Entry → Type 0
+ComesLast t [] = Unit {0}
+ComesLast t (entry ∷ older) = ((eqb (actor entry.0).0 t ≡ true) ⊎ ((end_of (applied older) t ≡ None) ⊎ (is_running (status (applied older) (actor entry.0).0) ≡ false))) × ComesLast t older
+
+-- who writes runs
+write_runs : (opening : Opening) (steps : List Step) (u : Txn) (y : Ob) (v : ℤ) (reply : Reply) → answer opening steps (Write u y v) ≡ Answer reply → takes_effect (Write u y v) reply ≡ true → is_running (status steps u.0) ≡ true
+unfolding rules_for not_running
+write_runs opening steps u y v reply is effect =
+    let first = first_none (unknown steps u) _ (effect_unrefused opening steps (Write u y v) reply is effect) in
+    let second = first_none (ended steps u) _ first.1 in
+    not-false _ ((first_none (not_running steps u) _ second.1).0)
+
+pub comes_rest : (t : ℕ) (newer older : List Entry) → ComesLast t (newer ++ older) → ComesLast t older
+unfolding ComesLast
+comes_rest t [] older last = last
+comes_rest t (entry ∷ newer) older last = comes_rest t newer older last.1
+
+-- one more step of a history in which nobody shares
+own_last_more : (opening : Opening) (t : ℕ) (step : Step) (steps : List Step) (reply : Reply) → answer opening steps step ≡ Answer reply → takes_effect step reply ≡ true → plain step ≡ true → AllPlain steps → IsOrderly steps
+    → (eqb (actor step).0 t ≡ true) ⊎ ((end_of steps t ≡ None) ⊎ (is_running (status steps (actor step).0) ≡ false)) → OwnLast t (operations steps) → OwnLast t (operations (step ∷ steps))
+unfolding operations operated plain unrefused actor
+own_last_more opening t (Initiate u parent) steps reply is effect fine all orderly comes last = last
+own_last_more opening t (Begin u) steps reply is effect fine all orderly comes last = last
+own_last_more opening t (Read u y) steps reply is effect fine all orderly comes last = own_last_read t u.0 y.0 (operations steps) last
+own_last_more opening t (Write u y v) steps reply is effect fine all orderly comes last = own_last_write t u.0 y.0 v (operations steps) (go (eqb u.0 t) refl comes) last where
+  go : (own : Bool) → eqb u.0 t ≡ own → (eqb u.0 t ≡ true) ⊎ ((end_of steps t ≡ None) ⊎ (is_running (status steps u.0) ≡ false)) → (eqb u.0 t ≡ true) ⊎ (uses t y.0 (operations steps) ≡ false)
+  go true e comes = inl e
+  go false e (inl own) = inl own
+  go false e (inr (inl none)) = inr (unused steps all orderly t u.0 y.0 (eqb-flip t u.0 ∙ e) none (not_waiting (free steps u.0 y.0 Op'.Write) _ reply (effect_answer opening steps (Write u y v) reply is effect)))
+  go false e (inr (inr idle)) = absurd (false≢true (sym idle ∙ write_runs opening steps u y v reply is effect))
+own_last_more opening t (Complete u) steps reply is effect fine all orderly comes last = last
+own_last_more opening t (Permit giver taker obs ops) steps reply is effect fine all orderly comes last = absurd (false≢true fine)
+own_last_more opening t (Delegate giver taker obs) steps reply is effect fine all orderly comes last = absurd (false≢true fine)
+own_last_more opening t (Depend k a b) steps reply is effect fine all orderly comes last = absurd (false≢true fine)
+own_last_more opening t (Commit u) steps reply is effect fine all orderly comes last = last
+own_last_more opening t (Abort u) steps reply is effect fine all orderly comes last = last
+own_last_more opening t (WaitFor u) steps reply is effect fine all orderly comes last = last
+
+pub own_last : (opening : Opening) (t : ℕ) (entries : List Entry) → IsLegal opening entries → AllSingle entries → ComesLast t entries → OwnLast t (operations (applied entries))
+unfolding IsLegal AllSingle applied ComesLast OwnLast own_of others_of operations value_after
+own_last opening t [] legal single comes = λ x first. refl
+own_last opening t (entry ∷ older) legal single comes = go (takes_effect entry.0 entry.1) refl (own_last opening t older legal.1 single.1 comes.1) where
+  go : (effect : Bool) → takes_effect entry.0 entry.1 ≡ effect → OwnLast t (operations (applied older)) → OwnLast t (operations (cond effect (entry.0 ∷ applied older) (applied older)))
+  go true e last =
+      own_last_more opening t entry.0 (applied older) entry.1 legal.0 e (effect_plain opening (applied older) entry.0 entry.1 legal.0 e single.0) (legal_plain opening older legal.1 single.1) (legal_orderly opening older legal.1) comes.0 last
+  go false e last = last
+
+-- ---- others leave what t uses
+
+-- what others leave of an object that t uses, and that t uses it, after one more step
+unfoldable pub Left : ℕ → ℕ → ℤ → ℤ → List Operation → Type 0
+Left t x first left os = (uses t x os ≡ true) × (value_after always x first (others_of t os) ≡ left)
+
+left_more : (opening : Opening) (t x : ℕ) (first left : ℤ) (step : Step) (steps : List Step) (reply : Reply) → answer opening steps step ≡ Answer reply → takes_effect step reply ≡ true → plain step ≡ true → AllPlain steps → IsOrderly steps
+    → (eqb (actor step).0 t ≡ true) ⊎ ((end_of steps t ≡ None) ⊎ (is_running (status steps (actor step).0) ≡ false)) → Left t x first left (operations steps) → Left t x first left (operations (step ∷ steps))
+unfolding operations operated plain unrefused Left uses others_of value_after always after_use actor
+left_more opening t x first left (Initiate u parent) steps reply is effect fine all orderly last rest = rest
+left_more opening t x first left (Begin u) steps reply is effect fine all orderly last rest = rest
+left_more opening t x first left (Read u y) steps reply is effect fine all orderly last rest = (or_right (eqb u.0 t && eqb y.0 x) _ rest.0, go (eqb u.0 t) (eqb y.0 x) ∙ rest.1) where
+  go : (own here : Bool) → value_after always x first (cond (not own) (record { owner = u.0; object = y.0; use_of = reads } ∷ others_of t (operations steps)) (others_of t (operations steps))) ≡ value_after always x first (others_of t (operations steps))
+  go true here = refl
+  go false here = cond_same (eqb y.0 x && true) _
+left_more opening t x first left (Write u y v) steps reply is effect fine all orderly last rest = (or_right (eqb u.0 t && eqb y.0 x) _ rest.0, go (eqb u.0 t) refl (eqb y.0 x) refl ∙ rest.1) where
+  never : eqb u.0 t ≡ false → eqb y.0 x ≡ true → (eqb u.0 t ≡ true) ⊎ ((end_of steps t ≡ None) ⊎ (is_running (status steps u.0) ≡ false)) → ⊥
+  never apart here (inl own) = false≢true (sym apart ∙ own)
+  never apart here (inr (inl none)) =
+      let clear = unused steps all orderly t u.0 y.0 (eqb-flip t u.0 ∙ apart) none (not_waiting (free steps u.0 y.0 Op'.Write) _ reply (effect_answer opening steps (Write u y v) reply is effect)) in
+      false≢true (sym clear ∙ ap (λ n. uses t n (operations steps)) (eqb-true y.0 x here) ∙ rest.0)
+  never apart here (inr (inr idle)) = false≢true (sym idle ∙ write_runs opening steps u y v reply is effect)
+
+  go : (own : Bool) → eqb u.0 t ≡ own → (here : Bool) → eqb y.0 x ≡ here
+      → value_after always x first (cond (not own) (record { owner = u.0; object = y.0; use_of = writes v } ∷ others_of t (operations steps)) (others_of t (operations steps))) ≡ value_after always x first (others_of t (operations steps))
+  go true e here f = refl
+  go false e true f = absurd (never e f last)
+  go false e false f = rw (f) refl
+left_more opening t x first left (Complete u) steps reply is effect fine all orderly last rest = rest
+left_more opening t x first left (Permit giver taker obs ops) steps reply is effect fine all orderly last rest = absurd (false≢true fine)
+left_more opening t x first left (Delegate giver taker obs) steps reply is effect fine all orderly last rest = absurd (false≢true fine)
+left_more opening t x first left (Depend k a b) steps reply is effect fine all orderly last rest = absurd (false≢true fine)
+left_more opening t x first left (Commit u) steps reply is effect fine all orderly last rest = rest
+left_more opening t x first left (Abort u) steps reply is effect fine all orderly last rest = rest
+left_more opening t x first left (WaitFor u) steps reply is effect fine all orderly last rest = rest
+
+pub others_stay : (opening : Opening) (t x : ℕ) (first left : ℤ) (newer base : List Entry) → IsLegal opening (newer ++ base) → AllSingle (newer ++ base) → ComesLast t (newer ++ base)
+    → Left t x first left (operations (applied base)) → Left t x first left (operations (applied (newer ++ base)))
+unfolding IsLegal AllSingle applied ComesLast
+others_stay opening t x first left [] base legal single last holds = holds
+others_stay opening t x first left (entry ∷ newer) base legal single last holds = go (takes_effect entry.0 entry.1) refl (others_stay opening t x first left newer base legal.1 single.1 last.1 holds) where
+  older : List Entry
+  older = newer ++ base
+
+  go : (effect : Bool) → takes_effect entry.0 entry.1 ≡ effect → Left t x first left (operations (applied (newer ++ base))) → Left t x first left (operations (cond effect (entry.0 ∷ applied (newer ++ base)) (applied (newer ++ base))))
+  go true e rest =
+      left_more opening t x first left entry.0 (applied older) entry.1 legal.0 e (effect_plain opening (applied older) entry.0 entry.1 legal.0 e single.0) (legal_plain opening older legal.1 single.1) (legal_orderly opening older legal.1) last.0 rest
+  go false e rest = rest
