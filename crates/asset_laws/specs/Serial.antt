@@ -1,8 +1,9 @@
 -- Those who committed, one after another in the order of their commits, with nobody else.
-use Rattle.std.specs.Prelude.{◌≡◌, ℕ, ℤ, true, cond, ◌==◌, ◌||◌, List, [], ◌∷◌, ◌++◌, filter, flat_map}
+use Rattle.std.specs.Prelude.{◌≡◌, ℕ, ℤ, Bool, true, cond, not, ◌==◌, ◌||◌, List, [], ◌∷◌, ◌++◌, filter, flat_map}
+use Rattle.std.specs.List.{list_all}
 use Rattle.asset_names.specs.declared.steps.Step.{Step}
 use Rattle.asset_names.specs.declared.steps.Step.TheVariants.{Commit}
-use Rattle.asset_names.specs.Arrows.{lists, has_arrow}
+use Rattle.asset_names.specs.Arrows.{Arrow, lists, has_arrow}
 use Rattle.asset_names.specs.Steps.{Opening, Entry, applied}
 use Rattle.asset_names.specs.Endings.{live, end_of}
 use Rattle.asset_names.specs.Operations.{Operation, operations, opening_value, value_after}
@@ -29,6 +30,14 @@ serial entries = flat_map (entries_of entries) (committed_names (applied entries
 -- no entry, refused or not, joins a committed transaction with another
 abbrev pub CommittedShareNothing : List Entry → Type 0
 CommittedShareNothing entries = (u v : ℕ) → has_arrow (joins entries) u v ≡ true → (was_committed (end_of (applied entries) u) || was_committed (end_of (applied entries) v)) ≡ true → u ≡ v
+
+-- whether an arrow leads from a transaction to itself, or between two that do not pass the test
+unfoldable pub is_apart : (ℕ → Bool) → Arrow → Bool
+is_apart test arrow = arrow.0 == arrow.1 || not (test arrow.0 || test arrow.1)
+
+-- whether no entry, refused or not, joins a committed transaction with another
+unfoldable pub shares_nothing : List Entry → Bool
+shares_nothing entries = list_all (is_apart (λ n. was_committed (end_of (applied entries) n))) (joins entries)
 
 -- the value of x that those who committed left
 unfoldable pub committed_value : Opening → List Step → ℕ → ℤ
