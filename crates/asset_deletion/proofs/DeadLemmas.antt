@@ -67,7 +67,7 @@ committed_by_member test (entry ∷ older) respects n here h = go (takes_effect 
 
 -- ---- an answered commit leaves its transaction committed
 
-committed_after : (opening : Opening) (steps : List Step) (t : Txn) → answer opening steps (Commit t) ≡ Answer Reply'.Committed → was_committed (end_of (Commit t ∷ steps) t.0) ≡ true
+pub committed_after : (opening : Opening) (steps : List Step) (t : Txn) → answer opening steps (Commit t) ≡ Answer Reply'.Committed → was_committed (end_of (Commit t ∷ steps) t.0) ≡ true
 unfolding answer outcome_unless rules_for unrefused unknown is_unknown takes_effect status status_of commit_outcome end_of ended_by was_committed
 committed_after opening steps t is =
     let unrefused_here = effect_unrefused opening steps (Commit t) Reply'.Committed is refl in
@@ -81,7 +81,7 @@ committed_after opening steps t is =
       go true b c (Some End'.Aborted) ready reached known all h = absurd cc
       go true b c None ready reached known all h = rw all refl
 
-committed_stays : (entry : Entry) (older : List Entry) (n : ℕ) → was_committed (end_of (applied older) n) ≡ true → was_committed (end_of (applied (entry ∷ older)) n) ≡ true
+pub committed_stays : (entry : Entry) (older : List Entry) (n : ℕ) → was_committed (end_of (applied older) n) ≡ true → was_committed (end_of (applied (entry ∷ older)) n) ≡ true
 unfolding applied end_of was_committed
 committed_stays entry older n h = go (takes_effect entry.0 entry.1) where
   stays : (end later : Option End) → was_committed end ≡ true → was_committed (option_or end later) ≡ true

@@ -57,6 +57,13 @@ impl Groups {
         }
     }
 
+    /// Returns the number of each name's group, in the order of the names.
+    pub fn numbers(&self) -> &[usize]
+        ensures { result.now ≡ self.now.numbers }
+    {
+        self.numbers.as_slice()
+    }
+
     /// Returns the number of the transaction's group, and `None` if no step acts on the transaction.
     pub fn of(&self, t: Txn) -> Option<usize>
         ensures number { result ≡ number_in self.now t.0 }

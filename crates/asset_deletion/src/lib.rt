@@ -14,3 +14,4 @@ pub use acting::{actor, partner};
 pub use deleting::{without, without_dead};
 pub use grouped::Groups;
 pub use grouping::groups;
+pub use marking::committed_at;

@@ -23,8 +23,9 @@ fn committed_by(step: &Step, reply: &Reply) -> Option<Txn>
     }
 }
 
-/// Returns the transaction whose commit is answered with `Committed` at the index, if the entry there is one.
-fn committed_at(history: &History, index: usize) -> Option<Txn>
+/// Returns the transaction whose commit is answered with `Committed` at the index, oldest first from 0, and `None` if the
+/// entry there is not such a commit.
+pub fn committed_at(history: &History, index: usize) -> Option<Txn>
     ensures { result ≡ commit_at (slice_get (reverse history.now.entries) index) }
 {
     match history.entry(index) {
