@@ -1,0 +1,3 @@
+pub mod AnsweredLemmas
+pub mod BlockLemmas
+pub mod FollowLemmas

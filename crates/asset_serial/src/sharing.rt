@@ -1,0 +1,58 @@
+//! Whether those who committed shared nothing.
+
+ghost use Rattle.std.specs.Prelude.{◌≡◌, ◌↔◌, ◌<◌, length, reverse, slice_get, Some, IfOk, IsTrue};
+ghost use Rattle.std.specs.List.{list_all};
+ghost use Rattle.asset_names.specs.Arrows.{lists};
+ghost use Rattle.asset_names.specs.Steps.{Entry};
+ghost use Rattle.asset_names.specs.Groups.{actor, partner, joins};
+ghost use Rattle.asset_names.specs.Answers.{IsLegal};
+ghost use Rattle.asset_laws.specs.Serial.{is_apart, shares_nothing, CommittedShareNothing};
+
+use crate::committing::committed_names;
+use asset_deletion::{actor, partner};
+use asset_history::History;
+use asset_names::{NoMemory, Txn};
+use indexmap::IndexSet;
+use std::alloc::Global;
+
+/// Returns whether those who committed shared nothing: no entry, refused or not, acts on a committed transaction and on
+/// another. It answers `NoMemory` if memory runs out, and takes time that is nearly in proportion to the entries.
+pub fn committed_share_nothing(alloc: Global, history: &History) -> Result<bool, NoMemory>
+    ensures exact { IfOk result (λ nothing. nothing ≡ shares_nothing history.now.entries) }
+    ensures means { IfOk result (λ nothing. IsTrue nothing ↔ CommittedShareNothing history.now.entries) }
+{
+    let committed = committed_names(alloc, history)?;
+    Ok(all_apart(history, &committed))
+}
+
+/// Returns whether no entry joins one of those who are named with another transaction.
+fn all_apart(history: &History, names: &IndexSet<u64>) -> bool
+    ensures apart { result ≡ list_all (is_apart (lists names.now.keys)) (joins history.now.entries) }
+    ensures legal { IsLegal history.now.opening history.now.entries }
+{
+    let mut apart = true;
+    'entries: for i in 0..history.len() {
+        if !apart_at(history, i, names) {
+            apart = false;
+        }
+    }
+    apart
+}
+
+/// Returns whether the entry at the index does not join one of those who are named with another transaction.
+fn apart_at(history: &History, index: usize, names: &IndexSet<u64>) -> bool
+    ensures { (entry : Entry) → slice_get (reverse history.now.entries) index ≡ Some entry →
+        result ≡ is_apart (lists names.now.keys) ((actor entry.0).0, (partner entry.0).0) }
+{
+    match history.entry(index) {
+        Some((step, _)) => are_apart(names, actor(&step), partner(&step)),
+        None => true,
+    }
+}
+
+/// Returns whether the two transactions are one, or neither is named.
+fn are_apart(names: &IndexSet<u64>, t: Txn, u: Txn) -> bool
+    ensures { result ≡ is_apart (lists names.now.keys) (t.0, u.0) }
+{
+    t.0 == u.0 || !(names.contains(&t.0) || names.contains(&u.0))
+}
