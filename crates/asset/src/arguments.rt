@@ -4,7 +4,7 @@ ghost use Rattle.std.specs.Prelude.{◌≡◌, IfSome};
 ghost use Rattle.asset_core.specs.OpenFaults.{IsCapacity};
 ghost use Rattle.asset.specs.Exit.{capacity_of};
 
-use clap::{Arg, Command, Error, value_parser};
+use clap::{Arg, ArgMatches, Command, Error, value_parser};
 use std::alloc::{AllocError, Global};
 use std::rt::Env;
 use std::{env, io};
@@ -51,46 +51,112 @@ pub fn capacity_or_default(requested: Option<u32>) -> Option<usize>
     }
 }
 
+/// What a script is run for, by the first argument.
+#[derive(Clone, Copy, Debug, PartialEq, Eq)]
+pub enum Word {
+    /// Its transcript.
+    Run,
+    /// The script that is left without dead groups.
+    Prune,
+    /// Its groups.
+    Groups,
+}
+
+/// What the arguments ask for.
+#[derive(Clone, Copy, Debug, PartialEq, Eq)]
+pub struct Request {
+    /// What the script is run for.
+    pub word: Word,
+    /// The capacity of the history, if an argument gives one.
+    pub capacity: Option<u32>,
+}
+
 /// How the program is called.
-const USAGE: &str = "asset run [--cap <n>] < SCRIPT";
+const USAGE: &str = "asset [run | prune | groups] [--cap <n>] < SCRIPT";
 
 /// What help says after the arguments.
 const NOTES: &str =
-    "The transcript is written once the input has ended.\n\nExit status:\n  0  every line was looked at, or help or the version was asked for\n  1  the input or the output failed, or memory ran out\n  2  a line is bad, or an argument is refused";
+    "The output is written once the input has ended.\n\nExit status:\n  0  every line was looked at, or help or the version was asked for\n  1  the input or the output failed, or memory ran out\n  2  a line is bad, or an argument is refused";
 
-/// Returns the command line that the program takes.
-fn command<'a>(alloc: Global) -> Result<Command<'a>, AllocError> {
-    let cap = Arg::new(alloc, "cap")
+/// Returns the argument that gives the capacity.
+fn capacity_argument<'a>(alloc: Global) -> Arg<'a> {
+    Arg::new(alloc, "cap")
         .long("cap")
         .value_name("n")
         .help("How many entries the history has room for, from 1 to 1000000")
         .value_parser(value_parser!(u32).range(1..=1_000_000))
-        .default_value("10000");
-    let run = Command::new(alloc, "run")
-        .about("Runs the script on standard input and writes its transcript (the default)")
+        .default_value("10000")
+}
+
+/// Returns the command of one word.
+fn word_command<'a>(
+    alloc: Global,
+    name: &'a str,
+    about: &'a str,
+) -> Result<Command<'a>, AllocError> {
+    Command::new(alloc, name)
+        .about(about)
         .override_usage(USAGE)
         .after_help(NOTES)
-        .arg(cap)?;
+        .arg(capacity_argument(alloc))
+}
+
+/// Returns the command line that the program takes.
+fn command<'a>(alloc: Global) -> Result<Command<'a>, AllocError> {
+    let run = word_command(
+        alloc,
+        "run",
+        "Runs the script on standard input and writes its transcript (the default)",
+    )?;
+    let prune = word_command(
+        alloc,
+        "prune",
+        "Writes the script that is left without dead groups",
+    )?;
+    let groups = word_command(
+        alloc,
+        "groups",
+        "Writes the groups of those who shared something",
+    )?;
     Command::new(alloc, "asset")
         .version("0.1.0")
         .about("ASSET, a facility of transactions that can share their work")
         .override_usage(USAGE)
         .after_help(NOTES)
-        .subcommand(run)
+        .subcommand(run)?
+        .subcommand(prune)?
+        .subcommand(groups)
 }
 
-/// Returns the capacity that the arguments give, if they give one; the program's name comes first among
-/// them. An error may be the help or the version that was asked for.
-pub fn requested_capacity<'a>(
-    alloc: Global,
-    arguments: &'a [String],
-) -> Result<Option<u32>, Error> {
+/// Returns what a script is run for, by the name of its command.
+fn word_named(name: &str) -> Word {
+    match name {
+        "prune" => Word::Prune,
+        "groups" => Word::Groups,
+        _ => Word::Run,
+    }
+}
+
+/// Returns what the matched arguments ask for: a transcript if they name nothing.
+fn request_of(matches: &ArgMatches<'_>) -> Request {
+    match matches.subcommand() {
+        Some((name, given)) => Request {
+            word: word_named(name),
+            capacity: given.get_one::<u32>("cap"),
+        },
+        None => Request {
+            word: Word::Run,
+            capacity: None,
+        },
+    }
+}
+
+/// Returns what the arguments ask for; the program's name comes first among them. An error may be the help or the version
+/// that was asked for.
+pub fn requested<'a>(alloc: Global, arguments: &'a [String]) -> Result<Request, Error> {
     let matches = command(alloc)?.try_get_matches_from(arguments)?;
-    let capacity = match matches.subcommand() {
-        Some((_, run)) => run.get_one::<u32>("cap"),
-        None => None,
-    };
+    let request = request_of(&matches);
     // By name: the call's proof is made once for each type in the matches.
     drop(matches);
-    Ok(capacity)
+    Ok(request)
 }

@@ -5,9 +5,9 @@ ghost use Rattle.clap.specs.Values.{kind_of};
 ghost use Rattle.asset_core.specs.OpenFaults.{IsCapacity};
 ghost use Rattle.asset.specs.Exit.{arguments_status, error_status};
 
-use crate::arguments::{ArgumentsFault, capacity_or_default, requested_capacity};
+use crate::arguments::{ArgumentsFault, Word, capacity_or_default, requested};
 use crate::exit::{status_of_arguments, status_of_error, status_of_run};
-use asset_cli::{Device, run_script};
+use asset_cli::{Device, groups_script, prune_script, run_script};
 use clap::Error;
 use clap::error::ErrorKind;
 use std::alloc::Global;
@@ -61,9 +61,10 @@ fn answer<W: Write, E: Write>(
     status_of_error(error.kind())
 }
 
-/// Runs the script that the reader gives. Returns the exit status.
+/// Runs the script that the reader gives for what the word asks. Returns the exit status.
 fn run<R: Read, W: Write, E: Write>(
     alloc: Global,
+    word: Word,
     capacity: usize,
     input: &mut R,
     output: &mut W,
@@ -73,7 +74,11 @@ fn run<R: Read, W: Write, E: Write>(
 {
     let mut input = Device::new(input);
     let mut output = Device::new(output);
-    let ended = run_script(alloc, &mut input, &mut output, capacity);
+    let ended = match word {
+        Word::Run => run_script(alloc, &mut input, &mut output, capacity),
+        Word::Prune => prune_script(alloc, &mut input, &mut output, capacity),
+        Word::Groups => groups_script(alloc, &mut input, &mut output, capacity),
+    };
     if let Err(fault) = ended {
         let _ = writeln!(errors, "asset: {fault}");
     }
@@ -88,9 +93,9 @@ fn run_with<R: Read, W: Write, E: Write>(
     output: &mut W,
     errors: &mut E,
 ) -> u8 {
-    match requested_capacity(alloc, arguments) {
-        Ok(requested) => match capacity_or_default(requested) {
-            Some(capacity) => run(alloc, capacity, input, output, errors),
+    match requested(alloc, arguments) {
+        Ok(request) => match capacity_or_default(request.capacity) {
+            Some(capacity) => run(alloc, request.word, capacity, input, output, errors),
             None => {
                 let _ = writeln!(errors, "asset: a capacity is a number from 1 to 1000000");
                 2

@@ -1,7 +1,7 @@
 //! The program over readers and writers in memory: exit statuses, and the texts of help, of refusals and
 //! of faults.
 
-use crate::arguments::{ArgumentsFault, capacity_or_default, requested_capacity};
+use crate::arguments::{ArgumentsFault, Request, Word, capacity_or_default, requested};
 use crate::exit::{status_of_arguments, status_of_run};
 use crate::program::run_program;
 use asset_cli::{RunEnd, ScriptFault};
@@ -162,10 +162,10 @@ fn arguments_that_could_not_be_read(rt: HostRuntime) -> Result<(), Fail> {
 #[test]
 fn help_goes_to_the_output(rt: HostRuntime) -> Result<(), Fail> {
     let help =
-        "ASSET, a facility of transactions that can share their work\n\nUsage: asset run [--cap <n>] < SCRIPT\n\nCommands:\n  run   Runs the script on standard input and writes its transcript (the default)\n  help  Print this message or the help of the given subcommand(s)\n\nOptions:\n  -h, --help     Print help\n  -V, --version  Print version\n\nThe transcript is written once the input has ended.\n\nExit status:\n  0  every line was looked at, or help or the version was asked for\n  1  the input or the output failed, or memory ran out\n  2  a line is bad, or an argument is refused\n";
+        "ASSET, a facility of transactions that can share their work\n\nUsage: asset [run | prune | groups] [--cap <n>] < SCRIPT\n\nCommands:\n  run     Runs the script on standard input and writes its transcript (the default)\n  prune   Writes the script that is left without dead groups\n  groups  Writes the groups of those who shared something\n  help    Print this message or the help of the given subcommand(s)\n\nOptions:\n  -h, --help     Print help\n  -V, --version  Print version\n\nThe output is written once the input has ended.\n\nExit status:\n  0  every line was looked at, or help or the version was asked for\n  1  the input or the output failed, or memory ran out\n  2  a line is bad, or an argument is refused\n";
     expect(&rt, &["--help"], FULL, (help, "", 0))?;
     let run_help =
-        "Runs the script on standard input and writes its transcript (the default)\n\nUsage: asset run [--cap <n>] < SCRIPT\n\nOptions:\n      --cap <n>  How many entries the history has room for, from 1 to 1000000 [default: 10000]\n  -h, --help     Print help\n\nThe transcript is written once the input has ended.\n\nExit status:\n  0  every line was looked at, or help or the version was asked for\n  1  the input or the output failed, or memory ran out\n  2  a line is bad, or an argument is refused\n";
+        "Runs the script on standard input and writes its transcript (the default)\n\nUsage: asset [run | prune | groups] [--cap <n>] < SCRIPT\n\nOptions:\n      --cap <n>  How many entries the history has room for, from 1 to 1000000 [default: 10000]\n  -h, --help     Print help\n\nThe output is written once the input has ended.\n\nExit status:\n  0  every line was looked at, or help or the version was asked for\n  1  the input or the output failed, or memory ran out\n  2  a line is bad, or an argument is refused\n";
     expect(&rt, &["run", "--help"], FULL, (run_help, "", 0))
 }
 
@@ -190,27 +190,15 @@ fn other_arguments_are_refused(rt: HostRuntime) -> Result<(), Fail> {
     for (texts, expected) in [
         (
             &["--cap", "5"][..],
-            "error: unexpected argument '--cap' found\n\nUsage: asset run [--cap <n>] < SCRIPT\n\nFor more information, try '--help'.\n",
+            "error: unexpected argument '--cap' found\n\nUsage: asset [run | prune | groups] [--cap <n>] < SCRIPT\n\nFor more information, try '--help'.\n",
         ),
         (
             &["run", "x"][..],
-            "error: unexpected argument 'x' found\n\nUsage: asset run [--cap <n>] < SCRIPT\n\nFor more information, try '--help'.\n",
-        ),
-        (
-            &["groups"][..],
-            "error: unrecognized subcommand 'groups'\n\nUsage: asset run [--cap <n>] < SCRIPT\n\nFor more information, try '--help'.\n",
-        ),
-        (
-            &["sources"][..],
-            "error: unrecognized subcommand 'sources'\n\nUsage: asset run [--cap <n>] < SCRIPT\n\nFor more information, try '--help'.\n",
+            "error: unexpected argument 'x' found\n\nUsage: asset [run | prune | groups] [--cap <n>] < SCRIPT\n\nFor more information, try '--help'.\n",
         ),
         (
             &["jobs"][..],
-            "error: unrecognized subcommand 'jobs'\n\nUsage: asset run [--cap <n>] < SCRIPT\n\nFor more information, try '--help'.\n",
-        ),
-        (
-            &["prune"][..],
-            "error: unrecognized subcommand 'prune'\n\n  tip: a similar subcommand exists: 'run'\n\nUsage: asset run [--cap <n>] < SCRIPT\n\nFor more information, try '--help'.\n",
+            "error: unrecognized subcommand 'jobs'\n\nUsage: asset [run | prune | groups] [--cap <n>] < SCRIPT\n\nFor more information, try '--help'.\n",
         ),
     ] {
         expect_refused(&rt, texts, expected)?;
@@ -239,26 +227,63 @@ fn path_is_refused_with_the_right_call(rt: HostRuntime) -> Result<(), Fail> {
     Ok(())
 }
 
-/// Returns the capacity that the arguments ask for, if they are taken.
-fn capacity(rt: &HostRuntime, texts: &[&str]) -> Result<Option<usize>, AllocError> {
+/// Returns what the arguments ask for, if they are taken.
+fn request(rt: &HostRuntime, texts: &[&str]) -> Result<Option<Request>, AllocError> {
     let arguments = list(rt.alloc(), texts)?;
-    match requested_capacity(rt.alloc(), arguments.as_slice()) {
-        Ok(requested) => Ok(capacity_or_default(requested)),
+    match requested(rt.alloc(), arguments.as_slice()) {
+        Ok(request) => Ok(Some(request)),
         Err(_) => Ok(None),
     }
 }
 
 #[test]
-fn arguments_give_the_capacity(rt: HostRuntime) {
-    for (texts, expected) in [
-        (&[][..], 10_000),
-        (&["run"][..], 10_000),
-        (&["run", "--cap", "4"][..], 4),
-        (&["run", "--cap", "1"][..], 1),
-        (&["run", "--cap=1000000"][..], 1_000_000),
+fn arguments_give_the_word_and_the_capacity(rt: HostRuntime) {
+    for (texts, word, capacity) in [
+        (&[][..], Word::Run, None),
+        (&["run"][..], Word::Run, Some(10_000)),
+        (&["run", "--cap", "4"][..], Word::Run, Some(4)),
+        (&["run", "--cap", "1"][..], Word::Run, Some(1)),
+        (&["run", "--cap=1000000"][..], Word::Run, Some(1_000_000)),
+        (&["prune"][..], Word::Prune, Some(10_000)),
+        (&["prune", "--cap", "5"][..], Word::Prune, Some(5)),
+        (&["groups"][..], Word::Groups, Some(10_000)),
+        (&["groups", "--cap=6"][..], Word::Groups, Some(6)),
     ] {
-        assert_eq!(rt; capacity(&rt, texts), Ok(Some(expected)));
+        assert_eq!(rt; request(&rt, texts), Ok(Some(Request { word, capacity })));
     }
+}
+
+/// Two transactions that share nothing: 7 commits, and 8 does not.
+const TWO: &[u8] =
+    b"object 1 100\ninitiate 7\nbegin 7\ninitiate 8\nbegin 8\nwrite 7 1 50\ncomplete 7\ncommit 7\nabort 8\n";
+
+#[test]
+fn each_word_writes_its_text(rt: HostRuntime) -> Result<(), Fail> {
+    let left = "object 1 100\ninitiate 7\nbegin 7\nwrite 7 1 50\ncomplete 7\ncommit 7\n";
+    expect(&rt, &["prune"], TWO, (left, "", 0))?;
+    expect(&rt, &["groups"], TWO, ("0 committed 7\n1 dead 8\n", "", 0))
+}
+
+#[test]
+fn words_use_the_capacity(rt: HostRuntime) -> Result<(), Fail> {
+    let left = "initiate 7\nbegin 7\ncomplete 7\ncommit 7\n";
+    expect(&rt, &["prune", "--cap", "4"], FULL, (left, "", 0))?;
+    expect(
+        &rt,
+        &["groups", "--cap", "4"],
+        FULL,
+        ("0 committed 7\n", "", 0),
+    )?;
+    expect(&rt, &["groups"], FULL, ("0 committed 7\n1 dead 8\n", "", 0))
+}
+
+#[test]
+fn bad_line_is_all_that_a_word_writes(rt: HostRuntime) -> Result<(), Fail> {
+    for word in ["prune", "groups"] {
+        let text = "line 2: bad command\n";
+        expect(&rt, &[word], b"initiate 7\nbegin\n", (text, "", 2))?;
+    }
+    Ok(())
 }
 
 #[test]

@@ -3,3 +3,4 @@ pub mod TranscriptLemmas
 pub mod OpeningLemmas
 pub mod PreambleLemmas
 pub mod RunLemmas
+pub mod ReportingLemmas

@@ -15,20 +15,20 @@ use Rattle.asset_cli.specs.Preamble.{Takes, transcript_from}
 
 pub takes_blank : (line : List ℕ) (opening : Opening) → line_of line ≡ Blank → Takes More line opening opening
 unfolding Takes objects_transcript object_line
-takes_blank line opening e = λ more n capacity. rw e
+takes_blank line opening e = λ prints more n capacity. rw e
 
 pub takes_object : (line : List ℕ) (opening : Opening) (object : Ob × ℤ) → line_of line ≡ Command (Object object) → exists opening object.0.0 ≡ false → Takes More line opening (opening ++ object ∷ [])
 unfolding Takes objects_transcript object_line
-takes_object line opening object e new = λ more n capacity. rw (e, new)
+takes_object line opening object e new = λ prints more n capacity. rw (e, new)
 
-pub takes_double : (line : List ℕ) (opening opening' : Opening) (object : Ob × ℤ) → line_of line ≡ Command (Object object) → exists opening object.0.0 ≡ true → Takes Bad line opening opening'
+pub takes_double : (line : List ℕ) (opening : Opening) (object : Ob × ℤ) → line_of line ≡ Command (Object object) → exists opening object.0.0 ≡ true → Takes Bad line opening opening
 unfolding Takes transcript_from objects_transcript object_line
-takes_double line opening opening' object e there = λ more n capacity. rw (e, there)
+takes_double line opening object e there = λ prints more n capacity. rw (e, there)
 
 pub takes_step : (line : List ℕ) (opening : Opening) (step : Step) → line_of line ≡ Command (Ask step) → Takes (First step) line opening opening
 unfolding Takes transcript_from steps_from objects_transcript steps_transcript object_line
-takes_step line opening step e = λ more n capacity. rw e
+takes_step line opening step e = λ prints more n capacity. rw e
 
 pub takes_bad : (line : List ℕ) (opening : Opening) → line_of line ≡ Line'.Bad → Takes Bad line opening opening
 unfolding Takes transcript_from objects_transcript object_line
-takes_bad line opening e = λ more n capacity. rw e
+takes_bad line opening e = λ prints more n capacity. rw e

@@ -4,3 +4,4 @@ pub mod Transcript
 pub mod Rendering
 pub mod Preamble
 pub mod Runs
+pub mod Reporting

@@ -9,10 +9,11 @@ mod opening_objects;
 mod preamble;
 mod reading;
 mod rendering;
+mod reporting;
 mod running;
 mod writing;
 
 pub use device::Device;
 pub use ends::RunEnd;
 pub use faults::ScriptFault;
-pub use running::run_script;
+pub use running::{groups_script, prune_script, run_script};

@@ -1,5 +1,5 @@
 //! The object lines, which stand before the first step.
-ghost use Rattle.std.specs.Prelude.{◌≡◌, ℕ, ◌+◌, ◌^◌, ◌<◌, ◌≤◌, [], length, IfOk, OnOk, IfErr};
+ghost use Rattle.std.specs.Prelude.{◌≡◌, ℕ, Bool, ◌+◌, ◌^◌, ◌<◌, ◌≤◌, [], length, IfOk, OnOk, IfErr};
 ghost use Rattle.asset_names.specs.Sets.{HasNoDouble};
 ghost use Rattle.asset_core.specs.OpenFaults.{objects_of};
 ghost use Rattle.asset_grammar.specs.Lines.{lines};
@@ -60,8 +60,8 @@ pub(crate) fn take_objects<'a>(
 ) -> Result<Preamble<'a>, ScriptFault>
     requires empty { opening.old ≡ [] }
     requires few { length (lines bytes.now) + 1 < 2 ^ 64 }
-    ensures rendered { IfOk result (λ preamble. (capacity : ℕ) →
-        objects_transcript (lines bytes.now) 1 [] capacity ≡ transcript_from preamble.line (lines preamble.rest.now) preamble.number opening.new capacity) }
+    ensures rendered { IfOk result (λ preamble. (prints : Bool) (capacity : ℕ) →
+        objects_transcript prints (lines bytes.now) 1 [] capacity ≡ transcript_from prints preamble.line (lines preamble.rest.now) preamble.number opening.new capacity) }
     ensures few { IfOk result (λ preamble. preamble.number + length (lines preamble.rest.now) ≤ 1 + length (lines bytes.now)) }
     ensures different { OnOk result (HasNoDouble (objects_of opening.new)) }
     ensures memory { IfErr result (λ fault. fault ≡ ScriptFault.NoMemory) }

@@ -1,18 +1,42 @@
-//! Runs a script: reads all of it, renders its transcript, and writes that.
-ghost use Rattle.std.specs.Prelude.{◌≡◌, false, OnOk, IfOk, IfErr};
+//! Runs a script: reads all of it, renders what it is run for, and writes that.
+ghost use Rattle.std.specs.Prelude.{◌≡◌, true, false, OnOk, IfOk, IfErr};
 ghost use Rattle.asset_core.specs.OpenFaults.{IsCapacity};
 ghost use Rattle.asset_cli.specs.Device.{IsUnused};
 ghost use Rattle.asset_cli.specs.Transcript.{transcript};
+ghost use Rattle.asset_cli.specs.Reporting.{grouped, pruned, reported, transcript_of};
 ghost use Rattle.asset_cli.specs.Runs.{WroteAll, Stops};
 
 use crate::device::Device;
 use crate::ends::RunEnd;
 use crate::faults::ScriptFault;
 use crate::reading::read_all;
-use crate::rendering::render;
+use crate::reporting::{Report, Work, render};
 use crate::writing::write_all;
 use std::alloc::Global;
 use std::io::{Read, Write};
+
+/// Reads the script that the reader gives, renders what it is run for, and writes that, as `run_script` does.
+fn run_for<R: Read, W: Write>(
+    alloc: Global,
+    input: &mut Device<R>,
+    output: &mut Device<W>,
+    capacity: usize,
+    work: Work,
+) -> Result<RunEnd, ScriptFault>
+    requires capacity { IsCapacity capacity }
+    requires unused_input { IsUnused input.old }
+    requires unused_output { IsUnused output.old }
+    ensures sound_input { OnOk result (input.new.failed ≡ false) }
+    ensures sound_output { OnOk result (output.new.failed ≡ false) }
+    ensures wrote { IfOk result (WroteAll R.remaining W.contents (λ bytes. transcript_of work bytes capacity) input.old input.new output.old output.new) }
+    ensures stopped { IfErr result (Stops R.remaining W.contents (λ bytes. transcript_of work bytes capacity) input.old input.new output.old output.new) }
+{
+    let bytes = read_all(alloc, input)?;
+    let mut text = String::new(alloc);
+    let end = render(alloc, &bytes, capacity, work, &mut text)?;
+    write_all(output, text.as_bytes())?;
+    Ok(end)
+}
 
 /// Runs the script that the reader gives, over a history with room for `capacity` entries, and writes its
 /// transcript. On `Ok` the transcript of all bytes that the reader gave was written, and nothing else; it
@@ -35,12 +59,48 @@ pub fn run_script<R: Read, W: Write>(
     requires unused_output { IsUnused output.old }
     ensures sound_input { OnOk result (input.new.failed ≡ false) }
     ensures sound_output { OnOk result (output.new.failed ≡ false) }
-    ensures wrote { IfOk result (WroteAll R.remaining W.contents (λ bytes. transcript bytes capacity) input.old input.new output.old output.new) }
-    ensures stopped { IfErr result (Stops R.remaining W.contents (λ bytes. transcript bytes capacity) input.old input.new output.old output.new) }
+    ensures wrote { IfOk result (WroteAll R.remaining W.contents (λ bytes. transcript true bytes capacity) input.old input.new output.old output.new) }
+    ensures stopped { IfErr result (Stops R.remaining W.contents (λ bytes. transcript true bytes capacity) input.old input.new output.old output.new) }
 {
-    let bytes = read_all(alloc, input)?;
-    let mut text = String::new(alloc);
-    let end = render(alloc, &bytes, capacity, &mut text)?;
-    write_all(output, text.as_bytes())?;
-    Ok(end)
+    run_for(alloc, input, output, capacity, Work::Run)
+}
+
+/// Runs the script that the reader gives, and writes the script that is left without its dead groups: the objects, and the
+/// steps that were answered and are of no dead group. Run again, it gets the replies that they had. A bad line is all that
+/// is written, if there is one. What `run_script` says of faults and requires holds here too.
+pub fn prune_script<R: Read, W: Write>(
+    alloc: Global,
+    input: &mut Device<R>,
+    output: &mut Device<W>,
+    capacity: usize,
+) -> Result<RunEnd, ScriptFault>
+    requires capacity { IsCapacity capacity }
+    requires unused_input { IsUnused input.old }
+    requires unused_output { IsUnused output.old }
+    ensures sound_input { OnOk result (input.new.failed ≡ false) }
+    ensures sound_output { OnOk result (output.new.failed ≡ false) }
+    ensures wrote { IfOk result (WroteAll R.remaining W.contents (λ bytes. reported pruned bytes capacity) input.old input.new output.old output.new) }
+    ensures stopped { IfErr result (Stops R.remaining W.contents (λ bytes. reported pruned bytes capacity) input.old input.new output.old output.new) }
+{
+    run_for(alloc, input, output, capacity, Work::Report(Report::Pruned))
+}
+
+/// Runs the script that the reader gives, and writes a line for each group of the history that it leaves, in order of
+/// number: the number, `committed` if a member has committed and `dead` if none has, and the members in order of first use.
+/// A bad line is all that is written, if there is one. What `run_script` says of faults and requires holds here too.
+pub fn groups_script<R: Read, W: Write>(
+    alloc: Global,
+    input: &mut Device<R>,
+    output: &mut Device<W>,
+    capacity: usize,
+) -> Result<RunEnd, ScriptFault>
+    requires capacity { IsCapacity capacity }
+    requires unused_input { IsUnused input.old }
+    requires unused_output { IsUnused output.old }
+    ensures sound_input { OnOk result (input.new.failed ≡ false) }
+    ensures sound_output { OnOk result (output.new.failed ≡ false) }
+    ensures wrote { IfOk result (WroteAll R.remaining W.contents (λ bytes. reported grouped bytes capacity) input.old input.new output.old output.new) }
+    ensures stopped { IfErr result (Stops R.remaining W.contents (λ bytes. reported grouped bytes capacity) input.old input.new output.old output.new) }
+{
+    run_for(alloc, input, output, capacity, Work::Report(Report::Groups))
 }

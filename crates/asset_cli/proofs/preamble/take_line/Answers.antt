@@ -16,7 +16,7 @@ pub returns-else-branch-clause-takes : goal.returns-else-branch-clause-takes
 returns-else-branch-clause-takes c =
     let took = c.in_ok-add-in-Command-Object.ensures in
     let is = rw c.in-Command-Object.field-0-is at c.in-Command-Object.ensures in
-    takes_double _ _ _ _ (sym is) (not-false _ (sym took.added ∙ c.if-branch.false))
+    rw (rw c.if-branch.false at took.kept) (takes_double _ _ _ (sym is) (not-false _ (sym took.added ∙ c.if-branch.false)))
 
 pub returns-in-Command-Ask-clause-takes : goal.returns-in-Command-Ask-clause-takes
 returns-in-Command-Ask-clause-takes c = takes_step _ _ _ (sym (rw c.in-Command-Ask.field-0-is at c.in-Command-Ask.ensures))

@@ -1,4 +1,4 @@
-use Rattle.std.proofs.Common.{◌≡◌, ℕ, ◌+◌, [], length}
+use Rattle.std.proofs.Common.{◌≡◌, ℕ, Bool, ◌+◌, [], length}
 use Rattle.asset_names.specs.Sets.{HasNoDouble}
 use Rattle.asset_core.specs.OpenFaults.{objects_of}
 use Rattle.asset_grammar.specs.Lines.{lines}
@@ -8,7 +8,7 @@ use Rattle.asset_cli.proofs.preamble.take_objects.Given as goal
 -- the lines left render, over the opening so far, what all of them do
 abbrev pub invariant-lines : goal.invariant-lines
 invariant-lines l = record {
-  rendered : (capacity : ℕ) → objects_transcript (lines l.bytes) 1 [] capacity ≡ objects_transcript (lines l.left) l.number l.opening capacity;
+  rendered : (prints : Bool) (capacity : ℕ) → objects_transcript prints (lines l.bytes) 1 [] capacity ≡ objects_transcript prints (lines l.left) l.number l.opening capacity;
   count : l.number + length (lines l.left) ≡ 1 + length (lines l.bytes);
   different : HasNoDouble (objects_of l.opening);
 }

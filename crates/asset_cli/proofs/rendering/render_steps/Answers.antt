@@ -5,10 +5,10 @@ use Rattle.asset_cli.proofs.rendering.render_steps.Goals as goal
 
 pub lines-init : goal.lines-init
 lines-init c = record {
-  rendered = step_goes_on _ _ _ _ _ _ _ c.in_ok-ask.ensures.text c.in_ok-ask.ensures.history;
+  rendered = step_goes_on _ _ _ _ _ _ _ _ c.in_ok-ask.ensures.text c.in_ok-ask.ensures.history;
   count = refl;
 }
 
 pub returns-clause-rendered : goal.returns-clause-rendered
 unfolding lines
-returns-clause-rendered c = ends_later _ _ _ _ _ _ c.lines.invariant.rendered (rw c.in_default.ensures (none_ends _ _ _))
+returns-clause-rendered c = ends_later _ _ _ _ _ _ _ c.lines.invariant.rendered (rw c.in_default.ensures (none_ends _ _ _ _))

@@ -8,7 +8,7 @@ use Rattle.asset_cli.proofs.rendering.render_steps.Given as goal
 -- the text so far, with what the lines left print, is the text at first with the whole transcript
 abbrev pub invariant-lines : goal.invariant-lines
 invariant-lines l = record {
-  rendered : GoesOn (string_bytes l.fn.text) (steps_from l.fn.first (lines l.rest) l.number l.fn.core.history) (string_bytes l.text) (steps_transcript (lines l.left) l.line_number l.core.history);
+  rendered : GoesOn (string_bytes l.fn.text) (steps_from l.prints l.fn.first (lines l.rest) l.number l.fn.core.history) (string_bytes l.text) (steps_transcript l.prints (lines l.left) l.line_number l.core.history);
   count : l.line_number + length (lines l.left) ≡ l.number + 1 + length (lines l.rest);
 }
 

@@ -1,0 +1,8 @@
+use Rattle.asset_cli.proofs.ReportingLemmas.{report_renders, bad_line_renders}
+use Rattle.asset_cli.proofs.reporting.render_report.Goals as goal
+
+pub returns-in-Ok-clause-rendered : goal.returns-in-Ok-clause-rendered
+returns-in-Ok-clause-rendered c = report_renders _ _ _ _ _ _ _ _ (rw c.in-Ok-Finished.field-0-is at c.in-Ok-Finished.ensures.played) c.in-Ok.ensures.text c.in-Ok.ensures.end
+
+pub returns-in-Ok-BadLine-clause-rendered : goal.returns-in-Ok-BadLine-clause-rendered
+returns-in-Ok-BadLine-clause-rendered c = bad_line_renders _ _ _ _ _ _ (rw c.in-Ok-BadLine.field-0-is at c.in-Ok-BadLine.ensures.played)

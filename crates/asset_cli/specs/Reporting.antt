@@ -1,0 +1,48 @@
+-- What scripts are run for: their transcript, or a report on the history that they leave.
+use Rattle.std.specs.Prelude.{ℕ, true, false, List, ◌++◌}
+use Rattle.asset_history.specs.Recorded.{Recorded}
+use Rattle.asset_reports.specs.Reports.{pruned_text}
+use Rattle.asset_reports.specs.Groups.{groups_text}
+use Rattle.asset_cli.specs.declared.ends.RunEnd.{RunEnd}
+use Rattle.asset_cli.specs.declared.ends.RunEnd.TheVariants.{Finished}
+use Rattle.asset_cli.specs.declared.reporting.Report.{Report}
+use Rattle.asset_cli.specs.declared.reporting.Report.TheVariants as Report'
+use Rattle.asset_cli.specs.declared.reporting.Work.{Work}
+use Rattle.asset_cli.specs.declared.reporting.Work.TheVariants as Work'
+use Rattle.asset_cli.specs.Transcript.{Transcript, transcript}
+
+-- the text of a report, and how a run ends with it
+pub record Reported : Type 0 where
+  pub text : List ℕ
+  pub end : RunEnd
+
+-- a report that can always be made
+abbrev pub always : List ℕ → Reported
+always text = record { text = text; end = Finished }
+
+-- the script that is left without dead groups
+abbrev pub pruned : Recorded → Reported
+pruned history = always (pruned_text history)
+
+-- the groups
+abbrev pub grouped : Recorded → Reported
+grouped history = always (groups_text history.entries)
+
+-- the report follows what was played, unless a line was bad
+unfoldable pub followed_by : RunEnd → Transcript → Reported → Transcript
+followed_by Finished run report = record run { text = run.text ++ report.text; end = report.end }
+followed_by end run report = run
+
+-- A report on the history that a script leaves. Its steps print nothing; a bad line is all that is printed then.
+unfoldable pub reported : (Recorded → Reported) → List ℕ → ℕ → Transcript
+reported report bytes capacity = followed_by (transcript false bytes capacity).end (transcript false bytes capacity) (report (transcript false bytes capacity).history)
+
+-- each kind of report
+abbrev pub report_of : Report → Recorded → Reported
+report_of Report'.Pruned = pruned
+report_of Report'.Groups = grouped
+
+-- what each work gives of the bytes of a script
+abbrev pub transcript_of : Work → List ℕ → ℕ → Transcript
+transcript_of Work'.Run bytes capacity = transcript true bytes capacity
+transcript_of (Work'.Report report) bytes capacity = reported (report_of report) bytes capacity

@@ -1,0 +1,112 @@
+//! What scripts are run for: their transcript, or a report on the history that they leave.
+ghost use Rattle.std.specs.Prelude.{◌≡◌, true, ◌++◌, ◌≤◌, length, IfOk, IfErr, string_bytes};
+ghost use Rattle.asset_core.specs.OpenFaults.{IsCapacity};
+ghost use Rattle.asset_cli.specs.Transfers.{input_limit};
+ghost use Rattle.asset_cli.specs.Transcript.{transcript};
+ghost use Rattle.asset_cli.specs.Rendering.{Renders};
+ghost use Rattle.asset_cli.specs.Reporting.{report_of, reported, transcript_of};
+
+use crate::ends::RunEnd;
+use crate::faults::ScriptFault;
+use crate::rendering::{Played, play};
+use asset_history::History;
+use asset_names::NoMemory;
+use asset_reports::{push_groups, push_pruned};
+use std::alloc::Global;
+
+/// A report on the history that a script leaves.
+#[derive(Clone, Copy)]
+pub(crate) enum Report {
+    /// The script without dead groups.
+    Pruned,
+    /// The groups.
+    Groups,
+}
+
+/// What a script is run for.
+#[derive(Clone, Copy)]
+pub(crate) enum Work {
+    /// Its transcript.
+    Run,
+    /// A report on the history that it leaves.
+    Report(Report),
+}
+
+/// Appends a report on a history to the text. Returns how the run ends with it.
+fn push_report(
+    alloc: Global,
+    history: &History,
+    report: Report,
+    text: &mut String,
+) -> Result<RunEnd, NoMemory>
+    ensures text { IfOk result (λ _. string_bytes text.new ≡ string_bytes text.old ++ (report_of report history.now).text) }
+    ensures end { IfOk result (λ end. end ≡ (report_of report history.now).end) }
+{
+    match report {
+        Report::Pruned => push_pruned(alloc, history, text)?,
+        Report::Groups => push_groups(alloc, history, text)?,
+    }
+    Ok(RunEnd::Finished)
+}
+
+/// Appends what was played and then a report on the history that is left, unless a line is bad.
+fn render_report(
+    alloc: Global,
+    bytes: &[u8],
+    capacity: usize,
+    report: Report,
+    text: &mut String,
+) -> Result<RunEnd, ScriptFault>
+    requires capacity { IsCapacity capacity }
+    requires limit { length bytes.now ≤ input_limit }
+    ensures rendered { IfOk result (λ end. Renders (string_bytes text.old) (reported (report_of report) bytes.now capacity) (string_bytes text.new) end) }
+    ensures memory { IfErr result (λ fault. fault ≡ ScriptFault.NoMemory) }
+{
+    match play(alloc, bytes, capacity, text, false) {
+        Ok(Played::Finished(history)) => match push_report(alloc, &history, report, text) {
+            Ok(end) => Ok(end),
+            Err(NoMemory) => Err(ScriptFault::NoMemory),
+        },
+        Ok(Played::BadLine(number)) => Ok(RunEnd::BadLine(number)),
+        Err(fault) => Err(fault),
+    }
+}
+
+/// Appends the transcript of a script, and drops the history that is left.
+fn render_run(
+    alloc: Global,
+    bytes: &[u8],
+    capacity: usize,
+    text: &mut String,
+) -> Result<RunEnd, ScriptFault>
+    requires capacity { IsCapacity capacity }
+    requires limit { length bytes.now ≤ input_limit }
+    ensures rendered { IfOk result (λ end. Renders (string_bytes text.old) (transcript true bytes.now capacity) (string_bytes text.new) end) }
+    ensures memory { IfErr result (λ fault. fault ≡ ScriptFault.NoMemory) }
+{
+    match play(alloc, bytes, capacity, text, true) {
+        Ok(Played::Finished(_)) => Ok(RunEnd::Finished),
+        Ok(Played::BadLine(number)) => Ok(RunEnd::BadLine(number)),
+        Err(fault) => Err(fault),
+    }
+}
+
+/// Appends what the work gives of a script to the text. Returns how the run ends. After an error a part of it may have been
+/// appended.
+pub(crate) fn render(
+    alloc: Global,
+    bytes: &[u8],
+    capacity: usize,
+    work: Work,
+    text: &mut String,
+) -> Result<RunEnd, ScriptFault>
+    requires capacity { IsCapacity capacity }
+    requires limit { length bytes.now ≤ input_limit }
+    ensures rendered { IfOk result (λ end. Renders (string_bytes text.old) (transcript_of work bytes.now capacity) (string_bytes text.new) end) }
+    ensures memory { IfErr result (λ fault. fault ≡ ScriptFault.NoMemory) }
+{
+    match work {
+        Work::Run => render_run(alloc, bytes, capacity, text),
+        Work::Report(report) => render_report(alloc, bytes, capacity, report, text),
+    }
+}
