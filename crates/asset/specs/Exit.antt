@@ -3,15 +3,16 @@ use Rattle.std.specs.Prelude.{ℕ, ◌&&◌, cond, nat_le, Option, None, Some, R
 use Rattle.clap.specs.declared.error.kind.ErrorKind.{ErrorKind}
 use Rattle.clap.specs.declared.error.kind.ErrorKind.TheVariants as ErrorKind'
 use Rattle.asset_cli.specs.declared.ends.RunEnd.{RunEnd}
-use Rattle.asset_cli.specs.declared.ends.RunEnd.TheVariants.{Finished, BadLine}
+use Rattle.asset_cli.specs.declared.ends.RunEnd.TheVariants.{Finished, BadLine, Shared}
 use Rattle.asset_cli.specs.declared.faults.ScriptFault.{ScriptFault}
 use Rattle.asset.specs.declared.arguments.ArgumentsFault.{ArgumentsFault}
 use Rattle.asset.specs.declared.arguments.ArgumentsFault.TheVariants.{NotText, NoMemory}
 
--- a run: 0 if each line was looked at, 2 if one was bad, and 1 at a fault
+-- a run: 0 if each line was looked at, 2 if one was bad, and 1 at a fault or if there is no serial history
 unfoldable pub run_status : Result RunEnd ScriptFault → ℕ
 run_status (Ok Finished) = 0
 run_status (Ok (BadLine n)) = 2
+run_status (Ok Shared) = 1
 run_status (Err fault) = 1
 
 -- arguments that could not be read: 1 if memory ran out, and 2 if one is not valid UTF-8

@@ -60,6 +60,8 @@ pub enum Word {
     Prune,
     /// Its groups.
     Groups,
+    /// The script of those who committed, one after another.
+    Serial,
 }
 
 /// What the arguments ask for.
@@ -72,11 +74,11 @@ pub struct Request {
 }
 
 /// How the program is called.
-const USAGE: &str = "asset [run | prune | groups] [--cap <n>] < SCRIPT";
+const USAGE: &str = "asset [run | prune | groups | serial] [--cap <n>] < SCRIPT";
 
 /// What help says after the arguments.
 const NOTES: &str =
-    "The output is written once the input has ended.\n\nExit status:\n  0  every line was looked at, or help or the version was asked for\n  1  the input or the output failed, or memory ran out\n  2  a line is bad, or an argument is refused";
+    "The output is written once the input has ended.\n\nExit status:\n  0  every line was looked at, or help or the version was asked for\n  1  the input or the output failed, memory ran out, or serial found something shared\n  2  a line is bad, or an argument is refused";
 
 /// Returns the argument that gives the capacity.
 fn capacity_argument<'a>(alloc: Global) -> Arg<'a> {
@@ -118,6 +120,11 @@ fn command<'a>(alloc: Global) -> Result<Command<'a>, AllocError> {
         "groups",
         "Writes the groups of those who shared something",
     )?;
+    let serial = word_command(
+        alloc,
+        "serial",
+        "Writes the script of those who committed, one after another",
+    )?;
     Command::new(alloc, "asset")
         .version("0.1.0")
         .about("ASSET, a facility of transactions that can share their work")
@@ -125,7 +132,8 @@ fn command<'a>(alloc: Global) -> Result<Command<'a>, AllocError> {
         .after_help(NOTES)
         .subcommand(run)?
         .subcommand(prune)?
-        .subcommand(groups)
+        .subcommand(groups)?
+        .subcommand(serial)
 }
 
 /// Returns what a script is run for, by the name of its command.
@@ -133,6 +141,7 @@ fn word_named(name: &str) -> Word {
     match name {
         "prune" => Word::Prune,
         "groups" => Word::Groups,
+        "serial" => Word::Serial,
         _ => Word::Run,
     }
 }

@@ -1,5 +1,5 @@
-//! The exit status: 0 if all went well, 1 if the reader, the writer or the memory failed, and 2 if the
-//! arguments or a line are refused.
+//! The exit status: 0 if all went well, 1 if the reader, the writer or the memory failed or those who committed shared
+//! something, and 2 if the arguments or a line are refused.
 
 ghost use Rattle.std.specs.Prelude.{◌≡◌};
 ghost use Rattle.asset.specs.Exit.{run_status, arguments_status, error_status};
@@ -16,6 +16,7 @@ pub fn status_of_run(ended: Result<RunEnd, ScriptFault>) -> u8
     match ended {
         Ok(RunEnd::Finished) => 0,
         Ok(RunEnd::BadLine(_)) => 2,
+        Ok(RunEnd::Shared) => 1,
         Err(_) => 1,
     }
 }

@@ -1,10 +1,11 @@
 -- What scripts are run for: their transcript, or a report on the history that they leave.
-use Rattle.std.specs.Prelude.{ℕ, true, false, List, ◌++◌}
+use Rattle.std.specs.Prelude.{ℕ, true, false, cond, List, ◌++◌}
+use Rattle.asset_laws.specs.Serial.{shares_nothing}
 use Rattle.asset_history.specs.Recorded.{Recorded}
-use Rattle.asset_reports.specs.Reports.{pruned_text}
+use Rattle.asset_reports.specs.Reports.{pruned_text, serial_text}
 use Rattle.asset_reports.specs.Groups.{groups_text}
 use Rattle.asset_cli.specs.declared.ends.RunEnd.{RunEnd}
-use Rattle.asset_cli.specs.declared.ends.RunEnd.TheVariants.{Finished}
+use Rattle.asset_cli.specs.declared.ends.RunEnd.TheVariants.{Finished, Shared}
 use Rattle.asset_cli.specs.declared.reporting.Report.{Report}
 use Rattle.asset_cli.specs.declared.reporting.Report.TheVariants as Report'
 use Rattle.asset_cli.specs.declared.reporting.Work.{Work}
@@ -28,6 +29,10 @@ pruned history = always (pruned_text history)
 abbrev pub grouped : Recorded → Reported
 grouped history = always (groups_text history.entries)
 
+-- those who committed, one after another, unless they shared something
+abbrev pub serialized : Recorded → Reported
+serialized history = record { text = serial_text history; end = cond (shares_nothing history.entries) Finished Shared }
+
 -- the report follows what was played, unless a line was bad
 unfoldable pub followed_by : RunEnd → Transcript → Reported → Transcript
 followed_by Finished run report = record run { text = run.text ++ report.text; end = report.end }
@@ -41,6 +46,7 @@ reported report bytes capacity = followed_by (transcript false bytes capacity).e
 abbrev pub report_of : Report → Recorded → Reported
 report_of Report'.Pruned = pruned
 report_of Report'.Groups = grouped
+report_of Report'.Serial = serialized
 
 -- what each work gives of the bytes of a script
 abbrev pub transcript_of : Work → List ℕ → ℕ → Transcript

@@ -7,4 +7,6 @@ pub enum RunEnd {
     Finished,
     /// The line of this number is bad, and those after it were not looked at. Lines count from 1.
     BadLine(u64),
+    /// Those who committed shared something, so there is no serial history. Only `serial_script` ends so.
+    Shared,
 }

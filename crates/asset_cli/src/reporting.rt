@@ -1,5 +1,5 @@
 //! What scripts are run for: their transcript, or a report on the history that they leave.
-ghost use Rattle.std.specs.Prelude.{◌≡◌, true, ◌++◌, ◌≤◌, length, IfOk, IfErr, string_bytes};
+ghost use Rattle.std.specs.Prelude.{◌≡◌, true, cond, ◌++◌, ◌≤◌, length, IfOk, IfErr, string_bytes};
 ghost use Rattle.asset_core.specs.OpenFaults.{IsCapacity};
 ghost use Rattle.asset_cli.specs.Transfers.{input_limit};
 ghost use Rattle.asset_cli.specs.Transcript.{transcript};
@@ -11,7 +11,7 @@ use crate::faults::ScriptFault;
 use crate::rendering::{Played, play};
 use asset_history::History;
 use asset_names::NoMemory;
-use asset_reports::{push_groups, push_pruned};
+use asset_reports::{push_groups, push_pruned, push_serial};
 use std::alloc::Global;
 
 /// A report on the history that a script leaves.
@@ -21,6 +21,8 @@ pub(crate) enum Report {
     Pruned,
     /// The groups.
     Groups,
+    /// The script of those who committed, one after another.
+    Serial,
 }
 
 /// What a script is run for.
@@ -30,6 +32,17 @@ pub(crate) enum Work {
     Run,
     /// A report on the history that it leaves.
     Report(Report),
+}
+
+/// Returns how a run ends with the report on those who committed, by whether there is a serial history.
+fn serial_end(is_there: bool) -> RunEnd
+    ensures { result ≡ cond is_there RunEnd.Finished RunEnd.Shared }
+{
+    if is_there {
+        RunEnd::Finished
+    } else {
+        RunEnd::Shared
+    }
 }
 
 /// Appends a report on a history to the text. Returns how the run ends with it.
@@ -45,6 +58,7 @@ fn push_report(
     match report {
         Report::Pruned => push_pruned(alloc, history, text)?,
         Report::Groups => push_groups(alloc, history, text)?,
+        Report::Serial => return Ok(serial_end(push_serial(alloc, history, text)?)),
     }
     Ok(RunEnd::Finished)
 }

@@ -1,5 +1,5 @@
 -- What one more object or entry adds to a report.
-use Rattle.std.proofs.Common.{◌≡◌, ℕ, ◌+◌, ◌<◌, false, List, [], ◌∷◌, ◌++◌, Some, None, get_or, map, length, take, reverse, refl, sym, ap, ◌∙◌, append_assoc, append-nil, arith}
+use Rattle.std.proofs.Common.{◌≡◌, ℕ, ◌+◌, ◌<◌, false, List, [], ◌∷◌, ◌++◌, Some, None, get_or, map, take, reverse, refl, sym, ap, ◌∙◌, append_assoc, append-nil, arith}
 use Rattle.std.specs.Prelude.{ℤ, Option, flat_map, slice_get}
 use Rattle.std.specs.Option.{option_map}
 use Rattle.std.specs.List.{range_with_len}
@@ -13,7 +13,7 @@ use Rattle.asset_deletion.proofs.NameLemmas.{next_entry}
 use Rattle.asset_printing.specs.Printed.{step_text}
 use Rattle.asset_buckets.specs.Bucketed.{indices_of, buckets_of}
 use Rattle.asset_deletion.specs.Grouping.{Grouping, named}
-use Rattle.asset_reports.specs.Groups.{is_dead_name, members_are_dead, group_line}
+use Rattle.asset_reports.specs.Groups.{is_dead_name, members_are_dead}
 use Rattle.asset_reports.specs.Reports.{opening_line, opening_text, steps_text}
 
 pub opening_more : (opening : Opening) (given : Ob × ℤ) → opening_text (opening ++ given ∷ []) ≡ opening_text opening ++ opening_line given

@@ -1,8 +1,9 @@
 -- What reports on a history say.
-use Rattle.std.specs.Prelude.{ℕ, ℤ, List, [], ◌∷◌, ◌++◌, flat_map}
+use Rattle.std.specs.Prelude.{ℕ, ℤ, cond, List, [], ◌∷◌, ◌++◌, flat_map, codes}
 use Rattle.asset_names.specs.declared.names.Ob.{Ob}
 use Rattle.asset_names.specs.Steps.{Opening, Entry}
 use Rattle.asset_names.specs.Groups.{without}
+use Rattle.asset_laws.specs.Serial.{serial, shares_nothing}
 use Rattle.asset_history.specs.Recorded.{Recorded}
 use Rattle.asset_deletion.specs.Named.{names_of}
 use Rattle.asset_printing.specs.Printed.{object_text, step_text}
@@ -27,3 +28,7 @@ history_text opening entries = opening_text opening ++ steps_text entries
 -- the script that is left without the dead groups
 unfoldable pub pruned_text : Recorded → List ℕ
 pruned_text history = history_text history.opening (without history.entries (names_of history.entries))
+
+-- the script of those who committed, one after another, or one line if they shared something
+unfoldable pub serial_text : Recorded → List ℕ
+serial_text history = cond (shares_nothing history.entries) (history_text history.opening (serial history.entries)) (codes "shared\n")

@@ -1,6 +1,5 @@
-use Rattle.std.proofs.Common.{◌≡◌, ℕ, Some, None, sym, ap, ◌∙◌, slice_get}
-use Rattle.std.specs.Prelude.{Option}
-use Rattle.asset_reports.specs.Groups.{is_dead_name, members_are_dead}
+use Rattle.std.proofs.Common.{sym, ap, ◌∙◌, slice_get}
+use Rattle.asset_reports.specs.Groups.{is_dead_name}
 use Rattle.asset_reports.proofs.ReportLemmas.{told_name, no_name, first_member, no_member}
 use Rattle.asset_reports.proofs.groups_report.is_dead.Goals as goal
 

@@ -1,7 +1,6 @@
-use Rattle.std.proofs.Common.{◌≡◌, ◌++◌, [], List, ℕ, ◌<◌, get_or, string_bytes, refl, sym, ap, ◌∙◌, append_assoc, append-nil, arith}
+use Rattle.std.proofs.Common.{◌≡◌, ◌++◌, [], List, ℕ, ◌<◌, get_or, string_bytes, sym, ap, ◌∙◌, append_assoc, arith}
 use Rattle.std.specs.Prelude.{flat_map}
 use Rattle.std.specs.List.{range_with_len}
-use Rattle.asset_buckets.specs.Bucketed.{indices_of}
 use Rattle.asset_reports.specs.Groups.{group_line, group_text, all_groups_text}
 use Rattle.asset_reports.proofs.ReportLemmas.{lines_more, bucket_line}
 use Rattle.asset_reports.proofs.groups_report.push_all.Goals as goal

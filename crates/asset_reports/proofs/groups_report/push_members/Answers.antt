@@ -1,4 +1,4 @@
-use Rattle.std.proofs.Common.{◌≡◌, ◌++◌, ◌∷◌, [], List, ℕ, get_or, take, string_bytes, refl, sym, ap, ◌∙◌, append_assoc, append-nil, arith}
+use Rattle.std.proofs.Common.{◌++◌, List, ℕ, get_or, take, string_bytes, sym, ap, ◌∙◌, append-nil}
 use Rattle.std.proofs.lemmas.List.{take_more, flat_map_more}
 use Rattle.asset_reports.specs.Groups.{member_word, members_text}
 use Rattle.asset_reports.proofs.groups_report.push_members.Goals as goal

@@ -1,4 +1,4 @@
-use Rattle.std.proofs.Common.{◌≡◌, ◌++◌, ◌∷◌, [], List, ℕ, take, reverse, string_bytes, length, refl, sym, ap, ◌∙◌, append_assoc, append-nil, arith, inl, inr}
+use Rattle.std.proofs.Common.{◌≡◌, ◌++◌, ◌∷◌, [], List, ℕ, take, reverse, string_bytes, sym, ap, ◌∙◌, append_assoc, append-nil, arith, inl, inr}
 use Rattle.std.proofs.lemmas.List.{length-reverse, reverse-reverse, take_all}
 use Rattle.std.proofs.lemmas.Option.{slice_get_cases}
 use Rattle.asset_names.specs.Steps.{Entry}
