@@ -97,7 +97,7 @@ impl Core {
         Core::over(alloc, opening, capacity, tables)
     }
 
-    /// Returns the facility over the tables of an opening.
+    /// Returns the facility over the tables of an opening, which gives no object twice.
     fn over(
         alloc: Global,
         opening: &[(Ob, i64)],
@@ -105,6 +105,7 @@ impl Core {
         tables: Tables,
     ) -> Result<Core, NoMemory>
         requires capacity { IsCapacity capacity }
+        requires different { HasNoDouble (objects_of opening.now) }
         requires shows { Shows opening.now [] (values_of tables) }
         requires locks { tables.locks ≡ [] }
         ensures { IfOk result (λ core. core ≡ facility_of opening.now capacity) }

@@ -12,9 +12,10 @@ use Rattle.asset_names.specs.declared.replies.Refusal.TheVariants as Refusal'
 use Rattle.asset_names.specs.declared.replies.Reply.{Reply}
 use Rattle.asset_names.specs.declared.replies.Reply.TheVariants as Reply'
 use Rattle.asset_names.specs.Steps.{Opening, Entry}
-use Rattle.asset_names.specs.Sets.{no_object_name}
+use Rattle.asset_names.specs.Sets.{no_object_name, HasNoDouble}
 use Rattle.asset_names.specs.OpSets.{OpSet}
 use Rattle.asset_names.specs.Answers.{IsLegal}
+use Rattle.asset_history.specs.Recorded.{objects_of}
 use Rattle.asset_history.specs.declared.reply_tag.ReplyTag.{ReplyTag}
 use Rattle.asset_history.specs.declared.reply_tag.ReplyTag.TheVariants as ReplyTag'
 use Rattle.asset_history.specs.StoredSets.{StoredSet, set_or_all}
@@ -152,9 +153,10 @@ has_set count stored = true
 unfoldable pub all_have_sets : ℕ → List Stored → Bool
 all_have_sets count entries = list_all (has_set count) entries
 
--- a stored history is valid: its entries are legal, and their sets are there; and the room that was reserved is enough
--- for all entries, each of which may have a set
+-- a stored history is valid: its opening gives no object twice, its entries are legal, and their sets are there; and the
+-- room that was reserved is enough for all entries, each of which may have a set
 pub record IsValid (opening : Opening) (entries : List Stored) (sets : List StoredSet) (capacity reserved reserved_sets : ℕ) : Type 0 where
+  pub different : HasNoDouble (objects_of opening)
   pub legal : IsLegal opening (entries_of sets entries)
   pub there : all_have_sets (length sets) entries ≡ true
   pub fewer : length sets ≤ length entries

@@ -7,9 +7,9 @@ use asset_names::{NoMemory, Ob, Reply, Step};
 use std::alloc::{AllocError, Global};
 use std::marker::Model;
 
-/// The opening values of the objects, and the entries: each is a step with its reply. A history is always
-/// legal: each reply is the one answer to its step after the entries before it. Contracts see the opening, the
-/// entries with the newest first, and the capacity.
+/// The opening values of the objects, of which none is given twice, and the entries: each is a step with its reply. A
+/// history is always legal: each reply is the one answer to its step after the entries before it. Contracts see the
+/// opening, the entries with the newest first, and the capacity.
 #[derive(Drop)]
 pub struct History {
     opening: Vec<(Ob, i64)>,
@@ -31,14 +31,16 @@ impl Model for History {
 }
 
 impl History {
-    ghost use Rattle.std.specs.Prelude.{◌≡◌, ◌<◌, ◌≤◌, ◌↔◌, [], length, reverse, slice_get, IfOk, IsTrue};
+    ghost use Rattle.std.specs.Prelude.{◌≡◌, ◌<◌, ◌≤◌, ◌↔◌, ◌^◌, [], length, reverse, slice_get, IfOk, IsTrue};
+    ghost use Rattle.asset_names.specs.Sets.{HasNoDouble};
     ghost use Rattle.asset_names.specs.Answers.{IsLegal};
     ghost use Rattle.asset_names.specs.declared.replies.Outcome.TheVariants.{Answer};
-    ghost use Rattle.asset_history.specs.Recorded.{opened, answer_to, with_entry};
+    ghost use Rattle.asset_history.specs.Recorded.{objects_of, opened, answer_to, with_entry};
 
-    /// Returns a history of these opening values without entries, with room for `capacity` of them. It takes that
-    /// room here, and fails if memory runs out.
+    /// Returns a history of these opening values without entries, with room for `capacity` of them. No object is given
+    /// twice. It takes that room here, and fails if memory runs out.
     pub fn open(alloc: Global, opening: &[(Ob, i64)], capacity: usize) -> Result<History, NoMemory>
+        requires different { HasNoDouble (objects_of opening.now) }
         ensures { IfOk result (λ history. history ≡ opened opening.now capacity) }
     {
         match History::with_room(alloc, opening, capacity) {
@@ -54,6 +56,7 @@ impl History {
         opening: &[(Ob, i64)],
         capacity: usize,
     ) -> Result<History, AllocError>
+        requires different { HasNoDouble (objects_of opening.now) }
         ensures { IfOk result (λ history. history ≡ opened opening.now capacity) }
     {
         Ok(History {
@@ -72,9 +75,10 @@ impl History {
         History::open(*self.entries.allocator(), self.opening(), self.room())
     }
 
-    /// Returns the objects with their opening values, in the order in which they were given.
+    /// Returns the objects with their opening values, in the order in which they were given. None is given twice.
     pub fn opening(&self) -> &[(Ob, i64)]
-        ensures { result.now ≡ self.now.opening }
+        ensures given { result.now ≡ self.now.opening }
+        ensures different { HasNoDouble (objects_of self.now.opening) }
     {
         self.opening.as_slice()
     }
@@ -83,6 +87,7 @@ impl History {
     pub fn len(&self) -> usize
         ensures len { result ≡ length self.now.entries }
         ensures within { length self.now.entries ≤ self.now.capacity }
+        ensures small { length self.now.entries < 2 ^ 63 }
         ensures legal { IsLegal self.now.opening self.now.entries }
     {
         self.entries.len()

@@ -1,5 +1,8 @@
 //! Calls of a facility that are made again if memory runs out once.
 
+ghost use Rattle.std.specs.Prelude.{◌≡◌, IfOk};
+ghost use Rattle.asset_core.specs.Pending.{facility_of};
+
 use asset_core::{Core, OpenFault};
 use asset_names::{Fault, Ob, Outcome, Step, Txn};
 use std::alloc::Global;
@@ -9,7 +12,9 @@ pub(crate) fn opened(
     alloc: Global,
     opening: &[(Ob, i64)],
     capacity: usize,
-) -> Result<Core, OpenFault> {
+) -> Result<Core, OpenFault>
+    ensures { IfOk result (λ core. core ≡ facility_of opening.now capacity) }
+{
     match Core::open(alloc, opening, capacity) {
         Err(OpenFault::NoMemory) => Core::open(alloc, opening, capacity),
         opened => opened,

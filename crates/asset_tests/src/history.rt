@@ -1,11 +1,15 @@
 //! Histories that are appended to, and empty ones like them.
 
-ghost use Rattle.std.specs.Prelude.{◌≡◌, IsTrue};
+ghost use Rattle.std.specs.Prelude.{◌≡◌, [], IsTrue, IfOk};
+ghost use Rattle.asset_history.specs.Recorded.{opened as first, answer_to, after};
 
+use crate::again::{ask, opened};
 use crate::steps::{begin, commit, complete, initiate, write};
 use asset_core::Core;
 use asset_history::History;
-use asset_names::{Ob, ObList, ObSet, Op, Ops, Outcome, Refusal, Reply, Step, Txn};
+use asset_names::{
+    Fault, NoMemory, Ob, ObList, ObSet, Op, Ops, Outcome, Refusal, Reply, Step, Txn,
+};
 use std::test::Fail;
 
 /// Two objects.
@@ -43,6 +47,27 @@ fn step_at(index: u64, obs: &ObSet) -> Step {
     }
 }
 
+/// Returns an empty history like the other. If memory runs out once, it is asked again.
+fn emptied(history: &History) -> Result<History, NoMemory>
+    ensures { IfOk result (λ empty. empty ≡ first history.now.opening history.now.capacity) }
+{
+    match history.empty_like() {
+        Ok(empty) => Ok(empty),
+        Err(NoMemory) => history.empty_like(),
+    }
+}
+
+/// Asks a step. If memory runs out once, nothing has changed and it is asked again.
+fn asked(core: &mut Core, step: &Step) -> Result<Outcome, Fault>
+    ensures answered { IfOk result (λ outcome. outcome ≡ answer_to core.old.history step.now) }
+    ensures grown { IfOk result (λ outcome. core.new.history ≡ after core.old.history step.now outcome) }
+{
+    match core.step(*step) {
+        Err(Fault::NoMemory) => core.step(*step),
+        answer => answer,
+    }
+}
+
 /// Asks a step, and appends it with its reply to a history that is the facility's. Returns whether it could.
 fn follow(core: &mut Core, copy: &mut History, step: &Step) -> bool
     requires { copy.old ≡ core.old.history }
@@ -51,7 +76,7 @@ fn follow(core: &mut Core, copy: &mut History, step: &Step) -> bool
     if copy.len() >= copy.room() {
         return false;
     }
-    match core.step(*step) {
+    match asked(core, step) {
         Ok(Outcome::Answer(reply)) => {
             copy.append(*step, reply);
             true
@@ -83,34 +108,59 @@ fn first_other(history: &History, other: &History) -> Option<usize> {
     None
 }
 
+/// Returns whether an empty history like the facility's becomes like it again, as all steps are asked and appended.
+#[tactic(auto, unfolding(asset_history::specs::Recorded::opened))]
+fn are_appended(core: &mut Core, obs: &ObSet) -> bool
+    requires { core.old.history.entries ≡ [] }
+{
+    match emptied(core.history()) {
+        Ok(mut copy) => {
+            let followed = follow_all(core, &mut copy, obs);
+            let other = first_other(core.history(), &copy);
+            let lens = (core.history().len(), copy.len(), copy.room());
+            drop(copy);
+            followed && other == None && lens == (420, 420, 500)
+        }
+        Err(_) => false,
+    }
+}
+
 #[test]
-#[tactic(auto, unfolding(asset_core::specs::Pending::facility_of))]
+#[tactic(auto, unfolding(asset_core::specs::Pending::facility_of, asset_history::specs::Recorded::opened))]
 fn entries_are_appended(rt: HostRuntime) -> Result<(), Fail> {
     let obs = ObSet::Listed(ObList::of(&[Ob(1), Ob(2)])?);
-    let mut copy = History::open(rt.alloc(), &TWO, ROOM)?;
-    let mut core = Core::open(rt.alloc(), &TWO, ROOM)?;
-    let followed = follow_all(&mut core, &mut copy, &obs);
-    let other = first_other(core.history(), &copy);
-    let lens = (core.history().len(), copy.len(), copy.room());
+    let mut core = opened(rt.alloc(), &TWO, ROOM)?;
+    let held = are_appended(&mut core, &obs);
     drop(core);
-    assert!(rt; followed);
-    assert_eq!(rt; other, None);
-    assert_eq!(rt; lens, (420, 420, 500));
+    assert!(rt; held);
     Ok(())
+}
+
+/// Returns whether an empty history like this one, of one entry, has its opening and room.
+fn is_emptied(history: &History) -> bool {
+    match emptied(history) {
+        Ok(empty) => {
+            let lens = (history.len(), empty.len());
+            let rooms = (history.room(), empty.room());
+            let alike = empty.opening() == &TWO[..];
+            drop(empty);
+            alike && lens == (1, 0) && rooms == (ROOM, ROOM)
+        }
+        Err(_) => false,
+    }
 }
 
 #[test]
 fn empty_history_is_like_another(rt: HostRuntime) -> Result<(), Fail> {
-    let mut core = Core::open(rt.alloc(), &TWO, ROOM)?;
-    let answer = core.step(begin(7));
+    let mut core = opened(rt.alloc(), &TWO, ROOM)?;
+    let answer = ask(&mut core, &begin(7));
     let history = core.into_history();
-    let empty = history.empty_like()?;
+    let alike = is_emptied(&history);
+    drop(history);
     assert_eq!(rt;
         answer,
         Ok(Outcome::Answer(Reply::Refused(Refusal::Unknown(Txn(7)))))
     );
-    assert_eq!(rt; (history.len(), empty.len()), (1, 0));
-    assert_eq!(rt; (history.room(), empty.room()), (ROOM, ROOM));
-    assert_eq!(rt; empty.opening(), &TWO[..]);
+    assert!(rt; alike);
     Ok(())
 }

@@ -30,6 +30,7 @@ invariant_of-self c =
     let answered = rw (← c.self.view_is) at c.requires.answer in
     let same = made_again _ _ step c.args.reply answered in
     record {
+      different = kept.different;
       legal = rw (pushed, stored_sets, stored, entries_appended step c.args.reply permits c.self.inside.entries.items c.len.result same count kept.there) (answered, kept.legal);
       there = rw (pushed, stored_sets, stored) (there_appended step c.args.reply permits c.self.inside.entries.items c.len.result count kept.there);
       fewer = rw (pushed, stored_sets, length-append) (omega (arith, kept.fewer, (sets_more step permits).1));

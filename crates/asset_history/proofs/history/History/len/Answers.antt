@@ -7,3 +7,8 @@ returns-clause-len c = rw (← c.self.view_is) (omega (arith, c.len.ensures, ent
 
 pub returns-clause-within : goal.returns-clause-within
 returns-clause-within c = rw (← c.self.view_is) (omega (arith, entries_length c.self.inside.sets.sets c.self.inside.entries.items, c.self.invariant.within))
+
+pub returns-clause-small : goal.returns-clause-small
+returns-clause-small c =
+    let entries = c.self.inside.entries in
+    rw (← c.self.view_is) (omega (arith, entries_length c.self.inside.sets.sets entries.items, entries.ok.0, entries.ok.1, entries.small))

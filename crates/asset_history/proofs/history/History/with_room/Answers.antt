@@ -9,6 +9,7 @@ invariant_of-result c =
     let taken = c.in_ok-with_capacity.ensures in
     let sets_room = c.in_ok-with_room.ensures in
     record {
+      different = rw (c.in_ok-to_vec.ensures.items_if_clones_equal (λ x y same. λ i. (same.0 i, same.1 i))) c.requires.different;
       legal = rw taken.items tt;
       there = rw taken.items refl;
       fewer = rw (taken.items, sets_room.sets) (omega arith);
