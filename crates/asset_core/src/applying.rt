@@ -19,8 +19,10 @@ ghost use Rattle.asset_core.specs.Tables.{IsReady, MayWait, locks_after, locks_w
 use asset_ends::Tables;
 use asset_names::{NoMemory, Ob, Reply, Step, Txn, value_asked};
 
-/// Applies a step if it takes effect, as `effect` says. If memory runs out, the tables show what they did before.
-pub(crate) fn apply_if(
+/// Applies an answered step to the tables if it takes effect, as `effect` says. Who replays a legal history on tables
+/// calls it for each entry, oldest first: the tables then show the history up to that entry. It answers `NoMemory` if
+/// memory runs out, and the tables show what they did before.
+pub fn apply_if(
     tables: &mut Tables,
     step: &Step,
     reply: Reply,

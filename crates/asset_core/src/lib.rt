@@ -7,6 +7,7 @@ mod applying;
 mod facility;
 mod open_fault;
 
+pub use applying::apply_if;
 pub use asset_history::History;
 pub use facility::Core;
 pub use open_fault::OpenFault;
