@@ -1,0 +1,2 @@
+pub mod Sourced
+pub mod Walked

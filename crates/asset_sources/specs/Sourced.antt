@@ -1,0 +1,30 @@
+-- Where the values come from that were read.
+use Rattle.std.specs.Prelude.{ℕ, ◌==◌, cond, List, [], ◌∷◌, ◌++◌, length, Option, Some, None}
+use Rattle.asset_names.specs.declared.steps.Step.{Step}
+use Rattle.asset_names.specs.declared.steps.Step.TheVariants.{Read}
+use Rattle.asset_names.specs.declared.replies.Reply.{Reply}
+use Rattle.asset_names.specs.declared.replies.Reply.TheVariants.{Value}
+use Rattle.asset_names.specs.Steps.{Entry}
+use Rattle.asset_names.specs.Sources.{Numbered, source}
+use Rattle.asset_sources.specs.declared.sourced.Source.{Source}
+use Rattle.asset_sources.specs.declared.sourced.Source.TheVariants as Source'
+
+-- the source of an object by the last write on it that stands: its entry, and the opening if there is none
+unfoldable pub source_from : Option Numbered → Source
+source_from None = Source'.Opening
+source_from (Some found) = Source'.Entry found.0
+
+-- the source of the value that a step read after the older entries, if it is a read that was answered by one
+unfoldable pub source_of : List Entry → Step → Reply → Option Source
+source_of older (Read t x) (Value v) = Some (source_from (source older x.0))
+source_of older step reply = None
+
+-- the sources of all entries, oldest first
+unfoldable pub sources_of : List Entry → List (Option Source)
+sources_of [] = []
+sources_of (entry ∷ older) = sources_of older ++ source_of older entry.0 entry.1 ∷ []
+
+-- the source of the entry with this number, from 0, and none past the end
+unfoldable pub source_at : List Entry → ℕ → Option Source
+source_at [] m = None
+source_at (entry ∷ older) m = cond (m == length older) (source_of older entry.0 entry.1) (source_at older m)

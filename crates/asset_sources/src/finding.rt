@@ -1,0 +1,117 @@
+//! The calls that find sources.
+
+ghost use Rattle.std.specs.Prelude.{◌≡◌, ◌+◌, ◌<◌, ◌≤◌, ◌^◌, ℕ, ℤ, List, [], ◌∷◌, ◌++◌, length, slice_get, Some, IfOk, OnOk};
+ghost use Rattle.asset_names.specs.declared.names.Txn.{Txn};
+ghost use Rattle.asset_names.specs.declared.names.Ob.{Ob};
+ghost use Rattle.asset_names.specs.declared.steps.Step.TheVariants.{Read};
+ghost use Rattle.asset_names.specs.declared.replies.Reply.TheVariants.{Value};
+ghost use Rattle.asset_names.specs.Steps.{Entry};
+ghost use Rattle.asset_names.specs.Sources.{IsAlone, IsOwnOrCommitted};
+ghost use Rattle.asset_names.specs.Sources.{source as last_write};
+ghost use Rattle.asset_sources.specs.Sourced.{source_from, source_at, sources_of};
+ghost use Rattle.asset_sources.specs.Walked.{first_entries, ShowsFirst};
+
+use crate::sourced::Source;
+use crate::walking::{pass, source_here, tables_before};
+use asset_ends::Tables;
+use asset_history::History;
+use asset_names::NoMemory;
+use std::alloc::Global;
+
+/// Returns where the value comes from that the entry at the index read, counted from 0; `None` if the entry is no read, if
+/// its read was not answered by a value, or past the end. Who is alone in its group reads opening values, its own writes
+/// and committed ones. It answers `NoMemory` if memory runs out, and goes over the entries before that one.
+pub fn source(alloc: Global, history: &History, index: usize) -> Result<Option<Source>, NoMemory>
+    ensures exact { IfOk result (λ found. found ≡ source_at history.now.entries index) }
+    ensures alone { (newer older : List Entry) (t : Txn) (x : Ob) (v : ℤ) → history.now.entries ≡ newer ++ (Read t x, Value v) ∷ older → index ≡ length older → IsAlone history.now.entries t.0 →
+        IfOk result (λ found. (found ≡ Some (source_from (last_write older x.0))) × IsOwnOrCommitted older t x (last_write older x.0)) }
+{
+    if index >= history.len() {
+        return Ok(None);
+    }
+    let mut tables = tables_before(alloc, history)?;
+    let found = source_after(history, index, &mut tables);
+    drop(tables);
+    found
+}
+
+/// Returns the source of the entry at the index, by tables that are taken there from the first entry.
+fn source_after(
+    history: &History,
+    index: usize,
+    tables: &mut Tables,
+) -> Result<Option<Source>, NoMemory>
+    requires there { index < length history.now.entries }
+    requires small { length history.now.entries < 2 ^ 63 }
+    requires stand { ShowsFirst history.now 0 tables.old }
+    ensures { IfOk result (λ found. found ≡ source_at history.now.entries index) }
+{
+    pass_all(history, index, tables)?;
+    Ok(source_here(history, index, tables))
+}
+
+/// Takes tables past the first `count` entries. If memory runs out, they are of no more use.
+fn pass_all(history: &History, count: usize, tables: &mut Tables) -> Result<(), NoMemory>
+    requires there { count ≤ length history.now.entries }
+    requires small { length history.now.entries < 2 ^ 63 }
+    requires stand { ShowsFirst history.now 0 tables.old }
+    ensures { OnOk result (ShowsFirst history.now count tables.new) }
+{
+    'entries: for i in 0..count {
+        pass(history, i, tables)?;
+    }
+    Ok(())
+}
+
+/// Returns the sources of all entries, oldest first, each as `source` does. It answers `NoMemory` if memory runs out, and
+/// goes over the entries once.
+pub fn sources(alloc: Global, history: &History) -> Result<Vec<Option<Source>>, NoMemory>
+    ensures exact { IfOk result (λ found. found.items ≡ sources_of history.now.entries) }
+    ensures long { IfOk result (λ found. length found.items ≡ length history.now.entries) }
+    ensures each { IfOk result (λ found. (i : ℕ) → i < length history.now.entries → slice_get found.items i ≡ Some (source_at history.now.entries i)) }
+{
+    let mut tables = tables_before(alloc, history)?;
+    let mut found = Vec::new(alloc);
+    let walked = find_all(history, &mut tables, &mut found);
+    drop(tables);
+    match walked {
+        Ok(()) => Ok(found),
+        Err(_) => Err(NoMemory),
+    }
+}
+
+/// Appends the sources of all entries to an empty vector, by tables that are taken past each.
+fn find_all(
+    history: &History,
+    tables: &mut Tables,
+    found: &mut Vec<Option<Source>>,
+) -> Result<(), NoMemory>
+    requires stand { ShowsFirst history.now 0 tables.old }
+    requires empty { found.old.items ≡ [] }
+    ensures { OnOk result (found.new.items ≡ sources_of history.now.entries) }
+{
+    'entries: for i in 0..history.len() {
+        find_one(history, i, tables, found)?;
+    }
+    Ok(())
+}
+
+/// Appends the source of the entry at the index to those before it, and takes the tables past the entry.
+fn find_one(
+    history: &History,
+    index: usize,
+    tables: &mut Tables,
+    found: &mut Vec<Option<Source>>,
+) -> Result<(), NoMemory>
+    requires there { index < length history.now.entries }
+    requires small { length history.now.entries < 2 ^ 63 }
+    requires stand { ShowsFirst history.now index tables.old }
+    requires found { found.old.items ≡ sources_of (first_entries history.now index) }
+    ensures stand { OnOk result (ShowsFirst history.now (index + 1) tables.new) }
+    ensures found { OnOk result (found.new.items ≡ sources_of (first_entries history.now (index + 1))) }
+{
+    if found.push(source_here(history, index, tables)).is_err() {
+        return Err(NoMemory);
+    }
+    pass(history, index, tables)
+}

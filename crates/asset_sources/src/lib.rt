@@ -1,0 +1,12 @@
+//! Where the values come from that a history's reads were answered. A history is replayed on tables with the numbers of
+//! its entries in place of values, so that the value of an object is the number of its source. The one fault is that
+//! memory runs out.
+#![tactic(auto)]
+
+mod finding;
+mod renumbering;
+mod sourced;
+mod walking;
+
+pub use finding::{source, sources};
+pub use sourced::Source;

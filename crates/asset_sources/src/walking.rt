@@ -1,0 +1,86 @@
+//! The walk over a history on tables that show it with the numbers of entries in place of values.
+
+ghost use Rattle.std.specs.Prelude.{◌≡◌, ◌+◌, ◌<◌, ◌≤◌, ◌^◌, true, List, [], ◌∷◌, length, reverse, slice_get, Some, IfOk, OnOk};
+ghost use Rattle.asset_names.specs.Steps.{Opening, Entry, takes_effect, applied};
+ghost use Rattle.asset_names.specs.Orderly.{IsOrderly};
+ghost use Rattle.asset_names.specs.Answers.{IsLegal};
+ghost use Rattle.asset_laws.specs.Renumbered.{writing, renumbered, zeroed};
+ghost use Rattle.asset_ends.specs.Shows.{Shows};
+ghost use Rattle.asset_ends.specs.Standing.{values_of};
+ghost use Rattle.asset_core.specs.Tables.{IsReady};
+ghost use Rattle.asset_sources.specs.Sourced.{source_of};
+ghost use Rattle.asset_sources.specs.Walked.{first_entries, ShowsFirst};
+
+use crate::renumbering::{source_numbered, writing, zeroed};
+use crate::sourced::Source;
+use asset_core::apply_if;
+use asset_ends::Tables;
+use asset_history::History;
+use asset_names::{NoMemory, Reply, Step, takes_effect};
+use std::alloc::Global;
+
+/// Returns tables with the history's objects, each with the value 0, before the first entry. It answers `NoMemory` if
+/// memory runs out.
+pub(crate) fn tables_before(alloc: Global, history: &History) -> Result<Tables, NoMemory>
+    ensures { IfOk result (λ tables. ShowsFirst history.now 0 tables) }
+{
+    let opening = zeroed(alloc, history.opening())?;
+    Tables::open_distinct(alloc, &opening)
+}
+
+/// Applies the answered step of the entry at the index to tables, with the number of the entry in place of a value. It
+/// answers `NoMemory` if memory runs out, and the tables are of no more use.
+fn apply_numbered(
+    tables: &mut Tables,
+    index: usize,
+    step: &Step,
+    reply: Reply,
+) -> Result<(), NoMemory>
+    requires small { index + 1 < 2 ^ 63 }
+    requires ready { takes_effect step.now reply ≡ true → IsReady (writing index step.now) tables.old }
+    ensures { OnOk result ((opening : Opening) (older : List Entry) → Shows opening (applied older) (values_of tables.old) → IsOrderly (applied older) →
+        Shows opening (applied ((writing index step.now, reply) ∷ older)) (values_of tables.new)) }
+{
+    let numbered = writing(index, step);
+    apply_if(tables, &numbered, reply, takes_effect(step, reply))
+}
+
+/// Takes tables past the entry at the index. It answers `NoMemory` if memory runs out, and the tables are of no more use.
+pub(crate) fn pass(history: &History, index: usize, tables: &mut Tables) -> Result<(), NoMemory>
+    requires there { index < length history.now.entries }
+    requires small { length history.now.entries < 2 ^ 63 }
+    requires stand { ShowsFirst history.now index tables.old }
+    ensures { OnOk result (ShowsFirst history.now (index + 1) tables.new) }
+{
+    match history.entry(index) {
+        Some((step, reply)) => apply_numbered(tables, index, &step, reply),
+        None => Ok(()),
+    }
+}
+
+/// Returns the source of the value that a step read, by tables that show the older entries; `None` if it is no read, or
+/// was not answered by a value.
+fn source_read(step: &Step, reply: &Reply, tables: &Tables) -> Option<Source>
+    ensures { (opening : Opening) (older : List Entry) → Shows (zeroed opening) (applied (renumbered older)) (values_of tables.now) → IsLegal opening ((step.now, reply.now) ∷ older) →
+        result ≡ source_of older step.now reply.now }
+{
+    match step {
+        Step::Read { x, .. } => match reply {
+            Reply::Value(_) => Some(source_numbered(tables.value(*x))),
+            _ => None,
+        },
+        _ => None,
+    }
+}
+
+/// Returns the source of the value that the entry at the index read, by tables that show the entries before it; `None` if
+/// it is no read, or was not answered by a value.
+pub(crate) fn source_here(history: &History, index: usize, tables: &Tables) -> Option<Source>
+    requires stand { ShowsFirst history.now index tables.now }
+    ensures { (entry : Entry) → slice_get (reverse history.now.entries) index ≡ Some entry → result ≡ source_of (first_entries history.now index) entry.0 entry.1 }
+{
+    match history.entry(index) {
+        Some((step, reply)) => source_read(&step, &reply, tables),
+        None => None,
+    }
+}
