@@ -60,6 +60,8 @@ pub enum Word {
     Prune,
     /// Its groups.
     Groups,
+    /// The sources of what it read.
+    Sources,
     /// The script of those who committed, one after another.
     Serial,
 }
@@ -74,7 +76,7 @@ pub struct Request {
 }
 
 /// How the program is called.
-const USAGE: &str = "asset [run | prune | groups | serial] [--cap <n>] < SCRIPT";
+const USAGE: &str = "asset [run | prune | groups | sources | serial] [--cap <n>] < SCRIPT";
 
 /// What help says after the arguments.
 const NOTES: &str =
@@ -120,6 +122,11 @@ fn command<'a>(alloc: Global) -> Result<Command<'a>, AllocError> {
         "groups",
         "Writes the groups of those who shared something",
     )?;
+    let sources = word_command(
+        alloc,
+        "sources",
+        "Writes where each value that was read comes from",
+    )?;
     let serial = word_command(
         alloc,
         "serial",
@@ -133,6 +140,7 @@ fn command<'a>(alloc: Global) -> Result<Command<'a>, AllocError> {
         .subcommand(run)?
         .subcommand(prune)?
         .subcommand(groups)?
+        .subcommand(sources)?
         .subcommand(serial)
 }
 
@@ -141,6 +149,7 @@ fn word_named(name: &str) -> Word {
     match name {
         "prune" => Word::Prune,
         "groups" => Word::Groups,
+        "sources" => Word::Sources,
         "serial" => Word::Serial,
         _ => Word::Run,
     }

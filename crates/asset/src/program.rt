@@ -7,7 +7,7 @@ ghost use Rattle.asset.specs.Exit.{arguments_status, error_status};
 
 use crate::arguments::{ArgumentsFault, Word, capacity_or_default, requested};
 use crate::exit::{status_of_arguments, status_of_error, status_of_run};
-use asset_cli::{Device, groups_script, prune_script, run_script, serial_script};
+use asset_cli::{Device, groups_script, prune_script, run_script, serial_script, sources_script};
 use clap::Error;
 use clap::error::ErrorKind;
 use std::alloc::Global;
@@ -78,6 +78,7 @@ fn run<R: Read, W: Write, E: Write>(
         Word::Run => run_script(alloc, &mut input, &mut output, capacity),
         Word::Prune => prune_script(alloc, &mut input, &mut output, capacity),
         Word::Groups => groups_script(alloc, &mut input, &mut output, capacity),
+        Word::Sources => sources_script(alloc, &mut input, &mut output, capacity),
         Word::Serial => serial_script(alloc, &mut input, &mut output, capacity),
     };
     if let Err(fault) = ended {

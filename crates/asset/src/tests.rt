@@ -162,10 +162,10 @@ fn arguments_that_could_not_be_read(rt: HostRuntime) -> Result<(), Fail> {
 #[test]
 fn help_goes_to_the_output(rt: HostRuntime) -> Result<(), Fail> {
     let help =
-        "ASSET, a facility of transactions that can share their work\n\nUsage: asset [run | prune | groups | serial] [--cap <n>] < SCRIPT\n\nCommands:\n  run     Runs the script on standard input and writes its transcript (the default)\n  prune   Writes the script that is left without dead groups\n  groups  Writes the groups of those who shared something\n  serial  Writes the script of those who committed, one after another\n  help    Print this message or the help of the given subcommand(s)\n\nOptions:\n  -h, --help     Print help\n  -V, --version  Print version\n\nThe output is written once the input has ended.\n\nExit status:\n  0  every line was looked at, or help or the version was asked for\n  1  the input or the output failed, memory ran out, or serial found something shared\n  2  a line is bad, or an argument is refused\n";
+        "ASSET, a facility of transactions that can share their work\n\nUsage: asset [run | prune | groups | sources | serial] [--cap <n>] < SCRIPT\n\nCommands:\n  run      Runs the script on standard input and writes its transcript (the default)\n  prune    Writes the script that is left without dead groups\n  groups   Writes the groups of those who shared something\n  sources  Writes where each value that was read comes from\n  serial   Writes the script of those who committed, one after another\n  help     Print this message or the help of the given subcommand(s)\n\nOptions:\n  -h, --help     Print help\n  -V, --version  Print version\n\nThe output is written once the input has ended.\n\nExit status:\n  0  every line was looked at, or help or the version was asked for\n  1  the input or the output failed, memory ran out, or serial found something shared\n  2  a line is bad, or an argument is refused\n";
     expect(&rt, &["--help"], FULL, (help, "", 0))?;
     let run_help =
-        "Runs the script on standard input and writes its transcript (the default)\n\nUsage: asset [run | prune | groups | serial] [--cap <n>] < SCRIPT\n\nOptions:\n      --cap <n>  How many entries the history has room for, from 1 to 1000000 [default: 10000]\n  -h, --help     Print help\n\nThe output is written once the input has ended.\n\nExit status:\n  0  every line was looked at, or help or the version was asked for\n  1  the input or the output failed, memory ran out, or serial found something shared\n  2  a line is bad, or an argument is refused\n";
+        "Runs the script on standard input and writes its transcript (the default)\n\nUsage: asset [run | prune | groups | sources | serial] [--cap <n>] < SCRIPT\n\nOptions:\n      --cap <n>  How many entries the history has room for, from 1 to 1000000 [default: 10000]\n  -h, --help     Print help\n\nThe output is written once the input has ended.\n\nExit status:\n  0  every line was looked at, or help or the version was asked for\n  1  the input or the output failed, memory ran out, or serial found something shared\n  2  a line is bad, or an argument is refused\n";
     expect(&rt, &["run", "--help"], FULL, (run_help, "", 0))
 }
 
@@ -190,15 +190,15 @@ fn other_arguments_are_refused(rt: HostRuntime) -> Result<(), Fail> {
     for (texts, expected) in [
         (
             &["--cap", "5"][..],
-            "error: unexpected argument '--cap' found\n\nUsage: asset [run | prune | groups | serial] [--cap <n>] < SCRIPT\n\nFor more information, try '--help'.\n",
+            "error: unexpected argument '--cap' found\n\nUsage: asset [run | prune | groups | sources | serial] [--cap <n>] < SCRIPT\n\nFor more information, try '--help'.\n",
         ),
         (
             &["run", "x"][..],
-            "error: unexpected argument 'x' found\n\nUsage: asset [run | prune | groups | serial] [--cap <n>] < SCRIPT\n\nFor more information, try '--help'.\n",
+            "error: unexpected argument 'x' found\n\nUsage: asset [run | prune | groups | sources | serial] [--cap <n>] < SCRIPT\n\nFor more information, try '--help'.\n",
         ),
         (
             &["jobs"][..],
-            "error: unrecognized subcommand 'jobs'\n\nUsage: asset [run | prune | groups | serial] [--cap <n>] < SCRIPT\n\nFor more information, try '--help'.\n",
+            "error: unrecognized subcommand 'jobs'\n\nUsage: asset [run | prune | groups | sources | serial] [--cap <n>] < SCRIPT\n\nFor more information, try '--help'.\n",
         ),
     ] {
         expect_refused(&rt, texts, expected)?;
@@ -248,6 +248,8 @@ fn arguments_give_the_word_and_the_capacity(rt: HostRuntime) {
         (&["prune", "--cap", "5"][..], Word::Prune, Some(5)),
         (&["groups"][..], Word::Groups, Some(10_000)),
         (&["groups", "--cap=6"][..], Word::Groups, Some(6)),
+        (&["sources"][..], Word::Sources, Some(10_000)),
+        (&["sources", "--cap=8"][..], Word::Sources, Some(8)),
         (&["serial"][..], Word::Serial, Some(10_000)),
         (&["serial", "--cap", "7"][..], Word::Serial, Some(7)),
     ] {
@@ -264,7 +266,10 @@ fn each_word_writes_its_text(rt: HostRuntime) -> Result<(), Fail> {
     let left = "object 1 100\ninitiate 7\nbegin 7\nwrite 7 1 50\ncomplete 7\ncommit 7\n";
     expect(&rt, &["prune"], TWO, (left, "", 0))?;
     expect(&rt, &["groups"], TWO, ("0 committed 7\n1 dead 8\n", "", 0))?;
-    expect(&rt, &["serial"], TWO, (left, "", 0))
+    expect(&rt, &["serial"], TWO, (left, "", 0))?;
+    let script = b"object 1 100\ninitiate 7\nbegin 7\nread 7 1\nwrite 7 1 50\nread 7 1\n";
+    let sources = "2 read 7 1 100 opening\n4 read 7 1 50 entry 3\n";
+    expect(&rt, &["sources"], script, (sources, "", 0))
 }
 
 #[test]
@@ -288,7 +293,7 @@ fn words_use_the_capacity(rt: HostRuntime) -> Result<(), Fail> {
 
 #[test]
 fn bad_line_is_all_that_a_word_writes(rt: HostRuntime) -> Result<(), Fail> {
-    for word in ["prune", "groups", "serial"] {
+    for word in ["prune", "groups", "sources", "serial"] {
         let text = "line 2: bad command\n";
         expect(&rt, &[word], b"initiate 7\nbegin\n", (text, "", 2))?;
     }

@@ -4,6 +4,7 @@ use Rattle.asset_laws.specs.Serial.{shares_nothing}
 use Rattle.asset_history.specs.Recorded.{Recorded}
 use Rattle.asset_reports.specs.Reports.{pruned_text, serial_text}
 use Rattle.asset_reports.specs.Groups.{groups_text}
+use Rattle.asset_reports.specs.Sources.{sources_text}
 use Rattle.asset_cli.specs.declared.ends.RunEnd.{RunEnd}
 use Rattle.asset_cli.specs.declared.ends.RunEnd.TheVariants.{Finished, Shared}
 use Rattle.asset_cli.specs.declared.reporting.Report.{Report}
@@ -29,6 +30,10 @@ pruned history = always (pruned_text history)
 abbrev pub grouped : Recorded → Reported
 grouped history = always (groups_text history.entries)
 
+-- the sources of what was read
+abbrev pub sourced : Recorded → Reported
+sourced history = always (sources_text history.entries)
+
 -- those who committed, one after another, unless they shared something
 abbrev pub serialized : Recorded → Reported
 serialized history = record { text = serial_text history; end = cond (shares_nothing history.entries) Finished Shared }
@@ -47,6 +52,7 @@ abbrev pub report_of : Report → Recorded → Reported
 report_of Report'.Pruned = pruned
 report_of Report'.Groups = grouped
 report_of Report'.Serial = serialized
+report_of Report'.Sources = sourced
 
 -- what each work gives of the bytes of a script
 abbrev pub transcript_of : Work → List ℕ → ℕ → Transcript

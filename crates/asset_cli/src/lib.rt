@@ -16,4 +16,4 @@ mod writing;
 pub use device::Device;
 pub use ends::RunEnd;
 pub use faults::ScriptFault;
-pub use running::{groups_script, prune_script, run_script, serial_script};
+pub use running::{groups_script, prune_script, run_script, serial_script, sources_script};

@@ -11,7 +11,7 @@ use crate::faults::ScriptFault;
 use crate::rendering::{Played, play};
 use asset_history::History;
 use asset_names::NoMemory;
-use asset_reports::{push_groups, push_pruned, push_serial};
+use asset_reports::{push_groups, push_pruned, push_serial, push_sources};
 use std::alloc::Global;
 
 /// A report on the history that a script leaves.
@@ -23,6 +23,8 @@ pub(crate) enum Report {
     Groups,
     /// The script of those who committed, one after another.
     Serial,
+    /// The sources of what was read.
+    Sources,
 }
 
 /// What a script is run for.
@@ -58,6 +60,7 @@ fn push_report(
     match report {
         Report::Pruned => push_pruned(alloc, history, text)?,
         Report::Groups => push_groups(alloc, history, text)?,
+        Report::Sources => push_sources(alloc, history, text)?,
         Report::Serial => return Ok(serial_end(push_serial(alloc, history, text)?)),
     }
     Ok(RunEnd::Finished)

@@ -3,7 +3,7 @@ ghost use Rattle.std.specs.Prelude.{◌≡◌, true, false, OnOk, IfOk, IfErr};
 ghost use Rattle.asset_core.specs.OpenFaults.{IsCapacity};
 ghost use Rattle.asset_cli.specs.Device.{IsUnused};
 ghost use Rattle.asset_cli.specs.Transcript.{transcript};
-ghost use Rattle.asset_cli.specs.Reporting.{grouped, pruned, reported, serialized, transcript_of};
+ghost use Rattle.asset_cli.specs.Reporting.{grouped, pruned, reported, serialized, sourced, transcript_of};
 ghost use Rattle.asset_cli.specs.Runs.{WroteAll, Stops};
 
 use crate::device::Device;
@@ -125,4 +125,30 @@ pub fn serial_script<R: Read, W: Write>(
     ensures stopped { IfErr result (Stops R.remaining W.contents (λ bytes. reported serialized bytes capacity) input.old input.new output.old output.new) }
 {
     run_for(alloc, input, output, capacity, Work::Report(Report::Serial))
+}
+
+/// Runs the script that the reader gives, and writes a line for each read that was answered by a value: the number of its
+/// entry from 0, the read, the value, and `opening` or the number of the entry that wrote the value. A bad line is all that
+/// is written, if there is one. What `run_script` says of faults and requires holds here too.
+pub fn sources_script<R: Read, W: Write>(
+    alloc: Global,
+    input: &mut Device<R>,
+    output: &mut Device<W>,
+    capacity: usize,
+) -> Result<RunEnd, ScriptFault>
+    requires capacity { IsCapacity capacity }
+    requires unused_input { IsUnused input.old }
+    requires unused_output { IsUnused output.old }
+    ensures sound_input { OnOk result (input.new.failed ≡ false) }
+    ensures sound_output { OnOk result (output.new.failed ≡ false) }
+    ensures wrote { IfOk result (WroteAll R.remaining W.contents (λ bytes. reported sourced bytes capacity) input.old input.new output.old output.new) }
+    ensures stopped { IfErr result (Stops R.remaining W.contents (λ bytes. reported sourced bytes capacity) input.old input.new output.old output.new) }
+{
+    run_for(
+        alloc,
+        input,
+        output,
+        capacity,
+        Work::Report(Report::Sources),
+    )
 }

@@ -14,7 +14,10 @@ use Rattle.asset_printing.specs.Printed.{step_text}
 use Rattle.asset_buckets.specs.Bucketed.{indices_of, buckets_of}
 use Rattle.asset_deletion.specs.Grouping.{Grouping, named}
 use Rattle.asset_reports.specs.Groups.{is_dead_name, members_are_dead}
+use Rattle.asset_sources.specs.Sourced.{source_at}
+use Rattle.asset_sources.proofs.WalkLemmas.{older_length, source_found}
 use Rattle.asset_reports.specs.Reports.{opening_line, opening_text, steps_text}
+use Rattle.asset_reports.specs.Sources.{source_text, sources_text}
 
 pub opening_more : (opening : Opening) (given : Ob × ℤ) → opening_text (opening ++ given ∷ []) ≡ opening_text opening ++ opening_line given
 unfolding opening_text
@@ -63,3 +66,12 @@ lines_more line n =
 pub bucket_line : (groups : Grouping) (g : ℕ) → g < groups.count → get_or (buckets_of groups.numbers groups.count) g [] ≡ indices_of g groups.numbers
 unfolding buckets_of
 bucket_line groups g below = get_or-map-range_with_len (λ k. indices_of k groups.numbers) 0 groups.count g g [] below (omega arith)
+
+-- ---- sources
+
+-- the line of one more entry
+pub sources_more : (all : List Entry) (i : ℕ) (entry : Entry) → slice_get (reverse all) i ≡ Some entry
+    → sources_text (reverse (take (i + 1) (reverse all))) ≡ sources_text (reverse (take i (reverse all))) ++ source_text i entry.0 entry.1 (source_at all i)
+unfolding sources_text
+sources_more all i entry at =
+    rw (next_entry (reverse all) i entry at, source_found all i entry at, older_length all i entry at) refl

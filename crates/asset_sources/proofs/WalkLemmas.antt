@@ -53,7 +53,7 @@ legal_here opening all i entry at legal =
     legal_rest opening (reverse (drop (i + 1) (reverse all))) (entry ∷ reverse (take i (reverse all))) (subst (IsLegal opening) (sym (between all i entry at)) legal)
 
 -- how many older entries there are
-older_length : (all : List Entry) (i : ℕ) (entry : Entry) → slice_get (reverse all) i ≡ Some entry → length (reverse (take i (reverse all))) ≡ i
+pub older_length : (all : List Entry) (i : ℕ) (entry : Entry) → slice_get (reverse all) i ≡ Some entry → length (reverse (take i (reverse all))) ≡ i
 older_length all i entry at =
     let within = slice_get_within (reverse all) i entry at in
     length-reverse (take i (reverse all)) ∙ length-take-le i (reverse all) (omega (arith, within))

@@ -1,0 +1,30 @@
+-- The lines of sources.
+use Rattle.std.specs.Prelude.{ℕ, ℤ, List, [], ◌∷◌, ◌++◌, length, Option, Some, codes}
+use Rattle.std.specs.Fmt.{decimal, signed_decimal}
+use Rattle.asset_names.specs.declared.steps.Step.{Step}
+use Rattle.asset_names.specs.declared.replies.Reply.{Reply}
+use Rattle.asset_names.specs.declared.replies.Reply.TheVariants.{Value}
+use Rattle.asset_names.specs.Steps.{Entry}
+use Rattle.asset_printing.specs.Printed.{step_text}
+use Rattle.asset_sources.specs.declared.sourced.Source.{Source}
+use Rattle.asset_sources.specs.declared.sourced.Source.TheVariants as Source'
+use Rattle.asset_sources.specs.Sourced.{source_of}
+
+-- where a value comes from, after a space
+unfoldable pub source_word : Source → List ℕ
+source_word Source'.Opening = codes " opening"
+source_word (Source'.Entry m) = codes " entry " ++ decimal m
+
+-- the line of a read: the number of its entry, the read, the value and its source
+unfoldable pub read_text : ℕ → Step → ℤ → Source → List ℕ
+read_text n step v source = decimal n ++ 32 ∷ [] ++ step_text step ++ 32 ∷ signed_decimal v ++ source_word source ++ 10 ∷ []
+
+-- the line of an entry with its source, and nothing if it has none
+unfoldable pub source_text : ℕ → Step → Reply → Option Source → List ℕ
+source_text n step (Value v) (Some found) = read_text n step v found
+source_text n step reply source = []
+
+-- the lines of entries with their sources, oldest first
+unfoldable pub sources_text : List Entry → List ℕ
+sources_text [] = []
+sources_text (entry ∷ older) = sources_text older ++ source_text (length older) entry.0 entry.1 (source_of older entry.0 entry.1)
