@@ -13,9 +13,12 @@ use std::alloc::Global;
 /// How many transactions there are among drawn steps, how many steps are drawn, and room for all of them.
 const NAMES: u64 = 24;
 
+/// Drawn steps join transactions by threes, so there are so many trios.
+const TRIOS: usize = 8;
+
 const DRAWN: usize = 300;
 
-const DRAWN_ROOM: usize = 500;
+pub(crate) const DRAWN_ROOM: usize = 500;
 
 /// Returns what is left without the chosen transactions' dead groups. If memory runs out once, it is asked again.
 fn left_without(alloc: Global, history: &History, chosen: &[Txn]) -> Result<History, NoMemory> {
@@ -26,7 +29,7 @@ fn left_without(alloc: Global, history: &History, chosen: &[Txn]) -> Result<Hist
 }
 
 /// Returns what is left without all dead groups. If memory runs out once, it is asked again.
-fn left_undead(alloc: Global, history: &History) -> Result<History, NoMemory> {
+pub(crate) fn left_undead(alloc: Global, history: &History) -> Result<History, NoMemory> {
     match without_dead(alloc, history) {
         Ok(left) => Ok(left),
         Err(NoMemory) => without_dead(alloc, history),
@@ -42,7 +45,7 @@ fn replays_entry(core: &mut Core, entry: Option<(Step, Reply)>) -> bool {
 }
 
 /// Returns whether the facility answers each step of the history as the history has it.
-fn replays(core: &mut Core, left: &History) -> bool {
+pub(crate) fn replays(core: &mut Core, left: &History) -> bool {
     let mut alike = true;
     for i in 0..left.len() {
         alike = replays_entry(core, left.entry(i)) && alike;
@@ -50,8 +53,12 @@ fn replays(core: &mut Core, left: &History) -> bool {
     alike
 }
 
-/// Returns whether what is left has this many entries, which a fresh facility answers alike.
-fn is_left(alloc: Global, left: Result<History, NoMemory>, entries: Option<usize>) -> bool {
+/// Returns whether what is left has this many entries, if a number is given, which a fresh facility answers alike.
+pub(crate) fn is_left(
+    alloc: Global,
+    left: Result<History, NoMemory>,
+    entries: Option<usize>,
+) -> bool {
     match left {
         Ok(left) => {
             let alike = is_answered_alike(alloc, &left, entries);
@@ -75,7 +82,7 @@ fn is_answered_alike(alloc: Global, left: &History, entries: Option<usize>) -> b
 }
 
 /// Returns the history of a facility once the steps are played, if each had its outcome.
-fn played<P: Fn(&mut Core) -> bool + Drop>(
+pub(crate) fn played<P: Fn(&mut Core) -> bool + Drop>(
     alloc: Global,
     capacity: usize,
     play: P,
@@ -137,11 +144,11 @@ fn dead_groups_are_deleted(rt: HostRuntime) {
 /// Returns the step that a number stands for.
 fn drawn(number: u64) -> Step {
     let t = (number >> 40) % NAMES;
-    let u = (number >> 30) % NAMES;
+    let u = t / 3 * 3 + (number >> 30) % 3;
     let x = 1 + (number >> 20) % 3;
     match (number >> 50) % 10 {
-        0 => initiate(t),
-        1 => begin(t),
+        0 => initiate(u),
+        1 => commit(t),
         2 => read(t, x),
         3 => write(t, x, (number >> 44) as i64),
         4 => complete(t),
@@ -162,10 +169,13 @@ fn drawn(number: u64) -> Step {
     }
 }
 
-/// Plays drawn steps. Some wait, and most are refused at first.
-fn steps_are_drawn(core: &mut Core) -> bool {
+/// Begins all transactions, and plays drawn steps, which join them by threes. Some wait, and some are refused.
+pub(crate) fn steps_are_drawn(core: &mut Core) -> bool {
     let mut number = 7;
     let mut played = true;
+    for t in 0..NAMES {
+        played = ask(core, &initiate(t)).is_ok() && ask(core, &begin(t)).is_ok() && played;
+    }
     for _ in 0..DRAWN {
         number = next(number);
         played = ask(core, &drawn(number)).is_ok() && played;
@@ -173,11 +183,35 @@ fn steps_are_drawn(core: &mut Core) -> bool {
     played
 }
 
-/// Returns whether what is left without each transaction alone, and without all dead groups, is answered alike.
+/// Returns whether some of the history's entries, and not all, are left without all dead groups.
+fn some_are_left(alloc: Global, history: &History) -> bool {
+    match left_undead(alloc, history) {
+        Ok(left) => {
+            let len = left.len();
+            drop(left);
+            0 < len && len < history.len()
+        }
+        Err(_) => false,
+    }
+}
+
+/// Returns a transaction of each trio whose bit is set, and one that does not occur for the others.
+fn chosen(bits: u64) -> [Txn; TRIOS] {
+    let mut chosen = [Txn(NAMES); TRIOS];
+    for k in 0..TRIOS {
+        if (bits >> k) % 2 == 1 {
+            chosen[k] = Txn(3 * k as u64);
+        }
+    }
+    chosen
+}
+
+/// Returns whether what is left without each choice of trios, and without all dead groups, is answered alike.
 fn each_choice_is_answered_alike(alloc: Global, history: &History) -> bool {
-    let mut alike = is_left(alloc, left_undead(alloc, history), None);
-    for t in 0..NAMES {
-        alike = is_left(alloc, left_without(alloc, history, &[Txn(t)]), None) && alike;
+    let mut alike = some_are_left(alloc, history);
+    alike = is_left(alloc, left_undead(alloc, history), None) && alike;
+    for bits in 0..1 << TRIOS {
+        alike = is_left(alloc, left_without(alloc, history, &chosen(bits)), None) && alike;
     }
     alike
 }

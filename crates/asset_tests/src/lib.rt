@@ -9,6 +9,8 @@ pub use steps::{abort, begin, commit, complete, depend, initiate, read, write};
 #[cfg(test)]
 mod again;
 #[cfg(test)]
+mod buckets;
+#[cfg(test)]
 mod chains;
 #[cfg(test)]
 mod copies;
@@ -22,6 +24,8 @@ mod dependencies;
 mod deps;
 #[cfg(test)]
 mod deps_beside_list;
+#[cfg(test)]
+mod design;
 #[cfg(test)]
 mod examples;
 #[cfg(test)]
@@ -61,7 +65,11 @@ mod scripts;
 #[cfg(test)]
 mod seats;
 #[cfg(test)]
+mod serial;
+#[cfg(test)]
 mod sizes;
+#[cfg(test)]
+mod sources;
 #[cfg(test)]
 mod tables;
 #[cfg(test)]

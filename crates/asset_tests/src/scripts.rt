@@ -2,9 +2,11 @@
 mod delegations;
 mod dependencies;
 mod devices;
+mod drawn;
 mod lines;
-mod memory;
+pub(crate) mod memory;
 mod permits;
+mod reports;
 mod requests;
 mod rows;
 mod runs;
