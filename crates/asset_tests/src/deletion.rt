@@ -13,7 +13,7 @@ use std::alloc::Global;
 /// How many transactions there are among drawn steps, how many steps are drawn, and room for all of them.
 const NAMES: u64 = 24;
 
-/// Drawn steps join transactions by threes, so there are so many trios.
+/// How many trios of transactions there are. Drawn steps join only transactions of one trio.
 const TRIOS: usize = 8;
 
 const DRAWN: usize = 300;

@@ -132,7 +132,7 @@ fn is_serial(alloc: Global, history: &History, entries: Option<usize>) -> bool {
     }
 }
 
-/// Returns whether the steps are played, and there is then a serial history of so many entries.
+/// Returns whether the steps are played, and leave a history with a serial one, as `is_serial` says.
 fn leaves_serial<P: Fn(&mut Core) -> bool + Drop>(
     alloc: Global,
     capacity: usize,
