@@ -13,12 +13,12 @@ use std::alloc::Global;
 /// How many transactions there are among drawn steps, how many steps are drawn, and room for all of them.
 const NAMES: u64 = 24;
 
-/// How many trios of transactions there are. Drawn steps join only transactions of one trio.
-const TRIOS: usize = 8;
-
 const DRAWN: usize = 300;
 
 pub(crate) const DRAWN_ROOM: usize = 500;
+
+/// How many trios of transactions there are. Drawn steps join only transactions of one trio.
+const TRIOS: usize = 8;
 
 /// Returns what is left without the chosen transactions' dead groups. If memory runs out once, it is asked again.
 fn left_without(alloc: Global, history: &History, chosen: &[Txn]) -> Result<History, NoMemory> {
