@@ -3,9 +3,10 @@
 
 ghost use Rattle.std.specs.Prelude.{◌<◌};
 
-use crate::reference::{ROOM, agree, delegate, next, permit};
+use crate::reference::{ROOM, agree, delegate, permit};
 use crate::steps::{abort, begin, commit, complete, initiate, read, write};
 use asset_names::{Ob, Step, Txn};
+use asset_table_tests::next;
 use std::alloc::Global;
 use std::test::Fail;
 

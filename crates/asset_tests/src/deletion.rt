@@ -2,12 +2,12 @@
 
 use crate::again::{ask, opened};
 use crate::facility::{ABORTED, COMMITTED, OK, ROOM, THREE, plays};
-use crate::reference::next;
 use crate::steps::{abort, begin, commit, complete, depend, initiate, read, write};
 use asset_core::Core;
 use asset_deletion::{without, without_dead};
 use asset_history::History;
 use asset_names::{Kind, NoMemory, Ob, ObSet, Op, Ops, Outcome, Reply, Step, Txn};
+use asset_table_tests::next;
 use std::alloc::Global;
 
 /// How many transactions there are among drawn steps, how many steps are drawn, and room for all of them.

@@ -4,10 +4,10 @@
 ghost use Rattle.std.specs.Prelude.{◌<◌};
 
 use crate::delegations::agree_after_five;
-use crate::deps_beside_list::kind_of;
-use crate::reference::{ROOM, delegate, next, permit};
+use crate::reference::{ROOM, delegate, permit};
 use crate::steps::{abort, begin, commit, complete, depend, read, write};
 use asset_names::{Kind, Ob, Step, Txn};
+use asset_table_tests::{kind_of, next};
 use std::test::Fail;
 
 /// How many scripts are generated, and how many steps each has after its first ten. Each third of these is a dependency.

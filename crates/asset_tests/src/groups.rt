@@ -2,13 +2,12 @@
 
 use crate::again::{ask, opened};
 use crate::facility::{COMMITTED, OK, THREE, plays, refused};
-use crate::labels::join_in;
-use crate::reference::next;
 use crate::steps::{abort, begin, commit, complete, depend, initiate};
 use asset_core::Core;
 use asset_deletion::{Groups, groups};
 use asset_history::History;
 use asset_names::{Kind, NoMemory, Outcome, Refusal, Reply, Txn};
+use asset_table_tests::{join_in, next};
 use std::alloc::Global;
 
 /// How many transactions there are beside the plain list, and how many dependencies are drawn.

@@ -1,11 +1,11 @@
 //! The facility and the reference give the same answers, on worked histories and on generated scripts.
 
 use crate::again::{ask, opened};
-use crate::handing::listed;
 use crate::steps::{abort, begin, commit, complete, initiate, read, write};
 use asset_core::Core;
 use asset_names::{Fault, Ob, ObList, ObSet, Ops, Outcome, Reply, Step, Txn};
 use asset_reference::{answer, status_after, value_if_any};
+use asset_table_tests::{listed, next};
 use std::alloc::Global;
 use std::test::Fail;
 
@@ -129,12 +129,6 @@ pub(crate) fn agree(alloc: Global, steps: &[Step], capacity: usize) -> Result<bo
     let agreed = agree_over(&mut core, &mut Vec::new(alloc), steps, capacity);
     drop(core);
     agreed
-}
-
-/// Returns the next of a sequence of numbers that look random.
-pub(crate) fn next(seed: u64) -> u64 {
-    seed.wrapping_mul(6_364_136_223_846_793_005)
-        .wrapping_add(1_442_695_040_888_963_407)
 }
 
 /// Returns the step that a number stands for.

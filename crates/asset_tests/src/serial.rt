@@ -5,12 +5,13 @@ ghost use Rattle.asset_laws.specs.Serial.{CommittedShareNothing};
 use crate::again::{ask, opened};
 use crate::deletion::{played, replays};
 use crate::facility::{ABORTED, COMMITTED, OK, ROOM, plays, refused};
-use crate::reference::{next, permit};
+use crate::reference::permit;
 use crate::steps::{abort, begin, commit, complete, initiate, read, write};
 use asset_core::Core;
 use asset_history::History;
 use asset_names::{NoMemory, Ob, Refusal, Reply, Step, Txn};
 use asset_serial::{committed_share_nothing, serial};
+use asset_table_tests::next;
 use std::alloc::Global;
 
 /// How many transactions there are among drawn steps, how many steps are drawn, and room for all of them.

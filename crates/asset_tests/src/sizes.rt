@@ -1,10 +1,5 @@
-//! Tables and histories far past every small size, with ample memory. No call is made again, so one that runs
-//! out of memory at some size fails its test.
+//! Histories far past every small size, with ample memory. No call is made again, so one that runs out of memory at some
+//! size fails its test.
 mod depending;
 mod facility;
-mod handing;
-mod locks;
-mod objects;
-mod permits;
 mod sharing;
-mod trans;

@@ -3,12 +3,13 @@
 use crate::again::{ask, opened};
 use crate::deletion::played;
 use crate::facility::{ABORTED, COMMITTED, OK, ROOM, WAIT, plays};
-use crate::reference::{delegate, next, permit};
+use crate::reference::{delegate, permit};
 use crate::steps::{abort, begin, commit, complete, initiate, read, write};
 use asset_core::Core;
 use asset_history::History;
 use asset_names::{Fault, NoMemory, Ob, Outcome, Refusal, Reply, Step, Txn};
 use asset_sources::{Source, source, sources};
+use asset_table_tests::next;
 use std::alloc::Global;
 
 /// How many steps are drawn, how many of them the same three transactions ask, and room for all.

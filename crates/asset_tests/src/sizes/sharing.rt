@@ -1,10 +1,10 @@
 //! Two hundred permits of one giver, and two hundred for one taker, and what they let read in a facility.
 
-use super::permits::{END, FIRST, ONE, Side, pair};
 use crate::reference::permit;
 use crate::steps::{begin, initiate, read, write};
 use asset_core::Core;
 use asset_names::{Ob, Outcome, Reply, Step};
+use asset_table_tests::{END, FIRST, ONE, Side, pair};
 use std::test::Fail;
 
 /// Room for all entries.

@@ -1,6 +1,6 @@
 //! Chains on worked values, beside plain lists that do the same by scanning, and what is left if memory runs out.
 
-use crate::reference::next;
+use crate::drawing::next;
 use asset_chains::Chains;
 use std::alloc::{AllocError, Global};
 use std::test::Fail;

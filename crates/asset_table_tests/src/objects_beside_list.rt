@@ -1,7 +1,7 @@
 //! Objects beside a plain list of writes that does the same by scanning, and how many records an end visits.
 
+use crate::drawing::next;
 use crate::objects::write_once;
-use crate::reference::next;
 use asset_names::{NoMemory, Ob, Txn};
 use asset_objects::Objects;
 use std::test::Fail;

@@ -1,7 +1,7 @@
 //! Locks beside a plain table that does the same by scanning, and locks past any small number.
 
+use crate::drawing::next;
 use crate::locks::ask_once;
-use crate::reference::next;
 use asset_locks::{Asked, LockState, Locks};
 use asset_names::{NoMemory, Ob, ObSet, Op, Ops, Txn};
 use asset_permits::Permits;

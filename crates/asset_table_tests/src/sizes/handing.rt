@@ -2,8 +2,9 @@
 
 ghost use Rattle.std.specs.Prelude.{◌<◌};
 
-use crate::handing::{hand, listed};
+use crate::handing::hand;
 use crate::locks::ask_once;
+use crate::sets::listed;
 use asset_locks::{Asked, LockState, Locks};
 use asset_names::{Ob, ObList, ObSet, Op, Txn};
 use asset_permits::Permits;

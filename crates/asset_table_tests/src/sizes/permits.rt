@@ -1,34 +1,11 @@
 //! Two hundred permits of one giver, two hundred for one taker, and a chain of two hundred.
 
+use crate::many_permits::{END, FIRST, ONE, Side, pair};
 use asset_names::{NoMemory, Ob, ObList, ObSet, Op, Ops, Txn};
 use asset_permits::Permits;
 
-/// The first of the two hundred transactions that share a permit with 7.
-pub(crate) const FIRST: u64 = 1_000;
-
 /// One of them, in the middle.
 const MIDDLE: u64 = 1_100;
-
-/// One past the last of them.
-pub(crate) const END: u64 = 1_200;
-
-/// The transaction that shares a permit with each of the others.
-pub(crate) const ONE: u64 = 7;
-
-/// What 7 is in each permit.
-#[derive(Clone, Copy)]
-pub(crate) enum Side {
-    Giver,
-    Taker,
-}
-
-/// Returns the giver and the taker of the permit that 7 shares with `t`.
-pub(crate) fn pair(side: Side, t: u64) -> (u64, u64) {
-    match side {
-        Side::Giver => (ONE, t),
-        Side::Taker => (t, ONE),
-    }
-}
 
 /// Adds a permit to read and write one object.
 fn add(permits: &mut Permits, giver: u64, taker: u64, x: u64) -> Result<(), NoMemory> {

@@ -1,6 +1,6 @@
 //! Permits on worked values, beside a plain list that does the same by scanning, and what is left if memory runs out.
 
-use crate::reference::next;
+use crate::drawing::next;
 use asset_names::{NoMemory, Ob, ObList, ObSet, Op, Ops, SetFault, Txn};
 use asset_permits::Permits;
 use std::test::Fail;

@@ -1,7 +1,7 @@
 use Rattle.std.proofs.Common.{◌≡◌, ℕ, Bool, true, false, eqb, cond, [], ◌∷◌, ◌++◌, Option, Some, None, is_some, refl, ap, ◌∙◌}
 use Rattle.std.specs.Prelude.{find}
 use Rattle.asset_locks.specs.LockTable.{Enrolled, LockTable, enrolled_in, enrol_in}
-use Rattle.asset_tests.proofs.handing.hand_once.Goals as goal
+use Rattle.asset_table_tests.proofs.handing.hand_once.Goals as goal
 
 -- one who is enrolled stays so as another is enrolled
 found_still : (u : ℕ) (new : Enrolled) (rows : LockTable) → is_some (find (λ (who : Enrolled). eqb who.name u) rows) ≡ true → is_some (find (λ (who : Enrolled). eqb who.name u) (rows ++ new ∷ [])) ≡ true

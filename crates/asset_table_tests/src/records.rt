@@ -3,7 +3,7 @@
 
 ghost use Rattle.std.specs.Prelude.{◌≡◌, true, OnOk};
 
-use crate::reference::next;
+use crate::drawing::next;
 use asset_names::{NoMemory, Txn};
 use asset_records::{Record, Records};
 use std::test::Fail;

@@ -1,7 +1,7 @@
 use Rattle.std.proofs.Common.{◌≡◌, Some, None, refl, sym, ap, ◌∙◌}
 use Rattle.std.specs.Prelude.{Option, is_some, option_map}
 use Rattle.asset_objects.specs.Cells.{has_object, value_in, shown, cells}
-use Rattle.asset_tests.proofs.tables.write_once.Goals as goal
+use Rattle.asset_table_tests.proofs.tables.write_once.Goals as goal
 
 -- a change of what is there changes nothing of whether it is there
 some_mapped : {A B : Type 0} (f : A → B) (found : Option A) → is_some (option_map f found) ≡ is_some found

@@ -2,7 +2,7 @@
 
 ghost use Rattle.std.specs.Prelude.{◌≡◌, true, OnOk};
 
-use crate::reference::next;
+use crate::drawing::next;
 use asset_chains::Chains;
 use asset_names::{NoMemory, Txn};
 use asset_seats::{Seats, add_chains, add_keys};

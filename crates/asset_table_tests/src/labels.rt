@@ -1,6 +1,7 @@
 //! Labels on worked values, beside a plain list that is relabelled by scanning, and what is left if memory runs out.
 
-use crate::reference::next;
+use crate::drawing::next;
+use crate::plain_labels::{join_in, label_in};
 use asset_labels::{Labels, Numbers};
 use std::alloc::AllocError;
 
@@ -124,25 +125,6 @@ fn thousand_nodes_joined_backwards_are_one_group(rt: HostRuntime) {
     drop(numbers);
     assert_eq!(rt; grown, Ok(()));
     assert!(rt; lesser && first && numbered);
-}
-
-/// Returns the label of the node in the list, or 0 past its end.
-fn label_in(list: &[usize], node: usize) -> usize {
-    match list.get(node) {
-        Some(label) => *label,
-        None => 0,
-    }
-}
-
-/// Joins two groups in the list, by a scan.
-pub(crate) fn join_in(list: &mut [usize], i: usize, j: usize) {
-    let a = label_in(list, i);
-    let b = label_in(list, j);
-    for label in list.iter_mut() {
-        if *label == a || *label == b {
-            *label = if a < b { a } else { b };
-        }
-    }
 }
 
 /// Draws joins, and returns the first after which the labels and the list differ.

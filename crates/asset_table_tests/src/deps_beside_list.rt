@@ -1,7 +1,7 @@
 //! Dependencies beside a plain list that does the same by scanning: all that shows is compared after each drawn call.
 
 use crate::deps::{add_between, doom, enrol};
-use crate::reference::next;
+use crate::drawing::{kind_of, next};
 use asset_deps::Deps;
 use asset_names::{Kind, NoMemory, Txn};
 use std::test::Fail;
@@ -130,15 +130,6 @@ fn agrees(deps: &mut Deps, list: &[Plain], enrolled: u64) -> bool {
         agrees = agrees && agrees_at(deps, list, enrolled, a);
     }
     agrees
-}
-
-/// Returns the kind that a number stands for.
-pub(crate) fn kind_of(number: u64) -> Kind {
-    match number % 3 {
-        0 => Kind::Cd,
-        1 => Kind::Ad,
-        _ => Kind::Gc,
-    }
 }
 
 /// Makes the call that a number stands for, on the table and the list, and returns who is enrolled from then on.

@@ -1,6 +1,7 @@
 //! Locks that go from one transaction to another, on worked values, and what is left if memory runs out.
 
 use crate::locks::ask;
+use crate::sets::listed;
 use asset_locks::{Asked, LockState, Locks};
 use asset_names::{NoMemory, Ob, ObList, ObSet, Op, Ops, Txn};
 use asset_permits::Permits;
@@ -20,14 +21,6 @@ pub(crate) fn hand(locks: &mut Locks, giver: u64, taker: u64, objects: &ObSet) -
     match hand_once(locks, giver, taker, objects) {
         Ok(()) => true,
         Err(NoMemory) => hand_once(locks, giver, taker, objects) == Ok(()),
-    }
-}
-
-/// Returns the set of these objects.
-pub(crate) fn listed(objects: &[Ob]) -> ObSet {
-    match ObList::of(objects) {
-        Ok(list) => ObSet::Listed(list),
-        Err(_) => ObSet::All,
     }
 }
 
