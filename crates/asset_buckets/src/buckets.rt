@@ -54,7 +54,7 @@ impl Buckets {
     }
 }
 
-/// Returns so many rows without indices.
+/// Returns `count` rows without indices.
 fn empty_rows(alloc: Global, count: usize) -> Result<Vec<Vec<usize>>, AllocError>
     ensures { IfOk result (λ rows. map (λ row. row.items) rows.items ≡ no_buckets count) }
 {

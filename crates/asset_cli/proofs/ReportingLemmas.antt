@@ -6,19 +6,19 @@ use Rattle.asset_cli.specs.declared.ends.RunEnd.TheVariants as RunEnd'
 use Rattle.asset_cli.specs.declared.rendering.Played.TheVariants.{Finished, BadLine}
 use Rattle.asset_cli.specs.Transcript.{Transcript, transcript}
 use Rattle.asset_cli.specs.Rendering.{IsLeftBy, Plays, Renders}
-use Rattle.asset_cli.specs.Reporting.{Reported, followed_by, reported}
+use Rattle.asset_cli.specs.Reporting.{Reported, with_report, reported}
 
 -- every line was looked at, and the report follows
 pub report_renders : (before mid after : List ℕ) (report : Recorded → Reported) (bytes : List ℕ) (capacity : ℕ) (left : Recorded) (end : RunEnd) → Plays before (transcript false bytes capacity) mid (Finished left)
     → after ≡ mid ++ (report left).text → end ≡ (report left).end → Renders before (reported report bytes capacity) after end
-unfolding reported followed_by IsLeftBy
+unfolding reported with_report IsLeftBy
 report_renders before mid after report bytes capacity left end plays wrote ends =
     rw (wrote, ends, plays.text, plays.left.1, plays.left.0) (record { text = append_assoc before _ _; ends = refl })
 
 -- a line was bad, and no report is made
 pub bad_line_renders : (before after : List ℕ) (report : Recorded → Reported) (bytes : List ℕ) (capacity n : ℕ) → Plays before (transcript false bytes capacity) after (BadLine n)
     → Renders before (reported report bytes capacity) after (RunEnd'.BadLine n)
-unfolding reported followed_by IsLeftBy
+unfolding reported with_report IsLeftBy
 bad_line_renders before after report bytes capacity n plays = rw plays.left (record { text = plays.text; ends = refl })
 
 -- every line was looked at

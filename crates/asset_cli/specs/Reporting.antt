@@ -39,13 +39,13 @@ abbrev pub serialized : Recorded → Reported
 serialized history = record { text = serial_text history; end = cond (shares_nothing history.entries) Finished Shared }
 
 -- the report follows what was played, unless a line was bad
-unfoldable pub followed_by : RunEnd → Transcript → Reported → Transcript
-followed_by Finished run report = record run { text = run.text ++ report.text; end = report.end }
-followed_by end run report = run
+unfoldable pub with_report : RunEnd → Transcript → Reported → Transcript
+with_report Finished run report = record run { text = run.text ++ report.text; end = report.end }
+with_report end run report = run
 
 -- A report on the history that a script leaves. Its steps print nothing; a bad line is all that is printed then.
 unfoldable pub reported : (Recorded → Reported) → List ℕ → ℕ → Transcript
-reported report bytes capacity = followed_by (transcript false bytes capacity).end (transcript false bytes capacity) (report (transcript false bytes capacity).history)
+reported report bytes capacity = with_report (transcript false bytes capacity).end (transcript false bytes capacity) (report (transcript false bytes capacity).history)
 
 -- each kind of report
 abbrev pub report_of : Report → Recorded → Reported

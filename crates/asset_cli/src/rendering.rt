@@ -41,6 +41,7 @@ fn end_play(history: History, bad: Option<u64>) -> Played
 }
 
 /// Asks one step, and appends the line of its outcome to the text if steps print theirs.
+#[inline(always)]
 #[tactic(auto, unfolding(crate::specs::Transcript::outcome_text, crate::specs::Transcript::line_if, crate::specs::Transcript::joined_by))]
 fn ask(core: &mut Core, text: &mut String, step: Step, prints: bool) -> Result<(), ScriptFault>
     ensures text { OnOk result (string_bytes text.new ≡ string_bytes text.old ++ line_if prints (outcome_text core.old.history step (answer_to core.old.history step))) }

@@ -19,6 +19,7 @@ use asset_names::{
 };
 
 /// Returns the first refusal of a step, if one applies. Nothing changes.
+#[inline(always)]
 fn refusal(tables: &mut Tables, step: &Step) -> Option<Refusal>
     ensures refusal { (opening : Opening) (steps : List Request) → Shows opening steps (values_of tables.old) → result ≡ first_refusal (rules_for opening steps step.now) }
     ensures same { tables.new ≡ tables.old }
@@ -172,6 +173,7 @@ fn commit_outcome_of(tables: &mut Tables, t: Txn) -> Outcome
 }
 
 /// Returns the outcome of a step that is not refused. Nothing changes.
+#[inline(always)]
 fn unrefused(tables: &mut Tables, step: &Step) -> Outcome
     ensures outcome { (opening : Opening) (steps : List Request) → Shows opening steps (values_of tables.old) → first_refusal (rules_for opening steps step.now) ≡ None →
         result ≡ unrefused opening steps step.now }
@@ -193,6 +195,7 @@ fn unrefused(tables: &mut Tables, step: &Step) -> Outcome
 }
 
 /// Returns the answer to a step. Nothing changes.
+#[inline(always)]
 pub(crate) fn answer(tables: &mut Tables, step: &Step) -> Outcome
     ensures answer { (opening : Opening) (steps : List Request) → Shows opening steps (values_of tables.old) → result ≡ answer opening steps step.now }
     ensures same { tables.new ≡ tables.old }

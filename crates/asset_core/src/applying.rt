@@ -22,6 +22,7 @@ use asset_names::{NoMemory, Ob, Reply, Step, Txn, value_asked};
 /// Applies an answered step to the tables if it takes effect, as `effect` says. Who replays a legal history on tables
 /// calls it for each entry, oldest first: the tables then show the history up to that entry. It answers `NoMemory` if
 /// memory runs out, and the tables show what they did before.
+#[inline(always)]
 pub fn apply_if(
     tables: &mut Tables,
     step: &Step,
@@ -39,6 +40,7 @@ pub fn apply_if(
 }
 
 /// Applies a step. If memory runs out, the tables show what they did before.
+#[inline(always)]
 fn apply(tables: &mut Tables, step: &Step) -> Result<(), NoMemory>
     requires ready { IsReady step.now tables.old }
     ensures stand { OnOk result ((opening : Opening) (steps : List Request) → Shows opening steps (values_of tables.old) → IsOrderly steps → Shows opening (step.now ∷ steps) (values_of tables.new)) }

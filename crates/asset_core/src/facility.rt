@@ -128,6 +128,7 @@ impl Core {
     /// owed after it, exceed the capacity. A complete, a commit or an abort that changes a status always finds
     /// room. `NoMemory` can come only if an initiate, a read, a write, a permit, a delegation or a dependency would take
     /// effect. After `Full` and `NoMemory` nothing has changed.
+    #[inline(always)]
     #[tactic(auto, unfolding(asset_history::specs::Recorded::after, asset_history::specs::Recorded::has_room, asset_history::specs::Recorded::is_ending, asset_names::specs::Answers::outcome_takes_effect))]
     pub fn step(&mut self, step: Step) -> Result<Outcome, Fault>
         ensures answered { IfOk result (λ outcome. outcome ≡ answer_to self.old.history step) }
@@ -148,6 +149,7 @@ impl Core {
     }
 
     /// Returns the answer to a step. Nothing changes.
+    #[inline(always)]
     fn answer(&mut self, step: &Step) -> Outcome
         ensures answer { result ≡ answer_to self.old.history step.now }
         ensures same { self.new ≡ self.old }
@@ -227,6 +229,7 @@ impl Core {
     }
 
     /// Records the answer to a step, if there is room for it.
+    #[inline(always)]
     fn record(&mut self, step: &Step, reply: Reply) -> Result<Outcome, Fault>
         requires answer { answer_to self.old.history step.now ≡ Answer reply }
         ensures answered { IfOk result (λ outcome. outcome ≡ Answer reply) }

@@ -12,6 +12,7 @@ use asset_names::{NoMemory, Txn};
 use indexmap::IndexSet;
 
 /// Returns the two transactions that the step at the index acts on, and `None` past the end.
+#[inline(always)]
 fn joined_at(history: &History, index: usize) -> Option<(Txn, Txn)>
     ensures { result ≡ option_map both_of (slice_get (reverse history.now.entries) index) }
 {
@@ -23,6 +24,7 @@ fn joined_at(history: &History, index: usize) -> Option<(Txn, Txn)>
 
 /// Returns the index of the transaction's name, which is added if it is new, as a group by itself. If memory runs out,
 /// names and labels are of no more use.
+#[inline(always)]
 fn node_of(names: &mut IndexSet<u64>, labels: &mut Labels, t: Txn) -> Result<usize, NoMemory>
     ensures names { OnOk result (names.new.keys ≡ with_name names.old.keys t.0) }
     ensures means { OnOk result ((leads : ℕ → ℕ → Bool) → Means leads names.old.keys labels.old → Means leads names.new.keys labels.new) }
@@ -41,6 +43,7 @@ fn node_of(names: &mut IndexSet<u64>, labels: &mut Labels, t: Txn) -> Result<usi
 
 /// Joins the groups of two transactions, which are named in this order if they are new. If memory runs out, names and
 /// labels are of no more use.
+#[inline(always)]
 fn join_names(
     names: &mut IndexSet<u64>,
     labels: &mut Labels,

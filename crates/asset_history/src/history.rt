@@ -101,6 +101,7 @@ impl History {
     }
 
     /// Returns the entry at the index, oldest first from 0, and `None` past the end.
+    #[inline(always)]
     pub fn entry(&self, index: usize) -> Option<(Step, Reply)>
         ensures entry { result ≡ slice_get (reverse self.now.entries) index }
         ensures legal { IsLegal self.now.opening self.now.entries }
@@ -120,6 +121,7 @@ impl History {
 
     /// Appends the step with its reply, which is its one answer here. The room was taken when the history was
     /// opened, so it does not allocate.
+    #[inline(always)]
     pub fn append(&mut self, step: Step, reply: Reply)
         requires answer { answer_to self.old step ≡ Answer reply }
         requires room { length self.old.entries < self.old.capacity }
@@ -129,6 +131,7 @@ impl History {
     }
 
     /// Appends the step with its reply, as `append` does.
+    #[inline(always)]
     fn append_lent(&mut self, step: &Step, reply: Reply)
         requires answer { answer_to self.old step.now ≡ Answer reply }
         requires room { length self.old.entries < self.old.capacity }

@@ -81,6 +81,7 @@ impl Stored {
     ghost use Rattle.asset_history.specs.Stored.{stored_as, entry_of, permit_entry, delegate_entry, value_stored, has_set};
 
     /// Returns the entry as it is stored, if `count` sets are stored.
+    #[inline(always)]
     #[tactic(auto, unfolding(crate::specs::Stored::stored_as, asset_names::specs::Steps::value_asked))]
     pub(crate) fn of(step: &Step, reply: Reply, count: usize) -> Stored
         ensures { result ≡ stored_as count step.now reply }
@@ -135,6 +136,7 @@ impl Stored {
     }
 
     /// Returns the entry, whose set, if it has one, is among the stored sets.
+    #[inline(always)]
     #[tactic(auto, unfolding(crate::specs::Stored::entry_of, crate::specs::Stored::value_stored, crate::specs::Stored::permit_entry, crate::specs::Stored::delegate_entry, crate::specs::StoredSets::set_or_all, crate::specs::Stored::has_set))]
     pub(crate) fn entry(&self, sets: &StoredSets) -> (Step, Reply)
         requires there { has_set (length sets.now.sets) self.now ≡ true }
