@@ -1,6 +1,6 @@
 -- A legal history with the numbers of entries in place of values is legal, and each object has the number of its source.
 use Rattle.std.proofs.Common.{◌≡◌, ℕ, suc, ℤ, pos, Bool, true, false, cond, not, eqb, ◌&&◌, List, [], ◌∷◌, map, length, refl, sym, ◌∙◌, ap, None, Some}
-use Rattle.std.specs.Prelude.{Option, find, zip, is_some, option_map, unwrap_or}
+use Rattle.std.specs.Prelude.{Option, ◌+◌, find, zip, is_some, nat_le, option_map, sum_by, unwrap_or}
 use Rattle.asset_names.specs.declared.names.Ob.{Ob}
 use Rattle.asset_names.specs.declared.operations.Op.TheVariants as Op'
 use Rattle.asset_names.specs.declared.sets.ObSet.{ObSet}
@@ -10,15 +10,16 @@ use Rattle.asset_names.specs.declared.steps.Step.TheVariants.{Initiate, Begin, R
 use Rattle.asset_names.specs.declared.replies.Refusal.{Refusal}
 use Rattle.asset_names.specs.declared.replies.Reply.{Reply}
 use Rattle.asset_names.specs.declared.replies.Reply.TheVariants as Reply'
-use Rattle.asset_names.specs.declared.replies.Outcome.TheVariants.{Answer}
+use Rattle.asset_names.specs.declared.replies.Outcome.{Outcome}
+use Rattle.asset_names.specs.declared.replies.Outcome.TheVariants.{Answer, Wait}
 use Rattle.asset_names.specs.InSet.{in_set}
 use Rattle.asset_names.specs.Steps.{Opening, Entry, takes_effect, applied}
 use Rattle.asset_names.specs.Endings.{end_of}
 use Rattle.asset_names.specs.Operations.{Use, reads, writes, Operation, handed_over, operated, operations, free, was_aborted, stands, exists, opening_at, opening_value, after_use, value_after, value}
 use Rattle.asset_names.specs.Answers.{unknown, ended, not_running, taken, begun_before, too_late, no_object, cycle, missing_in, missing_rule, no_object_of, rules_for, first_refusal, unrefused, outcome_unless, answer, IsLegal}
+use Rattle.asset_names.specs.Room.{owed_to, owed, fits}
 use Rattle.asset_names.specs.Sources.{Numbered, is_operation, is_write, operation_numbers, numbered, stands_on, source}
-use Rattle.asset_laws.specs.Renumbered.{source_number, writing, reading, renumbered, zeroed}
-use Rattle.asset_laws.proofs.AnswersAlike.{not_waiting}
+use Rattle.asset_laws.specs.Renumbered.{source_number, writing, reading, outcome_read, renumbered, zeroed}
 use Rattle.asset_laws.proofs.ShapeLemmas.{IsSameShape, shape, status_same, would_cycle_same, may_commit_same, free_same, same_more}
 
 -- ---- the opening
@@ -203,45 +204,57 @@ reading_refused older (Commit t) refusal = refl
 reading_refused older (Abort t) refusal = refl
 reading_refused older (WaitFor t) refusal = refl
 
-unrefused_same : (opening : Opening) (ones : List Step) (older : List Entry) → IsSameShape ones (applied older) → ((x : ℕ) → value (zeroed opening) ones x ≡ source_number (source older x)) → (n : ℕ) (step : Step) (reply : Reply)
-    → unrefused opening (applied older) step ≡ Answer reply → unrefused (zeroed opening) ones (writing n step) ≡ Answer (reading older step reply)
-unfolding unrefused writing reading
-unrefused_same opening ones older same sources n (Initiate t parent) reply is = is
-unrefused_same opening ones older same sources n (Begin t) reply is = is
-unrefused_same opening ones older same sources n (Read t x) reply is =
-    let is_free = not_waiting (free (applied older) t.0 x.0 Op'.Read) _ reply is in
-    rw (free_same ones (applied older) same t.0 x.0 Op'.Read, is_free, sources x.0) (by reply (rw is_free at is)) where
-      by : (reply : Reply) → Answer (Reply'.Value (value opening (applied older) x.0)) ≡ Answer reply → Answer (Reply'.Value (source_number (source older x.0))) ≡ Answer (reading older (Read t x) reply)
-      by (Reply'.Value v) h = refl
-      by Reply'.Done h = cc
-      by Reply'.Committed h = cc
-      by Reply'.Aborted h = cc
-      by (Reply'.Refused refusal) h = cc
-unrefused_same opening ones older same sources n (Write t x v) reply is = rw (free_same ones (applied older) same t.0 x.0 Op'.Write) is
-unrefused_same opening ones older same sources n (Complete t) reply is = is
-unrefused_same opening ones older same sources n (Permit giver taker obs ops) reply is = is
-unrefused_same opening ones older same sources n (Delegate giver taker obs) reply is = is
-unrefused_same opening ones older same sources n (Depend kind a b) reply is = is
-unrefused_same opening ones older same sources n (Commit t) reply is = rw (status_same ones (applied older) same t.0, may_commit_same ones (applied older) same t.0) is
-unrefused_same opening ones older same sources n (Abort t) reply is = is
-unrefused_same opening ones older same sources n (WaitFor t) reply is = rw (status_same ones (applied older) same t.0) is
+-- an outcome stays if no reply to the step is read otherwise
+outcome_stays : (older : List Entry) (step : Step) → ((reply : Reply) → reading older step reply ≡ reply) → (outcome : Outcome) → outcome ≡ outcome_read older step outcome
+unfolding outcome_read
+outcome_stays older step same (Answer reply) = ap Answer (sym (same reply))
+outcome_stays older step same Wait = refl
+
+unrefused_read : (opening : Opening) (ones : List Step) (older : List Entry) → IsSameShape ones (applied older) → ((x : ℕ) → value (zeroed opening) ones x ≡ source_number (source older x)) → (n : ℕ) (step : Step)
+    → unrefused (zeroed opening) ones (writing n step) ≡ outcome_read older step (unrefused opening (applied older) step)
+unfolding unrefused writing outcome_read reading
+unrefused_read opening ones older same sources n (Initiate t parent) = refl
+unrefused_read opening ones older same sources n (Begin t) = refl
+unrefused_read opening ones older same sources n (Read t x) = rw (free_same ones (applied older) same t.0 x.0 Op'.Read, sources x.0) (by (free (applied older) t.0 x.0 Op'.Read)) where
+  by : (is_free : Bool) → cond is_free (Answer (Reply'.Value (source_number (source older x.0)))) Wait ≡ outcome_read older (Read t x) (cond is_free (Answer (Reply'.Value (value opening (applied older) x.0))) Wait)
+  by true = refl
+  by false = refl
+unrefused_read opening ones older same sources n (Write t x v) = rw (free_same ones (applied older) same t.0 x.0 Op'.Write) (by (free (applied older) t.0 x.0 Op'.Write)) where
+  by : (is_free : Bool) → cond is_free (Answer Reply'.Done) Wait ≡ outcome_read older (Write t x v) (cond is_free (Answer Reply'.Done) Wait)
+  by true = refl
+  by false = refl
+unrefused_read opening ones older same sources n (Complete t) = refl
+unrefused_read opening ones older same sources n (Permit giver taker obs ops) = refl
+unrefused_read opening ones older same sources n (Delegate giver taker obs) = refl
+unrefused_read opening ones older same sources n (Depend kind a b) = refl
+unrefused_read opening ones older same sources n (Commit t) = rw (status_same ones (applied older) same t.0, may_commit_same ones (applied older) same t.0) (outcome_stays older (Commit t) (λ reply. refl) _)
+unrefused_read opening ones older same sources n (Abort t) = refl
+unrefused_read opening ones older same sources n (WaitFor t) = rw (status_same ones (applied older) same t.0) (outcome_stays older (WaitFor t) (λ reply. refl) _)
+
+-- a step with its number has the outcome of the step, but that a read reads the number of its source
+pub outcome_renumbered : (opening : Opening) (older : List Entry) (step : Step)
+    → answer (zeroed opening) (applied (renumbered older)) (writing (length older) step) ≡ outcome_read older step (answer opening (applied older) step)
+unfolding answer outcome_unless outcome_read
+outcome_renumbered opening older step =
+    rw (rules_same opening (applied (renumbered older)) (applied older) (renumbered_same older) (length older) step) (go (first_refusal (rules_for opening (applied older) step))) where
+      go : (first : Option Refusal) → outcome_unless first (unrefused (zeroed opening) (applied (renumbered older)) (writing (length older) step))
+          ≡ outcome_read older step (outcome_unless first (unrefused opening (applied older) step))
+      go None = unrefused_read opening (applied (renumbered older)) older (renumbered_same older) (value_is_source opening older) (length older) step
+      go (Some refusal) = ap Answer (sym (reading_refused older step refusal))
 
 renumbered_answer : (opening : Opening) (entry : Entry) (older : List Entry) → answer opening (applied older) entry.0 ≡ Answer entry.1
     → answer (zeroed opening) (applied (renumbered older)) (writing (length older) entry.0) ≡ Answer (reading older entry.0 entry.1)
-unfolding answer outcome_unless
-renumbered_answer opening entry older is =
-    rw (rules_same opening (applied (renumbered older)) (applied older) (renumbered_same older) (length older) entry.0) (go (first_refusal (rules_for opening (applied older) entry.0)) is) where
-      refused : (refusal : Refusal) (reply : Reply) → Answer (Reply'.Refused refusal) ≡ Answer reply → Answer (Reply'.Refused refusal) ≡ Answer (reading older entry.0 reply)
-      refused refusal (Reply'.Refused other) h = h ∙ ap Answer (sym (reading_refused older entry.0 other))
-      refused refusal Reply'.Done h = cc
-      refused refusal (Reply'.Value v) h = cc
-      refused refusal Reply'.Committed h = cc
-      refused refusal Reply'.Aborted h = cc
+unfolding outcome_read
+renumbered_answer opening entry older is = outcome_renumbered opening older entry.0 ∙ ap (outcome_read older entry.0) is
 
-      go : (first : Option Refusal) → outcome_unless first (unrefused opening (applied older) entry.0) ≡ Answer entry.1
-          → outcome_unless first (unrefused (zeroed opening) (applied (renumbered older)) (writing (length older) entry.0)) ≡ Answer (reading older entry.0 entry.1)
-      go None h = unrefused_same opening (applied (renumbered older)) older (renumbered_same older) (value_is_source opening older) (length older) entry.0 entry.1 h
-      go (Some refusal) h = refused refusal entry.1 h
+-- ---- room
+
+-- as many entries are owed, so as many fit
+pub room_renumbered : (entries : List Entry) (count capacity : ℕ) → fits (applied (renumbered entries)) count capacity ≡ fits (applied entries) count capacity
+unfolding fits owed
+room_renumbered entries count capacity =
+    let same = renumbered_same entries in
+    λ i. nat_le (count + sum_by (λ n. owed_to (status_same (applied (renumbered entries)) (applied entries) same n i)) (same.initiated_same i)) capacity
 
 -- the history with numbers in place of values is legal
 pub renumbered_legal : (opening : Opening) (entries : List Entry) → IsLegal opening entries → IsLegal (zeroed opening) (renumbered entries)

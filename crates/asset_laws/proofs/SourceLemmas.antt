@@ -1,9 +1,10 @@
 -- Where a read's value comes from, of a transaction that is alone in its group.
-use Rattle.std.proofs.Common.{◌≡◌, ℕ, suc, ℤ, Bool, true, false, cond, not, eqb, ◌&&◌, ◌<◌, List, [], ◌∷◌, ◌++◌, length, map, refl, sym, ◌∙◌, ap, arith, ◌⊎◌, inl, inr, None, Some}
+use Rattle.std.proofs.Common.{◌≡◌, ℕ, suc, ℤ, Bool, true, false, cond, not, eqb, ◌&&◌, ◌<◌, List, [], ◌∷◌, ◌++◌, length, map, refl, sym, subst, ◌∙◌, ap, arith, ◌⊎◌, inl, inr, None, Some}
 use Rattle.std.specs.Prelude.{Option, zip, find}
 use Rattle.std.specs.List.{list_any}
 use Rattle.std.proofs.lemmas.List.{length-map}
 use Rattle.std.proofs.lemmas.Bool.{or_parts, or_left, or_right, and_parts, eqb-true, eq-eqb, false≢true, not-true}
+use Rattle.std.proofs.lemmas.Option.{same_Some}
 use Rattle.asset_names.specs.declared.names.Txn.{Txn}
 use Rattle.asset_names.specs.declared.names.Ob.{Ob}
 use Rattle.asset_names.specs.declared.operations.Op.TheVariants as Op'
@@ -23,6 +24,7 @@ use Rattle.asset_names.specs.Groups.{actor, partner, same_group, was_committed}
 use Rattle.asset_names.specs.Sources.{Numbered, is_operation, is_write, operation_numbers, numbered, stands_on, source, source_value, entry_at, IsAlone, IsOwnOrCommitted}
 use Rattle.asset_names.specs.Answers.{unrefused, IsLegal}
 use Rattle.asset_names.proofs.LegalLemmas.{legal_orderly}
+use Rattle.asset_laws.specs.Renumbered.{IsWrittenOn}
 use Rattle.asset_laws.proofs.KeepLinks.{Keeps}
 use Rattle.asset_laws.proofs.AlikeLemmas.{allows_keeps}
 use Rattle.asset_laws.proofs.AnswersAlike.{not_waiting}
@@ -54,10 +56,11 @@ entry_first first older = rw (eq-eqb (length older) (length older) refl) refl
 
 -- ---- who asked for a write
 
--- the entry with the number of a write is that write, and who asked for it is kept as who is responsible for it
+-- The entry with the number of a write is that write, with its object and its value, and who asked for it is kept as who is
+-- responsible for it.
 IsAsked : (ℕ → Bool) → List Entry → Numbered → Type 0
 IsAsked keep entries found = is_write found.1.use_of ≡ true
-    → (t : Txn) × (x : Ob) × (v : ℤ) × (entry_at entries found.0 ≡ Some (Write t x v, Reply'.Done)) × (x.0 ≡ found.1.object) × (keep t.0 ≡ keep found.1.owner)
+    → (t : Txn) × (x : Ob) × (v : ℤ) × (entry_at entries found.0 ≡ Some (Write t x v, Reply'.Done)) × (x.0 ≡ found.1.object) × (keep t.0 ≡ keep found.1.owner) × (found.1.use_of ≡ writes v)
 
 AllAsked : (ℕ → Bool) → List Entry → List Numbered → Type 0
 AllAsked keep entries [] = Unit {0}
@@ -67,7 +70,7 @@ asked_later : (keep : ℕ → Bool) (first : Entry) (older : List Entry) (ns : L
 unfolding IsAsked AllAsked
 asked_later keep first older [] asked = asked
 asked_later keep first older (found ∷ rest) asked =
-    (λ write. let by = asked.0 write in (by.0, by.1, by.2, entry_stays first older found.0 (Write by.0 by.1 by.2, Reply'.Done) by.3, by.4, by.5), asked_later keep first older rest asked.1)
+    (λ write. let by = asked.0 write in (by.0, by.1, by.2, entry_stays first older found.0 (Write by.0 by.1 by.2, Reply'.Done) by.3, by.4, by.5, by.6), asked_later keep first older rest asked.1)
 
 -- a delegation leaves the objects, the uses, and how the responsible ones are kept
 asked_handed : (keep : ℕ → Bool) (entries : List Entry) (giver taker : ℕ) (obs : ObSet) → keep giver ≡ keep taker → (numbers : List ℕ) (os : List Operation)
@@ -78,7 +81,7 @@ asked_handed keep entries giver taker obs same (m ∷ numbers) [] asked = asked
 asked_handed keep entries giver taker obs same (m ∷ numbers) (o ∷ os) asked =
     (go (eqb o.owner giver) refl (in_set obs o.object), asked_handed keep entries giver taker obs same numbers os asked.1) where
       go : (own : Bool) → eqb o.owner giver ≡ own → (listed : Bool) → IsAsked keep entries (m, cond (own && listed) (record o { owner = taker }) o)
-      go true e true = λ write. let by = asked.0 write in (by.0, by.1, by.2, by.3, by.4, by.5 ∙ ap keep (eqb-true o.owner giver e) ∙ same)
+      go true e true = λ write. let by = asked.0 write in (by.0, by.1, by.2, by.3, by.4, by.5 ∙ ap keep (eqb-true o.owner giver e) ∙ same, by.6)
       go true e false = asked.0
       go false e listed = asked.0
 
@@ -99,7 +102,7 @@ asked_more keep (Initiate t parent) reply older effect same asked = asked_later 
 asked_more keep (Begin t) reply older effect same asked = asked_later keep (Begin t, reply) older _ asked
 asked_more keep (Read t x) reply older effect same asked = (λ write. absurd (false≢true write), asked_later keep (Read t x, reply) older _ asked)
 asked_more keep (Write t x v) reply older effect same asked = (
-  λ write. (t, x, v, ap (λ r. entry_at ((Write t x v, r) ∷ older) (length older)) (write_done t x v reply effect) ∙ entry_first (Write t x v, Reply'.Done) older, refl, refl),
+  λ write. (t, x, v, ap (λ r. entry_at ((Write t x v, r) ∷ older) (length older)) (write_done t x v reply effect) ∙ entry_first (Write t x v, Reply'.Done) older, refl, refl, refl),
   asked_later keep (Write t x v, reply) older _ asked,
 )
 asked_more keep (Complete t) reply older effect same asked = asked_later keep (Complete t, reply) older _ asked
@@ -183,7 +186,7 @@ own_or_committed entries keep t x stays alone keeps (m ∷ numbers) (o ∷ os) a
         by : (keep o.owner ≡ true) ⊎ (was_committed (end_of (applied entries) o.owner) ≡ true) → IsOwnOrCommitted entries t x (Some (m, o))
         by (inr committed) = inr committed
         by (inl own) = inl (asker.2, asker.3 ∙ same_write asker.0 t asker.1 x asker.2 (alone asker.0.0 (asker.5 ∙ own)) (asker.4 ∙ eqb-true o.object x.0 here.0)) where
-          asker : (u : Txn) × (y : Ob) × (v : ℤ) × (entry_at entries m ≡ Some (Write u y v, Reply'.Done)) × (y.0 ≡ o.object) × (keep u.0 ≡ keep o.owner)
+          asker : (u : Txn) × (y : Ob) × (v : ℤ) × (entry_at entries m ≡ Some (Write u y v, Reply'.Done)) × (y.0 ≡ o.object) × (keep u.0 ≡ keep o.owner) × (o.use_of ≡ writes v)
           asker = asked.0 here.1
 
 -- the source of a value that a transaction read which is alone in its group
@@ -249,3 +252,34 @@ value_found opening entries x (m ∷ numbers) (o ∷ os) same = go (eqb o.object
 pub source_gives : (opening : Opening) (entries : List Entry) (x : ℕ) → value opening (applied entries) x ≡ source_value opening x (source entries x)
 unfolding value source numbered
 source_gives opening entries x = value_found opening entries x (operation_numbers entries) (operations (applied entries)) (numbers_length entries)
+
+-- ---- the write of a source
+
+-- everybody may be kept
+respects_all : (entries : List Entry) → RespectsEntries (λ n. true) entries
+unfolding RespectsEntries
+respects_all [] = tt
+respects_all (entry ∷ older) = (refl, respects_all older)
+
+-- what is found was asked for, and stands
+found_asked : (keep : ℕ → Bool) (entries : List Entry) (x : ℕ) (ns : List Numbered) → AllAsked keep entries ns → (found : Numbered) → find (stands_on entries x) ns ≡ Some found
+    → IsAsked keep entries found × (stands_on entries x found ≡ true)
+unfolding AllAsked
+found_asked keep entries x [] asked found is = cc
+found_asked keep entries x (first ∷ rest) asked found is = go (stands_on entries x first) refl (found_asked keep entries x rest asked.1 found) is where
+  Found : Type 0
+  Found = IsAsked keep entries found × (stands_on entries x found ≡ true)
+
+  go : (here : Bool) → stands_on entries x first ≡ here → (find (stands_on entries x) rest ≡ Some found → Found) → cond here (Some first) (find (stands_on entries x) rest) ≡ Some found → Found
+  go true e later at = subst (λ (n : Numbered). IsAsked keep entries n × (stands_on entries x n ≡ true)) (same_Some first found at) (asked.0, e)
+  go false e later at = later at
+
+-- the entry of the source of x is a write on x, of the value that the source gives
+pub source_written : (entries : List Entry) (x : ℕ) (found : Numbered) → source entries x ≡ Some found → IsWrittenOn entries x found
+unfolding source stands_on IsAsked
+source_written entries x found is =
+    let here = found_asked (λ n. true) entries x (numbered entries) (all_asked (λ n. true) entries (respects_all entries)) found is in
+    let up = and_parts (eqb found.1.object x && is_write found.1.use_of) (stands (applied entries) found.1) here.1 in
+    let parts = and_parts (eqb found.1.object x) (is_write found.1.use_of) up.0 in
+    let by = here.0 parts.1 in
+    (by.0, by.1, by.2, by.3, by.4 ∙ eqb-true found.1.object x parts.0, by.6)

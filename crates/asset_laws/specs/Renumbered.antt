@@ -1,12 +1,16 @@
 -- A history in which each write writes the number of its entry, so that each read reads the number of its source.
-use Rattle.std.specs.Prelude.{ℕ, suc, ℤ, pos, List, [], ◌∷◌, length, map, Option, None, Some}
+use Rattle.std.specs.Prelude.{◌≡◌, ℕ, suc, ℤ, pos, List, [], ◌∷◌, length, map, Option, None, Some}
+use Rattle.asset_names.specs.declared.names.Txn.{Txn}
 use Rattle.asset_names.specs.declared.names.Ob.{Ob}
 use Rattle.asset_names.specs.declared.steps.Step.{Step}
 use Rattle.asset_names.specs.declared.steps.Step.TheVariants.{Read, Write}
 use Rattle.asset_names.specs.declared.replies.Reply.{Reply}
-use Rattle.asset_names.specs.declared.replies.Reply.TheVariants.{Value}
+use Rattle.asset_names.specs.declared.replies.Reply.TheVariants.{Done, Value}
+use Rattle.asset_names.specs.declared.replies.Outcome.{Outcome}
+use Rattle.asset_names.specs.declared.replies.Outcome.TheVariants.{Answer, Wait}
 use Rattle.asset_names.specs.Steps.{Opening, Entry}
-use Rattle.asset_names.specs.Sources.{Numbered, source}
+use Rattle.asset_names.specs.Operations.{writes}
+use Rattle.asset_names.specs.Sources.{Numbered, entry_at, source}
 
 -- the number of a source, counted from 1; 0 is the opening
 unfoldable pub source_number : Option Numbered → ℤ
@@ -23,6 +27,11 @@ unfoldable pub reading : List Entry → Step → Reply → Reply
 reading older (Read t x) (Value v) = Value (source_number (source older x.0))
 reading older step reply = reply
 
+-- the outcome of a step after the older entries: a read that is answered reads the number of its source
+unfoldable pub outcome_read : List Entry → Step → Outcome → Outcome
+outcome_read older step (Answer reply) = Answer (reading older step reply)
+outcome_read older step Wait = Wait
+
 -- the entries with numbers in place of values
 unfoldable pub renumbered : List Entry → List Entry
 renumbered [] = []
@@ -31,3 +40,7 @@ renumbered (entry ∷ older) = (writing (length older) entry.0, reading older en
 -- the opening with 0 in place of each value
 unfoldable pub zeroed : Opening → Opening
 zeroed opening = map (λ (given : Ob × ℤ). (given.0, pos 0)) opening
+
+-- the entry of a source of x is a write on x, of the value that the source gives
+abbrev pub IsWrittenOn : List Entry → ℕ → Numbered → Type 0
+IsWrittenOn entries x found = (t : Txn) × (y : Ob) × (v : ℤ) × (entry_at entries found.0 ≡ Some (Write t y v, Done)) × (y.0 ≡ x) × (found.1.use_of ≡ writes v)
