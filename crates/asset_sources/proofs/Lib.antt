@@ -1,1 +1,3 @@
 pub mod WalkLemmas
+pub mod TraceLemmas
+pub mod ReadLemmas

@@ -39,7 +39,7 @@ next_entry entries i entry at =
     ∙ ap (λ (x : Entry). x ∷ reverse (take i entries)) (get_or_from_slice_get entries i entry entry at)
 
 -- the entry at i between the newer and the older ones
-between : (all : List Entry) (i : ℕ) (entry : Entry) → slice_get (reverse all) i ≡ Some entry → reverse (drop (i + 1) (reverse all)) ++ entry ∷ reverse (take i (reverse all)) ≡ all
+pub between : (all : List Entry) (i : ℕ) (entry : Entry) → slice_get (reverse all) i ≡ Some entry → reverse (drop (i + 1) (reverse all)) ++ entry ∷ reverse (take i (reverse all)) ≡ all
 between all i entry at =
     let entries = reverse all in
     ap (λ l. reverse (drop (i + 1) (reverse all)) ++ l) (sym (next_entry entries i entry at))
@@ -107,7 +107,7 @@ effect_reading older (Abort t) reply = refl
 effect_reading older (WaitFor t) reply = refl
 
 -- the entry with numbers takes effect as the entry with values does
-effect_numbered : (n : ℕ) (older : List Entry) (step : Step) (reply : Reply) → takes_effect (writing n step) (reading older step reply) ≡ takes_effect step reply
+pub effect_numbered : (n : ℕ) (older : List Entry) (step : Step) (reply : Reply) → takes_effect (writing n step) (reading older step reply) ≡ takes_effect step reply
 effect_numbered n older step reply = effect_writing n step (reading older step reply) ∙ effect_reading older step reply
 
 -- ---- one more entry
@@ -241,13 +241,13 @@ alone_found opening all newer older t x v legal is alone =
 -- ---- the sources together
 
 -- an element of the first list
-listed_front : {X : Type 0} (xs ys : List X) (i : ℕ) → i < length xs → slice_get (xs ++ ys) i ≡ slice_get xs i
+pub listed_front : {X : Type 0} (xs ys : List X) (i : ℕ) → i < length xs → slice_get (xs ++ ys) i ≡ slice_get xs i
 listed_front [] ys i below = absurd (omega arith)
 listed_front (x ∷ xs) ys zero below = refl
 listed_front (x ∷ xs) ys (suc i) below = listed_front xs ys i (omega arith)
 
 -- the element at the end
-listed_end : {X : Type 0} (xs : List X) (y : X) → slice_get (xs ++ y ∷ []) (length xs) ≡ Some y
+pub listed_end : {X : Type 0} (xs : List X) (y : X) → slice_get (xs ++ y ∷ []) (length xs) ≡ Some y
 listed_end [] y = refl
 listed_end (x ∷ xs) y = listed_end xs y
 

@@ -1,2 +1,3 @@
 pub mod Sourced
+pub mod Traced
 pub mod Walked

@@ -1,5 +1,5 @@
 -- Where the values come from that were read.
-use Rattle.std.specs.Prelude.{ℕ, ◌==◌, cond, List, [], ◌∷◌, ◌++◌, length, Option, Some, None}
+use Rattle.std.specs.Prelude.{ℕ, ◌==◌, ℤ, cond, List, [], ◌∷◌, ◌++◌, length, Option, Some, None}
 use Rattle.asset_names.specs.declared.steps.Step.{Step}
 use Rattle.asset_names.specs.declared.steps.Step.TheVariants.{Read}
 use Rattle.asset_names.specs.declared.replies.Reply.{Reply}
@@ -28,3 +28,8 @@ sources_of (entry ∷ older) = sources_of older ++ source_of older entry.0 entry
 unfoldable pub source_at : List Entry → ℕ → Option Source
 source_at [] m = None
 source_at (entry ∷ older) m = cond (m == length older) (source_of older entry.0 entry.1) (source_at older m)
+
+-- a read that was answered by a value: the read, the value and its source
+unfoldable pub read_of : Step → Reply → Option Source → Option (Step × ℤ × Source)
+read_of step (Value v) (Some found) = Some (step, v, found)
+read_of step reply source = None

@@ -10,6 +10,7 @@ use asset_names::{NoMemory, Ob, Step};
 use std::alloc::Global;
 
 /// Returns the step of the entry at the index: a write writes the number of its entry, counted from 1.
+#[inline(always)]
 #[tactic(auto, unfolding(asset_laws::specs::Renumbered::writing))]
 pub(crate) fn writing(index: usize, step: &Step) -> Step
     requires small { index + 1 < 2 ^ 63 }
