@@ -1,5 +1,5 @@
 -- What one line adds to the text, and how a text ends.
-use Rattle.std.proofs.Common.{◌≡◌, ℕ, ◌+◌, Bool, List, [], ◌∷◌, ◌++◌, refl, sym, ◌∙◌, append_assoc, append-nil, Some, None}
+use Rattle.std.proofs.Common.{◌≡◌, ℕ, ◌+◌, Bool, true, false, List, [], ◌∷◌, ◌++◌, refl, sym, ◌∙◌, append_assoc, append-nil, Some, None}
 use Rattle.std.specs.Prelude.{ℤ, Option}
 use Rattle.asset_names.specs.declared.names.Ob.{Ob}
 use Rattle.asset_names.specs.declared.steps.Step.{Step}
@@ -10,7 +10,10 @@ use Rattle.asset_cli.specs.declared.ends.RunEnd.{RunEnd}
 use Rattle.asset_grammar.specs.Grammar.{line_of}
 use Rattle.asset_grammar.specs.Texts.{bad_line}
 use Rattle.asset_cli.specs.Transcript.{Transcript, outcome_text, joined_by, steps_from, steps_transcript, step_line, line_if, with_prefix, finished, stopped}
+use Rattle.asset_cli.specs.declared.player.Player.{Player}
+use Rattle.asset_cli.specs.declared.player.Player.TheVariants as Player'
 use Rattle.asset_cli.specs.declared.rendering.Played.TheVariants as Played'
+use Rattle.asset_cli.specs.Playing.{history_of, traces_in, left_of}
 use Rattle.asset_cli.specs.Rendering.{GoesOn, Ends, IsLeftBy, Plays, end_at, played_of}
 
 pub blank_goes_on : (prints : Bool) (before line : List ℕ) (more : List (List ℕ)) (n : ℕ) (h : Recorded) → line_of line ≡ Blank
@@ -53,18 +56,21 @@ pub none_ends : (prints : Bool) (before : List ℕ) (n : ℕ) (h : Recorded) →
 unfolding steps_transcript finished end_at
 none_ends prints before n h = record { text = sym (append-nil before); ends = refl; history = refl }
 
--- no step is there
-pub finished_plays : (before : List ℕ) (history : Recorded) (left : Recorded) → left ≡ history → Plays before (finished history) before (Played'.Finished left)
-unfolding finished IsLeftBy
-finished_plays before history left e = record { text = sym (append-nil before); left = (refl, e) }
-
 -- a bad line ends the run before the first step
-pub stopped_plays : (before after : List ℕ) (n : ℕ) (history : Recorded) → after ≡ before ++ bad_line n → Plays before (stopped n history) after (Played'.BadLine n)
+pub stopped_plays : (before after : List ℕ) (traces : Bool) (n : ℕ) (history : Recorded) → after ≡ before ++ bad_line n → Plays before (stopped n history) after traces (Played'.BadLine n)
 unfolding stopped IsLeftBy
-stopped_plays before after n history wrote = record { text = wrote; left = refl }
+stopped_plays before after true n history wrote = record { text = wrote; left = refl }
+stopped_plays before after false n history wrote = record { text = wrote; left = refl }
 
 -- the steps end, with every line looked at or at a bad line
-pub ended_plays : (before after : List ℕ) (all : Transcript) (left : Recorded) (bad : Option ℕ) → Ends before all after (end_at bad) left → Plays before all after (played_of left bad)
-unfolding IsLeftBy end_at played_of
-ended_plays before after all left None ends = record { text = ends.text; left = (sym ends.ends, ends.history) }
-ended_plays before after all left (Some n) ends = record { text = ends.text; left = sym ends.ends }
+pub ended_plays : (before after : List ℕ) (all : Transcript) (player : Player) (bad : Option ℕ) → Ends before all after (end_at bad) (history_of player) → Plays before all after (traces_in player) (played_of (left_of player) bad)
+unfolding IsLeftBy end_at played_of history_of traces_in left_of
+ended_plays before after all (Player'.Plain core) None ends = record { text = ends.text; left = (sym ends.ends, ends.history) }
+ended_plays before after all (Player'.Tracing tracer) None ends = record { text = ends.text; left = (sym ends.ends, ends.history) }
+ended_plays before after all (Player'.Plain core) (Some n) ends = record { text = ends.text; left = sym ends.ends }
+ended_plays before after all (Player'.Tracing tracer) (Some n) ends = record { text = ends.text; left = sym ends.ends }
+
+-- no step is there
+pub finished_plays : (before : List ℕ) (history : Recorded) (player : Player) → history_of player ≡ history → Plays before (finished history) before (traces_in player) (played_of (left_of player) None)
+unfolding finished end_at
+finished_plays before history player e = ended_plays before before (finished history) player None (record { text = sym (append-nil before); ends = refl; history = e })

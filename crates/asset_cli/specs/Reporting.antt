@@ -47,14 +47,14 @@ with_report end run report = run
 unfoldable pub reported : (Recorded → Reported) → List ℕ → ℕ → Transcript
 reported report bytes capacity = with_report (transcript false bytes capacity).end (transcript false bytes capacity) (report (transcript false bytes capacity).history)
 
--- each kind of report
+-- each report that is made of the history alone
 abbrev pub report_of : Report → Recorded → Reported
 report_of Report'.Pruned = pruned
 report_of Report'.Groups = grouped
 report_of Report'.Serial = serialized
-report_of Report'.Sources = sourced
 
 -- what each work gives of the bytes of a script
 abbrev pub transcript_of : Work → List ℕ → ℕ → Transcript
 transcript_of Work'.Run bytes capacity = transcript true bytes capacity
+transcript_of Work'.Sources bytes capacity = reported sourced bytes capacity
 transcript_of (Work'.Report report) bytes capacity = reported (report_of report) bytes capacity

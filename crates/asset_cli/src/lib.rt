@@ -6,6 +6,7 @@ mod device;
 mod ends;
 mod faults;
 mod opening_objects;
+mod player;
 mod preamble;
 mod reading;
 mod rendering;

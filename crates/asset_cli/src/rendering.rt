@@ -10,14 +10,17 @@ ghost use Rattle.asset_cli.specs.Transfers.{input_limit};
 ghost use Rattle.asset_cli.specs.Transcript.{outcome_text, line_if, joined_by, steps_from, steps_transcript, transcript};
 ghost use Rattle.asset_cli.specs.Rendering.{GoesOn, Ends, Plays, end_at, played_of};
 ghost use Rattle.asset_cli.specs.Preamble.{transcript_from};
+ghost use Rattle.asset_cli.specs.Playing.{history_of, traces_in, prints_for, traces_for};
 
 use crate::faults::ScriptFault;
 use crate::opening_objects::OpeningObjects;
+use crate::player::{Left, Player, end_player, open_player, play_step};
 use crate::preamble::{ObjectLine, Preamble, take_objects};
-use asset_core::Core;
+use crate::reporting::Work;
 use asset_grammar::{Command, Line, push_bad_line, push_full, push_outcome, split_line};
 use asset_history::History;
-use asset_names::{Fault, NoMemory, Ob, Step};
+use asset_names::{Fault, Ob, Step};
+use asset_sources::Trace;
 use std::alloc::Global;
 
 /// What is left of a script that was played.
@@ -25,17 +28,22 @@ use std::alloc::Global;
 pub(crate) enum Played {
     /// Every line was looked at, and this is the history.
     Finished(History),
+    /// Every line was looked at, and this is the history with the sources of what was read.
+    Traced(Trace),
     /// The line of this number is bad, and those after it were not looked at.
     BadLine(u64),
 }
 
-/// Returns what is left of the history when steps end, at the bad line of this number if there is one.
+/// Returns what is left when steps end, at the bad line of this number if there is one.
 #[tactic(auto, unfolding(crate::specs::Rendering::played_of))]
-fn end_play(history: History, bad: Option<u64>) -> Played
-    ensures { result ≡ played_of history bad }
+fn end_play(left: Left, bad: Option<u64>) -> Played
+    ensures { result ≡ played_of left bad }
 {
     match bad {
-        None => Played::Finished(history),
+        None => match left {
+            Left::History(history) => Played::Finished(history),
+            Left::Trace(trace) => Played::Traced(trace),
+        },
         Some(number) => Played::BadLine(number),
     }
 }
@@ -43,12 +51,13 @@ fn end_play(history: History, bad: Option<u64>) -> Played
 /// Asks one step, and appends the line of its outcome to the text if steps print theirs.
 #[inline(always)]
 #[tactic(auto, unfolding(crate::specs::Transcript::outcome_text, crate::specs::Transcript::line_if, crate::specs::Transcript::joined_by))]
-fn ask(core: &mut Core, text: &mut String, step: Step, prints: bool) -> Result<(), ScriptFault>
-    ensures text { OnOk result (string_bytes text.new ≡ string_bytes text.old ++ line_if prints (outcome_text core.old.history step (answer_to core.old.history step))) }
-    ensures history { OnOk result (core.new.history ≡ joined_by core.old.history step (answer_to core.old.history step)) }
+fn ask(player: &mut Player, text: &mut String, step: &Step, prints: bool) -> Result<(), ScriptFault>
+    ensures text { OnOk result (string_bytes text.new ≡ string_bytes text.old ++ line_if prints (outcome_text (history_of player.old) step.now (answer_to (history_of player.old) step.now))) }
+    ensures history { OnOk result (history_of player.new ≡ joined_by (history_of player.old) step.now (answer_to (history_of player.old) step.now)) }
+    ensures same { traces_in player.new ≡ traces_in player.old }
     ensures memory { IfErr result (λ fault. fault ≡ ScriptFault.NoMemory) }
 {
-    match core.step(step) {
+    match play_step(player, step) {
         Ok(outcome) => {
             if prints {
                 push_outcome(text, outcome)?;
@@ -67,22 +76,23 @@ fn ask(core: &mut Core, text: &mut String, step: Step, prints: bool) -> Result<(
 
 /// Renders one line among the steps. Returns whether the run goes on.
 fn render_line(
-    core: &mut Core,
+    player: &mut Player,
     text: &mut String,
     line: &[u8],
     number: u64,
     prints: bool,
 ) -> Result<bool, ScriptFault>
     ensures goes_on { IfOk result (λ goes_on. OnTrue goes_on ((more : List (List ℕ)) →
-        GoesOn (string_bytes text.old) (steps_transcript prints (line.now ∷ more) number core.old.history) (string_bytes text.new) (steps_transcript prints more (number + 1) core.new.history))) }
+        GoesOn (string_bytes text.old) (steps_transcript prints (line.now ∷ more) number (history_of player.old)) (string_bytes text.new) (steps_transcript prints more (number + 1) (history_of player.new)))) }
     ensures stops { IfOk result (λ goes_on. OnFalse goes_on ((more : List (List ℕ)) →
-        Ends (string_bytes text.old) (steps_transcript prints (line.now ∷ more) number core.old.history) (string_bytes text.new) (end_at (Some number)) core.new.history)) }
+        Ends (string_bytes text.old) (steps_transcript prints (line.now ∷ more) number (history_of player.old)) (string_bytes text.new) (end_at (Some number)) (history_of player.new))) }
+    ensures same { traces_in player.new ≡ traces_in player.old }
     ensures memory { IfErr result (λ fault. fault ≡ ScriptFault.NoMemory) }
 {
     match Line::parse(line) {
         Line::Blank => Ok(true),
         Line::Command(Command::Ask(step)) => {
-            ask(core, text, step, prints)?;
+            ask(player, text, &step, prints)?;
             Ok(true)
         }
         Line::Command(Command::Object(_)) => {
@@ -99,7 +109,7 @@ fn render_line(
 /// Renders the first step, which stands on the line `number`, and the lines after it. Returns the number of the bad line at
 /// which they end, if there is one.
 fn render_steps(
-    core: &mut Core,
+    player: &mut Player,
     text: &mut String,
     first: Step,
     number: u64,
@@ -107,20 +117,50 @@ fn render_steps(
     prints: bool,
 ) -> Result<Option<u64>, ScriptFault>
     requires { number + length (lines rest.now) + 1 < 2 ^ 64 }
-    ensures rendered { IfOk result (λ bad. Ends (string_bytes text.old) (steps_from prints first (lines rest.now) number core.old.history) (string_bytes text.new) (end_at bad) core.new.history) }
+    ensures rendered { IfOk result (λ bad. Ends (string_bytes text.old) (steps_from prints first (lines rest.now) number (history_of player.old)) (string_bytes text.new) (end_at bad) (history_of player.new)) }
+    ensures same { traces_in player.new ≡ traces_in player.old }
     ensures memory { IfErr result (λ fault. fault ≡ ScriptFault.NoMemory) }
 {
-    ask(core, text, first, prints)?;
+    ask(player, text, &first, prints)?;
     let mut left = rest;
     let mut line_number = number + 1;
     'lines: while let Some((line, more)) = split_line(left) {
-        if !render_line(core, text, line, line_number, prints)? {
+        if !render_line(player, text, line, line_number, prints)? {
             return Ok(Some(line_number));
         }
         left = more;
         line_number += 1;
     }
     Ok(None)
+}
+
+/// Renders the first step and the lines after it by a new player. Returns what is left.
+fn play_steps(
+    player: Player,
+    text: &mut String,
+    first: Step,
+    preamble: &Preamble<'_>,
+    prints: bool,
+) -> Result<Played, ScriptFault>
+    requires few { preamble.now.number + length (lines preamble.now.rest.now) + 1 < 2 ^ 64 }
+    ensures played { IfOk result (λ played. Plays (string_bytes text.old) (steps_from prints first (lines preamble.now.rest.now) preamble.now.number (history_of player)) (string_bytes text.new) (traces_in player) played) }
+    ensures memory { IfErr result (λ fault. fault ≡ ScriptFault.NoMemory) }
+{
+    let mut player = player;
+    let bad = render_steps(
+        &mut player,
+        text,
+        first,
+        preamble.number,
+        preamble.rest,
+        prints,
+    );
+    // Drops the tables in that call, so that what is left alone is here.
+    let left = end_player(player);
+    match bad {
+        Ok(bad) => Ok(end_play(left, bad)),
+        Err(fault) => Err(fault),
+    }
 }
 
 /// Renders what follows the object lines, over the objects that they added. Returns what is left.
@@ -130,42 +170,24 @@ fn play_from(
     capacity: usize,
     preamble: &Preamble<'_>,
     text: &mut String,
-    prints: bool,
+    work: Work,
 ) -> Result<Played, ScriptFault>
     requires capacity { IsCapacity capacity }
     requires different { HasNoDouble (objects_of opening.now) }
     requires few { preamble.now.number + length (lines preamble.now.rest.now) + 1 < 2 ^ 64 }
-    ensures played { IfOk result (λ played. Plays (string_bytes text.old) (transcript_from prints preamble.now.line (lines preamble.now.rest.now) preamble.now.number opening.now capacity) (string_bytes text.new) played) }
+    ensures played { IfOk result (λ played. Plays (string_bytes text.old) (transcript_from (prints_for work) preamble.now.line (lines preamble.now.rest.now) preamble.now.number opening.now capacity) (string_bytes text.new) (traces_for work) played) }
     ensures memory { IfErr result (λ fault. fault ≡ ScriptFault.NoMemory) }
 {
+    if let ObjectLine::Bad = preamble.line {
+        push_bad_line(text, preamble.number)?;
+        return Ok(Played::BadLine(preamble.number));
+    }
+    let Ok(player) = open_player(alloc, opening, capacity, work.traces()) else {
+        return Err(ScriptFault::NoMemory);
+    };
     match preamble.line {
-        ObjectLine::More => match History::open(alloc, opening, capacity) {
-            Ok(history) => Ok(Played::Finished(history)),
-            Err(NoMemory) => Err(ScriptFault::NoMemory),
-        },
-        ObjectLine::Bad => {
-            push_bad_line(text, preamble.number)?;
-            Ok(Played::BadLine(preamble.number))
-        }
-        ObjectLine::First(step) => match Core::open_distinct(alloc, opening, capacity) {
-            Ok(mut core) => {
-                let bad = render_steps(
-                    &mut core,
-                    text,
-                    step,
-                    preamble.number,
-                    preamble.rest,
-                    prints,
-                );
-                // Drops the tables in that call, so that the history alone is left here.
-                let history = core.into_history();
-                match bad {
-                    Ok(bad) => Ok(end_play(history, bad)),
-                    Err(fault) => Err(fault),
-                }
-            }
-            Err(NoMemory) => Err(ScriptFault::NoMemory),
-        },
+        ObjectLine::First(step) => play_steps(player, text, step, preamble, work.prints()),
+        _ => Ok(end_play(end_player(player), None)),
     }
 }
 
@@ -176,11 +198,11 @@ pub(crate) fn play(
     bytes: &[u8],
     capacity: usize,
     text: &mut String,
-    prints: bool,
+    work: Work,
 ) -> Result<Played, ScriptFault>
     requires capacity { IsCapacity capacity }
     requires limit { length bytes.now ≤ input_limit }
-    ensures played { IfOk result (λ played. Plays (string_bytes text.old) (transcript prints bytes.now capacity) (string_bytes text.new) played) }
+    ensures played { IfOk result (λ played. Plays (string_bytes text.old) (transcript (prints_for work) bytes.now capacity) (string_bytes text.new) (traces_for work) played) }
     ensures memory { IfErr result (λ fault. fault ≡ ScriptFault.NoMemory) }
 {
     let mut opening = OpeningObjects::new(alloc);
@@ -191,7 +213,7 @@ pub(crate) fn play(
             capacity,
             &preamble,
             text,
-            prints,
+            work,
         ),
         Err(fault) => Err(fault),
     }

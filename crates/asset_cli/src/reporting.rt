@@ -4,7 +4,8 @@ ghost use Rattle.asset_core.specs.OpenFaults.{IsCapacity};
 ghost use Rattle.asset_cli.specs.Transfers.{input_limit};
 ghost use Rattle.asset_cli.specs.Transcript.{transcript};
 ghost use Rattle.asset_cli.specs.Rendering.{Renders};
-ghost use Rattle.asset_cli.specs.Reporting.{report_of, reported, transcript_of};
+ghost use Rattle.asset_cli.specs.Playing.{prints_for, traces_for};
+ghost use Rattle.asset_cli.specs.Reporting.{report_of, reported, sourced, transcript_of};
 
 use crate::ends::RunEnd;
 use crate::faults::ScriptFault;
@@ -14,7 +15,7 @@ use asset_names::NoMemory;
 use asset_reports::{push_groups, push_pruned, push_serial, push_sources};
 use std::alloc::Global;
 
-/// A report on the history that a script leaves.
+/// A report that is made of the history that a script leaves.
 #[derive(Clone, Copy)]
 pub(crate) enum Report {
     /// The script without dead groups.
@@ -23,8 +24,6 @@ pub(crate) enum Report {
     Groups,
     /// The script of those who committed, one after another.
     Serial,
-    /// The sources of what was read.
-    Sources,
 }
 
 /// What a script is run for.
@@ -32,8 +31,28 @@ pub(crate) enum Report {
 pub(crate) enum Work {
     /// Its transcript.
     Run,
+    /// The sources of what was read.
+    Sources,
     /// A report on the history that it leaves.
     Report(Report),
+}
+
+impl Work {
+    /// Returns whether steps print the lines of their outcomes.
+    #[tactic(auto, unfolding(crate::specs::Playing::prints_for))]
+    pub(crate) fn prints(self) -> bool
+        ensures { result ≡ prints_for self }
+    {
+        matches!(self, Work::Run)
+    }
+
+    /// Returns whether sources are to be kept.
+    #[tactic(auto, unfolding(crate::specs::Playing::traces_for))]
+    pub(crate) fn traces(self) -> bool
+        ensures { result ≡ traces_for self }
+    {
+        matches!(self, Work::Sources)
+    }
 }
 
 /// Returns how a run ends with the report on those who committed, by whether there is a serial history.
@@ -60,7 +79,6 @@ fn push_report(
     match report {
         Report::Pruned => push_pruned(alloc, history, text)?,
         Report::Groups => push_groups(alloc, history, text)?,
-        Report::Sources => push_sources(alloc, history, text)?,
         Report::Serial => return Ok(serial_end(push_serial(alloc, history, text)?)),
     }
     Ok(RunEnd::Finished)
@@ -79,11 +97,35 @@ fn render_report(
     ensures rendered { IfOk result (λ end. Renders (string_bytes text.old) (reported (report_of report) bytes.now capacity) (string_bytes text.new) end) }
     ensures memory { IfErr result (λ fault. fault ≡ ScriptFault.NoMemory) }
 {
-    match play(alloc, bytes, capacity, text, false) {
+    match play(alloc, bytes, capacity, text, Work::Report(report)) {
         Ok(Played::Finished(history)) => match push_report(alloc, &history, report, text) {
             Ok(end) => Ok(end),
             Err(NoMemory) => Err(ScriptFault::NoMemory),
         },
+        Ok(Played::Traced(_)) => unreachable!(),
+        Ok(Played::BadLine(number)) => Ok(RunEnd::BadLine(number)),
+        Err(fault) => Err(fault),
+    }
+}
+
+/// Appends the sources of what was read, unless a line is bad.
+fn render_sources(
+    alloc: Global,
+    bytes: &[u8],
+    capacity: usize,
+    text: &mut String,
+) -> Result<RunEnd, ScriptFault>
+    requires capacity { IsCapacity capacity }
+    requires limit { length bytes.now ≤ input_limit }
+    ensures rendered { IfOk result (λ end. Renders (string_bytes text.old) (reported sourced bytes.now capacity) (string_bytes text.new) end) }
+    ensures memory { IfErr result (λ fault. fault ≡ ScriptFault.NoMemory) }
+{
+    match play(alloc, bytes, capacity, text, Work::Sources) {
+        Ok(Played::Traced(trace)) => match push_sources(&trace, text) {
+            Ok(()) => Ok(RunEnd::Finished),
+            Err(NoMemory) => Err(ScriptFault::NoMemory),
+        },
+        Ok(Played::Finished(_)) => unreachable!(),
         Ok(Played::BadLine(number)) => Ok(RunEnd::BadLine(number)),
         Err(fault) => Err(fault),
     }
@@ -101,8 +143,9 @@ fn render_run(
     ensures rendered { IfOk result (λ end. Renders (string_bytes text.old) (transcript true bytes.now capacity) (string_bytes text.new) end) }
     ensures memory { IfErr result (λ fault. fault ≡ ScriptFault.NoMemory) }
 {
-    match play(alloc, bytes, capacity, text, true) {
+    match play(alloc, bytes, capacity, text, Work::Run) {
         Ok(Played::Finished(_)) => Ok(RunEnd::Finished),
+        Ok(Played::Traced(_)) => unreachable!(),
         Ok(Played::BadLine(number)) => Ok(RunEnd::BadLine(number)),
         Err(fault) => Err(fault),
     }
@@ -124,6 +167,7 @@ pub(crate) fn render(
 {
     match work {
         Work::Run => render_run(alloc, bytes, capacity, text),
+        Work::Sources => render_sources(alloc, bytes, capacity, text),
         Work::Report(report) => render_report(alloc, bytes, capacity, report, text),
     }
 }

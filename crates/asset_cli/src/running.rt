@@ -144,11 +144,5 @@ pub fn sources_script<R: Read, W: Write>(
     ensures wrote { IfOk result (WroteAll R.remaining W.contents (λ bytes. reported sourced bytes capacity) input.old input.new output.old output.new) }
     ensures stopped { IfErr result (Stops R.remaining W.contents (λ bytes. reported sourced bytes capacity) input.old input.new output.old output.new) }
 {
-    run_for(
-        alloc,
-        input,
-        output,
-        capacity,
-        Work::Report(Report::Sources),
-    )
+    run_for(alloc, input, output, capacity, Work::Sources)
 }

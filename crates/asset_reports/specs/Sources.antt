@@ -1,14 +1,13 @@
 -- The lines of sources.
-use Rattle.std.specs.Prelude.{ℕ, ℤ, List, [], ◌∷◌, ◌++◌, length, Option, Some, codes}
+use Rattle.std.specs.Prelude.{ℕ, ℤ, List, [], ◌∷◌, ◌++◌, length, Option, None, Some, codes}
 use Rattle.std.specs.Fmt.{decimal, signed_decimal}
 use Rattle.asset_names.specs.declared.steps.Step.{Step}
 use Rattle.asset_names.specs.declared.replies.Reply.{Reply}
-use Rattle.asset_names.specs.declared.replies.Reply.TheVariants.{Value}
 use Rattle.asset_names.specs.Steps.{Entry}
 use Rattle.asset_printing.specs.Printed.{step_text}
 use Rattle.asset_sources.specs.declared.sourced.Source.{Source}
 use Rattle.asset_sources.specs.declared.sourced.Source.TheVariants as Source'
-use Rattle.asset_sources.specs.Sourced.{source_of}
+use Rattle.asset_sources.specs.Sourced.{source_of, read_of}
 
 -- where a value comes from, after a space
 unfoldable pub source_word : Source → List ℕ
@@ -19,10 +18,14 @@ source_word (Source'.Entry m) = codes " entry " ++ decimal m
 unfoldable pub read_text : ℕ → Step → ℤ → Source → List ℕ
 read_text n step v source = decimal n ++ 32 ∷ [] ++ step_text step ++ 32 ∷ signed_decimal v ++ source_word source ++ 10 ∷ []
 
+-- the line of an entry by what was read, if something was
+unfoldable pub read_line : ℕ → Option (Step × ℤ × Source) → List ℕ
+read_line n None = []
+read_line n (Some read) = read_text n read.0 read.1 read.2
+
 -- the line of an entry with its source, and nothing if it has none
 unfoldable pub source_text : ℕ → Step → Reply → Option Source → List ℕ
-source_text n step (Value v) (Some found) = read_text n step v found
-source_text n step reply source = []
+source_text n step reply source = read_line n (read_of step reply source)
 
 -- the lines of entries with their sources, oldest first
 unfoldable pub sources_text : List Entry → List ℕ

@@ -1,5 +1,6 @@
 use Rattle.std.proofs.Common.{arith}
 use Rattle.asset_cli.specs.Transcript.{transcript}
+use Rattle.asset_cli.specs.Playing.{prints_for}
 use Rattle.asset_grammar.proofs.LineLemmas.{length-lines}
 use Rattle.asset_cli.proofs.rendering.play.Goals as goal
 
@@ -12,5 +13,5 @@ play_from-requires-clause-few c = omega (arith, length-lines c.args.bytes.now, c
 pub returns-in-Ok-clause-played : goal.returns-in-Ok-clause-played
 unfolding transcript
 returns-in-Ok-clause-played c =
-    let rendered = c.in-Ok.ensures.rendered c.args.prints c.args.capacity in
+    let rendered = c.in-Ok.ensures.rendered (prints_for c.args.work) c.args.capacity in
     rw rendered (rw (c.deref.ensures.value, c.into_pairs.ensures) at c.play_from.ensures.played)

@@ -1,18 +1,27 @@
-use Rattle.asset_core.specs.Pending.{facility_of}
+use Rattle.std.proofs.Common.{◌≡◌, refl}
+use Rattle.asset_names.specs.declared.steps.Step.{Step}
+use Rattle.asset_cli.specs.declared.preamble.ObjectLine.{ObjectLine}
+use Rattle.asset_cli.specs.declared.preamble.ObjectLine.TheVariants.{More, First, Bad}
 use Rattle.asset_cli.specs.Preamble.{transcript_from}
-use Rattle.asset_cli.proofs.TranscriptLemmas.{finished_plays, stopped_plays, ended_plays}
+use Rattle.asset_cli.proofs.TranscriptLemmas.{finished_plays, stopped_plays}
 use Rattle.asset_cli.proofs.rendering.play_from.Goals as goal
 
-pub returns-in-Ok-clause-played : goal.returns-in-Ok-clause-played
+pub returns-in-Bad-clause-played : goal.returns-in-Bad-clause-played
 unfolding transcript_from
-returns-in-Ok-clause-played c = rw c.in-More.is (finished_plays _ _ _ c.in-Ok.ensures)
+returns-in-Bad-clause-played c = rw c.in-Bad.is (stopped_plays _ _ _ _ _ c.in_ok-push_bad_line.ensures)
 
-pub returns-in_ok-push_bad_line-in-Bad-clause-played : goal.returns-in_ok-push_bad_line-in-Bad-clause-played
+pub returns-in-First : goal.returns-in-First
 unfolding transcript_from
-returns-in_ok-push_bad_line-in-Bad-clause-played c = rw c.in-Bad.is (stopped_plays _ _ _ _ c.in_ok-push_bad_line-in-Bad.ensures)
+returns-in-First c = rw (c.in-First.is, ← c.in-Ok.ensures.opened, ← c.traces.ensures, ← c.in-Ok.ensures.traces, ← c.prints.ensures) c.play_steps.ensures
 
-pub returns-in-Ok-bad-clause-played : goal.returns-in-Ok-bad-clause-played
-unfolding transcript_from facility_of
-returns-in-Ok-bad-clause-played c =
-    let rendered = rw (c.in-Ok-open_distinct.ensures, c.in-Ok-bad.is) at c.render_steps-bad.ensures.rendered in
-    rw (c.in-First.is, c.end_play.ensures, c.into_history-history.ensures) (ended_plays _ _ _ _ _ rendered)
+-- a line that is neither bad nor a step is the last one
+only_more : (line : ObjectLine) → ((step : Step) → line ≡ First step → ⊥) → (line ≡ Bad → ⊥) → line ≡ More
+only_more More no_step not_bad = refl
+only_more (First step) no_step not_bad = absurd (no_step step refl)
+only_more Bad no_step not_bad = absurd (not_bad refl)
+
+pub returns-in_default-line : goal.returns-in_default-line
+unfolding transcript_from
+returns-in_default-line c =
+    rw (only_more c.args.preamble.now.line c.in_default-line.not-First c.in_default.not-Bad, c.end_play.ensures, c.end_player.ensures, ← c.traces.ensures, ← c.in-Ok.ensures.traces)
+    (record { played = finished_plays _ _ c.in-Ok.player c.in-Ok.ensures.opened; memory = tt })

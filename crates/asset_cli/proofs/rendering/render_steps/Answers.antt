@@ -6,6 +6,7 @@ use Rattle.asset_cli.proofs.rendering.render_steps.Goals as goal
 pub lines-init : goal.lines-init
 lines-init c = record {
   rendered = step_goes_on _ _ _ _ _ _ _ _ c.in_ok-ask.ensures.text c.in_ok-ask.ensures.history;
+  same = c.in_ok-ask.ensures.same;
   count = refl;
 }
 

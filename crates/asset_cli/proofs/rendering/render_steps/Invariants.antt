@@ -3,12 +3,14 @@ use Rattle.std.specs.Prelude.{string_bytes}
 use Rattle.asset_grammar.specs.Lines.{lines}
 use Rattle.asset_cli.specs.Transcript.{steps_from, steps_transcript}
 use Rattle.asset_cli.specs.Rendering.{GoesOn}
+use Rattle.asset_cli.specs.Playing.{history_of, traces_in}
 use Rattle.asset_cli.proofs.rendering.render_steps.Given as goal
 
 -- the text so far, with what the lines left print, is the text at first with the whole transcript
 abbrev pub invariant-lines : goal.invariant-lines
 invariant-lines l = record {
-  rendered : GoesOn (string_bytes l.fn.text) (steps_from l.prints l.fn.first (lines l.rest) l.number l.fn.core.history) (string_bytes l.text) (steps_transcript l.prints (lines l.left) l.line_number l.core.history);
+  rendered : GoesOn (string_bytes l.fn.text) (steps_from l.prints l.fn.first (lines l.rest) l.number (history_of l.fn.player)) (string_bytes l.text) (steps_transcript l.prints (lines l.left) l.line_number (history_of l.player));
+  same : traces_in l.player ≡ traces_in l.fn.player;
   count : l.line_number + length (lines l.left) ≡ l.number + 1 + length (lines l.rest);
 }
 

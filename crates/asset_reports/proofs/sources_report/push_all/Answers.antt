@@ -1,11 +1,9 @@
-use Rattle.std.proofs.Common.{◌≡◌, ◌++◌, ◌<◌, List, ℕ, None, length, take, reverse, string_bytes, sym, ap, ◌∙◌, append_assoc, append-nil, arith, inl, inr}
-use Rattle.std.specs.Prelude.{Option}
+use Rattle.std.proofs.Common.{◌≡◌, ◌++◌, ◌<◌, List, ℕ, length, take, reverse, string_bytes, sym, ap, ◌∙◌, append_assoc, append-nil, arith, inl, inr}
 use Rattle.std.proofs.lemmas.List.{length-reverse, reverse-reverse, take_all}
-use Rattle.std.proofs.lemmas.Option.{slice_get_cases, get_or_from_slice_get}
+use Rattle.std.proofs.lemmas.Option.{slice_get_cases}
 use Rattle.asset_names.specs.Steps.{Entry}
 use Rattle.asset_sources.specs.Sourced.{source_at}
-use Rattle.asset_sources.specs.declared.sourced.Source.{Source}
-use Rattle.asset_reports.specs.Sources.{source_text, sources_text}
+use Rattle.asset_reports.specs.Sources.{read_line, source_text, sources_text}
 use Rattle.asset_reports.proofs.ReportLemmas.{sources_more}
 use Rattle.asset_reports.proofs.sources_report.push_all.Goals as goal
 
@@ -14,26 +12,25 @@ unfolding sources_text
 entries-init c = sym (append-nil (string_bytes c.args.text.now))
 
 pub entries-preserved : goal.entries-preserved
+unfolding source_text
 entries-preserved c =
-    let all = c.args.history.now.entries in
+    let all = c.args.trace.now.entries in
     let entries = reverse all in
     let i = c.entries.i in
-    let below : i < length all = omega (arith, c.entries-test.true, c.len-i-end.ensures.len) in
+    let below : i < length all = omega (arith, c.entries-test.true, c.len-i-end.ensures) in
     elim (slice_get_cases entries i).1 [
       | inl here ↦
-          let line : Option Source → List ℕ = λ found. source_text i here.0.0 here.0.1 found in
-          let found = get_or_from_slice_get c.args.sources.now i (source_at all i) None (c.requires.each i below) in
-          c.in_ok-push_source_at.ensures here.0 here.2
-          ∙ ap (λ (one : Option Source). string_bytes c.entries.text ++ line one) found
-          ∙ ap (λ (l : List ℕ). l ++ line (source_at all i)) c.entries.invariant
-          ∙ append_assoc (string_bytes c.args.text.now) (sources_text (reverse (take i entries))) (line (source_at all i))
+          c.in_ok-push_line.ensures
+          ∙ ap (λ read. string_bytes c.entries.text ++ read_line i read) (c.read.ensures.read here.0 here.2)
+          ∙ ap (λ (l : List ℕ). l ++ source_text i here.0.0 here.0.1 (source_at all i)) c.entries.invariant
+          ∙ append_assoc (string_bytes c.args.text.now) (sources_text (reverse (take i entries))) (source_text i here.0.0 here.0.1 (source_at all i))
           ∙ ap (λ (l : List ℕ). string_bytes c.args.text.now ++ l) (sym (sources_more all i here.0 here.2))
       | inr past ↦ absurd (omega (arith, past.0, below, length-reverse all))
     ]
 
 pub returns : goal.returns
 returns c =
-    let all = c.args.history.now.entries in
+    let all = c.args.trace.now.entries in
     let whole : reverse (take c.entries.i (reverse all)) ≡ all =
-    ap reverse (take_all c.entries.i (reverse all) (omega (arith, c.entries-test.false, c.len-i-end.ensures.len, length-reverse all))) ∙ reverse-reverse all in
+    ap reverse (take_all c.entries.i (reverse all) (omega (arith, c.entries-test.false, c.len-i-end.ensures, length-reverse all))) ∙ reverse-reverse all in
     c.entries.invariant ∙ ap (λ (l : List Entry). string_bytes c.args.text.now ++ sources_text l) whole

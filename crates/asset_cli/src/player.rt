@@ -1,0 +1,78 @@
+//! Who answers the steps of a script.
+
+ghost use Rattle.std.specs.Prelude.{◌≡◌, ◌↔◌, false, IfOk, OnErr, IsErrOf};
+ghost use Rattle.asset_names.specs.Sets.{HasNoDouble};
+ghost use Rattle.asset_history.specs.Recorded.{objects_of, opened, answer_to, after, has_room};
+ghost use Rattle.asset_core.specs.OpenFaults.{IsCapacity};
+ghost use Rattle.asset_cli.specs.Playing.{history_of, traces_in, left_of};
+
+use asset_core::Core;
+use asset_history::History;
+use asset_names::{Fault, NoMemory, Ob, Outcome, Step};
+use asset_sources::{Trace, Tracer};
+use std::alloc::Global;
+
+/// Who answers the steps of a script.
+#[derive(Drop)]
+pub(crate) enum Player {
+    /// The facility.
+    Plain(Core),
+    /// The facility that keeps the sources of what is read.
+    Tracing(Tracer),
+}
+
+/// Returns a player over objects that are all different, with room for `capacity` entries, which keeps sources or not. It
+/// answers `NoMemory` if memory runs out.
+#[tactic(auto, unfolding(crate::specs::Playing::history_of, crate::specs::Playing::traces_in, asset_core::specs::Pending::facility_of))]
+pub(crate) fn open_player(
+    alloc: Global,
+    opening: &[(Ob, i64)],
+    capacity: usize,
+    traces: bool,
+) -> Result<Player, NoMemory>
+    requires capacity { IsCapacity capacity }
+    requires different { HasNoDouble (objects_of opening.now) }
+    ensures opened { IfOk result (λ player. history_of player ≡ opened opening.now capacity) }
+    ensures traces { IfOk result (λ player. traces_in player ≡ traces) }
+{
+    if traces {
+        return Ok(Player::Tracing(Tracer::open(alloc, opening, capacity)?));
+    }
+    Ok(Player::Plain(Core::open_distinct(alloc, opening, capacity)?))
+}
+
+/// Asks for one step, as `Core::step` does.
+#[inline(always)]
+#[tactic(auto, unfolding(crate::specs::Playing::history_of, crate::specs::Playing::traces_in))]
+pub(crate) fn play_step(player: &mut Player, step: &Step) -> Result<Outcome, Fault>
+    ensures answered { IfOk result (λ outcome. outcome ≡ answer_to (history_of player.old) step.now) }
+    ensures grown { IfOk result (λ outcome. history_of player.new ≡ after (history_of player.old) step.now outcome) }
+    ensures full { IsErrOf result Fault.Full ↔ (has_room (history_of player.old) step.now (answer_to (history_of player.old) step.now) ≡ false) }
+    ensures fault { OnErr result (history_of player.new ≡ history_of player.old) }
+    ensures same { traces_in player.new ≡ traces_in player.old }
+{
+    match player {
+        Player::Plain(core) => core.step(*step),
+        Player::Tracing(tracer) => tracer.step(*step),
+    }
+}
+
+/// What is left of a player.
+#[derive(Drop)]
+pub(crate) enum Left {
+    /// The history.
+    History(History),
+    /// The history with the sources of what was read.
+    Trace(Trace),
+}
+
+/// Returns what is left of a player, whose tables are dropped.
+#[tactic(auto, unfolding(crate::specs::Playing::left_of))]
+pub(crate) fn end_player(player: Player) -> Left
+    ensures { result ≡ left_of player }
+{
+    match player {
+        Player::Plain(core) => Left::History(core.into_history()),
+        Player::Tracing(tracer) => Left::Trace(tracer.into_trace()),
+    }
+}
