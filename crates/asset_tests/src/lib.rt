@@ -38,3 +38,5 @@ mod serial;
 mod sizes;
 #[cfg(test)]
 mod sources;
+#[cfg(test)]
+mod tracing;

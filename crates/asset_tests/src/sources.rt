@@ -13,17 +13,20 @@ use asset_table_tests::next;
 use std::alloc::Global;
 
 /// How many steps are drawn, how many of them the same three transactions ask, and room for all.
-const DRAWN: u32 = 900;
+pub(crate) const DRAWN: u32 = 900;
 
 const LIFE: u32 = 30;
 
-const DRAWN_ROOM: usize = 1_000;
+pub(crate) const DRAWN_ROOM: usize = 1_000;
 
 /// Each drawn write writes the number of its draw above this, which no object has at first.
 const FIRST_VALUE: i64 = 1_000;
 
 /// Returns the sources of all entries. If memory runs out once, they are looked for again.
-fn all_sources(alloc: Global, history: &History) -> Result<Vec<Option<Source>>, NoMemory> {
+pub(crate) fn all_sources(
+    alloc: Global,
+    history: &History,
+) -> Result<Vec<Option<Source>>, NoMemory> {
     match sources(alloc, history) {
         Ok(found) => Ok(found),
         Err(NoMemory) => sources(alloc, history),
@@ -304,7 +307,7 @@ fn drawn(t: u64, draw: u32, number: u64) -> Step {
 }
 
 /// Returns the step of a draw: three transactions begin together, then each asks drawn steps, and they complete and commit.
-fn step_of(draw: u32, number: u64) -> Step {
+pub(crate) fn step_of(draw: u32, number: u64) -> Step {
     let t = u64::from(draw / LIFE * 3 + draw % 3);
     match draw % LIFE / 3 {
         0 => initiate(t),
