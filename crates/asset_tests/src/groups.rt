@@ -16,7 +16,7 @@ const NAMES: usize = 40;
 const DRAWN: usize = 30;
 
 /// How many transactions are joined backwards.
-const MANY: u64 = 1_000;
+const MANY: u64 = 4_000;
 
 /// Returns the groups of the history. If memory runs out once, they are looked for again.
 fn groups_of(alloc: Global, history: &History) -> Result<Groups, NoMemory> {
@@ -125,7 +125,7 @@ fn one_group_is_shown(found: &Groups) -> bool {
 }
 
 #[test]
-fn thousand_transactions_joined_backwards_are_one_group(rt: HostRuntime) {
+fn thousands_joined_backwards_are_one_group(rt: HostRuntime) {
     assert!(rt;
         holds(
             rt.alloc(),
