@@ -23,7 +23,7 @@ use Rattle.asset_names.proofs.LegalLemmas.{effect_unrefused, first_none, known_i
 use Rattle.asset_laws.proofs.KeptLemmas.{RespectsEntries, respects_applied, kept_alike}
 use Rattle.asset_laws.proofs.AlikeLemmas.{commits_keeps}
 use Rattle.asset_laws.proofs.GroupLemmas.{keeps_respects, group_keeps, dead_uncommitted}
-use Rattle.asset_deletion.specs.Committing.{committed_by, passes, has_commit}
+use Rattle.asset_history.specs.Committing.{committed_by, passes, has_commit}
 
 -- ---- who has committed was ended by an answered commit of a member of its group
 

@@ -4,3 +4,4 @@ pub mod DeadLemmas
 pub mod MarkLemmas
 pub mod GroupingLemmas
 pub mod WithoutLemmas
+pub mod GroupedLemmas

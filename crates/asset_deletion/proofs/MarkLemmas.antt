@@ -8,7 +8,7 @@ use Rattle.std.proofs.lemmas.Option.{slice_get_cases}
 use Rattle.asset_names.specs.declared.names.Txn.{Txn}
 use Rattle.asset_names.specs.Arrows.{lists}
 use Rattle.asset_names.specs.Steps.{Entry}
-use Rattle.asset_deletion.specs.Committing.{committed_by, commit_at, passes, has_commit}
+use Rattle.asset_history.specs.Committing.{committed_by, commit_at, passes, has_commit}
 use Rattle.asset_deletion.specs.Named.{IsNumbered}
 use Rattle.asset_deletion.proofs.MeansLemmas.{unlisted_back}
 use Rattle.asset_deletion.proofs.NameLemmas.{next_entry}

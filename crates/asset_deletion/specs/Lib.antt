@@ -1,4 +1,4 @@
-pub mod Committing
 pub mod Grouping
 pub mod Named
 pub mod Going
+pub mod Grouped

@@ -10,12 +10,11 @@ ghost use Rattle.asset_history.specs.Recorded.{opened, answer_to, with_entry};
 ghost use Rattle.asset_deletion.specs.Named.{names_of};
 ghost use Rattle.asset_deletion.specs.Going.{keeps, AreBelow, SaysWhoStays};
 
-use crate::acting::actor;
 use crate::going::{dead_groups, going_with};
 use crate::grouped::Groups;
 use crate::grouping::groups;
 use asset_history::History;
-use asset_names::{NoMemory, Txn};
+use asset_names::{NoMemory, Txn, actor};
 use std::alloc::Global;
 
 /// Returns the history without the entries of the dead groups that have a chosen transaction. What is left is in order,

@@ -3,6 +3,7 @@
 ghost use Rattle.std.specs.Prelude.{◌≡◌, IfOk};
 ghost use Rattle.asset_names.specs.Groups.{same_group};
 ghost use Rattle.asset_deletion.specs.Grouping.{grouping_of};
+ghost use Rattle.asset_deletion.specs.Grouped.{AreGroups};
 ghost use Rattle.asset_deletion.specs.Named.{names_of, Means};
 
 use crate::grouped::Groups;
@@ -14,10 +15,12 @@ use asset_names::NoMemory;
 use indexmap::IndexSet;
 use std::alloc::Global;
 
-/// Returns the groups of a history, or `NoMemory` if memory runs out. It goes over the entries twice, and takes time that
-/// is nearly in proportion to them.
+/// Returns the groups of a history, or `NoMemory` if memory runs out: the names that its steps act on, each once, in order
+/// of first use, and groups that are numbered from 0 in order of their first names. It goes over the entries twice, and
+/// takes time that is nearly in proportion to them.
 pub fn groups(alloc: Global, history: &History) -> Result<Groups, NoMemory>
-    ensures { IfOk result (λ g. g ≡ grouping_of history.now.entries) }
+    ensures exact { IfOk result (λ g. g ≡ grouping_of history.now.entries) }
+    ensures means { IfOk result (λ g. AreGroups history.now.entries g) }
 {
     let mut names = IndexSet::new(alloc);
     let mut labels = Labels::new(alloc);

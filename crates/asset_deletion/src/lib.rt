@@ -2,7 +2,6 @@
 //! one fault is that memory runs out.
 #![tactic(auto)]
 
-mod acting;
 mod deleting;
 mod going;
 mod grouped;
@@ -10,8 +9,6 @@ mod grouping;
 mod marking;
 mod naming;
 
-pub use acting::{actor, partner};
 pub use deleting::{without, without_dead};
 pub use grouped::Groups;
 pub use grouping::groups;
-pub use marking::committed_at;

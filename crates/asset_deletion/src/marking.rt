@@ -2,37 +2,11 @@
 
 ghost use Rattle.std.specs.Prelude.{◌≡◌, ℕ, ◌<◌, Bool, true, false, not, ◌&&◌, length, reverse, slice_get, slice_index, slice_index_or};
 ghost use Rattle.asset_names.specs.Groups.{same_group, dead};
-ghost use Rattle.asset_deletion.specs.Committing.{committed_by, commit_at};
 ghost use Rattle.asset_deletion.specs.Named.{IsNumbered};
 
-use asset_history::History;
-use asset_names::{Reply, Step, Txn};
+use asset_history::{History, committed_at};
+use asset_names::Txn;
 use indexmap::IndexSet;
-
-/// Returns the transaction whose commit the reply answers with `Committed`, if the step is its commit.
-#[tactic(auto, unfolding(crate::specs::Committing::committed_by))]
-fn committed_by(step: &Step, reply: &Reply) -> Option<Txn>
-    ensures { result ≡ committed_by step.now reply.now }
-{
-    match step {
-        Step::Commit { t } => match reply {
-            Reply::Committed => Some(*t),
-            _ => None,
-        },
-        _ => None,
-    }
-}
-
-/// Returns the transaction whose commit is answered with `Committed` at the index, oldest first from 0, and `None` if the
-/// entry there is not such a commit.
-pub fn committed_at(history: &History, index: usize) -> Option<Txn>
-    ensures { result ≡ commit_at (slice_get (reverse history.now.entries) index) }
-{
-    match history.entry(index) {
-        Some((step, reply)) => committed_by(&step, &reply),
-        None => None,
-    }
-}
 
 /// Marks the group of a transaction as one that is not dead, if the transaction is named.
 fn mark(names: &IndexSet<u64>, numbers: &Vec<usize>, is_dead: &mut Vec<bool>, t: Txn)

@@ -5,10 +5,9 @@ ghost use Rattle.std.specs.Option.{option_map};
 ghost use Rattle.asset_names.specs.Groups.{same_group};
 ghost use Rattle.asset_deletion.specs.Named.{both_of, with_name, names_of, joined, Means};
 
-use crate::acting::{actor, partner};
 use asset_history::History;
 use asset_labels::Labels;
-use asset_names::{NoMemory, Txn};
+use asset_names::{NoMemory, Txn, actor, partner};
 use indexmap::IndexSet;
 
 /// Returns the two transactions that the step at the index acts on, and `None` past the end.

@@ -112,7 +112,7 @@ impl History {
         }
     }
 
-    /// Returns the number of entries that there is room for in all.
+    /// Returns the number of entries that there is room for in all: the capacity, and not the room that is left.
     pub fn room(&self) -> usize
         ensures { result ≡ self.now.capacity }
     {

@@ -3,6 +3,7 @@
 //! No call of this crate allocates.
 #![tactic(auto)]
 
+mod acting;
 mod doubles;
 mod names;
 mod operations;
@@ -13,6 +14,7 @@ mod sets;
 mod statuses;
 mod steps;
 
+pub use acting::{actor, partner};
 pub use doubles::{NamesObject, least_double};
 pub use names::{Ob, Txn};
 pub use operations::{Op, Ops};

@@ -4,7 +4,7 @@ use Rattle.std.specs.List.{position_or_len}
 use Rattle.asset_names.specs.declared.names.Txn.{Txn}
 use Rattle.asset_names.specs.Steps.{Entry}
 use Rattle.asset_names.specs.Groups.{actor}
-use Rattle.asset_deletion.specs.Committing.{committed_by}
+use Rattle.asset_history.specs.Committing.{committed_by}
 use Rattle.asset_deletion.specs.Named.{with_name}
 use Rattle.asset_buckets.specs.Bucketed.{buckets_of}
 

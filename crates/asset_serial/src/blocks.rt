@@ -7,9 +7,8 @@ ghost use Rattle.asset_names.specs.Answers.{IsLegal};
 ghost use Rattle.asset_serial.specs.Answered.{number_of, numbers_of, blocks_of};
 
 use asset_buckets::Buckets;
-use asset_deletion::actor;
 use asset_history::History;
-use asset_names::{NoMemory, Txn};
+use asset_names::{NoMemory, Txn, actor};
 use indexmap::IndexSet;
 use std::alloc::{AllocError, Global};
 

@@ -5,8 +5,7 @@ ghost use Rattle.asset_names.specs.Answers.{IsLegal};
 ghost use Rattle.asset_deletion.specs.Named.{with_name};
 ghost use Rattle.asset_serial.specs.Answered.{answered_names};
 
-use asset_deletion::committed_at;
-use asset_history::History;
+use asset_history::{History, committed_at};
 use asset_names::{NoMemory, Txn};
 use indexmap::IndexSet;
 use std::alloc::Global;

@@ -9,9 +9,8 @@ ghost use Rattle.asset_names.specs.Answers.{IsLegal};
 ghost use Rattle.asset_laws.specs.Serial.{is_apart, shares_nothing, CommittedShareNothing};
 
 use crate::committing::committed_names;
-use asset_deletion::{actor, partner};
 use asset_history::History;
-use asset_names::{NoMemory, Txn};
+use asset_names::{NoMemory, Txn, actor, partner};
 use indexmap::IndexSet;
 use std::alloc::Global;
 

@@ -6,16 +6,16 @@ use Rattle.asset_deletion.proofs.WithoutLemmas.{numbers_below, dead_marks_say, d
 use Rattle.asset_deletion.proofs.deleting.without_dead.Goals as goal
 
 pub left_by-requires-clause-below : goal.left_by-requires-clause-below
-left_by-requires-clause-below c = rw (c.dead_groups.ensures.size, c.in_ok-groups.ensures) (numbers_below c.args.history.now.entries)
+left_by-requires-clause-below c = rw (c.dead_groups.ensures.size, c.in_ok-groups.ensures.exact) (numbers_below c.args.history.now.entries)
 
 pub left_by-requires-clause-says : goal.left_by-requires-clause-says
 left_by-requires-clause-says c =
-    rw c.in_ok-groups.ensures (dead_marks_say c.args.history.now.entries c.dead_groups.result.now.items (λ n. rw c.in_ok-groups.ensures at (c.dead_groups.ensures.dead n)))
+    rw c.in_ok-groups.ensures.exact (dead_marks_say c.args.history.now.entries c.dead_groups.result.now.items (λ n. rw c.in_ok-groups.ensures.exact at (c.dead_groups.ensures.dead n)))
 
 pub returns-clause-exact : goal.returns-clause-exact
 returns-clause-exact c =
     let entries = c.args.history.now.entries in
     let going = c.dead_groups.result.now.items in
     IfOk-weaker c.left_by.result _ _ (λ left is.
-    ap (λ h. h.entries) is ∙ ap (λ groups. kept (keeps groups going) entries) c.in_ok-groups.ensures
-    ∙ dead_left entries going (λ n. rw c.in_ok-groups.ensures at (c.dead_groups.ensures.dead n))) c.left_by.ensures
+    ap (λ h. h.entries) is ∙ ap (λ groups. kept (keeps groups going) entries) c.in_ok-groups.ensures.exact
+    ∙ dead_left entries going (λ n. rw c.in_ok-groups.ensures.exact at (c.dead_groups.ensures.dead n))) c.left_by.ensures

@@ -2,7 +2,7 @@ use Rattle.std.proofs.Common.{◌≡◌, ◌<◌, ◌&&◌, not, length, List, g
 use Rattle.std.proofs.lemmas.List.{length-reverse, reverse-reverse, take_all}
 use Rattle.asset_names.specs.Steps.{Entry}
 use Rattle.asset_names.specs.Groups.{same_group}
-use Rattle.asset_deletion.specs.Committing.{has_commit}
+use Rattle.asset_history.specs.Committing.{has_commit}
 use Rattle.asset_deletion.specs.Named.{IsNumbered}
 use Rattle.asset_deletion.proofs.DeadLemmas.{dead_is}
 use Rattle.asset_deletion.proofs.MarkLemmas.{commit_seen, no_commit_seen}

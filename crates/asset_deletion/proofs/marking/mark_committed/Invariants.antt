@@ -1,6 +1,6 @@
 use Rattle.std.proofs.Common.{◌≡◌, ℕ, ◌<◌, false, not, length, take, reverse, get_or}
 use Rattle.asset_names.specs.Groups.{same_group}
-use Rattle.asset_deletion.specs.Committing.{has_commit}
+use Rattle.asset_history.specs.Committing.{has_commit}
 use Rattle.asset_deletion.proofs.marking.mark_committed.Given as goal
 
 -- the groups without a commit among the first entries are left

@@ -3,11 +3,11 @@
 ghost use Rattle.std.specs.Prelude.{◌≡◌};
 ghost use Rattle.asset_names.specs.Groups.{actor, partner};
 
-use asset_names::{Step, Txn};
+use crate::{Step, Txn};
 
 /// Returns the transaction that the step acts on, the first of two. A parent is not acted on.
 #[inline(always)]
-#[tactic(auto, unfolding(asset_names::specs::Groups::actor))]
+#[tactic(auto, unfolding(crate::specs::Groups::actor))]
 pub fn actor(step: &Step) -> Txn
     ensures { result ≡ actor step.now }
 {
@@ -28,7 +28,7 @@ pub fn actor(step: &Step) -> Txn
 
 /// Returns the second transaction that the step acts on. Of a step on one transaction, this is that one.
 #[inline(always)]
-#[tactic(auto, unfolding(asset_names::specs::Groups::actor, asset_names::specs::Groups::partner))]
+#[tactic(auto, unfolding(crate::specs::Groups::actor, crate::specs::Groups::partner))]
 pub fn partner(step: &Step) -> Txn
     ensures { result ≡ partner step.now }
 {

@@ -1,0 +1,24 @@
+-- What the groups of a history are, in the words of a reader.
+use Rattle.std.specs.Prelude.{◌≡◌, ◌≢◌, ℕ, ◌<◌, nat_eq, List, length, slice_index}
+use Rattle.asset_names.specs.Arrows.{lists}
+use Rattle.asset_names.specs.Steps.{Entry}
+use Rattle.asset_names.specs.Groups.{same_group, acted_on}
+use Rattle.asset_names.specs.Orderly.{Distinct}
+use Rattle.asset_deletion.specs.Grouping.{Grouping}
+
+-- the name at the index is the first of its group: no name before it has its number
+abbrev pub IsFirst : List ℕ → ℕ → Type 0
+IsFirst numbers k = (m : ℕ) → m < k → slice_index numbers m ≢ slice_index numbers k
+
+-- The names are exactly those that some step acts on, each once. Each has a number below the count, and two have one number
+-- if they are of one group. Each number below the count is that of some name, and numbers rise with the first names of
+-- groups.
+pub record AreGroups (entries : List Entry) (groups : Grouping) : Type 0 where
+  pub acted_on : (n : ℕ) → lists groups.names n ≡ lists (acted_on entries) n
+  pub once : Distinct groups.names
+  pub long : length groups.numbers ≡ length groups.names
+  pub below : (k : ℕ) → k < length groups.names → slice_index groups.numbers k < groups.count
+  pub same : (i j : ℕ) → i < length groups.names → j < length groups.names →
+      nat_eq (slice_index groups.numbers i) (slice_index groups.numbers j) ≡ same_group entries (slice_index groups.names i) (slice_index groups.names j)
+  pub occurs : (g : ℕ) → g < groups.count → (k : ℕ) × (k < length groups.names) × (slice_index groups.numbers k ≡ g)
+  pub rising : (i j : ℕ) → i < j → j < length groups.names → IsFirst groups.numbers i → IsFirst groups.numbers j → slice_index groups.numbers i < slice_index groups.numbers j
