@@ -14,8 +14,8 @@ use Rattle.asset_names.proofs.Arrows.{linked_trans}
 use Rattle.asset_names.proofs.Common.{both_follow}
 use Rattle.asset_names.proofs.PermitLemmas.{linked_has, linked_more, has_among}
 use Rattle.asset_names.proofs.DependLemmas.{has_append}
-use Rattle.asset_names.proofs.EndLemmas.{live_parts, commits, aborts, aborts_live, aborts_itself, commit_ends, abort_ends}
-use Rattle.asset_names.proofs.LiveLemmas.{EndsNobody, end_same, live_abort}
+use Rattle.asset_names.proofs.EndLemmas.{live_parts, commits, commits_live, aborts, aborts_live, aborts_itself, commit_ends, abort_ends}
+use Rattle.asset_names.proofs.LiveLemmas.{EndsNobody, end_same, live_commit, live_abort}
 use Rattle.asset_laws.specs.Textbook.{IsClosed, ends}
 use Rattle.asset_laws.proofs.PathLemmas.{closed_linked, both_back}
 
@@ -72,14 +72,30 @@ never_split step steps a b one other same = by step where
   by (Commit t) = commit_ends t steps a ∙ end_alike End'.Committed _ _ _ _ (commits_both steps t.0 a b same) (live_parts steps a one).1 (live_parts steps b other).1 ∙ sym (commit_ends t steps b)
   by (Abort t) = abort_ends t steps a ∙ end_alike End'.Aborted _ _ _ _ (aborts_both steps t.0 a b same) (live_parts steps a one).1 (live_parts steps b other).1 ∙ sym (abort_ends t steps b)
 
--- whom an abort ends
+-- those who pass a test and go were live
+gone_are : (alive taken : Bool) → (taken ≡ true → alive ≡ true) → (alive && not (not taken && alive)) ≡ taken
+gone_are true true h = refl
+gone_are true false h = refl
+gone_are false true h = h refl
+gone_are false false h = refl
+
+-- whom a commit ends, and how
+committed_are : (t : Txn) (steps : List Step) (n : ℕ) → ends (Commit t) steps n ≡ commits steps t.0 n
+committed_are t steps n = rw (live_commit t steps n) (gone_are (live steps n) (commits steps t.0 n) (commits_live steps t.0 n))
+
+pub takes_class : (t : Txn) (steps : List Step) (n : ℕ) → live steps t.0 ≡ true → ends (Commit t) steps n ≡ same_class steps t.0 n
+unfolding commits same_class
+takes_class t steps n alive = committed_are t steps n ∙ rw alive refl
+
+pub ends_committed : (t : Txn) (steps : List Step) (n : ℕ) → end_of (Commit t ∷ steps) n ≡ cond (ends (Commit t) steps n) (Some End'.Committed) (end_of steps n)
+ends_committed t steps n = rw (committed_are t steps n) (commit_ends t steps n)
+
+-- whom an abort ends, and how
 taken_is : (t : Txn) (steps : List Step) (n : ℕ) → ends (Abort t) steps n ≡ aborts steps t.0 n
-taken_is t steps n = rw (live_abort t steps n) (go (live steps n) (aborts steps t.0 n) (aborts_live steps t.0 n)) where
-  go : (alive taken : Bool) → (taken ≡ true → alive ≡ true) → (alive && not (not taken && alive)) ≡ taken
-  go true true h = refl
-  go true false h = refl
-  go false true h = h refl
-  go false false h = refl
+taken_is t steps n = rw (live_abort t steps n) (gone_are (live steps n) (aborts steps t.0 n) (aborts_live steps t.0 n))
+
+pub ends_aborted : (t : Txn) (steps : List Step) (n : ℕ) → end_of (Abort t ∷ steps) n ≡ cond (ends (Abort t) steps n) (Some End'.Aborted) (end_of steps n)
+ends_aborted t steps n = rw (taken_is t steps n) (abort_ends t steps n)
 
 pub takes_itself : (t : Txn) (steps : List Step) → live steps t.0 ≡ true → ends (Abort t) steps t.0 ≡ true
 takes_itself t steps alive = taken_is t steps t.0 ∙ aborts_itself steps t.0 alive

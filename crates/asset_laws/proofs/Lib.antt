@@ -1,5 +1,6 @@
 pub mod PathLemmas
 pub mod ClassLemmas
+pub mod EverLemmas
 pub mod CycleLemmas
 pub mod KeepLinks
 pub mod AlikeLemmas
@@ -19,4 +20,6 @@ pub mod SerialBlocks
 pub mod SerialLegal
 pub mod SerialWorld
 pub mod SerialLemmas
+pub mod SettledLemmas
 pub mod SerialCases
+pub mod PremiseCases

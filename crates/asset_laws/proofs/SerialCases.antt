@@ -28,7 +28,7 @@ interleaved = reverse (done (Initiate (t 8) None) ∷ done (Initiate (t 7) None)
     ∷ (Read (t 8) (x 1), Value (pos 50)) ∷ (Abort (t 7), Refused (TooLate (t 7))) ∷ done (Initiate (t 6) None) ∷ (Abort (t 9), Aborted) ∷ done (Complete (t 8)) ∷ (Begin (t 7), Refused (Ended (t 7))) ∷ (Commit (t 8), Committed) ∷ [])
 
 -- a reader whom the writer permits commits first: alone it would have read another value, so sharing nothing is a premise
-abbrev permitted : List Entry
+abbrev pub permitted : List Entry
 permitted = reverse (done (Initiate (t 7) None) ∷ done (Begin (t 7)) ∷ done (Write (t 7) (x 1) (pos 50)) ∷ done (Initiate (t 8) None) ∷ done (Begin (t 8)) ∷ done (Permit (t 7) (t 8) (Listed (x 1 ∷ [])) read_only)
     ∷ (Read (t 8) (x 1), Value (pos 50)) ∷ done (Complete (t 8)) ∷ (Commit (t 8), Committed) ∷ (Abort (t 7), Aborted) ∷ [])
 

@@ -148,7 +148,7 @@ value_kept test x first (o ∷ os) = go (test o) refl (value_kept test x first o
 -- ---- the serial history
 
 -- whether n has committed
-committed : List Entry → ℕ → Bool
+unfoldable pub committed : List Entry → ℕ → Bool
 committed entries n = was_committed (end_of (applied entries) n)
 
 of_committed : (end : Option End) → was_committed end ≡ true → end ≡ Some End'.Committed
@@ -163,17 +163,19 @@ pub record IsReduced (opening : Opening) (entries left : List Entry) : Type 0 wh
   pub single : AllSingle left
   pub unaborted : NobodyAborted (applied left)
   pub names : committed_names (applied left) ≡ committed_names (applied entries)
+  pub listed : (n : ℕ) → committed entries n ≡ true → lists (committed_names (applied entries)) n ≡ true
   pub all_listed : AllNamed (committed_names (applied entries)) left
   pub same : (n : ℕ) → lists (committed_names (applied entries)) n ≡ true → entries_of left n ≡ entries_of entries n
   pub values : (x : ℕ) → value opening (applied left) x ≡ committed_value opening (applied entries) x
 
-reduced : (opening : Opening) (entries : List Entry) → IsLegal opening entries → CommittedShareNothing entries → IsReduced opening entries (kept (committed entries) entries)
+pub reduced : (opening : Opening) (entries : List Entry) → IsLegal opening entries → CommittedShareNothing entries → IsReduced opening entries (kept (committed entries) entries)
 unfolding committed was_aborted was_committed committed_value end_of owned applied
 reduced opening entries legal share = record {
   legal = left_legal;
   single = single;
   unaborted = λ n. unaborted n (committed entries n) refl;
   names = names;
+  listed = listed;
   all_listed = all_named (committed entries) (committed_names (applied entries)) entries listed;
   same = λ n h. entries_kept (committed entries) n entries (ap was_committed (named_committed (applied entries) n h));
   values = values;

@@ -1,5 +1,8 @@
-use Rattle.asset_laws.proofs.ClassLemmas.{takes_itself, takes_closed, takes_least}
+use Rattle.asset_laws.proofs.ClassLemmas.{ends_aborted, takes_itself, takes_closed, takes_least}
 use Rattle.asset_laws.proofs.dependencies.abort_takes_the_least.Goals as goal
+
+pub returns-clause-aborted : goal.returns-clause-aborted
+returns-clause-aborted c = λ t steps n. ends_aborted t steps n
 
 pub returns-clause-itself : goal.returns-clause-itself
 returns-clause-itself c = λ t steps alive. takes_itself t steps alive
