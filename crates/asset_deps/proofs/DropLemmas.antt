@@ -12,19 +12,19 @@ pub shrinks_then : (old mid new : Slab Dependency) (on mid_on less back mid_back
 shrinks_then old mid new on mid_on less back mid_back less_back first second = record {
   links = λ k d there. first.links k d (second.links k d there);
   along = λ k c home. first.along k c (second.along k c home);
-  ends = λ k c home. first.ends k c (second.ends k c home);
+  across = λ k c home. first.across k c (second.across k c home);
   many_along = second.many_along ∙ first.many_along;
-  many_ends = second.many_ends ∙ first.many_ends;
+  many_across = second.many_across ∙ first.many_across;
 }
 
 pub shrinks_nothing : (links : Slab Dependency) (on back : Chained) → Shrinks links links on on back back
-shrinks_nothing links on back = record { links = λ k d there. there; along = λ k c home. home; ends = λ k c home. home; many_along = refl; many_ends = refl }
+shrinks_nothing links on back = record { links = λ k d there. there; along = λ k c home. home; across = λ k c home. home; many_along = refl; many_across = refl }
 
 pub shrinks_turned : (old new : Slab Dependency) (on less back less_back : Chained) → Shrinks old new on less back less_back → Shrinks old new back less_back on less
-shrinks_turned old new on less back less_back shrinks = record { links = shrinks.links; along = shrinks.ends; ends = shrinks.along; many_along = shrinks.many_ends; many_ends = shrinks.many_along }
+shrinks_turned old new on less back less_back shrinks = record { links = shrinks.links; along = shrinks.across; across = shrinks.along; many_along = shrinks.many_across; many_across = shrinks.many_along }
 
 pub placed_turned : (links : Slab Dependency) (on back : Chained) → IsPlaced links on back → IsPlaced links back on
-placed_turned links on back placed = record { along = placed.ends; ends = placed.along }
+placed_turned links on back placed = record { along = placed.across; across = placed.along }
 
 -- ---- one dependency goes
 module _ (links fewer : Slab Dependency) (on less back less_back : Chained) (key from to : ℕ) (placed : IsPlaced links on back) (home : home_of on key ≡ Some from) (home_back : home_of back key ≡ Some to)
@@ -41,14 +41,14 @@ module _ (links fewer : Slab Dependency) (on less back less_back : Chained) (key
       | inl here ↦ ap is_some (ap (get fewer) here ∙ gone.changed) ∙ sym (ap is_some (ap (home_of less) here ∙ change.home))
       | inr other ↦ ap is_some (gone.others k other) ∙ placed.along k ∙ sym (ap is_some (change.homes k other))
     ];
-    ends = λ k. elim (cases_eq k key) [
+    across = λ k. elim (cases_eq k key) [
       | inl here ↦ ap is_some (ap (get fewer) here ∙ gone.changed) ∙ sym (ap is_some (ap (home_of less_back) here ∙ change_back.home))
-      | inr other ↦ ap is_some (gone.others k other) ∙ placed.ends k ∙ sym (ap is_some (change_back.homes k other))
+      | inr other ↦ ap is_some (gone.others k other) ∙ placed.across k ∙ sym (ap is_some (change_back.homes k other))
     ];
   }
 
   pub dropped_shrinks : Shrinks links fewer on less back less_back
-  dropped_shrinks = record { links = still; along = still_home; ends = still_back; many_along = change.same_chains; many_ends = change_back.same_chains } where
+  dropped_shrinks = record { links = still; along = still_home; across = still_back; many_along = change.same_chains; many_across = change_back.same_chains } where
     still : (k : ℕ) (d : Dependency) → get fewer k ≡ Some d → get links k ≡ Some d
     still k d there = elim (cases_eq k key) [
       | inl here ↦ cc (sym there ∙ ap (get fewer) here ∙ gone.changed)

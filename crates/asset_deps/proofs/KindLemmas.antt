@@ -8,7 +8,7 @@ use Rattle.asset_names.specs.Paths.{same_kind, both_ways, leads}
 use Rattle.asset_names.proofs.PermitLemmas.{linked_same}
 use Rattle.asset_marks.proofs.KeyedLemmas.{arrow-append, turned_leads}
 use Rattle.asset_deps.specs.declared.kinds.Kinds.{Kinds}
-use Rattle.asset_deps.specs.declared.kinds.Kinds.TheVariants.{Group, Dooming, Order, All}
+use Rattle.asset_deps.specs.declared.kinds.Kinds.TheVariants.{Class, Dooming, Order, All}
 use Rattle.asset_deps.specs.Dependencies.{Dependency, arrows_of, class_ways, order_ways, doom_ways, class_in, doomed_in}
 use Rattle.asset_deps.specs.Reached.{has_kind, of_kinds, depends_by, arrows_in, ways_in}
 
@@ -61,10 +61,10 @@ either_kind both one other ds u v is = any_either (joins both u v) (joins one u 
   spread false b c d = refl
 
 -- ---- which arrows there are for each set of kinds
-pub by_group : (ds : List Dependency) (u v : ℕ) → depends_by Group ds u v ≡ has_arrow (arrows_of Gc ds) u v
+pub by_group : (ds : List Dependency) (u v : ℕ) → depends_by Class ds u v ≡ has_arrow (arrows_of Gc ds) u v
 unfolding depends_by of_kinds has_kind same_kind
-by_group ds u v = any_alike (joins (of_kinds Group) u v) (joins (λ (d : Dependency). same_kind Gc d.kind) u v) ds (λ d. ap (λ b. b && eqb d.source u && eqb d.dependent v) (one d.kind)) ∙ sym (arrow_of Gc ds u v) where
-  one : (k : Kind) → has_kind Group k ≡ same_kind Gc k
+by_group ds u v = any_alike (joins (of_kinds Class) u v) (joins (λ (d : Dependency). same_kind Gc d.kind) u v) ds (λ d. ap (λ b. b && eqb d.source u && eqb d.dependent v) (one d.kind)) ∙ sym (arrow_of Gc ds u v) where
+  one : (k : Kind) → has_kind Class k ≡ same_kind Gc k
   one Cd = refl
   one Ad = refl
   one Gc = refl
@@ -93,8 +93,8 @@ by_order ds u v =
 pub by_all : (ds : List Dependency) (u v : ℕ) → depends_by All ds u v ≡ (has_arrow (arrows_of Gc ds) u v || has_arrow (order_ways ds) u v)
 unfolding depends_by of_kinds has_kind same_kind
 by_all ds u v =
-    either_kind (of_kinds All) (of_kinds Group) (of_kinds Order) ds u v (λ d. one d.kind) ∙ (λ i. by_group ds u v i || by_order ds u v i) where
-      one : (k : Kind) → has_kind All k ≡ (has_kind Group k || has_kind Order k)
+    either_kind (of_kinds All) (of_kinds Class) (of_kinds Order) ds u v (λ d. one d.kind) ∙ (λ i. by_group ds u v i || by_order ds u v i) where
+      one : (k : Kind) → has_kind All k ≡ (has_kind Class k || has_kind Order k)
       one Cd = refl
       one Ad = refl
       one Gc = refl
@@ -116,11 +116,11 @@ both_lead (arrow ∷ arrows) u v =
       go false false false d e = refl
 
 -- the arrows of a search: those of the kinds, and those of group commits turned round
-pub way_in : (kinds : Kinds) (ds : List Dependency) (u v : ℕ) → has_arrow (ways_in kinds ds) u v ≡ (depends_by kinds ds u v || depends_by Group ds v u)
+pub way_in : (kinds : Kinds) (ds : List Dependency) (u v : ℕ) → has_arrow (ways_in kinds ds) u v ≡ (depends_by kinds ds u v || depends_by Class ds v u)
 unfolding ways_in
 way_in kinds ds u v =
-    arrow-append (arrows_in kinds ds) (map (λ (arrow : Arrow). (arrow.1, arrow.0)) (arrows_in Group ds)) u v
-    ∙ (λ i. arrow_in kinds ds u v i || (turned_leads (arrows_in Group ds) u v ∙ arrow_in Group ds v u) i)
+    arrow-append (arrows_in kinds ds) (map (λ (arrow : Arrow). (arrow.1, arrow.0)) (arrows_in Class ds)) u v
+    ∙ (λ i. arrow_in kinds ds u v i || (turned_leads (arrows_in Class ds) u v ∙ arrow_in Class ds v u) i)
 
 swap : (a b c : Bool) → ((a || b) || c) ≡ ((a || c) || b)
 swap true b c = refl
@@ -133,9 +133,9 @@ class_way : (ds : List Dependency) (u v : ℕ) → has_arrow (class_ways ds) u v
 unfolding class_ways
 class_way ds u v = both_lead (arrows_of Gc ds) u v
 
-pub class_linked : (ds : List Dependency) (a b : ℕ) → linked (ways_in Group ds) a b ≡ class_in ds a b
+pub class_linked : (ds : List Dependency) (a b : ℕ) → linked (ways_in Class ds) a b ≡ class_in ds a b
 unfolding class_in
-class_linked ds a b = linked_same (ways_in Group ds) (class_ways ds) (λ u v. way_in Group ds u v ∙ (λ i. by_group ds u v i || by_group ds v u i) ∙ sym (class_way ds u v)) a b
+class_linked ds a b = linked_same (ways_in Class ds) (class_ways ds) (λ u v. way_in Class ds u v ∙ (λ i. by_group ds u v i || by_group ds v u i) ∙ sym (class_way ds u v)) a b
 
 pub doom_linked : (ds : List Dependency) (a b : ℕ) → linked (ways_in Dooming ds) a b ≡ doomed_in ds a b
 unfolding doomed_in doom_ways

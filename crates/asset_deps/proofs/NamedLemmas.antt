@@ -14,7 +14,7 @@ use Rattle.asset_marks.proofs.KeyedLemmas.{arrow-append, turned, turned_leads, t
 use Rattle.asset_marks.proofs.SlotLemmas.{any_has, key_of_any}
 use Rattle.asset_marks.proofs.MarkLemmas.{same_truth}
 use Rattle.asset_deps.specs.declared.kinds.Kinds.{Kinds}
-use Rattle.asset_deps.specs.declared.kinds.Kinds.TheVariants.{Group}
+use Rattle.asset_deps.specs.declared.kinds.Kinds.TheVariants.{Class}
 use Rattle.asset_deps.specs.Dependencies.{Dependency}
 use Rattle.asset_deps.specs.Reached.{of_kinds, depends_by, ways_in, seat_ways}
 use Rattle.asset_deps.specs.Valid.{Parts, dependencies_of, marked_of, AreTaken, IsValid}
@@ -26,14 +26,14 @@ pub record HasEnds (p : Parts) (k : ℕ) (d : Dependency) : Type 0 where
   pub from : ℕ
   pub to : ℕ
   pub home : home_of p.along k ≡ Some from
-  pub end : home_of p.ends k ≡ Some to
+  pub end : home_of p.across k ≡ Some to
   pub source : seat p.seats from ≡ Some (record { 0 = d.source })
   pub dependent : seat p.seats to ≡ Some (record { 0 = d.dependent })
 
-pub has_ends : (p : Parts) (size : ℕ) (marked : Met) → IsValid p size marked → (k : ℕ) (d : Dependency) → get p.links k ≡ Some d → HasEnds p k d
-has_ends p size marked valid k d there =
+pub has_across : (p : Parts) (size : ℕ) (marked : Met) → IsValid p size marked → (k : ℕ) (d : Dependency) → get p.links k ≡ Some d → HasEnds p k d
+has_across p size marked valid k d there =
     let home = some_of (home_of p.along k) (sym (valid.placed.along k) ∙ ap is_some there) in
-    let end = some_of (home_of p.ends k) (sym (valid.placed.ends k) ∙ ap is_some there) in
+    let end = some_of (home_of p.across k) (sym (valid.placed.across k) ∙ ap is_some there) in
     record { from = home.0; to = end.0; home = home.1; end = end.1; source = valid.sources k home.0 d there home.1; dependent = valid.dependents k end.0 d there end.1 }
 
 -- a dependency that joins two names is of them
@@ -70,11 +70,11 @@ pub record Seats (p : Parts) (holds : ℕ → ℕ → Type 0) (u v : ℕ) : Type
 
 module _ (p : Parts) (size : ℕ) (marked : Met) (valid : IsValid p size marked) where
   -- ---- along the dependencies of some kinds
-  pub along_named : (kinds : Kinds) (c d : ℕ) → has_arrow (arrows_along (of_kinds kinds) p.links p.along p.ends) c d ≡ true → Between p (λ u v. depends_by kinds (dependencies_of p.links) u v ≡ true) c d
+  pub along_named : (kinds : Kinds) (c d : ℕ) → has_arrow (arrows_along (of_kinds kinds) p.links p.along p.across) c d ≡ true → Between p (λ u v. depends_by kinds (dependencies_of p.links) u v ≡ true) c d
   unfolding depends_by dependencies_of
   along_named kinds c d arrow =
-      let found = item_of_arrow (of_kinds kinds) p.links p.along p.ends c d arrow in
-      let item = leads_by (of_kinds kinds) (get p.links found.0) (home_of p.ends found.0) d found.2 in
+      let found = item_of_arrow (of_kinds kinds) p.links p.along p.across c d arrow in
+      let item = leads_by (of_kinds kinds) (get p.links found.0) (home_of p.across found.0) d found.2 in
       record {
         first = record { 0 = item.0.source };
         second = record { 0 = item.0.dependent };
@@ -83,62 +83,62 @@ module _ (p : Parts) (size : ℕ) (marked : Met) (valid : IsValid p size marked)
         there = any_has (joins (of_kinds kinds) item.0.source item.0.dependent) p.links found.0 item.0 item.1 (joins_from (of_kinds kinds) item.0.source item.0.dependent item.0 item.2 refl refl);
       }
 
-  pub named_along : (kinds : Kinds) (u v : ℕ) → depends_by kinds (dependencies_of p.links) u v ≡ true → Seats p (λ c d. has_arrow (arrows_along (of_kinds kinds) p.links p.along p.ends) c d ≡ true) u v
+  pub named_along : (kinds : Kinds) (u v : ℕ) → depends_by kinds (dependencies_of p.links) u v ≡ true → Seats p (λ c d. has_arrow (arrows_along (of_kinds kinds) p.links p.along p.across) c d ≡ true) u v
   unfolding depends_by dependencies_of
   named_along kinds u v h =
       let found = key_of_any (joins (of_kinds kinds) u v) p.links h in
       let parts = joins_parts (of_kinds kinds) u v found.1 found.3 in
-      let ends = has_ends p size marked valid found.0 found.1 found.2 in
+      let across = has_across p size marked valid found.0 found.1 found.2 in
       record {
-        first = ends.from;
-        second = ends.to;
-        from = ends.source ∙ (λ i. Some (record { 0 = parts.1 i }));
-        to = ends.dependent ∙ (λ i. Some (record { 0 = parts.2 i }));
-        there = item_leads (of_kinds kinds) p.links p.along p.ends found.0 ends.from ends.to ends.home (leads found.0 found.1 found.2 parts.0 ∙ ends.end);
+        first = across.from;
+        second = across.to;
+        from = across.source ∙ (λ i. Some (record { 0 = parts.1 i }));
+        to = across.dependent ∙ (λ i. Some (record { 0 = parts.2 i }));
+        there = item_leads (of_kinds kinds) p.links p.along p.across found.0 across.from across.to across.home (leads found.0 found.1 found.2 parts.0 ∙ across.end);
       } where
-        leads : (k : ℕ) (d : Dependency) → get p.links k ≡ Some d → of_kinds kinds d ≡ true → leads_to (of_kinds kinds) (get p.links k) (home_of p.ends k) ≡ home_of p.ends k
-        leads k d there passes = ap (λ (o : Option Dependency). leads_to (of_kinds kinds) o (home_of p.ends k)) there ∙ go (of_kinds kinds d) passes where
-          go : (b : Bool) → b ≡ true → cond b (home_of p.ends k) None ≡ home_of p.ends k
+        leads : (k : ℕ) (d : Dependency) → get p.links k ≡ Some d → of_kinds kinds d ≡ true → leads_to (of_kinds kinds) (get p.links k) (home_of p.across k) ≡ home_of p.across k
+        leads k d there passes = ap (λ (o : Option Dependency). leads_to (of_kinds kinds) o (home_of p.across k)) there ∙ go (of_kinds kinds d) passes where
+          go : (b : Bool) → b ≡ true → cond b (home_of p.across k) None ≡ home_of p.across k
           go true is = refl
           go false is = absurd (false≢true is)
 
   -- back along the ends is along turned round
-  pub back_is : (kinds : Kinds) (c d : ℕ) → has_arrow (arrows_along (of_kinds kinds) p.links p.ends p.along) c d ≡ has_arrow (arrows_along (of_kinds kinds) p.links p.along p.ends) d c
+  pub back_is : (kinds : Kinds) (c d : ℕ) → has_arrow (arrows_along (of_kinds kinds) p.links p.across p.along) c d ≡ has_arrow (arrows_along (of_kinds kinds) p.links p.along p.across) d c
   unfolding arrows_along
-  back_is kinds c d = ap (λ (l : List Arrow). has_arrow l c d) (arrows_turned (of_kinds kinds) p.along p.ends 0 p.links.slots) ∙ turned_leads (arrows_from (of_kinds kinds) p.along p.ends 0 p.links.slots) c d
+  back_is kinds c d = ap (λ (l : List Arrow). has_arrow l c d) (arrows_turned (of_kinds kinds) p.along p.across 0 p.links.slots) ∙ turned_leads (arrows_from (of_kinds kinds) p.along p.across 0 p.links.slots) c d
 
   -- ---- the ways of a search
-  seat_way : (kinds : Kinds) (c d : ℕ) → has_arrow (seat_ways kinds p.links p.along p.ends) c d
-      ≡ (has_arrow (arrows_along (of_kinds kinds) p.links p.along p.ends) c d || has_arrow (arrows_along (of_kinds Group) p.links p.along p.ends) d c)
+  seat_way : (kinds : Kinds) (c d : ℕ) → has_arrow (seat_ways kinds p.links p.along p.across) c d
+      ≡ (has_arrow (arrows_along (of_kinds kinds) p.links p.along p.across) c d || has_arrow (arrows_along (of_kinds Class) p.links p.along p.across) d c)
   unfolding seat_ways
   seat_way kinds c d =
-      arrow-append (arrows_along (of_kinds kinds) p.links p.along p.ends) (arrows_along (of_kinds Group) p.links p.ends p.along) c d
-      ∙ ap (λ b. has_arrow (arrows_along (of_kinds kinds) p.links p.along p.ends) c d || b) (back_is Group c d)
+      arrow-append (arrows_along (of_kinds kinds) p.links p.along p.across) (arrows_along (of_kinds Class) p.links p.across p.along) c d
+      ∙ ap (λ b. has_arrow (arrows_along (of_kinds kinds) p.links p.along p.across) c d || b) (back_is Class c d)
 
-  way_named : (kinds : Kinds) (c d : ℕ) → has_arrow (seat_ways kinds p.links p.along p.ends) c d ≡ true → Between p (λ u v. has_arrow (ways_in kinds (dependencies_of p.links)) u v ≡ true) c d
+  way_named : (kinds : Kinds) (c d : ℕ) → has_arrow (seat_ways kinds p.links p.along p.across) c d ≡ true → Between p (λ u v. has_arrow (ways_in kinds (dependencies_of p.links)) u v ≡ true) c d
   way_named kinds c d arrow = elim (or_cases _ _ (sym (seat_way kinds c d) ∙ arrow)) [
     | inl on ↦
         let found = along_named kinds c d on in
         record { first = found.first; second = found.second; from = found.from; to = found.to; there = way_in kinds (dependencies_of p.links) found.first.0 found.second.0 ∙ or_left _ _ found.there }
     | inr back ↦
-        let found = along_named Group d c back in
+        let found = along_named Class d c back in
         record { first = found.second; second = found.first; from = found.to; to = found.from; there = way_in kinds (dependencies_of p.links) found.second.0 found.first.0 ∙ or_right _ _ found.there }
   ]
 
-  named_way : (kinds : Kinds) (u v : ℕ) → has_arrow (ways_in kinds (dependencies_of p.links)) u v ≡ true → Seats p (λ c d. has_arrow (seat_ways kinds p.links p.along p.ends) c d ≡ true) u v
+  named_way : (kinds : Kinds) (u v : ℕ) → has_arrow (ways_in kinds (dependencies_of p.links)) u v ≡ true → Seats p (λ c d. has_arrow (seat_ways kinds p.links p.along p.across) c d ≡ true) u v
   named_way kinds u v arrow = elim (or_cases _ _ (sym (way_in kinds (dependencies_of p.links) u v) ∙ arrow)) [
     | inl on ↦ let found = named_along kinds u v on in record { first = found.first; second = found.second; from = found.from; to = found.to; there = seat_way kinds found.first found.second ∙ or_left _ _ found.there }
-    | inr back ↦ let found = named_along Group v u back in record { first = found.second; second = found.first; from = found.to; to = found.from; there = seat_way kinds found.second found.first ∙ or_right _ _ found.there }
+    | inr back ↦ let found = named_along Class v u back in record { first = found.second; second = found.first; from = found.to; to = found.from; there = seat_way kinds found.second found.first ∙ or_right _ _ found.there }
   ]
 
   -- a way leads to a seat that has its marks
-  pub way_within : (kinds : Kinds) (c d : ℕ) → has_arrow (seat_ways kinds p.links p.along p.ends) c d ≡ true → (d < size) × (d < marked.size)
+  pub way_within : (kinds : Kinds) (c d : ℕ) → has_arrow (seat_ways kinds p.links p.along p.across) c d ≡ true → (d < size) × (d < marked.size)
   way_within kinds c d arrow = let found = way_named kinds c d arrow in let within = valid.within d (ap is_some found.to) in (within.2, within.3)
 
-  pub way_from_within : (kinds : Kinds) (c d : ℕ) → has_arrow (seat_ways kinds p.links p.along p.ends) c d ≡ true → c < size
+  pub way_from_within : (kinds : Kinds) (c d : ℕ) → has_arrow (seat_ways kinds p.links p.along p.across) c d ≡ true → c < size
   way_from_within kinds c d arrow = let found = way_named kinds c d arrow in (valid.within c (ap is_some found.from)).2
 
-  pub source_within : (kinds : Kinds) (c d : ℕ) → has_arrow (arrows_along (of_kinds kinds) p.links p.ends p.along) d c ≡ true → c < size
+  pub source_within : (kinds : Kinds) (c d : ℕ) → has_arrow (arrows_along (of_kinds kinds) p.links p.across p.along) d c ≡ true → c < size
   source_within kinds c d arrow = let found = along_named kinds c d (sym (back_is kinds d c) ∙ arrow) in (valid.within c (ap is_some found.from)).2
 
   -- ---- one who has no seat leads to nobody, and nobody to it
@@ -165,10 +165,10 @@ module _ (p : Parts) (size : ℕ) (marked : Met) (valid : IsValid p size marked)
   -- ---- transactions are linked as their seats are
   module _ (one : (t : Txn) (c d : ℕ) → seat p.seats c ≡ Some t → seat p.seats d ≡ Some t → d ≡ c) where
     -- a seat that is reached is that of a name that is reached
-    reached_name : (kinds : Kinds) (a b : ℕ) (t : Txn) → seat p.seats a ≡ Some t → linked (seat_ways kinds p.links p.along p.ends) a b ≡ true
+    reached_name : (kinds : Kinds) (a b : ℕ) (t : Txn) → seat p.seats a ≡ Some t → linked (seat_ways kinds p.links p.along p.across) a b ≡ true
         → (u : Txn) × (seat p.seats b ≡ Some u) × (linked (ways_in kinds (dependencies_of p.links)) t.0 u.0 ≡ true)
     reached_name kinds a b t sat way =
-        kept_linked (λ c. (u : Txn) × (seat p.seats c ≡ Some u) × (linked (ways_in kinds (dependencies_of p.links)) t.0 u.0 ≡ true)) (seat_ways kinds p.links p.along p.ends) (λ c d arrow so.
+        kept_linked (λ c. (u : Txn) × (seat p.seats c ≡ Some u) × (linked (ways_in kinds (dependencies_of p.links)) t.0 u.0 ≡ true)) (seat_ways kinds p.links p.along p.across) (λ c d arrow so.
         let found = way_named kinds c d arrow in
         let same : Some so.0 ≡ Some found.first = sym so.1 ∙ found.from in
         let is : so.0 ≡ found.first = cc same in
@@ -177,15 +177,15 @@ module _ (p : Parts) (size : ℕ) (marked : Met) (valid : IsValid p size marked)
 
     -- a name that is reached has a seat that is reached
     pub reached_seat : (kinds : Kinds) (a : ℕ) (t : Txn) (n : ℕ) → seat p.seats a ≡ Some t → linked (ways_in kinds (dependencies_of p.links)) t.0 n ≡ true
-        → (b : ℕ) × (seat p.seats b ≡ Some (record { 0 = n })) × (linked (seat_ways kinds p.links p.along p.ends) a b ≡ true)
+        → (b : ℕ) × (seat p.seats b ≡ Some (record { 0 = n })) × (linked (seat_ways kinds p.links p.along p.across) a b ≡ true)
     reached_seat kinds a t n sat way =
-        kept_linked (λ k. (b : ℕ) × (seat p.seats b ≡ Some (record { 0 = k })) × (linked (seat_ways kinds p.links p.along p.ends) a b ≡ true)) (ways_in kinds (dependencies_of p.links)) (λ u v arrow so.
+        kept_linked (λ k. (b : ℕ) × (seat p.seats b ≡ Some (record { 0 = k })) × (linked (seat_ways kinds p.links p.along p.across) a b ≡ true)) (ways_in kinds (dependencies_of p.links)) (λ u v arrow so.
         let found = named_way kinds u v arrow in
         let is : so.0 ≡ found.first = one (record { 0 = u }) found.first so.0 found.from so.1 in
-        (found.second, found.to, linked_step (seat_ways kinds p.links p.along p.ends) a found.first found.second (subst (λ c. linked (seat_ways kinds p.links p.along p.ends) a c ≡ true) is so.2) found.there)) t.0 n way
-        (a, sat, linked_refl (seat_ways kinds p.links p.along p.ends) a)
+        (found.second, found.to, linked_step (seat_ways kinds p.links p.along p.across) a found.first found.second (subst (λ c. linked (seat_ways kinds p.links p.along p.across) a c ≡ true) is so.2) found.there)) t.0 n way
+        (a, sat, linked_refl (seat_ways kinds p.links p.along p.across) a)
 
-    pub linked_named : (kinds : Kinds) (a b : ℕ) (t u : Txn) → seat p.seats a ≡ Some t → seat p.seats b ≡ Some u → linked (seat_ways kinds p.links p.along p.ends) a b ≡ linked (ways_in kinds (dependencies_of p.links)) t.0 u.0
+    pub linked_named : (kinds : Kinds) (a b : ℕ) (t u : Txn) → seat p.seats a ≡ Some t → seat p.seats b ≡ Some u → linked (seat_ways kinds p.links p.along p.across) a b ≡ linked (ways_in kinds (dependencies_of p.links)) t.0 u.0
     linked_named kinds a b t u sat other =
         same_truth _ _
         (λ way.
@@ -195,25 +195,25 @@ module _ (p : Parts) (size : ℕ) (marked : Met) (valid : IsValid p size marked)
         subst (λ (v : Txn). linked (ways_in kinds (dependencies_of p.links)) t.0 v.0 ≡ true) is found.2)
         (λ way.
         let found = reached_seat kinds a t u.0 sat way in
-        subst (λ c. linked (seat_ways kinds p.links p.along p.ends) a c ≡ true) (one u b found.0 other found.1) found.2)
+        subst (λ c. linked (seat_ways kinds p.links p.along p.across) a c ≡ true) (one u b found.0 other found.1) found.2)
 
 -- ---- the search backwards
-ways_turned : (kinds : Kinds) (links : Slab Dependency) (along ends : Chained) → seat_ways kinds links ends along ≡ turned (seat_ways kinds links along ends)
+ways_turned : (kinds : Kinds) (links : Slab Dependency) (along across : Chained) → seat_ways kinds links across along ≡ turned (seat_ways kinds links along across)
 unfolding seat_ways arrows_along
-ways_turned kinds links along ends =
-    (λ i. arrows_turned (of_kinds kinds) along ends 0 links.slots i ++ arrows_turned (of_kinds Group) ends along 0 links.slots i)
-    ∙ sym (turned_append (arrows_from (of_kinds kinds) along ends 0 links.slots) (arrows_from (of_kinds Group) ends along 0 links.slots))
+ways_turned kinds links along across =
+    (λ i. arrows_turned (of_kinds kinds) along across 0 links.slots i ++ arrows_turned (of_kinds Class) across along 0 links.slots i)
+    ∙ sym (turned_append (arrows_from (of_kinds kinds) along across 0 links.slots) (arrows_from (of_kinds Class) across along 0 links.slots))
 
 -- it finds what the search forwards finds
-pub linked_back : (kinds : Kinds) (links : Slab Dependency) (along ends : Chained) (from to : ℕ) → linked (seat_ways kinds links ends along) to from ≡ linked (seat_ways kinds links along ends) from to
-linked_back kinds links along ends from to = ap (λ (l : List Arrow). linked l to from) (ways_turned kinds links along ends) ∙ linked_turned (seat_ways kinds links along ends) from to
+pub linked_back : (kinds : Kinds) (links : Slab Dependency) (along across : Chained) (from to : ℕ) → linked (seat_ways kinds links across along) to from ≡ linked (seat_ways kinds links along across) from to
+linked_back kinds links along across from to = ap (λ (l : List Arrow). linked l to from) (ways_turned kinds links along across) ∙ linked_turned (seat_ways kinds links along across) from to
 
-pub way_back : (kinds : Kinds) (links : Slab Dependency) (along ends : Chained) (c d : ℕ) → has_arrow (seat_ways kinds links ends along) c d ≡ has_arrow (seat_ways kinds links along ends) d c
-way_back kinds links along ends c d = ap (λ (l : List Arrow). has_arrow l c d) (ways_turned kinds links along ends) ∙ turned_leads (seat_ways kinds links along ends) c d
+pub way_back : (kinds : Kinds) (links : Slab Dependency) (along across : Chained) (c d : ℕ) → has_arrow (seat_ways kinds links across along) c d ≡ has_arrow (seat_ways kinds links along across) d c
+way_back kinds links along across c d = ap (λ (l : List Arrow). has_arrow l c d) (ways_turned kinds links along across) ∙ turned_leads (seat_ways kinds links along across) c d
 
 -- ---- what a search has met is marked
 module _ (p : Parts) (size : ℕ) (marked met : Met) (valid : IsValid p size marked) (one : (t : Txn) (c d : ℕ) → seat p.seats c ≡ Some t → seat p.seats d ≡ Some t → d ≡ c) (kinds : Kinds) (s : ℕ) (t : Txn) (sat : seat p.seats s ≡ Some t)
-    (same_size : met.size ≡ marked.size) (reached : (n : ℕ) → lists met.nodes n ≡ linked (seat_ways kinds p.links p.along p.ends) s n) where
+    (same_size : met.size ≡ marked.size) (reached : (n : ℕ) → lists met.nodes n ≡ linked (seat_ways kinds p.links p.along p.across) s n) where
   met_taken : AreTaken p.seats met.nodes
   met_taken c listed = ap is_some (reached_name p size marked valid one kinds s c t sat (sym (reached c) ∙ listed)).1
 

@@ -8,7 +8,7 @@ use Rattle.asset_names.specs.Paths.{has_outside}
 use Rattle.asset_seats.specs.Seated.{seat}
 use Rattle.asset_marks.specs.Marked.{Met}
 use Rattle.asset_marks.specs.Searched.{arrows_along}
-use Rattle.asset_deps.specs.declared.kinds.Kinds.TheVariants.{Group, Order}
+use Rattle.asset_deps.specs.declared.kinds.Kinds.TheVariants.{Class, Order}
 use Rattle.asset_deps.specs.Dependencies.{class_ways, order_ways, class_in, outside_source_in}
 use Rattle.asset_deps.specs.Reached.{of_kinds, seat_ways}
 use Rattle.asset_deps.specs.Valid.{Parts, dependencies_of, IsValid}
@@ -49,22 +49,22 @@ module _ (p : Parts) (size : ℕ) (marked : Met) (valid : IsValid p size marked)
     go true is =
         let found = arrow_of_any enters (order_ways (dependencies_of p.links)) (sym enters_any ∙ is) in
         let way = (and_parts (linked (class_ways (dependencies_of p.links)) t.0 found.1) (not (linked (class_ways (dependencies_of p.links)) t.0 found.0)) found.3).0 in
-        let same : eqb t.0 found.1 ≡ true = sym (leads_to_nobody p size marked valid Group t found.1 absent) ∙ class_linked (dependencies_of p.links) t.0 found.1 ∙ way in
+        let same : eqb t.0 found.1 ≡ true = sym (leads_to_nobody p size marked valid Class t found.1 absent) ∙ class_linked (dependencies_of p.links) t.0 found.1 ∙ way in
         let seats = named_along p size marked valid Order found.0 found.1 (by_order (dependencies_of p.links) found.0 found.1 ∙ found.2) in
         absurd (absent seats.second (seats.to ∙ (λ i. Some (record { 0 = sym (eqb-true t.0 found.1 same) i }))))
     go false is = refl
 
   -- ---- one who has a seat
   module _ (one : (u : Txn) (c d : ℕ) → seat p.seats c ≡ Some u → seat p.seats d ≡ Some u → d ≡ c) (s : ℕ) (sat : seat p.seats s ≡ Some t) (nodes : List ℕ)
-      (met : (n : ℕ) → lists nodes n ≡ linked (seat_ways Group p.links p.along p.ends) s n) where
+      (met : (n : ℕ) → lists nodes n ≡ linked (seat_ways Class p.links p.along p.across) s n) where
     -- a seat is met where who has it is of the class
     met_is : (c : ℕ) (u : Txn) → seat p.seats c ≡ Some u → lists nodes c ≡ linked (class_ways (dependencies_of p.links)) t.0 u.0
     unfolding class_in
-    met_is c u there = met c ∙ linked_named p size marked valid one Group s c t u sat there ∙ class_linked (dependencies_of p.links) t.0 u.0
+    met_is c u there = met c ∙ linked_named p size marked valid one Class s c t u sat there ∙ class_linked (dependencies_of p.links) t.0 u.0
 
     pub outside_is : (result : Bool)
-        → (result ≡ true → (u v : ℕ) × (lists nodes u ≡ true) × (has_arrow (arrows_along (of_kinds Order) p.links p.ends p.along) u v ≡ true) × (lists nodes v ≡ false))
-        → (result ≡ false → (u v : ℕ) → lists nodes u ≡ true → has_arrow (arrows_along (of_kinds Order) p.links p.ends p.along) u v ≡ true → lists nodes v ≡ true) → result ≡ outside_source_in (dependencies_of p.links) t.0
+        → (result ≡ true → (u v : ℕ) × (lists nodes u ≡ true) × (has_arrow (arrows_along (of_kinds Order) p.links p.across p.along) u v ≡ true) × (lists nodes v ≡ false))
+        → (result ≡ false → (u v : ℕ) → lists nodes u ≡ true → has_arrow (arrows_along (of_kinds Order) p.links p.across p.along) u v ≡ true → lists nodes v ≡ true) → result ≡ outside_source_in (dependencies_of p.links) t.0
     outside_is true leads all =
         let found = leads refl in
         let between = along_named p size marked valid Order found.1 found.0 (sym (back_is p size marked valid Order found.0 found.1) ∙ found.3) in

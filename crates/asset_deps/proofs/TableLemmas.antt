@@ -21,7 +21,7 @@ use Rattle.asset_deps.specs.Valid.{Parts, parts, dependencies_of, names_of, mark
 use Rattle.asset_deps.specs.Changes.{IsGrown, Shrinks}
 use Rattle.asset_deps.proofs.KindLemmas.{joins, arrow_of}
 use Rattle.asset_deps.proofs.LinkLemmas.{kind_is, kind_self}
-use Rattle.asset_deps.proofs.NamedLemmas.{has_ends, joins_parts, joins_from, joins_source, joins_dependent}
+use Rattle.asset_deps.proofs.NamedLemmas.{has_across, joins_parts, joins_from, joins_source, joins_dependent}
 use Rattle.asset_deps.proofs.SeatLemmas.{some_of, named_seat, marked_seat, seat_marked, marked_same, nobody_marked, nothing_marked, names_same}
 
 -- the dependencies of a kind
@@ -46,8 +46,8 @@ arrow_of_link links kind u v k there =
 pub ends_enrolled : (p : Parts) (size : ℕ) (marked : Met) → IsValid p size marked → (kind : Kind) (u v : ℕ) → has_arrow (arrows_of kind (dependencies_of p.links)) u v ≡ true → (lists (names_of p.seats) u ≡ true) × (lists (names_of p.seats) v ≡ true)
 ends_enrolled p size marked valid kind u v arrow =
     let found = link_of_arrow p.links kind u v arrow in
-    let ends = has_ends p size marked valid found.0 (record { kind = kind; source = u; dependent = v }) found.1 in
-    (named_seat p.seats ends.from (record { 0 = u }) ends.source, named_seat p.seats ends.to (record { 0 = v }) ends.dependent)
+    let across = has_across p size marked valid found.0 (record { kind = kind; source = u; dependent = v }) found.1 in
+    (named_seat p.seats across.from (record { 0 = u }) across.source, named_seat p.seats across.to (record { 0 = v }) across.dependent)
 
 -- ---- whether a dependency stands
 no_arrow : (links : Slab Dependency) (kind : Kind) (u v : ℕ) → ((k : ℕ) → get links k ≡ Some (record { kind = kind; source = u; dependent = v }) → ⊥) → has_arrow (arrows_of kind (dependencies_of links)) u v ≡ false
@@ -61,10 +61,10 @@ module _ (p : Parts) (size : ℕ) (marked : Met) (valid : IsValid p size marked)
   sought = record { kind = kind; source = a.0; dependent = b.0 }
 
   pub no_source : ((c : ℕ) → seat p.seats c ≡ Some a → ⊥) → false ≡ has_arrow (arrows_of kind (dependencies_of p.links)) a.0 b.0
-  no_source absent = sym (no_arrow p.links kind a.0 b.0 (λ k there. let ends = has_ends p size marked valid k sought there in absent ends.from ends.source))
+  no_source absent = sym (no_arrow p.links kind a.0 b.0 (λ k there. let across = has_across p size marked valid k sought there in absent across.from across.source))
 
   pub no_dependent : ((c : ℕ) → seat p.seats c ≡ Some b → ⊥) → false ≡ has_arrow (arrows_of kind (dependencies_of p.links)) a.0 b.0
-  no_dependent absent = sym (no_arrow p.links kind a.0 b.0 (λ k there. let ends = has_ends p size marked valid k sought there in absent ends.to ends.dependent))
+  no_dependent absent = sym (no_arrow p.links kind a.0 b.0 (λ k there. let across = has_across p size marked valid k sought there in absent across.to across.dependent))
 
   -- what a walk along a chain has found
   pub found_source : (from : ℕ) → ((c : ℕ) → seat p.seats c ≡ Some a → c ≡ from) → (d : Dependency) → d ≡ sought → (result : Bool) → (result ≡ true → (k : ℕ) × (get p.links k ≡ Some d)) → (result ≡ false → (k : ℕ) → home_of p.along k ≡ Some from → get p.links k ≡ Some d → ⊥)
@@ -72,25 +72,25 @@ module _ (p : Parts) (size : ℕ) (marked : Met) (valid : IsValid p size marked)
   found_source from alone d is true found absent = let there = found refl in sym (arrow_of_link p.links kind a.0 b.0 there.0 (there.1 ∙ ap Some is))
   found_source from alone d is false found absent =
       sym (no_arrow p.links kind a.0 b.0 (λ k there.
-      let ends = has_ends p size marked valid k sought there in
-      absent refl k (ends.home ∙ ap Some (alone ends.from ends.source)) (there ∙ ap Some (sym is))))
+      let across = has_across p size marked valid k sought there in
+      absent refl k (across.home ∙ ap Some (alone across.from across.source)) (there ∙ ap Some (sym is))))
 
-  pub found_dependent : (to : ℕ) → ((c : ℕ) → seat p.seats c ≡ Some b → c ≡ to) → (d : Dependency) → d ≡ sought → (result : Bool) → (result ≡ true → (k : ℕ) × (get p.links k ≡ Some d)) → (result ≡ false → (k : ℕ) → home_of p.ends k ≡ Some to → get p.links k ≡ Some d → ⊥)
+  pub found_dependent : (to : ℕ) → ((c : ℕ) → seat p.seats c ≡ Some b → c ≡ to) → (d : Dependency) → d ≡ sought → (result : Bool) → (result ≡ true → (k : ℕ) × (get p.links k ≡ Some d)) → (result ≡ false → (k : ℕ) → home_of p.across k ≡ Some to → get p.links k ≡ Some d → ⊥)
       → result ≡ has_arrow (arrows_of kind (dependencies_of p.links)) a.0 b.0
   found_dependent to alone d is true found absent = let there = found refl in sym (arrow_of_link p.links kind a.0 b.0 there.0 (there.1 ∙ ap Some is))
   found_dependent to alone d is false found absent =
       sym (no_arrow p.links kind a.0 b.0 (λ k there.
-      let ends = has_ends p size marked valid k sought there in
-      absent refl k (ends.end ∙ ap Some (alone ends.to ends.dependent)) (there ∙ ap Some (sym is))))
+      let across = has_across p size marked valid k sought there in
+      absent refl k (across.end ∙ ap Some (alone across.to across.dependent)) (there ∙ ap Some (sym is))))
 
 -- ---- a new table
-pub valid_nothing : (links : Slab Dependency) (along ends : Chained) (seats : Seated) (size : ℕ) (marked : Met) → links.slots ≡ [] → along.homes ≡ [] → ends.homes ≡ [] → ((c : ℕ) → seat seats c ≡ None) → marked.nodes ≡ []
-    → IsValid (parts links along ends seats) size marked
+pub valid_nothing : (links : Slab Dependency) (along across : Chained) (seats : Seated) (size : ℕ) (marked : Met) → links.slots ≡ [] → along.homes ≡ [] → across.homes ≡ [] → ((c : ℕ) → seat seats c ≡ None) → marked.nodes ≡ []
+    → IsValid (parts links along across seats) size marked
 unfolding lists
-valid_nothing links along ends seats size marked none homes homes_ends nobody unmarked = record {
+valid_nothing links along across seats size marked none homes homes_across nobody unmarked = record {
   placed = record {
     along = λ k. ap is_some (nothing k) ∙ sym (ap is_some (no_home_of along homes k));
-    ends = λ k. ap is_some (nothing k) ∙ sym (ap is_some (no_home_of ends homes_ends k));
+    across = λ k. ap is_some (nothing k) ∙ sym (ap is_some (no_home_of across homes_across k));
   };
   sources = λ k c d there home. cc (sym there ∙ nothing k);
   dependents = λ k c d there home. cc (sym there ∙ nothing k);
@@ -109,16 +109,16 @@ unfolding dependencies_of
 slots_stand links more same = ap (λ (l : List (Option Dependency)). filter_map (λ (slot : Option Dependency). slot) l) same
 
 -- ---- there is more room, and somebody sat down, or nobody
-module _ (links more : Slab Dependency) (along longer ends longer_ends : Chained) (seats new : Seated) (size most : ℕ) (marked grown : Met) (valid : IsValid (parts links along ends seats) size marked)
-    (slots : more.slots ≡ links.slots) (on : IsGrown along longer) (back : IsGrown ends longer_ends) (nodes : grown.nodes ≡ marked.nodes) where
+module _ (links more : Slab Dependency) (along longer across longer_across : Chained) (seats new : Seated) (size most : ℕ) (marked grown : Met) (valid : IsValid (parts links along across seats) size marked)
+    (slots : more.slots ≡ links.slots) (on : IsGrown along longer) (back : IsGrown across longer_across) (nodes : grown.nodes ≡ marked.nodes) where
   slot_same : (k : ℕ) → get more k ≡ get links k
   slot_same k = ap (λ (l : List (Option Dependency)). slice_index_or l k None) slots
 
-  pub valid_grown : ((c : ℕ) (t : Txn) → seat seats c ≡ Some t → seat new c ≡ Some t) → IsWithin longer longer_ends new most grown.size → IsValid (parts more longer longer_ends new) most grown
+  pub valid_grown : ((c : ℕ) (t : Txn) → seat seats c ≡ Some t → seat new c ≡ Some t) → IsWithin longer longer_across new most grown.size → IsValid (parts more longer longer_across new) most grown
   valid_grown kept within = record {
     placed = record {
       along = λ k. ap is_some (slot_same k) ∙ valid.placed.along k ∙ sym (ap is_some (on.homes k));
-      ends = λ k. ap is_some (slot_same k) ∙ valid.placed.ends k ∙ sym (ap is_some (back.homes k));
+      across = λ k. ap is_some (slot_same k) ∙ valid.placed.across k ∙ sym (ap is_some (back.homes k));
     };
     sources = λ k c d there home. kept c (record { 0 = d.source }) (valid.sources k c d (sym (slot_same k) ∙ there) (sym (on.homes k) ∙ home));
     dependents = λ k c d there home. kept c (record { 0 = d.dependent }) (valid.dependents k c d (sym (slot_same k) ∙ there) (sym (back.homes k) ∙ home));
@@ -127,16 +127,16 @@ module _ (links more : Slab Dependency) (along longer ends longer_ends : Chained
   }
 
   -- the seats that were there have their room still
-  pub within_grown : ((c : ℕ) → is_some (seat new c) ≡ true → is_some (seat seats c) ≡ true) → size ≤ most → marked.size ≤ grown.size → IsWithin longer longer_ends new most grown.size
+  pub within_grown : ((c : ℕ) → is_some (seat new c) ≡ true → is_some (seat seats c) ≡ true) → size ≤ most → marked.size ≤ grown.size → IsWithin longer longer_across new most grown.size
   within_grown were bound marks c sat =
       let old = valid.within c (were c sat) in
       (omega (arith, old.0, on.more), omega (arith, old.1, back.more), omega (arith, old.2, bound), omega (arith, old.3, marks))
 
   -- and so has the seat on which somebody sits down
-  pub within_sits : (s : ℕ) (t : Txn) → ((c : ℕ) → seat new c ≡ cond (eqb c s) (Some t) (seat seats c)) → size ≤ most → marked.size ≤ grown.size → s < length longer.chains → s < length longer_ends.chains → s < most → s < grown.size
-      → IsWithin longer longer_ends new most grown.size
+  pub within_sits : (s : ℕ) (t : Txn) → ((c : ℕ) → seat new c ≡ cond (eqb c s) (Some t) (seat seats c)) → size ≤ most → marked.size ≤ grown.size → s < length longer.chains → s < length longer_across.chains → s < most → s < grown.size
+      → IsWithin longer longer_across new most grown.size
   within_sits s t sits bound marks first second third fourth c sat = go (eqb c s) refl where
-    go : (b : Bool) → eqb c s ≡ b → (c < length longer.chains) × (c < length longer_ends.chains) × (c < most) × (c < grown.size)
+    go : (b : Bool) → eqb c s ≡ b → (c < length longer.chains) × (c < length longer_across.chains) × (c < most) × (c < grown.size)
     go true at = let here : c ≡ s = eqb-true c s at in rw here (first, second, third, fourth)
     go false at =
         let old = valid.within c (sym (ap is_some (sits c ∙ ap (λ b. cond b (Some t) (seat seats c)) at)) ∙ sat) in
@@ -147,11 +147,11 @@ pub sits_still : (s : ℕ) (t : Txn) (old new : Seated) → seat old s ≡ None 
 sits_still s t old new free sits c u sat = sits c ∙ ap (λ b. cond b (Some t) (seat old c)) (ne_eqb c s (λ is. cc (sym free ∙ ap (seat old) (sym is) ∙ sat))) ∙ sat
 
 -- ---- one more dependency
-module _ (links more : Slab Dependency) (along longer ends longer_ends : Chained) (seats : Seated) (size : ℕ) (marked : Met) (d : Dependency) (key from to : ℕ) (valid : IsValid (parts links along ends seats) size marked)
-    (source : seat seats from ≡ Some (record { 0 = d.source })) (dependent : seat seats to ≡ Some (record { 0 = d.dependent })) (put : Updates links more key (Some d)) (on : IsPushed from key along longer) (back : IsPushed to key ends longer_ends) where
-  pub valid_added : IsValid (parts more longer longer_ends seats) size marked
+module _ (links more : Slab Dependency) (along longer across longer_across : Chained) (seats : Seated) (size : ℕ) (marked : Met) (d : Dependency) (key from to : ℕ) (valid : IsValid (parts links along across seats) size marked)
+    (source : seat seats from ≡ Some (record { 0 = d.source })) (dependent : seat seats to ≡ Some (record { 0 = d.dependent })) (put : Updates links more key (Some d)) (on : IsPushed from key along longer) (back : IsPushed to key across longer_across) where
+  pub valid_added : IsValid (parts more longer longer_across seats) size marked
   valid_added = record {
-    placed = record { along = placed; ends = placed_ends };
+    placed = record { along = placed; across = placed_across };
     sources = sources;
     dependents = dependents;
     within = λ c sat. let old = valid.within c sat in (omega (arith, old.0, on.same_chains), omega (arith, old.1, back.same_chains), old.2, old.3);
@@ -163,10 +163,10 @@ module _ (links more : Slab Dependency) (along longer ends longer_ends : Chained
       | inr other ↦ ap is_some (put.others k other) ∙ valid.placed.along k ∙ sym (ap is_some (on.homes k other))
     ]
 
-    placed_ends : (k : ℕ) → is_some (get more k) ≡ is_some (home_of longer_ends k)
-    placed_ends k = elim (cases_eq k key) [
-      | inl here ↦ ap is_some (ap (get more) here ∙ put.changed) ∙ sym (ap is_some (ap (home_of longer_ends) here ∙ back.home))
-      | inr other ↦ ap is_some (put.others k other) ∙ valid.placed.ends k ∙ sym (ap is_some (back.homes k other))
+    placed_across : (k : ℕ) → is_some (get more k) ≡ is_some (home_of longer_across k)
+    placed_across k = elim (cases_eq k key) [
+      | inl here ↦ ap is_some (ap (get more) here ∙ put.changed) ∙ sym (ap is_some (ap (home_of longer_across) here ∙ back.home))
+      | inr other ↦ ap is_some (put.others k other) ∙ valid.placed.across k ∙ sym (ap is_some (back.homes k other))
     ]
 
     sources : IsNamed (λ (d : Dependency). d.source) more longer seats
@@ -180,11 +180,11 @@ module _ (links more : Slab Dependency) (along longer ends longer_ends : Chained
       | inr other ↦ valid.sources k c e (sym (put.others k other) ∙ there) (sym (on.homes k other) ∙ home)
     ]
 
-    dependents : IsNamed (λ (d : Dependency). d.dependent) more longer_ends seats
+    dependents : IsNamed (λ (d : Dependency). d.dependent) more longer_across seats
     dependents k c e there home = elim (cases_eq k key) [
       | inl here ↦
           let same : Some e ≡ Some d = sym there ∙ ap (get more) here ∙ put.changed in
-          let seat_is : Some c ≡ Some to = sym home ∙ ap (home_of longer_ends) here ∙ back.home in
+          let seat_is : Some c ≡ Some to = sym home ∙ ap (home_of longer_across) here ∙ back.home in
           let at : c ≡ to = cc seat_is in
           let is : e ≡ d = cc same in
           ap (seat seats) at ∙ dependent ∙ (λ i. Some (record { 0 = (sym is i).dependent }))
@@ -237,10 +237,10 @@ module _ (links mid new : Slab Dependency) (on mid_on less back mid_back less_ba
     placed = placed;
     sources = λ k c d there home.
         sits c (λ is. gone k (second.along k s (home ∙ ap Some is))) ∙ valid.sources k c d (first.links k d (second.links k d there)) (first.along k c (second.along k c home));
-    dependents = λ k c d there home. sits c (λ is. gone_back k (home ∙ ap Some is)) ∙ valid.dependents k c d (first.links k d (second.links k d there)) (first.ends k c (second.ends k c home));
+    dependents = λ k c d there home. sits c (λ is. gone_back k (home ∙ ap Some is)) ∙ valid.dependents k c d (first.links k d (second.links k d there)) (first.across k c (second.across k c home));
     within = λ c some.
         let old = valid.within c (still_taken c some).1 in
-        (omega (arith, old.0, first.many_along, second.many_along), omega (arith, old.1, first.many_ends, second.many_ends), old.2, omega (arith, old.3, same_size));
+        (omega (arith, old.0, first.many_along, second.many_along), omega (arith, old.1, first.many_across, second.many_across), old.2, omega (arith, old.3, same_size));
     taken = λ c listed.
         let both = and_parts (lists marked.nodes c) (not (eqb c s)) (sym (forgets c) ∙ listed) in
         ap is_some (sits c (λ is. false≢true (ap not (sym (eq-eqb c s is)) ∙ both.1))) ∙ valid.taken c both.0;
@@ -255,15 +255,15 @@ module _ (links mid new : Slab Dependency) (on mid_on less back mid_back less_ba
         let at = valid.sources k home.0 d (first.links k d (second.links k d there)) (first.along k home.0 (second.along k home.0 home.1)) in
         let here = alone home.0 (at ∙ (λ i. Some (record { 0 = is i }))) in
         gone k (second.along k s (home.1 ∙ ap Some here)));
-    ends = λ k d there.
-        let end = some_of (home_of less_back k) (sym (placed.ends k) ∙ ap is_some there) in
+    across = λ k d there.
+        let end = some_of (home_of less_back k) (sym (placed.across k) ∙ ap is_some there) in
         ne_eqb d.dependent t.0 (λ is.
-        let at = valid.dependents k end.0 d (first.links k d (second.links k d there)) (first.ends k end.0 (second.ends k end.0 end.1)) in
+        let at = valid.dependents k end.0 d (first.links k d (second.links k d there)) (first.across k end.0 (second.across k end.0 end.1)) in
         let here = alone end.0 (at ∙ (λ i. Some (record { 0 = is i }))) in
         gone_back k (end.1 ∙ ap Some here));
     kept = λ k d there source dependent.
         let mid_there : get mid k ≡ Some d = kept k (λ home. eqb-false d.source t.0 source (named d.source (sym (valid.sources k s d there home) ∙ sat))) ∙ there in
-        kept_back k (λ end. eqb-false d.dependent t.0 dependent (named d.dependent (sym (valid.dependents k s d there (first.ends k s end)) ∙ sat))) ∙ mid_there;
+        kept_back k (λ end. eqb-false d.dependent t.0 dependent (named d.dependent (sym (valid.dependents k s d there (first.across k s end)) ∙ sat))) ∙ mid_there;
   }
 
   pub arrow_ended : (k : Kind) (u v : ℕ) → has_arrow (arrows_of k (dependencies_of new)) u v ≡ (has_arrow (arrows_of k (dependencies_of links)) u v && not (eqb u t.0) && not (eqb v t.0))
@@ -306,9 +306,9 @@ module _ (p : Parts) (size : ℕ) (marked : Met) (valid : IsValid p size marked)
     go : (b : Bool) → has_arrow (arrows_of k (dependencies_of p.links)) u v ≡ b → b ≡ (b && not (eqb u t.0) && not (eqb v t.0))
     go true is =
         let found = link_of_arrow p.links k u v is in
-        let ends = has_ends p size marked valid found.0 (record { kind = k; source = u; dependent = v }) found.1 in
-        let first = ne_eqb u t.0 (λ same. absent ends.from (ends.source ∙ (λ i. Some (record { 0 = same i })))) in
-        let second = ne_eqb v t.0 (λ same. absent ends.to (ends.dependent ∙ (λ i. Some (record { 0 = same i })))) in
+        let across = has_across p size marked valid found.0 (record { kind = k; source = u; dependent = v }) found.1 in
+        let first = ne_eqb u t.0 (λ same. absent across.from (across.source ∙ (λ i. Some (record { 0 = same i })))) in
+        let second = ne_eqb v t.0 (λ same. absent across.to (across.dependent ∙ (λ i. Some (record { 0 = same i })))) in
         λ i. true && not (sym first i) && not (sym second i)
     go false is = refl
 

@@ -15,6 +15,6 @@ pub record IsGrown (old new : Chained) : Type 0 where
 pub record Shrinks (old new : Slab Dependency) (on less back less_back : Chained) : Type 0 where
   pub links : (k : ℕ) (d : Dependency) → get new k ≡ Some d → get old k ≡ Some d
   pub along : (k c : ℕ) → home_of less k ≡ Some c → home_of on k ≡ Some c
-  pub ends : (k c : ℕ) → home_of less_back k ≡ Some c → home_of back k ≡ Some c
+  pub across : (k c : ℕ) → home_of less_back k ≡ Some c → home_of back k ≡ Some c
   pub many_along : length less.chains ≡ length on.chains
-  pub many_ends : length less_back.chains ≡ length back.chains
+  pub many_across : length less_back.chains ≡ length back.chains

@@ -8,14 +8,14 @@ use Rattle.asset_names.specs.Arrows.{Arrow}
 use Rattle.asset_chains.specs.Chained.{Chained}
 use Rattle.asset_marks.specs.Searched.{arrows_along}
 use Rattle.asset_deps.specs.declared.kinds.Kinds.{Kinds}
-use Rattle.asset_deps.specs.declared.kinds.Kinds.TheVariants.{Group, Dooming, Order, All}
+use Rattle.asset_deps.specs.declared.kinds.Kinds.TheVariants.{Class, Dooming, Order, All}
 use Rattle.asset_deps.specs.Dependencies.{Dependency}
 
 -- whether the kind is among them
 unfoldable pub has_kind : Kinds → Kind → Bool
-has_kind Group Gc = true
-has_kind Group Cd = false
-has_kind Group Ad = false
+has_kind Class Gc = true
+has_kind Class Cd = false
+has_kind Class Ad = false
 has_kind Dooming Gc = true
 has_kind Dooming Ad = true
 has_kind Dooming Cd = false
@@ -38,8 +38,8 @@ arrows_in kinds dependencies = map (λ (d : Dependency). (d.source, d.dependent)
 
 -- the same, and back along group commits
 unfoldable pub ways_in : Kinds → List Dependency → List Arrow
-ways_in kinds dependencies = arrows_in kinds dependencies ++ map (λ (arrow : Arrow). (arrow.1, arrow.0)) (arrows_in Group dependencies)
+ways_in kinds dependencies = arrows_in kinds dependencies ++ map (λ (arrow : Arrow). (arrow.1, arrow.0)) (arrows_in Class dependencies)
 
 -- the arrows between the seats of sources and dependents, and back along group commits
 unfoldable pub seat_ways : Kinds → Slab Dependency → Chained → Chained → List Arrow
-seat_ways kinds links along ends = arrows_along (of_kinds kinds) links along ends ++ arrows_along (of_kinds Group) links ends along
+seat_ways kinds links along across = arrows_along (of_kinds kinds) links along across ++ arrows_along (of_kinds Class) links across along

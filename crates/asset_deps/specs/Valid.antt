@@ -25,20 +25,20 @@ name_at seats c = unwrap_or (option_map (λ (t : Txn). t.0) (seat seats c)) 0
 unfoldable pub marked_of : Seated → List ℕ → List ℕ
 marked_of seats nodes = map (name_at seats) nodes
 
--- the dependencies with the chains along which a search or an end goes, those of the other end, and the seats
+-- the dependencies with the chains along which a search or an end goes, those of the other sides, and the seats
 pub record Parts : Type 0 where
   pub links : Slab Dependency
   pub along : Chained
-  pub ends : Chained
+  pub across : Chained
   pub seats : Seated
 
 abbrev pub parts : Slab Dependency → Chained → Chained → Seated → Parts
-parts links along ends seats = record { links = links; along = along; ends = ends; seats = seats }
+parts links along across seats = record { links = links; along = along; across = across; seats = seats }
 
 -- exactly the dependencies have homes
 pub record IsPlaced (links : Slab Dependency) (on back : Chained) : Type 0 where
   pub along : (k : ℕ) → is_some (get links k) ≡ is_some (home_of on k)
-  pub ends : (k : ℕ) → is_some (get links k) ≡ is_some (home_of back k)
+  pub across : (k : ℕ) → is_some (get links k) ≡ is_some (home_of back k)
 
 -- a dependency's home is the seat of its source, or of its dependent
 abbrev pub IsNamed : (Dependency → ℕ) → Slab Dependency → Chained → Seated → Type 0
@@ -47,7 +47,7 @@ IsNamed name_of links table seats =
 
 -- each seat that is taken has its chains and its marks
 abbrev pub IsWithin : Chained → Chained → Seated → ℕ → ℕ → Type 0
-IsWithin along ends seats size room = (c : ℕ) → is_some (seat seats c) ≡ true → (c < length along.chains) × (c < length ends.chains) × (c < size) × (c < room)
+IsWithin along across seats size room = (c : ℕ) → is_some (seat seats c) ≡ true → (c < length along.chains) × (c < length across.chains) × (c < size) × (c < room)
 
 -- the seats that are marked are taken
 abbrev pub AreTaken : Seated → List ℕ → Type 0
@@ -56,8 +56,8 @@ AreTaken seats nodes = (c : ℕ) → lists nodes c ≡ true → is_some (seat se
 -- a dependency's homes are the seats of its source and its dependent, each seat that is taken has its chains and its marks,
 -- and none is marked that is not taken
 pub record IsValid (p : Parts) (size : ℕ) (marked : Met) : Type 0 where
-  pub placed : IsPlaced p.links p.along p.ends
+  pub placed : IsPlaced p.links p.along p.across
   pub sources : IsNamed (λ (d : Dependency). d.source) p.links p.along p.seats
-  pub dependents : IsNamed (λ (d : Dependency). d.dependent) p.links p.ends p.seats
-  pub within : IsWithin p.along p.ends p.seats size marked.size
+  pub dependents : IsNamed (λ (d : Dependency). d.dependent) p.links p.across p.seats
+  pub within : IsWithin p.along p.across p.seats size marked.size
   pub taken : AreTaken p.seats marked.nodes

@@ -50,7 +50,7 @@ pub(crate) fn insert(
     requires from { from < length by_source.old.chains }
     requires to { to < length by_dependent.old.chains }
     requires free { home_of by_source.old links.old.vacant_key ≡ None }
-    requires free_ends { home_of by_dependent.old links.old.vacant_key ≡ None }
+    requires free_across { home_of by_dependent.old links.old.vacant_key ≡ None }
     ensures was_vacant { get links.old result ≡ None }
     ensures updates { Updates links.old links.new result (Some link) }
     ensures key { result ≡ links.old.vacant_key }

@@ -39,7 +39,7 @@ impl Deps {
         ensures same_class { result ≡ class_in self.old.dependencies a.0 b.0 }
         ensures same { self.new ≡ self.old }
     {
-        self.is_reached(Kinds::Group, a, b)
+        self.is_reached(Kinds::Class, a, b)
     }
 
     /// Returns whether a path leads from the class of the one to that of the other. Nothing changes.
@@ -65,14 +65,14 @@ impl Deps {
         let search = Search {
             links: &self.links,
             along: &self.by_source,
-            ends: &self.by_dependent,
-            kinds: Kinds::Group,
+            across: &self.by_dependent,
+            kinds: Kinds::Class,
         };
         spread(&search, seat, &mut self.marks);
         let back = Way {
             items: &self.links,
             along: &self.by_dependent,
-            ends: &self.by_source,
+            across: &self.by_source,
         };
         leads_outside(&back, &self.marks)
     }
@@ -106,7 +106,7 @@ impl Deps {
             let search = Search {
                 links: &self.links,
                 along: &self.by_source,
-                ends: &self.by_dependent,
+                across: &self.by_dependent,
                 kinds,
             };
             is_linked(&search, from, to, &mut self.marks)
@@ -114,7 +114,7 @@ impl Deps {
             let search = Search {
                 links: &self.links,
                 along: &self.by_dependent,
-                ends: &self.by_source,
+                across: &self.by_source,
                 kinds,
             };
             is_linked(&search, to, from, &mut self.marks)

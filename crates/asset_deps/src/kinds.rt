@@ -8,7 +8,7 @@ use asset_names::Kind;
 #[derive(Clone, Copy)]
 pub(crate) enum Kinds {
     /// Group commits, which make classes.
-    Group,
+    Class,
     /// Group commits and abort dependencies, along which an abort spreads.
     Dooming,
     /// Commit and abort dependencies, which say who ends first.
@@ -27,8 +27,8 @@ impl Kinds {
         ensures { result ≡ has_kind self kind }
     {
         match (self, kind) {
-            (Kinds::Group, Kind::Gc) => true,
-            (Kinds::Group, _) => false,
+            (Kinds::Class, Kind::Gc) => true,
+            (Kinds::Class, _) => false,
             (Kinds::Dooming, Kind::Cd) => false,
             (Kinds::Dooming, _) => true,
             (Kinds::Order, Kind::Gc) => false,

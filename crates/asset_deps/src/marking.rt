@@ -21,7 +21,7 @@ impl Deps {
         ensures names { self.new.names ≡ self.old.names }
         ensures dependencies { self.new.dependencies ≡ self.old.dependencies }
     {
-        self.mark(Kinds::Group, t);
+        self.mark(Kinds::Class, t);
     }
 
     /// Marks whom an abort of the transaction aborts, and nobody else. A search forgets no mark.
@@ -48,7 +48,7 @@ impl Deps {
         let search = Search {
             links: &self.links,
             along: &self.by_source,
-            ends: &self.by_dependent,
+            across: &self.by_dependent,
             kinds,
         };
         spread(&search, seat, &mut self.marked);

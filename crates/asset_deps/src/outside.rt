@@ -12,9 +12,9 @@ use asset_marks::{Marks, Way, leads_out};
 
 /// Returns whether a commit or an abort dependency leads this way from a node that is met to one that is not.
 pub(crate) fn leads_outside(way: &Way<Link>, marks: &Marks) -> bool
-    requires { AreWithin (arrows_along (of_kinds Order) way.now.items.now way.now.along.now way.now.ends.now) marks.now.size }
-    ensures leads { result ≡ true → (u t : ℕ) × (lists marks.now.nodes u ≡ true) × (has_arrow (arrows_along (of_kinds Order) way.now.items.now way.now.along.now way.now.ends.now) u t ≡ true) × (lists marks.now.nodes t ≡ false) }
-    ensures met { result ≡ false → (u t : ℕ) → lists marks.now.nodes u ≡ true → has_arrow (arrows_along (of_kinds Order) way.now.items.now way.now.along.now way.now.ends.now) u t ≡ true → lists marks.now.nodes t ≡ true }
+    requires { AreWithin (arrows_along (of_kinds Order) way.now.items.now way.now.along.now way.now.across.now) marks.now.size }
+    ensures leads { result ≡ true → (u t : ℕ) × (lists marks.now.nodes u ≡ true) × (has_arrow (arrows_along (of_kinds Order) way.now.items.now way.now.along.now way.now.across.now) u t ≡ true) × (lists marks.now.nodes t ≡ false) }
+    ensures met { result ≡ false → (u t : ℕ) → lists marks.now.nodes u ≡ true → has_arrow (arrows_along (of_kinds Order) way.now.items.now way.now.along.now way.now.across.now) u t ≡ true → lists marks.now.nodes t ≡ true }
 {
     let mut next = 0;
     'met: while next < marks.len() {

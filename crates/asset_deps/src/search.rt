@@ -12,27 +12,27 @@ use slab::Slab;
 pub(crate) struct Search<'a> {
     pub links: &'a Slab<Link>,
     pub along: &'a Chains,
-    pub ends: &'a Chains,
+    pub across: &'a Chains,
     pub kinds: Kinds,
 }
 
 impl<'a> Arrows for Search<'a> {
     ghost use Rattle.asset_deps.specs.Reached.{seat_ways};
 
-    ghost arrows = { λ s. seat_ways s.kinds s.links.now s.along.now s.ends.now };
+    ghost arrows = { λ s. seat_ways s.kinds s.links.now s.along.now s.across.now };
 
     fn expand(&self, node: usize, marks: &mut Marks) {
         let on = Way {
             items: self.links,
             along: self.along,
-            ends: self.ends,
+            across: self.across,
         };
         expand_along(&on, &self.kinds, node, marks);
         let back = Way {
             items: self.links,
-            along: self.ends,
-            ends: self.along,
+            along: self.across,
+            across: self.along,
         };
-        expand_along(&back, &Kinds::Group, node, marks);
+        expand_along(&back, &Kinds::Class, node, marks);
     }
 }

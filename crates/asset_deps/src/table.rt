@@ -38,7 +38,7 @@ impl Model for Deps {
 }
 
 impl Deps {
-    ghost use Rattle.std.specs.Prelude.{◌≡◌, ℕ, ◌==◌, ◌&&◌, ◌||◌, not, nat_eq, [], true, false, IsOk, OnOk, OnErr};
+    ghost use Rattle.std.specs.Prelude.{◌≡◌, ℕ, ◌+◌, ◌==◌, ◌&&◌, ◌||◌, not, cond, length, nat_eq, [], true, false, IsOk, OnOk, OnErr};
     ghost use Rattle.std.specs.List.{IsDistinct};
     ghost use Rattle.asset_names.specs.declared.steps.Kind.{Kind};
     ghost use Rattle.asset_names.specs.Arrows.{lists, has_arrow};
@@ -104,6 +104,7 @@ impl Deps {
         requires dependent { lists self.old.names b.0 ≡ true }
         requires no_cycle { would_cycle_in self.old.dependencies kind a.0 b.0 ≡ false }
         ensures added { OnOk result ((k : Kind) (u v : ℕ) → has_arrow (arrows_of k self.new.dependencies) u v ≡ (has_arrow (arrows_of k self.old.dependencies) u v || same_kind k kind && u == a.0 && v == b.0)) }
+        ensures once { OnOk result (length self.new.dependencies ≡ length self.old.dependencies + cond (has_arrow (arrows_of kind self.old.dependencies) a.0 b.0) 0 1) }
         ensures names { self.new.names ≡ self.old.names }
         ensures marked { self.new.marked ≡ self.old.marked }
         ensures unchanged { OnErr result (self.new ≡ self.old) }

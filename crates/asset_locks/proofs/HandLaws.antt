@@ -14,9 +14,9 @@ use Rattle.asset_names.specs.OpSets.{OpSet, has_op}
 use Rattle.asset_chains.specs.Chained.{lists}
 use Rattle.asset_chains.proofs.KeyLemmas.{distinct_head, distinct_tail}
 use Rattle.asset_locks.specs.declared.lock.Lock.{Lock}
-use Rattle.asset_locks.specs.LockTable.{Enrolled, LockTable, is_on, carries_on, carries, names_in, enrolled_in, locks_or_none, locks_of, waiting_at, waiters_in, moved, both_ops, ops_on, joined, left, with_moved, handed_row, hand_over_in}
+use Rattle.asset_locks.specs.LockTable.{Enrolled, LockTable, is_on, carries_on, carries, names_in, enrolled_in, locks_or_none, locks_of, waiting_at, waiters_in, moved, both_ops, ops_on, merged, left, with_moved, handed_row, hand_over_in}
 use Rattle.asset_locks.specs.Valid.{IsValid}
-use Rattle.asset_locks.proofs.JoinLemmas.{joined_here, joined_apart, joined_object, none_carries}
+use Rattle.asset_locks.proofs.MergeLemmas.{merged_here, merged_apart, merged_object, none_carries}
 
 -- ---- tests of lists
 any_mapped : {A : Type 0} (test : A → Bool) (change : A → A) (xs : List A) → list_any test (map change xs) ≡ list_any (λ x. test (change x)) xs
@@ -61,23 +61,23 @@ or_none : (b : Bool) → (b || false) ≡ b
 or_none true = refl
 or_none false = refl
 
--- a lock that is joined carries the operations of both
-has_joined : (given : List Lock) (lock : Lock) (op : Op) → has_op (joined given lock).ops op ≡ (has_op lock.ops op || list_any (carries_on lock.object.0 op) given)
-has_joined given lock op = elim (cases_Bool (list_any (is_on lock.object.0) given)) [
+-- a lock that is merged carries the operations of both
+has_merged : (given : List Lock) (lock : Lock) (op : Op) → has_op (merged given lock).ops op ≡ (has_op lock.ops op || list_any (carries_on lock.object.0 op) given)
+has_merged given lock op = elim (cases_Bool (list_any (is_on lock.object.0) given)) [
   | inl on ↦
-      ap (λ (l : Lock). has_op l.ops op) (joined_here given lock on)
+      ap (λ (l : Lock). has_op l.ops op) (merged_here given lock on)
       ∙ has_both lock.ops (ops_on lock.object.0 given) op
       ∙ ap (λ (b : Bool). has_op lock.ops op || b) (has_on lock.object.0 given op)
   | inr off ↦
-      ap (λ (l : Lock). has_op l.ops op) (joined_apart given lock off)
+      ap (λ (l : Lock). has_op l.ops op) (merged_apart given lock off)
       ∙ sym (or_none (has_op lock.ops op))
       ∙ ap (λ (b : Bool). has_op lock.ops op || b) (sym (none_carries lock.object.0 op given off))
 ]
 
-joined_carries : (y : ℕ) (op : Op) (given : List Lock) (lock : Lock) → carries_on y op (joined given lock) ≡ (carries_on y op lock || (is_on y lock && list_any (carries_on y op) given))
+merged_carries : (y : ℕ) (op : Op) (given : List Lock) (lock : Lock) → carries_on y op (merged given lock) ≡ (carries_on y op lock || (is_on y lock && list_any (carries_on y op) given))
 unfolding carries_on is_on
-joined_carries y op given lock =
-    (λ i. eqb (joined_object given lock i).0 y && has_joined given lock op i)
+merged_carries y op given lock =
+    (λ i. eqb (merged_object given lock i).0 y && has_merged given lock op i)
     ∙ go (eqb lock.object.0 y) refl where
       go : (here : Bool) → eqb lock.object.0 y ≡ here → (here && (has_op lock.ops op || list_any (carries_on lock.object.0 op) given)) ≡ ((here && has_op lock.ops op) || (here && list_any (carries_on y op) given))
       go true e = ap (λ (x : ℕ). has_op lock.ops op || list_any (carries_on x op) given) (eqb-true lock.object.0 y e)
@@ -101,13 +101,13 @@ given_carries y op set locks = any-filter_same (carries_on y op) (moved set) (in
 came_carries : (y : ℕ) (op : Op) (given locks : List Lock) → list_any (carries_on y op) (with_moved given locks) ≡ (list_any (carries_on y op) locks || list_any (carries_on y op) given)
 unfolding with_moved
 came_carries y op given locks =
-    list_any-append (carries_on y op) (map (joined given) locks) (filter (λ (lock : Lock). not (list_any (is_on lock.object.0) locks)) given)
+    list_any-append (carries_on y op) (map (merged given) locks) (filter (λ (lock : Lock). not (list_any (is_on lock.object.0) locks)) given)
     ∙ (λ i. old_ones i || new_ones i)
     ∙ both (list_any (carries_on y op) locks) (list_any (is_on y) locks) (list_any (carries_on y op) given) where
-      old_ones : list_any (carries_on y op) (map (joined given) locks) ≡ (list_any (carries_on y op) locks || (list_any (is_on y) locks && list_any (carries_on y op) given))
+      old_ones : list_any (carries_on y op) (map (merged given) locks) ≡ (list_any (carries_on y op) locks || (list_any (is_on y) locks && list_any (carries_on y op) given))
       old_ones =
-          any_mapped (carries_on y op) (joined given) locks
-          ∙ any_same (λ lock. carries_on y op (joined given lock)) (λ lock. carries_on y op lock || (is_on y lock && list_any (carries_on y op) given)) locks (joined_carries y op given)
+          any_mapped (carries_on y op) (merged given) locks
+          ∙ any_same (λ lock. carries_on y op (merged given lock)) (λ lock. carries_on y op lock || (is_on y lock && list_any (carries_on y op) given)) locks (merged_carries y op given)
           ∙ any_either (carries_on y op) (λ lock. is_on y lock && list_any (carries_on y op) given) locks
           ∙ ap (λ (b : Bool). list_any (carries_on y op) locks || b) (any_and (is_on y) (list_any (carries_on y op) given) locks)
 

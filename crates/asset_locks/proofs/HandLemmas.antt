@@ -9,12 +9,12 @@ use Rattle.asset_chains.proofs.Laws.{key_within, unlinks, pushes}
 use Rattle.asset_chains.proofs.SoundLemmas.{listed_once}
 use Rattle.asset_chains.proofs.Walks.{without_absent, chains_without, map_same}
 use Rattle.asset_locks.specs.declared.lock.Lock.{Lock}
-use Rattle.asset_locks.specs.LockTable.{is_on, both_conflict, both_ops, joined}
+use Rattle.asset_locks.specs.LockTable.{is_on, both_conflict, both_ops, merged}
 use Rattle.asset_locks.specs.Valid.{is_some_op}
 use Rattle.asset_locks.specs.Stored.{Stored, lock_at, locks_at, number_in, chain_for, IsPlaced, IsStored, IsDropped, IsMoved, IsHanded}
 use Rattle.asset_locks.proofs.StoreLemmas.{stored_changed, written, read_lock}
 use Rattle.asset_locks.proofs.GrantLemmas.{found_here, none_here}
-use Rattle.asset_locks.proofs.JoinLemmas.{with_ops, joined_here, joined_apart, ops_one, moved_here, moved_alone}
+use Rattle.asset_locks.proofs.MergeLemmas.{with_ops, merged_here, merged_apart, ops_one, moved_here, moved_alone}
 
 no_some : {X : Type 0} (x : X) → Some x ≡ None → ⊥
 no_some x e = cc
@@ -160,11 +160,11 @@ some_both own ops some = go own.read own.write some where
   go false false h = absurd (true≢false (sym h))
 
 -- a lock gets the operations of another, and is suspended
-pub stored_joined : (old new : Stored) (key number : ℕ) (ops : OpSet) → IsStored old → number_in old.objects (lock_at old.locks key).object.0 ≡ Some number
+pub stored_merged : (old new : Stored) (key number : ℕ) (ops : OpSet) → IsStored old → number_in old.objects (lock_at old.locks key).object.0 ≡ Some number
     → ((k : ℕ) → lock_at new.locks k ≡ cond (eqb k key) (with_ops ops (lock_at old.locks key)) (lock_at old.locks k)) → ((k : ℕ) → is_some (get new.locks k) ≡ is_some (get old.locks k))
     → home_of new.by_object key ≡ Some (chain_for number (both_ops (lock_at old.locks key).ops ops).write) → ((k : ℕ) → (k ≡ key → ⊥) → home_of new.by_object k ≡ home_of old.by_object k)
     → is_some (home_of old.by_object key) ≡ true → length new.by_object.chains ≡ length old.by_object.chains → new.by_owner ≡ old.by_owner → new.objects ≡ old.objects → IsStored new
-stored_joined old new key number ops stored numbered locks keys home homes there chains of_owner objects =
+stored_merged old new key number ops stored numbered locks keys home homes there chains of_owner objects =
     stored_changed old new stored keys
     (λ k. elim (cases_Bool (eqb k key)) [
       | inl here ↦ ap (λ (n : ℕ). is_some (home_of new.by_object n)) (eqb-true k key here) ∙ ap is_some home ∙ sym there ∙ ap (λ (n : ℕ). is_some (home_of old.by_object n)) (sym (eqb-true k key here))
@@ -256,11 +256,11 @@ module _ (old new : Stored) (stored : IsStored old) (sound : IsSound old.by_owne
     same_chain d apart = chain_now d ∙ without_absent key (chain_of old.by_owner d) (listed_once old.by_owner sound key from d home apart)
 
     same_lock_at : (k : ℕ) → (k ≡ key → ⊥) → (k ≡ other → ⊥) → lock_at new.locks k ≡ lock_at old.locks k
-    same_lock_at k apart unjoined = dropped.locks k apart ∙ locks k ∙ ap (λ (b : Bool). cond b (with_ops (lock_at old.locks key).ops (lock_at old.locks other)) (lock_at old.locks k)) (ne_eqb k other unjoined)
+    same_lock_at k apart unmerged = dropped.locks k apart ∙ locks k ∙ ap (λ (b : Bool). cond b (with_ops (lock_at old.locks key).ops (lock_at old.locks other)) (lock_at old.locks k)) (ne_eqb k other unmerged)
 
-    -- the taker's lock on the object is joined, and no other is
-    each_joined : (k : ℕ) → lists (chain_of old.by_owner to) k ≡ true → lock_at new.locks k ≡ joined (lock_at old.locks key ∷ []) (lock_at old.locks k)
-    each_joined k listed = elim (cases_Bool (eqb k other)) [
+    -- the taker's lock on the object is merged, and no other is
+    each_merged : (k : ℕ) → lists (chain_of old.by_owner to) k ≡ true → lock_at new.locks k ≡ merged (lock_at old.locks key ∷ []) (lock_at old.locks k)
+    each_merged k listed = elim (cases_Bool (eqb k other)) [
       | inl here ↦
           let is = eqb-true k other here in
           let on_it : is_on (lock_at old.locks other).object.0 (lock_at old.locks key) ≡ true = on_from _ _ (sym (on_same _ _ on)) in
@@ -268,37 +268,37 @@ module _ (old new : Stored) (stored : IsStored old) (sound : IsSound old.by_owne
           ∙ locks k
           ∙ ap (λ (b : Bool). cond b (with_ops (lock_at old.locks key).ops (lock_at old.locks other)) (lock_at old.locks k)) here
           ∙ ap (λ (ops : OpSet). with_ops ops (lock_at old.locks other)) (sym (ops_one (lock_at old.locks other).object.0 (lock_at old.locks key) on_it))
-          ∙ sym (joined_here (lock_at old.locks key ∷ []) (lock_at old.locks other) (ap (λ (b : Bool). b || false) on_it))
-          ∙ ap (λ (n : ℕ). joined (lock_at old.locks key ∷ []) (lock_at old.locks n)) (sym is)
+          ∙ sym (merged_here (lock_at old.locks key ∷ []) (lock_at old.locks other) (ap (λ (b : Bool). b || false) on_it))
+          ∙ ap (λ (n : ℕ). merged (lock_at old.locks key ∷ []) (lock_at old.locks n)) (sym is)
       | inr apart ↦
-          let unjoined = eqb-false k other apart in
-          same_lock_at k unlisted unjoined
-          ∙ sym (joined_apart (lock_at old.locks key ∷ []) (lock_at old.locks k)
-          (ap (λ (b : Bool). b || false) (off_from _ _ (λ same. unjoined (stored.single k other to (sound.at_home to k listed) there (sym same ∙ sym (on_same _ _ on)))))))
+          let unmerged = eqb-false k other apart in
+          same_lock_at k unlisted unmerged
+          ∙ sym (merged_apart (lock_at old.locks key ∷ []) (lock_at old.locks k)
+          (ap (λ (b : Bool). b || false) (off_from _ _ (λ same. unmerged (stored.single k other to (sound.at_home to k listed) there (sym same ∙ sym (on_same _ _ on)))))))
     ] where
       unlisted : k ≡ key → ⊥
       unlisted = not_listed old sound key from to home (λ e. differ (sym e)) k listed
 
-    pub handed_joined : IsHanded key from to old new
+    pub handed_merged : IsHanded key from to old new
     unfolding locks_at
-    handed_joined = record {
+    handed_merged = record {
       giver = chain_now from;
       kept = λ k at apart. same_lock_at k apart (λ is. differ (seat_one from to (sym at ∙ ap (home_of old.by_owner) is ∙ there)));
       taker =
           ap (map (lock_at new.locks)) (same_chain to (λ e. differ (sym e)))
-          ∙ map_same (lock_at new.locks) (λ k. joined (lock_at old.locks key ∷ []) (lock_at old.locks k)) (chain_of old.by_owner to) each_joined
+          ∙ map_same (lock_at new.locks) (λ k. merged (lock_at old.locks key ∷ []) (lock_at old.locks k)) (chain_of old.by_owner to) each_merged
           ∙ sym (fused (chain_of old.by_owner to))
           ∙ sym (moved_here (lock_at old.locks key) (locks_at old to) (found_here old stored sound to (lock_at old.locks key).object other there on).0);
-      others = λ d apart unjoined.
+      others = λ d apart unmerged.
           ap (map (lock_at new.locks)) (same_chain d apart)
           ∙ map_same (lock_at new.locks) (lock_at old.locks) (chain_of old.by_owner d) (λ k listed.
-          same_lock_at k (not_listed old sound key from d home apart k listed) (not_listed old sound other to d there unjoined k listed));
+          same_lock_at k (not_listed old sound key from d home apart k listed) (not_listed old sound other to d there unmerged k listed));
       seats = dropped.seats ∙ ap (λ (t : Chained). length t.chains) of_owner;
       holders = λ k d at. elim (cases_Bool (eqb k key)) [
         | inl here ↦ absurd (no_some d (sym at ∙ dropped.homes k ∙ ap (λ (b : Bool). cond b None (home_of half.by_owner k)) here))
         | inr apart ↦ inl (ap (λ (t : Chained). home_of t k) (sym of_owner) ∙ sym (dropped.homes k ∙ ap (λ (b : Bool). cond b None (home_of half.by_owner k)) apart) ∙ at)
       ];
     } where
-      fused : (keys : List ℕ) → map (joined (lock_at old.locks key ∷ [])) (map (lock_at old.locks) keys) ≡ map (λ k. joined (lock_at old.locks key ∷ []) (lock_at old.locks k)) keys
+      fused : (keys : List ℕ) → map (merged (lock_at old.locks key ∷ [])) (map (lock_at old.locks) keys) ≡ map (λ k. merged (lock_at old.locks key ∷ []) (lock_at old.locks k)) keys
       fused [] = refl
-      fused (k ∷ keys) = ap (λ (l : List Lock). joined (lock_at old.locks key ∷ []) (lock_at old.locks k) ∷ l) (fused keys)
+      fused (k ∷ keys) = ap (λ (l : List Lock). merged (lock_at old.locks key ∷ []) (lock_at old.locks k) ∷ l) (fused keys)

@@ -1,7 +1,7 @@
 pub mod StoreLemmas
 pub mod WalkLemmas
 pub mod OpsLemmas
-pub mod JoinLemmas
+pub mod MergeLemmas
 pub mod SuspendLemmas
 pub mod GrantLemmas
 pub mod HandLemmas

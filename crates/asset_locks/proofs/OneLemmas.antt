@@ -16,7 +16,7 @@ use Rattle.asset_chains.proofs.KeyLemmas.{distinct_parts, distinct_head, listed_
 use Rattle.asset_locks.specs.declared.lock.Lock.{Lock}
 use Rattle.asset_locks.specs.LockTable.{is_on, moved, left, with_moved}
 use Rattle.asset_locks.specs.Stored.{Stored, lock_at, locks_at, IsStored, IsHanded}
-use Rattle.asset_locks.proofs.JoinLemmas.{nothing_moved}
+use Rattle.asset_locks.proofs.MergeLemmas.{nothing_moved}
 use Rattle.asset_locks.proofs.PassLemmas.{IsPassed, all_fail, still_moving, keeps_same, gives_same}
 
 -- what is in a set that lists one object

@@ -11,7 +11,7 @@ use Rattle.asset_chains.proofs.Walks.{from_key, map_same, any_none}
 use Rattle.asset_locks.specs.declared.lock.Lock.{Lock}
 use Rattle.asset_locks.specs.LockTable.{is_on, moved, left, with_moved}
 use Rattle.asset_locks.specs.Stored.{Stored, lock_at, locks_at, IsStored, IsHanded}
-use Rattle.asset_locks.proofs.JoinLemmas.{nothing_moved, moved_first}
+use Rattle.asset_locks.proofs.MergeLemmas.{nothing_moved, moved_first}
 
 -- ---- a key between the keys ahead and those behind
 listed_here : (front rest : List ℕ) (key : ℕ) → lists (front ++ key ∷ rest) key ≡ true

@@ -165,8 +165,8 @@ ops_on x locks = op_set (list_any (carries_on x Op'.Read) locks) (list_any (carr
 
 -- a lock of the taker's after the giver's locks came: if one of them is on its object, it carries the operations of
 -- both, and is suspended
-unfoldable pub joined : List Lock → Lock → Lock
-joined given lock = cond (list_any (is_on lock.object.0) given) (record lock { ops = both_ops lock.ops (ops_on lock.object.0 given); granted = false }) lock
+unfoldable pub merged : List Lock → Lock → Lock
+merged given lock = cond (list_any (is_on lock.object.0) given) (record lock { ops = both_ops lock.ops (ops_on lock.object.0 given); granted = false }) lock
 
 -- the locks that the giver keeps
 unfoldable pub left : ObSet → List Lock → List Lock
@@ -174,7 +174,7 @@ left set locks = filter (λ (lock : Lock). not (moved set lock)) locks
 
 -- the taker's locks after the giver's locks came: those on objects that the taker has no lock on are at the end
 unfoldable pub with_moved : List Lock → List Lock → List Lock
-with_moved given locks = map (joined given) locks ++ filter (λ (lock : Lock). not (list_any (is_on lock.object.0) locks)) given
+with_moved given locks = map (merged given) locks ++ filter (λ (lock : Lock). not (list_any (is_on lock.object.0) locks)) given
 
 -- a row after the giver's locks on objects of the set, which are given, became the taker's
 unfoldable pub handed_row : ℕ → ℕ → ObSet → List Lock → Enrolled → Enrolled

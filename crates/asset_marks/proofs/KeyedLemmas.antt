@@ -29,68 +29,68 @@ between_is (Some v) (Some w) u t h = elim (or_cases (eqb v u && eqb w t) false h
 between_is (Some v) None u t h = absurd (false≢true h)
 between_is None p u t h = absurd (false≢true h)
 
-module _ {D : Type 0} (test : D → Bool) (along ends : Chained) where
-  slot_leads : (slots : List (Option D)) (k i j : ℕ) (d : D) (u t : ℕ) → j ≡ k + i → get_or slots i None ≡ Some d → test d ≡ true → home_of along j ≡ Some u → home_of ends j ≡ Some t
-      → has_arrow (arrows_from test along ends k slots) u t ≡ true
+module _ {D : Type 0} (test : D → Bool) (along across : Chained) where
+  slot_leads : (slots : List (Option D)) (k i j : ℕ) (d : D) (u t : ℕ) → j ≡ k + i → get_or slots i None ≡ Some d → test d ≡ true → home_of along j ≡ Some u → home_of across j ≡ Some t
+      → has_arrow (arrows_from test along across k slots) u t ≡ true
   slot_leads [] k i j d u t at there covered home end = cc there
   slot_leads (None ∷ slots) k zero j d u t at there covered home end = cc there
   slot_leads (None ∷ slots) k (suc i) j d u t at there covered home end = slot_leads slots (k + 1) i j d u t (omega (arith, at)) there covered home end
   slot_leads (Some e ∷ slots) k zero j d u t at there covered home end =
       let same : e ≡ d = cc there in
       let here : k ≡ j = omega (arith, at) in
-      let arrow : cond (test e) (arrow_between (home_of along k) (home_of ends k)) [] ≡ arrow_between (Some u) (Some t) =
-      ap (λ (b : Bool). cond b (arrow_between (home_of along k) (home_of ends k)) []) (ap test same ∙ covered) ∙ (λ m. arrow_between ((ap (home_of along) here ∙ home) m) ((ap (home_of ends) here ∙ end) m))
+      let arrow : cond (test e) (arrow_between (home_of along k) (home_of across k)) [] ≡ arrow_between (Some u) (Some t) =
+      ap (λ (b : Bool). cond b (arrow_between (home_of along k) (home_of across k)) []) (ap test same ∙ covered) ∙ (λ m. arrow_between ((ap (home_of along) here ∙ home) m) ((ap (home_of across) here ∙ end) m))
       in
-      arrow-append (cond (test e) (arrow_between (home_of along k) (home_of ends k)) []) _ u t ∙ or_left _ _ (ap (λ (l : List Arrow). has_arrow l u t) arrow ∙ between_leads u t)
+      arrow-append (cond (test e) (arrow_between (home_of along k) (home_of across k)) []) _ u t ∙ or_left _ _ (ap (λ (l : List Arrow). has_arrow l u t) arrow ∙ between_leads u t)
   slot_leads (Some e ∷ slots) k (suc i) j d u t at there covered home end =
-      arrow-append (cond (test e) (arrow_between (home_of along k) (home_of ends k)) []) _ u t ∙ or_right _ _ (slot_leads slots (k + 1) i j d u t (omega (arith, at)) there covered home end)
+      arrow-append (cond (test e) (arrow_between (home_of along k) (home_of across k)) []) _ u t ∙ or_right _ _ (slot_leads slots (k + 1) i j d u t (omega (arith, at)) there covered home end)
 
-  item_of : (slots : List (Option D)) (k u t : ℕ) → has_arrow (arrows_from test along ends k slots) u t ≡ true
-      → (i : ℕ) × (d : D) × (get_or slots i None ≡ Some d) × (test d ≡ true) × (home_of along (k + i) ≡ Some u) × (home_of ends (k + i) ≡ Some t)
+  item_of : (slots : List (Option D)) (k u t : ℕ) → has_arrow (arrows_from test along across k slots) u t ≡ true
+      → (i : ℕ) × (d : D) × (get_or slots i None ≡ Some d) × (test d ≡ true) × (home_of along (k + i) ≡ Some u) × (home_of across (k + i) ≡ Some t)
   item_of [] k u t h = absurd (false≢true (sym (nothing_leads u t) ∙ h))
   item_of (None ∷ slots) k u t h =
       let found = item_of slots (k + 1) u t h in
       let same : k + 1 + found.0 ≡ k + suc found.0 = omega arith in
-      (suc found.0, found.1, found.2, found.3, ap (home_of along) (sym same) ∙ found.4, ap (home_of ends) (sym same) ∙ found.5)
+      (suc found.0, found.1, found.2, found.3, ap (home_of along) (sym same) ∙ found.4, ap (home_of across) (sym same) ∙ found.5)
   item_of (Some e ∷ slots) k u t h =
-      elim (or_cases (has_arrow (cond (test e) (arrow_between (home_of along k) (home_of ends k)) []) u t) _ (sym (arrow-append (cond (test e) (arrow_between (home_of along k) (home_of ends k)) []) _ u t) ∙ h)) [
+      elim (or_cases (has_arrow (cond (test e) (arrow_between (home_of along k) (home_of across k)) []) u t) _ (sym (arrow-append (cond (test e) (arrow_between (home_of along k) (home_of across k)) []) _ u t) ∙ h)) [
         | inl here ↦ at (test e) refl here
         | inr later ↦
             let found = item_of slots (k + 1) u t later in
             let same : k + 1 + found.0 ≡ k + suc found.0 = omega arith in
-            (suc found.0, found.1, found.2, found.3, ap (home_of along) (sym same) ∙ found.4, ap (home_of ends) (sym same) ∙ found.5)
+            (suc found.0, found.1, found.2, found.3, ap (home_of along) (sym same) ∙ found.4, ap (home_of across) (sym same) ∙ found.5)
       ] where
-        at : (b : Bool) → test e ≡ b → has_arrow (cond b (arrow_between (home_of along k) (home_of ends k)) []) u t ≡ true
-            → (i : ℕ) × (d : D) × (get_or (Some e ∷ slots) i None ≡ Some d) × (test d ≡ true) × (home_of along (k + i) ≡ Some u) × (home_of ends (k + i) ≡ Some t)
+        at : (b : Bool) → test e ≡ b → has_arrow (cond b (arrow_between (home_of along k) (home_of across k)) []) u t ≡ true
+            → (i : ℕ) × (d : D) × (get_or (Some e ∷ slots) i None ≡ Some d) × (test d ≡ true) × (home_of along (k + i) ≡ Some u) × (home_of across (k + i) ≡ Some t)
         at true covered leads =
-            let homes = between_is (home_of along k) (home_of ends k) u t leads in
+            let homes = between_is (home_of along k) (home_of across k) u t leads in
             let same : k ≡ k + 0 = omega arith in
-            (0, e, refl, covered, ap (home_of along) (sym same) ∙ homes.0, ap (home_of ends) (sym same) ∙ homes.1)
+            (0, e, refl, covered, ap (home_of along) (sym same) ∙ homes.0, ap (home_of across) (sym same) ∙ homes.1)
         at false covered leads = absurd (false≢true (sym (nothing_leads u t) ∙ leads))
 
-module _ {D : Type 0} (test : D → Bool) (items : Slab D) (along ends : Chained) where
+module _ {D : Type 0} (test : D → Bool) (items : Slab D) (along across : Chained) where
   -- an item that passes has an arrow
-  pub item_leads : (k u t : ℕ) → home_of along k ≡ Some u → leads_to test (get items k) (home_of ends k) ≡ Some t → has_arrow (arrows_along test items along ends) u t ≡ true
+  pub item_leads : (k u t : ℕ) → home_of along k ≡ Some u → leads_to test (get items k) (home_of across k) ≡ Some t → has_arrow (arrows_along test items along across) u t ≡ true
   unfolding arrows_along
   item_leads k u t home leads = go (get items k) refl leads where
-    go : (o : Option D) → get items k ≡ o → leads_to test o (home_of ends k) ≡ Some t → has_arrow (arrows_from test along ends 0 items.slots) u t ≡ true
+    go : (o : Option D) → get items k ≡ o → leads_to test o (home_of across k) ≡ Some t → has_arrow (arrows_from test along across 0 items.slots) u t ≡ true
     go None there e = cc e
     go (Some d) there e = at (test d) refl e where
-      at : (b : Bool) → test d ≡ b → cond b (home_of ends k) None ≡ Some t → has_arrow (arrows_from test along ends 0 items.slots) u t ≡ true
-      at true covered end = slot_leads test along ends items.slots 0 k k d u t (omega arith) there covered home end
+      at : (b : Bool) → test d ≡ b → cond b (home_of across k) None ≡ Some t → has_arrow (arrows_from test along across 0 items.slots) u t ≡ true
+      at true covered end = slot_leads test along across items.slots 0 k k d u t (omega arith) there covered home end
       at false covered end = cc end
 
   -- and an arrow is that of an item
-  pub item_of_arrow : (u t : ℕ) → has_arrow (arrows_along test items along ends) u t ≡ true → (k : ℕ) × (home_of along k ≡ Some u) × (leads_to test (get items k) (home_of ends k) ≡ Some t)
+  pub item_of_arrow : (u t : ℕ) → has_arrow (arrows_along test items along across) u t ≡ true → (k : ℕ) × (home_of along k ≡ Some u) × (leads_to test (get items k) (home_of across k) ≡ Some t)
   unfolding arrows_along
   item_of_arrow u t h =
-      let found = item_of test along ends items.slots 0 u t h in
+      let found = item_of test along across items.slots 0 u t h in
       let same : 0 + found.0 ≡ found.0 = omega arith in (
         found.0,
         ap (home_of along) (sym same) ∙ found.4,
-        ap (λ (o : Option D). leads_to test o (home_of ends found.0)) found.2
-            ∙ ap (λ (b : Bool). cond b (home_of ends found.0) None) found.3
-            ∙ ap (home_of ends) (sym same)
+        ap (λ (o : Option D). leads_to test o (home_of across found.0)) found.2
+            ∙ ap (λ (b : Bool). cond b (home_of across found.0) None) found.3
+            ∙ ap (home_of across) (sym same)
             ∙ found.5,
       )
 
@@ -135,12 +135,12 @@ pub turned_append : (xs ys : List Arrow) → turned (xs ++ ys) ≡ turned xs ++ 
 turned_append [] ys = refl
 turned_append (arrow ∷ xs) ys = ap (λ (l : List Arrow). (arrow.1, arrow.0) ∷ l) (turned_append xs ys)
 
-pub arrows_turned : {D : Type 0} (test : D → Bool) (along ends : Chained) (k : ℕ) (slots : List (Option D)) → arrows_from test ends along k slots ≡ turned (arrows_from test along ends k slots)
-arrows_turned test along ends k [] = refl
-arrows_turned test along ends k (None ∷ slots) = arrows_turned test along ends (k + 1) slots
-arrows_turned test along ends k (Some d ∷ slots) =
-    (λ m. one (test d) (home_of along k) (home_of ends k) m ++ arrows_turned test along ends (k + 1) slots m)
-    ∙ sym (turned_append (cond (test d) (arrow_between (home_of along k) (home_of ends k)) []) (arrows_from test along ends (k + 1) slots)) where
+pub arrows_turned : {D : Type 0} (test : D → Bool) (along across : Chained) (k : ℕ) (slots : List (Option D)) → arrows_from test across along k slots ≡ turned (arrows_from test along across k slots)
+arrows_turned test along across k [] = refl
+arrows_turned test along across k (None ∷ slots) = arrows_turned test along across (k + 1) slots
+arrows_turned test along across k (Some d ∷ slots) =
+    (λ m. one (test d) (home_of along k) (home_of across k) m ++ arrows_turned test along across (k + 1) slots m)
+    ∙ sym (turned_append (cond (test d) (arrow_between (home_of along k) (home_of across k)) []) (arrows_from test along across (k + 1) slots)) where
       one : (b : Bool) (o p : Option ℕ) → cond b (arrow_between p o) [] ≡ turned (cond b (arrow_between o p) [])
       one true (Some u) (Some t) = refl
       one true (Some u) None = refl
@@ -149,7 +149,7 @@ arrows_turned test along ends k (Some d ∷ slots) =
       one false o p = refl
 
 -- the search backwards finds what the search forwards finds
-pub linked_backwards : {D : Type 0} (test : D → Bool) (items : Slab D) (along ends : Chained) (from to : ℕ) → linked (arrows_along test items ends along) to from ≡ linked (arrows_along test items along ends) from to
+pub linked_backwards : {D : Type 0} (test : D → Bool) (items : Slab D) (along across : Chained) (from to : ℕ) → linked (arrows_along test items across along) to from ≡ linked (arrows_along test items along across) from to
 unfolding arrows_along
-linked_backwards test items along ends from to =
-    ap (λ (arrows : List Arrow). linked arrows to from) (arrows_turned test along ends 0 items.slots) ∙ linked_turned (arrows_from test along ends 0 items.slots) from to
+linked_backwards test items along across from to =
+    ap (λ (arrows : List Arrow). linked arrows to from) (arrows_turned test along across 0 items.slots) ∙ linked_turned (arrows_from test along across 0 items.slots) from to

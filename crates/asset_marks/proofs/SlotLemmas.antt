@@ -1,6 +1,6 @@
 -- Items in a slab, by the slots that have them: whether one passes a test, after one more, and after those of one name are
 -- gone.
-use Rattle.std.proofs.Common.{◌≡◌, ℕ, zero, suc, Bool, true, false, eqb, not, ◌&&◌, ◌||◌, List, [], ◌∷◌, get_or, filter_map, Option, Some, None, refl, sym, ap, ◌∙◌, inl, inr}
+use Rattle.std.proofs.Common.{◌≡◌, ℕ, zero, suc, Bool, true, false, eqb, not, ◌&&◌, ◌||◌, List, [], ◌∷◌, length, arith, get_or, filter_map, Option, Some, None, refl, sym, ap, ◌∙◌, inl, inr}
 use Rattle.std.specs.List.{list_any}
 use Rattle.std.proofs.lemmas.Bool.{or_cases, or_left, or_right, and_from, and_parts, false≢true, true≢false, cases_eq}
 use Rattle.slab.specs.Slab.{Slab, get, values, Updates}
@@ -53,6 +53,38 @@ module _ {D : Type 0} where
       | inr new ↦ any_has test more k d put.changed new
     ]
 
+-- ---- how many there are
+module _ {D : Type 0} where
+  -- as many items stand in slots that have the same ones
+  same_count : (xs ys : List (Option D)) → ((i : ℕ) → get_or ys i None ≡ get_or xs i None) → length (in_slots ys) ≡ length (in_slots xs)
+  same_count [] [] same = refl
+  same_count [] (None ∷ ys) same = same_count [] ys (λ i. same (suc i))
+  same_count [] (Some e ∷ ys) same = let first = same 0 in absurd cc
+  same_count (None ∷ xs) [] same = same_count xs [] (λ i. same (suc i))
+  same_count (Some d ∷ xs) [] same = let first = same 0 in absurd cc
+  same_count (None ∷ xs) (None ∷ ys) same = same_count xs ys (λ i. same (suc i))
+  same_count (None ∷ xs) (Some e ∷ ys) same = let first = same 0 in absurd cc
+  same_count (Some d ∷ xs) (None ∷ ys) same = let first = same 0 in absurd cc
+  same_count (Some d ∷ xs) (Some e ∷ ys) same = ap suc (same_count xs ys (λ i. same (suc i)))
+
+  longer_slots : (xs ys : List (Option D)) (k : ℕ) (d : D) → get_or xs k None ≡ None → get_or ys k None ≡ Some d → ((i : ℕ) → (i ≡ k → ⊥) → get_or ys i None ≡ get_or xs i None)
+      → length (in_slots ys) ≡ suc (length (in_slots xs))
+  longer_slots xs [] k d free put others = absurd cc
+  longer_slots xs (None ∷ ys) zero d free put others = absurd cc
+  longer_slots [] (Some e ∷ ys) zero d free put others = ap suc (same_count [] ys (λ i. others (suc i) (λ is. omega (arith, is))))
+  longer_slots (None ∷ xs) (Some e ∷ ys) zero d free put others = ap suc (same_count xs ys (λ i. others (suc i) (λ is. omega (arith, is))))
+  longer_slots (Some c ∷ xs) (Some e ∷ ys) zero d free put others = absurd cc
+  longer_slots [] (None ∷ ys) (suc k) d free put others = longer_slots [] ys k d free put (λ i other. others (suc i) (λ is. other (omega (arith, is))))
+  longer_slots [] (Some e ∷ ys) (suc k) d free put others = let first = others 0 (λ is. omega (arith, is)) in absurd cc
+  longer_slots (None ∷ xs) (None ∷ ys) (suc k) d free put others = longer_slots xs ys k d free put (λ i other. others (suc i) (λ is. other (omega (arith, is))))
+  longer_slots (None ∷ xs) (Some e ∷ ys) (suc k) d free put others = let first = others 0 (λ is. omega (arith, is)) in absurd cc
+  longer_slots (Some c ∷ xs) (None ∷ ys) (suc k) d free put others = let first = others 0 (λ is. omega (arith, is)) in absurd cc
+  longer_slots (Some c ∷ xs) (Some e ∷ ys) (suc k) d free put others = ap suc (longer_slots xs ys k d free put (λ i other. others (suc i) (λ is. other (omega (arith, is)))))
+
+  -- there is one item more after one is put at a free key
+  pub one_longer : (items more : Slab D) (k : ℕ) (d : D) → get items k ≡ None → Updates items more k (Some d) → length (values more) ≡ suc (length (values items))
+  one_longer items more k d free put = longer_slots items.slots more.slots k d free put.changed put.others
+
 -- ---- some go
 not_false : (p : Bool) → p ≡ false → not p ≡ true
 not_false true h = absurd (true≢false h)
@@ -67,12 +99,12 @@ module _ {D : Type 0} (from to : D → ℕ) where
   pub record IsRid (t : ℕ) (items fewer : Slab D) : Type 0 where
     pub still : (k : ℕ) (d : D) → get fewer k ≡ Some d → get items k ≡ Some d
     pub begins : (k : ℕ) (d : D) → get fewer k ≡ Some d → eqb (from d) t ≡ false
-    pub ends : (k : ℕ) (d : D) → get fewer k ≡ Some d → eqb (to d) t ≡ false
+    pub across : (k : ℕ) (d : D) → get fewer k ≡ Some d → eqb (to d) t ≡ false
     pub kept : (k : ℕ) (d : D) → get items k ≡ Some d → eqb (from d) t ≡ false → eqb (to d) t ≡ false → get fewer k ≡ Some d
 
   pub any_dropped : (test : D → Bool) (t u v : ℕ) (items fewer : Slab D) → ((d : D) → test d ≡ true → from d ≡ u) → ((d : D) → test d ≡ true → to d ≡ v) → IsRid t items fewer
       → list_any test (values fewer) ≡ (list_any test (values items) && not (eqb u t) && not (eqb v t))
-  any_dropped test t u v items fewer begins ends rid = same_truth _ _ on back where
+  any_dropped test t u v items fewer begins across rid = same_truth _ _ on back where
     regroup : (a b c : Bool) → (a && (b && c)) ≡ (a && b && c)
     regroup true b c = refl
     regroup false b c = refl
@@ -81,7 +113,7 @@ module _ {D : Type 0} (from to : D → ℕ) where
     on h =
         let found = key_of_any test fewer h in
         let first : eqb u t ≡ false = ap (λ n. eqb n t) (sym (begins found.1 found.3)) ∙ rid.begins found.0 found.1 found.2 in
-        let second : eqb v t ≡ false = ap (λ n. eqb n t) (sym (ends found.1 found.3)) ∙ rid.ends found.0 found.1 found.2 in
+        let second : eqb v t ≡ false = ap (λ n. eqb n t) (sym (across found.1 found.3)) ∙ rid.across found.0 found.1 found.2 in
         sym (regroup (list_any test (values items)) (not (eqb u t)) (not (eqb v t))) ∙ and_from _ _ (any_has test items found.0 found.1 (rid.still found.0 found.1 found.2) found.3) (and_from _ _ (not_false (eqb u t) first) (not_false (eqb v t) second))
 
     back : (list_any test (values items) && not (eqb u t) && not (eqb v t)) ≡ true → list_any test (values fewer) ≡ true
@@ -90,5 +122,5 @@ module _ {D : Type 0} (from to : D → ℕ) where
         let names = and_parts (not (eqb u t)) (not (eqb v t)) parts.1 in
         let found = key_of_any test items parts.0 in
         let first : eqb (from found.1) t ≡ false = ap (λ n. eqb n t) (begins found.1 found.3) ∙ not_true (eqb u t) names.0 in
-        let second : eqb (to found.1) t ≡ false = ap (λ n. eqb n t) (ends found.1 found.3) ∙ not_true (eqb v t) names.1 in
+        let second : eqb (to found.1) t ≡ false = ap (λ n. eqb n t) (across found.1 found.3) ∙ not_true (eqb v t) names.1 in
         any_has test fewer found.0 found.1 (rid.kept found.0 found.1 found.2 first second) found.3

@@ -74,8 +74,8 @@ walk_on arrows from to nodes after next walked below other expands =
     }
 
 -- ---- all nodes are expanded, and the one that is looked for is not among them
-pub walk_ends : (arrows : List Arrow) (from to : ℕ) (nodes : List ℕ) (next : ℕ) → Walked arrows from to nodes next → length nodes ≤ next → eqb from to ≡ false → linked arrows from to ≡ false
-walk_ends arrows from to nodes next walked all another =
+pub walk_across : (arrows : List Arrow) (from to : ℕ) (nodes : List ℕ) (next : ℕ) → Walked arrows from to nodes next → length nodes ≤ next → eqb from to ≡ false → linked arrows from to ≡ false
+walk_across arrows from to nodes next walked all another =
     false_from_ne_true (linked arrows from to) (λ way. elim (or_cases (eqb from to) _ (closed_linked (λ n. eqb from n || lists nodes n) arrows closed from to way (or_left (eqb from from) _ (eq-eqb from from refl)))) [
       | inl same ↦ true≢false (sym same ∙ another)
       | inr there ↦
@@ -174,8 +174,8 @@ spread_on arrows from nodes after next so below expands =
       ];
     }
 
-pub spread_ends : (arrows : List Arrow) (from : ℕ) (nodes : List ℕ) (next : ℕ) → IsSpread arrows from nodes next → length nodes ≤ next → (n : ℕ) → lists nodes n ≡ linked arrows from n
-spread_ends arrows from nodes next so all n = same_truth (lists nodes n) (linked arrows from n) (so.reached n) (λ way. closed_linked (lists nodes) arrows closed from n way so.start) where
+pub spread_across : (arrows : List Arrow) (from : ℕ) (nodes : List ℕ) (next : ℕ) → IsSpread arrows from nodes next → length nodes ≤ next → (n : ℕ) → lists nodes n ≡ linked arrows from n
+spread_across arrows from nodes next so all n = same_truth (lists nodes n) (linked arrows from n) (so.reached n) (λ way. closed_linked (lists nodes) arrows closed from n way so.start) where
   closed : (u t : ℕ) → has_arrow arrows u t ≡ true → lists nodes u ≡ true → lists nodes t ≡ true
   closed u t arrow met =
       let found = listed_at nodes u met in

@@ -17,14 +17,14 @@ arrow_between None other = []
 module _ {D : Type 0} (test : D → Bool) where
   -- the arrows of the items in the slots that pass the test, the first of which has this key
   abbrev pub arrows_from : Chained → Chained → ℕ → List (Option D) → List Arrow
-  arrows_from along ends k [] = []
-  arrows_from along ends k (None ∷ slots) = arrows_from along ends (k + 1) slots
-  arrows_from along ends k (Some d ∷ slots) = cond (test d) (arrow_between (home_of along k) (home_of ends k)) [] ++ arrows_from along ends (k + 1) slots
+  arrows_from along across k [] = []
+  arrows_from along across k (None ∷ slots) = arrows_from along across (k + 1) slots
+  arrows_from along across k (Some d ∷ slots) = cond (test d) (arrow_between (home_of along k) (home_of across k)) [] ++ arrows_from along across (k + 1) slots
 
   -- an arrow for each item that passes the test, from its home among the chains along which the search goes to its home
-  -- among those of the other ends
+  -- among those of the other sides
   unfoldable pub arrows_along : Slab D → Chained → Chained → List Arrow
-  arrows_along items along ends = arrows_from along ends 0 items.slots
+  arrows_along items along across = arrows_from along across 0 items.slots
 
   -- where an item leads to, if it is there and passes the test
   abbrev pub leads_to : Option D → Option ℕ → Option ℕ

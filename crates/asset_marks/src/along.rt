@@ -22,25 +22,25 @@ pub trait Pick<T> {
         ensures { result ≡ passes self.now item.now };
 }
 
-/// Items, the chains along which a search goes, and those of their other ends.
+/// Items, the chains along which a search goes, and those of their other sides.
 #[derive(Clone, Copy)]
 pub struct Way<'a, T> {
     /// The items.
     pub items: &'a Slab<T>,
     /// The chains along which the search goes.
     pub along: &'a Chains,
-    /// The chains of the other ends.
-    pub ends: &'a Chains,
+    /// The chains of the other sides.
+    pub across: &'a Chains,
 }
 
 /// Returns the node to which the item at the key leads, if it is there and passes.
-fn end_of<T, P: Pick<T>>(way: &Way<T>, pick: &P, key: usize) -> Option<usize>
-    ensures { result ≡ leads_to (P.passes pick.now) (get way.now.items.now key) (home_of way.now.ends.now key) }
+fn across_from<T, P: Pick<T>>(way: &Way<T>, pick: &P, key: usize) -> Option<usize>
+    ensures { result ≡ leads_to (P.passes pick.now) (get way.now.items.now key) (home_of way.now.across.now key) }
 {
     match way.items.get(key) {
         Some(item) => {
             if pick.passes(item) {
-                way.ends.home(key)
+                way.across.home(key)
             } else {
                 None
             }
@@ -51,15 +51,15 @@ fn end_of<T, P: Pick<T>>(way: &Way<T>, pick: &P, key: usize) -> Option<usize>
 
 /// Meets the nodes to which the items in the chain of the node lead that pass.
 pub fn expand_along<T, P: Pick<T>>(way: &Way<T>, pick: &P, node: usize, marks: &mut Marks)
-    requires { AreWithin (arrows_along (P.passes pick.now) way.now.items.now way.now.along.now way.now.ends.now) marks.old.size }
+    requires { AreWithin (arrows_along (P.passes pick.now) way.now.items.now way.now.along.now way.now.across.now) marks.old.size }
     ensures size { marks.new.size ≡ marks.old.size }
-    ensures expanded { Expands (arrows_along (P.passes pick.now) way.now.items.now way.now.along.now way.now.ends.now) node marks.old.nodes marks.new.nodes }
+    ensures expanded { Expands (arrows_along (P.passes pick.now) way.now.items.now way.now.along.now way.now.across.now) node marks.old.nodes marks.new.nodes }
 {
     way.along.laws();
     let mut next = way.along.first(node);
     'keys: while let Some(key) = next {
-        if let Some(end) = end_of(way, pick, key) {
-            marks.meet(end);
+        if let Some(other) = across_from(way, pick, key) {
+            marks.meet(other);
         }
         next = way.along.next(key);
     }
@@ -67,15 +67,15 @@ pub fn expand_along<T, P: Pick<T>>(way: &Way<T>, pick: &P, node: usize, marks: &
 
 /// Returns whether an item in the chain of the node that passes leads to a node that is not met.
 pub fn leads_out<T, P: Pick<T>>(way: &Way<T>, pick: &P, node: usize, marks: &Marks) -> bool
-    requires { AreWithin (arrows_along (P.passes pick.now) way.now.items.now way.now.along.now way.now.ends.now) marks.now.size }
-    ensures leads { result ≡ true → (t : ℕ) × (has_arrow (arrows_along (P.passes pick.now) way.now.items.now way.now.along.now way.now.ends.now) node t ≡ true) × (lists marks.now.nodes t ≡ false) }
-    ensures met { result ≡ false → (t : ℕ) → has_arrow (arrows_along (P.passes pick.now) way.now.items.now way.now.along.now way.now.ends.now) node t ≡ true → lists marks.now.nodes t ≡ true }
+    requires { AreWithin (arrows_along (P.passes pick.now) way.now.items.now way.now.along.now way.now.across.now) marks.now.size }
+    ensures leads { result ≡ true → (t : ℕ) × (has_arrow (arrows_along (P.passes pick.now) way.now.items.now way.now.along.now way.now.across.now) node t ≡ true) × (lists marks.now.nodes t ≡ false) }
+    ensures met { result ≡ false → (t : ℕ) → has_arrow (arrows_along (P.passes pick.now) way.now.items.now way.now.along.now way.now.across.now) node t ≡ true → lists marks.now.nodes t ≡ true }
 {
     way.along.laws();
     let mut next = way.along.first(node);
     'keys: while let Some(key) = next {
-        if let Some(end) = end_of(way, pick, key) {
-            if !marks.has(end) {
+        if let Some(other) = across_from(way, pick, key) {
+            if !marks.has(other) {
                 return true;
             }
         }

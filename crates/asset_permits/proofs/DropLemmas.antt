@@ -10,19 +10,19 @@ use Rattle.asset_seats.specs.Seated.{Seated, seat}
 use Rattle.asset_permits.specs.Descriptors.{Descriptor}
 use Rattle.asset_permits.specs.Valid.{Parts, parts, is_used, IsSeated, IsValid}
 use Rattle.asset_permits.specs.Changes.{Shrinks}
-use Rattle.asset_permits.proofs.SeatLemmas.{some_of, used_along, used_ends, key_of_used, used_same}
+use Rattle.asset_permits.proofs.SeatLemmas.{some_of, used_along, used_across, key_of_used, used_same}
 
 -- ---- a seat whose chains are not used is left
-pub leaves_unused : (along ends : Chained) (c : ℕ) (old new : Seated) → is_used along ends c ≡ false → ((d : ℕ) → seat new d ≡ cond (eqb d c) None (seat old d)) → (d : ℕ) → seat new d ≡ cond (eqb d c && not (is_used along ends d)) None (seat old d)
-leaves_unused along ends c old new unused leaves d = leaves d ∙ go (eqb d c) refl where
-  go : (b : Bool) → eqb d c ≡ b → cond b None (seat old d) ≡ cond (b && not (is_used along ends d)) None (seat old d)
-  go true e = sym (ap (λ (b : Bool). cond (not b) None (seat old d)) (ap (is_used along ends) (eqb-true d c e) ∙ unused))
+pub leaves_unused : (along across : Chained) (c : ℕ) (old new : Seated) → is_used along across c ≡ false → ((d : ℕ) → seat new d ≡ cond (eqb d c) None (seat old d)) → (d : ℕ) → seat new d ≡ cond (eqb d c && not (is_used along across d)) None (seat old d)
+leaves_unused along across c old new unused leaves d = leaves d ∙ go (eqb d c) refl where
+  go : (b : Bool) → eqb d c ≡ b → cond b None (seat old d) ≡ cond (b && not (is_used along across d)) None (seat old d)
+  go true e = sym (ap (λ (b : Bool). cond (not b) None (seat old d)) (ap (is_used along across) (eqb-true d c e) ∙ unused))
   go false e = refl
 
-pub keeps_used : (along ends : Chained) (c : ℕ) (seats : Seated) → is_used along ends c ≡ true → (d : ℕ) → seat seats d ≡ cond (eqb d c && not (is_used along ends d)) None (seat seats d)
-keeps_used along ends c seats used d = go (eqb d c) refl where
-  go : (b : Bool) → eqb d c ≡ b → seat seats d ≡ cond (b && not (is_used along ends d)) None (seat seats d)
-  go true e = sym (ap (λ (b : Bool). cond (not b) None (seat seats d)) (ap (is_used along ends) (eqb-true d c e) ∙ used))
+pub keeps_used : (along across : Chained) (c : ℕ) (seats : Seated) → is_used along across c ≡ true → (d : ℕ) → seat seats d ≡ cond (eqb d c && not (is_used along across d)) None (seat seats d)
+keeps_used along across c seats used d = go (eqb d c) refl where
+  go : (b : Bool) → eqb d c ≡ b → seat seats d ≡ cond (b && not (is_used along across d)) None (seat seats d)
+  go true e = sym (ap (λ (b : Bool). cond (not b) None (seat seats d)) (ap (is_used along across) (eqb-true d c e) ∙ used))
   go false e = refl
 
 -- ---- what is still there is as it was
@@ -30,20 +30,20 @@ pub shrinks_then : (old mid new : Parts) → Shrinks old mid → Shrinks mid new
 shrinks_then old mid new first second = record {
   permits = λ k d there. first.permits k d (second.permits k d there);
   along = λ k c home. first.along k c (second.along k c home);
-  ends = λ k c home. first.ends k c (second.ends k c home);
+  across = λ k c home. first.across k c (second.across k c home);
   seats = λ c t sat. first.seats c t (second.seats c t sat);
   many_along = second.many_along ∙ first.many_along;
-  many_ends = second.many_ends ∙ first.many_ends;
+  many_across = second.many_across ∙ first.many_across;
 }
 
-pub shrinks_turned : (permits fewer : Slab Descriptor) (along less ends less_ends : Chained) (seats left : Seated) → Shrinks (parts permits along ends seats) (parts fewer less less_ends left) → Shrinks (parts permits ends along seats) (parts fewer less_ends less left)
-shrinks_turned permits fewer along less ends less_ends seats left shrinks = record {
+pub shrinks_turned : (permits fewer : Slab Descriptor) (along less across less_across : Chained) (seats left : Seated) → Shrinks (parts permits along across seats) (parts fewer less less_across left) → Shrinks (parts permits across along seats) (parts fewer less_across less left)
+shrinks_turned permits fewer along less across less_across seats left shrinks = record {
   permits = shrinks.permits;
-  along = shrinks.ends;
-  ends = shrinks.along;
+  along = shrinks.across;
+  across = shrinks.along;
   seats = shrinks.seats;
-  many_along = shrinks.many_ends;
-  many_ends = shrinks.many_along;
+  many_along = shrinks.many_across;
+  many_across = shrinks.many_along;
 }
 
 -- a seat that is still used has who it had
@@ -53,36 +53,36 @@ seat_kept old new c less some t sat =
     let same : Some found.0 ≡ Some t = sym (less found.0 found.1) ∙ sat in
     found.1 ∙ same
 
-pub valid_after : (old new : Parts) (size : ℕ) → IsValid old size → Shrinks old new → IsSeated new → IsSound new.along → IsSound new.ends → IsValid new size
-valid_after old new size valid shrinks seated sound sound_ends = record {
+pub valid_after : (old new : Parts) (size : ℕ) → IsValid old size → Shrinks old new → IsSeated new → IsSound new.along → IsSound new.across → IsValid new size
+valid_after old new size valid shrinks seated sound sound_across = record {
   seated = seated;
   given = λ k c d there home.
-      seat_kept old.seats new.seats c (shrinks.seats c) (seated.used c ∙ used_along new.along new.ends k c sound home) (record { 0 = d.giver }) (valid.given k c d (shrinks.permits k d there) (shrinks.along k c home));
+      seat_kept old.seats new.seats c (shrinks.seats c) (seated.used c ∙ used_along new.along new.across k c sound home) (record { 0 = d.giver }) (valid.given k c d (shrinks.permits k d there) (shrinks.along k c home));
   taken = λ k c d there home.
-      seat_kept old.seats new.seats c (shrinks.seats c) (seated.used c ∙ used_ends new.along new.ends k c sound_ends home) (record { 0 = d.taker }) (valid.taken k c d (shrinks.permits k d there) (shrinks.ends k c home));
+      seat_kept old.seats new.seats c (shrinks.seats c) (seated.used c ∙ used_across new.along new.across k c sound_across home) (record { 0 = d.taker }) (valid.taken k c d (shrinks.permits k d there) (shrinks.across k c home));
   single = λ j k d here there. valid.single j k d (shrinks.permits j d here) (shrinks.permits k d there);
   within = λ c some.
       let sat = some_of (seat new.seats c) some in
       let old_within = valid.within c (ap is_some (shrinks.seats c sat.0 sat.1)) in
-      (omega (arith, old_within.0, shrinks.many_along), omega (arith, old_within.1, shrinks.many_ends), old_within.2);
+      (omega (arith, old_within.0, shrinks.many_along), omega (arith, old_within.1, shrinks.many_across), old_within.2);
 }
 
 -- ---- one permit goes
-module _ (permits fewer : Slab Descriptor) (along less ends less_ends : Chained) (seats left : Seated) (key from to : ℕ)
-    (seated : IsSeated (parts permits along ends seats)) (sound : IsSound along) (sound_ends : IsSound ends)
-    (home : home_of along key ≡ Some from) (home_ends : home_of ends key ≡ Some to)
-    (gone : Updates permits fewer key None) (is : less ≡ unlinked key along) (is_ends : less_ends ≡ unlinked key ends) where
+module _ (permits fewer : Slab Descriptor) (along less across less_across : Chained) (seats left : Seated) (key from to : ℕ)
+    (seated : IsSeated (parts permits along across seats)) (sound : IsSound along) (sound_across : IsSound across)
+    (home : home_of along key ≡ Some from) (home_across : home_of across key ≡ Some to)
+    (gone : Updates permits fewer key None) (is : less ≡ unlinked key along) (is_across : less_across ≡ unlinked key across) where
   change : IsUnlinked from key along less
   change = unlinks from key along less home is
 
-  change_ends : IsUnlinked to key ends less_ends
-  change_ends = unlinks to key ends less_ends home_ends is_ends
+  change_across : IsUnlinked to key across less_across
+  change_across = unlinks to key across less_across home_across is_across
 
   sound_less : IsSound less
   sound_less = subst IsSound (sym is) (sound_unlinked from key along sound home)
 
-  sound_less_ends : IsSound less_ends
-  sound_less_ends = subst IsSound (sym is_ends) (sound_unlinked to key ends sound_ends home_ends)
+  sound_less_across : IsSound less_across
+  sound_less_across = subst IsSound (sym is_across) (sound_unlinked to key across sound_across home_across)
 
   still_home : (k c : ℕ) → home_of less k ≡ Some c → home_of along k ≡ Some c
   still_home k c at = elim (cases_eq k key) [
@@ -90,55 +90,55 @@ module _ (permits fewer : Slab Descriptor) (along less ends less_ends : Chained)
     | inr other ↦ sym (change.homes k other) ∙ at
   ]
 
-  still_home_ends : (k c : ℕ) → home_of less_ends k ≡ Some c → home_of ends k ≡ Some c
-  still_home_ends k c at = elim (cases_eq k key) [
-    | inl here ↦ cc (sym at ∙ ap (home_of less_ends) here ∙ change_ends.home)
-    | inr other ↦ sym (change_ends.homes k other) ∙ at
+  still_home_across : (k c : ℕ) → home_of less_across k ≡ Some c → home_of across k ≡ Some c
+  still_home_across k c at = elim (cases_eq k key) [
+    | inl here ↦ cc (sym at ∙ ap (home_of less_across) here ∙ change_across.home)
+    | inr other ↦ sym (change_across.homes k other) ∙ at
   ]
 
-  used_before : (c : ℕ) → is_used less less_ends c ≡ true → is_used along ends c ≡ true
+  used_before : (c : ℕ) → is_used less less_across c ≡ true → is_used along across c ≡ true
   used_before c used =
-      let key_of = key_of_used less less_ends c sound_less sound_less_ends used in
+      let key_of = key_of_used less less_across c sound_less sound_less_across used in
       elim key_of.1 [
-        | inl at ↦ used_along along ends key_of.0 c sound (still_home key_of.0 c at)
-        | inr at ↦ used_ends along ends key_of.0 c sound_ends (still_home_ends key_of.0 c at)
+        | inl at ↦ used_along along across key_of.0 c sound (still_home key_of.0 c at)
+        | inr at ↦ used_across along across key_of.0 c sound_across (still_home_across key_of.0 c at)
       ]
 
-  module _ (leaves : (c : ℕ) → seat left c ≡ cond (eqb c to && not (is_used less less_ends c)) None (cond (eqb c from && not (is_used less less_ends c)) None (seat seats c))) where
-    used_still : (c : ℕ) → is_some (seat left c) ≡ is_used less less_ends c
-    used_still c = ap is_some (leaves c) ∙ go (is_used less less_ends c) refl where
-      kept : (b d : Bool) → is_used less less_ends c ≡ true → is_some (cond (b && false) None (cond (d && false) None (seat seats c))) ≡ true
+  module _ (leaves : (c : ℕ) → seat left c ≡ cond (eqb c to && not (is_used less less_across c)) None (cond (eqb c from && not (is_used less less_across c)) None (seat seats c))) where
+    used_still : (c : ℕ) → is_some (seat left c) ≡ is_used less less_across c
+    used_still c = ap is_some (leaves c) ∙ go (is_used less less_across c) refl where
+      kept : (b d : Bool) → is_used less less_across c ≡ true → is_some (cond (b && false) None (cond (d && false) None (seat seats c))) ≡ true
       kept true true used = seated.used c ∙ used_before c used
       kept true false used = seated.used c ∙ used_before c used
       kept false true used = seated.used c ∙ used_before c used
       kept false false used = seated.used c ∙ used_before c used
 
-      left_now : (b d : Bool) → eqb c to ≡ b → eqb c from ≡ d → is_used less less_ends c ≡ false → is_some (cond (b && true) None (cond (d && true) None (seat seats c))) ≡ false
+      left_now : (b d : Bool) → eqb c to ≡ b → eqb c from ≡ d → is_used less less_across c ≡ false → is_some (cond (b && true) None (cond (d && true) None (seat seats c))) ≡ false
       left_now true d e f unused = refl
       left_now false true e f unused = refl
       left_now false false e f unused =
-          seated.used c ∙ sym (used_same along ends less less_ends c (change.chains c (eqb-false c from f)) (change_ends.chains c (eqb-false c to e))) ∙ unused
+          seated.used c ∙ sym (used_same along across less less_across c (change.chains c (eqb-false c from f)) (change_across.chains c (eqb-false c to e))) ∙ unused
 
-      go : (u : Bool) → is_used less less_ends c ≡ u → is_some (cond (eqb c to && not (is_used less less_ends c)) None (cond (eqb c from && not (is_used less less_ends c)) None (seat seats c))) ≡ is_used less less_ends c
+      go : (u : Bool) → is_used less less_across c ≡ u → is_some (cond (eqb c to && not (is_used less less_across c)) None (cond (eqb c from && not (is_used less less_across c)) None (seat seats c))) ≡ is_used less less_across c
       go true used = rw used (kept (eqb c to) (eqb c from) used)
       go false unused = rw unused (left_now (eqb c to) (eqb c from) refl refl unused)
 
-    pub dropped_seated : IsSeated (parts fewer less less_ends left)
-    dropped_seated = record { along = placed; ends = placed_ends; used = used_still } where
+    pub dropped_seated : IsSeated (parts fewer less less_across left)
+    dropped_seated = record { along = placed; across = placed_across; used = used_still } where
       placed : (k : ℕ) → is_some (get fewer k) ≡ is_some (home_of less k)
       placed k = elim (cases_eq k key) [
         | inl here ↦ ap is_some (ap (get fewer) here ∙ gone.changed) ∙ sym (ap is_some (ap (home_of less) here ∙ change.home))
         | inr other ↦ ap is_some (gone.others k other) ∙ seated.along k ∙ sym (ap is_some (change.homes k other))
       ]
 
-      placed_ends : (k : ℕ) → is_some (get fewer k) ≡ is_some (home_of less_ends k)
-      placed_ends k = elim (cases_eq k key) [
-        | inl here ↦ ap is_some (ap (get fewer) here ∙ gone.changed) ∙ sym (ap is_some (ap (home_of less_ends) here ∙ change_ends.home))
-        | inr other ↦ ap is_some (gone.others k other) ∙ seated.ends k ∙ sym (ap is_some (change_ends.homes k other))
+      placed_across : (k : ℕ) → is_some (get fewer k) ≡ is_some (home_of less_across k)
+      placed_across k = elim (cases_eq k key) [
+        | inl here ↦ ap is_some (ap (get fewer) here ∙ gone.changed) ∙ sym (ap is_some (ap (home_of less_across) here ∙ change_across.home))
+        | inr other ↦ ap is_some (gone.others k other) ∙ seated.across k ∙ sym (ap is_some (change_across.homes k other))
       ]
 
-    pub dropped_shrinks : Shrinks (parts permits along ends seats) (parts fewer less less_ends left)
-    dropped_shrinks = record { permits = still; along = still_home; ends = still_home_ends; seats = sat; many_along = change.same_chains; many_ends = change_ends.same_chains } where
+    pub dropped_shrinks : Shrinks (parts permits along across seats) (parts fewer less less_across left)
+    dropped_shrinks = record { permits = still; along = still_home; across = still_home_across; seats = sat; many_along = change.same_chains; many_across = change_across.same_chains } where
       still : (k : ℕ) (d : Descriptor) → get fewer k ≡ Some d → get permits k ≡ Some d
       still k d there = elim (cases_eq k key) [
         | inl here ↦ cc (sym there ∙ ap (get fewer) here ∙ gone.changed)
@@ -146,7 +146,7 @@ module _ (permits fewer : Slab Descriptor) (along less ends less_ends : Chained)
       ]
 
       sat : (c : ℕ) (t : Txn) → seat left c ≡ Some t → seat seats c ≡ Some t
-      sat c t there = go (eqb c to && not (is_used less less_ends c)) (eqb c from && not (is_used less less_ends c)) (sym (leaves c) ∙ there) where
+      sat c t there = go (eqb c to && not (is_used less less_across c)) (eqb c from && not (is_used less less_across c)) (sym (leaves c) ∙ there) where
         go : (a b : Bool) → cond a None (cond b None (seat seats c)) ≡ Some t → seat seats c ≡ Some t
         go true b e = cc e
         go false true e = cc e

@@ -68,12 +68,12 @@ pub record HasEnds (p : Parts) (k : ℕ) (d : Descriptor) : Type 0 where
   pub from : ℕ
   pub to : ℕ
   pub home : home_of p.along k ≡ Some from
-  pub end : home_of p.ends k ≡ Some to
+  pub end : home_of p.across k ≡ Some to
   pub giver : seat p.seats from ≡ Some (record { 0 = d.giver })
   pub taker : seat p.seats to ≡ Some (record { 0 = d.taker })
 
-pub has_ends : (p : Parts) (size : ℕ) → IsValid p size → (k : ℕ) (d : Descriptor) → get p.permits k ≡ Some d → HasEnds p k d
-has_ends p size valid k d there =
+pub has_across : (p : Parts) (size : ℕ) → IsValid p size → (k : ℕ) (d : Descriptor) → get p.permits k ≡ Some d → HasEnds p k d
+has_across p size valid k d there =
     let home = home_along p k d valid.seated there in
     let end = home_at_end p k d valid.seated there in
     record { from = home.0; to = end.0; home = home.1; end = end.1; giver = valid.given k home.0 d there home.1; taker = valid.taken k end.0 d there end.1 }
@@ -85,42 +85,42 @@ module _ (p : Parts) (size : ℕ) (valid : IsValid p size) (x : ℕ) (op : Op) w
   -- the arrows of the permits in the slots have the names of the seats
   abbrev AreNamed : List (Option Descriptor) → ℕ → Type 0
   AreNamed slots k =
-      (map (λ (d : Descriptor). (d.giver, d.taker)) (filter (covers x op) (filter_map (λ (slot : Option Descriptor). slot) slots)) ≡ named p.seats (arrows_from (covers x op) p.along p.ends k slots))
-      × AreTaken p.seats (arrows_from (covers x op) p.along p.ends k slots)
+      (map (λ (d : Descriptor). (d.giver, d.taker)) (filter (covers x op) (filter_map (λ (slot : Option Descriptor). slot) slots)) ≡ named p.seats (arrows_from (covers x op) p.along p.across k slots))
+      × AreTaken p.seats (arrows_from (covers x op) p.along p.across k slots)
 
   slot_named : (e : Descriptor) (slots : List (Option Descriptor)) (k : ℕ) → HasEnds p k e → AreNamed slots (k + 1) → AreNamed (Some e ∷ slots) k
   slot_named e slots k here rest = (
-    one (covers x op e) ∙ sym (named_append p.seats (cond (covers x op e) (arrow_between (home_of p.along k) (home_of p.ends k)) []) (arrows_from (covers x op) p.along p.ends (k + 1) slots)),
-    taken_append p.seats (cond (covers x op e) (arrow_between (home_of p.along k) (home_of p.ends k)) []) (arrows_from (covers x op) p.along p.ends (k + 1) slots) (first (covers x op e)) rest.1,
+    one (covers x op e) ∙ sym (named_append p.seats (cond (covers x op e) (arrow_between (home_of p.along k) (home_of p.across k)) []) (arrows_from (covers x op) p.along p.across (k + 1) slots)),
+    taken_append p.seats (cond (covers x op e) (arrow_between (home_of p.along k) (home_of p.across k)) []) (arrows_from (covers x op) p.along p.across (k + 1) slots) (first (covers x op e)) rest.1,
   ) where
-    arrow : arrow_between (home_of p.along k) (home_of p.ends k) ≡ (here.from, here.to) ∷ []
+    arrow : arrow_between (home_of p.along k) (home_of p.across k) ≡ (here.from, here.to) ∷ []
     arrow = λ m. arrow_between (here.home m) (here.end m)
 
-    first : (b : Bool) → AreTaken p.seats (cond b (arrow_between (home_of p.along k) (home_of p.ends k)) [])
+    first : (b : Bool) → AreTaken p.seats (cond b (arrow_between (home_of p.along k) (home_of p.across k)) [])
     first true = subst (AreTaken p.seats) (sym arrow) ((ap is_some here.giver, ap is_some here.taker), tt)
     first false = tt
 
     one : (b : Bool) → map (λ (d : Descriptor). (d.giver, d.taker)) (cond b (e ∷ filter (covers x op) (filter_map (λ (slot : Option Descriptor). slot) slots)) (filter (covers x op) (filter_map (λ (slot : Option Descriptor). slot) slots)))
-        ≡ named p.seats (cond b (arrow_between (home_of p.along k) (home_of p.ends k)) []) ++ named p.seats (arrows_from (covers x op) p.along p.ends (k + 1) slots)
+        ≡ named p.seats (cond b (arrow_between (home_of p.along k) (home_of p.across k)) []) ++ named p.seats (arrows_from (covers x op) p.along p.across (k + 1) slots)
     one true =
         (λ m. (sym (name_is p.seats here.from (record { 0 = e.giver }) here.giver) m, sym (name_is p.seats here.to (record { 0 = e.taker }) here.taker) m) ∷ rest.0 m)
-        ∙ ap (λ (l : List Arrow). named p.seats l ++ named p.seats (arrows_from (covers x op) p.along p.ends (k + 1) slots)) (sym arrow)
+        ∙ ap (λ (l : List Arrow). named p.seats l ++ named p.seats (arrows_from (covers x op) p.along p.across (k + 1) slots)) (sym arrow)
     one false = rest.0
 
   slots_named : (slots : List (Option Descriptor)) (k : ℕ) → ((i : ℕ) (d : Descriptor) → get_or slots i None ≡ Some d → HasEnds p (k + i) d)
-      → (map (λ (d : Descriptor). (d.giver, d.taker)) (filter (covers x op) (filter_map (λ (slot : Option Descriptor). slot) slots)) ≡ named p.seats (arrows_from (covers x op) p.along p.ends k slots))
-      × AreTaken p.seats (arrows_from (covers x op) p.along p.ends k slots)
+      → (map (λ (d : Descriptor). (d.giver, d.taker)) (filter (covers x op) (filter_map (λ (slot : Option Descriptor). slot) slots)) ≡ named p.seats (arrows_from (covers x op) p.along p.across k slots))
+      × AreTaken p.seats (arrows_from (covers x op) p.along p.across k slots)
   slots_named [] k have = (refl, tt)
   slots_named (None ∷ slots) k have = slots_named slots (k + 1) (λ i d there. subst (λ n. HasEnds p n d) (omega arith) (have (suc i) d there))
   slots_named (Some e ∷ slots) k have = slot_named e slots k (have_first k e (have 0 e refl)) (slots_named slots (k + 1) (λ i d there. subst (λ n. HasEnds p n d) (omega arith) (have (suc i) d there)))
 
   -- a search along seats says who allows whom
   pub linked_allows : ((t : Txn) (c d : ℕ) → seat p.seats c ≡ Some t → seat p.seats d ≡ Some t → d ≡ c) → (giver taker : Txn) (from to : ℕ) → seat p.seats from ≡ Some giver → seat p.seats to ≡ Some taker
-      → linked (arrows_along (covers x op) p.permits p.along p.ends) from to ≡ allows_by (descriptors_of p.permits) giver.0 taker.0 x op
+      → linked (arrows_along (covers x op) p.permits p.along p.across) from to ≡ allows_by (descriptors_of p.permits) giver.0 taker.0 x op
   unfolding arrows_along allows_by arrows_for descriptors_of
   linked_allows single giver taker from to sat other =
-      let both = slots_named p.permits.slots 0 (λ i d there. subst (λ n. HasEnds p n d) (omega arith) (has_ends p size valid i d there)) in
-      sym (linked_named p.seats single (arrows_from (covers x op) p.along p.ends 0 p.permits.slots) both.1 from to (ap is_some sat) (ap is_some other))
+      let both = slots_named p.permits.slots 0 (λ i d there. subst (λ n. HasEnds p n d) (omega arith) (has_across p size valid i d there)) in
+      sym (linked_named p.seats single (arrows_from (covers x op) p.along p.across 0 p.permits.slots) both.1 from to (ap is_some sat) (ap is_some other))
       ∙ (λ m. linked (sym both.0 m) (name_is p.seats from giver sat m) (name_is p.seats to taker other m))
 
   ends_of_arrow : (u t : ℕ) → has_arrow (arrows_for (descriptors_of p.permits) x op) u t ≡ true
@@ -128,9 +128,9 @@ module _ (p : Parts) (size : ℕ) (valid : IsValid p size) (x : ℕ) (op : Op) w
   unfolding one_covers
   ends_of_arrow u t arrow =
       let found = key_of_any (lets u t x op) p.permits (sym (arrows_stand (descriptors_of p.permits) u t x op) ∙ arrow) in
-      let ends = has_ends p size valid found.0 found.1 found.2 in (
-        (ends.from, ends.giver ∙ (λ m. Some (record { 0 = lets_owned u t x op found.1 found.3 m }))),
-        (ends.to, ends.taker ∙ (λ m. Some (record { 0 = lets_to u t x op found.1 found.3 m }))),
+      let across = has_across p size valid found.0 found.1 found.2 in (
+        (across.from, across.giver ∙ (λ m. Some (record { 0 = lets_owned u t x op found.1 found.3 m }))),
+        (across.to, across.taker ∙ (λ m. Some (record { 0 = lets_to u t x op found.1 found.3 m }))),
       )
 
   -- one who gives nothing allows no other

@@ -30,44 +30,44 @@ first_listed [] k h = absurd (true≢false (sym h))
 first_listed (y ∷ keys) k h = refl
 
 -- ---- which chains are used
-pub used_along : (along ends : Chained) (k c : ℕ) → IsSound along → home_of along k ≡ Some c → is_used along ends c ≡ true
+pub used_along : (along across : Chained) (k c : ℕ) → IsSound along → home_of along k ≡ Some c → is_used along across c ≡ true
 unfolding is_used
-used_along along ends k c sound home = or_left _ _ (first_listed (chain_of along c) k (sound.listed c k home))
+used_along along across k c sound home = or_left _ _ (first_listed (chain_of along c) k (sound.listed c k home))
 
-pub used_turned : (along ends : Chained) (c : ℕ) → is_used along ends c ≡ is_used ends along c
+pub used_turned : (along across : Chained) (c : ℕ) → is_used along across c ≡ is_used across along c
 unfolding is_used
-used_turned along ends c = either (is_some (first_of (chain_of along c))) (is_some (first_of (chain_of ends c))) where
+used_turned along across c = either (is_some (first_of (chain_of along c))) (is_some (first_of (chain_of across c))) where
   either : (a b : Bool) → (a || b) ≡ (b || a)
   either true true = refl
   either true false = refl
   either false true = refl
   either false false = refl
 
-pub used_ends : (along ends : Chained) (k c : ℕ) → IsSound ends → home_of ends k ≡ Some c → is_used along ends c ≡ true
-used_ends along ends k c sound home = used_turned along ends c ∙ used_along ends along k c sound home
+pub used_across : (along across : Chained) (k c : ℕ) → IsSound across → home_of across k ≡ Some c → is_used along across c ≡ true
+used_across along across k c sound home = used_turned along across c ∙ used_along across along k c sound home
 
-pub key_of_used : (along ends : Chained) (c : ℕ) → IsSound along → IsSound ends → is_used along ends c ≡ true → (k : ℕ) × ((home_of along k ≡ Some c) ⊎ (home_of ends k ≡ Some c))
+pub key_of_used : (along across : Chained) (c : ℕ) → IsSound along → IsSound across → is_used along across c ≡ true → (k : ℕ) × ((home_of along k ≡ Some c) ⊎ (home_of across k ≡ Some c))
 unfolding is_used
-key_of_used along ends c sound sound_ends used = elim (or_cases (is_some (first_of (chain_of along c))) (is_some (first_of (chain_of ends c))) used) [
+key_of_used along across c sound sound_across used = elim (or_cases (is_some (first_of (chain_of along c))) (is_some (first_of (chain_of across c))) used) [
   | inl first ↦ let key = some_of (first_of (chain_of along c)) first in (key.0, inl (sound.at_home c key.0 (first_is_listed key.0 (chain_of along c) key.1)))
-  | inr first ↦ let key = some_of (first_of (chain_of ends c)) first in (key.0, inr (sound_ends.at_home c key.0 (first_is_listed key.0 (chain_of ends c) key.1)))
+  | inr first ↦ let key = some_of (first_of (chain_of across c)) first in (key.0, inr (sound_across.at_home c key.0 (first_is_listed key.0 (chain_of across c) key.1)))
 ]
 
-pub used_same : (along ends longer longer_ends : Chained) (c : ℕ) → chain_of longer c ≡ chain_of along c → chain_of longer_ends c ≡ chain_of ends c → is_used longer longer_ends c ≡ is_used along ends c
+pub used_same : (along across longer longer_across : Chained) (c : ℕ) → chain_of longer c ≡ chain_of along c → chain_of longer_across c ≡ chain_of across c → is_used longer longer_across c ≡ is_used along across c
 unfolding is_used
-used_same along ends longer longer_ends c same same_ends = λ i. is_some (first_of (same i)) || is_some (first_of (same_ends i))
+used_same along across longer longer_across c same same_across = λ i. is_some (first_of (same i)) || is_some (first_of (same_across i))
 
 -- ---- homes and seats
 -- a permit has homes
 pub home_along : (p : Parts) (k : ℕ) (d : Descriptor) → IsSeated p → get p.permits k ≡ Some d → (c : ℕ) × (home_of p.along k ≡ Some c)
 home_along p k d seated there = some_of (home_of p.along k) (sym (seated.along k) ∙ ap is_some there)
 
-pub home_at_end : (p : Parts) (k : ℕ) (d : Descriptor) → IsSeated p → get p.permits k ≡ Some d → (c : ℕ) × (home_of p.ends k ≡ Some c)
-home_at_end p k d seated there = some_of (home_of p.ends k) (sym (seated.ends k) ∙ ap is_some there)
+pub home_at_end : (p : Parts) (k : ℕ) (d : Descriptor) → IsSeated p → get p.permits k ≡ Some d → (c : ℕ) × (home_of p.across k ≡ Some c)
+home_at_end p k d seated there = some_of (home_of p.across k) (sym (seated.across k) ∙ ap is_some there)
 
 -- the same, seen from the other ends
-pub seated_turned : (permits : Slab Descriptor) (along ends : Chained) (seats : Seated) → IsSeated (parts permits along ends seats) → IsSeated (parts permits ends along seats)
-seated_turned permits along ends seats seated = record { along = seated.ends; ends = seated.along; used = λ c. seated.used c ∙ used_turned along ends c }
+pub seated_turned : (permits : Slab Descriptor) (along across : Chained) (seats : Seated) → IsSeated (parts permits along across seats) → IsSeated (parts permits across along seats)
+seated_turned permits along across seats seated = record { along = seated.across; across = seated.along; used = λ c. seated.used c ∙ used_turned along across c }
 
 -- ---- more chains and keys
 pub grown_same : (table : Chained) → IsGrown table table
@@ -99,15 +99,15 @@ grown_chains old new chains homes more = record {
   more_keys = omega (arith, ap length homes);
 }
 
-pub within_grown : (along ends longer longer_ends : Chained) (seats new : Seated) (size more : ℕ) → IsWithin along ends seats size → IsGrown along longer → IsGrown ends longer_ends → ((c : ℕ) → seat new c ≡ seat seats c) → size ≤ more
-    → IsWithin longer longer_ends new more
-within_grown along ends longer longer_ends seats new size more within grown grown_ends same bound c sat =
+pub within_grown : (along across longer longer_across : Chained) (seats new : Seated) (size more : ℕ) → IsWithin along across seats size → IsGrown along longer → IsGrown across longer_across → ((c : ℕ) → seat new c ≡ seat seats c) → size ≤ more
+    → IsWithin longer longer_across new more
+within_grown along across longer longer_across seats new size more within grown grown_across same bound c sat =
     let old = within c (sym (ap is_some (same c)) ∙ sat) in
-    (omega (arith, old.0, grown.more), omega (arith, old.1, grown_ends.more), omega (arith, old.2, bound))
+    (omega (arith, old.0, grown.more), omega (arith, old.1, grown_across.more), omega (arith, old.2, bound))
 
-pub within_sits : (along ends : Chained) (seats new : Seated) (size : ℕ) (t : Txn) (s : ℕ) → IsWithin along ends seats size → Sits t s seats new → s < length along.chains → s < length ends.chains → s < size → IsWithin along ends new size
-within_sits along ends seats new size t s within sits first second third c sat = go (eqb c s) refl where
-  go : (b : Bool) → eqb c s ≡ b → (c < length along.chains) × (c < length ends.chains) × (c < size)
+pub within_sits : (along across : Chained) (seats new : Seated) (size : ℕ) (t : Txn) (s : ℕ) → IsWithin along across seats size → Sits t s seats new → s < length along.chains → s < length across.chains → s < size → IsWithin along across new size
+within_sits along across seats new size t s within sits first second third c sat = go (eqb c s) refl where
+  go : (b : Bool) → eqb c s ≡ b → (c < length along.chains) × (c < length across.chains) × (c < size)
   go true e = let here : c ≡ s = eqb-true c s e in rw here (first, second, third)
   go false e = within c (sym (ap is_some (sits.seats c ∙ ap (λ (b : Bool). cond b (Some t) (seat seats c)) e)) ∙ sat)
 
@@ -122,13 +122,13 @@ pub sits_down : (t : Txn) (s : ℕ) (old new : Seated) → seat old s ≡ None �
 sits_down t s old new free seats = record { seats = seats; same = λ some. absurd (true≢false (sym some ∙ ap is_some free)) }
 
 -- one who has just sat down, and whose chains are not used, leaves again
-pub left_again : (giver : Txn) (from : ℕ) (along ends longer longer_ends : Chained) (old mid same new : Seated) → ((c : ℕ) → is_some (seat old c) ≡ is_used along ends c) → Sits giver from old mid → ((c : ℕ) → seat same c ≡ seat mid c)
-    → IsGrown along longer → IsGrown ends longer_ends → ((c : ℕ) → seat new c ≡ cond (eqb c from && not (is_used longer longer_ends c)) None (seat same c)) → (c : ℕ) → seat new c ≡ seat old c
-left_again giver from along ends longer longer_ends old mid same new used sits same_is grown grown_ends leaves c = leaves c ∙ go (eqb c from) refl where
-  still : is_used longer longer_ends c ≡ is_some (seat old c)
-  still = used_same along ends longer longer_ends c (grown.chains c) (grown_ends.chains c) ∙ sym (used c)
+pub left_again : (giver : Txn) (from : ℕ) (along across longer longer_across : Chained) (old mid same new : Seated) → ((c : ℕ) → is_some (seat old c) ≡ is_used along across c) → Sits giver from old mid → ((c : ℕ) → seat same c ≡ seat mid c)
+    → IsGrown along longer → IsGrown across longer_across → ((c : ℕ) → seat new c ≡ cond (eqb c from && not (is_used longer longer_across c)) None (seat same c)) → (c : ℕ) → seat new c ≡ seat old c
+left_again giver from along across longer longer_across old mid same new used sits same_is grown grown_across leaves c = leaves c ∙ go (eqb c from) refl where
+  still : is_used longer longer_across c ≡ is_some (seat old c)
+  still = used_same along across longer longer_across c (grown.chains c) (grown_across.chains c) ∙ sym (used c)
 
-  at : (o : Option Txn) → seat old c ≡ o → c ≡ from → cond (not (is_used longer longer_ends c)) None (seat same c) ≡ seat old c
+  at : (o : Option Txn) → seat old c ≡ o → c ≡ from → cond (not (is_used longer longer_across c)) None (seat same c) ≡ seat old c
   at None e here = ap (λ (b : Bool). cond (not b) None (seat same c)) (still ∙ ap is_some e) ∙ sym e
   at (Some t) e here =
       let sat : seat old from ≡ Some t = ap (seat old) (sym here) ∙ e in
@@ -139,6 +139,6 @@ left_again giver from along ends longer longer_ends old mid same new used sits s
       ∙ sym (sits.same (ap is_some sat))
       ∙ ap (seat old) (sym here)
 
-  go : (b : Bool) → eqb c from ≡ b → cond (eqb c from && not (is_used longer longer_ends c)) None (seat same c) ≡ seat old c
-  go true e = ap (λ (b : Bool). cond (b && not (is_used longer longer_ends c)) None (seat same c)) e ∙ at (seat old c) refl (eqb-true c from e)
-  go false e = ap (λ (b : Bool). cond (b && not (is_used longer longer_ends c)) None (seat same c)) e ∙ same_is c ∙ sits_apart giver from old mid sits c (eqb-false c from e)
+  go : (b : Bool) → eqb c from ≡ b → cond (eqb c from && not (is_used longer longer_across c)) None (seat same c) ≡ seat old c
+  go true e = ap (λ (b : Bool). cond (b && not (is_used longer longer_across c)) None (seat same c)) e ∙ at (seat old c) refl (eqb-true c from e)
+  go false e = ap (λ (b : Bool). cond (b && not (is_used longer longer_across c)) None (seat same c)) e ∙ same_is c ∙ sits_apart giver from old mid sits c (eqb-false c from e)

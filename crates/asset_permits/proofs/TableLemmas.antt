@@ -11,8 +11,8 @@ use Rattle.asset_seats.specs.Seated.{Seated, seat}
 use Rattle.asset_permits.specs.Descriptors.{Descriptor, stands}
 use Rattle.asset_permits.specs.Valid.{Parts, parts, descriptors_of, is_used, IsSeated, IsNamed, IsWithin, IsValid}
 use Rattle.asset_permits.specs.Changes.{IsGrown, BothSit, Shrinks}
-use Rattle.asset_permits.proofs.SeatLemmas.{used_same, used_along, used_ends, home_along, home_at_end}
-use Rattle.asset_permits.proofs.SearchLemmas.{has_ends}
+use Rattle.asset_permits.proofs.SeatLemmas.{used_same, used_along, used_across, home_along, home_at_end}
+use Rattle.asset_permits.proofs.SearchLemmas.{has_across}
 use Rattle.asset_permits.proofs.SlotLemmas.{IsRidOf, key_of_standing, stands_at, any_has, key_of_any}
 use Rattle.asset_marks.proofs.MarkLemmas.{same_truth}
 use Rattle.asset_permits.proofs.CopyLemmas.{any_cut}
@@ -28,15 +28,15 @@ pub not_given : (p : Parts) (size : ℕ) → IsValid p size → (e : Descriptor)
 not_given p size valid e absent =
     false_from_ne_true _ (λ there.
     let found = key_of_standing p.permits e there in
-    let ends = has_ends p size valid found.0 e found.1 in
-    absent ends.from ends.giver)
+    let across = has_across p size valid found.0 e found.1 in
+    absent across.from across.giver)
 
 pub not_taken : (p : Parts) (size : ℕ) → IsValid p size → (e : Descriptor) → ((c : ℕ) → seat p.seats c ≡ Some (record { 0 = e.taker }) → ⊥) → stands (descriptors_of p.permits) e ≡ false
 not_taken p size valid e absent =
     false_from_ne_true _ (λ there.
     let found = key_of_standing p.permits e there in
-    let ends = has_ends p size valid found.0 e found.1 in
-    absent ends.to ends.taker)
+    let across = has_across p size valid found.0 e found.1 in
+    absent across.to across.taker)
 
 found_stands : (permits : Slab Descriptor) (e : Descriptor) (result : Option ℕ) → IfSome result (λ k. get permits k ≡ Some e) → (stands (descriptors_of permits) e ≡ true → IfNone result ⊥) → is_some result ≡ stands (descriptors_of permits) e
 found_stands permits e None found absent = sym (false_from_ne_true _ (λ there. absent there))
@@ -51,33 +51,33 @@ pub found_given : (p : Parts) (size : ℕ) → IsValid p size → (e : Descripto
 found_given p size valid e from alone result found absent =
     found_stands p.permits e result found (λ there. never result _ absent (λ none.
     let at = key_of_standing p.permits e there in
-    let ends = has_ends p size valid at.0 e at.1 in
-    none at.0 (ends.home ∙ ap Some (alone ends.from ends.giver)) at.1))
+    let across = has_across p size valid at.0 e at.1 in
+    none at.0 (across.home ∙ ap Some (alone across.from across.giver)) at.1))
 
 pub found_taken : (p : Parts) (size : ℕ) → IsValid p size → (e : Descriptor) (to : ℕ) → ((c : ℕ) → seat p.seats c ≡ Some (record { 0 = e.taker }) → c ≡ to) → (result : Option ℕ) → IfSome result (λ k. get p.permits k ≡ Some e)
-    → IfNone result ((k : ℕ) → home_of p.ends k ≡ Some to → get p.permits k ≡ Some e → ⊥) → is_some result ≡ stands (descriptors_of p.permits) e
+    → IfNone result ((k : ℕ) → home_of p.across k ≡ Some to → get p.permits k ≡ Some e → ⊥) → is_some result ≡ stands (descriptors_of p.permits) e
 found_taken p size valid e to alone result found absent =
     found_stands p.permits e result found (λ there. never result _ absent (λ none.
     let at = key_of_standing p.permits e there in
-    let ends = has_ends p size valid at.0 e at.1 in
-    none at.0 (ends.end ∙ ap Some (alone ends.to ends.taker)) at.1))
+    let across = has_across p size valid at.0 e at.1 in
+    none at.0 (across.end ∙ ap Some (alone across.to across.taker)) at.1))
 
 -- a seat that is a home has its mark
-pub marked_end : (p : Parts) (size : ℕ) → IsValid p size → IsSound p.ends → (k c : ℕ) → home_of p.ends k ≡ Some c → c < size
-marked_end p size valid sound k c home = (valid.within c (valid.seated.used c ∙ used_ends p.along p.ends k c sound home)).2
+pub marked_end : (p : Parts) (size : ℕ) → IsValid p size → IsSound p.across → (k c : ℕ) → home_of p.across k ≡ Some c → c < size
+marked_end p size valid sound k c home = (valid.within c (valid.seated.used c ∙ used_across p.along p.across k c sound home)).2
 
 pub marked_home : (p : Parts) (size : ℕ) → IsValid p size → IsSound p.along → (k c : ℕ) → home_of p.along k ≡ Some c → c < size
-marked_home p size valid sound k c home = (valid.within c (valid.seated.used c ∙ used_along p.along p.ends k c sound home)).2
+marked_home p size valid sound k c home = (valid.within c (valid.seated.used c ∙ used_along p.along p.across k c sound home)).2
 
 -- ---- a new table
-pub valid_nothing : (permits : Slab Descriptor) (along ends : Chained) (seats : Seated) (size : ℕ) → permits.slots ≡ [] → along.chains ≡ [] → along.homes ≡ [] → ends.chains ≡ [] → ends.homes ≡ [] → ((c : ℕ) → seat seats c ≡ None)
-    → IsValid (parts permits along ends seats) size
+pub valid_nothing : (permits : Slab Descriptor) (along across : Chained) (seats : Seated) (size : ℕ) → permits.slots ≡ [] → along.chains ≡ [] → along.homes ≡ [] → across.chains ≡ [] → across.homes ≡ [] → ((c : ℕ) → seat seats c ≡ None)
+    → IsValid (parts permits along across seats) size
 unfolding is_used
-valid_nothing permits along ends seats size none chains homes chains_ends homes_ends nobody = record {
+valid_nothing permits along across seats size none chains homes chains_across homes_across nobody = record {
   seated = record {
     along = λ k. ap is_some (nothing k) ∙ sym (ap is_some (no_home_of along homes k));
-    ends = λ k. ap is_some (nothing k) ∙ sym (ap is_some (no_home_of ends homes_ends k));
-    used = λ c. ap is_some (nobody c) ∙ sym (λ i. is_some (first_of (no_chain_of along chains c i)) || is_some (first_of (no_chain_of ends chains_ends c i)));
+    across = λ k. ap is_some (nothing k) ∙ sym (ap is_some (no_home_of across homes_across k));
+    used = λ c. ap is_some (nobody c) ∙ sym (λ i. is_some (first_of (no_chain_of along chains c i)) || is_some (first_of (no_chain_of across chains_across c i)));
   };
   given = λ k c d there home. cc (sym there ∙ nothing k);
   taken = λ k c d there home. cc (sym there ∙ nothing k);
@@ -99,20 +99,20 @@ slots_stand permits more same = ap (λ (l : List (Option Descriptor)). filter_ma
 pub slot_same : (permits more : Slab Descriptor) → more.slots ≡ permits.slots → (k : ℕ) → get more k ≡ get permits k
 slot_same permits more same k = ap (λ (l : List (Option Descriptor)). slice_index_or l k None) same
 
-pub seated_grown : (permits more : Slab Descriptor) (along longer ends longer_ends : Chained) (seats new : Seated) → IsSeated (parts permits along ends seats) → more.slots ≡ permits.slots → IsGrown along longer → IsGrown ends longer_ends
-    → ((c : ℕ) → seat new c ≡ seat seats c) → IsSeated (parts more longer longer_ends new)
-seated_grown permits more along longer ends longer_ends seats new seated slots grown grown_ends same = record {
+pub seated_grown : (permits more : Slab Descriptor) (along longer across longer_across : Chained) (seats new : Seated) → IsSeated (parts permits along across seats) → more.slots ≡ permits.slots → IsGrown along longer → IsGrown across longer_across
+    → ((c : ℕ) → seat new c ≡ seat seats c) → IsSeated (parts more longer longer_across new)
+seated_grown permits more along longer across longer_across seats new seated slots grown grown_across same = record {
   along = λ k. ap is_some (slot_same permits more slots k) ∙ seated.along k ∙ sym (ap is_some (grown.homes k));
-  ends = λ k. ap is_some (slot_same permits more slots k) ∙ seated.ends k ∙ sym (ap is_some (grown_ends.homes k));
-  used = λ c. ap is_some (same c) ∙ seated.used c ∙ sym (used_same along ends longer longer_ends c (grown.chains c) (grown_ends.chains c));
+  across = λ k. ap is_some (slot_same permits more slots k) ∙ seated.across k ∙ sym (ap is_some (grown_across.homes k));
+  used = λ c. ap is_some (same c) ∙ seated.used c ∙ sym (used_same along across longer longer_across c (grown.chains c) (grown_across.chains c));
 }
 
-pub valid_grown : (permits more : Slab Descriptor) (along longer ends longer_ends : Chained) (seats new : Seated) (size most : ℕ) → IsValid (parts permits along ends seats) size → more.slots ≡ permits.slots → IsGrown along longer → IsGrown ends longer_ends
-    → ((c : ℕ) → seat new c ≡ seat seats c) → IsWithin longer longer_ends new most → IsValid (parts more longer longer_ends new) most
-valid_grown permits more along longer ends longer_ends seats new size most valid slots grown grown_ends same within = record {
-  seated = seated_grown permits more along longer ends longer_ends seats new valid.seated slots grown grown_ends same;
+pub valid_grown : (permits more : Slab Descriptor) (along longer across longer_across : Chained) (seats new : Seated) (size most : ℕ) → IsValid (parts permits along across seats) size → more.slots ≡ permits.slots → IsGrown along longer → IsGrown across longer_across
+    → ((c : ℕ) → seat new c ≡ seat seats c) → IsWithin longer longer_across new most → IsValid (parts more longer longer_across new) most
+valid_grown permits more along longer across longer_across seats new size most valid slots grown grown_across same within = record {
+  seated = seated_grown permits more along longer across longer_across seats new valid.seated slots grown grown_across same;
   given = λ k c d there home. same c ∙ valid.given k c d (sym (slot_same permits more slots k) ∙ there) (sym (grown.homes k) ∙ home);
-  taken = λ k c d there home. same c ∙ valid.taken k c d (sym (slot_same permits more slots k) ∙ there) (sym (grown_ends.homes k) ∙ home);
+  taken = λ k c d there home. same c ∙ valid.taken k c d (sym (slot_same permits more slots k) ∙ there) (sym (grown_across.homes k) ∙ home);
   single = λ j k d here there. valid.single j k d (sym (slot_same permits more slots j) ∙ here) (sym (slot_same permits more slots k) ∙ there);
   within = within;
 }
@@ -123,17 +123,17 @@ first_pushed : (keys : List ℕ) (k : ℕ) → is_some (first_of (keys ++ k ∷ 
 first_pushed [] k = refl
 first_pushed (y ∷ keys) k = refl
 
-module _ (permits more : Slab Descriptor) (along longer ends longer_ends : Chained) (seats new : Seated) (size most : ℕ) (d : Descriptor) (key from to : ℕ)
-    (valid : IsValid (parts permits along ends seats) size) (sits : BothSit (record { 0 = d.giver }) (record { 0 = d.taker }) from to seats new)
+module _ (permits more : Slab Descriptor) (along longer across longer_across : Chained) (seats new : Seated) (size most : ℕ) (d : Descriptor) (key from to : ℕ)
+    (valid : IsValid (parts permits along across seats) size) (sits : BothSit (record { 0 = d.giver }) (record { 0 = d.taker }) from to seats new)
     (put : Updates permits more key (Some d)) (none : stands (descriptors_of permits) d ≡ false)
-    (change : IsPushed from key along longer) (change_ends : IsPushed to key ends longer_ends) where
-  used_more : (c : ℕ) → is_some (seat new c) ≡ is_used longer longer_ends c
+    (change : IsPushed from key along longer) (change_across : IsPushed to key across longer_across) where
+  used_more : (c : ℕ) → is_some (seat new c) ≡ is_used longer longer_across c
   unfolding is_used
   used_more c = elim (cases_eq c from) [
-    | inl here ↦ ap is_some (ap (seat new) here ∙ sits.giver_sits) ∙ sym (left_used (is_some (first_of (chain_of longer_ends c))) (ap (λ (keys : List ℕ). is_some (first_of keys)) (ap (chain_of longer) here ∙ change.chain) ∙ first_pushed (chain_of along from) key))
+    | inl here ↦ ap is_some (ap (seat new) here ∙ sits.giver_sits) ∙ sym (left_used (is_some (first_of (chain_of longer_across c))) (ap (λ (keys : List ℕ). is_some (first_of keys)) (ap (chain_of longer) here ∙ change.chain) ∙ first_pushed (chain_of along from) key))
     | inr apart ↦ elim (cases_eq c to) [
-      | inl here ↦ ap is_some (ap (seat new) here ∙ sits.taker_sits) ∙ sym (right_used (is_some (first_of (chain_of longer c))) (ap (λ (keys : List ℕ). is_some (first_of keys)) (ap (chain_of longer_ends) here ∙ change_ends.chain) ∙ first_pushed (chain_of ends to) key))
-      | inr differ ↦ ap is_some (sits.others c apart differ) ∙ valid.seated.used c ∙ sym (λ i. is_some (first_of (change.chains c apart i)) || is_some (first_of (change_ends.chains c differ i)))
+      | inl here ↦ ap is_some (ap (seat new) here ∙ sits.taker_sits) ∙ sym (right_used (is_some (first_of (chain_of longer c))) (ap (λ (keys : List ℕ). is_some (first_of keys)) (ap (chain_of longer_across) here ∙ change_across.chain) ∙ first_pushed (chain_of across to) key))
+      | inr differ ↦ ap is_some (sits.others c apart differ) ∙ valid.seated.used c ∙ sym (λ i. is_some (first_of (change.chains c apart i)) || is_some (first_of (change_across.chains c differ i)))
     ]
   ] where
     left_used : (q : Bool) → {p : Bool} → p ≡ true → (p || q) ≡ true
@@ -143,13 +143,13 @@ module _ (permits more : Slab Descriptor) (along longer ends longer_ends : Chain
     right_used true e = refl
     right_used false e = e
 
-  pub valid_added : IsWithin along ends new most → IsValid (parts more longer longer_ends new) most
+  pub valid_added : IsWithin along across new most → IsValid (parts more longer longer_across new) most
   valid_added within = record {
-    seated = record { along = placed; ends = placed_ends; used = used_more };
+    seated = record { along = placed; across = placed_across; used = used_more };
     given = given;
     taken = taken;
     single = single;
-    within = λ c sat. let old = within c sat in (omega (arith, old.0, change.same_chains), omega (arith, old.1, change_ends.same_chains), old.2);
+    within = λ c sat. let old = within c sat in (omega (arith, old.0, change.same_chains), omega (arith, old.1, change_across.same_chains), old.2);
   } where
     placed : (k : ℕ) → is_some (get more k) ≡ is_some (home_of longer k)
     placed k = elim (cases_eq k key) [
@@ -157,10 +157,10 @@ module _ (permits more : Slab Descriptor) (along longer ends longer_ends : Chain
       | inr other ↦ ap is_some (put.others k other) ∙ valid.seated.along k ∙ sym (ap is_some (change.homes k other))
     ]
 
-    placed_ends : (k : ℕ) → is_some (get more k) ≡ is_some (home_of longer_ends k)
-    placed_ends k = elim (cases_eq k key) [
-      | inl here ↦ ap is_some (ap (get more) here ∙ put.changed) ∙ sym (ap is_some (ap (home_of longer_ends) here ∙ change_ends.home))
-      | inr other ↦ ap is_some (put.others k other) ∙ valid.seated.ends k ∙ sym (ap is_some (change_ends.homes k other))
+    placed_across : (k : ℕ) → is_some (get more k) ≡ is_some (home_of longer_across k)
+    placed_across k = elim (cases_eq k key) [
+      | inl here ↦ ap is_some (ap (get more) here ∙ put.changed) ∙ sym (ap is_some (ap (home_of longer_across) here ∙ change_across.home))
+      | inr other ↦ ap is_some (put.others k other) ∙ valid.seated.across k ∙ sym (ap is_some (change_across.homes k other))
     ]
 
     given : IsNamed (λ (d : Descriptor). d.giver) more longer new
@@ -174,15 +174,15 @@ module _ (permits more : Slab Descriptor) (along longer ends longer_ends : Chain
       | inr other ↦ sits.kept c (record { 0 = e.giver }) (valid.given k c e (sym (put.others k other) ∙ there) (sym (change.homes k other) ∙ home))
     ]
 
-    taken : IsNamed (λ (d : Descriptor). d.taker) more longer_ends new
+    taken : IsNamed (λ (d : Descriptor). d.taker) more longer_across new
     taken k c e there home = elim (cases_eq k key) [
       | inl here ↦
           let same : Some e ≡ Some d = sym there ∙ ap (get more) here ∙ put.changed in
-          let seat_is : Some c ≡ Some to = sym home ∙ ap (home_of longer_ends) here ∙ change_ends.home in
+          let seat_is : Some c ≡ Some to = sym home ∙ ap (home_of longer_across) here ∙ change_across.home in
           let at : c ≡ to = cc seat_is in
           let is : e ≡ d = cc same in
           ap (seat new) at ∙ sits.taker_sits ∙ (λ i. Some (record { 0 = (sym is i).taker }))
-      | inr other ↦ sits.kept c (record { 0 = e.taker }) (valid.taken k c e (sym (put.others k other) ∙ there) (sym (change_ends.homes k other) ∙ home))
+      | inr other ↦ sits.kept c (record { 0 = e.taker }) (valid.taken k c e (sym (put.others k other) ∙ there) (sym (change_across.homes k other) ∙ home))
     ]
 
     twice : (k : ℕ) (e : Descriptor) → (k ≡ key → ⊥) → get more k ≡ Some e → get more key ≡ Some e → ⊥
@@ -204,9 +204,9 @@ module _ (permits more : Slab Descriptor) (along longer ends longer_ends : Chain
 
 -- ---- the permits of one transaction are gone
 pub rid_of : (old mid new : Parts) (size : ℕ) (t : Txn) (s : ℕ) → IsValid old size → seat old.seats s ≡ Some t → ((c : ℕ) → seat old.seats c ≡ Some t → c ≡ s) → Shrinks old mid → ((k : ℕ) → home_of mid.along k ≡ Some s → ⊥)
-    → ((k : ℕ) → (home_of old.along k ≡ Some s → ⊥) → get mid.permits k ≡ get old.permits k) → Shrinks mid new → IsSeated new → ((k : ℕ) → home_of new.ends k ≡ Some s → ⊥)
-    → ((k : ℕ) → (home_of mid.ends k ≡ Some s → ⊥) → get new.permits k ≡ get mid.permits k) → IsRidOf t.0 old.permits new.permits
-rid_of old mid new size t s valid sat alone first gone kept second seated gone_ends kept_ends = record {
+    → ((k : ℕ) → (home_of old.along k ≡ Some s → ⊥) → get mid.permits k ≡ get old.permits k) → Shrinks mid new → IsSeated new → ((k : ℕ) → home_of new.across k ≡ Some s → ⊥)
+    → ((k : ℕ) → (home_of mid.across k ≡ Some s → ⊥) → get new.permits k ≡ get mid.permits k) → IsRidOf t.0 old.permits new.permits
+rid_of old mid new size t s valid sat alone first gone kept second seated gone_across kept_across = record {
   still = λ k d there. first.permits k d (second.permits k d there);
   begins = λ k d there.
       let home = home_along new k d seated there in
@@ -215,16 +215,16 @@ rid_of old mid new size t s valid sat alone first gone kept second seated gone_e
       let at = valid.given k home.0 d old_there (first.along k home.0 (second.along k home.0 home.1)) in
       let here = alone home.0 (at ∙ (λ i. Some (record { 0 = is i }))) in
       gone k (second.along k s (home.1 ∙ ap Some here)));
-  ends = λ k d there.
+  across = λ k d there.
       let end = home_at_end new k d seated there in
       let old_there = first.permits k d (second.permits k d there) in
       ne_eqb d.taker t.0 (λ is.
-      let at = valid.taken k end.0 d old_there (first.ends k end.0 (second.ends k end.0 end.1)) in
+      let at = valid.taken k end.0 d old_there (first.across k end.0 (second.across k end.0 end.1)) in
       let here = alone end.0 (at ∙ (λ i. Some (record { 0 = is i }))) in
-      gone_ends k (end.1 ∙ ap Some here));
+      gone_across k (end.1 ∙ ap Some here));
   kept = λ k d there giver taker.
       let mid_there : get mid.permits k ≡ Some d = kept k (λ home. eqb-false d.giver t.0 giver (named t d.giver (sym (valid.given k s d there home) ∙ sat))) ∙ there in
-      kept_ends k (λ end. eqb-false d.taker t.0 taker (named t d.taker (sym (valid.taken k s d there (first.ends k s end)) ∙ sat))) ∙ mid_there;
+      kept_across k (λ end. eqb-false d.taker t.0 taker (named t d.taker (sym (valid.taken k s d there (first.across k s end)) ∙ sat))) ∙ mid_there;
 } where
   named : (t : Txn) (n : ℕ) → Some (record { 0 = n }) ≡ Some t → n ≡ t.0
   named t n same = let is : record { 0 = n } ≡ t = cc same in ap (λ (u : Txn). u.0) is
@@ -232,8 +232,8 @@ rid_of old mid new size t s valid sat alone first gone kept second seated gone_e
 pub rid_of_nobody : (p : Parts) (size : ℕ) (t : Txn) → IsValid p size → ((c : ℕ) → seat p.seats c ≡ Some t → ⊥) → IsRidOf t.0 p.permits p.permits
 rid_of_nobody p size t valid absent = record {
   still = λ k d there. there;
-  begins = λ k d there. ne_eqb d.giver t.0 (λ is. let ends = has_ends p size valid k d there in absent ends.from (ends.giver ∙ (λ i. Some (record { 0 = is i }))));
-  ends = λ k d there. ne_eqb d.taker t.0 (λ is. let ends = has_ends p size valid k d there in absent ends.to (ends.taker ∙ (λ i. Some (record { 0 = is i }))));
+  begins = λ k d there. ne_eqb d.giver t.0 (λ is. let across = has_across p size valid k d there in absent across.from (across.giver ∙ (λ i. Some (record { 0 = is i }))));
+  across = λ k d there. ne_eqb d.taker t.0 (λ is. let across = has_across p size valid k d there in absent across.to (across.taker ∙ (λ i. Some (record { 0 = is i }))));
   kept = λ k d there giver taker. there;
 }
 

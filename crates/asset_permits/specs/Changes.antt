@@ -30,7 +30,7 @@ pub record BothSit (giver taker : Txn) (from to : ℕ) (old new : Seated) : Type
 pub record Shrinks (old new : Parts) : Type 0 where
   pub permits : (k : ℕ) (d : Descriptor) → get new.permits k ≡ Some d → get old.permits k ≡ Some d
   pub along : (k c : ℕ) → home_of new.along k ≡ Some c → home_of old.along k ≡ Some c
-  pub ends : (k c : ℕ) → home_of new.ends k ≡ Some c → home_of old.ends k ≡ Some c
+  pub across : (k c : ℕ) → home_of new.across k ≡ Some c → home_of old.across k ≡ Some c
   pub seats : (c : ℕ) (t : Txn) → seat new.seats c ≡ Some t → seat old.seats c ≡ Some t
   pub many_along : length new.along.chains ≡ length old.along.chains
-  pub many_ends : length new.ends.chains ≡ length old.ends.chains
+  pub many_across : length new.across.chains ≡ length old.across.chains

@@ -10,25 +10,25 @@ use Rattle.asset_permits.specs.Descriptors.{Descriptor}
 unfoldable pub descriptors_of : Slab Descriptor → List Descriptor
 descriptors_of permits = filter_map (λ (slot : Option Descriptor). slot) permits.slots
 
--- the permits with the chains along which a search or an end goes, those of the other end, and the seats
+-- the permits with the chains along which a search or an end goes, those of the other sides, and the seats
 pub record Parts : Type 0 where
   pub permits : Slab Descriptor
   pub along : Chained
-  pub ends : Chained
+  pub across : Chained
   pub seats : Seated
 
 abbrev pub parts : Slab Descriptor → Chained → Chained → Seated → Parts
-parts permits along ends seats = record { permits = permits; along = along; ends = ends; seats = seats }
+parts permits along across seats = record { permits = permits; along = along; across = across; seats = seats }
 
 -- whether a permit is in the chain of a seat, in either partition
 unfoldable pub is_used : Chained → Chained → ℕ → Bool
-is_used along ends c = is_some (first_of (chain_of along c)) || is_some (first_of (chain_of ends c))
+is_used along across c = is_some (first_of (chain_of along c)) || is_some (first_of (chain_of across c))
 
 -- exactly the permits have homes, and exactly the seats that are taken have permits in their chains
 pub record IsSeated (p : Parts) : Type 0 where
   pub along : (k : ℕ) → is_some (get p.permits k) ≡ is_some (home_of p.along k)
-  pub ends : (k : ℕ) → is_some (get p.permits k) ≡ is_some (home_of p.ends k)
-  pub used : (c : ℕ) → is_some (seat p.seats c) ≡ is_used p.along p.ends c
+  pub across : (k : ℕ) → is_some (get p.permits k) ≡ is_some (home_of p.across k)
+  pub used : (c : ℕ) → is_some (seat p.seats c) ≡ is_used p.along p.across c
 
 -- a permit's home is the seat of its giver, or of its taker
 abbrev pub IsNamed : (Descriptor → ℕ) → Slab Descriptor → Chained → Seated → Type 0
@@ -37,13 +37,13 @@ IsNamed name_of permits table seats =
 
 -- each seat that is taken has its chains and its mark
 abbrev pub IsWithin : Chained → Chained → Seated → ℕ → Type 0
-IsWithin along ends seats size = (c : ℕ) → is_some (seat seats c) ≡ true → (c < length along.chains) × (c < length ends.chains) × (c < size)
+IsWithin along across seats size = (c : ℕ) → is_some (seat seats c) ≡ true → (c < length along.chains) × (c < length across.chains) × (c < size)
 
 -- a permit's homes are the seats of its giver and its taker, exactly those who give or take have a seat, and no permit
 -- stands twice
 pub record IsValid (p : Parts) (size : ℕ) : Type 0 where
   pub seated : IsSeated p
   pub given : IsNamed (λ (d : Descriptor). d.giver) p.permits p.along p.seats
-  pub taken : IsNamed (λ (d : Descriptor). d.taker) p.permits p.ends p.seats
+  pub taken : IsNamed (λ (d : Descriptor). d.taker) p.permits p.across p.seats
   pub single : (j k : ℕ) (d : Descriptor) → get p.permits j ≡ Some d → get p.permits k ≡ Some d → j ≡ k
-  pub within : IsWithin p.along p.ends p.seats size
+  pub within : IsWithin p.along p.across p.seats size

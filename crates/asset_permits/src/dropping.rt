@@ -16,27 +16,27 @@ use slab::Slab;
 pub(crate) fn drop_at(
     permits: &mut Slab<Permit>,
     along: &mut Chains,
-    ends: &mut Chains,
+    across: &mut Chains,
     seats: &mut Seats,
     key: usize,
 )
-    requires seated { IsSeated (parts permits.old along.old ends.old seats.old) }
+    requires seated { IsSeated (parts permits.old along.old across.old seats.old) }
     requires there { is_some (home_of along.old key) ≡ true }
-    ensures seated { IsSeated (parts permits.new along.new ends.new seats.new) }
-    ensures shrinks { Shrinks (parts permits.old along.old ends.old seats.old) (parts permits.new along.new ends.new seats.new) }
+    ensures seated { IsSeated (parts permits.new along.new across.new seats.new) }
+    ensures shrinks { Shrinks (parts permits.old along.old across.old seats.old) (parts permits.new along.new across.new seats.new) }
     ensures others { (k : ℕ) → k ≢ key → get permits.new k ≡ get permits.old k }
     ensures gone { get permits.new key ≡ None }
     ensures fewer { slab_len permits.new < slab_len permits.old }
 {
     along.laws();
-    ends.laws();
+    across.laws();
     if let Some(from) = along.home(key) {
-        if let Some(to) = ends.home(key) {
+        if let Some(to) = across.home(key) {
             along.unlink(key);
-            ends.unlink(key);
+            across.unlink(key);
             permits.try_remove(key);
-            leave_if_unused(along, ends, seats, from);
-            leave_if_unused(along, ends, seats, to);
+            leave_if_unused(along, across, seats, from);
+            leave_if_unused(along, across, seats, to);
         }
     }
 }
@@ -45,19 +45,19 @@ pub(crate) fn drop_at(
 pub(crate) fn drop_along(
     permits: &mut Slab<Permit>,
     along: &mut Chains,
-    ends: &mut Chains,
+    across: &mut Chains,
     seats: &mut Seats,
     seat: usize,
 )
-    requires { IsSeated (parts permits.old along.old ends.old seats.old) }
-    ensures seated { IsSeated (parts permits.new along.new ends.new seats.new) }
-    ensures shrinks { Shrinks (parts permits.old along.old ends.old seats.old) (parts permits.new along.new ends.new seats.new) }
+    requires { IsSeated (parts permits.old along.old across.old seats.old) }
+    ensures seated { IsSeated (parts permits.new along.new across.new seats.new) }
+    ensures shrinks { Shrinks (parts permits.old along.old across.old seats.old) (parts permits.new along.new across.new seats.new) }
     ensures gone { (k : ℕ) → home_of along.new k ≢ Some seat }
     ensures kept { (k : ℕ) → home_of along.old k ≢ Some seat → get permits.new k ≡ get permits.old k }
 {
     along.laws();
     'first: while let Some(key) = along.first(seat) {
-        drop_at(permits, along, ends, seats, key);
+        drop_at(permits, along, across, seats, key);
         along.laws();
     }
 }

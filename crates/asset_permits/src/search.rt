@@ -23,13 +23,13 @@ impl Pick<Permit> for Covered {
     }
 }
 
-/// The permits that cover an operation on an object, the chains along which a search goes, and those of their other ends.
+/// The permits that cover an operation on an object, the chains along which a search goes, and those of their other sides.
 /// The nodes are the seats.
 #[derive(Clone, Copy)]
 pub(crate) struct Search<'a> {
     pub permits: &'a Slab<Permit>,
     pub along: &'a Chains,
-    pub ends: &'a Chains,
+    pub across: &'a Chains,
     pub covered: Covered,
 }
 
@@ -37,13 +37,13 @@ impl<'a> Arrows for Search<'a> {
     ghost use Rattle.asset_marks.specs.Searched.{arrows_along};
     ghost use Rattle.asset_permits.specs.Descriptors.{covers};
 
-    ghost arrows = { λ s. arrows_along (covers s.covered.x.0 s.covered.op) s.permits.now s.along.now s.ends.now };
+    ghost arrows = { λ s. arrows_along (covers s.covered.x.0 s.covered.op) s.permits.now s.along.now s.across.now };
 
     fn expand(&self, node: usize, marks: &mut Marks) {
         let way = Way {
             items: self.permits,
             along: self.along,
-            ends: self.ends,
+            across: self.across,
         };
         expand_along(&way, &self.covered, node, marks);
     }

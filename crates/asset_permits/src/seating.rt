@@ -12,17 +12,17 @@ use asset_seats::{Seats, add_chains};
 
 /// Returns whether a permit is in one of the chains of the seat.
 #[tactic(auto, unfolding(crate::specs::Valid::is_used))]
-fn is_used(along: &Chains, ends: &Chains, c: usize) -> bool
-    ensures { result ≡ is_used along.now ends.now c }
+fn is_used(along: &Chains, across: &Chains, c: usize) -> bool
+    ensures { result ≡ is_used along.now across.now c }
 {
-    along.first(c).is_some() || ends.first(c).is_some()
+    along.first(c).is_some() || across.first(c).is_some()
 }
 
 /// Takes the seat from whoever has it, if no permit is in its chains.
-pub(crate) fn leave_if_unused(along: &Chains, ends: &Chains, seats: &mut Seats, c: usize)
-    ensures { (d : ℕ) → seat seats.new d ≡ cond (d == c && not (is_used along.now ends.now d)) None (seat seats.old d) }
+pub(crate) fn leave_if_unused(along: &Chains, across: &Chains, seats: &mut Seats, c: usize)
+    ensures { (d : ℕ) → seat seats.new d ≡ cond (d == c && not (is_used along.now across.now d)) None (seat seats.old d) }
 {
-    if !is_used(along, ends, c) {
+    if !is_used(along, across, c) {
         seats.leave(c);
     }
 }

@@ -164,7 +164,7 @@ impl Permits {
             let search = Search {
                 permits: &self.permits,
                 along: &self.by_giver,
-                ends: &self.by_taker,
+                across: &self.by_taker,
                 covered: Covered { x, op },
             };
             is_linked(&search, from, to, &mut self.marks)
@@ -172,7 +172,7 @@ impl Permits {
             let search = Search {
                 permits: &self.permits,
                 along: &self.by_taker,
-                ends: &self.by_giver,
+                across: &self.by_giver,
                 covered: Covered { x, op },
             };
             is_linked(&search, to, from, &mut self.marks)

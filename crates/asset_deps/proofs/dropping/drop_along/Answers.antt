@@ -7,7 +7,7 @@ use Rattle.asset_deps.proofs.DropLemmas.{shrinks_nothing, shrinks_then}
 use Rattle.asset_deps.proofs.dropping.drop_along.Goals as goal
 
 pub first-init : goal.first-init
-first-init c = record { placed = c.requires; sound = c.laws.ensures.sound; shrinks = shrinks_nothing c.args.links.now c.args.along.now c.args.ends.now; kept = λ k apart. refl }
+first-init c = record { placed = c.requires; sound = c.laws.ensures.sound; shrinks = shrinks_nothing c.args.links.now c.args.along.now c.args.across.now; kept = λ k apart. refl }
 
 pub drop_at-requires-clause-there : goal.drop_at-requires-clause-there
 drop_at-requires-clause-there c =
@@ -21,7 +21,7 @@ first-preserved c =
     record {
       placed = c.drop_at.ensures.placed;
       sound = c.laws-in-Some.ensures.sound;
-      shrinks = shrinks_then c.args.links.now c.first.links c.drop_at.new.links c.args.along.now c.first.along c.drop_at.new.along c.args.ends.now c.first.ends c.drop_at.new.ends c.first.invariant.shrinks c.drop_at.ensures.shrinks;
+      shrinks = shrinks_then c.args.links.now c.first.links c.drop_at.new.links c.args.along.now c.first.along c.drop_at.new.along c.args.across.now c.first.across c.drop_at.new.across c.first.invariant.shrinks c.drop_at.ensures.shrinks;
       kept = λ k apart.
           c.drop_at.ensures.others k (λ same. apart (ap (home_of c.args.along.now) same ∙ c.first.invariant.shrinks.along c.in-Some.key c.args.seat home)) ∙ c.first.invariant.kept k apart;
     }

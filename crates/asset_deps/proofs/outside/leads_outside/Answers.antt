@@ -17,4 +17,4 @@ pub returns-clause-met : goal.returns-clause-met
 returns-clause-met c = λ here u t met arrow.
     let way = c.args.way.now in
     let found = listed_at c.args.marks.now.nodes u met in
-    c.met.invariant found.0 (omega (arith, found.1, c.met-test.false, c.len.ensures.len)) t (subst (λ n. has_arrow (arrows_along (of_kinds Order) way.items.now way.along.now way.ends.now) n t ≡ true) (sym found.2) arrow)
+    c.met.invariant found.0 (omega (arith, found.1, c.met-test.false, c.len.ensures.len)) t (subst (λ n. has_arrow (arrows_along (of_kinds Order) way.items.now way.along.now way.across.now) n t ≡ true) (sym found.2) arrow)

@@ -8,7 +8,7 @@ use Rattle.asset_deps.proofs.outside.leads_outside.Given as goal
 -- none of the first few of the nodes leads outside
 abbrev pub invariant-met : goal.invariant-met
 invariant-met l =
-    (i : ℕ) → i < l.next → (t : ℕ) → has_arrow (arrows_along (of_kinds Order) l.way.items.now l.way.along.now l.way.ends.now) (get_or l.marks.nodes i 0) t ≡ true → lists l.marks.nodes t ≡ true
+    (i : ℕ) → i < l.next → (t : ℕ) → has_arrow (arrows_along (of_kinds Order) l.way.items.now l.way.along.now l.way.across.now) (get_or l.marks.nodes i 0) t ≡ true → lists l.marks.nodes t ≡ true
 
 abbrev pub decreases-met : goal.decreases-met
 decreases-met l = length l.marks.nodes - l.next

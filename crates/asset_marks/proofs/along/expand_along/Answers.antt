@@ -8,7 +8,7 @@ use Rattle.asset_marks.proofs.KeyWalkLemmas.{walk_starts, walk_steps, passed, le
 use Rattle.asset_marks.proofs.KeyedLemmas.{item_leads, item_of_arrow}
 use Rattle.asset_marks.proofs.WalkLemmas.{no_more, met_more, met_here, met_listed}
 use Rattle.asset_marks.proofs.along.expand_along.Goals as goal
-use Rattle.asset_marks.proofs.along.expand_along.Goals.{in-Some-end_of, in_default-end_of}
+use Rattle.asset_marks.proofs.along.expand_along.Goals.{in-Some-across_from, in_default-across_from}
 
 pub keys-init : goal.keys-init
 keys-init g c =
@@ -26,35 +26,35 @@ pub keys-preserved : goal.keys-preserved
 keys-preserved g c =
     let way = c.args.way.now in
     let test = g.P.Pick.passes c.args.pick.now in
-    let arrows = arrows_along test way.items.now way.along.now way.ends.now in
+    let arrows = arrows_along test way.items.now way.along.now way.across.now in
     let key = c.in-Some.key in
     let nodes = c.keys.marks.nodes in
     let home = c.keys.invariant.on key c.in-Some.is in
     let stepped = walk_steps way.along.now c.args.node key c.laws.ensures.sound home c.next-next.result (c.next-next.ensures.next c.args.node home) in
     let before = λ (k t : ℕ) (there : lists (ahead key (chain_of way.along.now c.args.node)) k ≡ true). c.keys.invariant.passed k t (ap (λ (o : Option ℕ). lists (passed o (chain_of way.along.now c.args.node)) k) c.in-Some.is ∙ there) in
-    elim c.match-end_of.branch [
-      | in-Some-end_of w ↦
-          let leads : leads_to test (get way.items.now key) (home_of way.ends.now key) ≡ Some w.in-Some-end_of.end = sym c.end_of.ensures ∙ w.in-Some-end_of.is in
-          let arrow = item_leads test way.items.now way.along.now way.ends.now key c.args.node w.in-Some-end_of.end home leads in
+    elim c.match-across_from.branch [
+      | in-Some-across_from w ↦
+          let leads : leads_to test (get way.items.now key) (home_of way.across.now key) ≡ Some w.in-Some-across_from.other = sym c.across_from.ensures ∙ w.in-Some-across_from.is in
+          let arrow = item_leads test way.items.now way.along.now way.across.now key c.args.node w.in-Some-across_from.other home leads in
           rw w.marks-is (record {
             size = w.meet.ensures.size ∙ c.keys.invariant.size;
             on = stepped.0;
-            more = met_more arrows c.args.node c.args.marks.now.nodes nodes w.meet.new.self.nodes w.in-Some-end_of.end c.keys.invariant.more arrow w.meet.ensures.nodes;
+            more = met_more arrows c.args.node c.args.marks.now.nodes nodes w.meet.new.self.nodes w.in-Some-across_from.other c.keys.invariant.more arrow w.meet.ensures.nodes;
             passed = λ k t there goes. elim (stepped.1 k there) [
               | inl here ↦
-                  let same : Some t ≡ Some w.in-Some-end_of.end = sym goes ∙ ap (λ n. leads_to test (get way.items.now n) (home_of way.ends.now n)) here ∙ leads in
-                  let is : t ≡ w.in-Some-end_of.end = cc same in
-                  ap (lists_node w.meet.new.self.nodes) is ∙ met_here nodes w.meet.new.self.nodes w.in-Some-end_of.end w.meet.ensures.nodes
-              | inr old ↦ met_listed nodes w.meet.new.self.nodes w.in-Some-end_of.end t w.meet.ensures.nodes (before k t old goes)
+                  let same : Some t ≡ Some w.in-Some-across_from.other = sym goes ∙ ap (λ n. leads_to test (get way.items.now n) (home_of way.across.now n)) here ∙ leads in
+                  let is : t ≡ w.in-Some-across_from.other = cc same in
+                  ap (lists_node w.meet.new.self.nodes) is ∙ met_here nodes w.meet.new.self.nodes w.in-Some-across_from.other w.meet.ensures.nodes
+              | inr old ↦ met_listed nodes w.meet.new.self.nodes w.in-Some-across_from.other t w.meet.ensures.nodes (before k t old goes)
             ];
           })
-      | in_default-end_of w ↦ rw w.marks-is (record {
+      | in_default-across_from w ↦ rw w.marks-is (record {
         size = c.keys.invariant.size;
         on = stepped.0;
         more = c.keys.invariant.more;
         passed = λ k t there goes. elim (stepped.1 k there) [
           | inl here ↦
-              let none : Some t ≡ None = sym goes ∙ ap (λ n. leads_to test (get way.items.now n) (home_of way.ends.now n)) here ∙ sym c.end_of.ensures ∙ w.in_default-end_of.is in
+              let none : Some t ≡ None = sym goes ∙ ap (λ n. leads_to test (get way.items.now n) (home_of way.across.now n)) here ∙ sym c.across_from.ensures ∙ w.in_default-across_from.is in
               cc none
           | inr old ↦ before k t old goes
         ];
@@ -72,7 +72,7 @@ returns-clause-expanded g c =
       kept = more.kept;
       is_linked = more.is_linked;
       all = λ t arrow.
-          let found = item_of_arrow test way.items.now way.along.now way.ends.now c.args.node t arrow in
+          let found = item_of_arrow test way.items.now way.along.now way.across.now c.args.node t arrow in
           c.keys.invariant.passed found.0 t (ap (λ (o : Option ℕ). lists (passed o chain) found.0) c.in_default.is ∙ c.laws.ensures.sound.listed c.args.node found.0 found.1) found.2;
     }
 
@@ -81,5 +81,5 @@ meet-requires g c =
     let way = c.args.way.now in
     let test = g.P.Pick.passes c.args.pick.now in
     let home = c.keys.invariant.on c.in-Some.key c.in-Some.is in
-    let arrow = item_leads test way.items.now way.along.now way.ends.now c.in-Some.key c.args.node c.in-Some-end_of.end home (sym c.end_of.ensures ∙ c.in-Some-end_of.is) in
-    subst (λ n. c.in-Some-end_of.end < n) (sym c.keys.invariant.size) (c.requires c.args.node c.in-Some-end_of.end arrow)
+    let arrow = item_leads test way.items.now way.along.now way.across.now c.in-Some.key c.args.node c.in-Some-across_from.other home (sym c.across_from.ensures ∙ c.in-Some-across_from.is) in
+    subst (λ n. c.in-Some-across_from.other < n) (sym c.keys.invariant.size) (c.requires c.args.node c.in-Some-across_from.other arrow)

@@ -12,8 +12,8 @@ abbrev pub invariant-keys : goal.invariant-keys
 invariant-keys g l = record {
   size : l.marks.size ≡ l.initial.marks.size;
   on : IsOn l.way.along.now l.node l.next;
-  more : IsMore (arrows_along (g.P.Pick.passes l.pick) l.way.items.now l.way.along.now l.way.ends.now) l.node l.initial.marks.nodes l.marks.nodes;
-  passed : (k t : ℕ) → lists (passed l.next (chain_of l.way.along.now l.node)) k ≡ true → leads_to (g.P.Pick.passes l.pick) (get l.way.items.now k) (home_of l.way.ends.now k) ≡ Some t → lists_node l.marks.nodes t ≡ true;
+  more : IsMore (arrows_along (g.P.Pick.passes l.pick) l.way.items.now l.way.along.now l.way.across.now) l.node l.initial.marks.nodes l.marks.nodes;
+  passed : (k t : ℕ) → lists (passed l.next (chain_of l.way.along.now l.node)) k ≡ true → leads_to (g.P.Pick.passes l.pick) (get l.way.items.now k) (home_of l.way.across.now k) ≡ Some t → lists_node l.marks.nodes t ≡ true;
 }
 
 abbrev pub decreases-keys : goal.decreases-keys

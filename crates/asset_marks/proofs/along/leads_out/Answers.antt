@@ -6,7 +6,7 @@ use Rattle.asset_marks.specs.Searched.{leads_to}
 use Rattle.asset_marks.proofs.KeyWalkLemmas.{walk_starts, walk_steps, passed, left}
 use Rattle.asset_marks.proofs.KeyedLemmas.{item_leads, item_of_arrow}
 use Rattle.asset_marks.proofs.along.leads_out.Goals as goal
-use Rattle.asset_marks.proofs.along.leads_out.Goals.{in-Some-end_of+else-not-has, in_default-end_of}
+use Rattle.asset_marks.proofs.along.leads_out.Goals.{in-Some-across_from+else-not-has, in_default-across_from}
 
 pub keys-init : goal.keys-init
 keys-init g c =
@@ -18,15 +18,15 @@ has-requires g c =
     let way = c.args.way.now in
     let test = g.P.Pick.passes c.args.pick.now in
     let home = c.keys.invariant.on c.in-Some.key c.in-Some.is in
-    c.requires c.args.node c.in-Some-end_of.end (item_leads test way.items.now way.along.now way.ends.now c.in-Some.key c.args.node c.in-Some-end_of.end home (sym c.end_of.ensures ∙ c.in-Some-end_of.is))
+    c.requires c.args.node c.in-Some-across_from.other (item_leads test way.items.now way.along.now way.across.now c.in-Some.key c.args.node c.in-Some-across_from.other home (sym c.across_from.ensures ∙ c.in-Some-across_from.is))
 
 pub returns-then-not-has-clause-leads : goal.returns-then-not-has-clause-leads
 returns-then-not-has-clause-leads g c = λ here.
     let way = c.args.way.now in
     let test = g.P.Pick.passes c.args.pick.now in
     let home = c.keys.invariant.on c.in-Some.key c.in-Some.is in (
-      c.in-Some-end_of.end,
-      item_leads test way.items.now way.along.now way.ends.now c.in-Some.key c.args.node c.in-Some-end_of.end home (sym c.end_of.ensures ∙ c.in-Some-end_of.is),
+      c.in-Some-across_from.other,
+      item_leads test way.items.now way.along.now way.across.now c.in-Some.key c.args.node c.in-Some-across_from.other home (sym c.across_from.ensures ∙ c.in-Some-across_from.is),
       sym c.has.ensures ∙ c.if-not-has.true,
     )
 
@@ -45,22 +45,22 @@ keys-preserved g c =
     let home = c.keys.invariant.on key c.in-Some.is in
     let stepped = walk_steps way.along.now c.args.node key c.laws.ensures.sound home c.next-next.result (c.next-next.ensures.next c.args.node home) in
     let before = λ (k t : ℕ) (there : lists (ahead key (chain_of way.along.now c.args.node)) k ≡ true). c.keys.invariant.passed k t (ap (λ (o : Option ℕ). lists (passed o (chain_of way.along.now c.args.node)) k) c.in-Some.is ∙ there) in
-    elim c.match-end_of.branch [
-      | in-Some-end_of+else-not-has w ↦ record {
+    elim c.match-across_from.branch [
+      | in-Some-across_from+else-not-has w ↦ record {
         on = stepped.0;
         passed = λ k t there goes. elim (stepped.1 k there) [
           | inl here ↦
-              let same : Some t ≡ Some w.in-Some-end_of.end = sym goes ∙ ap (λ n. leads_to test (get way.items.now n) (home_of way.ends.now n)) here ∙ sym c.end_of.ensures ∙ w.in-Some-end_of.is in
-              let is : t ≡ w.in-Some-end_of.end = cc same in
+              let same : Some t ≡ Some w.in-Some-across_from.other = sym goes ∙ ap (λ n. leads_to test (get way.items.now n) (home_of way.across.now n)) here ∙ sym c.across_from.ensures ∙ w.in-Some-across_from.is in
+              let is : t ≡ w.in-Some-across_from.other = cc same in
               ap (lists_node c.args.marks.now.nodes) is ∙ sym w.has.ensures ∙ w.if-not-has.false
           | inr old ↦ before k t old goes
         ];
       }
-      | in_default-end_of w ↦ record {
+      | in_default-across_from w ↦ record {
         on = stepped.0;
         passed = λ k t there goes. elim (stepped.1 k there) [
           | inl here ↦
-              let none : Some t ≡ None = sym goes ∙ ap (λ n. leads_to test (get way.items.now n) (home_of way.ends.now n)) here ∙ sym c.end_of.ensures ∙ w.in_default-end_of.is in
+              let none : Some t ≡ None = sym goes ∙ ap (λ n. leads_to test (get way.items.now n) (home_of way.across.now n)) here ∙ sym c.across_from.ensures ∙ w.in_default-across_from.is in
               cc none
           | inr old ↦ before k t old goes
         ];
@@ -72,5 +72,5 @@ returns-clause-met g c = λ here t arrow.
     let way = c.args.way.now in
     let test = g.P.Pick.passes c.args.pick.now in
     let chain = chain_of way.along.now c.args.node in
-    let found = item_of_arrow test way.items.now way.along.now way.ends.now c.args.node t arrow in
+    let found = item_of_arrow test way.items.now way.along.now way.across.now c.args.node t arrow in
     c.keys.invariant.passed found.0 t (ap (λ (o : Option ℕ). lists (passed o chain) found.0) c.in_default.is ∙ c.laws.ensures.sound.listed c.args.node found.0 found.1) found.2

@@ -10,7 +10,7 @@ use Rattle.asset_marks.proofs.along.leads_out.Given as goal
 abbrev pub invariant-keys : goal.invariant-keys
 invariant-keys g l = record {
   on : IsOn l.way.along.now l.node l.next;
-  passed : (k t : ℕ) → lists (passed l.next (chain_of l.way.along.now l.node)) k ≡ true → leads_to (g.P.Pick.passes l.pick) (get l.way.items.now k) (home_of l.way.ends.now k) ≡ Some t → lists_node l.marks.nodes t ≡ true;
+  passed : (k t : ℕ) → lists (passed l.next (chain_of l.way.along.now l.node)) k ≡ true → leads_to (g.P.Pick.passes l.pick) (get l.way.items.now k) (home_of l.way.across.now k) ≡ Some t → lists_node l.marks.nodes t ≡ true;
 }
 
 abbrev pub decreases-keys : goal.decreases-keys

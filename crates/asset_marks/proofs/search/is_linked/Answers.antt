@@ -3,7 +3,7 @@ use Rattle.std.proofs.lemmas.Bool.{true≢false, ne_eqb}
 use Rattle.asset_names.specs.Arrows.{lists}
 use Rattle.asset_marks.specs.Searched.{Expands}
 use Rattle.asset_marks.proofs.MarkLemmas.{lists_at}
-use Rattle.asset_marks.proofs.WalkLemmas.{walk_from, walk_on, walk_ends}
+use Rattle.asset_marks.proofs.WalkLemmas.{walk_from, walk_on, walk_across}
 use Rattle.asset_marks.proofs.search.is_linked.Goals as goal
 
 pub met-init : goal.met-init
@@ -23,4 +23,4 @@ met-preserved g c =
 
 pub returns-clause-is_linked : goal.returns-clause-is_linked
 returns-clause-is_linked g c =
-    sym (walk_ends _ _ _ c.met.marks.nodes c.met.next c.met.invariant.1 (omega (arith, c.met-test.false, c.len.ensures.len)) c.requires.another)
+    sym (walk_across _ _ _ c.met.marks.nodes c.met.next c.met.invariant.1 (omega (arith, c.met-test.false, c.len.ensures.len)) c.requires.another)

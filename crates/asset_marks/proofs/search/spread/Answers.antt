@@ -1,6 +1,6 @@
 use Rattle.std.proofs.Common.{◌<◌, ◌∙◌, subst, get_or, length, arith}
 use Rattle.asset_marks.specs.Searched.{Expands}
-use Rattle.asset_marks.proofs.WalkLemmas.{spread_from, spread_on, spread_ends}
+use Rattle.asset_marks.proofs.WalkLemmas.{spread_from, spread_on, spread_across}
 use Rattle.asset_marks.proofs.search.spread.Goals as goal
 
 pub met-init : goal.met-init
@@ -17,4 +17,4 @@ met-preserved g c =
     (c.expand.ensures.size ∙ c.met.invariant.0, spread_on arrows c.args.from nodes after c.met.next c.met.invariant.1 below expanded)
 
 pub returns-clause-met : goal.returns-clause-met
-returns-clause-met g c = spread_ends _ _ c.met.marks.nodes c.met.next c.met.invariant.1 (omega (arith, c.met-test.false, c.len.ensures.len))
+returns-clause-met g c = spread_across _ _ c.met.marks.nodes c.met.next c.met.invariant.1 (omega (arith, c.met-test.false, c.len.ensures.len))

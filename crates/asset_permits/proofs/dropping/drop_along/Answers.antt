@@ -19,7 +19,7 @@ first-preserved c =
     record {
       seated = c.drop_at.ensures.seated;
       sound = c.laws-in-Some.ensures.sound;
-      shrinks = shrinks_then (parts c.args.permits.now c.args.along.now c.args.ends.now c.args.seats.now) (parts c.first.permits c.first.along c.first.ends c.first.seats) (parts c.drop_at.new.permits c.drop_at.new.along c.drop_at.new.ends c.drop_at.new.seats) c.first.invariant.shrinks c.drop_at.ensures.shrinks;
+      shrinks = shrinks_then (parts c.args.permits.now c.args.along.now c.args.across.now c.args.seats.now) (parts c.first.permits c.first.along c.first.across c.first.seats) (parts c.drop_at.new.permits c.drop_at.new.along c.drop_at.new.across c.drop_at.new.seats) c.first.invariant.shrinks c.drop_at.ensures.shrinks;
       kept = λ k apart.
           c.drop_at.ensures.others k (λ same. apart (ap (home_of c.args.along.now) same ∙ c.first.invariant.shrinks.along c.in-Some.key c.args.seat home)) ∙ c.first.invariant.kept k apart;
     }

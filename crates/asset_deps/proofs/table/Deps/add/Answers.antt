@@ -1,10 +1,11 @@
-use Rattle.std.proofs.Common.{◌<◌, ◌||◌, ◌&&◌, eqb, length, Some, is_some, refl, sym, ap, subst, ◌∙◌, arith}
+use Rattle.std.proofs.Common.{◌≡◌, ◌<◌, List, ◌||◌, ◌&&◌, eqb, length, Some, is_some, refl, sym, ap, subst, ◌∙◌, arith}
 use Rattle.slab.specs.Slab.{Updates}
 use Rattle.asset_names.specs.Arrows.{has_arrow}
 use Rattle.asset_names.specs.Paths.{same_kind}
 use Rattle.asset_chains.proofs.Laws.{pushes}
 use Rattle.asset_deps.specs.Dependencies.{Dependency, arrows_of}
-use Rattle.asset_deps.specs.Valid.{parts, IsValid}
+use Rattle.asset_deps.specs.Valid.{parts, IsValid, dependencies_of}
+use Rattle.asset_marks.proofs.SlotLemmas.{one_longer}
 use Rattle.asset_deps.proofs.GrownLemmas.{on_any_err}
 use Rattle.asset_deps.proofs.TableLemmas.{slots_stand, shows_same, valid_grown, within_grown, valid_added, arrow_added, arrow_again}
 use Rattle.asset_deps.proofs.table.Deps.add.Goals as goal
@@ -48,3 +49,18 @@ returns-clause-added c = λ k u v.
     rw (← c.self.view_is)
     (arrow_added links c.insert.new.links c.insert.result c.args.kind c.args.a.0 c.args.b.0 c.insert.ensures.was_vacant put k u v
     ∙ ap (λ ds. has_arrow (arrows_of k ds) u v || same_kind k c.args.kind && eqb u c.args.a.0 && eqb v c.args.b.0) (slots_stand inside.links links c.reserve.ensures.slots))
+
+-- one dependency more stands, unless it stood already
+pub returns-then-has-clause-once : goal.returns-then-has-clause-once
+returns-then-has-clause-once c = rw (sym c.has.ensures ∙ c.if-has.true) (omega arith)
+
+pub returns-clause-once : goal.returns-clause-once
+unfolding dependencies_of
+returns-clause-once c =
+    let inside = c.self.inside in
+    let links = c.reserve.new.links in
+    let d : Dependency = record { kind = c.args.kind; source = c.args.a.0; dependent = c.args.b.0 } in
+    let put : Updates links c.insert.new.links c.insert.result (Some d) = subst (λ (e : Dependency). Updates links c.insert.new.links c.insert.result (Some e)) c.of.ensures c.insert.ensures.updates in
+    let longer = one_longer links c.insert.new.links c.insert.result d c.insert.ensures.was_vacant put in
+    let same : length (dependencies_of links) ≡ length (dependencies_of inside.links) = ap (λ (ds : List Dependency). length ds) (slots_stand inside.links links c.reserve.ensures.slots) in
+    rw (sym c.has.ensures ∙ c.if-has.false, ← c.self.view_is) (omega (arith, longer, same))

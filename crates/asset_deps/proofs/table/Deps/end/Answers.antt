@@ -27,9 +27,9 @@ invariant_of-self c =
     let inside = c.self.inside in
     let first = c.drop_along.new in
     let second = c.drop_along-2.new in
-    valid_ended inside.links first.links second.links inside.by_source first.along second.ends inside.by_dependent first.ends second.along inside.seats c.leave.new.self inside.marks.size inside.marked c.forget.new.self c.args.t c.in-Some.seat c.self.invariant
+    valid_ended inside.links first.links second.links inside.by_source first.along second.across inside.by_dependent first.across second.along inside.seats c.leave.new.self inside.marks.size inside.marked c.forget.new.self c.args.t c.in-Some.seat c.self.invariant
     c.in-Some.ensures.found.0 c.in-Some.ensures.found.1 c.drop_along.ensures.shrinks c.drop_along.ensures.gone c.drop_along.ensures.kept
-    (shrinks_turned first.links second.links first.ends second.along first.along second.ends c.drop_along-2.ensures.shrinks) (placed_turned second.links second.along second.ends c.drop_along-2.ensures.placed) c.drop_along-2.ensures.gone
+    (shrinks_turned first.links second.links first.across second.along first.along second.across c.drop_along-2.ensures.shrinks) (placed_turned second.links second.along second.across c.drop_along-2.ensures.placed) c.drop_along-2.ensures.gone
     c.drop_along-2.ensures.kept c.leave.ensures.seats c.forget.ensures.nodes c.forget.ensures.size
 
 pub returns-clause-dependencies : goal.returns-clause-dependencies
@@ -38,9 +38,9 @@ returns-clause-dependencies c =
     let first = c.drop_along.new in
     let second = c.drop_along-2.new in
     rw (← c.self.view_is)
-    (arrow_ended inside.links first.links second.links inside.by_source first.along second.ends inside.by_dependent first.ends second.along inside.seats c.leave.new.self inside.marks.size inside.marked c.forget.new.self c.args.t c.in-Some.seat
+    (arrow_ended inside.links first.links second.links inside.by_source first.along second.across inside.by_dependent first.across second.along inside.seats c.leave.new.self inside.marks.size inside.marked c.forget.new.self c.args.t c.in-Some.seat
     c.self.invariant c.in-Some.ensures.found.0 c.in-Some.ensures.found.1 c.drop_along.ensures.shrinks c.drop_along.ensures.gone c.drop_along.ensures.kept
-    (shrinks_turned first.links second.links first.ends second.along first.along second.ends c.drop_along-2.ensures.shrinks) (placed_turned second.links second.along second.ends c.drop_along-2.ensures.placed) c.drop_along-2.ensures.gone
+    (shrinks_turned first.links second.links first.across second.along first.along second.across c.drop_along-2.ensures.shrinks) (placed_turned second.links second.along second.across c.drop_along-2.ensures.placed) c.drop_along-2.ensures.gone
     c.drop_along-2.ensures.kept c.leave.ensures.seats c.forget.ensures.nodes c.forget.ensures.size)
 
 pub returns-clause-marked : goal.returns-clause-marked
@@ -49,9 +49,9 @@ returns-clause-marked c =
     let first = c.drop_along.new in
     let second = c.drop_along-2.new in
     rw (← c.self.view_is)
-    (marked_ended inside.links first.links second.links inside.by_source first.along second.ends inside.by_dependent first.ends second.along inside.seats c.leave.new.self inside.marks.size inside.marked c.forget.new.self c.args.t c.in-Some.seat
+    (marked_ended inside.links first.links second.links inside.by_source first.along second.across inside.by_dependent first.across second.along inside.seats c.leave.new.self inside.marks.size inside.marked c.forget.new.self c.args.t c.in-Some.seat
     c.self.invariant c.in-Some.ensures.found.0 c.in-Some.ensures.found.1 c.drop_along.ensures.shrinks c.drop_along.ensures.gone c.drop_along.ensures.kept
-    (shrinks_turned first.links second.links first.ends second.along first.along second.ends c.drop_along-2.ensures.shrinks) (placed_turned second.links second.along second.ends c.drop_along-2.ensures.placed) c.drop_along-2.ensures.gone
+    (shrinks_turned first.links second.links first.across second.along first.along second.across c.drop_along-2.ensures.shrinks) (placed_turned second.links second.along second.across c.drop_along-2.ensures.placed) c.drop_along-2.ensures.gone
     c.drop_along-2.ensures.kept c.leave.ensures.seats c.forget.ensures.nodes c.forget.ensures.size)
 
 pub returns-clause-unmarked : goal.returns-clause-unmarked
@@ -60,7 +60,7 @@ returns-clause-unmarked c =
     let first = c.drop_along.new in
     let second = c.drop_along-2.new in
     rw (← c.self.view_is)
-    (unmarked_ended inside.links first.links second.links inside.by_source first.along second.ends inside.by_dependent first.ends second.along inside.seats c.leave.new.self inside.marks.size inside.marked c.forget.new.self c.args.t c.in-Some.seat
+    (unmarked_ended inside.links first.links second.links inside.by_source first.along second.across inside.by_dependent first.across second.along inside.seats c.leave.new.self inside.marks.size inside.marked c.forget.new.self c.args.t c.in-Some.seat
     c.self.invariant c.in-Some.ensures.found.0 c.in-Some.ensures.found.1 c.drop_along.ensures.shrinks c.drop_along.ensures.gone c.drop_along.ensures.kept
-    (shrinks_turned first.links second.links first.ends second.along first.along second.ends c.drop_along-2.ensures.shrinks) (placed_turned second.links second.along second.ends c.drop_along-2.ensures.placed) c.drop_along-2.ensures.gone
+    (shrinks_turned first.links second.links first.across second.along first.along second.across c.drop_along-2.ensures.shrinks) (placed_turned second.links second.along second.across c.drop_along-2.ensures.placed) c.drop_along-2.ensures.gone
     c.drop_along-2.ensures.kept c.leave.ensures.seats c.forget.ensures.nodes c.forget.ensures.size c.forget.ensures.unchanged)

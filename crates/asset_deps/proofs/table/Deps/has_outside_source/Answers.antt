@@ -1,5 +1,5 @@
 use Rattle.std.proofs.Common.{◌<◌, sym, subst}
-use Rattle.asset_deps.specs.declared.kinds.Kinds.TheVariants.{Group, Order}
+use Rattle.asset_deps.specs.declared.kinds.Kinds.TheVariants.{Class, Order}
 use Rattle.asset_deps.specs.Valid.{parts}
 use Rattle.asset_deps.proofs.NamedLemmas.{way_within, source_within}
 use Rattle.asset_deps.proofs.OutsideLemmas.{no_outside, outside_is}
@@ -13,7 +13,7 @@ returns-in_default-clause-outside c =
 pub spread-requires-clause-within : goal.spread-requires-clause-within
 spread-requires-clause-within c = λ u t arrow.
     let inside = c.self.inside in
-    (way_within (parts inside.links inside.by_source inside.by_dependent inside.seats) inside.marks.size inside.marked c.self.invariant Group u t arrow).0
+    (way_within (parts inside.links inside.by_source inside.by_dependent inside.seats) inside.marks.size inside.marked c.self.invariant Class u t arrow).0
 
 pub leads_outside-requires : goal.leads_outside-requires
 leads_outside-requires c = λ u t arrow.

@@ -1,5 +1,5 @@
 use Rattle.std.proofs.Common.{sym, ◌∙◌}
-use Rattle.asset_deps.specs.declared.kinds.Kinds.TheVariants.{Group, Dooming}
+use Rattle.asset_deps.specs.declared.kinds.Kinds.TheVariants.{Class, Dooming}
 use Rattle.asset_deps.specs.Valid.{parts, dependencies_of}
 use Rattle.asset_deps.proofs.KindLemmas.{class_linked, doom_linked}
 use Rattle.asset_deps.proofs.NamedLemmas.{leads_to_nobody}
@@ -19,7 +19,7 @@ returns-clause-alone c =
     let ds = dependencies_of inside.links in
     rw (← c.self.view_is) (λ none n.
     let absent = absent_unless c.seat_of.result c.seat_of.ensures.absent (sym c.is_some.ensures ∙ none) in (
-      sym (class_linked ds c.args.t.0 n) ∙ leads_to_nobody p inside.marks.size inside.marked c.self.invariant Group c.args.t n absent,
+      sym (class_linked ds c.args.t.0 n) ∙ leads_to_nobody p inside.marks.size inside.marked c.self.invariant Class c.args.t n absent,
       sym (doom_linked ds c.args.t.0 n) ∙ leads_to_nobody p inside.marks.size inside.marked c.self.invariant Dooming c.args.t n absent,
     ))
 

@@ -4,7 +4,7 @@ use Rattle.asset_chains.proofs.Laws.{key_within, unlinks, pushes}
 use Rattle.asset_locks.specs.Stored.{Stored, lock_at, number_in, chain_for}
 use Rattle.asset_locks.proofs.StoreLemmas.{some_of, chains_fit, chain_there}
 use Rattle.asset_locks.proofs.SuspendLemmas.{in_chain}
-use Rattle.asset_locks.proofs.HandLemmas.{stored_joined, both_write, both_read}
+use Rattle.asset_locks.proofs.HandLemmas.{stored_merged, both_write, both_read}
 use Rattle.asset_locks.proofs.store.LockStore.join_at.Goals as goal
 
 pub unlink-requires : goal.unlink-requires
@@ -46,7 +46,7 @@ invariant_of-self c =
     let chain = subst (λ n. n < length c.unlink.new.self.chains) (sym c.writers_of.ensures) (subst (λ n. chain_for number true < n) (sym gone.same_chains) (chain_there (record { locks = inside.locks; objects = inside.objects.keys; by_object = inside.by_object; by_owner = inside.by_owner }) c.self.invariant (lock_at inside.locks c.args.key).object.0 number true numbered)) in
     let key = subst (λ n. c.args.key < n) (sym gone.same_keys) (key_within c.args.key at.0 inside.by_object at.1) in
     let put = pushes c.writers_of.result c.args.key c.unlink.new.self c.push.new.self chain key c.push.ensures in
-    stored_joined (record { locks = inside.locks; objects = inside.objects.keys; by_object = inside.by_object; by_owner = inside.by_owner }) _ c.args.key number c.args.ops c.self.invariant numbered c.add_ops.ensures.locks c.add_ops.ensures.keys
+    stored_merged (record { locks = inside.locks; objects = inside.objects.keys; by_object = inside.by_object; by_owner = inside.by_owner }) _ c.args.key number c.args.ops c.self.invariant numbered c.add_ops.ensures.locks c.add_ops.ensures.keys
     (put.home ∙ ap Some (c.writers_of.ensures ∙ ap (chain_for number) (sym (both_write (lock_at inside.locks c.args.key).ops c.args.ops (sym c.has.ensures ∙ c.if-has.true)))))
     (λ k apart. put.homes k apart ∙ gone.homes k apart) there (put.same_chains ∙ gone.same_chains) refl refl
 
@@ -58,7 +58,7 @@ invariant_of-self-else-has c =
     let at = some_of (home_of inside.by_owner c.args.key) owned in
     let numbered = ap (λ (s : Stored). number_in s.objects (lock_at s.locks c.args.key).object.0) c.self.view_is ∙ c.number_at-number.ensures in
     let lock = lock_at inside.locks c.args.key in
-    stored_joined (record { locks = inside.locks; objects = inside.objects.keys; by_object = inside.by_object; by_owner = inside.by_owner }) _ c.args.key number c.args.ops c.self.invariant numbered c.add_ops.ensures.locks c.add_ops.ensures.keys
+    stored_merged (record { locks = inside.locks; objects = inside.objects.keys; by_object = inside.by_object; by_owner = inside.by_owner }) _ c.args.key number c.args.ops c.self.invariant numbered c.add_ops.ensures.locks c.add_ops.ensures.keys
     (in_chain (record { locks = inside.locks; objects = inside.objects.keys; by_object = inside.by_object; by_owner = inside.by_owner }) c.self.invariant (subst (λ (s : Stored). IsSound s.by_object) (sym c.self.view_is) c.laws.ensures.objects) lock.object.0 number numbered c.args.key at.0 at.1 refl
     ∙ ap (λ (b : Bool). Some (chain_for number b)) (sym (both_read lock.ops c.args.ops (sym c.has.ensures ∙ c.if-has.false))))
     (λ k apart. refl) (c.self.invariant.listed c.args.key ∙ sym (c.self.invariant.held c.args.key) ∙ owned) refl refl refl

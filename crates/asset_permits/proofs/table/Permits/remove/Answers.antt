@@ -24,7 +24,7 @@ pub invariant_of-self : goal.invariant_of-self
 invariant_of-self c =
     let inside = c.self.inside in
     let dropped = c.drop_at.new in
-    valid_after (parts inside.permits inside.by_giver inside.by_taker inside.seats) (parts dropped.permits dropped.along dropped.ends dropped.seats) inside.marks.size c.self.invariant c.drop_at.ensures.shrinks c.drop_at.ensures.seated c.laws.ensures.sound c.laws-2.ensures.sound
+    valid_after (parts inside.permits inside.by_giver inside.by_taker inside.seats) (parts dropped.permits dropped.along dropped.across dropped.seats) inside.marks.size c.self.invariant c.drop_at.ensures.shrinks c.drop_at.ensures.seated c.laws.ensures.sound c.laws-2.ensures.sound
 
 pub returns : goal.returns
 returns c =

@@ -9,7 +9,7 @@ use Rattle.asset_names.specs.declared.operations.Op.{Op}
 use Rattle.asset_names.specs.declared.operations.Op.TheVariants as Op'
 use Rattle.asset_names.specs.OpSets.{OpSet, op_set, has_op}
 use Rattle.asset_locks.specs.declared.lock.Lock.{Lock}
-use Rattle.asset_locks.specs.LockTable.{is_on, carries_on, both_ops, ops_on, joined, with_moved}
+use Rattle.asset_locks.specs.LockTable.{is_on, carries_on, both_ops, ops_on, merged, with_moved}
 
 -- the lock with these operations too, suspended
 abbrev pub with_ops : OpSet → Lock → Lock
@@ -45,18 +45,18 @@ ops_one x l on = λ i. op_set (go l.ops.read i) (go l.ops.write i) where
   go b = or_none (is_on x l && b) ∙ ap (λ (a : Bool). a && b) on
 
 -- ---- one lock of the taker's
-pub joined_here : (given : List Lock) (lock : Lock) → list_any (is_on lock.object.0) given ≡ true → joined given lock ≡ with_ops (ops_on lock.object.0 given) lock
-unfolding joined
-joined_here given lock on = ap (λ (b : Bool). cond b (with_ops (ops_on lock.object.0 given) lock) lock) on
+pub merged_here : (given : List Lock) (lock : Lock) → list_any (is_on lock.object.0) given ≡ true → merged given lock ≡ with_ops (ops_on lock.object.0 given) lock
+unfolding merged
+merged_here given lock on = ap (λ (b : Bool). cond b (with_ops (ops_on lock.object.0 given) lock) lock) on
 
-pub joined_apart : (given : List Lock) (lock : Lock) → list_any (is_on lock.object.0) given ≡ false → joined given lock ≡ lock
-unfolding joined
-joined_apart given lock off = ap (λ (b : Bool). cond b (with_ops (ops_on lock.object.0 given) lock) lock) off
+pub merged_apart : (given : List Lock) (lock : Lock) → list_any (is_on lock.object.0) given ≡ false → merged given lock ≡ lock
+unfolding merged
+merged_apart given lock off = ap (λ (b : Bool). cond b (with_ops (ops_on lock.object.0 given) lock) lock) off
 
 -- it stays on its object
-pub joined_object : (given : List Lock) (lock : Lock) → (joined given lock).object ≡ lock.object
-unfolding joined
-joined_object given lock = go (list_any (is_on lock.object.0) given) where
+pub merged_object : (given : List Lock) (lock : Lock) → (merged given lock).object ≡ lock.object
+unfolding merged
+merged_object given lock = go (list_any (is_on lock.object.0) given) where
   go : (b : Bool) → (cond b (with_ops (ops_on lock.object.0 given) lock) lock).object ≡ lock.object
   go true = refl
   go false = refl
@@ -71,67 +71,67 @@ unfolding is_on
 on_same x l on = eqb-true l.object.0 x on
 
 -- a lock that comes on another object changes nothing
-joined_more : (l : Lock) (given : List Lock) (lock : Lock) → is_on lock.object.0 l ≡ false → joined (l ∷ given) lock ≡ joined given lock
-unfolding joined
-joined_more l given lock off = λ i. cond (off i || list_any (is_on lock.object.0) given) (with_ops (ops_off lock.object.0 l given off i) lock) lock
+merged_more : (l : Lock) (given : List Lock) (lock : Lock) → is_on lock.object.0 l ≡ false → merged (l ∷ given) lock ≡ merged given lock
+unfolding merged
+merged_more l given lock off = λ i. cond (off i || list_any (is_on lock.object.0) given) (with_ops (ops_off lock.object.0 l given off i) lock) lock
 
--- a lock joins those that come one after another, as it joins all of them
-joined_twice : (l : Lock) (given : List Lock) (lock : Lock) → list_any (is_on l.object.0) given ≡ false → joined given (joined (l ∷ []) lock) ≡ joined (l ∷ given) lock
-joined_twice l given lock none = elim (cases_Bool (is_on lock.object.0 l)) [
+-- a lock merges with those that come one after another, as it merges with all of them
+merged_twice : (l : Lock) (given : List Lock) (lock : Lock) → list_any (is_on l.object.0) given ≡ false → merged given (merged (l ∷ []) lock) ≡ merged (l ∷ given) lock
+merged_twice l given lock none = elim (cases_Bool (is_on lock.object.0 l)) [
   | inl on ↦
       let others : list_any (is_on lock.object.0) given ≡ false = ap (λ (x : ℕ). list_any (is_on x) given) (sym (on_same lock.object.0 l on)) ∙ none in
-      ap (joined given) (joined_here (l ∷ []) lock (ap (λ (b : Bool). b || false) on))
-      ∙ joined_apart given (with_ops (ops_on lock.object.0 (l ∷ [])) lock) others
+      ap (merged given) (merged_here (l ∷ []) lock (ap (λ (b : Bool). b || false) on))
+      ∙ merged_apart given (with_ops (ops_on lock.object.0 (l ∷ [])) lock) others
       ∙ ap (λ (ops : OpSet). with_ops ops lock) (sym (ops_first lock.object.0 l given others))
-      ∙ sym (joined_here (l ∷ given) lock (ap (λ (b : Bool). b || list_any (is_on lock.object.0) given) on))
+      ∙ sym (merged_here (l ∷ given) lock (ap (λ (b : Bool). b || list_any (is_on lock.object.0) given) on))
   | inr off ↦
-      ap (joined given) (joined_apart (l ∷ []) lock (ap (λ (b : Bool). b || false) off))
-      ∙ sym (joined_more l given lock off)
+      ap (merged given) (merged_apart (l ∷ []) lock (ap (λ (b : Bool). b || false) off))
+      ∙ sym (merged_more l given lock off)
 ]
 
 -- ---- all locks of the taker's
-all_joined : (l : Lock) (given locks : List Lock) → list_any (is_on l.object.0) given ≡ false → map (joined given) (map (joined (l ∷ [])) locks) ≡ map (joined (l ∷ given)) locks
-all_joined l given [] none = refl
-all_joined l given (lock ∷ locks) none = λ i. joined_twice l given lock none i ∷ all_joined l given locks none i
+all_merged : (l : Lock) (given locks : List Lock) → list_any (is_on l.object.0) given ≡ false → map (merged given) (map (merged (l ∷ [])) locks) ≡ map (merged (l ∷ given)) locks
+all_merged l given [] none = refl
+all_merged l given (lock ∷ locks) none = λ i. merged_twice l given lock none i ∷ all_merged l given locks none i
 
 -- the same objects have locks
-same_objects : (given locks : List Lock) (x : ℕ) → list_any (is_on x) (map (joined given) locks) ≡ list_any (is_on x) locks
+same_objects : (given locks : List Lock) (x : ℕ) → list_any (is_on x) (map (merged given) locks) ≡ list_any (is_on x) locks
 unfolding is_on
 same_objects given [] x = refl
-same_objects given (lock ∷ locks) x = λ i. eqb (joined_object given lock i).0 x || same_objects given locks x i
+same_objects given (lock ∷ locks) x = λ i. eqb (merged_object given lock i).0 x || same_objects given locks x i
 
-nothing_joined : (locks : List Lock) → map (joined []) locks ≡ locks
-unfolding joined
-nothing_joined [] = refl
-nothing_joined (lock ∷ locks) = ap (λ (l : List Lock). lock ∷ l) (nothing_joined locks)
+nothing_merged : (locks : List Lock) → map (merged []) locks ≡ locks
+unfolding merged
+nothing_merged [] = refl
+nothing_merged (lock ∷ locks) = ap (λ (l : List Lock). lock ∷ l) (nothing_merged locks)
 
 -- nothing comes
 pub nothing_moved : (locks : List Lock) → with_moved [] locks ≡ locks
 unfolding with_moved
-nothing_moved locks = append-nil (map (joined []) locks) ∙ nothing_joined locks
+nothing_moved locks = append-nil (map (merged []) locks) ∙ nothing_merged locks
 
 -- a lock is on an object without a lock
-none_joined : (l : Lock) (locks : List Lock) → list_any (is_on l.object.0) locks ≡ false → map (joined (l ∷ [])) locks ≡ locks
-none_joined l [] none = refl
-none_joined l (lock ∷ locks) none =
+none_merged : (l : Lock) (locks : List Lock) → list_any (is_on l.object.0) locks ≡ false → map (merged (l ∷ [])) locks ≡ locks
+none_merged l [] none = refl
+none_merged l (lock ∷ locks) none =
     let parts = or_parts (is_on l.object.0 lock) (list_any (is_on l.object.0) locks) none in
-    λ i. joined_apart (l ∷ []) lock (ap (λ (b : Bool). b || false) (sym (on_flip l lock) ∙ parts.0)) i ∷ none_joined l locks parts.1 i
+    λ i. merged_apart (l ∷ []) lock (ap (λ (b : Bool). b || false) (sym (on_flip l lock) ∙ parts.0)) i ∷ none_merged l locks parts.1 i
 
--- the locks that come and are not joined
+-- the locks that come and are not merged
 new_ones : (given locks : List Lock) → List Lock
 new_ones given locks = filter (λ (lock : Lock). not (list_any (is_on lock.object.0) locks)) given
 
 -- one lock comes
-pub moved_here : (l : Lock) (locks : List Lock) → list_any (is_on l.object.0) locks ≡ true → with_moved (l ∷ []) locks ≡ map (joined (l ∷ [])) locks
+pub moved_here : (l : Lock) (locks : List Lock) → list_any (is_on l.object.0) locks ≡ true → with_moved (l ∷ []) locks ≡ map (merged (l ∷ [])) locks
 unfolding with_moved
-moved_here l locks on = ap (λ (b : Bool). map (joined (l ∷ [])) locks ++ cond (not b) (l ∷ []) []) on ∙ append-nil (map (joined (l ∷ [])) locks)
+moved_here l locks on = ap (λ (b : Bool). map (merged (l ∷ [])) locks ++ cond (not b) (l ∷ []) []) on ∙ append-nil (map (merged (l ∷ [])) locks)
 
-moved_last : (l : Lock) (locks : List Lock) → list_any (is_on l.object.0) locks ≡ false → with_moved (l ∷ []) locks ≡ map (joined (l ∷ [])) locks ++ l ∷ []
+moved_last : (l : Lock) (locks : List Lock) → list_any (is_on l.object.0) locks ≡ false → with_moved (l ∷ []) locks ≡ map (merged (l ∷ [])) locks ++ l ∷ []
 unfolding with_moved
-moved_last l locks off = ap (λ (b : Bool). map (joined (l ∷ [])) locks ++ cond (not b) (l ∷ []) []) off
+moved_last l locks off = ap (λ (b : Bool). map (merged (l ∷ [])) locks ++ cond (not b) (l ∷ []) []) off
 
 pub moved_alone : (l : Lock) (locks : List Lock) → list_any (is_on l.object.0) locks ≡ false → with_moved (l ∷ []) locks ≡ locks ++ l ∷ []
-moved_alone l locks off = moved_last l locks off ∙ ap (λ (more : List Lock). more ++ l ∷ []) (none_joined l locks off)
+moved_alone l locks off = moved_last l locks off ∙ ap (λ (more : List Lock). more ++ l ∷ []) (none_merged l locks off)
 
 filter_same : (p q : Lock → Bool) (locks : List Lock) (off : Lock → Bool) → list_any off locks ≡ false → ((lock : Lock) → off lock ≡ false → p lock ≡ q lock) → filter p locks ≡ filter q locks
 filter_same p q [] off none same = refl
@@ -150,18 +150,18 @@ pub moved_first : (l : Lock) (given locks : List Lock) → list_any (is_on l.obj
 unfolding with_moved new_ones
 moved_first l given locks none = elim (cases_Bool (list_any (is_on l.object.0) locks)) [
   | inl on ↦
-      ap (λ (b : Bool). map (joined (l ∷ given)) locks ++ cond (not b) (l ∷ new_ones given locks) (new_ones given locks)) on
-      ∙ (λ i. sym (all_joined l given locks none) i ++ sym (new_later l given locks (map (joined (l ∷ [])) locks) none (λ q off. same_objects (l ∷ []) locks q.object.0)) i)
+      ap (λ (b : Bool). map (merged (l ∷ given)) locks ++ cond (not b) (l ∷ new_ones given locks) (new_ones given locks)) on
+      ∙ (λ i. sym (all_merged l given locks none) i ++ sym (new_later l given locks (map (merged (l ∷ [])) locks) none (λ q off. same_objects (l ∷ []) locks q.object.0)) i)
       ∙ ap (with_moved given) (sym (moved_here l locks on))
   | inr off ↦
-      ap (λ (b : Bool). map (joined (l ∷ given)) locks ++ cond (not b) (l ∷ new_ones given locks) (new_ones given locks)) off
-      ∙ (λ i. sym (all_joined l given locks none) i ++ sym (joined_apart given l none) i ∷ sym (new_later l given locks (map (joined (l ∷ [])) locks ++ l ∷ []) none still) i)
-      ∙ sym (append_assoc (map (joined given) (map (joined (l ∷ [])) locks)) (joined given l ∷ []) (new_ones given (map (joined (l ∷ [])) locks ++ l ∷ [])))
-      ∙ ap (λ (front : List Lock). front ++ new_ones given (map (joined (l ∷ [])) locks ++ l ∷ [])) (sym (map-append (joined given) (map (joined (l ∷ [])) locks) (l ∷ [])))
+      ap (λ (b : Bool). map (merged (l ∷ given)) locks ++ cond (not b) (l ∷ new_ones given locks) (new_ones given locks)) off
+      ∙ (λ i. sym (all_merged l given locks none) i ++ sym (merged_apart given l none) i ∷ sym (new_later l given locks (map (merged (l ∷ [])) locks ++ l ∷ []) none still) i)
+      ∙ sym (append_assoc (map (merged given) (map (merged (l ∷ [])) locks)) (merged given l ∷ []) (new_ones given (map (merged (l ∷ [])) locks ++ l ∷ [])))
+      ∙ ap (λ (front : List Lock). front ++ new_ones given (map (merged (l ∷ [])) locks ++ l ∷ [])) (sym (map-append (merged given) (map (merged (l ∷ [])) locks) (l ∷ [])))
       ∙ ap (with_moved given) (sym (moved_last l locks off))
 ] where
-  still : (q : Lock) → is_on l.object.0 q ≡ false → list_any (is_on q.object.0) (map (joined (l ∷ [])) locks ++ l ∷ []) ≡ list_any (is_on q.object.0) locks
+  still : (q : Lock) → is_on l.object.0 q ≡ false → list_any (is_on q.object.0) (map (merged (l ∷ [])) locks ++ l ∷ []) ≡ list_any (is_on q.object.0) locks
   still q apart =
-      list_any-append (is_on q.object.0) (map (joined (l ∷ [])) locks) (l ∷ [])
+      list_any-append (is_on q.object.0) (map (merged (l ∷ [])) locks) (l ∷ [])
       ∙ (λ i. same_objects (l ∷ []) locks q.object.0 i || ((sym (on_flip l q) ∙ apart) i || false))
       ∙ or_none (list_any (is_on q.object.0) locks)
