@@ -1,4 +1,3 @@
-pub mod AnswerLemmas
-pub mod ReadyLemmas
 pub mod PendingLemmas
 pub mod ValidLemmas
+pub mod StepLemmas

@@ -14,13 +14,13 @@ use Rattle.asset_names.specs.declared.replies.Outcome.{Outcome}
 use Rattle.asset_names.specs.declared.replies.Outcome.TheVariants.{Answer, Wait}
 use Rattle.asset_names.specs.Arrows.{lists}
 use Rattle.asset_names.specs.Steps.{Opening, takes_effect, initiated, initiated_by}
+use Rattle.asset_names.specs.Sources.{is_operation}
 use Rattle.asset_names.specs.Endings.{live, is_live_status}
 use Rattle.asset_names.specs.Answers.{outcome_takes_effect}
 use Rattle.asset_names.proofs.LiveLemmas.{live_initiate, live_commit, live_abort}
 use Rattle.asset_names.proofs.EndLemmas.{commits, aborts, commits_nobody, aborts_nobody}
 use Rattle.asset_ends.proofs.DependLaws.{commits_shown, aborts_shown, depend_ends}
 use Rattle.asset_deps.specs.Dependencies.{class_in, doomed_in}
-use Rattle.asset_names.proofs.Common.{eqb-flip}
 use Rattle.asset_names.specs.OpSets.{OpSet}
 use Rattle.asset_names.specs.declared.sets.ObSet.{ObSet}
 use Rattle.asset_names.proofs.DelegateLemmas.{live_delegated}
@@ -31,7 +31,8 @@ use Rattle.asset_trans.specs.TransRows.{status_in}
 use Rattle.asset_ends.specs.Standing.{Standing, values_of}
 use Rattle.asset_history.specs.Recorded.{after}
 use Rattle.asset_core.specs.Pending.{Pending, asker_after, request_after, new_asker, waiter_of, waiting_for}
-use Rattle.asset_core.specs.Tables.{asker_of, pending_in, locks_after, locks_waiting, released}
+use Rattle.asset_ends.specs.Ready.{locks_after, locks_waiting, released}
+use Rattle.asset_core.specs.Tables.{asker_of, pending_in}
 use Rattle.asset_ends.proofs.HistoryLemmas.{lists_pushed, live_quiet, begin_quiet, complete_quiet, read_ends, write_ends}
 use Rattle.asset_ends.proofs.PermitLaws.{permit_ends}
 use Rattle.asset_ends.proofs.ShowsLemmas.{live_shown}
@@ -45,7 +46,7 @@ pending_requests table = map asker_of table
 abbrev pub named : List Pending → List ℕ
 named ps = map (λ (asker : Pending). asker.name) ps
 
-askers_named : (table : Locks.LockTable) → named (pending_requests table) ≡ Locks.names_in table
+pub askers_named : (table : Locks.LockTable) → named (pending_requests table) ≡ Locks.names_in table
 unfolding Locks.names_in asker_of
 askers_named table = go table where
   go : (everyone : List Locks.Enrolled) → named (map asker_of everyone) ≡ map (λ (who : Locks.Enrolled). who.name) everyone
@@ -344,3 +345,18 @@ waiters_as x kept = go kept where
   go : (everyone : List Locks.Enrolled) → flat_map (λ (who : Locks.Enrolled). Locks.waiting_at x who.name who.pending) everyone ≡ flat_map (λ (asker : Pending). waiter_of x asker.name asker.request) (map asker_of everyone)
   go [] = refl
   go (who ∷ everyone) = rw (one who.name who.pending, go everyone)
+
+-- a wait of a step that is no read or write leaves the locks
+pub waits_still : (step : Step) (tables : Standing) → is_operation step ≡ false → locks_waiting step tables ≡ tables.locks
+unfolding is_operation locks_waiting
+waits_still (Initiate t parent) tables none = refl
+waits_still (Begin t) tables none = refl
+waits_still (Read t x) tables none = absurd (false≢true (sym none))
+waits_still (Write t x v) tables none = absurd (false≢true (sym none))
+waits_still (Complete t) tables none = refl
+waits_still (Permit giver taker obs ops) tables none = refl
+waits_still (Delegate giver taker obs) tables none = refl
+waits_still (Depend kind a b) tables none = refl
+waits_still (Commit t) tables none = refl
+waits_still (Abort t) tables none = refl
+waits_still (WaitFor t) tables none = refl

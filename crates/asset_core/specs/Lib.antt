@@ -1,3 +1,4 @@
 pub mod OpenFaults
 pub mod Pending
 pub mod Tables
+pub mod Stepped

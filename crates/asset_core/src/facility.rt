@@ -3,7 +3,7 @@
 ghost use Rattle.std.specs.Prelude.{◌≡◌};
 ghost use Rattle.asset_names.specs.Room.{initiates};
 
-use crate::{OpenFault, answering, applying};
+use crate::OpenFault;
 use asset_ends::Tables;
 use asset_history::History;
 use asset_names::{Fault, NoMemory, Ob, Op, Outcome, Reply, Status, Step, Txn, takes_effect};
@@ -14,6 +14,9 @@ use std::marker::Model;
 /// The greatest capacity of a history.
 const MOST: usize = 1_000_000;
 
+/// Does nothing. A call of it fails to compile unless the type may go to another thread.
+fn needs_send<T: Send>() {}
+
 /// Returns whether the step initiates a transaction.
 #[tactic(auto, unfolding(asset_names::specs::Room::initiates))]
 fn initiates(step: &Step) -> bool
@@ -23,7 +26,7 @@ fn initiates(step: &Step) -> bool
 }
 
 /// A history, which grows by one answered step at a time, and the tables that show it. Contracts see the
-/// history, and the pending request of each live transaction.
+/// history, and the pending request of each live transaction. It is `Send`.
 #[derive(Drop)]
 pub struct Core {
     history: History,
@@ -42,16 +45,17 @@ impl Model for Core {
 }
 
 impl Core {
-    ghost use Rattle.std.specs.Prelude.{◌≡◌, ◌≢◌, ◌+◌, ◌<◌, ◌≤◌, ◌↔◌, ◌⊎◌, [], ◌∷◌, true, false, map, length, slice_get, IfOk, IfErr, OnOk, OnErr, IsOk, Err, IsErrOf};
-    ghost use Rattle.asset_names.specs.Steps.{takes_effect, applied};
+    ghost use Rattle.std.specs.Prelude.{◌≡◌, ◌+◌, ◌<◌, ◌≤◌, [], ◌∷◌, true, false, map, filter, reverse, length, slice_get, IfOk, IfErr, OnOk, Err};
+    ghost use Rattle.asset_names.specs.Steps.{takes_effect, applied, initiated};
     ghost use Rattle.asset_names.specs.Endings.{live, status};
     ghost use Rattle.asset_names.specs.Operations.{value_if_any};
     ghost use Rattle.asset_names.specs.declared.replies.Outcome.TheVariants.{Answer, Wait as Waits};
     ghost use Rattle.asset_names.specs.Room.{initiates, owed, fits, changes_status};
-    ghost use Rattle.asset_names.specs.Answers.{takes_memory, outcome_takes_effect};
-    ghost use Rattle.asset_history.specs.Recorded.{answer_to, after, with_entry, has_room, is_ending};
+    ghost use Rattle.asset_history.specs.Recorded.{answer_to, after, has_room, is_ending};
     ghost use Rattle.asset_core.specs.OpenFaults.{objects_of};
-    ghost use Rattle.asset_core.specs.Pending.{facility_of, pending_after, waiting_for};
+    ghost use Rattle.asset_core.specs.Pending.{Pending, facility_of, pending_after, waiting_for};
+    ghost use Rattle.asset_names.specs.Sources.{is_operation};
+    ghost use Rattle.asset_core.specs.Stepped.{IsStep};
     ghost use Rattle.asset_names.specs.Sets.{HasNoDouble};
     ghost use Rattle.asset_core.specs.OpenFaults.{IsCapacity, MayOpen, IsOpenFault};
     ghost use Rattle.asset_ends.specs.Shows.{Shows};
@@ -110,6 +114,7 @@ impl Core {
         requires locks { tables.locks ≡ [] }
         ensures { IfOk result (λ core. core ≡ facility_of opening.now capacity) }
     {
+        needs_send::<Core>();
         match History::open(alloc, opening, capacity) {
             Ok(history) => Ok(Core { history, tables }),
             Err(_) => {
@@ -127,17 +132,11 @@ impl Core {
     /// It answers `Full` exactly if the entries with this one, together with those that live transactions are
     /// owed after it, exceed the capacity. A complete, a commit or an abort that changes a status always finds
     /// room. `NoMemory` can come only if an initiate, a read, a write, a permit, a delegation or a dependency would take
-    /// effect. After `Full` and `NoMemory` nothing has changed.
+    /// effect. After `Full` and `NoMemory` nothing has changed; nor has anything after a wait of a step that is no read or
+    /// write.
     #[inline(always)]
-    #[tactic(auto, unfolding(asset_history::specs::Recorded::after, asset_history::specs::Recorded::has_room, asset_history::specs::Recorded::is_ending, asset_names::specs::Answers::outcome_takes_effect))]
     pub fn step(&mut self, step: Step) -> Result<Outcome, Fault>
-        ensures answered { IfOk result (λ outcome. outcome ≡ answer_to self.old.history step) }
-        ensures grown { IfOk result (λ outcome. self.new.history ≡ after self.old.history step outcome) }
-        ensures pending { IfOk result (λ outcome. self.new.pending ≡ pending_after self.old step outcome) }
-        ensures full { IsErrOf result Fault.Full ↔ (has_room self.old.history step (answer_to self.old.history step) ≡ false) }
-        ensures memory { IsErrOf result Fault.NoMemory → (takes_memory step ≡ true) × (outcome_takes_effect step (answer_to self.old.history step) ≡ true) }
-        ensures ending { is_ending self.old.history step (answer_to self.old.history step) ≡ true → IsOk result }
-        ensures fault { OnErr result (self.new ≡ self.old) }
+        ensures { IsStep self.old step result self.new }
     {
         match self.answer(&step) {
             Outcome::Wait => {
@@ -154,7 +153,7 @@ impl Core {
         ensures answer { result ≡ answer_to self.old.history step.now }
         ensures same { self.new ≡ self.old }
     {
-        answering::answer(&mut self.tables, step)
+        self.tables.answer(step)
     }
 
     /// Keeps a request that waits as pending.
@@ -162,8 +161,9 @@ impl Core {
         requires waits { answer_to self.old.history step.now ≡ Waits }
         ensures history { self.new.history ≡ self.old.history }
         ensures pending { self.new.pending ≡ pending_after self.old step.now Waits }
+        ensures still { is_operation step.now ≡ false → self.new ≡ self.old }
     {
-        applying::wait(&mut self.tables, step);
+        self.tables.wait(step);
     }
 
     /// Returns whether the answer is that of a complete, a commit or an abort that changes a status; `effect` says
@@ -232,19 +232,13 @@ impl Core {
     #[inline(always)]
     fn record(&mut self, step: &Step, reply: Reply) -> Result<Outcome, Fault>
         requires answer { answer_to self.old.history step.now ≡ Answer reply }
-        ensures answered { IfOk result (λ outcome. outcome ≡ Answer reply) }
-        ensures grown { OnOk result (self.new.history ≡ with_entry self.old.history step.now reply) }
-        ensures pending { OnOk result (self.new.pending ≡ pending_after self.old step.now (Answer reply)) }
-        ensures full { IsErrOf result Fault.Full ↔ (has_room self.old.history step.now (Answer reply) ≡ false) }
-        ensures memory { IsErrOf result Fault.NoMemory → (takes_memory step.now ≡ true) × (takes_effect step.now reply ≡ true) }
-        ensures ending { is_ending self.old.history step.now (Answer reply) ≡ true → IsOk result }
-        ensures fault { OnErr result (self.new ≡ self.old) }
+        ensures { IsStep self.old step.now result self.new }
     {
         let effect = takes_effect(step, reply);
         if !self.has_room(step, reply, effect) {
             return Err(Fault::Full);
         }
-        match applying::apply_if(&mut self.tables, step, reply, effect) {
+        match self.tables.apply(step, reply) {
             Ok(()) => {
                 self.history.append(*step, reply);
                 Ok(Outcome::Answer(reply))
@@ -268,17 +262,20 @@ impl Core {
     }
 
     /// Returns the waiter at the index among the live transactions whose pending request is on `x`, in order of
-    /// initiation from 0, with the operation that it asked for, and `None` past the end.
+    /// initiation from 0, with the operation that it asked for, and `None` past the end. Each live transaction has one place
+    /// for a pending request, in order of initiation, and nobody else has one.
     pub fn waiters(&self, x: Ob, index: usize) -> Option<(Txn, Op)>
-        ensures { result ≡ slice_get (waiting_for x.0 self.now.pending) index }
+        ensures waiter { result ≡ slice_get (waiting_for x.0 self.now.pending) index }
+        ensures askers { map (λ (asker : Pending). asker.name) self.now.pending ≡ filter (live (applied self.now.history.entries)) (reverse (initiated (applied self.now.history.entries))) }
     {
         self.tables.waiters(x, index)
     }
 
-    /// Returns the history so far.
+    /// Returns the history so far, whose capacity is at most 1,000,000: its entries and those that are owed are within it.
     pub fn history(&self) -> &History
         ensures history { result.now ≡ self.now.history }
         ensures fits { fits (applied self.now.history.entries) (length self.now.history.entries) self.now.history.capacity ≡ true }
+        ensures capacity { self.now.history.capacity ≤ 1000000 }
     {
         &self.history
     }

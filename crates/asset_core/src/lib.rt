@@ -2,12 +2,9 @@
 //! one answer to it.
 #![tactic(auto)]
 
-mod answering;
-mod applying;
 mod facility;
 mod open_fault;
 
-pub use applying::apply_if;
 pub use asset_history::History;
 pub use facility::Core;
 pub use open_fault::OpenFault;

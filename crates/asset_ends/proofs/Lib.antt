@@ -11,3 +11,5 @@ pub mod EnrolledLemmas
 pub mod EndingLemmas
 pub mod AskedLemmas
 pub mod StandingLemmas
+pub mod AnswerLemmas
+pub mod ReadyLemmas

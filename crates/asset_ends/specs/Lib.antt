@@ -1,3 +1,5 @@
 pub mod Shows
 pub mod Ended
 pub mod Standing
+pub mod Shown
+pub mod Ready

@@ -4,21 +4,20 @@ use crate::tables::Tables;
 use asset_names::{Kind, NoMemory, Txn};
 
 impl Tables {
-    ghost use Rattle.std.specs.Prelude.{◌≡◌, true, false, List, ◌∷◌, OnOk, OnErr};
-    ghost use Rattle.asset_names.specs.declared.steps.Step.{Step as Request};
-    ghost use Rattle.asset_names.specs.Steps.{Opening};
+    ghost use Rattle.std.specs.Prelude.{◌≡◌, true, false, OnOk, OnErr};
+    ghost use Rattle.asset_names.specs.declared.steps.Step.{Step};
     ghost use Rattle.asset_names.specs.Endings.{is_live_status, would_cycle};
     ghost use Rattle.asset_deps.specs.Dependencies.{would_cycle_in};
     ghost use Rattle.asset_trans.specs.TransRows.{status_in};
-    ghost use Rattle.asset_ends.specs.Shows.{Shows};
-    ghost use Rattle.asset_ends.specs.Standing.{values_of, SameView};
+    ghost use Rattle.asset_ends.specs.Shown.{ForShown, ShowsWith};
+    ghost use Rattle.asset_ends.specs.Standing.{SameView};
 
     /// Returns whether a dependency of this kind of `b` on `a` would close a cycle among the classes of live transactions.
     /// Nothing changes: a search marks what it met, and no call shows that. It takes no memory, and looks only at the
     /// dependencies of those whom it meets.
     pub fn would_cycle(&mut self, kind: Kind, a: Txn, b: Txn) -> bool
         ensures cycle { result ≡ would_cycle_in self.old.deps kind a.0 b.0 }
-        ensures shown { (opening : Opening) (steps : List Request) → Shows opening steps (values_of self.old) → result ≡ would_cycle steps kind a.0 b.0 }
+        ensures shown { ForShown self.old (λ opening steps. result ≡ would_cycle steps kind a.0 b.0) }
         ensures same { self.new ≡ self.old }
     {
         self.deps.would_cycle(kind, a, b)
@@ -30,7 +29,7 @@ impl Tables {
         requires source { is_live_status (status_in self.old.trans a.0) ≡ true }
         requires dependent { is_live_status (status_in self.old.trans b.0) ≡ true }
         requires open { would_cycle_in self.old.deps kind a.0 b.0 ≡ false }
-        ensures stand { OnOk result ((opening : Opening) (steps : List Request) → Shows opening steps (values_of self.old) → Shows opening (Request.Depend kind a b ∷ steps) (values_of self.new)) }
+        ensures stand { OnOk result (ShowsWith self.old (Step.Depend kind a b) self.new) }
         ensures locks { self.new.locks ≡ self.old.locks }
         ensures unchanged { OnErr result (SameView self.new self.old) }
     {

@@ -89,16 +89,15 @@ fn all_completed(trans: &Trans, deps: &Deps) -> bool
 }
 
 impl Tables {
-    ghost use Rattle.std.specs.Prelude.{◌≡◌, ◌∷◌, List, cond, true};
-    ghost use Rattle.asset_names.specs.declared.steps.Step.{Step as Request};
-    ghost use Rattle.asset_names.specs.Steps.{Opening};
+    ghost use Rattle.std.specs.Prelude.{◌≡◌, cond, true};
+    ghost use Rattle.asset_names.specs.declared.steps.Step.{Step};
     ghost use Rattle.asset_names.specs.Answers.{may_commit};
     ghost use Rattle.asset_names.specs.Endings.{is_live_status};
     ghost use Rattle.asset_deps.specs.Dependencies.{class_in, doomed_in};
     ghost use Rattle.asset_locks.specs.LockTable.{release_in};
     ghost use Rattle.asset_trans.specs.TransRows.{status_in};
-    ghost use Rattle.asset_ends.specs.Shows.{Shows};
-    ghost use Rattle.asset_ends.specs.Standing.{values_of, may_commit_in, tried, step_if};
+    ghost use Rattle.asset_ends.specs.Shown.{ForShown, ShowsWith, ShowsWithIf};
+    ghost use Rattle.asset_ends.specs.Standing.{may_commit_in, tried};
 
     /// Returns whether the class of a live transaction may commit: each member has completed, and no commit or abort
     /// dependency leads into the class from a live transaction outside it. Nothing changes: a search marks what it met,
@@ -106,7 +105,7 @@ impl Tables {
     pub fn may_commit(&mut self, t: Txn) -> bool
         requires live { is_live_status (status_in self.old.trans t.0) ≡ true }
         ensures may { result ≡ may_commit_in self.old t.0 }
-        ensures shown { (opening : Opening) (steps : List Request) → Shows opening steps (values_of self.old) → result ≡ may_commit steps t.0 }
+        ensures shown { ForShown self.old (λ opening steps. result ≡ may_commit steps t.0) }
         ensures same { self.new ≡ self.old }
     {
         if !self.deps.is_enrolled(t) {
@@ -122,8 +121,7 @@ impl Tables {
     pub fn try_commit(&mut self, t: Txn) -> Tried
         requires live { is_live_status (status_in self.old.trans t.0) ≡ true }
         ensures tried { result ≡ tried (may_commit_in self.old t.0) }
-        ensures stand { (opening : Opening) (steps : List Request) → Shows opening steps (values_of self.old) →
-            Shows opening (step_if (may_commit_in self.old t.0) (Request.Commit t) steps) (values_of self.new) }
+        ensures stand { ShowsWithIf self.old (may_commit_in self.old t.0) (Step.Commit t) self.new }
         ensures locks { self.new.locks ≡ cond (may_commit_in self.old t.0) (release_in (class_in self.old.deps t.0) self.old.locks) self.old.locks }
     {
         if self.may_commit(t) {
@@ -137,7 +135,7 @@ impl Tables {
     /// Commits a live transaction with its whole class.
     fn commit(&mut self, t: Txn)
         requires live { is_live_status (status_in self.old.trans t.0) ≡ true }
-        ensures stand { (opening : Opening) (steps : List Request) → Shows opening steps (values_of self.old) → Shows opening (Request.Commit t ∷ steps) (values_of self.new) }
+        ensures stand { ShowsWith self.old (Step.Commit t) self.new }
         ensures locks { self.new.locks ≡ release_in (class_in self.old.deps t.0) self.old.locks }
     {
         if self.deps.is_enrolled(t) {
@@ -168,7 +166,7 @@ impl Tables {
     /// their locks, permits and dependencies go. The cost is that of what goes. It takes no memory.
     pub fn abort(&mut self, t: Txn)
         requires live { is_live_status (status_in self.old.trans t.0) ≡ true }
-        ensures stand { (opening : Opening) (steps : List Request) → Shows opening steps (values_of self.old) → Shows opening (Request.Abort t ∷ steps) (values_of self.new) }
+        ensures stand { ShowsWith self.old (Step.Abort t) self.new }
         ensures locks { self.new.locks ≡ release_in (doomed_in self.old.deps t.0) self.old.locks }
     {
         if self.deps.is_enrolled(t) {

@@ -3,6 +3,8 @@
 //! refusals: a call asks that those of its step do not apply.
 #![tactic(auto)]
 
+mod answering;
+mod applying;
 mod delegating;
 mod depending;
 mod ending;

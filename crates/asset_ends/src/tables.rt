@@ -33,8 +33,7 @@ impl Model for Tables {
 }
 
 impl Tables {
-    ghost use Rattle.std.specs.Prelude.{◌≡◌, ℕ, slice_get, List, [], OnOk, IfOk, IfErr};
-    ghost use Rattle.asset_names.specs.declared.steps.Step.{Step as Request};
+    ghost use Rattle.std.specs.Prelude.{◌≡◌, ℕ, slice_get, [], OnOk, IfOk, IfErr};
     ghost use Rattle.asset_names.specs.declared.operations.Op.{Op as Operation};
     ghost use Rattle.asset_names.specs.Steps.{Opening};
     ghost use Rattle.asset_names.specs.Orderly.{IsOrderly};
@@ -47,6 +46,7 @@ impl Tables {
     ghost use Rattle.asset_locks.specs.LockTable.{waiters_in};
     ghost use Rattle.asset_permits.specs.Descriptors.{allows_by};
     ghost use Rattle.asset_trans.specs.TransRows.{status_in, owed_in};
+    ghost use Rattle.asset_ends.specs.Shown.{ForShown};
     ghost use Rattle.asset_ends.specs.Shows.{Shows};
     ghost use Rattle.asset_ends.specs.Standing.{values_of, is_free_for};
 
@@ -90,7 +90,7 @@ impl Tables {
     /// Returns the status of a transaction: Unknown if it was never initiated.
     pub fn status(&self, t: Txn) -> Status
         ensures row { result ≡ status_in self.now.trans t.0 }
-        ensures shown { (opening : Opening) (steps : List Request) → Shows opening steps (values_of self.now) → result ≡ status steps t.0 }
+        ensures shown { ForShown self.now (λ opening steps. result ≡ status steps t.0) }
     {
         self.trans.status(t)
     }
@@ -98,7 +98,7 @@ impl Tables {
     /// Returns how many entries all live transactions are owed.
     pub fn owed(&self) -> usize
         ensures counted { result ≡ owed_in self.now.trans }
-        ensures shown { (opening : Opening) (steps : List Request) → Shows opening steps (values_of self.now) → IsOrderly steps → result ≡ owed steps }
+        ensures shown { ForShown self.now (λ opening steps. IsOrderly steps → result ≡ owed steps) }
     {
         self.trans.owed()
     }
@@ -106,7 +106,7 @@ impl Tables {
     /// Returns the value of an object, and `None` if there is no such object.
     pub fn value(&self, x: Ob) -> Option<i64>
         ensures cell { result ≡ value_in (cells self.now.objects) x.0 }
-        ensures shown { (opening : Opening) (steps : List Request) → Shows opening steps (values_of self.now) → result ≡ value_if_any opening steps x.0 }
+        ensures shown { ForShown self.now (λ opening steps. result ≡ value_if_any opening steps x.0) }
     {
         self.objects.value(x)
     }
@@ -123,9 +123,8 @@ impl Tables {
     /// call shows that.
     pub fn is_free(&mut self, t: Txn, x: Ob, op: Op) -> bool
         ensures free { result ≡ is_free_for self.old t.0 x.0 op }
-        ensures shown { (opening : Opening) (steps : List Request) → Shows opening steps (values_of self.old) → result ≡ free steps t.0 x.0 op }
-        ensures allowed { (opening : Opening) (steps : List Request) → Shows opening steps (values_of self.old) →
-            (u v y : ℕ) (o : Operation) → allows_by self.old.permits u v y o ≡ allows steps u v y o }
+        ensures shown { ForShown self.old (λ opening steps. result ≡ free steps t.0 x.0 op) }
+        ensures allowed { ForShown self.old (λ opening steps. (u v y : ℕ) (o : Operation) → allows_by self.old.permits u v y o ≡ allows steps u v y o) }
         ensures same { self.new ≡ self.old }
     {
         self.locks.is_free(t, x, op, &mut self.permits)

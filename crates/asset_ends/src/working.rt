@@ -5,24 +5,22 @@ use asset_locks::Asked;
 use asset_names::{NoMemory, Ob, ObSet, Op, Ops, Txn};
 
 impl Tables {
-    ghost use Rattle.std.specs.Prelude.{◌≡◌, ℕ, ◌∷◌, List, cond, true, false, None, OnOk, OnErr, IfOk, IsErr};
-    ghost use Rattle.asset_names.specs.declared.steps.Step.{Step as Request};
+    ghost use Rattle.std.specs.Prelude.{◌≡◌, cond, true, false, None, OnOk, OnErr, IfOk, IsErr};
+    ghost use Rattle.asset_names.specs.declared.steps.Step.{Step};
     ghost use Rattle.asset_names.specs.declared.operations.Op.{Op as Operation};
     ghost use Rattle.asset_names.specs.declared.statuses.Status.{Status};
-    ghost use Rattle.asset_names.specs.Steps.{Opening};
-    ghost use Rattle.asset_names.specs.Orderly.{IsOrderly};
     ghost use Rattle.asset_names.specs.Endings.{is_live_status};
     ghost use Rattle.asset_objects.specs.Cells.{cells, value_in, has_object, change_at, written};
     ghost use Rattle.asset_locks.specs.LockTable.{enrol_in};
     ghost use Rattle.asset_locks.specs.Valid.{after_ask};
     ghost use Rattle.asset_trans.specs.TransRows.{status_in};
-    ghost use Rattle.asset_ends.specs.Shows.{Shows};
-    ghost use Rattle.asset_ends.specs.Standing.{values_of, is_free_for, step_if, SameView};
+    ghost use Rattle.asset_ends.specs.Shown.{ShowsOrderly, ShowsWith, ShowsWithIf};
+    ghost use Rattle.asset_ends.specs.Standing.{is_free_for, SameView};
 
     /// Initiates a transaction that never was. If memory runs out, nothing that any call shows has changed.
     pub fn initiate(&mut self, t: Txn, parent: Option<Txn>) -> Result<(), NoMemory>
         requires new { status_in self.old.trans t.0 ≡ Status.Unknown }
-        ensures stand { OnOk result ((opening : Opening) (steps : List Request) → Shows opening steps (values_of self.old) → IsOrderly steps → Shows opening (Request.Initiate t parent ∷ steps) (values_of self.new)) }
+        ensures stand { OnOk result (ShowsOrderly self.old (Step.Initiate t parent) self.new) }
         ensures locks { OnOk result (self.new.locks ≡ enrol_in t.0 self.old.locks) }
         ensures unchanged { OnErr result (SameView self.new self.old) }
     {
@@ -39,7 +37,7 @@ impl Tables {
     /// Starts a transaction that was initiated and has not begun.
     pub fn begin(&mut self, t: Txn)
         requires initiated { status_in self.old.trans t.0 ≡ Status.Initiated }
-        ensures stand { (opening : Opening) (steps : List Request) → Shows opening steps (values_of self.old) → Shows opening (Request.Begin t ∷ steps) (values_of self.new) }
+        ensures stand { ShowsWith self.old (Step.Begin t) self.new }
         ensures locks { self.new.locks ≡ self.old.locks }
     {
         self.trans.begin(t);
@@ -51,8 +49,7 @@ impl Tables {
     pub fn read(&mut self, t: Txn, x: Ob) -> Result<Option<i64>, NoMemory>
         requires runs { status_in self.old.trans t.0 ≡ Status.Running }
         ensures answer { IfOk result (λ read. read ≡ cond (is_free_for self.old t.0 x.0 Operation.Read) (value_in (cells self.old.objects) x.0) None) }
-        ensures stand { OnOk result ((opening : Opening) (steps : List Request) → Shows opening steps (values_of self.old) →
-            Shows opening (step_if (is_free_for self.old t.0 x.0 Operation.Read) (Request.Read t x) steps) (values_of self.new)) }
+        ensures stand { OnOk result (ShowsWithIf self.old (is_free_for self.old t.0 x.0 Operation.Read) (Step.Read t x) self.new) }
         ensures locks { OnOk result (self.new.locks ≡ after_ask (is_free_for self.old t.0 x.0 Operation.Read) t.0 x Operation.Read self.old.locks) }
         ensures memory { IsErr result → is_free_for self.old t.0 x.0 Operation.Read ≡ true }
         ensures unchanged { OnErr result (SameView self.new self.old) }
@@ -70,8 +67,7 @@ impl Tables {
         requires runs { status_in self.old.trans t.0 ≡ Status.Running }
         requires exists { has_object (cells self.old.objects) x.0 ≡ true }
         ensures answer { IfOk result (λ written. written ≡ is_free_for self.old t.0 x.0 Operation.Write) }
-        ensures stand { OnOk result ((opening : Opening) (steps : List Request) → Shows opening steps (values_of self.old) →
-            Shows opening (step_if (is_free_for self.old t.0 x.0 Operation.Write) (Request.Write t x v) steps) (values_of self.new)) }
+        ensures stand { OnOk result (ShowsWithIf self.old (is_free_for self.old t.0 x.0 Operation.Write) (Step.Write t x v) self.new) }
         ensures locks { OnOk result (self.new.locks ≡ after_ask (is_free_for self.old t.0 x.0 Operation.Write) t.0 x Operation.Write self.old.locks) }
         ensures memory { IsErr result → is_free_for self.old t.0 x.0 Operation.Write ≡ true }
         ensures unchanged { OnErr result (SameView self.new self.old) }
@@ -130,7 +126,7 @@ impl Tables {
     /// Completes a transaction that runs.
     pub fn complete(&mut self, t: Txn)
         requires runs { status_in self.old.trans t.0 ≡ Status.Running }
-        ensures stand { (opening : Opening) (steps : List Request) → Shows opening steps (values_of self.old) → Shows opening (Request.Complete t ∷ steps) (values_of self.new) }
+        ensures stand { ShowsWith self.old (Step.Complete t) self.new }
         ensures locks { self.new.locks ≡ self.old.locks }
     {
         self.trans.complete(t);
@@ -141,7 +137,7 @@ impl Tables {
     pub fn permit(&mut self, giver: Txn, taker: Txn, obs: ObSet, ops: Ops) -> Result<(), NoMemory>
         requires giver { is_live_status (status_in self.old.trans giver.0) ≡ true }
         requires taker { is_live_status (status_in self.old.trans taker.0) ≡ true }
-        ensures stand { OnOk result ((opening : Opening) (steps : List Request) → Shows opening steps (values_of self.old) → Shows opening (Request.Permit giver taker obs ops ∷ steps) (values_of self.new)) }
+        ensures stand { OnOk result (ShowsWith self.old (Step.Permit giver taker obs ops) self.new) }
         ensures locks { self.new.locks ≡ self.old.locks }
         ensures unchanged { OnErr result (SameView self.new self.old) }
     {

@@ -11,13 +11,14 @@ use Rattle.asset_names.specs.declared.steps.Step.TheVariants.{Initiate, Begin, R
 use Rattle.asset_names.specs.declared.replies.Reply.{Reply}
 use Rattle.asset_names.specs.declared.replies.Reply.TheVariants as Reply'
 use Rattle.asset_names.specs.Steps.{Opening, Entry}
-use Rattle.asset_names.specs.Sources.{Numbered, source}
+use Rattle.asset_names.specs.Sources.{Numbered, source, IsAlone, IsOwnOrCommitted}
+use Rattle.asset_names.specs.Answers.{IsLegal}
 use Rattle.asset_laws.specs.Renumbered.{source_number, writing, reading, renumbered}
 use Rattle.asset_history.specs.Recorded.{Recorded}
 use Rattle.asset_sources.specs.declared.sourced.Source.{Source}
 use Rattle.asset_sources.specs.Sourced.{source_from, source_of, source_at, read_of}
 use Rattle.asset_sources.specs.Traced.{write_with, reply_with, restored, traced, with_numbers, IsTraced}
-use Rattle.asset_sources.proofs.WalkLemmas.{between, older_length, no_read, source_found}
+use Rattle.asset_sources.proofs.WalkLemmas.{between, older_length, no_read, source_found, alone_found}
 use Rattle.asset_sources.proofs.TraceLemmas.{reversed_front, reversed_end, length_renumbered, length_restored}
 
 -- ---- entries with numbers, and with values
@@ -152,3 +153,22 @@ other_reply given kept run is i found here other entry at =
     let ran : Entry = (writing i entry.0, reading older entry.0 entry.1) in
     let found_is : found ≡ ran = same_Some found ran (sym here ∙ run_entry given kept run is i entry at) in
     untold all i entry at (unread older entry.0 entry.1 (λ n value. other n (ap (λ (e : Entry). e.1) found_is ∙ value)))
+
+-- ---- who is alone
+
+-- the entry over the older ones has their count as its index
+at_between : (newer older : List Entry) (entry : Entry) → slice_get (reverse (newer ++ entry ∷ older)) (length older) ≡ Some entry
+at_between [] older entry = reversed_end entry older (length older) refl
+at_between (new ∷ newer) older entry = reversed_front new (newer ++ entry ∷ older) (length older) (omega (arith, length-append newer (entry ∷ older))) ∙ at_between newer older entry
+
+-- a read of who is alone in its group is told with its source, which is the opening, its own write or a committed one
+pub alone_read : (run : Recorded) (index : ℕ) (result : Option (Step × ℤ × Source)) → IsLegal run.opening run.entries
+    → ((entry : Entry) → slice_get (reverse run.entries) index ≡ Some entry → result ≡ read_of entry.0 entry.1 (source_at run.entries index))
+    → (newer older : List Entry) (t : Txn) (x : Ob) (v : ℤ) → run.entries ≡ newer ++ (Read t x, Reply'.Value v) ∷ older → index ≡ length older → IsAlone run.entries t.0
+    → (result ≡ Some (Read t x, v, source_from (source older x.0))) × IsOwnOrCommitted older t x (source older x.0)
+unfolding read_of
+alone_read run index result legal told newer older t x v is at alone =
+    let entry : Entry = (Read t x, Reply'.Value v) in
+    let law = alone_found run.opening run.entries newer older t x v legal is alone in
+    let here : slice_get (reverse run.entries) index ≡ Some entry = (λ i. slice_get (reverse (is i)) (at i)) ∙ at_between newer older entry in
+    (told entry here ∙ ap (read_of (Read t x) (Reply'.Value v)) (ap (source_at run.entries) at ∙ law.0), law.1)

@@ -1,5 +1,5 @@
 -- A run with numbers, and the history that it keeps.
-use Rattle.std.proofs.Common.{◌≡◌, ℕ, ◌+◌, ◌<◌, ℤ, suc, Bool, true, false, cond, eqb, ◌&&◌, List, [], ◌∷◌, ◌++◌, length, reverse, refl, sym, ap, ◌∙◌, arith, Some, None}
+use Rattle.std.proofs.Common.{◌≡◌, ℕ, ◌+◌, ◌<◌, ℤ, suc, Bool, true, false, cond, eqb, ◌&&◌, List, [], ◌∷◌, ◌++◌, length, reverse, refl, sym, ap, subst, ◌∙◌, arith, Some, None}
 use Rattle.std.specs.Prelude.{Option, pos, is_some, slice_get, unwrap_or}
 use Rattle.std.proofs.lemmas.Bool.{eqb-true, leb-true}
 use Rattle.std.proofs.lemmas.List.{length-append, length-reverse, reverse-append, reverse-reverse}
@@ -16,7 +16,7 @@ use Rattle.asset_names.specs.declared.replies.Outcome.TheVariants.{Answer, Wait}
 use Rattle.asset_names.specs.Steps.{Opening, Entry, takes_effect, applied}
 use Rattle.asset_names.specs.Operations.{free, operations, exists, opening_at, opening_value, after_use, value_after, value, value_if_any}
 use Rattle.asset_names.specs.Sources.{Numbered, entry_at, source, source_value}
-use Rattle.asset_names.specs.Answers.{takes_memory, outcome_takes_effect, unrefused, answer}
+use Rattle.asset_names.specs.Answers.{takes_memory, outcome_takes_effect, unrefused, answer, IsLegal}
 use Rattle.asset_names.specs.Room.{fits, changes_status}
 use Rattle.asset_laws.specs.Renumbered.{source_number, writing, reading, outcome_read, renumbered, zeroed}
 use Rattle.asset_laws.proofs.SourceLemmas.{source_gives, source_written}
@@ -164,11 +164,17 @@ traced_more given kept run step reply =
     rw (reverse-append kept (value_in step reply ∷ []))
     (λ i. record { opening = given; entries = (step_back n step reply i, reply_back n older step reply i) ∷ older; capacity = run.capacity })
 
+-- an answer leaves the history legal
+legal_more : (given : Opening) (kept : List ℤ) (run : Recorded) (step : Step) (reply : Reply) → answer_to (traced given kept run) step ≡ Answer reply → IsLegal given (traced given kept run).entries
+    → IsLegal given (with_entry (traced given kept run) step reply).entries
+unfolding traced with_entry answer_to IsLegal
+legal_more given kept run step reply answer legal = (answer, legal)
+
 -- and it is kept so
-pub is_traced_more : (given : Opening) (kept : List ℤ) (run : Recorded) → IsTraced given kept run → (step : Step) (reply : Reply)
+pub is_traced_more : (given : Opening) (kept : List ℤ) (run : Recorded) → IsTraced given kept run → (step : Step) (reply : Reply) → answer_to (traced given kept run) step ≡ Answer reply
     → IsTraced given (kept ++ value_in step reply ∷ []) (with_entry run (writing (length run.entries) step) (reading (traced given kept run).entries step reply))
 unfolding with_entry with_numbers renumbered
-is_traced_more given kept run is step reply =
+is_traced_more given kept run is step reply answer =
     let older = (traced given kept run).entries in
     record {
       numbers =
@@ -176,6 +182,7 @@ is_traced_more given kept run is step reply =
           ∙ ap (λ (n : ℕ). with_entry (with_numbers (traced given kept run)) (writing n step) (reading older step reply)) (traced_length given kept run)
           ∙ sym (ap with_numbers (traced_more given kept run step reply));
       long = length-append kept (value_in step reply ∷ []) ∙ omega (arith, is.long);
+      legal = subst (λ (r : Recorded). IsLegal given r.entries) (sym (traced_more given kept run step reply)) (legal_more given kept run step reply answer is.legal);
     }
 
 -- ---- the outcome with values
@@ -262,8 +269,8 @@ traced_ending given kept run is step =
 
 -- before the first step
 pub opened_traced : (given : Opening) (capacity : ℕ) → IsTraced given [] (opened (zeroed given) capacity)
-unfolding opened with_numbers traced restored renumbered
-opened_traced given capacity = record { numbers = refl; long = refl }
+unfolding opened with_numbers traced restored renumbered IsLegal
+opened_traced given capacity = record { numbers = refl; long = refl; legal = tt }
 
 pub opened_view : (given : Opening) (capacity : ℕ) → traced given [] (opened (zeroed given) capacity) ≡ opened given capacity
 unfolding opened traced restored
@@ -351,10 +358,10 @@ step_unread older (WaitFor t) reply numbered is other = is
 -- ---- the run after a step
 
 -- the history with one more entry, and that it is kept, of a run and values that have one more
-pub after_answer : (given : Opening) (kept more : List ℤ) (run next : Recorded) (step : Step) (reply : Reply) → IsTraced given kept run → more ≡ kept ++ value_in step reply ∷ []
-    → next ≡ with_entry run (writing (length run.entries) step) (reading (traced given kept run).entries step reply)
+pub after_answer : (given : Opening) (kept more : List ℤ) (run next : Recorded) (step : Step) (reply : Reply) → IsTraced given kept run → answer_to (traced given kept run) step ≡ Answer reply
+    → more ≡ kept ++ value_in step reply ∷ [] → next ≡ with_entry run (writing (length run.entries) step) (reading (traced given kept run).entries step reply)
     → (traced given more next ≡ with_entry (traced given kept run) step reply) × IsTraced given more next
-after_answer given kept more run next step reply is values steps = rw (values, steps) (traced_more given kept run step reply, is_traced_more given kept run is step reply)
+after_answer given kept more run next step reply is answer values steps = rw (values, steps) (traced_more given kept run step reply, is_traced_more given kept run is step reply answer)
 
 -- there is room for one more entry
 pub room_within : (run : Recorded) (step : Step) (reply : Reply) → has_room run step (Answer reply) ≡ true → length run.entries < run.capacity

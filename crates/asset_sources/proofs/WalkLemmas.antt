@@ -24,9 +24,9 @@ use Rattle.asset_laws.proofs.SourceLemmas.{alone_source}
 use Rattle.asset_history.specs.Recorded.{Recorded, objects_of}
 use Rattle.asset_ends.specs.Shows.{Shows}
 use Rattle.asset_ends.specs.Standing.{Standing, values_of}
-use Rattle.asset_core.specs.Tables.{IsReady}
-use Rattle.asset_core.proofs.AnswerLemmas.{read_unrefused}
-use Rattle.asset_core.proofs.ReadyLemmas.{ready}
+use Rattle.asset_ends.specs.Ready.{IsReady}
+use Rattle.asset_ends.proofs.AnswerLemmas.{read_unrefused}
+use Rattle.asset_ends.proofs.ReadyLemmas.{ready}
 use Rattle.asset_sources.specs.Sourced.{source_from, source_of, sources_of, source_at}
 use Rattle.asset_sources.specs.Walked.{first_entries, ShowsFirst}
 

@@ -8,6 +8,7 @@ use Rattle.asset_names.specs.declared.replies.Reply.{Reply}
 use Rattle.asset_names.specs.declared.replies.Reply.TheVariants.{Done, Value}
 use Rattle.asset_names.specs.Steps.{Opening, Entry}
 use Rattle.asset_names.specs.Sources.{entry_at}
+use Rattle.asset_names.specs.Answers.{IsLegal}
 use Rattle.asset_laws.specs.Renumbered.{renumbered, zeroed}
 use Rattle.asset_history.specs.Recorded.{Recorded}
 use Rattle.asset_ends.specs.Shows.{Shows}
@@ -43,10 +44,12 @@ traced opening values history = record { opening = opening; entries = restored (
 unfoldable pub with_numbers : Recorded → Recorded
 with_numbers history = record { opening = zeroed history.opening; entries = renumbered history.entries; capacity = history.capacity }
 
--- the history of a run with numbers: it has the numbers of the entries that it had with these opening values and values
+-- the history of a run with numbers: it has the numbers of the entries that it had with these opening values and values, and
+-- with those it is legal
 pub record IsTraced (given : Opening) (kept : List ℤ) (run : Recorded) : Type 0 where
   pub numbers : run ≡ with_numbers (traced given kept run)
   pub long : length kept ≡ length run.entries
+  pub legal : IsLegal given (traced given kept run).entries
 
 -- a run with numbers: its history, tables with the opening values, and room for the values of all entries
 pub record IsTracing (given : Opening) (kept : List ℤ) (run : Recorded) (tables : Standing) (reserved : ℕ) : Type 0 where

@@ -27,10 +27,16 @@ impl Model for Trace {
 }
 
 impl Trace {
-    ghost use Rattle.std.specs.Prelude.{◌≡◌, ◌≤◌, None, Some, length, reverse, slice_get};
+    ghost use Rattle.std.specs.Prelude.{◌≡◌, ◌≤◌, ℤ, None, Some, List, ◌∷◌, ◌++◌, length, reverse, slice_get};
+    ghost use Rattle.asset_names.specs.declared.names.Txn.{Txn};
+    ghost use Rattle.asset_names.specs.declared.names.Ob.{Ob};
+    ghost use Rattle.asset_names.specs.declared.steps.Step.TheVariants.{Read};
+    ghost use Rattle.asset_names.specs.declared.replies.Reply.TheVariants.{Value};
     ghost use Rattle.asset_names.specs.Steps.{Entry};
+    ghost use Rattle.asset_names.specs.Sources.{IsAlone, IsOwnOrCommitted};
+    ghost use Rattle.asset_names.specs.Sources.{source as last_write};
     ghost use Rattle.asset_history.specs.Recorded.{Recorded};
-    ghost use Rattle.asset_sources.specs.Sourced.{source_at, read_of};
+    ghost use Rattle.asset_sources.specs.Sourced.{source_from, source_at, read_of};
     ghost use Rattle.asset_sources.specs.Traced.{traced, IsTraced};
 
     /// Returns the trace of a history with numbers, by the opening values and those that its entries wrote or read.
@@ -53,11 +59,14 @@ impl Trace {
     }
 
     /// Returns the read of the entry at the index, oldest first from 0, with the value that it got and the source of that
-    /// value; `None` if the entry is no read, if its read was not answered by a value, or past the end.
+    /// value; `None` if the entry is no read, if its read was not answered by a value, or past the end. Who is alone in its
+    /// group reads opening values, its own writes and committed ones.
     #[inline(always)]
     pub fn read(&self, index: usize) -> Option<(Step, i64, Source)>
         ensures past { length self.now.entries ≤ index → result ≡ None }
         ensures read { (entry : Entry) → slice_get (reverse self.now.entries) index ≡ Some entry → result ≡ read_of entry.0 entry.1 (source_at self.now.entries index) }
+        ensures alone { (newer older : List Entry) (t : Txn) (x : Ob) (v : ℤ) → self.now.entries ≡ newer ++ (Read t x, Value v) ∷ older → index ≡ length older → IsAlone self.now.entries t.0 →
+            (result ≡ Some (Read t x, v, source_from (last_write older x.0))) × IsOwnOrCommitted older t x (last_write older x.0) }
     {
         let (step, reply) = self.numbered.entry(index)?;
         match step {

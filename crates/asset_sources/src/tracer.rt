@@ -35,12 +35,12 @@ impl Model for Tracer {
 }
 
 impl Tracer {
-    ghost use Rattle.std.specs.Prelude.{◌≡◌, ◌↔◌, true, false, IfOk, IsOk, OnErr, IsErrOf};
+    ghost use Rattle.std.specs.Prelude.{◌≡◌, IfOk};
     ghost use Rattle.asset_names.specs.Sets.{HasNoDouble};
-    ghost use Rattle.asset_names.specs.Answers.{takes_memory, outcome_takes_effect};
-    ghost use Rattle.asset_history.specs.Recorded.{objects_of, opened, answer_to, after, has_room, is_ending};
+    ghost use Rattle.asset_history.specs.Recorded.{objects_of, opened};
     ghost use Rattle.asset_laws.specs.Renumbered.{zeroed};
     ghost use Rattle.asset_core.specs.OpenFaults.{IsCapacity};
+    ghost use Rattle.asset_history.specs.Answered.{IsAnswered};
 
     /// Opens the facility over objects that are all different, with their values and with room for `capacity` entries, which
     /// is from 1 to 1,000,000. It fails only if memory runs out.
@@ -89,12 +89,7 @@ impl Tracer {
     /// Asks for one step, as `Core::step` does: it has the same outcomes, room and faults. After a fault nothing has changed.
     #[inline(always)]
     pub fn step(&mut self, step: Step) -> Result<Outcome, Fault>
-        ensures answered { IfOk result (λ outcome. outcome ≡ answer_to self.old step) }
-        ensures grown { IfOk result (λ outcome. self.new ≡ after self.old step outcome) }
-        ensures full { IsErrOf result Fault.Full ↔ (has_room self.old step (answer_to self.old step) ≡ false) }
-        ensures memory { IsErrOf result Fault.NoMemory → (takes_memory step ≡ true) × (outcome_takes_effect step (answer_to self.old step) ≡ true) }
-        ensures ending { is_ending self.old step (answer_to self.old step) ≡ true → IsOk result }
-        ensures fault { OnErr result (self.new ≡ self.old) }
+        ensures { IsAnswered self.old step result self.new }
     {
         let number = self.core.history().len();
         match self.core.step(writing(number, &step)) {

@@ -1,22 +1,21 @@
 //! The walk over a history on tables that show it with the numbers of entries in place of values.
 
-ghost use Rattle.std.specs.Prelude.{◌≡◌, ◌+◌, ◌<◌, ◌≤◌, ◌^◌, true, List, [], ◌∷◌, length, reverse, slice_get, Some, IfOk, OnOk};
+ghost use Rattle.std.specs.Prelude.{◌≡◌, ◌+◌, ◌<◌, ◌^◌, true, List, ◌∷◌, length, reverse, slice_get, Some, IfOk, OnOk};
 ghost use Rattle.asset_names.specs.Steps.{Opening, Entry, takes_effect, applied};
-ghost use Rattle.asset_names.specs.Orderly.{IsOrderly};
 ghost use Rattle.asset_names.specs.Answers.{IsLegal};
 ghost use Rattle.asset_laws.specs.Renumbered.{writing, renumbered, zeroed};
 ghost use Rattle.asset_ends.specs.Shows.{Shows};
 ghost use Rattle.asset_ends.specs.Standing.{values_of};
-ghost use Rattle.asset_core.specs.Tables.{IsReady};
+ghost use Rattle.asset_ends.specs.Shown.{ShowsEntry};
+ghost use Rattle.asset_ends.specs.Ready.{IsReady};
 ghost use Rattle.asset_sources.specs.Sourced.{source_of};
 ghost use Rattle.asset_sources.specs.Walked.{first_entries, ShowsFirst};
 
 use crate::renumbering::{source_numbered, writing, zeroed};
 use crate::sourced::Source;
-use asset_core::apply_if;
 use asset_ends::Tables;
 use asset_history::History;
-use asset_names::{NoMemory, Reply, Step, takes_effect};
+use asset_names::{NoMemory, Reply, Step};
 use std::alloc::Global;
 
 /// Returns tables with the history's objects, each with the value 0, before the first entry. It answers `NoMemory` if
@@ -38,11 +37,10 @@ fn apply_numbered(
 ) -> Result<(), NoMemory>
     requires small { index + 1 < 2 ^ 63 }
     requires ready { takes_effect step.now reply ≡ true → IsReady (writing index step.now) tables.old }
-    ensures { OnOk result ((opening : Opening) (older : List Entry) → Shows opening (applied older) (values_of tables.old) → IsOrderly (applied older) →
-        Shows opening (applied ((writing index step.now, reply) ∷ older)) (values_of tables.new)) }
+    ensures { OnOk result (ShowsEntry tables.old (writing index step.now, reply) tables.new) }
 {
     let numbered = writing(index, step);
-    apply_if(tables, &numbered, reply, takes_effect(step, reply))
+    tables.apply(&numbered, reply)
 }
 
 /// Takes tables past the entry at the index. It answers `NoMemory` if memory runs out, and the tables are of no more use.

@@ -6,8 +6,9 @@ use Rattle.std.proofs.lemmas.Option.{slice_get_within, slice_get-get_or, none-so
 use Rattle.asset_names.specs.declared.steps.Step.TheVariants.{Read}
 use Rattle.asset_names.specs.declared.replies.Reply.TheVariants.{Value}
 use Rattle.asset_names.specs.Steps.{Entry}
+use Rattle.asset_sources.specs.Traced.{traced}
 use Rattle.asset_sources.proofs.TraceLemmas.{traced_length}
-use Rattle.asset_sources.proofs.ReadLemmas.{run_entry, read_told, other_step, other_reply}
+use Rattle.asset_sources.proofs.ReadLemmas.{run_entry, read_told, other_step, other_reply, alone_read}
 use Rattle.asset_sources.proofs.trace.Trace.read.Goals as goal
 
 pub returns-in_err-step-clause-read : goal.returns-in_err-step-clause-read
@@ -64,3 +65,20 @@ returns-in-Value-clause-past c = rw (← c.self.view_is) (λ past.
     let found : Entry = (c.in_ok-step.step, c.in_ok-step.reply) in
     let within = slice_get_within (reverse inside.numbered.entries) c.args.index found (sym c.entry.ensures.entry ∙ c.in_ok-step.was) in
     absurd (omega (arith, within, past, length-reverse inside.numbered.entries, traced_length inside.opening.items inside.values.items inside.numbered)))
+
+-- the clause on who is alone follows from that on reads
+pub returns-in_err-step-clause-alone : goal.returns-in_err-step-clause-alone
+unfolding traced
+returns-in_err-step-clause-alone c = alone_read c.args.self.now c.args.index _ (rw (← c.self.view_is) c.self.invariant.legal) (returns-in_err-step-clause-read c)
+
+pub returns-in-Value-clause-alone : goal.returns-in-Value-clause-alone
+unfolding traced
+returns-in-Value-clause-alone c = alone_read c.args.self.now c.args.index _ (rw (← c.self.view_is) c.self.invariant.legal) (returns-in-Value-clause-read c)
+
+pub returns-in_default-reply-clause-alone : goal.returns-in_default-reply-clause-alone
+unfolding traced
+returns-in_default-reply-clause-alone c = alone_read c.args.self.now c.args.index _ (rw (← c.self.view_is) c.self.invariant.legal) (returns-in_default-reply-clause-read c)
+
+pub returns-in_default-clause-alone : goal.returns-in_default-clause-alone
+unfolding traced
+returns-in_default-clause-alone c = alone_read c.args.self.now c.args.index _ (rw (← c.self.view_is) c.self.invariant.legal) (returns-in_default-clause-read c)

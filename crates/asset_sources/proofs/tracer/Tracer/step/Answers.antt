@@ -1,14 +1,15 @@
-use Rattle.std.proofs.Common.{◌≡◌, ◌∷◌, ◌++◌, [], length, vec_len, w64, to_z, of_z, Ok, sym, ap, subst, ◌∙◌, arith}
+use Rattle.std.proofs.Common.{◌≡◌, ◌∷◌, ◌++◌, [], length, vec_len, w64, to_z, of_z, Ok, refl, sym, ap, subst, ◌∙◌, arith}
 use Rattle.std.specs.Prelude.{ℤ, vec_capacity}
 use Rattle.std.proofs.lemmas.Int.{to_z-of_z}
 use Rattle.std.specs.Result.{IsErrOf}
 use Rattle.asset_names.specs.declared.replies.Fault.{Fault}
-use Rattle.asset_names.specs.declared.replies.Fault.TheVariants.{Full}
+use Rattle.asset_names.specs.declared.replies.Fault.TheVariants.{Full, NoMemory}
 use Rattle.asset_names.specs.declared.replies.Outcome.{Outcome}
 use Rattle.asset_names.specs.declared.replies.Outcome.TheVariants.{Answer, Wait}
 use Rattle.asset_names.specs.Answers.{takes_memory, outcome_takes_effect}
 use Rattle.asset_laws.specs.Renumbered.{writing, reading}
 use Rattle.asset_history.specs.Recorded.{Recorded, answer_to, after, with_entry, has_room, is_ending}
+use Rattle.asset_core.specs.Pending.{Facility}
 use Rattle.asset_sources.specs.Traced.{value_in, traced, IsTraced, IsTracing}
 use Rattle.asset_sources.proofs.TraceLemmas.{has_written, traced_answer, traced_wait, traced_full, traced_effect, traced_ending, memory_same, after_answer, room_within, is_true}
 use Rattle.asset_sources.proofs.tracer.Tracer.step.Goals as goal
@@ -44,11 +45,14 @@ next c =
     let values : c.push.new.self.items ≡ kept ++ value_in c.args.step reply ∷ [] = (rw c.unwrap.ensures at c.push.ensures.items) ∙ ap (λ (v : ℤ). kept ++ v ∷ []) (back ∙ c.value_in.ensures) in
     let run_is : c.step.new.self.history ≡ with_entry run (writing (length run.entries) c.args.step) (reading (traced given kept run).entries c.args.step reply) =
     c.in-Ok-Answer.ensures.grown ∙ ap (after run c.writing.result) c.in-Ok-Answer.field-0-is ∙ (λ i. with_entry run (step_is i) ((told c).1 i)) in
-    after_answer given kept c.push.new.self.items run c.step.new.self.history c.args.step reply c.self.invariant.history values run_is
+    after_answer given kept c.push.new.self.items run c.step.new.self.history c.args.step reply c.self.invariant.history (told c).0 values run_is
 
 -- an outcome is no fault
 not_full : (outcome : Outcome) → IsErrOf {T = Outcome} {E = Fault} (Ok outcome) Full → ⊥
 not_full outcome is = cc
+
+not_lacking : (outcome : Outcome) → IsErrOf {T = Outcome} {E = Fault} (Ok outcome) NoMemory → ⊥
+not_lacking outcome is = cc
 
 pub unwrap-requires : goal.unwrap-requires
 unwrap-requires c =
@@ -80,57 +84,51 @@ pub invariant_of-self-in-Ok-Wait : goal.invariant_of-self-in-Ok-Wait
 invariant_of-self-in-Ok-Wait c =
     subst (λ (h : Recorded). IsTracing c.self.inside.opening.items c.self.inside.values.items h c.self.inside.opened (vec_capacity c.self.inside.values)) (sym (waited c)) c.self.invariant
 
-pub returns-in-Ok-Answer-clause-answered : goal.returns-in-Ok-Answer-clause-answered
-returns-in-Ok-Answer-clause-answered c = rw (← c.self.view_is) (sym (told c).0)
-
-pub returns-in-Ok-Answer-clause-grown : goal.returns-in-Ok-Answer-clause-grown
+pub returns-in-Ok-Answer : goal.returns-in-Ok-Answer
 unfolding after
-returns-in-Ok-Answer-clause-grown c = rw (← c.self.view_is) (next c).0
-
-pub returns-in-Ok-Answer-clause-full : goal.returns-in-Ok-Answer-clause-full
-returns-in-Ok-Answer-clause-full c =
+returns-in-Ok-Answer c =
     let run = c.self.inside.core.history in
     let step_is : c.writing.result ≡ writing (length run.entries) c.args.step = c.writing.ensures ∙ ap (λ n. writing n c.args.step) (c.len-number.ensures.len ∙ ap (λ (h : Recorded). length h.entries) c.history.ensures.history) in
     let same = ap (λ s. has_room run s (answer_to run s)) step_is ∙ traced_full c.self.inside.opening.items c.self.inside.values.items run c.self.invariant.history c.args.step in
-    rw (← c.self.view_is) (λ full. absurd (not_full (Answer c.reply_restored-reply.result) full), λ none. absurd (not_full c.in-Ok-Answer.field-0 (c.in-Ok-Answer.ensures.full.1 (same ∙ none))))
+    rw (← c.self.view_is) (record {
+      answered = sym (told c).0;
+      grown = (next c).0;
+      full = (λ full. absurd (not_full (Answer c.reply_restored-reply.result) full), λ none. absurd (not_full c.in-Ok-Answer.field-0 (c.in-Ok-Answer.ensures.full.1 (same ∙ none))));
+      memory = λ none. absurd (not_lacking (Answer c.reply_restored-reply.result) none);
+      ending = λ ends. refl;
+      fault = tt;
+    })
 
-pub returns-in-Ok-Wait-clause-answered : goal.returns-in-Ok-Wait-clause-answered
-returns-in-Ok-Wait-clause-answered c =
+pub returns-in-Ok-Wait : goal.returns-in-Ok-Wait
+unfolding after
+returns-in-Ok-Wait c =
     let run = c.self.inside.core.history in
     let step_is : c.writing.result ≡ writing (length run.entries) c.args.step = c.writing.ensures ∙ ap (λ n. writing n c.args.step) (c.len-number.ensures.len ∙ ap (λ (h : Recorded). length h.entries) c.history.ensures.history) in
     let waits = ap (answer_to run) (sym step_is) ∙ sym c.in-Ok-Wait.ensures.answered ∙ c.in-Ok-Wait.field-0-is in
-    rw (← c.self.view_is) (sym (traced_wait c.self.inside.opening.items c.self.inside.values.items run c.self.invariant.history c.args.step waits))
-
-pub returns-in-Ok-Wait-clause-grown : goal.returns-in-Ok-Wait-clause-grown
-unfolding after
-returns-in-Ok-Wait-clause-grown c = rw (← c.self.view_is) (ap (traced c.self.inside.opening.items c.self.inside.values.items) (waited c))
-
-pub returns-in-Ok-Wait-clause-full : goal.returns-in-Ok-Wait-clause-full
-returns-in-Ok-Wait-clause-full c =
-    let run = c.self.inside.core.history in
-    let step_is : c.writing.result ≡ writing (length run.entries) c.args.step = c.writing.ensures ∙ ap (λ n. writing n c.args.step) (c.len-number.ensures.len ∙ ap (λ (h : Recorded). length h.entries) c.history.ensures.history) in
     let same = ap (λ s. has_room run s (answer_to run s)) step_is ∙ traced_full c.self.inside.opening.items c.self.inside.values.items run c.self.invariant.history c.args.step in
-    rw (← c.self.view_is) (λ full. absurd (not_full Wait full), λ none. absurd (not_full c.in-Ok-Wait.field-0 (c.in-Ok-Wait.ensures.full.1 (same ∙ none))))
+    rw (← c.self.view_is) (record {
+      answered = sym (traced_wait c.self.inside.opening.items c.self.inside.values.items run c.self.invariant.history c.args.step waits);
+      grown = ap (traced c.self.inside.opening.items c.self.inside.values.items) (waited c);
+      full = (λ full. absurd (not_full Wait full), λ none. absurd (not_full c.in-Ok-Wait.field-0 (c.in-Ok-Wait.ensures.full.1 (same ∙ none))));
+      memory = λ none. absurd (not_lacking Wait none);
+      ending = λ ends. refl;
+      fault = tt;
+    })
 
-pub returns-in-Err-clause-full : goal.returns-in-Err-clause-full
-returns-in-Err-clause-full c =
+pub returns-in-Err : goal.returns-in-Err
+returns-in-Err c =
     let run = c.self.inside.core.history in
     let step_is : c.writing.result ≡ writing (length run.entries) c.args.step = c.writing.ensures ∙ ap (λ n. writing n c.args.step) (c.len-number.ensures.len ∙ ap (λ (h : Recorded). length h.entries) c.history.ensures.history) in
-    let same = ap (λ s. has_room run s (answer_to run s)) step_is ∙ traced_full c.self.inside.opening.items c.self.inside.values.items run c.self.invariant.history c.args.step in
-    rw (← c.self.view_is, ← same) c.in-Err.ensures.full
-
-pub returns-in-Err-clause-memory : goal.returns-in-Err-clause-memory
-returns-in-Err-clause-memory c =
-    let run = c.self.inside.core.history in
-    let step_is : c.writing.result ≡ writing (length run.entries) c.args.step = c.writing.ensures ∙ ap (λ n. writing n c.args.step) (c.len-number.ensures.len ∙ ap (λ (h : Recorded). length h.entries) c.history.ensures.history) in
-    let same = ap (λ s. outcome_takes_effect s (answer_to run s)) step_is ∙ traced_effect c.self.inside.opening.items c.self.inside.values.items run c.self.invariant.history c.args.step in
-    rw (← c.self.view_is) (λ none.
-    let memory = c.in-Err.ensures.memory none in
-    (sym (memory_same (length run.entries) c.args.step) ∙ ap takes_memory (sym step_is) ∙ memory.0, sym same ∙ memory.1))
-
-pub returns-in-Err-clause-ending : goal.returns-in-Err-clause-ending
-returns-in-Err-clause-ending c =
-    let run = c.self.inside.core.history in
-    let step_is : c.writing.result ≡ writing (length run.entries) c.args.step = c.writing.ensures ∙ ap (λ n. writing n c.args.step) (c.len-number.ensures.len ∙ ap (λ (h : Recorded). length h.entries) c.history.ensures.history) in
-    let same = ap (λ s. is_ending run s (answer_to run s)) step_is ∙ traced_ending c.self.inside.opening.items c.self.inside.values.items run c.self.invariant.history c.args.step in
-    rw (← c.self.view_is) (λ ending. c.in-Err.ensures.ending (same ∙ ending))
+    let room = ap (λ s. has_room run s (answer_to run s)) step_is ∙ traced_full c.self.inside.opening.items c.self.inside.values.items run c.self.invariant.history c.args.step in
+    let effect = ap (λ s. outcome_takes_effect s (answer_to run s)) step_is ∙ traced_effect c.self.inside.opening.items c.self.inside.values.items run c.self.invariant.history c.args.step in
+    let ends = ap (λ s. is_ending run s (answer_to run s)) step_is ∙ traced_ending c.self.inside.opening.items c.self.inside.values.items run c.self.invariant.history c.args.step in
+    rw (← c.self.view_is) (record {
+      answered = tt;
+      grown = tt;
+      full = (λ full. sym room ∙ c.in-Err.ensures.full.0 full, λ none. c.in-Err.ensures.full.1 (room ∙ none));
+      memory = λ none.
+          let memory = c.in-Err.ensures.memory none in
+          (sym (memory_same (length run.entries) c.args.step) ∙ ap takes_memory (sym step_is) ∙ memory.0, sym effect ∙ memory.1);
+      ending = λ ending. c.in-Err.ensures.ending (ends ∙ ending);
+      fault = ap (λ (core : Facility). traced c.self.inside.opening.items c.self.inside.values.items core.history) c.in-Err.ensures.fault;
+    })
