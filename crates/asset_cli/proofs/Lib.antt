@@ -4,3 +4,8 @@ pub mod OpeningLemmas
 pub mod PreambleLemmas
 pub mod RunLemmas
 pub mod ReportingLemmas
+pub mod WritableLemmas
+pub mod AgainLemmas
+pub mod LeftLemmas
+pub mod ReportAgainLemmas
+pub mod RoomLemmas

@@ -6,3 +6,4 @@ pub mod Playing
 pub mod Preamble
 pub mod Runs
 pub mod Reporting
+pub mod Again

@@ -5,6 +5,7 @@
 mod device;
 mod ends;
 mod faults;
+mod laws;
 mod opening_objects;
 mod player;
 mod preamble;
@@ -17,4 +18,9 @@ mod writing;
 pub use device::Device;
 pub use ends::RunEnd;
 pub use faults::ScriptFault;
-pub use running::{groups_script, prune_script, run_script, serial_script, sources_script};
+pub use laws::printed_scripts_run_again;
+pub use reporting::{Report, Work};
+pub use running::{
+    groups_script, prune_script, run_for, run_script, serial_script, sources_script,
+};
+pub use writing::write_all;

@@ -16,8 +16,8 @@ use asset_reports::{push_groups, push_pruned, push_serial, push_sources};
 use std::alloc::Global;
 
 /// A report that is made of the history that a script leaves.
-#[derive(Clone, Copy)]
-pub(crate) enum Report {
+#[derive(Clone, Copy, Debug, PartialEq, Eq)]
+pub enum Report {
     /// The script without dead groups.
     Pruned,
     /// The groups.
@@ -27,8 +27,8 @@ pub(crate) enum Report {
 }
 
 /// What a script is run for.
-#[derive(Clone, Copy)]
-pub(crate) enum Work {
+#[derive(Clone, Copy, Debug, PartialEq, Eq)]
+pub enum Work {
     /// Its transcript.
     Run,
     /// The sources of what was read.

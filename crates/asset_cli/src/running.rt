@@ -1,10 +1,11 @@
 //! Runs a script: reads all of it, renders what it is run for, and writes that.
-ghost use Rattle.std.specs.Prelude.{◌≡◌, true, false, OnOk, IfOk, IfErr};
+ghost use Rattle.std.specs.Prelude.{◌≡◌, ℕ, true, false, List, OnOk, IfOk, IfErr};
 ghost use Rattle.asset_core.specs.OpenFaults.{IsCapacity};
 ghost use Rattle.asset_cli.specs.Device.{IsUnused};
 ghost use Rattle.asset_cli.specs.Transcript.{transcript};
 ghost use Rattle.asset_cli.specs.Reporting.{grouped, pruned, reported, serialized, sourced, transcript_of};
 ghost use Rattle.asset_cli.specs.Runs.{WroteAll, Stops};
+ghost use Rattle.asset_cli.specs.Again.{PrunedRunsAgain, SerialRunsAgain};
 
 use crate::device::Device;
 use crate::ends::RunEnd;
@@ -15,8 +16,9 @@ use crate::writing::write_all;
 use std::alloc::Global;
 use std::io::{Read, Write};
 
-/// Reads the script that the reader gives, renders what it is run for, and writes that, as `run_script` does.
-fn run_for<R: Read, W: Write>(
+/// Runs the script that the reader gives, and writes what the work gives of it: its transcript, or a report on the history
+/// that it leaves. What `run_script` says of faults and requires holds here too.
+pub fn run_for<R: Read, W: Write>(
     alloc: Global,
     input: &mut Device<R>,
     output: &mut Device<W>,
@@ -66,8 +68,9 @@ pub fn run_script<R: Read, W: Write>(
 }
 
 /// Runs the script that the reader gives, and writes the script that is left without its dead groups: the objects, and the
-/// steps that were answered and are of no dead group. Run again, it gets the replies that they had. A bad line is all that
-/// is written, if there is one. What `run_script` says of faults and requires holds here too.
+/// steps that were answered and are of no dead group. Run again, over a history with room for its entries, it gets the replies
+/// that they had. A bad line is all that is written, if there is one. What `run_script` says of faults and requires holds
+/// here too.
 pub fn prune_script<R: Read, W: Write>(
     alloc: Global,
     input: &mut Device<R>,
@@ -81,6 +84,7 @@ pub fn prune_script<R: Read, W: Write>(
     ensures sound_output { OnOk result (output.new.failed ≡ false) }
     ensures wrote { IfOk result (WroteAll R.remaining W.contents (λ bytes. reported pruned bytes capacity) input.old input.new output.old output.new) }
     ensures stopped { IfErr result (Stops R.remaining W.contents (λ bytes. reported pruned bytes capacity) input.old input.new output.old output.new) }
+    ensures again { (bytes : List ℕ) → PrunedRunsAgain bytes capacity }
 {
     run_for(alloc, input, output, capacity, Work::Report(Report::Pruned))
 }
@@ -106,7 +110,7 @@ pub fn groups_script<R: Read, W: Write>(
 }
 
 /// Runs the script that the reader gives, and writes the script of those who committed, one after another in the order of
-/// their commits: the objects, and the steps of each that were answered. Run alone, it gets the replies that they had, and
+/// their commits: the objects, and the steps of each that were answered. Run again, it gets the replies that they had, and
 /// leaves what they left. If those who committed shared something with anybody, the line `shared` is written instead, and
 /// the run ends with `Shared`. A bad line is all that is written, if there is one. What `run_script` says of faults and
 /// requires holds here too.
@@ -123,6 +127,7 @@ pub fn serial_script<R: Read, W: Write>(
     ensures sound_output { OnOk result (output.new.failed ≡ false) }
     ensures wrote { IfOk result (WroteAll R.remaining W.contents (λ bytes. reported serialized bytes capacity) input.old input.new output.old output.new) }
     ensures stopped { IfErr result (Stops R.remaining W.contents (λ bytes. reported serialized bytes capacity) input.old input.new output.old output.new) }
+    ensures again { (bytes : List ℕ) → SerialRunsAgain bytes capacity }
 {
     run_for(alloc, input, output, capacity, Work::Report(Report::Serial))
 }

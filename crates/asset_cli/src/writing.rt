@@ -9,7 +9,7 @@ use std::io::Write;
 
 /// Writes all of the text, offering the writer what is left until it has taken everything. If the writer
 /// fails, a prefix of the text was written.
-pub(crate) fn write_all<W: Write>(output: &mut Device<W>, text: &[u8]) -> Result<(), ScriptFault>
+pub fn write_all<W: Write>(output: &mut Device<W>, text: &[u8]) -> Result<(), ScriptFault>
     ensures took { OnOk result
         (Appends (W.contents output.old.inner) (W.contents output.new.inner) text.now) }
     ensures sound { OnOk result (output.new.failed ≡ output.old.failed) }

@@ -3,3 +3,5 @@ pub mod NumberLemmas
 mod GrammarCases
 pub mod NumberLaws
 pub mod SetLemmas
+pub mod RisingLemmas
+pub mod ParsedLemmas

@@ -8,3 +8,4 @@ pub mod DependOperands
 pub mod Sets
 pub mod Grammar
 pub mod Texts
+pub mod Writable

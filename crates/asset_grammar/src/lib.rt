@@ -4,6 +4,7 @@
 
 mod grammar;
 mod keywords;
+mod laws;
 mod lines;
 mod numbers;
 mod operands;
@@ -12,5 +13,6 @@ mod texts;
 mod words;
 
 pub use grammar::{Command, Line};
+pub use laws::lines_say_what_is_in_range;
 pub use lines::split_line;
 pub use texts::{push_bad_line, push_full, push_outcome};

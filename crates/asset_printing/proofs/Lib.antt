@@ -1,3 +1,5 @@
 pub mod WordLemmas
 pub mod SetLemmas
 pub mod StepLemmas
+pub mod PlainLemmas
+pub mod SaidLemmas

@@ -1,0 +1,7 @@
+use Rattle.std.proofs.Common.{rules}
+use Rattle.asset_grammar.specs.Texts.{outcome_line, line_end}
+use Rattle.asset_grammar.proofs.texts.push_outcome.Goals as goal
+
+pub returns-in-Wait : goal.returns-in-Wait
+unfolding outcome_line line_end
+returns-in-Wait c = search rules
