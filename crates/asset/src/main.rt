@@ -2,20 +2,16 @@
 //! standard output.
 #![tactic(auto)]
 
-mod arguments;
-mod exit;
-mod program;
-#[cfg(test)]
-mod tests;
-
-use crate::program::run_program;
+use asset_cli::Device;
+use asset_program::{read_arguments, requested, run_program};
 use std::process::ExitCode;
 
 fn main(rt: HostRuntime) -> ExitCode {
-    let arguments = arguments::arguments(&rt);
-    let mut input = rt.stdin();
-    let mut output = rt.stdout();
+    let arguments = read_arguments(&rt);
+    let request = requested(rt.alloc(), &arguments);
+    let mut input = Device::new(rt.stdin());
+    let mut output = Device::new(rt.stdout());
     let mut errors = rt.stderr();
-    let status = run_program(rt.alloc(), &arguments, &mut input, &mut output, &mut errors);
+    let status = run_program(rt.alloc(), &request, &mut input, &mut output, &mut errors);
     ExitCode::from(status)
 }

@@ -1,10 +1,10 @@
 //! Locks that go from one transaction to another, on worked values, and what is left if memory runs out.
 
 use crate::locks::ask;
-use crate::sets::listed;
 use asset_locks::{Asked, LockState, Locks};
 use asset_names::{NoMemory, Ob, ObList, ObSet, Op, Ops, Txn};
 use asset_permits::Permits;
+use asset_test_tools::listed;
 use std::alloc::Global;
 
 /// Enrols both, and hands the locks of the giver on the objects over to the taker.

@@ -4,7 +4,6 @@ use asset_locks::{Asked, LockState, Locks};
 use asset_names::{NoMemory, Ob, ObSet, Op, Ops, Txn};
 use asset_permits::Permits;
 use std::alloc::Global;
-use std::test::Fail;
 
 /// Enrols a transaction, unless it is enrolled, and asks for an operation under these permits.
 pub(crate) fn ask_once(
@@ -40,29 +39,30 @@ pub(crate) fn ask(
     }
 }
 
-/// A table in which 7, 9 and 8 are enrolled, in this order, and 7 has done an operation on 1. At first nobody
-/// permits anything.
+/// A table in which 7, 9 and 8 are enrolled, in this order, once it is filled. At first nobody permits anything.
 #[derive(Drop)]
 struct Three {
     locks: Locks,
     permits: Permits,
 }
 
-/// Enrols 7, 9 and 8, and lets 7 do an operation on 1.
-fn fill(locks: &mut Locks, permits: &mut Permits, op: Op) -> Result<(), NoMemory> {
-    enrol(locks, 7)?;
-    enrol(locks, 9)?;
-    enrol(locks, 8)?;
-    ask(locks, 7, 1, op, permits)?;
-    Ok(())
-}
-
 impl Three {
-    fn new(alloc: Global, op: Op) -> Result<Three, NoMemory> {
-        let mut permits = Permits::new(alloc);
-        let mut locks = Locks::new(alloc);
-        fill(&mut locks, &mut permits, op)?;
-        Ok(Three { locks, permits })
+    /// Returns a table with nobody in it.
+    fn new(alloc: Global) -> Three {
+        Three {
+            locks: Locks::new(alloc),
+            permits: Permits::new(alloc),
+        }
+    }
+
+    /// Enrols 7, 9 and 8, and lets 7 do an operation on 1. Returns whether it could.
+    fn fill(&mut self, op: Op) -> bool {
+        for t in [7, 9, 8] {
+            if enrol(&mut self.locks, t) != Ok(()) {
+                return false;
+            }
+        }
+        ask(&mut self.locks, 7, 1, op, &mut self.permits) == Ok(Asked::Granted)
     }
 
     fn eight_asks(&mut self, x: u64, op: Op) -> Result<Asked, NoMemory> {
@@ -154,46 +154,41 @@ impl Three {
 }
 
 #[test]
-fn waiter_goes_on_after_release(rt: HostRuntime) -> Result<(), Fail> {
-    let mut three = Three::new(rt.alloc(), Op::Write)?;
-    let goes_on = three.eight_waits() && three.eight_goes_on();
+fn waiter_goes_on_after_release(rt: HostRuntime) {
+    let mut three = Three::new(rt.alloc());
+    let goes_on = three.fill(Op::Write) && three.eight_waits() && three.eight_goes_on();
     drop(three);
     assert!(rt; goes_on);
-    Ok(())
 }
 
 #[test]
-fn waiters_come_in_order_of_enrolment(rt: HostRuntime) -> Result<(), Fail> {
-    let mut three = Three::new(rt.alloc(), Op::Read)?;
-    let in_order = three.nine_comes_first();
+fn waiters_come_in_order_of_enrolment(rt: HostRuntime) {
+    let mut three = Three::new(rt.alloc());
+    let in_order = three.fill(Op::Read) && three.nine_comes_first();
     drop(three);
     assert!(rt; in_order);
-    Ok(())
 }
 
 #[test]
-fn enrolled_transaction_is_not_enrolled_again(rt: HostRuntime) -> Result<(), Fail> {
-    let mut three = Three::new(rt.alloc(), Op::Write)?;
-    let unchanged = three.nine_stays_enrolled();
+fn enrolled_transaction_is_not_enrolled_again(rt: HostRuntime) {
+    let mut three = Three::new(rt.alloc());
+    let unchanged = three.fill(Op::Write) && three.nine_stays_enrolled();
     drop(three);
     assert!(rt; unchanged);
-    Ok(())
 }
 
 #[test]
-fn readers_share_an_object(rt: HostRuntime) -> Result<(), Fail> {
-    let mut three = Three::new(rt.alloc(), Op::Read)?;
-    let shared = three.readers_share();
+fn readers_share_an_object(rt: HostRuntime) {
+    let mut three = Three::new(rt.alloc());
+    let shared = three.fill(Op::Read) && three.readers_share();
     drop(three);
     assert!(rt; shared);
-    Ok(())
 }
 
 #[test]
-fn permitted_writer_suspends_the_giver(rt: HostRuntime) -> Result<(), Fail> {
-    let mut three = Three::new(rt.alloc(), Op::Write)?;
-    let suspended = three.eight_suspends_seven();
+fn permitted_writer_suspends_the_giver(rt: HostRuntime) {
+    let mut three = Three::new(rt.alloc());
+    let suspended = three.fill(Op::Write) && three.eight_suspends_seven();
     drop(three);
     assert!(rt; suspended);
-    Ok(())
 }

@@ -1,10 +1,10 @@
 //! Locks beside a plain table that does the same by scanning, and locks past any small number.
 
-use crate::drawing::next;
 use crate::locks::ask_once;
 use asset_locks::{Asked, LockState, Locks};
 use asset_names::{NoMemory, Ob, ObSet, Op, Ops, Txn};
 use asset_permits::Permits;
+use asset_test_tools::next;
 use std::test::Fail;
 
 /// How many transactions and objects there are beside the table, and how many calls are drawn.
@@ -259,20 +259,20 @@ fn call(
     Ok(asked == ask_plainly(table, t, x, op)?)
 }
 
-/// Makes drawn calls until one does not agree with the table. Returns whether all agreed.
-fn calls_agree(
+/// Draws calls, and returns the first after which locks and table differ, or that both answer differently.
+fn first_difference(
     locks: &mut Locks,
     permits: &mut Permits,
     table: &mut PlainTable,
-) -> Result<bool, Fail> {
+) -> Result<Option<usize>, Fail> {
     let mut number: u64 = 42;
-    for _ in 0..CALLS {
+    for i in 0..CALLS {
         number = next(number);
         if !call(locks, permits, table, number)? || !agrees(locks, permits, table) {
-            return Ok(false);
+            return Ok(Some(i));
         }
     }
-    Ok(true)
+    Ok(None)
 }
 
 /// Lets 1 do everything that 0 may do. If memory runs out once, the same call is made again.
@@ -294,12 +294,12 @@ fn locks_agree_with_a_plain_table(rt: HostRuntime) -> Result<(), Fail> {
         locks: Vec::new(rt.alloc()),
     };
     let permitted = permit(&mut permits);
-    let agree = calls_agree(&mut locks, &mut permits, &mut table);
+    let difference = first_difference(&mut locks, &mut permits, &mut table);
     drop(locks);
     drop(permits);
     drop(table);
     assert_eq!(rt; permitted, Ok(()));
-    assert!(rt; agree?);
+    assert_eq!(rt; difference?, None);
     Ok(())
 }
 

@@ -4,10 +4,10 @@ ghost use Rattle.std.specs.Prelude.{◌<◌};
 
 use crate::handing::hand;
 use crate::locks::ask_once;
-use crate::sets::listed;
 use asset_locks::{Asked, LockState, Locks};
 use asset_names::{Ob, ObList, ObSet, Op, Txn};
 use asset_permits::Permits;
+use asset_test_tools::listed;
 
 /// How many objects 7 locks.
 const LOCKED: usize = 300;

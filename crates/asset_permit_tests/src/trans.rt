@@ -1,0 +1,131 @@
+//! Each public call on worked values, and what is left if memory runs out.
+
+use asset_names::{End, NoMemory, Status, Txn};
+use asset_trans::Trans;
+
+/// How many transactions are initiated if memory runs out once.
+const COUNT: u64 = 20;
+
+/// Initiates a transaction if it is Unknown, and returns whether it was.
+pub(crate) fn initiate(trans: &mut Trans, t: Txn, parent: Option<Txn>) -> Result<bool, NoMemory> {
+    match trans.status(t) {
+        Status::Unknown => {
+            trans.initiate(t, parent)?;
+            Ok(true)
+        }
+        _ => Ok(false),
+    }
+}
+
+/// Initiates as `initiate` does. If memory runs out, nothing has changed, and the same call is made again.
+fn initiate_again(trans: &mut Trans, t: Txn, parent: Option<Txn>) -> Result<bool, NoMemory> {
+    let before = (trans.owed(), trans.live_count());
+    match initiate(trans, t, parent) {
+        Ok(initiated) => Ok(initiated),
+        Err(NoMemory) => {
+            let now = (trans.owed(), trans.live_count());
+            if trans.status(t) == Status::Unknown && now == before {
+                initiate(trans, t, parent)
+            } else {
+                Ok(false)
+            }
+        }
+    }
+}
+
+/// Begins a transaction if it is Initiated, and returns whether it was.
+pub(crate) fn begin(trans: &mut Trans, t: Txn) -> bool {
+    match trans.status(t) {
+        Status::Initiated => {
+            trans.begin(t);
+            true
+        }
+        _ => false,
+    }
+}
+
+/// Completes a transaction if it is Running, and returns whether it was.
+pub(crate) fn complete(trans: &mut Trans, t: Txn) -> bool {
+    match trans.status(t) {
+        Status::Running => {
+            trans.complete(t);
+            true
+        }
+        _ => false,
+    }
+}
+
+/// Ends a transaction if it is live, and returns whether it was.
+pub(crate) fn end(trans: &mut Trans, t: Txn, how: End) -> bool {
+    if trans.status(t).is_live() {
+        trans.end(t, how);
+        true
+    } else {
+        false
+    }
+}
+
+/// Returns whether `t` has this status, and `live` transactions are owed `owed` entries.
+pub(crate) fn shows(trans: &Trans, t: u64, status: Status, owed: usize, live: usize) -> bool {
+    trans.status(Txn(t)) == status && trans.owed() == owed && trans.live_count() == live
+}
+
+/// Returns whether each change of the one transaction, 7, is shown, up to its commit.
+fn changes_are_shown(trans: &mut Trans) -> bool {
+    initiate_again(trans, Txn(7), None) == Ok(true)
+        && shows(trans, 7, Status::Initiated, 2, 1)
+        && begin(trans, Txn(7))
+        && shows(trans, 7, Status::Running, 2, 1)
+        && complete(trans, Txn(7))
+        && shows(trans, 7, Status::Completed, 1, 1)
+        && end(trans, Txn(7), End::Committed)
+        && shows(trans, 7, Status::Committed, 0, 0)
+        && !end(trans, Txn(7), End::Aborted)
+}
+
+#[test]
+fn statuses_and_what_is_owed(rt: HostRuntime) {
+    let mut trans = Trans::new(rt.alloc());
+    let shown = changes_are_shown(&mut trans);
+    drop(trans);
+    assert!(rt; shown);
+}
+
+/// Returns whether 8 has its parent, 7, which is no transaction, and can abort.
+fn parent_stands(trans: &mut Trans) -> bool {
+    initiate_again(trans, Txn(8), Some(Txn(7))) == Ok(true)
+        && trans.parent(Txn(8)) == Some(Txn(7))
+        && trans.parent(Txn(7)) == None
+        && trans.status(Txn(9)) == Status::Unknown
+        && end(trans, Txn(8), End::Aborted)
+        && trans.status(Txn(8)) == Status::Aborted
+}
+
+#[test]
+fn parent_is_recorded(rt: HostRuntime) {
+    let mut trans = Trans::new(rt.alloc());
+    let recorded = parent_stands(&mut trans);
+    drop(trans);
+    assert!(rt; recorded);
+}
+
+/// Returns whether `COUNT` transactions are initiated, one after another, and none twice.
+fn all_are_initiated(trans: &mut Trans) -> bool {
+    let mut alike = true;
+    for t in 0..COUNT {
+        alike = initiate_again(trans, Txn(t), None) == Ok(true)
+            && trans.status(Txn(t)) == Status::Initiated
+            && alike;
+    }
+    alike
+        && (trans.owed(), trans.live_count()) == (40, 20)
+        && initiate(trans, Txn(7), None) == Ok(false)
+}
+
+#[test]
+fn out_of_memory_changes_nothing(rt: HostRuntime) {
+    let mut trans = Trans::new(rt.alloc());
+    let initiated = all_are_initiated(&mut trans);
+    drop(trans);
+    assert!(rt; initiated);
+}

@@ -1,0 +1,34 @@
+-- What a run of the program comes to.
+use Rattle.std.specs.Prelude.{◌≡◌, ℕ, List, Option, MatchOption, Result, MatchResult, string_bytes}
+use Rattle.asset_cli.specs.declared.ends.RunEnd.{RunEnd}
+use Rattle.asset_cli.specs.declared.faults.ScriptFault.{ScriptFault}
+use Rattle.asset_cli.specs.declared.reporting.Work.{Work}
+use Rattle.asset_cli.specs.Device.{DeviceState}
+use Rattle.asset_cli.specs.Transfers.{TookPrefix}
+use Rattle.asset_cli.specs.Reporting.{transcript_of}
+use Rattle.asset_cli.specs.Runs.{WroteAll, Stops}
+use Rattle.asset_program.specs.declared.requests.Request.{Request}
+use Rattle.asset_program.specs.declared.answers.Answer.{Answer}
+use Rattle.asset_program.specs.declared.answers.Answer.TheVariants.{Help, Refusal, Fault}
+use Rattle.asset_program.specs.Exit.{run_status, capacity_of}
+
+module _ {R W : Type 0} (remaining : R → Option (List ℕ)) (contents : W → Option (List ℕ)) where
+  -- A script was run for this work, over a history with room for `capacity` entries. The status says how the run ended; what
+  -- was written is what the work gives of all bytes that were read, or at a fault a prefix of it or nothing.
+  pub record RunsScript (work : Work) (capacity : ℕ) (input input' : DeviceState R) (output output' : DeviceState W) (status : ℕ) : Type 0 where
+    pub ended : Result RunEnd ScriptFault
+    pub says : status ≡ run_status ended
+    pub ran : MatchResult ended (WroteAll remaining contents (λ bytes. transcript_of work bytes capacity) input input' output output')
+        (Stops remaining contents (λ bytes. transcript_of work bytes capacity) input input' output output')
+
+  -- a request runs a script with the capacity that it asks for; if that is out of range, nothing is read or written
+  unfoldable pub Serves : Request → DeviceState R → DeviceState R → DeviceState W → DeviceState W → ℕ → Type 0
+  Serves request input input' output output' status = MatchOption (capacity_of request.capacity)
+      ((status ≡ 2) × (input' ≡ input) × (output' ≡ output))
+      (λ capacity. RunsScript request.work capacity input input' output output' status)
+
+-- help and the version go to the writer, or a prefix of them if it fails; of another answer it sees nothing
+unfoldable pub Shows : {W : Type 0} → (W → Option (List ℕ)) → Answer → DeviceState W → DeviceState W → Type 0
+Shows contents (Help text) output output' = TookPrefix contents output output' (string_bytes text)
+Shows contents (Refusal text) output output' = output' ≡ output
+Shows contents (Fault fault) output output' = output' ≡ output

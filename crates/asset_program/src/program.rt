@@ -1,0 +1,103 @@
+//! The program over any reader and writers: from what the arguments ask for to the exit status.
+
+ghost use Rattle.std.specs.Prelude.{◌≡◌, IfOk, IfErr, OnErr};
+ghost use Rattle.asset_core.specs.OpenFaults.{IsCapacity};
+ghost use Rattle.asset_cli.specs.Device.{IsUnused};
+ghost use Rattle.asset_program.specs.Exit.{answer_status};
+ghost use Rattle.asset_program.specs.Program.{RunsScript, Serves, Shows};
+
+use crate::answers::Answer;
+use crate::exit::{status_of_answer, status_of_run};
+use crate::requests::{Request, capacity_or_default};
+use asset_cli::{Device, Work, run_for, write_all};
+use std::alloc::Global;
+use std::io::{Read, Write};
+
+/// Runs the script that the reader gives for the work. Says a fault to the errors. Returns the exit status.
+fn run<R: Read, W: Write, E: Write>(
+    alloc: Global,
+    work: Work,
+    capacity: usize,
+    input: &mut Device<R>,
+    output: &mut Device<W>,
+    errors: &mut E,
+) -> u8
+    requires capacity { IsCapacity capacity }
+    requires unused_input { IsUnused input.old }
+    requires unused_output { IsUnused output.old }
+    ensures { RunsScript R.remaining W.contents work capacity input.old input.new output.old output.new result }
+{
+    let ended = run_for(alloc, input, output, capacity, work);
+    if let Err(fault) = ended {
+        let _ = writeln!(errors, "asset: {fault}");
+    }
+    status_of_run(ended)
+}
+
+/// Runs the script that the reader gives as the request says. Returns the exit status.
+#[tactic(auto, unfolding(crate::specs::Program::Serves))]
+fn serve<R: Read, W: Write, E: Write>(
+    alloc: Global,
+    request: &Request,
+    input: &mut Device<R>,
+    output: &mut Device<W>,
+    errors: &mut E,
+) -> u8
+    requires unused_input { IsUnused input.old }
+    requires unused_output { IsUnused output.old }
+    ensures { Serves R.remaining W.contents request.now input.old input.new output.old output.new result }
+{
+    match capacity_or_default(request.capacity) {
+        Some(capacity) => run(alloc, request.work, capacity, input, output, errors),
+        None => {
+            let _ = writeln!(errors, "asset: a capacity is a number from 1 to 1000000");
+            2
+        }
+    }
+}
+
+/// Writes the help or the version that was asked for to the output, or why no script is run to the errors.
+#[tactic(auto, unfolding(crate::specs::Program::Shows))]
+fn show<W: Write, E: Write>(answer: &Answer, output: &mut Device<W>, errors: &mut E)
+    ensures { Shows W.contents answer.now output.old output.new }
+{
+    match answer {
+        Answer::Help(text) => {
+            let _ = write_all(output, text.as_bytes());
+        }
+        Answer::Refusal(text) => {
+            let _ = write!(errors, "{text}");
+        }
+        Answer::Fault(fault) => {
+            let _ = writeln!(errors, "asset: {fault}");
+        }
+    }
+}
+
+/// Runs the program as the arguments ask for it. A script comes from the input, and its transcript or report goes to the
+/// output; so do the help and the version that are asked for. A fault, and why arguments are refused, go to the errors.
+/// Returns the exit status.
+///
+/// Requires devices that were asked nothing.
+pub fn run_program<R: Read, W: Write, E: Write>(
+    alloc: Global,
+    request: &Result<Request, Answer>,
+    input: &mut Device<R>,
+    output: &mut Device<W>,
+    errors: &mut E,
+) -> u8
+    requires unused_input { IsUnused input.old }
+    requires unused_output { IsUnused output.old }
+    ensures serves { IfOk request.now (λ request. Serves R.remaining W.contents request input.old input.new output.old output.new result) }
+    ensures shows { IfErr request.now (λ answer. Shows W.contents answer output.old output.new) }
+    ensures status { IfErr request.now (λ answer. result ≡ answer_status answer) }
+    ensures unread { OnErr request.now (input.new ≡ input.old) }
+{
+    match request {
+        Ok(request) => serve(alloc, request, input, output, errors),
+        Err(answer) => {
+            show(answer, output, errors);
+            status_of_answer(answer)
+        }
+    }
+}

@@ -1,0 +1,109 @@
+//! Readers and writers that fail, and arguments that could not be read.
+
+use crate::running::{list, run_over};
+use asset_cli::ScriptFault;
+use asset_program::ArgumentsFault;
+use std::io;
+use std::process::Abort;
+use std::test::Fail;
+
+/// Fails at each call.
+#[derive(Drop)]
+struct Failing;
+
+impl io::Read for Failing {
+    fn read(&mut self, _buf: &mut [u8]) -> io::Result<usize> {
+        Err(io::Error::from(io::ErrorKind::Other))
+    }
+}
+
+impl io::Write for Failing {
+    fn write(&mut self, _buf: &[u8]) -> io::Result<usize> {
+        Err(io::Error::from(io::ErrorKind::Other))
+    }
+
+    fn flush(&mut self) -> io::Result<()> {
+        Ok(())
+    }
+}
+
+/// A script of one step.
+const SCRIPT: &[u8] = b"initiate 7\n";
+
+#[test]
+fn failing_reader_ends_with_one(rt: HostRuntime) -> Result<(), Fail> {
+    let arguments = Ok(list(rt.alloc(), &["run"])?);
+    let mut written = Vec::new(rt.alloc());
+    let mut complaints = Vec::new(rt.alloc());
+    let status = run_over(
+        rt.alloc(),
+        &arguments,
+        Failing,
+        &mut written,
+        &mut complaints,
+    );
+    assert_eq!(rt; (status, written.len()), (1, 0));
+    assert_eq!(rt; str::from_utf8(&complaints)?, "asset: read fault\n");
+    Ok(())
+}
+
+/// Asserts what the program says with these arguments if its writer fails, and its exit status.
+fn expect_without_output(
+    rt: &(impl Abort + AllocGlobal),
+    texts: &[&str],
+    errors: &str,
+    status: u8,
+) -> Result<(), Fail> {
+    let arguments = Ok(list(rt.alloc(), texts)?);
+    let mut complaints = Vec::new(rt.alloc());
+    let ended = run_over(rt.alloc(), &arguments, SCRIPT, Failing, &mut complaints);
+    assert_eq!(rt; ended, status, "at {texts:?}");
+    assert_eq!(rt; str::from_utf8(&complaints)?, errors, "at {texts:?}");
+    Ok(())
+}
+
+#[test]
+fn failing_writer_ends_with_one(rt: HostRuntime) -> Result<(), Fail> {
+    expect_without_output(&rt, &["run"], "asset: write fault\n", 1)
+}
+
+#[test]
+fn help_needs_no_writer_that_works(rt: HostRuntime) -> Result<(), Fail> {
+    expect_without_output(&rt, &["--help"], "", 0)
+}
+
+/// Asserts what the program does if its arguments could not be read.
+fn expect_unread(
+    rt: &(impl Abort + AllocGlobal),
+    fault: ArgumentsFault,
+    errors: &str,
+    status: u8,
+) -> Result<(), Fail> {
+    let arguments = Err(fault);
+    let mut written = Vec::new(rt.alloc());
+    let mut complaints = Vec::new(rt.alloc());
+    let ended = run_over(
+        rt.alloc(),
+        &arguments,
+        SCRIPT,
+        &mut written,
+        &mut complaints,
+    );
+    assert_eq!(rt; (ended, written.len()), (status, 0));
+    assert_eq!(rt; str::from_utf8(&complaints)?, errors);
+    Ok(())
+}
+
+#[test]
+fn arguments_that_could_not_be_read(rt: HostRuntime) -> Result<(), Fail> {
+    let not_text = "asset: an argument is not valid UTF-8\n";
+    expect_unread(&rt, ArgumentsFault::NotText, not_text, 2)?;
+    expect_unread(&rt, ArgumentsFault::NoMemory, "asset: no memory\n", 1)
+}
+
+#[test]
+fn memory_fault_in_text(rt: HostRuntime) -> Result<(), Fail> {
+    let text = ScriptFault::NoMemory.to_string(rt.alloc())?;
+    assert_eq!(rt; text.as_str(), "no memory");
+    Ok(())
+}

@@ -1,0 +1,22 @@
+//! The tests of the program over readers and writers in memory. They stand in a crate of their own, because a test build
+//! proves again the whole crate that it belongs to.
+#![tactic(auto)]
+
+mod texts;
+
+pub use texts::{HELP, VERSION};
+
+#[cfg(test)]
+mod faults;
+#[cfg(test)]
+mod readme;
+#[cfg(test)]
+mod refusals;
+#[cfg(test)]
+mod requests;
+#[cfg(test)]
+mod running;
+#[cfg(test)]
+mod scripts;
+#[cfg(test)]
+mod statuses;

@@ -1,0 +1,17 @@
+//! What the crates of tests lend one another: short words for steps, sets of objects, drawn numbers and plain tables. No
+//! test stands here, so that what is lent is proved once.
+#![tactic(auto)]
+
+mod drawing;
+mod many_permits;
+mod plain_labels;
+mod sets;
+mod steps;
+
+pub use drawing::{kind_of, next};
+pub use many_permits::{END, FIRST, ONE, Side, pair};
+pub use plain_labels::{join_in, label_in};
+pub use sets::listed;
+pub use steps::{
+    abort, begin, commit, complete, delegate, depend, initiate, permit, read, wait, write,
+};
