@@ -1,0 +1,85 @@
+#!/usr/bin/env python3
+"""Writes the list of files at the end of ARCHITECTURE.md: each crate's files with their first lines.
+
+    docs/list_files.py            writes the list
+    docs/list_files.py --check    exits with 1 if the list is not what it would write, or if the example of README is
+                                  not the one that a test compiles
+"""
+import pathlib
+import sys
+
+TOP = pathlib.Path(__file__).resolve().parent.parent
+PAGE = TOP / "docs" / "ARCHITECTURE.md"
+MARK = "<!-- The rest is written by docs/list_files.py. -->\n"
+
+
+def crates():
+    """Yields the names of crates.txt in order, and its comments as headings."""
+    for line in (TOP / "crates.txt").read_text().splitlines():
+        if line.startswith("# "):
+            yield None, line[2:]
+        elif ":" in line:
+            yield line.split(":")[0].split()[0], None
+
+
+def first_sentence(path):
+    """Returns what the comment at the head of a file says, up to its first stop."""
+    said = []
+    for line in path.read_text().splitlines():
+        if line.startswith("//! "):
+            said.append(line[4:])
+        elif line.startswith("-- "):
+            said.append(line[3:])
+        else:
+            break
+    text = " ".join(said)
+    return text.split(". ")[0].rstrip(".") or "?"
+
+
+def files(crate, folder):
+    """Returns the files of a crate's folder that have a sentence of their own."""
+    root = TOP / "crates" / crate / folder
+    names = {"src": "*.rt", "specs": "*.antt", "proofs": "*.antt"}[folder]
+    found = root.rglob(names) if folder == "src" else root.glob(names)
+    return sorted(path for path in found if path.name != "Lib.antt")
+
+
+def listed():
+    """Returns the list."""
+    lines = [MARK, "\n## Files\n"]
+    layer = None
+    for crate, heading in crates():
+        if crate is None:
+            layer = heading
+            continue
+        if layer:
+            lines.append(f"\n### {layer[0].upper()}{layer[1:]}\n")
+            layer = None
+        lines.append(f"\n**{crate}**\n\n")
+        for folder in ("src", "specs", "proofs"):
+            for path in files(crate, folder):
+                name = path.relative_to(TOP / "crates" / crate).as_posix()
+                lines.append(f"- `{name}`: {first_sentence(path)}\n")
+    return "".join(lines)
+
+
+def tested_example():
+    """Returns the example that a test compiles."""
+    test = (TOP / "crates" / "asset_program_tests" / "src" / "readme.rt").read_text()
+    return test.split("// The example begins here.\n")[1].split("// The example ends here.\n")[0]
+
+
+def main():
+    page = PAGE.read_text()
+    written = page.split(MARK)[0] + listed()
+    if "--check" in sys.argv[1:]:
+        if page != written:
+            sys.exit("docs/ARCHITECTURE.md: the list of files is old; run docs/list_files.py")
+        if f"```rust\n{tested_example()}```\n" not in (TOP / "README.md").read_text():
+            sys.exit("README.md: the example is not that of crates/asset_program_tests/src/readme.rt")
+    else:
+        PAGE.write_text(written)
+
+
+if __name__ == "__main__":
+    main()
