@@ -17,3 +17,4 @@ pub mod RoomLemmas
 pub mod HolderLemmas
 pub mod LiveLemmas
 pub mod RisingLemmas
+pub mod CountLemmas

@@ -13,3 +13,4 @@ pub mod Answers
 pub mod Room
 pub mod Groups
 pub mod Sources
+pub mod Counted

@@ -4,6 +4,7 @@
 #![tactic(auto)]
 
 mod acting;
+mod counts;
 mod doubles;
 mod names;
 mod operations;
@@ -15,6 +16,7 @@ mod statuses;
 mod steps;
 
 pub use acting::{actor, partner};
+pub use counts::Counts;
 pub use doubles::{NamesObject, least_double};
 pub use names::{Ob, Txn};
 pub use operations::{Op, Ops};
