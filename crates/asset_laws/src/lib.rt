@@ -1,11 +1,13 @@
 //! Laws of the definitions over all histories. Each stands on the contract of a function that does nothing.
 #![tactic(auto)]
 
+mod counting;
 mod deletion;
 mod dependencies;
 mod laws;
 mod serial;
 
+pub use counting::counts_never_fall;
 pub use deletion::{
     alone_reads_own_or_committed, conflicting_holders_share_a_group,
     dead_groups_have_not_committed, history_without_dead_groups_is_legal,
