@@ -12,6 +12,7 @@ use Rattle.std.proofs.lemmas.List.Folds.{list_any-append}
 use Rattle.asset_names.specs.Answers.{is_unknown}
 use Rattle.asset_names.specs.Endings.{is_live_status}
 use Rattle.asset_names.specs.Room.{owed_to}
+use Rattle.asset_names.specs.Counted.{has_end}
 use Rattle.asset_names.specs.declared.statuses.Status.TheVariants as Status'
 use Rattle.asset_names.specs.declared.statuses.End.{End}
 use Rattle.asset_names.specs.declared.statuses.End.TheVariants as End'
@@ -19,7 +20,7 @@ use Rattle.asset_names.specs.declared.names.Txn.{Txn}
 use Rattle.asset_names.specs.declared.statuses.Status.{Status}
 use Rattle.asset_names.proofs.Common.{eqb-flip}
 use Rattle.asset_trans.specs.declared.row.TransRow.{TransRow}
-use Rattle.asset_trans.specs.TransRows.{NamedTransRow, row_in, status_in, status_or_unknown, initiate_in, set_in, set_entry, ended_as, one_if_live, live_count_in, owed_in, has_unknown}
+use Rattle.asset_trans.specs.TransRows.{NamedTransRow, row_in, status_in, status_or_unknown, initiate_in, set_in, set_entry, ended_as, one_if_live, live_count_in, owed_in, one_if_ended, ended_in, has_unknown}
 
 -- whether two names are one, as the map looks for a name
 abbrev pub same : Txn → Txn → Bool
@@ -117,6 +118,35 @@ live_counts Status'.Completed h = (refl, refl)
 live_counts Status'.Unknown h = absurd (false≢true h)
 live_counts Status'.Committed h = absurd (false≢true h)
 live_counts Status'.Aborted h = absurd (false≢true h)
+
+-- who is live has not ended
+pub live_not_ended : (how : End) (status : Status) → is_live_status status ≡ true → one_if_ended how status ≡ 0
+unfolding is_live_status one_if_ended has_end
+live_not_ended End'.Committed Status'.Initiated h = refl
+live_not_ended End'.Committed Status'.Running h = refl
+live_not_ended End'.Committed Status'.Completed h = refl
+live_not_ended End'.Aborted Status'.Initiated h = refl
+live_not_ended End'.Aborted Status'.Running h = refl
+live_not_ended End'.Aborted Status'.Completed h = refl
+live_not_ended how Status'.Unknown h = absurd (false≢true h)
+live_not_ended how Status'.Committed h = absurd (false≢true h)
+live_not_ended how Status'.Aborted h = absurd (false≢true h)
+
+-- no more have ended than there are rows
+pub most_ended : (how : End) (rows : List NamedTransRow) → ended_in how rows ≤ 2 * length rows
+unfolding ended_in one_if_ended
+most_ended how rows = sum_most (λ row. one_if_ended how row.status) rows (λ row. go (has_end how row.status)) where
+  go : (is : Bool) → cond is 1 0 ≤ 2
+  go true = omega arith
+  go false = omega arith
+
+-- a new name has not ended
+pub initiated_ended : (how : End) (t : Txn) (parent : Option Txn) (rows : List NamedTransRow) → ended_in how (initiate_in rows t parent) ≡ ended_in how rows
+unfolding ended_in initiate_in one_if_ended is_live_status
+initiated_ended how t parent rows =
+    let new : TransRow = record { status = Status'.Initiated; parent = parent } in
+    let values : values_of (rows ++ (t, new) ∷ []) ≡ values_of rows ++ new ∷ [] = map-append (λ (entry : NamedTransRow). entry.1) rows ((t, new) ∷ []) in
+    rw values (omega (arith, sum_by_push (λ (row : TransRow). one_if_ended how row.status) (values_of rows) new, live_not_ended how Status'.Initiated refl))
 
 -- what has ended counts nothing
 pub ended_counts : (how : End) → (owed_to (ended_as how) ≡ 0) × (one_if_live (ended_as how) ≡ 0)

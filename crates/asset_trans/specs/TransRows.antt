@@ -10,6 +10,7 @@ use Rattle.asset_names.specs.declared.statuses.End.TheVariants as End'
 use Rattle.asset_names.specs.Answers.{is_unknown}
 use Rattle.asset_names.specs.Endings.{is_live_status}
 use Rattle.asset_names.specs.Room.{owed_to}
+use Rattle.asset_names.specs.Counted.{has_end}
 use Rattle.asset_trans.specs.declared.row.TransRow.{TransRow}
 
 -- a name with its row
@@ -68,12 +69,22 @@ live_count_in rows = sum_by (λ (row : TransRow). one_if_live row.status) (value
 unfoldable pub owed_in : List NamedTransRow → ℕ
 owed_in rows = sum_by (λ (row : TransRow). owed_to row.status) (values_of rows)
 
+-- what a transaction of this status adds to the number of those that have ended in this way
+unfoldable pub one_if_ended : End → Status → ℕ
+one_if_ended how status = cond (has_end how status) 1 0
+
+-- how many transactions have ended in this way
+unfoldable pub ended_in : End → List NamedTransRow → ℕ
+ended_in how rows = sum_by (λ (row : TransRow). one_if_ended how row.status) (values_of rows)
+
 -- whether a row has the status Unknown
 unfoldable pub has_unknown : List NamedTransRow → Bool
 has_unknown rows = list_any (λ (entry : NamedTransRow). is_unknown entry.1.status) rows
 
 -- no row is Unknown, and the counters are the sums over the rows
-pub record IsValid (rows : List NamedTransRow) (live owed : ℕ) : Type 0 where
+pub record IsValid (rows : List NamedTransRow) (live owed committed aborted : ℕ) : Type 0 where
   pub known : has_unknown rows ≡ false
   pub counts_live : live ≡ live_count_in rows
   pub counts_owed : owed ≡ owed_in rows
+  pub counts_committed : committed ≡ ended_in End'.Committed rows
+  pub counts_aborted : aborted ≡ ended_in End'.Aborted rows

@@ -4,7 +4,7 @@ ghost use Rattle.std.specs.Prelude.{◌≡◌, ℕ, ◌+◌, ◌<◌, ◌^◌, t
 ghost use Rattle.std.specs.Map.{values_of};
 ghost use Rattle.asset_names.specs.declared.statuses.Status.{Status};
 ghost use Rattle.asset_names.specs.Room.{owed_to};
-ghost use Rattle.asset_trans.specs.TransRows.{row_in, status_in, initiate_in, set_in, ended_as, one_if_live};
+ghost use Rattle.asset_trans.specs.TransRows.{row_in, status_in, initiate_in, set_in, ended_as, one_if_live, one_if_ended};
 
 use crate::row::TransRow;
 use asset_names::{End, NoMemory, Status, Txn};
@@ -19,6 +19,8 @@ pub struct Trans {
     rows: IndexMap<Txn, TransRow>,
     live: usize,
     owed: usize,
+    committed: usize,
+    aborted: usize,
 }
 
 impl Model for Trans {
@@ -29,7 +31,7 @@ impl Model for Trans {
 
     ghost view = { λ trans. trans.rows.entries };
 
-    ghost invariant = { λ trans. IsValid trans.rows.entries trans.live trans.owed };
+    ghost invariant = { λ trans. IsValid trans.rows.entries trans.live trans.owed trans.committed trans.aborted };
 }
 
 /// Adds a transaction that has no row, as Initiated.
@@ -73,6 +75,18 @@ fn one_if_live(status: Status) -> usize
     if status.is_live() { 1 } else { 0 }
 }
 
+/// Returns 1 for the status of a transaction that has ended in this way, and 0 for any other.
+#[tactic(auto, unfolding(crate::specs::TransRows::one_if_ended, asset_names::specs::Counted::has_end))]
+fn one_if_ended(how: End, status: Status) -> usize
+    ensures { result ≡ one_if_ended how status }
+{
+    match (how, status) {
+        (End::Committed, Status::Committed) => 1,
+        (End::Aborted, Status::Aborted) => 1,
+        _ => 0,
+    }
+}
+
 /// Returns the status after an end.
 #[tactic(auto, unfolding(crate::specs::TransRows::ended_as))]
 fn ended_as(how: End) -> Status
@@ -88,7 +102,7 @@ impl Trans {
     ghost use Rattle.std.specs.Prelude.{◌≡◌, ◌≤◌, true, false, [], None, OnOk, OnErr, ◌==◌, is_some};
     ghost use Rattle.asset_names.specs.declared.statuses.Status.{Status};
     ghost use Rattle.asset_names.specs.Room.{owed_to};
-    ghost use Rattle.asset_trans.specs.TransRows.{row_in, status_in, parent_in, initiate_in, set_in, ended_as, one_if_live, live_count_in, owed_in};
+    ghost use Rattle.asset_trans.specs.TransRows.{row_in, status_in, parent_in, initiate_in, set_in, ended_as, one_if_live, live_count_in, owed_in, ended_in};
     ghost use Rattle.asset_names.specs.Answers.{is_unknown};
     ghost use Rattle.asset_names.specs.Endings.{is_live_status};
 
@@ -100,6 +114,8 @@ impl Trans {
             rows: IndexMap::new(alloc),
             live: 0,
             owed: 0,
+            committed: 0,
+            aborted: 0,
         }
     }
 
@@ -138,9 +154,10 @@ impl Trans {
         }
     }
 
-    /// Changes the status of `t`, which has a row, to one that is owed no more entries than before.
+    /// Changes the status of `t`, which is live, to one that is owed no more entries than before.
     fn change(&mut self, t: Txn, status: Status)
         requires there { is_some (row_in self.old t.0) ≡ true }
+        requires live { is_live_status (status_in self.old t.0) ≡ true }
         requires known { is_unknown status ≡ false }
         requires owed_less { owed_to status ≤ owed_to (status_in self.old t.0) }
         requires live_less { one_if_live status ≤ one_if_live (status_in self.old t.0) }
@@ -148,8 +165,12 @@ impl Trans {
     {
         let before = self.status(t);
         set_status(&mut self.rows, t, status);
+        // The contract of `len` bounds the number of rows.
+        let _len = self.rows.len();
         self.live -= one_if_live(before) - one_if_live(status);
         self.owed -= before.owed() - status.owed();
+        self.committed += one_if_ended(End::Committed, status);
+        self.aborted += one_if_ended(End::Aborted, status);
     }
 
     /// Starts `t`, which is Initiated.
@@ -189,5 +210,15 @@ impl Trans {
         ensures { result ≡ owed_in self.now }
     {
         self.owed
+    }
+
+    /// Returns how many transactions have ended in this way. It is a counter: no row is looked at.
+    pub fn ended(&self, how: End) -> usize
+        ensures { result ≡ ended_in how self.now }
+    {
+        match how {
+            End::Committed => self.committed,
+            End::Aborted => self.aborted,
+        }
     }
 }

@@ -21,3 +21,7 @@ change-requires-clause-live_less c = rw c.requires.running (omega arith)
 pub change-requires-clause-known : goal.change-requires-clause-known
 unfolding is_unknown
 change-requires-clause-known c = refl
+
+pub change-requires-clause-live : goal.change-requires-clause-live
+unfolding is_live_status
+change-requires-clause-live c = rw c.requires.running refl

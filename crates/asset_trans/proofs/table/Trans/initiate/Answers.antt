@@ -1,6 +1,7 @@
-use Rattle.std.proofs.Common.{arith}
+use Rattle.std.proofs.Common.{arith, ◌∙◌, sym}
+use Rattle.asset_names.specs.declared.statuses.End.TheVariants as End'
 use Rattle.asset_trans.specs.TransRows.{initiate_in}
-use Rattle.asset_trans.proofs.TransRowLemmas.{initiated_counts, most_live, most_owed, unknown_absent, known_initiate}
+use Rattle.asset_trans.proofs.TransRowLemmas.{initiated_counts, most_live, most_owed, unknown_absent, known_initiate, initiated_ended}
 use Rattle.asset_trans.proofs.table.Trans.initiate.Goals as goal
 
 pub overflow_add-self : goal.overflow_add-self
@@ -22,6 +23,8 @@ invariant_of-self-2 c =
       known = known_initiate c.args.t c.args.parent c.self.inside.rows.entries c.self.invariant.known;
       counts_live = omega (arith, counts.0, c.self.invariant.counts_live);
       counts_owed = omega (arith, counts.1, c.self.invariant.counts_owed);
+      counts_committed = c.self.invariant.counts_committed ∙ sym (initiated_ended End'.Committed c.args.t c.args.parent c.self.inside.rows.entries);
+      counts_aborted = c.self.invariant.counts_aborted ∙ sym (initiated_ended End'.Aborted c.args.t c.args.parent c.self.inside.rows.entries);
     })
 
 pub add_row-requires : goal.add_row-requires
