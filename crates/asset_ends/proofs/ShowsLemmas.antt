@@ -1,6 +1,7 @@
 -- The tables go on standing for the history with each step.
 use Rattle.std.proofs.Common.{◌≡◌, ℕ, Bool, true, false, cond, eqb, ◌&&◌, List, [], ◌∷◌, ◌++◌, reverse, refl, sym, ◌∙◌, ap, subst, arith, Some, None}
 use Rattle.std.specs.Prelude.{Option, ℤ, option_map, is_some, sum_by}
+use Rattle.std.specs.Map.{values_of}
 use Rattle.std.proofs.lemmas.Bool.{or_parts, eqb-true}
 use Rattle.std.proofs.lemmas.List.Sums.{sum_by_push, sum_by-cons}
 use Rattle.asset_names.specs.declared.names.Txn.{Txn}
@@ -9,6 +10,8 @@ use Rattle.asset_names.specs.declared.operations.Op.{Op}
 use Rattle.asset_names.specs.declared.operations.Op.TheVariants as Op'
 use Rattle.asset_names.specs.declared.statuses.Status.{Status}
 use Rattle.asset_names.specs.declared.statuses.Status.TheVariants as Status'
+use Rattle.asset_names.specs.declared.statuses.End.{End}
+use Rattle.asset_names.specs.Counted.{ended_count}
 use Rattle.asset_names.specs.declared.steps.Kind.{Kind}
 use Rattle.asset_names.specs.declared.steps.Step.{Step}
 use Rattle.asset_names.specs.declared.steps.Step.TheVariants.{Initiate, Begin, Read, Write, Complete, Permit, Depend, Commit, Abort, WaitFor}
@@ -32,14 +35,15 @@ use Rattle.asset_deps.specs.Dependencies.{Dependency, arrows_of}
 use Rattle.asset_permits.specs.Descriptors.{Descriptor, allows_by, one_covers, arrows_for}
 use Rattle.asset_objects.specs.Cells.{Cell, Cells, opened, shown, value_in, written, undone, settled, change_at, change_each}
 use Rattle.asset_locks.specs.LockTable as Locks
-use Rattle.asset_trans.specs.TransRows.{NamedTransRow, names_of, row_in, status_in, status_or_unknown, parent_in, parent_or_none, initiate_in, set_in, owed_in}
+use Rattle.asset_trans.specs.declared.row.TransRow.{TransRow}
+use Rattle.asset_trans.specs.TransRows.{NamedTransRow, names_of, row_in, status_in, status_or_unknown, parent_in, parent_or_none, initiate_in, set_in, owed_in, one_if_ended, ended_in}
 use Rattle.asset_ends.specs.Shows.{Shows, cell_of, cell_after, permitted, depended, table_values}
 use Rattle.asset_permits.proofs.ArrowLaws.{arrows_stand}
 use Rattle.asset_ends.specs.Ended.{IsDropped, AreLeft}
 use Rattle.asset_ends.proofs.PermitLaws.{IsAdded, permitted_quiet, permitted_initiate, permitted_end, permitted_permit, permit_ends}
 use Rattle.asset_ends.proofs.DependLaws.{IsJoined, depended_quiet, depended_initiate, depended_end, depended_depend, depend_ends}
 use Rattle.asset_ends.proofs.CellLemmas.{is_name, value_shown}
-use Rattle.asset_ends.proofs.TransLaws.{names_set, status_set, parent_set, names_initiate, status_initiate_in, parent_initiate_in, row_named, row_absent, owed_by_names}
+use Rattle.asset_ends.proofs.TransLaws.{names_set, status_set, parent_set, names_initiate, status_initiate_in, parent_initiate_in, row_named, row_absent, sum_by_names}
 use Rattle.asset_ends.proofs.LockLaws.{carries_granted, carries_released, carries_enrolled, names_granted, names_waiting, carries_waiting, names_enrolled, names_released, free_by_locks, locks_by_free}
 use Rattle.asset_ends.proofs.HistoryLemmas.{IsQuiet, lists_pushed, lists_reverse, reverse-cons, cell_quiet, cell_same_steps, holds_quiet, holds_same_steps, enrolled_quiet, begin_quiet, complete_quiet, enrolled_initiate, cell_initiate, holds_initiate, holds_operation, holds_end, enrolled_end, read_ends, write_ends, wait_ends, cell_read, cell_write, cell_abort, cell_commit}
 
@@ -297,14 +301,23 @@ sum_by_reverse : (f : ℕ → ℕ) (names : List ℕ) → sum_by f (reverse name
 sum_by_reverse f [] = refl
 sum_by_reverse f (n ∷ names) = rw (reverse-cons names n) (omega (arith, sum_by_push f (reverse names) n, sum_by_reverse f names, sum_by-cons f n names))
 
+-- a sum over the statuses in the table is one over the transactions of the history
+sum_shown : (f : Status → ℕ) (opening : Opening) (steps : List Step) (rows : List NamedTransRow) (objects : Cells) (table : Locks.LockTable) (descriptors : List Descriptor) (deps : List Dependency) → Shows opening steps (table_values rows objects table descriptors deps) → IsOrderly steps
+    → sum_by (λ (row : TransRow). f row.status) (values_of rows) ≡ sum_by (λ n. f (status steps n)) (initiated steps)
+sum_shown f opening steps rows objects table descriptors deps shows orderly =
+    sum_by_names f rows (rw shows.names (distinct_reverse (initiated steps) orderly.different))
+    ∙ sum_same (λ n. f (status steps n)) (λ n. f (status_in rows n)) (names_of rows) (λ n listed. ap f (shows.statuses n))
+    ∙ rw shows.names (sum_by_reverse (λ n. f (status steps n)) (initiated steps))
+
 -- what the table says is owed is owed
 pub owed_shown : (opening : Opening) (steps : List Step) (rows : List NamedTransRow) (objects : Cells) (table : Locks.LockTable) (descriptors : List Descriptor) (deps : List Dependency) → Shows opening steps (table_values rows objects table descriptors deps) → IsOrderly steps → owed_in rows ≡ owed steps
-unfolding owed
-owed_shown opening steps rows objects table descriptors deps shows orderly =
-    let names = reverse (initiated steps) in
-    owed_by_names rows (rw shows.names (distinct_reverse (initiated steps) orderly.different))
-    ∙ sum_same (λ n. owed_to (status steps n)) (λ n. owed_to (status_in rows n)) (names_of rows) (λ n listed. ap owed_to (shows.statuses n))
-    ∙ rw shows.names (sum_by_reverse (λ n. owed_to (status steps n)) (initiated steps))
+unfolding owed owed_in
+owed_shown opening steps rows objects table descriptors deps shows orderly = sum_shown owed_to opening steps rows objects table descriptors deps shows orderly
+
+-- how many have ended by the table is how many have by the history
+pub ended_shown : (how : End) (opening : Opening) (steps : List Step) (rows : List NamedTransRow) (objects : Cells) (table : Locks.LockTable) (descriptors : List Descriptor) (deps : List Dependency) → Shows opening steps (table_values rows objects table descriptors deps) → IsOrderly steps → ended_in how rows ≡ ended_count how steps
+unfolding ended_in ended_count one_if_ended
+ended_shown how opening steps rows objects table descriptors deps shows orderly = sum_shown (one_if_ended how) opening steps rows objects table descriptors deps shows orderly
 
 -- which objects exist, by the tables
 pub exists_shown : (opening : Opening) (steps : List Step) (rows : List NamedTransRow) (objects : Cells) (table : Locks.LockTable) (descriptors : List Descriptor) (deps : List Dependency) (x : ℕ) → Shows opening steps (table_values rows objects table descriptors deps)

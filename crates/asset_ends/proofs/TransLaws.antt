@@ -2,7 +2,6 @@
 use Rattle.std.proofs.Common.{◌≡◌, ℕ, Bool, true, false, cond, eqb, ◌&&◌, ◌||◌, List, [], ◌∷◌, ◌++◌, refl, sym, ◌∙◌, ap, subst, arith, Some, None}
 use Rattle.std.specs.Prelude.{Option, is_some, sum_by}
 use Rattle.std.specs.Option.{option_or}
-use Rattle.asset_names.specs.Room.{owed_to}
 use Rattle.asset_names.proofs.RoomLemmas.{sum_same}
 use Rattle.std.specs.Map.{lookup, values_of}
 use Rattle.std.proofs.lemmas.List.{map-append}
@@ -15,7 +14,7 @@ use Rattle.asset_names.specs.Arrows.{lists}
 use Rattle.asset_names.specs.Orderly.{Distinct}
 use Rattle.asset_names.proofs.Common.{eqb-flip, cond_same, option_or_none}
 use Rattle.asset_trans.specs.declared.row.TransRow.{TransRow}
-use Rattle.asset_trans.specs.TransRows.{NamedTransRow, names_of, row_in, status_or_unknown, parent_or_none, status_in, parent_in, initiate_in, set_entry, set_in, owed_in}
+use Rattle.asset_trans.specs.TransRows.{NamedTransRow, names_of, row_in, status_or_unknown, parent_or_none, status_in, parent_in, initiate_in, set_entry, set_in}
 
 -- setting statuses leaves the names
 pub names_set : (test : ℕ → Bool) (status : Status) (rows : List NamedTransRow) → names_of (set_in test status rows) ≡ names_of rows
@@ -130,12 +129,12 @@ status_here : (entry : NamedTransRow) (rows : List NamedTransRow) → status_in 
 unfolding status_in row_in status_or_unknown
 status_here entry rows = rw (eq-eqb entry.0.0 entry.0.0 refl) refl
 
--- a sum over the rows of different names is one over the names
-pub owed_by_names : (rows : List NamedTransRow) → Distinct (names_of rows) → owed_in rows ≡ sum_by (λ n. owed_to (status_in rows n)) (names_of rows)
-unfolding owed_in names_of
-owed_by_names [] different = refl
-owed_by_names (entry ∷ rows) different =
+-- a sum over the statuses of rows of different names is one over the names
+pub sum_by_names : (f : Status → ℕ) (rows : List NamedTransRow) → Distinct (names_of rows) → sum_by (λ (row : TransRow). f row.status) (values_of rows) ≡ sum_by (λ n. f (status_in rows n)) (names_of rows)
+unfolding names_of
+sum_by_names f [] different = refl
+sum_by_names f (entry ∷ rows) different =
     let here : status_in (entry ∷ rows) entry.0.0 ≡ entry.1.status = status_here entry rows in
-    let rest = sum_same (λ n. owed_to (status_in rows n)) (λ n. owed_to (status_in (entry ∷ rows) n)) (names_of rows)
-    (λ n listed. ap owed_to (status_behind entry rows n (ne_eqb n entry.0.0 (λ e. false≢true (sym different.0 ∙ subst (λ m. lists (names_of rows) m ≡ true) e listed))))) in
-    omega (arith, sum_by-cons (λ (row : TransRow). owed_to row.status) entry.1 (values_of rows), owed_by_names rows different.1, sum_by-cons (λ n. owed_to (status_in (entry ∷ rows) n)) entry.0.0 (names_of rows), ap owed_to here, rest)
+    let rest = sum_same (λ n. f (status_in rows n)) (λ n. f (status_in (entry ∷ rows) n)) (names_of rows)
+    (λ n listed. ap f (status_behind entry rows n (ne_eqb n entry.0.0 (λ e. false≢true (sym different.0 ∙ subst (λ m. lists (names_of rows) m ≡ true) e listed))))) in
+    omega (arith, sum_by-cons (λ (row : TransRow). f row.status) entry.1 (values_of rows), sum_by_names f rows different.1, sum_by-cons (λ n. f (status_in (entry ∷ rows) n)) entry.0.0 (names_of rows), ap f here, rest)

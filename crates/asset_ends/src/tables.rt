@@ -2,7 +2,7 @@
 
 use asset_deps::Deps;
 use asset_locks::Locks;
-use asset_names::{NoMemory, Ob, Op, Status, Txn};
+use asset_names::{End, NoMemory, Ob, Op, Status, Txn};
 use asset_objects::{Objects, ObjectsFault};
 use asset_permits::Permits;
 use asset_trans::Trans;
@@ -45,7 +45,8 @@ impl Tables {
     ghost use Rattle.asset_objects.specs.Cells.{cells, value_in, opened};
     ghost use Rattle.asset_locks.specs.LockTable.{waiters_in};
     ghost use Rattle.asset_permits.specs.Descriptors.{allows_by};
-    ghost use Rattle.asset_trans.specs.TransRows.{status_in, owed_in};
+    ghost use Rattle.asset_trans.specs.TransRows.{status_in, owed_in, ended_in};
+    ghost use Rattle.asset_names.specs.Counted.{ended_count};
     ghost use Rattle.asset_ends.specs.Shown.{ForShown};
     ghost use Rattle.asset_ends.specs.Shows.{Shows};
     ghost use Rattle.asset_ends.specs.Standing.{values_of, is_free_for};
@@ -101,6 +102,14 @@ impl Tables {
         ensures shown { ForShown self.now (λ opening steps. IsOrderly steps → result ≡ owed steps) }
     {
         self.trans.owed()
+    }
+
+    /// Returns how many transactions have ended in this way. It is a counter: no row is looked at.
+    pub fn ended(&self, how: End) -> usize
+        ensures counted { result ≡ ended_in how self.now.trans }
+        ensures shown { ForShown self.now (λ opening steps. IsOrderly steps → result ≡ ended_count how steps) }
+    {
+        self.trans.ended(how)
     }
 
     /// Returns the value of an object, and `None` if there is no such object.
