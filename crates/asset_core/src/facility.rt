@@ -6,7 +6,9 @@ ghost use Rattle.asset_names.specs.Room.{initiates};
 use crate::OpenFault;
 use asset_ends::Tables;
 use asset_history::History;
-use asset_names::{Fault, NoMemory, Ob, Op, Outcome, Reply, Status, Step, Txn, takes_effect};
+use asset_names::{
+    Counts, End, Fault, NoMemory, Ob, Op, Outcome, Reply, Status, Step, Txn, takes_effect,
+};
 use asset_objects::ObjectsFault;
 use std::alloc::Global;
 use std::marker::Model;
@@ -61,6 +63,7 @@ impl Core {
     ghost use Rattle.asset_ends.specs.Shows.{Shows};
     ghost use Rattle.asset_ends.specs.Standing.{values_of};
     ghost use Rattle.asset_core.specs.Tables.{pending_in};
+    ghost use Rattle.asset_names.specs.Counted.{counts_of};
 
     /// Opens the facility over these objects with their values, with room for `capacity` entries.
     ///
@@ -278,6 +281,21 @@ impl Core {
         ensures capacity { self.now.history.capacity ≤ 1000000 }
     {
         &self.history
+    }
+
+    /// Returns how many entries the history has, and how many transactions have committed and have aborted in it. It
+    /// looks at counters alone.
+    pub fn counts(&self) -> Counts
+        ensures counts { result ≡ counts_of self.now.history.entries }
+        ensures most { result.entries ≤ 1000000 }
+        ensures committed { result.committed ≤ result.entries }
+        ensures aborted { result.aborted ≤ result.entries }
+    {
+        Counts {
+            entries: self.history.len() as u64,
+            committed: self.tables.ended(End::Committed) as u64,
+            aborted: self.tables.ended(End::Aborted) as u64,
+        }
     }
 
     /// Returns the history and drops the tables.

@@ -6,5 +6,6 @@ mod facility;
 mod open_fault;
 
 pub use asset_history::History;
+pub use asset_names::Counts;
 pub use facility::Core;
 pub use open_fault::OpenFault;
