@@ -1,5 +1,5 @@
 -- Lists of keys: which are listed, each once, what stands ahead of a key and behind it, and the ends.
-use Rattle.std.proofs.Common.{◌≡◌, ℕ, true, false, eqb, ◌||◌, List, [], ◌∷◌, ◌++◌, Some, refl, sym, ap, ◌∙◌, inl, inr}
+use Rattle.std.proofs.Common.{◌≡◌, ℕ, true, false, eqb, ◌||◌, List, [], ◌∷◌, ◌++◌, Some, is_some, refl, sym, ap, ◌∙◌, inl, inr}
 use Rattle.std.specs.List.{AllByRecursion, IsDistinct}
 use Rattle.std.proofs.lemmas.Bool.{or_cases, or_parts, or_left, or_right, or_from, eqb-true, eqb-false, eq-eqb, ne_eqb, false≢true, both_ways, cases_Bool, cond-true, cond-false}
 use Rattle.std.proofs.lemmas.List.Folds.{list_any-append}
@@ -141,3 +141,12 @@ first_ahead k [] first = refl
 first_ahead k (x ∷ xs) first =
     let same : x ≡ k = cc in
     cond-true (eqb k x) [] (x ∷ ahead k xs) (eq-eqb k x (sym same))
+
+-- keys of which one is listed have a first one, and so have keys with one more at their end
+pub first_is_some : (keys : List ℕ) (k : ℕ) → lists keys k ≡ true → is_some (first_of keys) ≡ true
+first_is_some [] k h = absurd (false≢true h)
+first_is_some (x ∷ keys) k h = refl
+
+pub first_pushed : (keys : List ℕ) (k : ℕ) → is_some (first_of (keys ++ k ∷ [])) ≡ true
+first_pushed [] k = refl
+first_pushed (x ∷ keys) k = refl

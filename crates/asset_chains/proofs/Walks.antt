@@ -148,8 +148,6 @@ distinct_map f (k ∷ keys) distinct apart =
     (distinct_map f keys (distinct_tail k keys distinct) (λ i j one other. apart i j (or_right (eqb i k) (lists keys i) one) (or_right (eqb j k) (lists keys j) other)))
 
 -- ---- keys without one
-pub without_absent : (k : ℕ) (keys : List ℕ) → lists keys k ≡ false → without k keys ≡ keys
-without_absent k keys absent = without_unlisted k keys absent
 
 -- every chain is without the key that was unlinked
 pub chains_without : (table new : Chained) (k c : ℕ) → IsSound table → home_of table k ≡ Some c → new ≡ unlinked k table → (d : ℕ) → chain_of new d ≡ without k (chain_of table d)
@@ -157,7 +155,7 @@ chains_without table new k c sound home is d =
     let change = unlinks c k table new home is in
     elim (cases_eq d c) [
       | inl here ↦ rw here change.chain
-      | inr apart ↦ change.chains d apart ∙ sym (without_absent k (chain_of table d) (listed_once table sound k c d home apart))
+      | inr apart ↦ change.chains d apart ∙ sym (without_unlisted k (chain_of table d) (listed_once table sound k c d home apart))
     ]
 
 -- the key has no home, and each other key has the one that it had

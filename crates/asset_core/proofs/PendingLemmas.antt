@@ -24,6 +24,7 @@ use Rattle.asset_deps.specs.Dependencies.{class_in, doomed_in}
 use Rattle.asset_names.specs.OpSets.{OpSet}
 use Rattle.asset_names.specs.declared.sets.ObSet.{ObSet}
 use Rattle.asset_names.proofs.DelegateLemmas.{live_delegated}
+use Rattle.asset_names.proofs.ListLemmas.{lists_pushed}
 use Rattle.asset_locks.specs.declared.lock.Lock.{Lock}
 use Rattle.asset_locks.specs.LockTable as Locks
 use Rattle.asset_locks.proofs.HandLaws.{handed_name, handed_pending}
@@ -33,7 +34,7 @@ use Rattle.asset_history.specs.Recorded.{after}
 use Rattle.asset_core.specs.Pending.{Pending, asker_after, request_after, new_asker, waiter_of, waiting_for}
 use Rattle.asset_ends.specs.Ready.{locks_after, locks_waiting, released}
 use Rattle.asset_core.specs.Tables.{asker_of, pending_in}
-use Rattle.asset_ends.proofs.HistoryLemmas.{lists_pushed, live_quiet, begin_quiet, complete_quiet, read_ends, write_ends}
+use Rattle.asset_ends.proofs.HistoryLemmas.{live_quiet, begin_quiet, complete_quiet, read_ends, write_ends}
 use Rattle.asset_ends.proofs.PermitLaws.{permit_ends}
 use Rattle.asset_ends.proofs.ShowsLemmas.{live_shown}
 use Rattle.asset_ends.specs.Shows.{Shows}

@@ -1,15 +1,15 @@
 -- What the groups of a history are, in the words of a reader.
-use Rattle.std.proofs.Common.{◌≡◌, ℕ, ◌<◌, ◌≤◌, Bool, true, false, cond, ◌||◌, eqb, List, [], ◌∷◌, ◌++◌, length, get_or, refl, sym, ap, subst, ◌∙◌, arith, suc, zero, inl, inr, ◌⊎◌}
+use Rattle.std.proofs.Common.{◌≡◌, ℕ, ◌<◌, Bool, true, false, cond, ◌||◌, eqb, List, [], ◌∷◌, ◌++◌, length, get_or, refl, sym, ap, subst, ◌∙◌, arith, suc, zero, inl, inr}
 use Rattle.std.specs.Prelude.{Result, Ok, Err, IfOk}
-use Rattle.std.proofs.lemmas.Bool.{cases_eq, eq-eqb, eqb-true, or_cases, false≢true}
+use Rattle.std.proofs.lemmas.Bool.{cases_eq, eqb-true}
 use Rattle.asset_names.specs.declared.replies.NoMemory.{NoMemory}
 use Rattle.asset_names.specs.Arrows.{lists}
 use Rattle.asset_names.specs.Steps.{Entry}
 use Rattle.asset_names.specs.Groups.{actor, partner, same_group, acted_on_by, acted_on}
 use Rattle.asset_names.specs.Orderly.{Distinct}
-use Rattle.asset_names.proofs.DoubleLemmas.{lists-push}
+use Rattle.asset_names.proofs.ListLemmas.{lists_pushed, distinct_pushed}
 use Rattle.asset_labels.specs.Numbered.{groups_before, group_numbers, group_count}
-use Rattle.asset_labels.proofs.NumberLemmas.{before_more, number_at, numbers_long}
+use Rattle.asset_labels.proofs.NumberLemmas.{before_more, number_at}
 use Rattle.asset_deletion.specs.Named.{with_name, names_of, Means}
 use Rattle.asset_deletion.specs.Grouping.{Grouping, first_labels, grouping_of}
 use Rattle.asset_deletion.specs.Grouped.{IsFirst, AreGroups}
@@ -31,36 +31,14 @@ names_more names n m = go (lists names n) refl where
 
   go : (b : Bool) → lists names n ≡ b → lists (cond b names (names ++ n ∷ [])) m ≡ (lists names m || eqb n m)
   go true e = here (eqb n m) refl e
-  go false e = lists-push names n m
-
-distinct_first : (names : List ℕ) (n : ℕ) → Distinct names → lists names n ≡ false → Distinct (names ++ n ∷ [])
-unfolding lists
-distinct_first [] n distinct new = (refl, tt)
-distinct_first (m ∷ names) n distinct new = (lists-push names n m ∙ apart (lists names m) (eqb n m) distinct.0 other, distinct_first names n distinct.1 (rest (eqb m n) _ new)) where
-  rest : (a b : Bool) → (a || b) ≡ false → b ≡ false
-  rest false b h = h
-  rest true b h = absurd (false≢true (sym h))
-
-  apart : (a b : Bool) → a ≡ false → b ≡ false → (a || b) ≡ false
-  apart false false p q = refl
-  apart true b p q = absurd (false≢true (sym p))
-  apart false true p q = absurd (false≢true (sym q))
-
-  other : eqb n m ≡ false
-  other = go (eqb n m) refl where
-    go : (b : Bool) → eqb n m ≡ b → b ≡ false
-    go false e = refl
-    go true e = absurd (false≢true (sym (head (eqb m n) _ new) ∙ eq-eqb m n (sym (eqb-true n m e)))) where
-      head : (a b : Bool) → (a || b) ≡ false → a ≡ false
-      head false b h = refl
-      head true b h = absurd (false≢true (sym h))
+  go false e = lists_pushed names n m
 
 names_once : (names : List ℕ) (n : ℕ) → Distinct names → Distinct (with_name names n)
 unfolding with_name
 names_once names n distinct = go (lists names n) refl where
   go : (b : Bool) → lists names n ≡ b → Distinct (cond b names (names ++ n ∷ []))
   go true e = distinct
-  go false e = distinct_first names n distinct e
+  go false e = distinct_pushed names n distinct e
 
 all_once : (entries : List Entry) → Distinct (names_of entries)
 unfolding names_of

@@ -1,19 +1,20 @@
 -- The numbers of groups, and what they say of entries.
-use Rattle.std.proofs.Common.{◌≡◌, ℕ, ◌<◌, ◌≤◌, Bool, true, not, cond, ltb, ◌&&◌, eqb, List, [], ◌∷◌, ◌++◌, length, get_or, map, refl, sym, ap, subst, ◌∙◌, arith, suc, inl, inr, ◌⊎◌, Some, None, false}
+use Rattle.std.proofs.Common.{◌≡◌, ℕ, ◌<◌, ◌≤◌, Bool, true, not, cond, ltb, ◌&&◌, eqb, List, [], ◌∷◌, ◌++◌, length, get_or, map, refl, sym, ap, subst, ◌∙◌, arith, inl, inr, ◌⊎◌, Some, None, false}
 use Rattle.std.specs.Prelude.{Option, position, is_some}
-use Rattle.std.specs.List.{position_or_len, list_any}
-use Rattle.std.proofs.lemmas.Bool.{ltb-false, cases_eq, cases_lt, eq-eqb, ne_eqb, eqb-true, or_cases, false≢true}
+use Rattle.std.specs.List.{position_or_len}
+use Rattle.std.proofs.lemmas.Bool.{ltb-false, cases_eq, cases_lt, eq-eqb, ne_eqb, false≢true}
 use Rattle.std.proofs.lemmas.List.{length-map, get_or-map, ext_get_or, get_or_push, length_push}
 use Rattle.std.proofs.lemmas.List.Sums.{position_or_len_is, prefix_len_passes}
 use Rattle.asset_names.specs.Arrows.{lists}
 use Rattle.asset_names.specs.Steps.{Entry}
 use Rattle.asset_names.specs.Groups.{actor, partner, same_group, dead}
+use Rattle.asset_names.proofs.ListLemmas.{listed_at, lists_at}
 use Rattle.asset_labels.specs.Numbered.{groups_before, group_numbers, group_count}
 use Rattle.asset_labels.proofs.NumberLemmas.{before_more, number_at, numbers_long}
 use Rattle.asset_labels.specs.Labelled.{merged}
 use Rattle.asset_deletion.specs.Named.{with_name, names_of, joined, Means, IsNumbered}
 use Rattle.asset_deletion.specs.Grouping.{Grouping, first_labels, grouping_of, number_in, same_number, dead_in, dead_at}
-use Rattle.asset_deletion.proofs.MeansLemmas.{merged_means, named_means, no_entries, means_alike, entry_joins, lists_at}
+use Rattle.asset_deletion.proofs.MeansLemmas.{merged_means, named_means, no_entries, means_alike, entry_joins}
 use Rattle.asset_deletion.proofs.NameLemmas.{with_new, with_old, with_name_at}
 use Rattle.asset_deletion.proofs.MarkLemmas.{listed_where}
 
@@ -58,13 +59,6 @@ numbers_mean leads names labels means = record {
 }
 
 -- ---- each history has labels
-listed_at : (names : List ℕ) (n : ℕ) → lists names n ≡ true → (i : ℕ) × (i < length names) × (get_or names i 0 ≡ n)
-unfolding lists
-listed_at [] n h = absurd (false≢true h)
-listed_at (m ∷ names) n h = elim (or_cases (eqb m n) (list_any (λ k. eqb k n) names) h) [
-  | inl here ↦ (0, omega arith, eqb-true m n here)
-  | inr later ↦ let found = listed_at names n later in (suc found.0, omega (arith, found.1), found.2)
-]
 
 -- a name is among the names with it, and labels mean them
 one_named : (leads : ℕ → ℕ → Bool) (names labels : List ℕ) (n : ℕ) → Means leads names labels → (more : List ℕ) × (Means leads (with_name names n) more) × (lists (with_name names n) n ≡ true)

@@ -9,9 +9,9 @@ use Rattle.asset_names.specs.declared.names.Txn.{Txn}
 use Rattle.asset_names.specs.Arrows.{lists}
 use Rattle.asset_names.specs.Steps.{Entry}
 use Rattle.asset_history.specs.Committing.{committed_by, commit_at, passes, has_commit}
+use Rattle.asset_history.proofs.EntryLemmas.{next_entry}
 use Rattle.asset_deletion.specs.Named.{IsNumbered}
 use Rattle.asset_deletion.proofs.MeansLemmas.{unlisted_back}
-use Rattle.asset_deletion.proofs.NameLemmas.{next_entry}
 
 and_not_true : (x y : Bool) → y ≡ true → (x && not y) ≡ false
 and_not_true true y e = ap not e

@@ -3,13 +3,14 @@ use Rattle.std.proofs.Common.{◌≡◌, ℕ, ◌+◌, ◌<◌, ◌≤◌, Bool,
 use Rattle.std.proofs.lemmas.Bool.{cases_eq, eq-eqb, ne_eqb, false≢true}
 use Rattle.std.proofs.lemmas.Bool.Decides.{nat_tests}
 use Rattle.std.specs.List.{list_any}
-use Rattle.std.proofs.lemmas.List.Folds.{list_any_at}
-use Rattle.std.proofs.lemmas.List.{length-map, get_or-map, length_push, get_or_append_left, get_or_push}
+use Rattle.std.proofs.lemmas.List.{length-map, get_or-map, length_push}
 use Rattle.asset_names.specs.Arrows.{lists, linked}
 use Rattle.asset_names.specs.Paths.{both_ways}
 use Rattle.asset_names.specs.Steps.{Entry}
 use Rattle.asset_names.specs.Groups.{joined_by, joins, same_group, actor, partner}
+use Rattle.asset_names.proofs.ListLemmas.{lists_at}
 use Rattle.asset_labels.specs.Labelled.{relabelled, merged}
+use Rattle.asset_labels.proofs.LabelLemmas.{old_at, last_at}
 use Rattle.asset_deletion.specs.Named.{along, joined, Means}
 
 -- ---- a label after a join
@@ -51,9 +52,6 @@ merged_long labels p q = elim (ltb p q) as (λ b. length (cond b (map (λ x. con
 ]
 
 -- ---- which names are listed
-pub lists_at : (names : List ℕ) (n i : ℕ) → i < length names → get_or names i 0 ≡ n → lists names n ≡ true
-unfolding lists
-lists_at names n i below is = list_any_at (λ m. eqb m n) names i 0 below (eq-eqb (get_or names i 0) n is)
 
 unlisted : (names : List ℕ) (n i : ℕ) → lists names n ≡ false → i < length names → eqb n (get_or names i 0) ≡ false
 unlisted names n i not below = ne_eqb n (get_or names i 0) (λ is. false≢true (sym not ∙ lists_at names n i below (sym is)))
@@ -114,11 +112,6 @@ merged_means leads names labels i j means is_i is_j =
     }
 
 -- ---- a new name
-old_at : (xs : List ℕ) (y k : ℕ) → k < length xs → get_or (xs ++ y ∷ []) k 0 ≡ get_or xs k 0
-old_at xs y k below = get_or_append_left xs (y ∷ []) 0 k below
-
-last_at : (xs : List ℕ) (y k : ℕ) → k ≡ length xs → get_or (xs ++ y ∷ []) k 0 ≡ y
-last_at xs y k is = get_or_push xs y 0 k (sym is)
 
 still_unlisted : (names : List ℕ) (n m : ℕ) → lists (names ++ n ∷ []) m ≡ false → lists names m ≡ false
 unfolding lists

@@ -4,8 +4,9 @@ use Rattle.std.specs.Prelude.{Option, slice_get}
 use Rattle.std.specs.List.{list_any}
 use Rattle.std.specs.Option.{option_map}
 use Rattle.std.proofs.lemmas.Bool.{eqb-true}
-use Rattle.std.proofs.lemmas.List.{length-append, get_or_append_left, take_more, reverse-append}
-use Rattle.std.proofs.lemmas.Option.{slice_get_cases, slice_get_within, get_or_from_slice_get}
+use Rattle.std.proofs.lemmas.List.{length-append, get_or_append_left}
+use Rattle.std.proofs.lemmas.Option.{slice_get_cases, get_or_from_slice_get}
+use Rattle.asset_history.proofs.EntryLemmas.{next_entry}
 use Rattle.indexmap.specs.IndexSet.{insert_key}
 use Rattle.asset_names.specs.declared.names.Txn.{Txn}
 use Rattle.asset_names.specs.Arrows.{lists}
@@ -45,10 +46,6 @@ pub name_at : (names : List ℕ) (k n m : ℕ) → slice_get names k ≡ Some m 
 name_at names k n m at is = get_or_from_slice_get names k m 0 at ∙ sym (eqb-true n m is)
 
 -- ---- one more entry
-pub next_entry : (entries : List Entry) (i : ℕ) (entry : Entry) → slice_get entries i ≡ Some entry → reverse (take (i + 1) entries) ≡ entry ∷ reverse (take i entries)
-next_entry entries i entry at =
-    ap reverse (take_more entries i entry (slice_get_within entries i entry at)) ∙ reverse-append (take i entries) (get_or entries i entry ∷ [])
-    ∙ ap (λ (x : Entry). x ∷ reverse (take i entries)) (get_or_from_slice_get entries i entry entry at)
 
 abbrev pair : Txn → Txn → Txn × Txn
 pair t u = (t, u)

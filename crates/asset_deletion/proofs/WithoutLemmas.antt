@@ -3,8 +3,9 @@ use Rattle.std.proofs.Common.{◌≡◌, ℕ, ◌+◌, ◌<◌, ◌≤◌, Bool,
 use Rattle.std.specs.Prelude.{Option, slice_get, is_some}
 use Rattle.std.specs.List.{list_any}
 use Rattle.std.proofs.lemmas.Bool.{or_cases, or_left, or_right, and_parts, and_from, cases_eq, eqb-true, eq-eqb, ne_eqb, false≢true}
-use Rattle.std.proofs.lemmas.List.{reverse-append, reverse-reverse, take-append-drop, take_more, get_or-set_same, get_or-set_other, get_or-map}
+use Rattle.std.proofs.lemmas.List.{take_more, get_or-set_same, get_or-set_other, get_or-map}
 use Rattle.std.proofs.lemmas.List.Folds.{list_any-append}
+use Rattle.asset_history.proofs.EntryLemmas.{next_entry, between}
 use Rattle.asset_names.specs.declared.names.Txn.{Txn}
 use Rattle.asset_names.specs.declared.replies.Outcome.TheVariants.{Answer}
 use Rattle.asset_names.specs.Arrows.{lists}
@@ -12,12 +13,11 @@ use Rattle.asset_names.specs.Steps.{Opening, Entry, applied}
 use Rattle.asset_names.specs.Groups.{actor, partner, same_group, dead, stays, kept, without}
 use Rattle.asset_names.specs.Answers.{answer, IsLegal}
 use Rattle.asset_names.proofs.Common.{both_follow}
-use Rattle.asset_names.proofs.ListLemmas.{any_map, any_alike}
+use Rattle.asset_names.proofs.ListLemmas.{any_map, any_alike, listed_any}
 use Rattle.asset_laws.proofs.GroupLemmas.{group_refl, group_sym, dead_alike, stays_answered}
 use Rattle.asset_deletion.specs.Named.{with_name, names_of}
 use Rattle.asset_deletion.specs.Grouping.{Grouping, grouping_of, number_in, same_number, dead_in, dead_at}
 use Rattle.asset_deletion.specs.Going.{takes_along, goes, keeps, AreBelow, SaysWhoStays}
-use Rattle.asset_deletion.proofs.NameLemmas.{next_entry}
 use Rattle.asset_deletion.proofs.GroupingLemmas.{entries_numbered, name_position, named_in_group, dead_in_group, same_in_group}
 
 -- ---- names
@@ -191,13 +191,6 @@ unfolding without
 chosen_left entries chosen going marked = kept_same (keeps (grouping_of entries) going) (stays entries (map (λ (t : Txn). t.0) chosen)) entries (marks_exact entries chosen going marked)
 
 -- all dead groups go if all who are named are chosen
-listed_any : (test : ℕ → Bool) (names : List ℕ) (n : ℕ) → lists names n ≡ true → test n ≡ true → list_any test names ≡ true
-unfolding lists
-listed_any test [] n h passes = absurd (false≢true h)
-listed_any test (m ∷ names) n h passes = elim (or_cases (eqb m n) _ h) [
-  | inl here ↦ or_left _ _ (ap test (eqb-true m n here) ∙ passes)
-  | inr later ↦ or_right (test m) _ (listed_any test names n later passes)
-]
 
 some_dead : (entries : List Entry) (names : List ℕ) (n : ℕ) → list_any (λ c. same_group entries c n && dead entries c) names ≡ true → dead entries n ≡ true
 some_dead entries [] n h = absurd (false≢true h)
@@ -223,15 +216,6 @@ unfolding without
 dead_left entries going marked = kept_same (keeps (grouping_of entries) going) (stays entries (names_of entries)) entries (dead_exact entries going marked)
 
 -- ---- what is left
-
--- the entry at i between the newer and the older ones
-between : (all : List Entry) (i : ℕ) (entry : Entry) → slice_get (reverse all) i ≡ Some entry → reverse (drop (i + 1) (reverse all)) ++ entry ∷ reverse (take i (reverse all)) ≡ all
-between all i entry at =
-    let entries = reverse all in
-    ap (λ l. reverse (drop (i + 1) (reverse all)) ++ l) (sym (next_entry entries i entry at))
-    ∙ sym (reverse-append (take (i + 1) entries) (drop (i + 1) entries))
-    ∙ ap reverse (take-append-drop (i + 1) entries)
-    ∙ reverse-reverse all
 
 -- an entry that stays is answered alike after the older ones that stay
 pub answer_left : (opening : Opening) (all : List Entry) (groups : Grouping) (going : List Bool) → SaysWhoStays all groups going → IsLegal opening all → (i : ℕ) (entry : Entry) → slice_get (reverse all) i ≡ Some entry

@@ -1,3 +1,4 @@
 pub mod TagLemmas
 pub mod StoredLemmas
 pub mod StoredSetLemmas
+pub mod EntryLemmas

@@ -12,10 +12,10 @@ pub record IsLabelled (up labels : List ℕ) : Type 0 where
   pub own : (k : ℕ) → k < length up → get_or up k 0 ≡ k → get_or labels k 0 ≡ k
 
 -- ---- one more node
-old_at : (xs : List ℕ) (y k : ℕ) → k < length xs → get_or (xs ++ y ∷ []) k 0 ≡ get_or xs k 0
+pub old_at : (xs : List ℕ) (y k : ℕ) → k < length xs → get_or (xs ++ y ∷ []) k 0 ≡ get_or xs k 0
 old_at xs y k below = get_or_append_left xs (y ∷ []) 0 k below
 
-last_at : (xs : List ℕ) (y k : ℕ) → k ≡ length xs → get_or (xs ++ y ∷ []) k 0 ≡ y
+pub last_at : (xs : List ℕ) (y k : ℕ) → k ≡ length xs → get_or (xs ++ y ∷ []) k 0 ≡ y
 last_at xs y k is = get_or_push xs y 0 k (sym is)
 
 -- the label of a new node: that of the node above, or its own number

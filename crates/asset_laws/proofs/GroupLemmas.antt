@@ -15,7 +15,7 @@ use Rattle.asset_names.specs.Endings.{end_of}
 use Rattle.asset_names.specs.Groups.{actor, partner, joined_by, joins, same_group, acted_on_by, acted_on, was_committed, dead, stays, kept, without}
 use Rattle.asset_names.specs.Answers.{answer, IsLegal}
 use Rattle.asset_names.proofs.Common.{both_follow}
-use Rattle.asset_names.proofs.ListLemmas.{any_alike}
+use Rattle.asset_names.proofs.ListLemmas.{any_alike, listed_any}
 use Rattle.asset_names.proofs.Arrows.{linked_refl, linked_trans}
 use Rattle.asset_names.proofs.PermitLemmas.{linked_has}
 use Rattle.asset_names.proofs.DependLemmas.{has_both}
@@ -82,14 +82,6 @@ found test [] h = absurd (false≢true h)
 found test (x ∷ xs) h = elim (or_cases (test x) _ h) [
   | inl here ↦ (x, here)
   | inr later ↦ found test xs later
-]
-
-listed_any : (test : ℕ → Bool) (names : List ℕ) (n : ℕ) → lists names n ≡ true → test n ≡ true → list_any test names ≡ true
-unfolding lists
-listed_any test [] n h passes = absurd (false≢true h)
-listed_any test (m ∷ names) n h passes = elim (or_cases (eqb m n) _ h) [
-  | inl here ↦ or_left _ _ (ap test (eqb-true m n here) ∙ passes)
-  | inr later ↦ or_right (test m) _ (listed_any test names n later passes)
 ]
 
 -- who was initiated was acted on

@@ -1,5 +1,5 @@
 -- What is reached among transactions that are kept, where each arrow has both its ends kept or neither.
-use Rattle.std.proofs.Common.{◌≡◌, ℕ, Bool, true, false, eqb, ◌&&◌, List, [], ◌∷◌, ◌++◌, refl, sym, ◌∙◌, ap, subst, inl, inr}
+use Rattle.std.proofs.Common.{◌≡◌, ℕ, Bool, true, false, eqb, ◌&&◌, List, [], ◌∷◌, ◌++◌, refl, sym, ◌∙◌, ap, inl, inr}
 use Rattle.std.specs.List.{list_any, list_all}
 use Rattle.std.proofs.lemmas.Bool.{or_cases, or_left, or_right, or_parts, or_from, and_parts, and_from, eqb-true, eq-eqb, false≢true}
 use Rattle.asset_names.specs.Arrows.{Arrow, lists, linked, has_arrow, among, Chain}
@@ -9,6 +9,7 @@ use Rattle.asset_names.proofs.Common.{both_follow}
 use Rattle.asset_names.proofs.Arrows.{linked_refl, linked_trans, chain_from_linked}
 use Rattle.asset_names.proofs.PermitLemmas.{has_listed, linked_has, has_among}
 use Rattle.asset_names.proofs.DependLemmas.{has_append, has_both}
+use Rattle.asset_names.proofs.ListLemmas.{all_listed, listed_all}
 
 -- each arrow has both its ends kept, or neither
 abbrev pub Keeps : (ℕ → Bool) → List Arrow → Type 0
@@ -117,20 +118,6 @@ arrow_any test (arrow ∷ arrows) u v h passes = elim (or_cases (eqb arrow.0 u &
 ]
 
 -- all listed names pass a test
-pub all_listed : (test : ℕ → Bool) (names : List ℕ) (n : ℕ) → list_all test names ≡ true → lists names n ≡ true → test n ≡ true
-unfolding lists
-all_listed test [] n h listed = absurd (false≢true listed)
-all_listed test (m ∷ names) n h listed =
-    let parts = and_parts (test m) _ h in
-    elim (or_cases (eqb m n) _ listed) [
-      | inl here ↦ subst (λ k. test k ≡ true) (eqb-true m n here) parts.0
-      | inr later ↦ all_listed test names n parts.1 later
-    ]
-
-pub listed_all : (test : ℕ → Bool) (names : List ℕ) → ((n : ℕ) → lists names n ≡ true → test n ≡ true) → list_all test names ≡ true
-unfolding lists
-listed_all test [] passes = refl
-listed_all test (m ∷ names) passes = and_from _ _ (passes m (or_left _ _ (eq-eqb m m refl))) (listed_all test names (λ n listed. passes n (or_right (eqb m n) _ listed)))
 
 -- two tests of all listed names, which agree on kept names and pass the others
 pub all_alike : (keep test other : ℕ → Bool) (few many : List ℕ) → ((n : ℕ) → keep n ≡ true → lists few n ≡ lists many n) → ((n : ℕ) → keep n ≡ true → test n ≡ other n)

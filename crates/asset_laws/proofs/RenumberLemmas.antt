@@ -61,7 +61,7 @@ missing_zeroed opening (Listed list) = λ i. missing_rule (find (λ (x : Ob). no
 -- ---- steps
 
 -- the same steps take effect
-effect_same : (n : ℕ) (older : List Entry) (step : Step) (reply : Reply) → takes_effect (writing n step) (reading older step reply) ≡ takes_effect step reply
+pub effect_same : (n : ℕ) (older : List Entry) (step : Step) (reply : Reply) → takes_effect (writing n step) (reading older step reply) ≡ takes_effect step reply
 unfolding writing reading takes_effect
 effect_same n older (Initiate t parent) reply = refl
 effect_same n older (Begin t) reply = refl

@@ -26,7 +26,7 @@ use Rattle.asset_names.proofs.Common.{both_follow}
 use Rattle.asset_names.proofs.EndLemmas.{commits, aborts, commit_ends, abort_ends}
 use Rattle.asset_names.proofs.LiveLemmas.{EndsNobody, end_same}
 use Rattle.asset_names.proofs.LegalLemmas.{effect_unrefused, first_none, known_initiated}
-use Rattle.asset_laws.proofs.KeepLinks.{all_listed, listed_all}
+use Rattle.asset_names.proofs.ListLemmas.{all_listed, listed_all}
 use Rattle.asset_laws.proofs.AnswersAlike.{not_waiting}
 use Rattle.asset_laws.proofs.KeptSteps.{one_more, passed_over, stranger_adds}
 

@@ -2,7 +2,7 @@
 use Rattle.std.proofs.Common.{◌≡◌, ℕ, Bool, true, false, eqb, not, ◌&&◌, ◌||◌, Option, Some, None, refl, sym, ap, ◌∙◌}
 use Rattle.std.specs.Prelude.{IfSome, IfNone, map}
 use Rattle.std.specs.List.{list_any}
-use Rattle.std.proofs.lemmas.Bool.{eqb-true, eq-eqb, true≢false, and_parts, and_from, both_ways, false_from_ne_true, or_left, or_right}
+use Rattle.std.proofs.lemmas.Bool.{true≢false, and_parts, and_from, both_ways, false_from_ne_true, or_left, or_right}
 use Rattle.asset_names.specs.declared.names.Txn.{Txn}
 use Rattle.asset_names.specs.declared.operations.Op.{Op}
 use Rattle.asset_names.specs.declared.operations.Op.TheVariants as Op'
@@ -11,11 +11,11 @@ use Rattle.asset_names.specs.OpSets.{OpSet, has_op, only_op}
 use Rattle.asset_chains.specs.Chained.{chain_of, home_of, IsSound}
 use Rattle.asset_chains.proofs.Walks.{any_found, any_from}
 use Rattle.asset_seats.specs.Seated.{Seated, seat}
-use Rattle.asset_locks.specs.declared.lock.Lock.{Lock}
 use Rattle.asset_locks.specs.LockTable.{is_on, one_conflicts, conflicts_on, blocks}
 use Rattle.asset_locks.specs.Stored.{Stored, lock_at, locks_at, number_in, chain_for, is_others, name_of, name_blocks, key_blocks, IsStored}
 use Rattle.asset_locks.proofs.WalkLemmas.{others_own, blocked_by}
 use Rattle.asset_locks.proofs.SuspendLemmas.{on_object, in_chain}
+use Rattle.asset_locks.proofs.LockLemmas.{on_to, on_from}
 
 pub if_some : {X : Type 0} {P Q : X → Type 0} (o : Option X) → IfSome o P → ((x : X) → P x → Q x) → IfSome o Q
 if_some None h f = tt
@@ -24,14 +24,6 @@ if_some (Some x) h f = f x h
 pub if_none : {X P Q : Type 0} (o : Option X) → IfNone o P → (P → Q) → IfNone o Q
 if_none None h f = f h
 if_none (Some x) h f = tt
-
-pub on_from : (x : ℕ) (lock : Lock) → lock.object.0 ≡ x → is_on x lock ≡ true
-unfolding is_on
-on_from x lock same = eq-eqb lock.object.0 x same
-
-pub on_to : (x : ℕ) (lock : Lock) → is_on x lock ≡ true → lock.object.0 ≡ x
-unfolding is_on
-on_to x lock on = eqb-true lock.object.0 x on
 
 -- ---- the lock of a seat on an object
 module _ (store : Stored) (stored : IsStored store) (sound : IsSound store.by_object) (x number : ℕ) (numbered : number_in store.objects x ≡ Some number) where

@@ -1,6 +1,6 @@
 -- A lock that is granted, and the locks of its seat.
 use Rattle.std.proofs.Common.{◌≡◌, ℕ, ◌<◌, ◌*◌, ◌≤◌, Bool, true, false, eqb, cond, ◌&&◌, List, [], ◌∷◌, ◌++◌, map, length, Option, Some, None, is_some, ◌⊎◌, refl, sym, ap, subst, ◌∙◌, inl, inr, arith}
-use Rattle.std.specs.Prelude.{find, Result, Ok, Err, OnErr}
+use Rattle.std.specs.Prelude.{find}
 use Rattle.std.specs.List.{list_any}
 use Rattle.std.proofs.lemmas.Bool.{eqb-true, eqb-false, eq-eqb, ne_eqb, cases_Bool, both_ways, and_parts, or_parts}
 use Rattle.std.proofs.lemmas.List.{map-append, length-append}
@@ -8,24 +8,23 @@ use Rattle.slab.specs.Slab.{get}
 use Rattle.asset_names.specs.declared.names.Ob.{Ob}
 use Rattle.asset_names.specs.declared.operations.Op.{Op}
 use Rattle.asset_names.specs.OpSets.{OpSet, has_op, with_op, only_op}
+use Rattle.asset_names.proofs.Common.{some_is_not_none, and_false, and_true}
 use Rattle.asset_chains.specs.Chained.{Chained, chain_of, home_of, first_of, lists, ahead, behind, IsSound}
 use Rattle.asset_chains.proofs.Laws.{chain_at_key, chain_without_key}
 use Rattle.asset_chains.proofs.SoundLemmas.{listed_once}
-use Rattle.asset_chains.proofs.Walks.{without_absent, map_same, any_none, any_from, find_key, find_none}
+use Rattle.asset_chains.proofs.Walks.{map_same, any_none, any_from, find_key, find_none}
+use Rattle.asset_chains.proofs.KeyLemmas.{without_unlisted}
 use Rattle.asset_locks.specs.declared.lock.Lock.{Lock}
 use Rattle.asset_locks.specs.LockTable.{is_on, both_conflict, suspended, taken, granted_own, new_lock, ops_with}
 use Rattle.asset_locks.specs.Valid.{is_some_op}
 use Rattle.asset_locks.specs.Stored.{Stored, lock_at, locks_at, number_in, chain_for, IsPlaced, IsStored, IsSuspended, IsAdded, IsDropped, IsGrown}
 use Rattle.asset_locks.proofs.StoreLemmas.{stored_changed, same_lock}
 use Rattle.asset_locks.proofs.OpsLemmas.{some_with, with_same, with_only, conflict_swapped}
+use Rattle.asset_locks.proofs.LockLemmas.{on_to, off_from}
 
 -- the lock with op, granted
 abbrev pub with_grant : Op → Lock → Lock
 with_grant op lock = record lock { ops = with_op op lock.ops; granted = true }
-
-and_no : (b : Bool) → (b && false) ≡ false
-and_no true = refl
-and_no false = refl
 
 -- op is granted to the lock at a key, which may move to another chain of its object
 pub stored_granted : (old new : Stored) (key number : ℕ) (op : Op) → IsStored old → number_in old.objects (lock_at old.locks key).object.0 ≡ Some number
@@ -72,7 +71,7 @@ stored_granted old new key number op stored numbered locks keys home homes there
             ap (λ (b : Bool). (lock_at new.locks j).granted && b) (ap (λ (l : Lock). l.granted) kept
             ∙ alone k c d (sym (ap (home_of old.by_owner) is) ∙ one) other (λ e. differ (sym e)) (sym same ∙ ap (λ (n : ℕ). (lock_at old.locks n).object.0) is)
             (conflict_swapped (lock_at old.locks k).ops _ ∙ (λ i. both_conflict (sym (ap (λ (n : ℕ). lock_at new.locks n) is ∙ at_key) i).ops (sym kept i).ops) ∙ conflict))
-            ∙ and_no _
+            ∙ and_false _
       ]
       | inr apart_j ↦ elim (cases_Bool (eqb k key)) [
         | inl second ↦
@@ -126,14 +125,6 @@ on_it : (lock : Lock) → is_on lock.object.0 lock ≡ true
 unfolding is_on
 on_it lock = eq-eqb lock.object.0 lock.object.0 refl
 
-on_same : (x : ℕ) (lock : Lock) → is_on x lock ≡ true → lock.object.0 ≡ x
-unfolding is_on
-on_same x lock on = eqb-true _ _ on
-
-off_by : (x : ℕ) (lock : Lock) → (lock.object.0 ≡ x → ⊥) → is_on x lock ≡ false
-unfolding is_on
-off_by x lock differ = ne_eqb _ _ differ
-
 -- a lock that is granted and carries op is as if it had been granted again
 taken_again : (op : Op) (lock : Lock) → (lock.granted && has_op lock.ops op) ≡ true → with_grant op lock ≡ lock
 taken_again op lock has = λ i. record { object = lock.object; ops = with_same op lock.ops (parts.1) i; granted = sym parts.0 i } where
@@ -146,10 +137,6 @@ suspended_asleep x ops lock asleep = go (is_on x lock && both_conflict lock.ops 
   go : (b : Bool) → (is_on x lock && both_conflict lock.ops ops) ≡ b → cond b (record lock { granted = false }) lock ≡ lock
   go true e = ap (λ (g : Bool). record lock { granted = g }) (sym (asleep e))
   go false e = refl
-
-and_yes : (b : Bool) → (b && true) ≡ b
-and_yes true = refl
-and_yes false = refl
 
 suspended_object : (x : ℕ) (ops : OpSet) (lock : Lock) → (suspended x ops lock).object.0 ≡ lock.object.0
 unfolding suspended
@@ -172,7 +159,7 @@ awake x ops lock on conflict = λ i. (cond (eq-eqb lock.object.0 x on i && confl
 module _ (store : Stored) (stored : IsStored store) (sound : IsSound store.by_owner) (key c : ℕ) (op : Op) (home : home_of store.by_owner key ≡ Some c) where
   -- the other locks of the seat are on other objects
   off : (k : ℕ) → home_of store.by_owner k ≡ Some c → (k ≡ key → ⊥) → is_on (lock_at store.locks key).object.0 (lock_at store.locks k) ≡ false
-  off k at apart = off_by _ _ (λ same. apart (stored.single k key c at home same))
+  off k at apart = off_from _ _ (λ same. apart (stored.single k key c at home same))
 
   -- nothing changes if the lock is granted and carries op
   pub own_again : ((lock_at store.locks key).granted && has_op (lock_at store.locks key).ops op) ≡ true → locks_at store c ≡ map (taken (lock_at store.locks key).object.0 op) (locks_at store c)
@@ -187,9 +174,9 @@ module _ (store : Stored) (stored : IsStored store) (sound : IsSound store.by_ow
       let parts = and_parts (lock_at store.locks key).granted (has_op (lock_at store.locks key).ops op) has in
       mapped (suspended (lock_at store.locks key).object.0 (with_op op (lock_at store.locks key).ops)) store store d refl sound (λ k at. sym (suspended_asleep _ _ (lock_at store.locks k) (λ h.
       let both = and_parts _ _ h in
-      asleep k (stored.apart k key d c at home differ (on_same _ _ both.0) (ap (both_conflict (lock_at store.locks k).ops) (sym (with_same op _ parts.1)) ∙ both.1)) parts.0))) where
+      asleep k (stored.apart k key d c at home differ (on_to _ _ both.0) (ap (both_conflict (lock_at store.locks k).ops) (sym (with_same op _ parts.1)) ∙ both.1)) parts.0))) where
         asleep : (k : ℕ) → ((lock_at store.locks k).granted && (lock_at store.locks key).granted) ≡ false → (lock_at store.locks key).granted ≡ true → (lock_at store.locks k).granted ≡ false
-        asleep k none mine = sym (and_yes _) ∙ ap (λ (b : Bool). (lock_at store.locks k).granted && b) (sym mine) ∙ none
+        asleep k none mine = sym (and_true _) ∙ ap (λ (b : Bool). (lock_at store.locks k).granted && b) (sym mine) ∙ none
 
   module _ (paused new : Stored) (pauses : IsSuspended (lock_at store.locks key).object.0 c (with_op op (lock_at store.locks key).ops) store paused)
       (locks : (k : ℕ) → lock_at new.locks k ≡ cond (eqb k key) (with_grant op (lock_at paused.locks key)) (lock_at paused.locks k)) (of_owner : new.by_owner ≡ paused.by_owner) where
@@ -235,10 +222,8 @@ pauses_as old new key c op lock ops read with pauses =
     subst (λ (l : Lock). IsSuspended l.object.0 c (with_op op l.ops) old new) read (subst (λ (o : OpSet). IsSuspended lock.object.0 c o old new) with pauses)
 
 -- ---- a grant to a seat
-no_home : (c : ℕ) → Some c ≡ None → ⊥
-no_home c e = cc
 
-seat_one : (c d : ℕ) → Some c ≡ Some d → c ≡ d
+pub seat_one : (c d : ℕ) → Some c ≡ Some d → c ≡ d
 seat_one c d e = cc
 
 taken_fresh : (x : Ob) (op : Op) → taken x.0 op (record (new_lock x op) { granted = false }) ≡ new_lock x op
@@ -278,7 +263,7 @@ module _ (store : Stored) (stored : IsStored store) (sound : IsSound store.by_ow
   found_here key home on = (
     any_from (is_on x.0) (lock_at store.locks) (chain_of store.by_owner c) key (sound.listed c key home) on,
     find_key (is_on x.0) (lock_at store.locks) (chain_of store.by_owner c) key (sound.listed c key home) on
-        (λ j there also. stored.single j key c (sound.at_home c j there) home (on_same x.0 _ also ∙ sym (on_same x.0 _ on))),
+        (λ j there also. stored.single j key c (sound.at_home c j there) home (on_to x.0 _ also ∙ sym (on_to x.0 _ on))),
   )
 
   pub none_here : ((k : ℕ) → home_of store.by_owner k ≡ Some c → is_on x.0 (lock_at store.locks k) ≡ false) → (list_any (is_on x.0) (locks_at store c) ≡ false) × (find (is_on x.0) (locks_at store c) ≡ None)
@@ -294,7 +279,7 @@ module _ (store : Stored) (stored : IsStored store) (sound : IsSound store.by_ow
         → locks_at new c ≡ granted_own x op (locks_at store c)
     unfolding granted_own
     grants_again key home on own =
-        own ∙ ap (λ (n : ℕ). map (taken n op) (locks_at store c)) (on_same x.0 _ on)
+        own ∙ ap (λ (n : ℕ). map (taken n op) (locks_at store c)) (on_to x.0 _ on)
         ∙ sym (ap (λ (b : Bool). cond b (map (taken x.0 op) (locks_at store c)) (locks_at store c ++ new_lock x op ∷ [])) (found_here key home on).0)
 
     pub suspends_again : (key : ℕ) → home_of store.by_owner key ≡ Some c → is_on x.0 (lock_at store.locks key) ≡ true → (d : ℕ)
@@ -302,7 +287,7 @@ module _ (store : Stored) (stored : IsStored store) (sound : IsSound store.by_ow
         → locks_at new d ≡ map (suspended x.0 (ops_with op (find (is_on x.0) (locks_at store c)))) (locks_at store d)
     unfolding ops_with
     suspends_again key home on d others =
-        others ∙ ap (λ (n : ℕ). map (suspended n (with_op op (lock_at store.locks key).ops)) (locks_at store d)) (on_same x.0 _ on)
+        others ∙ ap (λ (n : ℕ). map (suspended n (with_op op (lock_at store.locks key).ops)) (locks_at store d)) (on_to x.0 _ on)
         ∙ sym (ap (λ (o : Option Lock). map (suspended x.0 (ops_with op o)) (locks_at store d)) (found_here key home on).1)
 
     -- or it has none, and gets one
@@ -320,7 +305,7 @@ module _ (store : Stored) (stored : IsStored store) (sound : IsSound store.by_ow
       one_more_lock =
           ap (map (lock_at more.locks)) added.chain
           ∙ map-append (lock_at more.locks) (chain_of store.by_owner c) (key ∷ [])
-          ∙ (λ i. map_same (lock_at more.locks) (lock_at store.locks) (chain_of store.by_owner c) (λ k there. added.locks k (λ is. no_home c (sym (sound.at_home c k there) ∙ ap (home_of store.by_owner) is ∙ added.free))) i ++ added.added i ∷ [])
+          ∙ (λ i. map_same (lock_at more.locks) (lock_at store.locks) (chain_of store.by_owner c) (λ k there. added.locks k (λ is. some_is_not_none c (sym (sound.at_home c k there) ∙ ap (home_of store.by_owner) is ∙ added.free))) i ++ added.added i ∷ [])
 
       pub grants_first : locks_at new c ≡ map (taken (lock_at more.locks key).object.0 op) (locks_at more c) → locks_at new c ≡ granted_own x op (locks_at store c)
       unfolding granted_own
@@ -342,7 +327,7 @@ module _ (store : Stored) (stored : IsStored store) (sound : IsSound store.by_ow
       seat_kept : (more : Stored) (d : ℕ) → (d ≡ c → ⊥) → ((d : ℕ) → (d ≡ c → ⊥) → chain_of more.by_owner d ≡ chain_of store.by_owner d) → ((k : ℕ) → (k ≡ key → ⊥) → lock_at more.locks k ≡ lock_at store.locks k)
           → locks_at more d ≡ locks_at store d
       unfolding locks_at
-      seat_kept more d apart chains locks = ap (map (lock_at more.locks)) (chains d apart) ∙ map_same (lock_at more.locks) (lock_at store.locks) (chain_of store.by_owner d) (λ k there. locks k (λ is. no_home d (sym (sound.at_home d k there) ∙ ap (home_of store.by_owner) is ∙ added.free)))
+      seat_kept more d apart chains locks = ap (map (lock_at more.locks)) (chains d apart) ∙ map_same (lock_at more.locks) (lock_at store.locks) (chain_of store.by_owner d) (λ k there. locks k (λ is. some_is_not_none d (sym (sound.at_home d k there) ∙ ap (home_of store.by_owner) is ∙ added.free)))
 
       pub suspends_first : (d : ℕ) → (d ≡ c → ⊥) → locks_at new d ≡ map (suspended (lock_at more.locks key).object.0 (with_op op (lock_at more.locks key).ops)) (locks_at more d)
           → locks_at new d ≡ map (suspended x.0 (ops_with op (find (is_on x.0) (locks_at store c)))) (locks_at store d)
@@ -366,12 +351,12 @@ module _ (old new : Stored) (key c : ℕ) (sound : IsSound old.by_owner) (droppe
   unfolding locks_at
   others_kept d apart =
       let absent = listed_once old.by_owner sound key c d home apart in
-      ap (map (lock_at new.locks)) (dropped.chains d ∙ without_absent key (chain_of old.by_owner d) absent)
+      ap (map (lock_at new.locks)) (dropped.chains d ∙ without_unlisted key (chain_of old.by_owner d) absent)
       ∙ map_same (lock_at new.locks) (lock_at old.locks) (chain_of old.by_owner d) (λ k there. dropped.locks k (λ is. both_ways (lists (chain_of old.by_owner d) key) absent (ap (lists (chain_of old.by_owner d)) (sym is) ∙ there)))
 
   pub home_kept : (k d : ℕ) → home_of new.by_owner k ≡ Some d → home_of old.by_owner k ≡ Some d
   home_kept k d at = elim (cases_Bool (eqb k key)) [
-    | inl here ↦ absurd (no_home d (sym at ∙ dropped.homes k ∙ ap (λ (b : Bool). cond b None (home_of old.by_owner k)) here))
+    | inl here ↦ absurd (some_is_not_none d (sym at ∙ dropped.homes k ∙ ap (λ (b : Bool). cond b None (home_of old.by_owner k)) here))
     | inr apart ↦ sym (dropped.homes k ∙ ap (λ (b : Bool). cond b None (home_of old.by_owner k)) apart) ∙ at
   ]
 
@@ -380,9 +365,4 @@ module _ (old new : Stored) (key c : ℕ) (sound : IsSound old.by_owner) (droppe
 
 pub no_first : (keys : List ℕ) → first_of keys ≡ None → keys ≡ []
 no_first [] none = refl
-no_first (k ∷ keys) none = absurd (no_home k none)
-
--- what holds holds where there is an error
-pub on_error : {T E P : Type 0} (r : Result T E) → P → OnErr r P
-on_error (Ok x) p = tt
-on_error (Err e) p = p
+no_first (k ∷ keys) none = absurd (some_is_not_none k none)

@@ -5,46 +5,19 @@ use Rattle.std.specs.List.{list_any, IsDistinct}
 use Rattle.std.proofs.lemmas.Bool.{eqb-true, and_parts, or_parts, cases_Bool}
 use Rattle.std.proofs.lemmas.List.Folds.{list_any-append}
 use Rattle.std.proofs.lemmas.Map.Views.{any-filter_same}
-use Rattle.asset_names.proofs.Common.{eqb-flip}
+use Rattle.asset_names.proofs.Common.{eqb-flip, or_false}
 use Rattle.asset_names.specs.declared.operations.Op.{Op}
 use Rattle.asset_names.specs.declared.operations.Op.TheVariants as Op'
 use Rattle.asset_names.specs.declared.sets.ObSet.{ObSet}
 use Rattle.asset_names.specs.InSet.{in_set}
 use Rattle.asset_names.specs.OpSets.{OpSet, has_op}
+use Rattle.asset_names.proofs.ListLemmas.{any_alike, any_map, any_either, any_and}
 use Rattle.asset_chains.specs.Chained.{lists}
 use Rattle.asset_chains.proofs.KeyLemmas.{distinct_head, distinct_tail}
 use Rattle.asset_locks.specs.declared.lock.Lock.{Lock}
 use Rattle.asset_locks.specs.LockTable.{Enrolled, LockTable, is_on, carries_on, carries, names_in, enrolled_in, locks_or_none, locks_of, waiting_at, waiters_in, moved, both_ops, ops_on, merged, left, with_moved, handed_row, hand_over_in}
 use Rattle.asset_locks.specs.Valid.{IsValid}
 use Rattle.asset_locks.proofs.MergeLemmas.{merged_here, merged_apart, merged_object, none_carries}
-
--- ---- tests of lists
-any_mapped : {A : Type 0} (test : A → Bool) (change : A → A) (xs : List A) → list_any test (map change xs) ≡ list_any (λ x. test (change x)) xs
-any_mapped test change [] = refl
-any_mapped test change (x ∷ xs) = ap (λ b. test (change x) || b) (any_mapped test change xs)
-
-any_same : {A : Type 0} (f g : A → Bool) (xs : List A) → ((x : A) → f x ≡ g x) → list_any f xs ≡ list_any g xs
-any_same f g [] same = refl
-any_same f g (x ∷ xs) same = λ i. same x i || any_same f g xs same i
-
-any_either : {A : Type 0} (g h : A → Bool) (xs : List A) → list_any (λ x. g x || h x) xs ≡ (list_any g xs || list_any h xs)
-any_either g h [] = refl
-any_either g h (x ∷ xs) = ap (λ b. (g x || h x) || b) (any_either g h xs) ∙ swapped (g x) (h x) (list_any g xs) (list_any h xs) where
-  swapped : (a b c d : Bool) → ((a || b) || (c || d)) ≡ ((a || c) || (b || d))
-  swapped true b c d = refl
-  swapped false true true d = refl
-  swapped false true false d = refl
-  swapped false false c d = refl
-
-any_and : {A : Type 0} (test : A → Bool) (b : Bool) (xs : List A) → list_any (λ x. test x && b) xs ≡ (list_any test xs && b)
-any_and test b [] = refl
-any_and test b (x ∷ xs) = ap (λ c. (test x && b) || c) (any_and test b xs) ∙ spread (test x) (list_any test xs) b where
-  spread : (a c b : Bool) → ((a && b) || (c && b)) ≡ ((a || c) && b)
-  spread true true true = refl
-  spread true true false = refl
-  spread true false true = refl
-  spread true false false = refl
-  spread false c b = refl
 
 -- ---- the locks of one transaction
 has_both : (ops others : OpSet) (op : Op) → has_op (both_ops ops others) op ≡ (has_op ops op || has_op others op)
@@ -57,10 +30,6 @@ unfolding ops_on
 has_on x locks Op'.Read = refl
 has_on x locks Op'.Write = refl
 
-or_none : (b : Bool) → (b || false) ≡ b
-or_none true = refl
-or_none false = refl
-
 -- a lock that is merged carries the operations of both
 has_merged : (given : List Lock) (lock : Lock) (op : Op) → has_op (merged given lock).ops op ≡ (has_op lock.ops op || list_any (carries_on lock.object.0 op) given)
 has_merged given lock op = elim (cases_Bool (list_any (is_on lock.object.0) given)) [
@@ -70,7 +39,7 @@ has_merged given lock op = elim (cases_Bool (list_any (is_on lock.object.0) give
       ∙ ap (λ (b : Bool). has_op lock.ops op || b) (has_on lock.object.0 given op)
   | inr off ↦
       ap (λ (l : Lock). has_op l.ops op) (merged_apart given lock off)
-      ∙ sym (or_none (has_op lock.ops op))
+      ∙ sym (or_false (has_op lock.ops op))
       ∙ ap (λ (b : Bool). has_op lock.ops op || b) (sym (none_carries lock.object.0 op given off))
 ]
 
@@ -106,8 +75,8 @@ came_carries y op given locks =
     ∙ both (list_any (carries_on y op) locks) (list_any (is_on y) locks) (list_any (carries_on y op) given) where
       old_ones : list_any (carries_on y op) (map (merged given) locks) ≡ (list_any (carries_on y op) locks || (list_any (is_on y) locks && list_any (carries_on y op) given))
       old_ones =
-          any_mapped (carries_on y op) (merged given) locks
-          ∙ any_same (λ lock. carries_on y op (merged given lock)) (λ lock. carries_on y op lock || (is_on y lock && list_any (carries_on y op) given)) locks (merged_carries y op given)
+          any_map (carries_on y op) (merged given) locks
+          ∙ any_alike (λ lock. carries_on y op (merged given lock)) (λ lock. carries_on y op lock || (is_on y lock && list_any (carries_on y op) given)) locks (merged_carries y op given)
           ∙ any_either (carries_on y op) (λ lock. is_on y lock && list_any (carries_on y op) given) locks
           ∙ ap (λ (b : Bool). list_any (carries_on y op) locks || b) (any_and (is_on y) (list_any (carries_on y op) given) locks)
 
@@ -144,11 +113,11 @@ carries_own (who ∷ table) t x op distinct = go (eqb who.name t) refl (carries_
   go true e ih =
       ap (λ (b : Bool). list_any (carries_on x op) who.locks || b)
       (not_named t x op table (ap (lists (map (λ (w : Enrolled). w.name) table)) (sym (eqb-true who.name t e)) ∙ distinct_head who.name (map (λ (w : Enrolled). w.name) table) distinct))
-      ∙ or_none (list_any (carries_on x op) who.locks)
+      ∙ or_false (list_any (carries_on x op) who.locks)
   go false e ih = ih
 
 -- what holds of those who have a name holds if somebody has it
-any_named : (u : ℕ) (holds : ℕ → Bool) (table : LockTable) → list_any (λ (who : Enrolled). eqb who.name u && holds who.name) table ≡ (is_some (find (λ (who : Enrolled). eqb who.name u) table) && holds u)
+pub any_named : (u : ℕ) (holds : ℕ → Bool) (table : LockTable) → list_any (λ (who : Enrolled). eqb who.name u && holds who.name) table ≡ (is_some (find (λ (who : Enrolled). eqb who.name u) table) && holds u)
 any_named u holds [] = refl
 any_named u holds (who ∷ table) = go (eqb who.name u) refl (any_named u holds table) where
   go : (own : Bool) → eqb who.name u ≡ own → list_any (λ (h : Enrolled). eqb h.name u && holds h.name) table ≡ (is_some (find (λ (h : Enrolled). eqb h.name u) table) && holds u)
@@ -168,7 +137,7 @@ module _ (giver taker : ℕ) (set : ObSet) (given : List Lock) (u y : ℕ) (op :
   row_stays out none who = go (eqb who.name giver) (eqb who.name taker) where
     go : (g t : Bool) → row_carries u y op (cond g (record who { locks = left set who.locks }) (cond t (record who { locks = with_moved given who.locks }) who)) ≡ row_carries u y op who
     go true t = ap (λ (b : Bool). eqb who.name u && b) (left_carries y op set who.locks ∙ ap (λ (b : Bool). not b && list_any (carries_on y op) who.locks) out)
-    go false true = ap (λ (b : Bool). eqb who.name u && b) (came_carries y op given who.locks ∙ ap (λ (b : Bool). list_any (carries_on y op) who.locks || b) none ∙ or_none (list_any (carries_on y op) who.locks))
+    go false true = ap (λ (b : Bool). eqb who.name u && b) (came_carries y op given who.locks ∙ ap (λ (b : Bool). list_any (carries_on y op) who.locks || b) none ∙ or_false (list_any (carries_on y op) who.locks))
     go false false = refl
 
   -- and of one in which it is
@@ -219,13 +188,13 @@ module _ (giver taker : ℕ) (set : ObSet) (table : LockTable) (u y : ℕ) (op :
   unfolding carries hand_over_in
   handed_over =
       ap (λ (b : Bool). list_any (row_carries u y op) (cond b table (map (handed_row giver taker set gives) table))) differ
-      ∙ any_mapped (row_carries u y op) (handed_row giver taker set gives) table
+      ∙ any_map (row_carries u y op) (handed_row giver taker set gives) table
 
   -- of an object that is not in the set
   stays_carried : in_set set y ≡ false → list_any (λ who. row_carries u y op (handed_row giver taker set gives who)) table ≡ carries table u y op
   unfolding carries
   stays_carried out =
-      any_same (λ who. row_carries u y op (handed_row giver taker set gives who)) (row_carries u y op) table
+      any_alike (λ who. row_carries u y op (handed_row giver taker set gives who)) (row_carries u y op) table
       (row_stays giver taker set gives u y op out (given_carries y op set (locks_of table giver) ∙ ap (λ (b : Bool). b && list_any (carries_on y op) (locks_of table giver)) out))
 
   -- the taker carries what the giver did
@@ -239,7 +208,7 @@ module _ (giver taker : ℕ) (set : ObSet) (table : LockTable) (u y : ℕ) (op :
   others_carry : list_any (λ (who : Enrolled). row_carries u y op who && not (eqb who.name giver)) table ≡ (not (eqb u giver) && carries table u y op)
   unfolding carries
   others_carry =
-      any_same (λ who. row_carries u y op who && not (eqb who.name giver)) (λ who. row_carries u y op who && not (eqb u giver)) table (λ who. same_name who u giver (list_any (carries_on y op) who.locks))
+      any_alike (λ who. row_carries u y op who && not (eqb who.name giver)) (λ who. row_carries u y op who && not (eqb u giver)) table (λ who. same_name who u giver (list_any (carries_on y op) who.locks))
       ∙ any_and (row_carries u y op) (not (eqb u giver)) table
       ∙ turned (list_any (row_carries u y op) table) (not (eqb u giver)) where
         turned : (a b : Bool) → (a && b) ≡ (b && a)
@@ -256,7 +225,7 @@ module _ (giver taker : ℕ) (set : ObSet) (table : LockTable) (u y : ℕ) (op :
 
   moves_carried : in_set set y ≡ true → list_any (λ who. row_carries u y op (handed_row giver taker set gives who)) table ≡ ((eqb u taker && carries table giver y op) || (not (eqb u giver) && carries table u y op))
   moves_carried among =
-      any_same (λ who. row_carries u y op (handed_row giver taker set gives who))
+      any_alike (λ who. row_carries u y op (handed_row giver taker set gives who))
       (λ who. (eqb who.name taker && (not (eqb who.name giver) && (eqb who.name u && list_any (carries_on y op) gives))) || (row_carries u y op who && not (eqb who.name giver))) table (row_moves giver taker set gives u y op among)
       ∙ any_either (λ (who : Enrolled). eqb who.name taker && (not (eqb who.name giver) && (eqb who.name u && list_any (carries_on y op) gives))) (λ who. row_carries u y op who && not (eqb who.name giver)) table
       ∙ (λ i. taker_carries i || others_carry i)
@@ -270,7 +239,7 @@ module _ (giver taker : ℕ) (set : ObSet) (table : LockTable) (u y : ℕ) (op :
     by_set false out = stays_carried out
 
 -- ---- who is enrolled, and who waits
-names_changed : (change : Enrolled → Enrolled) (table : LockTable) → ((who : Enrolled) → (change who).name ≡ who.name) → map (λ (who : Enrolled). who.name) (map change table) ≡ map (λ (who : Enrolled). who.name) table
+pub names_changed : (change : Enrolled → Enrolled) (table : LockTable) → ((who : Enrolled) → (change who).name ≡ who.name) → map (λ (who : Enrolled). who.name) (map change table) ≡ map (λ (who : Enrolled). who.name) table
 names_changed change [] keeps = refl
 names_changed change (who ∷ table) keeps = λ i. keeps who i ∷ names_changed change table keeps i
 

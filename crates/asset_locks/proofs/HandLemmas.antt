@@ -4,39 +4,20 @@ use Rattle.std.proofs.lemmas.Bool.{eqb-true, eqb-false, eq-eqb, ne_eqb, cases_Bo
 use Rattle.std.proofs.lemmas.List.{map-append}
 use Rattle.slab.specs.Slab.{Slab, get, with_value}
 use Rattle.asset_names.specs.OpSets.{OpSet}
+use Rattle.asset_names.proofs.Common.{some_is_not_none, and_false}
 use Rattle.asset_chains.specs.Chained.{Chained, chain_of, home_of, lists, without, pushed, unlinked, IsSound}
 use Rattle.asset_chains.proofs.Laws.{key_within, unlinks, pushes}
 use Rattle.asset_chains.proofs.SoundLemmas.{listed_once}
-use Rattle.asset_chains.proofs.Walks.{without_absent, chains_without, map_same}
+use Rattle.asset_chains.proofs.Walks.{chains_without, map_same}
+use Rattle.asset_chains.proofs.KeyLemmas.{without_unlisted}
 use Rattle.asset_locks.specs.declared.lock.Lock.{Lock}
 use Rattle.asset_locks.specs.LockTable.{is_on, both_conflict, both_ops, merged}
 use Rattle.asset_locks.specs.Valid.{is_some_op}
 use Rattle.asset_locks.specs.Stored.{Stored, lock_at, locks_at, number_in, chain_for, IsPlaced, IsStored, IsDropped, IsMoved, IsHanded}
 use Rattle.asset_locks.proofs.StoreLemmas.{stored_changed, written, read_lock}
-use Rattle.asset_locks.proofs.GrantLemmas.{found_here, none_here}
+use Rattle.asset_locks.proofs.GrantLemmas.{found_here, none_here, seat_one}
 use Rattle.asset_locks.proofs.MergeLemmas.{with_ops, merged_here, merged_apart, ops_one, moved_here, moved_alone}
-
-no_some : {X : Type 0} (x : X) → Some x ≡ None → ⊥
-no_some x e = cc
-
-seat_one : (c d : ℕ) → Some c ≡ Some d → c ≡ d
-seat_one c d e = cc
-
-and_false : (b : Bool) → (b && false) ≡ false
-and_false true = refl
-and_false false = refl
-
-on_same : (x : ℕ) (lock : Lock) → is_on x lock ≡ true → lock.object.0 ≡ x
-unfolding is_on
-on_same x lock on = eqb-true _ _ on
-
-on_from : (x : ℕ) (lock : Lock) → lock.object.0 ≡ x → is_on x lock ≡ true
-unfolding is_on
-on_from x lock same = eq-eqb _ _ same
-
-off_from : (x : ℕ) (lock : Lock) → (lock.object.0 ≡ x → ⊥) → is_on x lock ≡ false
-unfolding is_on
-off_from x lock differ = ne_eqb _ _ differ
+use Rattle.asset_locks.proofs.LockLemmas.{on_to, on_from, off_from}
 
 -- the operations are added to the lock at a key, which is suspended
 pub added_some : (locks : Slab Lock) (key : ℕ) (ops : OpSet) (lock : Lock) → get locks key ≡ Some lock → (k : ℕ)
@@ -64,7 +45,7 @@ moved_chain old gone table key from to sound home seat unlinks_it pushes_it none
     let chains = chains_without old.by_owner gone key from sound home unlinks_it in
     record {
       locks = refl;
-      chain = more.chain ∙ ap (λ (l : List ℕ). l ++ key ∷ []) (chains to ∙ without_absent key (chain_of old.by_owner to) (listed_once old.by_owner sound key from to home differ));
+      chain = more.chain ∙ ap (λ (l : List ℕ). l ++ key ∷ []) (chains to ∙ without_unlisted key (chain_of old.by_owner to) (listed_once old.by_owner sound key from to home differ));
       chains = λ d apart. more.chains d apart ∙ chains d;
       homes = moved_homes old.by_owner gone table key from to home seat unlinks_it pushes_it;
       seats = more.same_chains ∙ less.same_chains;
@@ -84,7 +65,7 @@ module _ (old : Stored) (table : Chained) (key to : ℕ) (stored : IsStored old)
     go (Some d) e = (d, e)
     go None e = elim (cases_Bool (eqb k key)) [
       | inl here ↦ absurd (true≢false (sym there ∙ ap (λ (n : ℕ). is_some (home_of old.by_owner n)) (sym (eqb-true k key here)) ∙ ap is_some e))
-      | inr apart ↦ absurd (no_some c (sym home ∙ homes k ∙ ap (λ (b : Bool). cond b (Some to) (home_of old.by_owner k)) apart ∙ e))
+      | inr apart ↦ absurd (some_is_not_none c (sym home ∙ homes k ∙ ap (λ (b : Bool). cond b (Some to) (home_of old.by_owner k)) apart ∙ e))
     ]
 
   -- the seat has no other lock on the object
@@ -237,7 +218,7 @@ module _ (old new : Stored) (stored : IsStored old) (sound : IsSound old.by_owne
         (λ i. map (lock_at (moved.locks i)) (moved.chain i))
         ∙ map-append (lock_at old.locks) (chain_of old.by_owner to) (key ∷ [])
         ∙ sym (moved_alone (lock_at old.locks key) (locks_at old to) (none_here old stored sound to (lock_at old.locks key).object none).0);
-    others = λ d apart other. λ i. map (lock_at (moved.locks i)) ((moved.chains d other ∙ without_absent key (chain_of old.by_owner d) (listed_once old.by_owner sound key from d home apart)) i);
+    others = λ d apart other. λ i. map (lock_at (moved.locks i)) ((moved.chains d other ∙ without_unlisted key (chain_of old.by_owner d) (listed_once old.by_owner sound key from d home apart)) i);
     seats = moved.seats;
     holders = λ k d at. elim (cases_Bool (eqb k key)) [
       | inl here ↦ inr (seat_one d to (sym at ∙ moved.homes k ∙ ap (λ (b : Bool). cond b (Some to) (home_of old.by_owner k)) here))
@@ -253,7 +234,7 @@ module _ (old new : Stored) (stored : IsStored old) (sound : IsSound old.by_owne
     chain_now d = dropped.chains d ∙ ap (λ (t : Chained). without key (chain_of t d)) of_owner
 
     same_chain : (d : ℕ) → (d ≡ from → ⊥) → chain_of new.by_owner d ≡ chain_of old.by_owner d
-    same_chain d apart = chain_now d ∙ without_absent key (chain_of old.by_owner d) (listed_once old.by_owner sound key from d home apart)
+    same_chain d apart = chain_now d ∙ without_unlisted key (chain_of old.by_owner d) (listed_once old.by_owner sound key from d home apart)
 
     same_lock_at : (k : ℕ) → (k ≡ key → ⊥) → (k ≡ other → ⊥) → lock_at new.locks k ≡ lock_at old.locks k
     same_lock_at k apart unmerged = dropped.locks k apart ∙ locks k ∙ ap (λ (b : Bool). cond b (with_ops (lock_at old.locks key).ops (lock_at old.locks other)) (lock_at old.locks k)) (ne_eqb k other unmerged)
@@ -263,7 +244,7 @@ module _ (old new : Stored) (stored : IsStored old) (sound : IsSound old.by_owne
     each_merged k listed = elim (cases_Bool (eqb k other)) [
       | inl here ↦
           let is = eqb-true k other here in
-          let on_it : is_on (lock_at old.locks other).object.0 (lock_at old.locks key) ≡ true = on_from _ _ (sym (on_same _ _ on)) in
+          let on_it : is_on (lock_at old.locks other).object.0 (lock_at old.locks key) ≡ true = on_from _ _ (sym (on_to _ _ on)) in
           dropped.locks k unlisted
           ∙ locks k
           ∙ ap (λ (b : Bool). cond b (with_ops (lock_at old.locks key).ops (lock_at old.locks other)) (lock_at old.locks k)) here
@@ -274,7 +255,7 @@ module _ (old new : Stored) (stored : IsStored old) (sound : IsSound old.by_owne
           let unmerged = eqb-false k other apart in
           same_lock_at k unlisted unmerged
           ∙ sym (merged_apart (lock_at old.locks key ∷ []) (lock_at old.locks k)
-          (ap (λ (b : Bool). b || false) (off_from _ _ (λ same. unmerged (stored.single k other to (sound.at_home to k listed) there (sym same ∙ sym (on_same _ _ on)))))))
+          (ap (λ (b : Bool). b || false) (off_from _ _ (λ same. unmerged (stored.single k other to (sound.at_home to k listed) there (sym same ∙ sym (on_to _ _ on)))))))
     ] where
       unlisted : k ≡ key → ⊥
       unlisted = not_listed old sound key from to home (λ e. differ (sym e)) k listed
@@ -295,7 +276,7 @@ module _ (old new : Stored) (stored : IsStored old) (sound : IsSound old.by_owne
           same_lock_at k (not_listed old sound key from d home apart k listed) (not_listed old sound other to d there unmerged k listed));
       seats = dropped.seats ∙ ap (λ (t : Chained). length t.chains) of_owner;
       holders = λ k d at. elim (cases_Bool (eqb k key)) [
-        | inl here ↦ absurd (no_some d (sym at ∙ dropped.homes k ∙ ap (λ (b : Bool). cond b None (home_of half.by_owner k)) here))
+        | inl here ↦ absurd (some_is_not_none d (sym at ∙ dropped.homes k ∙ ap (λ (b : Bool). cond b None (home_of half.by_owner k)) here))
         | inr apart ↦ inl (ap (λ (t : Chained). home_of t k) (sym of_owner) ∙ sym (dropped.homes k ∙ ap (λ (b : Bool). cond b None (home_of half.by_owner k)) apart) ∙ at)
       ];
     } where

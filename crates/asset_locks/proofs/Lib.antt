@@ -1,3 +1,4 @@
+pub mod LockLemmas
 pub mod StoreLemmas
 pub mod WalkLemmas
 pub mod OpsLemmas

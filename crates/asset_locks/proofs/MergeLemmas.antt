@@ -1,15 +1,16 @@
 -- The taker's locks after locks of the giver came, one after another.
 use Rattle.std.proofs.Common.{◌≡◌, ℕ, Bool, true, false, eqb, not, cond, ◌&&◌, ◌||◌, List, [], ◌∷◌, ◌++◌, map, filter, refl, sym, ap, ◌∙◌, append_assoc, inl, inr}
 use Rattle.std.specs.List.{list_any}
-use Rattle.std.proofs.lemmas.Bool.{eqb-true, cases_Bool, or_parts}
+use Rattle.std.proofs.lemmas.Bool.{cases_Bool, or_parts}
 use Rattle.std.proofs.lemmas.List.{map-append, append-nil}
 use Rattle.std.proofs.lemmas.List.Folds.{list_any-append}
-use Rattle.asset_names.proofs.Common.{eqb-flip}
+use Rattle.asset_names.proofs.Common.{eqb-flip, or_false}
 use Rattle.asset_names.specs.declared.operations.Op.{Op}
 use Rattle.asset_names.specs.declared.operations.Op.TheVariants as Op'
 use Rattle.asset_names.specs.OpSets.{OpSet, op_set, has_op}
 use Rattle.asset_locks.specs.declared.lock.Lock.{Lock}
 use Rattle.asset_locks.specs.LockTable.{is_on, carries_on, both_ops, ops_on, merged, with_moved}
+use Rattle.asset_locks.proofs.LockLemmas.{on_to}
 
 -- the lock with these operations too, suspended
 abbrev pub with_ops : OpSet → Lock → Lock
@@ -33,16 +34,12 @@ ops_first : (x : ℕ) (l : Lock) (locks : List Lock) → list_any (is_on x) lock
 unfolding ops_on
 ops_first x l locks none = λ i. op_set (carries_on x Op'.Read l || none_carries x Op'.Read locks none i) (carries_on x Op'.Write l || none_carries x Op'.Write locks none i)
 
-or_none : (b : Bool) → (b || false) ≡ b
-or_none true = refl
-or_none false = refl
-
 -- the operations of the one lock that comes on the object
 pub ops_one : (x : ℕ) (l : Lock) → is_on x l ≡ true → ops_on x (l ∷ []) ≡ l.ops
 unfolding ops_on carries_on
 ops_one x l on = λ i. op_set (go l.ops.read i) (go l.ops.write i) where
   go : (b : Bool) → ((is_on x l && b) || false) ≡ b
-  go b = or_none (is_on x l && b) ∙ ap (λ (a : Bool). a && b) on
+  go b = or_false (is_on x l && b) ∙ ap (λ (a : Bool). a && b) on
 
 -- ---- one lock of the taker's
 pub merged_here : (given : List Lock) (lock : Lock) → list_any (is_on lock.object.0) given ≡ true → merged given lock ≡ with_ops (ops_on lock.object.0 given) lock
@@ -66,10 +63,6 @@ on_flip : (l q : Lock) → is_on l.object.0 q ≡ is_on q.object.0 l
 unfolding is_on
 on_flip l q = eqb-flip q.object.0 l.object.0
 
-on_same : (x : ℕ) (l : Lock) → is_on x l ≡ true → l.object.0 ≡ x
-unfolding is_on
-on_same x l on = eqb-true l.object.0 x on
-
 -- a lock that comes on another object changes nothing
 merged_more : (l : Lock) (given : List Lock) (lock : Lock) → is_on lock.object.0 l ≡ false → merged (l ∷ given) lock ≡ merged given lock
 unfolding merged
@@ -79,7 +72,7 @@ merged_more l given lock off = λ i. cond (off i || list_any (is_on lock.object.
 merged_twice : (l : Lock) (given : List Lock) (lock : Lock) → list_any (is_on l.object.0) given ≡ false → merged given (merged (l ∷ []) lock) ≡ merged (l ∷ given) lock
 merged_twice l given lock none = elim (cases_Bool (is_on lock.object.0 l)) [
   | inl on ↦
-      let others : list_any (is_on lock.object.0) given ≡ false = ap (λ (x : ℕ). list_any (is_on x) given) (sym (on_same lock.object.0 l on)) ∙ none in
+      let others : list_any (is_on lock.object.0) given ≡ false = ap (λ (x : ℕ). list_any (is_on x) given) (sym (on_to lock.object.0 l on)) ∙ none in
       ap (merged given) (merged_here (l ∷ []) lock (ap (λ (b : Bool). b || false) on))
       ∙ merged_apart given (with_ops (ops_on lock.object.0 (l ∷ [])) lock) others
       ∙ ap (λ (ops : OpSet). with_ops ops lock) (sym (ops_first lock.object.0 l given others))
@@ -164,4 +157,4 @@ moved_first l given locks none = elim (cases_Bool (list_any (is_on l.object.0) l
   still q apart =
       list_any-append (is_on q.object.0) (map (merged (l ∷ [])) locks) (l ∷ [])
       ∙ (λ i. same_objects (l ∷ []) locks q.object.0 i || ((sym (on_flip l q) ∙ apart) i || false))
-      ∙ or_none (list_any (is_on q.object.0) locks)
+      ∙ or_false (list_any (is_on q.object.0) locks)

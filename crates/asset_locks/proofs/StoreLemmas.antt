@@ -6,12 +6,13 @@ use Rattle.std.proofs.lemmas.List.Quantifiers.{position-Some}
 use Rattle.std.proofs.lemmas.List.Folds.{position_or_len_push}
 use Rattle.std.proofs.lemmas.List.Sums.{prefix_len-le-length}
 use Rattle.std.proofs.lemmas.List.{length-append}
-use Rattle.std.proofs.lemmas.Bool.{eqb-true, eqb-false, eq-eqb, ne_eqb, true≢false, cases_Bool, both_ways, ltb-true, ltb-false, lt-ltb}
+use Rattle.std.proofs.lemmas.Bool.{eqb-true, eqb-false, eq-eqb, ne_eqb, cases_Bool, both_ways, ltb-true, ltb-false, lt-ltb}
 use Rattle.slab.specs.Slab.{Slab, get, with_value, Updates, ContainsKey}
 use Rattle.slab.proofs.SlabLemmas.{Updates-with_value}
 use Rattle.asset_names.specs.declared.names.Ob.{Ob}
 use Rattle.asset_names.specs.declared.operations.Op.{Op}
 use Rattle.asset_names.specs.OpSets.{with_op}
+use Rattle.asset_names.proofs.Common.{some_is_not_none, and_false}
 use Rattle.asset_chains.specs.Chained.{Chained, home_of}
 use Rattle.asset_chains.proofs.Laws.{IsPushed}
 use Rattle.asset_chains.proofs.SoundLemmas.{no_home_of}
@@ -19,14 +20,6 @@ use Rattle.asset_locks.specs.declared.lock.Lock.{Lock}
 use Rattle.asset_locks.specs.LockTable.{is_on, both_conflict}
 use Rattle.asset_locks.specs.Valid.{is_some_op}
 use Rattle.asset_locks.specs.Stored.{Stored, no_lock, lock_at, number_in, chain_for, IsPlaced, IsStored}
-
-pub some_of : {X : Type 0} (o : Option X) → is_some o ≡ true → (x : X) × (o ≡ Some x)
-some_of None h = absurd (true≢false (sym h))
-some_of (Some x) h = (x, refl)
-
-pub none_of : {X : Type 0} (o : Option X) → is_some o ≡ false → o ≡ None
-none_of None h = refl
-none_of (Some x) h = absurd (true≢false h)
 
 -- ---- reads and writes of the slab
 pub read_lock : (locks : Slab Lock) (k : ℕ) (lock : Lock) → get locks k ≡ Some lock → lock_at locks k ≡ lock
@@ -89,9 +82,6 @@ pub granted_some : (locks : Slab Lock) (key : ℕ) (op : Op) (lock : Lock) → g
 granted_some locks key op lock there k =
     written locks key lock (record lock { ops = with_op op lock.ops; granted = true }) there k
     ∙ ap (λ (l : Lock). cond (eqb k key) (record l { ops = with_op op l.ops; granted = true }) (lock_at locks k)) (sym (read_lock locks key lock there))
-
-no_some : {X : Type 0} (x : X) → Some x ≡ None → ⊥
-no_some x e = cc
 
 -- ---- the locks stay as they are stored
 pub placed_as : (old new : Stored) (k : ℕ) → IsPlaced old k → ((x n : ℕ) → number_in old.objects x ≡ Some n → number_in new.objects x ≡ Some n) → lock_at new.locks k ≡ lock_at old.locks k
@@ -158,7 +148,7 @@ stored_dropped old new key stored gone of_object of_owner objects chains = recor
 
   still : (k c : ℕ) → home_of new.by_owner k ≡ Some c → (k ≡ key → ⊥) × (home_of old.by_owner k ≡ Some c)
   still k c home = elim (cases_Bool (eqb k key)) [
-    | inl here ↦ absurd (no_some c (sym home ∙ of_owner k ∙ ap (λ b. cond b None (home_of old.by_owner k)) here))
+    | inl here ↦ absurd (some_is_not_none c (sym home ∙ of_owner k ∙ ap (λ b. cond b None (home_of old.by_owner k)) here))
     | inr apart ↦ (eqb-false k key apart, sym (of_owner k ∙ ap (λ b. cond b None (home_of old.by_owner k)) apart) ∙ home)
   ]
 
@@ -167,10 +157,6 @@ stored_dropped old new key stored gone of_object of_owner objects chains = recor
 
   object : (k : ℕ) → (k ≡ key → ⊥) → (lock_at new.locks k).object.0 ≡ (lock_at old.locks k).object.0
   object k apart = ap (λ (l : Lock). l.object.0) (same k apart)
-
-and_false : (b : Bool) → (b && false) ≡ false
-and_false true = refl
-and_false false = refl
 
 -- one more lock, which is suspended, is in the slab and both chains
 pub stored_added : (old new : Stored) (key c number : ℕ) (lock : Lock) → IsStored old → get old.locks key ≡ None → Updates old.locks new.locks key (Some lock)
@@ -272,11 +258,11 @@ pub stored_nothing : (store : Stored) → store.locks.slots ≡ [] → store.obj
 stored_nothing store locks objects of_object of_owner = record {
   held = λ k. ap is_some (no_home k) ∙ sym (ap is_some (no_lock_at k));
   listed = λ k. ap is_some (no_home_of store.by_object of_object k) ∙ sym (ap is_some (no_lock_at k));
-  placed = λ k c home. absurd (no_some c (sym home ∙ no_home k));
+  placed = λ k c home. absurd (some_is_not_none c (sym home ∙ no_home k));
   chains = omega (arith, ap (λ (l : List Ob). length l) objects);
-  single = λ j k c one other same. absurd (no_some c (sym one ∙ no_home j));
-  carry = λ k c home. absurd (no_some c (sym home ∙ no_home k));
-  apart = λ j k c d one other differ same conflict. absurd (no_some c (sym one ∙ no_home j));
+  single = λ j k c one other same. absurd (some_is_not_none c (sym one ∙ no_home j));
+  carry = λ k c home. absurd (some_is_not_none c (sym home ∙ no_home k));
+  apart = λ j k c d one other differ same conflict. absurd (some_is_not_none c (sym one ∙ no_home j));
 } where
   no_home : (k : ℕ) → home_of store.by_owner k ≡ None
   no_home = no_home_of store.by_owner of_owner
@@ -296,7 +282,7 @@ number_parts objects x n is = go (ltb at (length objects)) refl where
       let same : Some at ≡ Some n = sym (ap (λ (b : Bool). cond b (Some at) None) e) ∙ is in
       let here : at ≡ n = cc same in
       (here, subst (λ m. m < length objects) here (ltb-true at (length objects) e))
-  go false e = absurd (no_some n (sym is ∙ ap (λ (b : Bool). cond b (Some at) None) e))
+  go false e = absurd (some_is_not_none n (sym is ∙ ap (λ (b : Bool). cond b (Some at) None) e))
 
 number_from : (objects : List Ob) (x : ℕ) → position_or_len (λ (y : Ob). eqb x y.0) objects < length objects → number_in objects x ≡ Some (position_or_len (λ (y : Ob). eqb x y.0) objects)
 unfolding number_in
@@ -330,7 +316,7 @@ absent objects y none = go (ltb at (length objects)) refl where
   at = position_or_len (λ (o : Ob). eqb y.0 o.0) objects
 
   go : (b : Bool) → ltb at (length objects) ≡ b → at ≡ length objects
-  go true e = absurd (no_some at (sym (ap (λ (b : Bool). cond b (Some at) None) e) ∙ none))
+  go true e = absurd (some_is_not_none at (sym (ap (λ (b : Bool). cond b (Some at) None) e) ∙ none))
   go false e = omega (arith, ltb-false at (length objects) e, prefix_len-le-length (λ (o : Ob). not (eqb y.0 o.0)) objects)
 
 -- and has the next number itself

@@ -1,8 +1,9 @@
 -- The locks on an object that conflict with one that is granted.
-use Rattle.std.proofs.Common.{◌≡◌, ℕ, Bool, true, false, eqb, ◌&&◌, ◌||◌, ◌*◌, ◌≤◌, length, Option, Some, None, is_some, refl, sym, ap, subst, ◌∙◌, inl, inr}
+use Rattle.std.proofs.Common.{◌≡◌, ℕ, Bool, true, false, eqb, ◌&&◌, ◌||◌, ◌*◌, ◌≤◌, length, Option, Some, is_some, refl, sym, ap, subst, ◌∙◌, inl, inr}
 use Rattle.std.proofs.lemmas.Bool.{eqb-true, eqb-false, true≢false, cases_Bool, false_from_ne_true, both_ways}
 use Rattle.slab.specs.Slab.{Slab, get}
 use Rattle.asset_names.specs.OpSets.{OpSet}
+use Rattle.asset_names.proofs.Common.{and_false, and_true, or_false}
 use Rattle.asset_chains.specs.Chained.{Chained, chain_of, home_of, lists, IsSound}
 use Rattle.asset_chains.proofs.SoundLemmas.{listed_once}
 use Rattle.asset_locks.specs.declared.lock.Lock.{Lock}
@@ -18,9 +19,6 @@ abbrev pub same_flag : Bool → Bool → Bool
 same_flag true b = b
 same_flag false true = false
 same_flag false false = true
-
-no_some : {X : Type 0} (x : X) → Some x ≡ None → ⊥
-no_some x e = cc
 
 -- ---- which chains of an object list a lock
 module _ (store : Stored) (stored : IsStored store) (sound : IsSound store.by_object) (x number : ℕ) (numbered : number_in store.objects x ≡ Some number) where
@@ -121,22 +119,10 @@ pub walked : (x : ℕ) (ops : OpSet) (lock : Lock) → is_some_op lock.ops ≡ t
 unfolding suspended
 walked x ops lock carries some = ap (λ (b : Bool). passed_lock b lock) (by_walks ops lock.ops carries some (is_on x lock) lock.ops.write refl)
 
-or_none : (b : Bool) → (b || false) ≡ b
-or_none true = refl
-or_none false = refl
-
 pub twice_passed : (a b : Bool) (lock : Lock) → passed_lock b (passed_lock a lock) ≡ passed_lock (a || b) lock
 twice_passed true true lock = refl
 twice_passed true false lock = refl
 twice_passed false b lock = refl
-
-and_true : (b : Bool) → (b && true) ≡ b
-and_true true = refl
-and_true false = refl
-
-and_false : (b : Bool) → (b && false) ≡ false
-and_false true = refl
-and_false false = refl
 
 -- ---- what the walks leave
 module _ (store : Stored) (stored : IsStored store) (sound : IsSound store.by_object) (x c number : ℕ) (ops : OpSet) (numbered : number_in store.objects x ≡ Some number) (some : is_some_op ops ≡ true) where
@@ -161,7 +147,7 @@ module _ (store : Stored) (stored : IsStored store) (sound : IsSound store.by_ob
       others = λ k d home differ.
           ap (λ (s : Slab Lock). lock_at s k) locks
           ∙ first k
-          ∙ ap (λ (b : Bool). passed_lock b (lock_at store.locks k)) (flag k d writers true home differ is_writers ∙ sym (or_none _) ∙ ap (λ (b : Bool). (is_on x (lock_at store.locks k) && same_flag true (lock_at store.locks k).ops.write) || (b && is_on x (lock_at store.locks k) && same_flag false (lock_at store.locks k).ops.write)) (sym reads))
+          ∙ ap (λ (b : Bool). passed_lock b (lock_at store.locks k)) (flag k d writers true home differ is_writers ∙ sym (or_false _) ∙ ap (λ (b : Bool). (is_on x (lock_at store.locks k) && same_flag true (lock_at store.locks k).ops.write) || (b && is_on x (lock_at store.locks k) && same_flag false (lock_at store.locks k).ops.write)) (sym reads))
           ∙ walked x ops (lock_at store.locks k) (stored.carry k d home) some;
       by_owner = of_owner;
       objects = objects;

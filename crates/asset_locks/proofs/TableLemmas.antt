@@ -8,6 +8,7 @@ use Rattle.asset_names.specs.declared.names.Txn.{Txn}
 use Rattle.asset_names.specs.declared.names.Ob.{Ob}
 use Rattle.asset_names.specs.declared.operations.Op.{Op}
 use Rattle.asset_names.specs.OpSets.{OpSet}
+use Rattle.asset_names.proofs.Common.{one_txn, some_is_not_none}
 use Rattle.asset_chains.specs.Chained.{Chained, chain_of, home_of, lists, without, IsSound}
 use Rattle.asset_chains.proofs.Laws.{IsPushed, read_more}
 use Rattle.asset_chains.proofs.SoundLemmas.{no_home_of, no_chain_of}
@@ -18,15 +19,9 @@ use Rattle.asset_locks.specs.declared.lock.Lock.{Lock}
 use Rattle.asset_locks.specs.LockTable.{Enrolled, LockTable, PendingRequest, is_on, names_in, enrolled_in, locks_or_none, locks_of, lock_in, held_in, both_conflict, blocks, is_free_in, enrol_in, release_in, waiting_row, wait_in, ops_with, granted_own, suspended, granted_row, grant_in, waiting_at, waiters_in}
 use Rattle.asset_locks.specs.Valid.{IsValid, is_some_op}
 use Rattle.asset_locks.specs.Stored.{Stored, lock_at, locks_at, name_or_zero, pending_at, row_at, rows_of, enrolled_chain, AreSeated, IsStored, IsGrown, IsRoomMade}
-use Rattle.asset_locks.proofs.BlockLemmas.{on_to}
 use Rattle.asset_locks.proofs.GrantLemmas.{grown_same}
 use Rattle.asset_locks.proofs.WalkLemmas.{get_first, get_later}
-
-no_some : {X : Type 0} (x : X) → Some x ≡ None → ⊥
-no_some x e = cc
-
-pub one_name : (t u : Txn) → t.0 ≡ u.0 → t ≡ u
-one_name t u e = λ i. record { 0 = e i }
+use Rattle.asset_locks.proofs.LockLemmas.{on_to}
 
 -- one map after another
 pub fused : {X Y : Type 0} (f : ℕ → X) (g : X → Y) (keys : List ℕ) → map g (map f keys) ≡ map (λ k. g (f k)) keys
@@ -89,7 +84,7 @@ module _ (seats : Seated) (pending : List PendingRequest) (order : Chained) (sto
   unfolding enrolled_chain
   sits_at c there = go (seat seats c) refl where
     go : (o : Option Txn) → seat seats c ≡ o → (t : Txn) × (seat seats c ≡ Some t)
-    go None e = absurd (no_some 0 (sym (sound.at_home 0 c there) ∙ seated.ordered c ∙ ap enrolled_chain e))
+    go None e = absurd (some_is_not_none 0 (sym (sound.at_home 0 c there) ∙ seated.ordered c ∙ ap enrolled_chain e))
     go (Some t) e = (t, e)
 
   pub row_name : (c : ℕ) (t : Txn) → seat seats c ≡ Some t → (row_at seats pending store c).name ≡ t.0
@@ -100,7 +95,7 @@ module _ (seats : Seated) (pending : List PendingRequest) (order : Chained) (sto
   pub named_seat : (c d : ℕ) (t : Txn) → seat seats c ≡ Some t → lists (chain_of order 0) d ≡ true → (row_at seats pending store d).name ≡ t.0 → d ≡ c
   named_seat c d t sits there name =
       let other = sits_at d there in
-      seated.single d c t (other.1 ∙ ap Some (one_name other.0 t (sym (row_name d other.0 other.1) ∙ name))) sits
+      seated.single d c t (other.1 ∙ ap Some (one_txn other.0 t (sym (row_name d other.0 other.1) ∙ name))) sits
 
   pub other_name : (c d : ℕ) (t : Txn) → seat seats c ≡ Some t → lists (chain_of order 0) d ≡ true → (d ≡ c → ⊥) → eqb (row_at seats pending store d).name t.0 ≡ false
   other_name c d t sits there apart = ne_eqb _ _ (λ name. apart (named_seat c d t sits there name))
@@ -117,7 +112,7 @@ module _ (seats : Seated) (pending : List PendingRequest) (order : Chained) (sto
   pub absent_name : (t : Txn) → ((c : ℕ) → seat seats c ≡ Some t → ⊥) → (d : ℕ) → lists (chain_of order 0) d ≡ true → eqb (row_at seats pending store d).name t.0 ≡ false
   absent_name t absent d there =
       let other = sits_at d there in
-      ne_eqb _ _ (λ name. absent d (other.1 ∙ ap Some (one_name other.0 t (sym (row_name d other.0 other.1) ∙ name))))
+      ne_eqb _ _ (λ name. absent d (other.1 ∙ ap Some (one_txn other.0 t (sym (row_name d other.0 other.1) ∙ name))))
 
   pub not_enrolled : (t : Txn) → ((c : ℕ) → seat seats c ≡ Some t → ⊥) → enrolled_in (rows_of seats pending order store) t.0 ≡ None
   unfolding enrolled_in rows_of
@@ -153,7 +148,7 @@ module _ (seats : Seated) (pending : List PendingRequest) (order : Chained) (sto
     lock_found n x lock found = go (enrolled_in (rows_of seats pending order store) n) refl where
       go : (o : Option Enrolled) → enrolled_in (rows_of seats pending order store) n ≡ o
           → (k : ℕ) × (c : ℕ) × (t : Txn) × (seat seats c ≡ Some t) × (t.0 ≡ n) × (home_of store.by_owner k ≡ Some c) × (lock_at store.locks k ≡ lock) × (lock.object.0 ≡ x)
-      go None e = absurd (no_some lock (sym found ∙ ap (λ (o : Option Enrolled). find (is_on x) (locks_or_none o)) e))
+      go None e = absurd (some_is_not_none lock (sym found ∙ ap (λ (o : Option Enrolled). find (is_on x) (locks_or_none o)) e))
       go (Some who) e =
           let at = row_found n who e in
           let there = find_found (is_on x) (lock_at store.locks) (chain_of store.by_owner at.0) lock (ap (λ (w : Enrolled). find (is_on x) w.locks) at.4 ∙ sym (ap (λ (o : Option Enrolled). find (is_on x) (locks_or_none o)) e) ∙ found) in
@@ -287,7 +282,7 @@ module _ (seats : Seated) (pending : List PendingRequest) (order : Chained) (sto
   } where
     still : (d : ℕ) (u : Txn) → seat after d ≡ Some u → seat seats d ≡ Some u
     still d u here = elim (cases_Bool (eqb d c)) [
-      | inl is ↦ absurd (no_some u (sym here ∙ leaves d ∙ ap (λ (b : Bool). cond b None (seat seats d)) is))
+      | inl is ↦ absurd (some_is_not_none u (sym here ∙ leaves d ∙ ap (λ (b : Bool). cond b None (seat seats d)) is))
       | inr apart ↦ sym (leaves d ∙ ap (λ (b : Bool). cond b None (seat seats d)) apart) ∙ here
     ]
 
@@ -372,7 +367,7 @@ module _ (seats : Seated) (pending : List PendingRequest) (order : Chained) (sto
       λ j. record { name = name_or_zero (kept d differ j); pending = (pending_set pending c None place d ∙ ap (λ (b : Bool). cond b None (pending_at pending d)) (ne_eqb d c differ)) j; locks = locks_at store d }) i
       ++ record { name = name_or_zero (sits_now i); pending = (pending_set pending c None place c ∙ ap (λ (b : Bool). cond b None (pending_at pending c)) (eq-eqb c c refl)) i; locks = nothing_held i } ∷ []) where
         apart_from : (d : ℕ) → lists (chain_of order 0) d ≡ true → d ≡ c → ⊥
-        apart_from d there is = let other = sits_at seats pending order store seated sound d there in no_some other.0 (sym other.1 ∙ ap (seat seats) is ∙ free)
+        apart_from d there is = let other = sits_at seats pending order store seated sound d there in some_is_not_none other.0 (sym other.1 ∙ ap (seat seats) is ∙ free)
 
 -- ---- who is free
 module _ (seats : Seated) (pending : List PendingRequest) (order : Chained) (store : Stored) (seated : AreSeated seats pending order store) (sound : IsSound order) (allows : ℕ → Bool) (t x : ℕ) (op : Op) where
@@ -429,10 +424,10 @@ pub seated_nothing : (seats : Seated) (pending : List PendingRequest) (order : C
 unfolding enrolled_chain
 seated_nothing seats pending order store nobody homes owners = record {
   ordered = λ c. no_home_of order homes c ∙ sym (ap enrolled_chain (nobody c));
-  single = λ c d t here there. absurd (no_some t (sym here ∙ nobody c));
-  requests = λ c t here. absurd (no_some t (sym here ∙ nobody c));
-  chains = λ c t here. absurd (no_some t (sym here ∙ nobody c));
-  holders = λ c k home. absurd (no_some c (sym home ∙ no_home_of store.by_owner owners k));
+  single = λ c d t here there. absurd (some_is_not_none t (sym here ∙ nobody c));
+  requests = λ c t here. absurd (some_is_not_none t (sym here ∙ nobody c));
+  chains = λ c t here. absurd (some_is_not_none t (sym here ∙ nobody c));
+  holders = λ c k home. absurd (some_is_not_none c (sym home ∙ no_home_of store.by_owner owners k));
 }
 
 pub no_rows : (seats : Seated) (pending : List PendingRequest) (order : Chained) (store : Stored) → order.chains ≡ [] → rows_of seats pending order store ≡ []
@@ -453,7 +448,7 @@ no_waiter rest l before is = sym (ap (λ (w : List (Txn × Op)). slice_get (w ++
 -- one who is not enrolled has no seat
 pub no_seat : (seats : Seated) (pending : List PendingRequest) (order : Chained) (store : Stored) → AreSeated seats pending order store → IsSound order → (t : Txn) → enrolled_in (rows_of seats pending order store) t.0 ≡ None
     → (c : ℕ) → seat seats c ≡ Some t → ⊥
-no_seat seats pending order store seated sound t none c sits = no_some _ (sym (enrolled_at seats pending order store seated sound c t sits) ∙ none)
+no_seat seats pending order store seated sound t none c sits = some_is_not_none _ (sym (enrolled_at seats pending order store seated sound c t sits) ∙ none)
 
 pub enrolled_now : (t : ℕ) (table : LockTable) → is_some (enrolled_in (enrol_in t table) t) ≡ true
 unfolding enrolled_in enrol_in

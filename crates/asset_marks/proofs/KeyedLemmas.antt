@@ -1,16 +1,13 @@
 -- Arrows of items in a slab, each in a chain of either partition: which there are, and that they turn round.
 use Rattle.std.proofs.Common.{◌≡◌, ℕ, zero, suc, ◌+◌, Bool, true, false, cond, eqb, ◌&&◌, ◌||◌, List, [], ◌∷◌, ◌++◌, map, get_or, Option, Some, None, refl, sym, ap, ◌∙◌, arith, inl, inr}
 use Rattle.std.proofs.lemmas.Bool.{or_cases, or_left, or_right, and_from, and_parts, eqb-true, eq-eqb, ne_eqb, eqb-false, false≢true}
-use Rattle.std.proofs.lemmas.List.Folds.{list_any-append}
 use Rattle.slab.specs.Slab.{Slab, get}
 use Rattle.asset_names.specs.Arrows.{Arrow, linked, has_arrow}
+use Rattle.asset_names.proofs.DependLemmas.{has_append}
 use Rattle.asset_chains.specs.Chained.{Chained, home_of}
 use Rattle.asset_marks.specs.Searched.{arrow_between, arrows_from, arrows_along, leads_to}
 
 -- ---- an arrow for each item that passes
-pub arrow-append : (xs ys : List Arrow) (u t : ℕ) → has_arrow (xs ++ ys) u t ≡ (has_arrow xs u t || has_arrow ys u t)
-unfolding has_arrow
-arrow-append xs ys u t = list_any-append (λ (a : Arrow). eqb a.0 u && eqb a.1 t) xs ys
 
 pub nothing_leads : (u t : ℕ) → has_arrow [] u t ≡ false
 unfolding has_arrow
@@ -41,9 +38,9 @@ module _ {D : Type 0} (test : D → Bool) (along across : Chained) where
       let arrow : cond (test e) (arrow_between (home_of along k) (home_of across k)) [] ≡ arrow_between (Some u) (Some t) =
       ap (λ (b : Bool). cond b (arrow_between (home_of along k) (home_of across k)) []) (ap test same ∙ covered) ∙ (λ m. arrow_between ((ap (home_of along) here ∙ home) m) ((ap (home_of across) here ∙ end) m))
       in
-      arrow-append (cond (test e) (arrow_between (home_of along k) (home_of across k)) []) _ u t ∙ or_left _ _ (ap (λ (l : List Arrow). has_arrow l u t) arrow ∙ between_leads u t)
+      has_append (cond (test e) (arrow_between (home_of along k) (home_of across k)) []) _ u t ∙ or_left _ _ (ap (λ (l : List Arrow). has_arrow l u t) arrow ∙ between_leads u t)
   slot_leads (Some e ∷ slots) k (suc i) j d u t at there covered home end =
-      arrow-append (cond (test e) (arrow_between (home_of along k) (home_of across k)) []) _ u t ∙ or_right _ _ (slot_leads slots (k + 1) i j d u t (omega (arith, at)) there covered home end)
+      has_append (cond (test e) (arrow_between (home_of along k) (home_of across k)) []) _ u t ∙ or_right _ _ (slot_leads slots (k + 1) i j d u t (omega (arith, at)) there covered home end)
 
   item_of : (slots : List (Option D)) (k u t : ℕ) → has_arrow (arrows_from test along across k slots) u t ≡ true
       → (i : ℕ) × (d : D) × (get_or slots i None ≡ Some d) × (test d ≡ true) × (home_of along (k + i) ≡ Some u) × (home_of across (k + i) ≡ Some t)
@@ -53,7 +50,7 @@ module _ {D : Type 0} (test : D → Bool) (along across : Chained) where
       let same : k + 1 + found.0 ≡ k + suc found.0 = omega arith in
       (suc found.0, found.1, found.2, found.3, ap (home_of along) (sym same) ∙ found.4, ap (home_of across) (sym same) ∙ found.5)
   item_of (Some e ∷ slots) k u t h =
-      elim (or_cases (has_arrow (cond (test e) (arrow_between (home_of along k) (home_of across k)) []) u t) _ (sym (arrow-append (cond (test e) (arrow_between (home_of along k) (home_of across k)) []) _ u t) ∙ h)) [
+      elim (or_cases (has_arrow (cond (test e) (arrow_between (home_of along k) (home_of across k)) []) u t) _ (sym (has_append (cond (test e) (arrow_between (home_of along k) (home_of across k)) []) _ u t) ∙ h)) [
         | inl here ↦ at (test e) refl here
         | inr later ↦
             let found = item_of slots (k + 1) u t later in

@@ -1,34 +1,13 @@
 -- The marks of a search: two lists that say of each other where a node stands.
-use Rattle.std.proofs.Common.{◌≡◌, ℕ, ◌+◌, ◌<◌, ◌≤◌, Bool, true, false, eqb, ltb, not, ◌&&◌, List, [], ◌∷◌, ◌++◌, length, get_or, set, take, refl, sym, ap, subst, ◌∙◌, arith, suc, inl, inr}
-use Rattle.std.specs.List.{list_any, IsDistinct}
-use Rattle.std.proofs.lemmas.Bool.{or_cases, and_from, and_parts, eqb-true, eq-eqb, ne_eqb, ltb-true, lt-ltb, le-ltb, false≢true, cases_eq}
+use Rattle.std.proofs.Common.{◌≡◌, ℕ, ◌+◌, ◌<◌, ◌≤◌, Bool, true, false, eqb, ltb, not, ◌&&◌, List, [], ◌∷◌, ◌++◌, length, get_or, set, take, refl, sym, ap, subst, ◌∙◌, arith, inl, inr}
+use Rattle.std.specs.List.{IsDistinct}
+use Rattle.std.proofs.lemmas.Bool.{and_from, and_parts, eqb-true, eq-eqb, ne_eqb, ltb-true, lt-ltb, le-ltb, false≢true, cases_eq}
 use Rattle.std.proofs.lemmas.Map.Keys.{IsDistinct-from_apart}
 use Rattle.std.proofs.lemmas.List.{get_or_default, length-set, get_or-set_same, get_or-set_other, get_or-take, length-take-le, take_more_set, take-set-le}
-use Rattle.std.proofs.lemmas.List.Folds.{list_any_at}
 use Rattle.asset_names.specs.Arrows.{lists}
+use Rattle.asset_names.proofs.Common.{both_follow}
+use Rattle.asset_names.proofs.ListLemmas.{listed_at, lists_at}
 use Rattle.asset_marks.specs.Marked.{IsValid}
-
--- two tests are one where each gives the other
-pub same_truth : (p q : Bool) → (p ≡ true → q ≡ true) → (q ≡ true → p ≡ true) → p ≡ q
-same_truth true q to back = sym (to refl)
-same_truth false true to back = back refl
-same_truth false false to back = refl
-
--- ---- which names a list has
-pub listed_at : (names : List ℕ) (n : ℕ) → lists names n ≡ true → (i : ℕ) × (i < length names) × (get_or names i 0 ≡ n)
-unfolding lists
-listed_at [] n h = absurd (false≢true h)
-listed_at (m ∷ names) n h =
-    elim (or_cases (eqb m n) (list_any (λ k. eqb k n) names) h) [
-      | inl here ↦ (0, omega arith, eqb-true m n here)
-      | inr later ↦
-          let found = listed_at names n later in
-          (suc found.0, omega (arith, found.1), found.2)
-    ]
-
-pub lists_at : (names : List ℕ) (n i : ℕ) → i < length names → get_or names i 0 ≡ n → lists names n ≡ true
-unfolding lists
-lists_at names n i below is = list_any_at (λ m. eqb m n) names i 0 below (eq-eqb (get_or names i 0) n is)
 
 -- ---- a list after two writes
 read_last : (l : List ℕ) (i j k a b : ℕ) → k ≡ j → j < length l → get_or (set (set l i a) j b) k 0 ≡ b
@@ -47,7 +26,7 @@ two_writes l i j a b = length-set (set l i a) j b ∙ length-set l i a
 pub has_mark : (order position : List ℕ) (met node : ℕ) → IsValid order position met → node < length order → ltb (get_or position node 0) met ≡ lists (take met order) node
 has_mark order position met node placed below =
     let here = placed.positions node below in
-    same_truth (ltb (get_or position node 0) met) (lists (take met order) node)
+    both_follow (ltb (get_or position node 0) met) (lists (take met order) node)
     (λ first.
     let before : get_or position node 0 < met = ltb-true (get_or position node 0) met first in
     lists_at (take met order) node (get_or position node 0) (rw (length-take-le met order placed.within) before) (get_or-take met order (get_or position node 0) 0 before ∙ here.1))
@@ -165,7 +144,7 @@ met_once order position met placed = IsDistinct-from_apart eqb (take met order) 
 -- ---- a node is forgotten: it changes positions with the last of those that are met
 pub forgotten : (order position : List ℕ) (met last node at other : ℕ) → IsValid order position met → node < length order → at ≡ get_or position node 0 → at < met → last + 1 ≡ met → other ≡ get_or order last 0
     → (n : ℕ) → lists (take last (set (set order at other) last node)) n ≡ (lists (take met order) n && not (eqb n node))
-forgotten order position met last node at other placed below is_at before is_last is_other n = same_truth _ _ to back where
+forgotten order position met last node at other placed below is_at before is_last is_other n = both_follow _ _ to back where
   last_below : last < length order
   last_below = omega (arith, placed.within, is_last)
 

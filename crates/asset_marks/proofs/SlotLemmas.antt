@@ -3,8 +3,8 @@
 use Rattle.std.proofs.Common.{◌≡◌, ℕ, zero, suc, Bool, true, false, eqb, not, ◌&&◌, ◌||◌, List, [], ◌∷◌, length, arith, get_or, filter_map, Option, Some, None, refl, sym, ap, ◌∙◌, inl, inr}
 use Rattle.std.specs.List.{list_any}
 use Rattle.std.proofs.lemmas.Bool.{or_cases, or_left, or_right, and_from, and_parts, false≢true, true≢false, cases_eq}
+use Rattle.asset_names.proofs.Common.{both_follow}
 use Rattle.slab.specs.Slab.{Slab, get, values, Updates}
-use Rattle.asset_marks.proofs.MarkLemmas.{same_truth}
 
 module _ {D : Type 0} where
   -- the items in some slots
@@ -35,7 +35,7 @@ module _ {D : Type 0} where
 
   -- ---- one more
   pub any_added : (test : D → Bool) (items more : Slab D) (k : ℕ) (d : D) → get items k ≡ None → Updates items more k (Some d) → list_any test (values more) ≡ (list_any test (values items) || test d)
-  any_added test items more k d free put = same_truth _ _ to back where
+  any_added test items more k d free put = both_follow _ _ to back where
     to : list_any test (values more) ≡ true → (list_any test (values items) || test d) ≡ true
     to h =
         let found = key_of_any test more h in
@@ -104,7 +104,7 @@ module _ {D : Type 0} (from to : D → ℕ) where
 
   pub any_dropped : (test : D → Bool) (t u v : ℕ) (items fewer : Slab D) → ((d : D) → test d ≡ true → from d ≡ u) → ((d : D) → test d ≡ true → to d ≡ v) → IsRid t items fewer
       → list_any test (values fewer) ≡ (list_any test (values items) && not (eqb u t) && not (eqb v t))
-  any_dropped test t u v items fewer begins across rid = same_truth _ _ on back where
+  any_dropped test t u v items fewer begins across rid = both_follow _ _ on back where
     regroup : (a b c : Bool) → (a && (b && c)) ≡ (a && b && c)
     regroup true b c = refl
     regroup false b c = refl

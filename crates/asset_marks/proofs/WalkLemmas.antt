@@ -5,10 +5,11 @@ use Rattle.std.proofs.lemmas.List.{length-append, get_or_append_left, append_ass
 use Rattle.std.proofs.lemmas.List.Folds.{list_any-append}
 use Rattle.asset_names.specs.Arrows.{Arrow, linked, lists, has_arrow}
 use Rattle.asset_names.proofs.Arrows.{linked_refl}
+use Rattle.asset_names.proofs.Common.{both_follow}
+use Rattle.asset_names.proofs.ListLemmas.{listed_at, lists_at}
+use Rattle.asset_names.proofs.DependLemmas.{has_append}
 use Rattle.asset_marks.specs.Searched.{Expands}
 use Rattle.asset_marks.proofs.ArrowLemmas.{linked_step, closed_linked}
-use Rattle.asset_marks.proofs.MarkLemmas.{same_truth, listed_at, lists_at}
-use Rattle.asset_marks.proofs.KeyedLemmas.{arrow-append}
 
 -- ---- which nodes are listed
 pub lists-append : (xs ys : List ℕ) (k : ℕ) → lists (xs ++ ys) k ≡ (lists xs k || lists ys k)
@@ -175,7 +176,7 @@ spread_on arrows from nodes after next so below expands =
     }
 
 pub spread_across : (arrows : List Arrow) (from : ℕ) (nodes : List ℕ) (next : ℕ) → IsSpread arrows from nodes next → length nodes ≤ next → (n : ℕ) → lists nodes n ≡ linked arrows from n
-spread_across arrows from nodes next so all n = same_truth (lists nodes n) (linked arrows from n) (so.reached n) (λ way. closed_linked (lists nodes) arrows closed from n way so.start) where
+spread_across arrows from nodes next so all n = both_follow (lists nodes n) (linked arrows from n) (so.reached n) (λ way. closed_linked (lists nodes) arrows closed from n way so.start) where
   closed : (u t : ℕ) → has_arrow arrows u t ≡ true → lists nodes u ≡ true → lists nodes t ≡ true
   closed u t arrow met =
       let found = listed_at nodes u met in
@@ -186,11 +187,11 @@ pub expands_both : (ones others : List Arrow) (node : ℕ) (before mid after : L
 expands_both ones others node before mid after first second = record {
   more = first.more ++ second.more;
   kept = second.kept ∙ ap (λ (l : List ℕ). l ++ second.more) first.kept ∙ append_assoc before first.more second.more;
-  is_linked = λ k listed. arrow-append ones others node k ∙ elim (or_cases (lists first.more k) (lists second.more k) (sym (lists-append first.more second.more k) ∙ listed)) [
+  is_linked = λ k listed. has_append ones others node k ∙ elim (or_cases (lists first.more k) (lists second.more k) (sym (lists-append first.more second.more k) ∙ listed)) [
     | inl old ↦ or_left _ _ (first.is_linked k old)
     | inr new ↦ or_right _ _ (second.is_linked k new)
   ];
-  all = λ t arrow. elim (or_cases (has_arrow ones node t) (has_arrow others node t) (sym (arrow-append ones others node t) ∙ arrow)) [
+  all = λ t arrow. elim (or_cases (has_arrow ones node t) (has_arrow others node t) (sym (has_append ones others node t) ∙ arrow)) [
     | inl old ↦ ap (λ (l : List ℕ). lists l t) second.kept ∙ lists_left mid second.more t (first.all t old)
     | inr new ↦ second.all t new
   ];

@@ -1,18 +1,17 @@
 -- Counts never fall as a history grows, and none is above the number of entries.
-use Rattle.std.proofs.Common.{◌≡◌, ℕ, suc, ◌+◌, ◌≤◌, Bool, true, false, cond, ◌&&◌, List, [], ◌∷◌, ◌++◌, length, refl, sym, ◌∙◌, ap, subst, arith, le_refl, le_trans, Some, None}
-use Rattle.std.specs.Prelude.{Option, sum_by}
+use Rattle.std.proofs.Common.{◌≡◌, ℕ, suc, ◌≤◌, Bool, true, false, cond, ◌&&◌, List, [], ◌∷◌, length, refl, sym, ◌∙◌, arith, le_refl, le_trans, Some, None}
+use Rattle.std.specs.Prelude.{Option}
 use Rattle.std.specs.Option.{option_or}
 use Rattle.std.specs.List.{count_by}
 use Rattle.std.proofs.lemmas.Bool.{false≢true, and_parts, and_from, or_right}
 use Rattle.std.proofs.lemmas.List.Sums.{sum_by-cons, count_by-le-length}
 use Rattle.asset_names.specs.declared.steps.Step.{Step}
 use Rattle.asset_names.specs.declared.steps.Step.TheVariants.{Initiate, Begin, Read, Write, Complete, Permit, Delegate, Depend, Commit, Abort, WaitFor}
-use Rattle.asset_names.specs.declared.replies.Reply.{Reply}
 use Rattle.asset_names.specs.declared.statuses.End.{End}
 use Rattle.asset_names.specs.declared.statuses.End.TheVariants as End'
 use Rattle.asset_names.specs.Arrows.{lists}
 use Rattle.asset_names.specs.Steps.{Entry, takes_effect, applied, initiated, initiated_by, begun, completed}
-use Rattle.asset_names.specs.Endings.{end_of, ended_by, status, status_of}
+use Rattle.asset_names.specs.Endings.{end_of, status, status_of}
 use Rattle.asset_names.specs.declared.counts.Counts.{Counts}
 use Rattle.asset_names.specs.Counted.{has_end, ended_count, counts_of, IsBelow}
 
@@ -46,7 +45,7 @@ end_stays End'.Committed None later h = absurd (false≢true h)
 end_stays End'.Aborted None later h = absurd (false≢true h)
 
 -- a name that was initiated stays so
-initiated_stays : (step : Step) (steps : List Step) (n : ℕ) → lists (initiated steps) n ≡ true → lists (initiated (step ∷ steps)) n ≡ true
+pub initiated_stays : (step : Step) (steps : List Step) (n : ℕ) → lists (initiated steps) n ≡ true → lists (initiated (step ∷ steps)) n ≡ true
 unfolding initiated initiated_by lists
 initiated_stays (Initiate t parent) steps n h = or_right _ _ h
 initiated_stays (Begin t) steps n h = h

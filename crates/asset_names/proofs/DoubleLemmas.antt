@@ -8,17 +8,12 @@ use Rattle.std.proofs.lemmas.List.{take_more, map-append}
 use Rattle.asset_names.specs.declared.names.Ob.{Ob}
 use Rattle.asset_names.specs.Arrows.{lists}
 use Rattle.asset_names.specs.Sets.{numbers, twice, IsLeastDouble, HasNoDouble, lesser}
+use Rattle.asset_names.proofs.ListLemmas.{lists_pushed}
 
 -- the least number that is listed twice, of those that were seen
 abbrev pub LeastAmong : List ℕ → List ℕ → Option Ob → Type 0
 LeastAmong listed seen None = (m : ℕ) → lists seen m ≡ true → twice listed m ≡ false
 LeastAmong listed seen (Some x) = (twice listed x.0 ≡ true) × ((m : ℕ) → lists seen m ≡ true → twice listed m ≡ true → x.0 ≤ m)
-
--- a list with one more at its end lists that one too
-pub lists-push : (seen : List ℕ) (n m : ℕ) → lists (seen ++ n ∷ []) m ≡ (lists seen m || eqb n m)
-unfolding lists
-lists-push [] n m = grind arith
-lists-push (k ∷ seen) n m = rw (lists-push seen n m) (grind arith)
 
 -- how often the items name a number
 pub count_by_map : {X : Type 0} (f : X → ℕ) (items : List X) (n : ℕ) → count_by (λ m. eqb m n) (map f items) ≡ count_by (λ x. eqb (f x) n) items
@@ -48,14 +43,14 @@ twice_listed listed n h = go (lists listed n) refl where
 least_of_two : (listed seen : List ℕ) (x y : Ob) (below : Bool) → ltb y.0 x.0 ≡ below → LeastAmong listed seen (Some y) → twice listed x.0 ≡ true → LeastAmong listed (seen ++ x.0 ∷ []) (Some (cond below y x))
 least_of_two listed seen x y true e h t = (
   h.0,
-  λ m l d. elim (or_cases (lists seen m) (eqb x.0 m) (sym (lists-push seen x.0 m) ∙ l)) [
+  λ m l d. elim (or_cases (lists seen m) (eqb x.0 m) (sym (lists_pushed seen x.0 m) ∙ l)) [
     | inl before ↦ h.1 m before d
     | inr here ↦ omega (arith, eqb-true x.0 m here, ltb-true y.0 x.0 e)
   ],
 )
 least_of_two listed seen x y false e h t = (
   t,
-  λ m l d. elim (or_cases (lists seen m) (eqb x.0 m) (sym (lists-push seen x.0 m) ∙ l)) [
+  λ m l d. elim (or_cases (lists seen m) (eqb x.0 m) (sym (lists_pushed seen x.0 m) ∙ l)) [
     | inl before ↦ omega (arith, h.1 m before d, ltb-false y.0 x.0 e)
     | inr here ↦ omega (arith, eqb-true x.0 m here)
   ],
@@ -65,7 +60,7 @@ least_of_two listed seen x y false e h t = (
 pub least_twice : (listed seen : List ℕ) (x : Ob) (found : Option Ob) → LeastAmong listed seen found → twice listed x.0 ≡ true → LeastAmong listed (seen ++ x.0 ∷ []) (Some (lesser x found))
 least_twice listed seen x None h t = (
   t,
-  λ m l d. elim (or_cases (lists seen m) (eqb x.0 m) (sym (lists-push seen x.0 m) ∙ l)) [
+  λ m l d. elim (or_cases (lists seen m) (eqb x.0 m) (sym (lists_pushed seen x.0 m) ∙ l)) [
     | inl before ↦ absurd (false≢true (sym (h m before) ∙ d))
     | inr here ↦ omega (arith, eqb-true x.0 m here)
   ],
@@ -74,13 +69,13 @@ least_twice listed seen x (Some y) h t = least_of_two listed seen x y (ltb y.0 x
 
 -- one more is seen, and it is not listed twice
 pub least_once : (listed seen : List ℕ) (x : Ob) (found : Option Ob) → LeastAmong listed seen found → twice listed x.0 ≡ false → LeastAmong listed (seen ++ x.0 ∷ []) found
-least_once listed seen x None h t = λ m l. elim (or_cases (lists seen m) (eqb x.0 m) (sym (lists-push seen x.0 m) ∙ l)) [
+least_once listed seen x None h t = λ m l. elim (or_cases (lists seen m) (eqb x.0 m) (sym (lists_pushed seen x.0 m) ∙ l)) [
   | inl before ↦ h m before
   | inr here ↦ subst (λ n. twice listed n ≡ false) (eqb-true x.0 m here) t
 ]
 least_once listed seen x (Some y) h t = (
   h.0,
-  λ m l d. elim (or_cases (lists seen m) (eqb x.0 m) (sym (lists-push seen x.0 m) ∙ l)) [
+  λ m l d. elim (or_cases (lists seen m) (eqb x.0 m) (sym (lists_pushed seen x.0 m) ∙ l)) [
     | inl before ↦ h.1 m before d
     | inr here ↦ absurd (false≢true (sym (subst (λ n. twice listed n ≡ false) (eqb-true x.0 m here) t) ∙ d))
   ],

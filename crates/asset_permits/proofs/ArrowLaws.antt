@@ -4,16 +4,8 @@ use Rattle.asset_names.specs.declared.operations.Op.{Op}
 use Rattle.asset_names.specs.Arrows.{Arrow, linked, Chain, has_arrow}
 use Rattle.asset_names.proofs.PermitLemmas.{linked_same}
 use Rattle.asset_names.proofs.Arrows.{linked_refl, chain_from_linked, linked_from_chain}
+use Rattle.asset_names.proofs.Common.{and_false, and_true}
 use Rattle.asset_permits.specs.Descriptors.{Descriptor, covers, lets, one_covers, arrows_for, allows_by}
-
--- both with what is true, and with what is false
-and_true : (p : Bool) → (p && true) ≡ p
-and_true true = refl
-and_true false = refl
-
-and_false : (p : Bool) → (p && false) ≡ false
-and_false true = refl
-and_false false = refl
 
 -- the arrows are those of the descriptors that cover
 pub arrows_stand : (descriptors : List Descriptor) (u t x : ℕ) (op : Op) → has_arrow (arrows_for descriptors x op) u t ≡ one_covers descriptors u t x op

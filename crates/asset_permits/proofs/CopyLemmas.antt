@@ -1,5 +1,5 @@
 -- Copies of permits, and a permit that goes.
-use Rattle.std.proofs.Common.{◌≡◌, ℕ, Bool, true, false, cond, eqb, not, ◌&&◌, ◌||◌, List, [], ◌∷◌, ◌++◌, map, filter, Some, None, refl, sym, ap, subst, ◌∙◌, ◌+◌, ◌<◌, take, length, get_or, inl, inr, Ok, Err, OnOk, OnErr}
+use Rattle.std.proofs.Common.{◌≡◌, ℕ, Bool, true, false, eqb, not, ◌&&◌, ◌||◌, List, [], ◌∷◌, ◌++◌, map, filter, Some, None, refl, sym, ap, subst, ◌∙◌, ◌+◌, ◌<◌, take, length, get_or, inl, inr, Ok, Err, OnOk}
 use Rattle.std.specs.Prelude.{flat_map, Result}
 use Rattle.std.specs.List.{list_any}
 use Rattle.std.proofs.lemmas.Bool.{or_cases, or_left, or_right, and_parts, and_from, false≢true, false_from_ne_true, eqb-true}
@@ -13,18 +13,14 @@ use Rattle.asset_names.specs.Arrows.{lists}
 use Rattle.asset_names.specs.Sets.{numbers}
 use Rattle.asset_names.specs.InSet.{in_set}
 use Rattle.asset_names.specs.OpSets.{has_op}
+use Rattle.asset_names.proofs.Common.{on_ok, both_follow}
+use Rattle.asset_names.proofs.ListLemmas.{any_alike, any_map, any_filter, all_and}
 use Rattle.asset_permits.specs.declared.copying.Cut.{Cut}
 use Rattle.asset_permits.specs.Descriptors.{Descriptor, same_descriptor, stands, lets, covers, one_covers}
 use Rattle.asset_permits.specs.Valid.{descriptors_of}
 use Rattle.asset_permits.specs.Copies.{cut_of, copy_of, gives_on, cuts_on, cuts_in, given_by, copies, AddsCuts}
 use Rattle.asset_permits.proofs.DescriptorLemmas.{same_is, same_self}
-use Rattle.asset_marks.proofs.MarkLemmas.{same_truth}
 use Rattle.asset_permits.proofs.SlotLemmas.{key_of_standing, stands_at}
-
--- what holds if a call succeeded, of what held there
-pub when_ok : {T E : Type 0} {P Q : Type 0} (r : Result T E) → (P → Q) → OnOk r P → OnOk r Q
-when_ok (Ok x) f p = f p
-when_ok (Err e) f p = p
 
 -- the elements up to one, and that one
 pub take_item : {X : Type 0} (xs : List X) (i : ℕ) (x : X) → i < length xs → x ≡ get_or xs i x → take (i + 1) xs ≡ take i xs ++ x ∷ []
@@ -33,7 +29,7 @@ take_item xs i x below is = take_more xs i x below ∙ ap (λ y. take i xs ++ y 
 -- ---- one permit goes
 pub removed : (permits fewer : Slab Descriptor) (key : ℕ) (d e : Descriptor) → ((j k : ℕ) (d : Descriptor) → get permits j ≡ Some d → get permits k ≡ Some d → j ≡ k) → get permits key ≡ Some d
     → ((k : ℕ) → (k ≡ key → ⊥) → get fewer k ≡ get permits k) → get fewer key ≡ None → stands (descriptors_of fewer) e ≡ (stands (descriptors_of permits) e && not (same_descriptor d e))
-removed permits fewer key d e single there others gone = same_truth _ _ to back where
+removed permits fewer key d e single there others gone = both_follow _ _ to back where
   to : stands (descriptors_of fewer) e ≡ true → (stands (descriptors_of permits) e && not (same_descriptor d e)) ≡ true
   to h =
       let found = key_of_standing fewer e h in
@@ -125,16 +121,6 @@ taken_again receiver added first old new adds gone e = gone e ∙ ap (λ b. b &&
     plain false = refl
 
 -- ---- what is copied of the giver's permits
-any_map : {A B : Type 0} (test : B → Bool) (f : A → B) (xs : List A) → list_any test (map f xs) ≡ list_any (λ x. test (f x)) xs
-any_map test f [] = refl
-any_map test f (x ∷ xs) = ap (λ b. test (f x) || b) (any_map test f xs)
-
-any_filter : {A : Type 0} (test keep : A → Bool) (xs : List A) → list_any test (filter keep xs) ≡ list_any (λ x. keep x && test x) xs
-any_filter test keep [] = refl
-any_filter test keep (x ∷ xs) = go (keep x) refl (any_filter test keep xs) where
-  go : (kept : Bool) → keep x ≡ kept → list_any test (filter keep xs) ≡ list_any (λ y. keep y && test y) xs → list_any test (cond kept (x ∷ filter keep xs) (filter keep xs)) ≡ ((kept && test x) || list_any (λ y. keep y && test y) xs)
-  go true is ih = ap (λ b. test x || b) ih
-  go false is ih = ih
 
 -- a test of what is copied on x, as a test of permits
 pub any_cut : (test : Cut → Bool) (giver : ℕ) (descriptors : List Descriptor) (x : Ob) → list_any test (cuts_on giver descriptors x) ≡ list_any (λ (d : Descriptor). gives_on giver x d && test (cut_of x d)) descriptors
@@ -160,14 +146,6 @@ no_cuts test giver descriptors (x ∷ moved) none =
     list_any-append test (cuts_on giver descriptors x) (flat_map (cuts_on giver descriptors) moved) ∙ ap (λ b. b || list_any test (flat_map (cuts_on giver descriptors) moved)) (none x) ∙ no_cuts test giver descriptors moved none
 
 -- ---- what the copies cover
-all_and : {A : Type 0} (b : Bool) (test : A → Bool) (xs : List A) → list_any (λ x. b && test x) xs ≡ (b && list_any test xs)
-all_and true test xs = refl
-all_and false test [] = refl
-all_and false test (x ∷ xs) = all_and false test xs
-
-any_alike : {A : Type 0} (test other : A → Bool) (xs : List A) → ((x : A) → test x ≡ other x) → list_any test xs ≡ list_any other xs
-any_alike test other [] same = refl
-any_alike test other (x ∷ xs) same = λ i. same x i || any_alike test other xs same i
 
 -- one permit's copy on y
 copy_lets : (giver receiver : ℕ) (y : Ob) (u t x : ℕ) (op : Op) (d : Descriptor)
@@ -255,7 +233,7 @@ standing_covers some others within test h = go some (λ d there. within d there)
 pub same_standing : (some others : List Descriptor) → ((e : Descriptor) → stands some e ≡ stands others e) → (u t x : ℕ) (op : Op) → one_covers some u t x op ≡ one_covers others u t x op
 unfolding one_covers
 same_standing some others same u t x op =
-    same_truth _ _ (standing_covers some others (λ e there. sym (same e) ∙ there) (lets u t x op)) (standing_covers others some (λ e there. same e ∙ there) (lets u t x op))
+    both_follow _ _ (standing_covers some others (λ e there. sym (same e) ∙ there) (lets u t x op)) (standing_covers others some (λ e there. same e ∙ there) (lets u t x op))
 
 pub both_standing : (new some others : List Descriptor) → ((e : Descriptor) → stands new e ≡ (stands some e || stands others e)) → (u t x : ℕ) (op : Op) → one_covers new u t x op ≡ (one_covers some u t x op || one_covers others u t x op)
 unfolding stands one_covers
@@ -267,12 +245,8 @@ pub stands_by_cuts : {T E : Type 0} (r : Result T E) (receiver : ℕ) (cuts othe
     → OnOk r ((e : Descriptor) → stands new e ≡ (stands old e || stands (given_by receiver cuts) e)) → OnOk r ((e : Descriptor) → stands new e ≡ (stands old e || stands (given_by receiver others) e))
 unfolding stands given_by
 stands_by_cuts r receiver cuts others old new same =
-    when_ok r (λ added. λ e. added e ∙ ap (λ b. list_any (λ (d : Descriptor). same_descriptor d e) old || b)
+    on_ok r (λ added. λ e. added e ∙ ap (λ b. list_any (λ (d : Descriptor). same_descriptor d e) old || b)
     (any_map (λ (d : Descriptor). same_descriptor d e) (copy_of receiver) cuts ∙ same (λ cut. same_descriptor (copy_of receiver cut) e) ∙ sym (any_map (λ (d : Descriptor). same_descriptor d e) (copy_of receiver) others)))
-
-pub when_err : {T E : Type 0} {P Q : Type 0} (r : Result T E) → (P → Q) → OnErr r P → OnErr r Q
-when_err (Ok x) f p = p
-when_err (Err e) f p = f p
 
 -- what is copied on one more object
 pub cuts_then : (giver : ℕ) (descriptors : List Descriptor) (moved : List Ob) (x : Ob) (before after : List Cut) → ((test : Cut → Bool) → list_any test before ≡ list_any test (cuts_in giver descriptors moved))

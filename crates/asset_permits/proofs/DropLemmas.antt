@@ -3,6 +3,7 @@ use Rattle.std.proofs.Common.{◌≡◌, ℕ, Bool, true, false, cond, eqb, not,
 use Rattle.std.proofs.lemmas.Bool.{eqb-true, eqb-false, cases_eq}
 use Rattle.slab.specs.Slab.{Slab, get, Updates}
 use Rattle.asset_names.specs.declared.names.Txn.{Txn}
+use Rattle.asset_names.proofs.Common.{some_of}
 use Rattle.asset_chains.specs.Chained.{Chained, home_of, unlinked, IsSound}
 use Rattle.asset_chains.proofs.Laws.{IsUnlinked, unlinks}
 use Rattle.asset_chains.proofs.SoundLemmas.{sound_unlinked}
@@ -10,7 +11,7 @@ use Rattle.asset_seats.specs.Seated.{Seated, seat}
 use Rattle.asset_permits.specs.Descriptors.{Descriptor}
 use Rattle.asset_permits.specs.Valid.{Parts, parts, is_used, IsSeated, IsValid}
 use Rattle.asset_permits.specs.Changes.{Shrinks}
-use Rattle.asset_permits.proofs.SeatLemmas.{some_of, used_along, used_across, key_of_used, used_same}
+use Rattle.asset_permits.proofs.SeatLemmas.{used_along, used_across, key_of_used, used_same}
 
 -- ---- a seat whose chains are not used is left
 pub leaves_unused : (along across : Chained) (c : ℕ) (old new : Seated) → is_used along across c ≡ false → ((d : ℕ) → seat new d ≡ cond (eqb d c) None (seat old d)) → (d : ℕ) → seat new d ≡ cond (eqb d c && not (is_used along across d)) None (seat old d)

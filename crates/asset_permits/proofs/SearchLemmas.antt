@@ -6,6 +6,7 @@ use Rattle.slab.specs.Slab.{get}
 use Rattle.asset_names.specs.declared.names.Txn.{Txn}
 use Rattle.asset_names.specs.declared.operations.Op.{Op}
 use Rattle.asset_names.specs.Arrows.{Arrow, linked, has_arrow}
+use Rattle.asset_names.proofs.Common.{some_of}
 use Rattle.asset_chains.specs.Chained.{home_of}
 use Rattle.asset_seats.specs.Seated.{Seated, seat}
 use Rattle.asset_permits.specs.Descriptors.{Descriptor, covers, lets, one_covers, arrows_for, allows_by}
@@ -13,7 +14,7 @@ use Rattle.asset_permits.specs.Valid.{Parts, descriptors_of, IsValid}
 use Rattle.asset_marks.specs.Searched.{arrow_between, arrows_from, arrows_along}
 use Rattle.asset_marks.proofs.ArrowLemmas.{closed_linked}
 use Rattle.asset_permits.proofs.ArrowLaws.{arrows_stand}
-use Rattle.asset_permits.proofs.SeatLemmas.{some_of, home_along, home_at_end}
+use Rattle.asset_permits.proofs.SeatLemmas.{home_along, home_at_end}
 use Rattle.asset_permits.proofs.SlotLemmas.{key_of_any, lets_owned, lets_to}
 
 -- ---- from seats to transactions

@@ -1,38 +1,21 @@
 -- Who has a seat, and which chains are used.
-use Rattle.std.proofs.Common.{◌≡◌, ℕ, ◌<◌, ◌≤◌, Bool, true, false, cond, eqb, not, ◌&&◌, ◌||◌, List, [], ◌∷◌, length, Option, Some, None, is_some, Result, Ok, Err, OnErr, refl, sym, ap, ◌∙◌, arith, ◌⊎◌, inl, inr}
+use Rattle.std.proofs.Common.{◌≡◌, ℕ, ◌<◌, ◌≤◌, Bool, true, false, cond, eqb, not, ◌&&◌, ◌||◌, List, [], length, Option, Some, None, is_some, refl, sym, ap, ◌∙◌, arith, ◌⊎◌, inl, inr}
 use Rattle.std.specs.Prelude.{slice_index_or}
 use Rattle.std.proofs.lemmas.Bool.{or_cases, or_left, eqb-true, eqb-false, eq-eqb, ne_eqb, true≢false}
 use Rattle.slab.specs.Slab.{Slab, get}
 use Rattle.asset_names.specs.declared.names.Txn.{Txn}
-use Rattle.asset_chains.specs.Chained.{Chained, chain_of, home_of, first_of, lists, IsSound}
-use Rattle.asset_chains.proofs.KeyLemmas.{first_listed as first_is_listed}
+use Rattle.asset_names.proofs.Common.{some_of}
+use Rattle.asset_chains.specs.Chained.{Chained, chain_of, home_of, first_of, IsSound}
+use Rattle.asset_chains.proofs.KeyLemmas.{first_listed as first_is_listed, first_is_some}
 use Rattle.asset_seats.specs.Seated.{Seated, seat}
 use Rattle.asset_permits.specs.Descriptors.{Descriptor}
 use Rattle.asset_permits.specs.Valid.{Parts, parts, is_used, IsSeated, IsWithin}
 use Rattle.asset_permits.specs.Changes.{IsGrown, Sits}
 
-pub some_of : {X : Type 0} (o : Option X) → is_some o ≡ true → (x : X) × (o ≡ Some x)
-some_of None h = absurd (true≢false (sym h))
-some_of (Some x) h = (x, refl)
-
-pub none_of : {X : Type 0} (o : Option X) → is_some o ≡ false → o ≡ None
-none_of None h = refl
-none_of (Some x) h = absurd (true≢false h)
-
--- what holds in any case holds if there is an error
-pub on_any_err : {T E Q : Type 0} (r : Result T E) → Q → OnErr r Q
-on_any_err (Ok x) q = tt
-on_any_err (Err e) q = q
-
--- a chain that lists a key is not empty
-pub first_listed : (keys : List ℕ) (k : ℕ) → lists keys k ≡ true → is_some (first_of keys) ≡ true
-first_listed [] k h = absurd (true≢false (sym h))
-first_listed (y ∷ keys) k h = refl
-
 -- ---- which chains are used
 pub used_along : (along across : Chained) (k c : ℕ) → IsSound along → home_of along k ≡ Some c → is_used along across c ≡ true
 unfolding is_used
-used_along along across k c sound home = or_left _ _ (first_listed (chain_of along c) k (sound.listed c k home))
+used_along along across k c sound home = or_left _ _ (first_is_some (chain_of along c) k (sound.listed c k home))
 
 pub used_turned : (along across : Chained) (c : ℕ) → is_used along across c ≡ is_used across along c
 unfolding is_used

@@ -1,5 +1,5 @@
 -- What a call makes of the table of permits.
-use Rattle.std.proofs.Common.{◌≡◌, ℕ, ◌<◌, Bool, true, false, List, [], ◌∷◌, ◌++◌, ◌||◌, ◌&&◌, eqb, ◌⊎◌, filter_map, Option, Some, None, IfSome, IfNone, is_some, refl, sym, ap, ◌∙◌, arith, inl, inr}
+use Rattle.std.proofs.Common.{◌≡◌, ℕ, ◌<◌, Bool, true, false, List, [], ◌||◌, ◌&&◌, eqb, ◌⊎◌, filter_map, Option, Some, None, IfSome, IfNone, is_some, refl, sym, ap, ◌∙◌, arith, inl, inr}
 use Rattle.std.specs.Prelude.{slice_index_or}
 use Rattle.std.proofs.lemmas.Bool.{eqb-false, eqb-true, eq-eqb, ne_eqb, true≢false, false_from_ne_true, cases_eq, and_from, and_parts, or_left, or_right, or_cases}
 use Rattle.slab.specs.Slab.{Slab, get, Updates}
@@ -7,6 +7,7 @@ use Rattle.asset_names.specs.declared.names.Txn.{Txn}
 use Rattle.asset_chains.specs.Chained.{Chained, chain_of, home_of, first_of, IsSound}
 use Rattle.asset_chains.proofs.Laws.{IsPushed}
 use Rattle.asset_chains.proofs.SoundLemmas.{no_chain_of, no_home_of}
+use Rattle.asset_chains.proofs.KeyLemmas.{first_pushed}
 use Rattle.asset_seats.specs.Seated.{Seated, seat}
 use Rattle.asset_permits.specs.Descriptors.{Descriptor, stands}
 use Rattle.asset_permits.specs.Valid.{Parts, parts, descriptors_of, is_used, IsSeated, IsNamed, IsWithin, IsValid}
@@ -14,12 +15,12 @@ use Rattle.asset_permits.specs.Changes.{IsGrown, BothSit, Shrinks}
 use Rattle.asset_permits.proofs.SeatLemmas.{used_same, used_along, used_across, home_along, home_at_end}
 use Rattle.asset_permits.proofs.SearchLemmas.{has_across}
 use Rattle.asset_permits.proofs.SlotLemmas.{IsRidOf, key_of_standing, stands_at, any_has, key_of_any}
-use Rattle.asset_marks.proofs.MarkLemmas.{same_truth}
 use Rattle.asset_permits.proofs.CopyLemmas.{any_cut}
 use Rattle.asset_permits.specs.declared.copying.Cut.{Cut}
 use Rattle.asset_permits.specs.Copies.{cut_of, cuts_on, gives_on}
 use Rattle.asset_names.specs.declared.names.Ob.{Ob}
 use Rattle.asset_names.specs.InSet.{in_set}
+use Rattle.asset_names.proofs.Common.{both_follow}
 use Rattle.std.specs.List.{list_any}
 
 -- ---- whether a permit stands
@@ -119,9 +120,6 @@ valid_grown permits more along longer across longer_across seats new size most v
 
 -- ---- one more permit
 -- a chain with a key at its end is not empty
-first_pushed : (keys : List ℕ) (k : ℕ) → is_some (first_of (keys ++ k ∷ [])) ≡ true
-first_pushed [] k = refl
-first_pushed (y ∷ keys) k = refl
 
 module _ (permits more : Slab Descriptor) (along longer across longer_across : Chained) (seats new : Seated) (size most : ℕ) (d : Descriptor) (key from to : ℕ)
     (valid : IsValid (parts permits along across seats) size) (sits : BothSit (record { 0 = d.giver }) (record { 0 = d.taker }) from to seats new)
@@ -244,7 +242,7 @@ pub cut_by_seat : (p : Parts) (size : ℕ) → IsValid p size → (giver : Txn) 
     → ((test : Cut → Bool) (k : ℕ) (d : Descriptor) → home_of p.along k ≡ Some from → get p.permits k ≡ Some d → in_set d.objects x.0 ≡ true → test (cut_of x d) ≡ true → list_any test after ≡ true)
     → (test : Cut → Bool) → list_any test after ≡ (list_any test before || list_any test (cuts_on giver.0 (descriptors_of p.permits) x))
 unfolding gives_on
-cut_by_seat p size valid giver from sat alone x before after kept made all test = same_truth _ _ to back where
+cut_by_seat p size valid giver from sat alone x before after kept made all test = both_follow _ _ to back where
   passes : Descriptor → Bool
   passes d = (eqb d.giver giver.0 && in_set d.objects x.0) && test (cut_of x d)
 

@@ -1,6 +1,6 @@
 -- A line that is printed reads back.
 use Rattle.std.proofs.Common.{◌≡◌, ◌<◌, ◌^◌, ◌||◌, Bool, true, false, [], ◌∷◌, refl}
-use Rattle.std.specs.Prelude.{ℤ, Some, None, Result, Ok, Err, OnOk, codes}
+use Rattle.std.specs.Prelude.{ℤ, Some, None, codes}
 use Rattle.std.specs.Int.Signed.{mag}
 use Rattle.std.specs.Fmt.{decimal, signed_decimal}
 use Rattle.asset_names.specs.declared.names.Txn.{Txn}
@@ -22,18 +22,6 @@ use Rattle.asset_grammar.specs.Words.{words}
 use Rattle.asset_grammar.proofs.NumberLaws.{number_of-decimal, value_of-signed_decimal}
 use Rattle.asset_printing.specs.Printed.{kind_text, object_text, ops_text, parent_words, set_text, step_text, step_words}
 use Rattle.asset_printing.proofs.WordLemmas.{cut_again, number_lacks, text_lacks, value_lacks}
-
-pub always_ok : {T E : Type 0} {P : Type 0} (r : Result T E) → P → OnOk r P
-always_ok (Ok x) p = p
-always_ok (Err e) p = tt
-
-pub on_ok : {T E : Type 0} {P Q : Type 0} (r : Result T E) → (P → Q) → OnOk r P → OnOk r Q
-on_ok (Ok x) f p = f p
-on_ok (Err e) f p = p
-
-pub on_ok_two : {T E : Type 0} {P Q R : Type 0} (r : Result T E) → (P → Q → R) → OnOk r P → OnOk r Q → OnOk r R
-on_ok_two (Ok x) f p q = f p q
-on_ok_two (Err e) f p q = p
 
 pub object_reads : (x : Ob) (v : ℤ) → x.0 < 2 ^ 64 → mag v < 2 ^ 63 → command_of (object_text x v) ≡ Some (Object (x, v))
 unfolding object_text command_of words command_from object_command object_and_value both ob_of

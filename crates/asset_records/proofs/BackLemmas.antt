@@ -10,21 +10,18 @@ use Rattle.asset_names.specs.declared.names.Txn.{Txn}
 use Rattle.asset_chains.specs.Chained.{Chained, chain_of, home_of, first_of, lists, without, ahead, behind, IsSound}
 use Rattle.asset_chains.proofs.Laws.{chain_at_key, chain_without_key}
 use Rattle.asset_chains.proofs.SoundLemmas.{listed_once}
-use Rattle.asset_chains.proofs.KeyLemmas.{lists-append, distinct_head, distinct_tail, distinct_parts}
+use Rattle.asset_chains.proofs.KeyLemmas.{lists-append, distinct_head, distinct_tail, distinct_parts, listed_apart, without_unlisted}
 use Rattle.asset_records.specs.declared.records.Record.{Record}
 use Rattle.asset_seats.specs.Seated.{Seated, seat}
 use Rattle.asset_records.specs.Listed.{Listed, listed_of, on, no_record, record_at, at_keys, is_of, handed, restored_if_last, IsValid, ChangesOn, TakesBack, Settles, HasNone}
 use Rattle.asset_records.specs.Dropped.{handed_at, restored_at}
 use Rattle.asset_records.proofs.ListedLemmas.{lists_are, on_chain, keys_append, keys_length, keys_same, any_key, has_record, home_of_owner}
-use Rattle.asset_records.proofs.DropLemmas.{without_absent, read_some}
+use Rattle.asset_records.proofs.DropLemmas.{read_some}
 
 -- the record at a key, by what the slab has
 read_as : (a b : Slab Record) (k : ℕ) → get a k ≡ get b k → record_at a k ≡ record_at b k
 unfolding record_at
 read_as a b k same = ap (λ (o : Option Record). unwrap_or o no_record) same
-
-differs : (keys : List ℕ) (j k : ℕ) → lists keys j ≡ true → lists keys k ≡ false → j ≡ k → ⊥
-differs keys j k there absent same = true≢false (sym there ∙ ap (lists keys) same ∙ absent)
 
 first_is : (keys : List ℕ) (n : ℕ) → first_of keys ≡ Some n → lists keys n ≡ true
 first_is [] n e = cc e
@@ -52,10 +49,10 @@ module _ (records later fewer : Slab Record) (k : ℕ) (gone : Record) (there : 
   back_handed [] distinct hands kept = refl
   back_handed (n ∷ keys) distinct hands kept = λ m. first m ∷ rest m where
     apart_k : (l : ℕ) → lists (n ∷ keys) l ≡ true → l ≡ k → ⊥
-    apart_k l among = differs (n ∷ keys) l k among (distinct_head k (n ∷ keys) distinct)
+    apart_k l among = listed_apart (n ∷ keys) l k among (distinct_head k (n ∷ keys) distinct)
 
     apart_n : (l : ℕ) → lists keys l ≡ true → l ≡ n → ⊥
-    apart_n l among = differs keys l n among (distinct_head n keys (distinct_tail k (n ∷ keys) distinct))
+    apart_n l among = listed_apart keys l n among (distinct_head n keys (distinct_tail k (n ∷ keys) distinct))
 
     n_listed : lists (n ∷ keys) n ≡ true
     n_listed = ap (λ (b : Bool). b || lists keys n) (eq-eqb n n refl)
@@ -146,9 +143,9 @@ taken_back records later fewer table less t k i gone restored sound home there w
   other : (j : ℕ) → (j ≡ i → ⊥) → at_keys fewer (chain_of less j) ≡ at_keys records (chain_of table j)
   other j apart =
       let absent = listed_once table sound k i j home apart in
-      ap (at_keys fewer) (chains j ∙ without_absent k (chain_of table j) absent)
+      ap (at_keys fewer) (chains j ∙ without_unlisted k (chain_of table j) absent)
       ∙ keys_same records fewer (chain_of table j) (λ l among. read_as fewer records l (stays records later fewer k gone there drops (first_of back) hands l
-      (differs (chain_of table j) l k among absent)
+      (listed_apart (chain_of table j) l k among absent)
       (λ n first same. apart (same_home l n among (listed_later n (first_is back n first)) same)))) where
         same_home : (l n : ℕ) → lists (chain_of table j) l ≡ true → lists (chain_of table i) n ≡ true → l ≡ n → j ≡ i
         same_home l n mine its same = let homes : Some j ≡ Some i = sym (sound.at_home j l mine) ∙ ap (home_of table) same ∙ sound.at_home i n its in cc homes

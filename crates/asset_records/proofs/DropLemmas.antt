@@ -1,46 +1,24 @@
 -- A record leaves the slab, both of its chains, and perhaps its owner's seat.
-use Rattle.std.proofs.Common.{◌≡◌, ℕ, zero, suc, inl, inr, ◌<◌, ◌≤◌, ◌+◌, ◌&&◌, ◌⊎◌, get_or, Bool, true, false, cond, eqb, ◌||◌, List, [], ◌∷◌, Option, Some, None, is_some, length, refl, sym, ap, subst, ◌∙◌, arith}
+use Rattle.std.proofs.Common.{◌≡◌, ℕ, zero, suc, inl, inr, ◌<◌, ◌≤◌, ◌+◌, ◌&&◌, ◌⊎◌, get_or, Bool, true, false, cond, eqb, List, [], ◌∷◌, Option, Some, None, is_some, length, refl, sym, ap, subst, ◌∙◌, arith}
 use Rattle.std.specs.Prelude.{ℤ, nat_lt, unwrap_or}
 use Rattle.std.specs.Option.{option_map}
-use Rattle.std.proofs.lemmas.Bool.{eqb-true, eqb-false, eq-eqb, ne_eqb, true≢false, cases_lt, lt-ltb, ltb-true}
+use Rattle.std.proofs.lemmas.Bool.{eqb-true, eqb-false, eq-eqb, ne_eqb, true≢false, lt-ltb, ltb-true}
 use Rattle.std.proofs.lemmas.List.{get_or-set_same, get_or-set_other}
 use Rattle.slab.specs.Slab.{Slab, get, slab_len, with_value, Updates}
-use Rattle.asset_chains.specs.Chained.{Chained, chain_of, home_of, first_of, lists, without, unlinked, IsSound}
+use Rattle.asset_chains.specs.Chained.{Chained, chain_of, home_of, first_of, unlinked, IsSound}
 use Rattle.asset_chains.proofs.Laws.{IsUnlinked, unlinks, chain_within}
-use Rattle.asset_chains.proofs.KeyLemmas.{first_listed as first_is_listed}
-use Rattle.asset_chains.proofs.SoundLemmas.{listed_once, sound_unlinked}
+use Rattle.asset_chains.proofs.KeyLemmas.{first_listed as first_is_listed, first_is_some}
+use Rattle.asset_chains.proofs.SoundLemmas.{sound_unlinked}
+use Rattle.asset_chains.proofs.Walks.{homes_without}
 use Rattle.asset_records.specs.declared.records.Record.{Record}
 use Rattle.asset_seats.specs.Seated.{Seated, seat}
 use Rattle.asset_records.specs.Listed.{no_record, record_at, owner_at, has_room, total, IsValid}
 use Rattle.asset_names.specs.declared.names.Txn.{Txn}
+use Rattle.asset_names.proofs.Common.{some_of}
 use Rattle.asset_records.specs.Dropped.{handed_at, IsLeft, IsReadyFor}
-use Rattle.asset_records.proofs.ListedLemmas.{some_of, first_listed}
-use Rattle.asset_records.proofs.TotalLemmas.{total_unlinked}
-
--- keys without one that is not among them
-pub without_absent : (k : ℕ) (keys : List ℕ) → lists keys k ≡ false → without k keys ≡ keys
-without_absent k [] absent = refl
-without_absent k (x ∷ keys) absent =
-    let parts = or_none (eqb k x) (lists keys k) absent in
-    ap (λ (b : Bool). cond b (without k keys) (x ∷ without k keys)) parts.0 ∙ ap (λ (rest : List ℕ). x ∷ rest) (without_absent k keys parts.1) where
-      or_none : (a b : Bool) → (a || b) ≡ false → (a ≡ false) × (b ≡ false)
-      or_none true b h = absurd (true≢false h)
-      or_none false b h = (refl, h)
-
--- every chain is without the key
-pub chains_without : (table new : Chained) (k c : ℕ) → IsSound table → home_of table k ≡ Some c → new ≡ unlinked k table → (d : ℕ) → chain_of new d ≡ without k (chain_of table d)
-chains_without table new k c sound home is d =
-    let change = unlinks c k table new home is in go change (eqb d c) refl where
-      go : IsUnlinked c k table new → (b : Bool) → eqb d c ≡ b → chain_of new d ≡ without k (chain_of table d)
-      go change true e = let here : d ≡ c = eqb-true d c e in rw here change.chain
-      go change false e = change.chains d (eqb-false d c e) ∙ sym (without_absent k (chain_of table d) (listed_once table sound k c d home (eqb-false d c e)))
+use Rattle.asset_records.proofs.TotalLemmas.{total_unlinked, slot_within}
 
 -- the key has no home, and each other key has the one that it had
-pub homes_without : (table new : Chained) (k c : ℕ) → home_of table k ≡ Some c → new ≡ unlinked k table → (j : ℕ) → home_of new j ≡ cond (eqb j k) None (home_of table j)
-homes_without table new k c home is j = let change = unlinks c k table new home is in go change (eqb j k) refl where
-  go : IsUnlinked c k table new → (b : Bool) → eqb j k ≡ b → home_of new j ≡ cond b None (home_of table j)
-  go change true e = ap (home_of new) (eqb-true j k e) ∙ change.home
-  go change false e = change.homes j (eqb-false j k e)
 
 module _ (records fewer : Slab Record) (by_object less_object by_owner less_owner : Chained) (owners left : Seated) (k i c : ℕ)
     (valid : IsValid records by_object by_owner owners) (sound_object : IsSound by_object) (sound : IsSound by_owner)
@@ -98,7 +76,7 @@ module _ (records fewer : Slab Record) (by_object less_object by_owner less_owne
           ap (λ (b : Bool). option_map (λ (one : Record). one.owner) (cond b None (get records j))) e
           ∙ valid.owned j
           ∙ ap (owner_at owners) (sym home)
-          ∙ owner_same (home_of less_owner j) (λ d at. stays d (first_listed (chain_of less_owner d) j (sound_less.listed d j at)))
+          ∙ owner_same (home_of less_owner j) (λ d at. stays d (first_is_some (chain_of less_owner d) j (sound_less.listed d j at)))
 
     seated : (d : ℕ) → is_some (seat left d) ≡ is_some (first_of (chain_of less_owner d))
     seated d = go (eqb d c) refl where
@@ -107,7 +85,7 @@ module _ (records fewer : Slab Record) (by_object less_object by_owner less_owne
 
       at_chain : (first : Option ℕ) → first_of (chain_of less_owner c) ≡ first → IsLeft c first owners left → is_some (seat left c) ≡ is_some (first_of (chain_of less_owner c))
       at_chain None e leaves = ap is_some (leaves c ∙ ap (λ (b : Bool). cond b None (seat owners c)) (eq-eqb c c refl)) ∙ sym (ap is_some e)
-      at_chain (Some first) e leaves = ap is_some (leaves c) ∙ valid.seated c ∙ first_listed (chain_of by_owner c) k (sound.listed c k of_owner) ∙ sym (ap is_some e)
+      at_chain (Some first) e leaves = ap is_some (leaves c) ∙ valid.seated c ∙ first_is_some (chain_of by_owner c) k (sound.listed c k of_owner) ∙ sym (ap is_some e)
 
       apart : (d ≡ c → ⊥) → (first : Option ℕ) → IsLeft c first owners left → seat left d ≡ seat owners d
       apart differ None leaves = leaves d ∙ ap (λ (b : Bool). cond b None (seat owners d)) (ne_eqb d c differ)
@@ -123,17 +101,11 @@ past_slots [] n h = refl
 past_slots (slot ∷ slots) zero h = absurd (omega (arith, h))
 past_slots (slot ∷ slots) (suc n) h = past_slots slots n (omega (arith, h))
 
-within_slots : (slots : List (Option Record)) (n : ℕ) (one : Record) → get_or slots n None ≡ Some one → n < length slots
-within_slots slots n one there = elim (cases_lt n (length slots)) [
-  | inl within ↦ within
-  | inr past ↦ cc (sym there ∙ past_slots slots n past)
-]
-
 -- a record is written over another
 written_over : (records : Slab Record) (n : ℕ) (old new : Record) → get records n ≡ Some old → (k : ℕ) → get (with_value records n new) k ≡ cond (eqb k n) (Some new) (get records k)
 written_over records n old new there k = go (eqb k n) refl where
   go : (b : Bool) → eqb k n ≡ b → get (with_value records n new) k ≡ cond b (Some new) (get records k)
-  go true e = ap (get (with_value records n new)) (eqb-true k n e) ∙ get_or-set_same records.slots n (Some new) None (within_slots records.slots n old there)
+  go true e = ap (get (with_value records n new)) (eqb-true k n e) ∙ get_or-set_same records.slots n (Some new) None (slot_within records.slots n old there)
   go false e = get_or-set_other records.slots n k (Some new) None (eqb-false k n e)
 
 -- the next record gets the before-image

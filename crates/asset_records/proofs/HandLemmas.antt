@@ -7,6 +7,7 @@ use Rattle.std.proofs.lemmas.List.{get_or-set_same, get_or-set_other, length-map
 use Rattle.std.proofs.lemmas.List.Sums.{sum_by-set}
 use Rattle.slab.specs.Slab.{Slab, get, slab_len, with_value, Updates}
 use Rattle.asset_names.specs.declared.names.Txn.{Txn}
+use Rattle.asset_names.proofs.Common.{some_of}
 use Rattle.asset_chains.specs.Chained.{Chained, chain_of, home_of, first_of, lists, pushed, unlinked, IsSound}
 use Rattle.asset_chains.proofs.Laws.{is_pushed, pushes, unlinks, home_within, key_within, chain_at_first, IsPushed}
 use Rattle.asset_chains.proofs.SoundLemmas.{sound_unlinked}
@@ -15,7 +16,7 @@ use Rattle.asset_seats.specs.Seated.{Seated, seat}
 use Rattle.asset_records.specs.Listed.{Listed, listed_of, on, no_record, record_at, at_keys, total, has_room, stretches_after, IsValid, IsSpared, ChangesOn}
 use Rattle.asset_records.specs.Dropped.{IsLeft}
 use Rattle.asset_records.specs.Handed.{renamed, owned_by, handed_to}
-use Rattle.asset_records.proofs.ListedLemmas.{some_of, on_chain, keys_same, lists_are, valid_grown, home_of_owner, has_owned}
+use Rattle.asset_records.proofs.ListedLemmas.{on_chain, keys_same, lists_are, valid_grown, home_of_owner, has_owned}
 use Rattle.asset_records.proofs.DropLemmas.{dropped_valid, seat_has_chain}
 use Rattle.asset_records.proofs.PushLemmas.{pushed_valid}
 use Rattle.asset_records.proofs.StretchLemmas.{less_each, less_renamed, more_on, spared_less}

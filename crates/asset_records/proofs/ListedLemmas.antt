@@ -8,9 +8,11 @@ use Rattle.std.proofs.lemmas.List.{map-append}
 use Rattle.std.proofs.Math.ListN as listn
 use Rattle.slab.specs.Slab.{Slab, get}
 use Rattle.asset_names.specs.declared.names.Txn.{Txn}
+use Rattle.asset_names.proofs.Common.{some_of, none_of}
 pub use Rattle.asset_chains.proofs.Laws.{read_more}
 use Rattle.asset_chains.specs.Chained.{Chained, chain_of, home_of, first_of, lists, one_chain_more, IsSound}
 use Rattle.asset_chains.proofs.SoundLemmas.{no_chain_of, no_home_of}
+use Rattle.asset_chains.proofs.KeyLemmas.{first_is_some}
 use Rattle.asset_records.specs.declared.records.Record.{Record}
 use Rattle.asset_seats.specs.Seated.{Seated, seat}
 use Rattle.asset_records.specs.Listed.{Listed, listed_of, has_room, on, record_at, at_keys, owner_at, total, ChangesOn, IsValid}
@@ -57,18 +59,7 @@ any_key records test (k ∷ keys) none = λ i. (none k first i || any_key record
     either true = refl
     either false = refl
 
-pub some_of : {X : Type 0} (o : Option X) → is_some o ≡ true → (x : X) × (o ≡ Some x)
-some_of None h = absurd (true≢false (sym h))
-some_of (Some x) h = (x, refl)
-
-pub none_of : {X : Type 0} (o : Option X) → is_some o ≡ false → o ≡ None
-none_of None h = refl
-none_of (Some x) h = absurd (true≢false h)
-
 -- a chain that lists a key is not empty
-pub first_listed : (keys : List ℕ) (k : ℕ) → lists keys k ≡ true → is_some (first_of keys) ≡ true
-first_listed [] k h = absurd (true≢false (sym h))
-first_listed (x ∷ keys) k h = refl
 
 module _ (records : Slab Record) (by_object by_owner : Chained) (owners : Seated) (valid : IsValid records by_object by_owner owners) where
   -- a record's owner has a seat, whose chain the record is in
@@ -90,7 +81,7 @@ module _ (records : Slab Record) (by_object by_owner : Chained) (owners : Seated
     go None e = e
     go (Some c) e =
         let nobody : seat owners c ≡ None = sym (valid.owned k ∙ ap (owner_at owners) e) ∙ ap (option_map (λ (one : Record). one.owner)) free in
-        let there = first_listed (chain_of by_owner c) k (sound.listed c k e) in
+        let there = first_is_some (chain_of by_owner c) k (sound.listed c k e) in
         absurd (true≢false (sym there ∙ sym (valid.seated c) ∙ ap is_some nobody))
 
   -- a key in a chain has a record

@@ -8,15 +8,11 @@ use Rattle.slab.specs.Slab.{Slab, get, slab_len, Updates}
 use Rattle.asset_chains.specs.Chained.{Chained, chain_of, home_of, first_of, lists, IsSound}
 use Rattle.asset_chains.proofs.Laws.{IsPushed}
 use Rattle.asset_chains.proofs.SoundLemmas.{unlisted}
+use Rattle.asset_chains.proofs.KeyLemmas.{first_is_some, first_pushed}
 use Rattle.asset_records.specs.declared.records.Record.{Record}
 use Rattle.asset_seats.specs.Seated.{Seated, seat}
 use Rattle.asset_records.specs.Listed.{on, no_record, record_at, at_keys, owner_at, total, IsValid, ChangesOn}
-use Rattle.asset_records.proofs.ListedLemmas.{on_chain, keys_append, keys_same, first_listed}
-
--- a chain with a key at its end is not empty
-first_pushed : (keys : List ℕ) (k : ℕ) → is_some (first_of (keys ++ k ∷ [])) ≡ true
-first_pushed [] k = refl
-first_pushed (x ∷ keys) k = refl
+use Rattle.asset_records.proofs.ListedLemmas.{on_chain, keys_append, keys_same}
 
 -- a record that is read where it is, and elsewhere as before
 read_here : (records more : Slab Record) (k : ℕ) (update : Record) → Updates records more k (Some update) → record_at more k ≡ update
@@ -40,7 +36,7 @@ module _ (records more : Slab Record) (by_object longer by_owner owned_more : Ch
     go : (b : Bool) → eqb d c ≡ b → seat owners d ≡ cond (eqb d c) (Some update.owner) (seat owners d)
     go true e =
         let here : d ≡ c = eqb-true d c e in
-        let there = first_listed (chain_of by_owner d) j (sound.listed d j home) in
+        let there = first_is_some (chain_of by_owner d) j (sound.listed d j home) in
         let sat : is_some (seat owners c) ≡ true = ap (λ (n : ℕ). is_some (seat owners n)) (sym here) ∙ valid.seated d ∙ there in
         ap (seat owners) here ∙ same sat ∙ sym (ap (λ (b : Bool). cond b (Some update.owner) (seat owners d)) e)
     go false e = sym (ap (λ (b : Bool). cond b (Some update.owner) (seat owners d)) e)

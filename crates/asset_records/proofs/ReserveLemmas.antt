@@ -1,5 +1,5 @@
 -- Room that was made, and nothing else changed.
-use Rattle.std.proofs.Common.{◌≤◌, ◌≡◌, ℕ, true, List, [], map, length, Option, None, ap, ◌∙◌}
+use Rattle.std.proofs.Common.{◌≤◌, ◌≡◌, ℕ, true, List, map, length, None, ap, ◌∙◌}
 use Rattle.std.specs.Prelude.{unwrap_or, slice_index_or}
 use Rattle.slab.specs.Slab.{Slab}
 use Rattle.asset_chains.specs.Chained.{Chained, chain_of, home_of}
@@ -25,11 +25,3 @@ lists_kept records more by_object longer by_owner owned_more owners seated_more 
 pub shown_room : (records : Slab Record) (by_object by_owner : Chained) (owners : Seated) (most : ℕ) → has_room records by_object by_owner owners most ≡ true → (listed_of records by_object by_owner owners most).reserved ≡ true
 unfolding listed_of
 shown_room records by_object by_owner owners most room = room
-
-pub chain_same : (old new : Chained) → new.chains ≡ old.chains → (c : ℕ) → chain_of new c ≡ chain_of old c
-unfolding chain_of
-chain_same old new same c = ap (λ (l : List (List ℕ)). slice_index_or l c []) same
-
-pub home_same : (old new : Chained) → new.homes ≡ old.homes → (k : ℕ) → home_of new k ≡ home_of old k
-unfolding home_of
-home_same old new same k = ap (λ (l : List (Option ℕ)). slice_index_or l k None) same

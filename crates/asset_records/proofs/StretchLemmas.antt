@@ -8,6 +8,7 @@ use Rattle.std.proofs.lemmas.List.{length-append, map-append}
 use Rattle.std.proofs.lemmas.Map.Steps.{le-length_from_below}
 use Rattle.slab.specs.Slab.{Slab, get, slab_len}
 use Rattle.asset_names.specs.declared.names.Txn.{Txn}
+use Rattle.asset_names.proofs.Common.{some_of, one_txn}
 use Rattle.asset_chains.specs.Chained.{Chained, chain_of, home_of, first_of, last_of, ahead, lists, one_chain_more, IsSound}
 use Rattle.asset_chains.proofs.Laws.{chain_at_first, chain_at_last}
 use Rattle.asset_records.specs.declared.records.Record.{Record}
@@ -15,7 +16,7 @@ use Rattle.asset_seats.specs.Seated.{Seated, seat}
 use Rattle.asset_records.specs.Listed.{on, at_keys, record_at, no_record, follows, stretches_after, stretches, is_of, handed, total, ChangesOn, TakesBack, Settles, IsValid, IsSpared}
 use Rattle.asset_records.specs.Dropped.{IsReadyFor}
 use Rattle.asset_records.specs.Handed.{renamed}
-use Rattle.asset_records.proofs.ListedLemmas.{on_chain, keys_length, some_of, has_owned, home_of_owner}
+use Rattle.asset_records.proofs.ListedLemmas.{on_chain, keys_length, has_owned, home_of_owner}
 use Rattle.asset_records.proofs.DropLemmas.{read_some}
 
 -- ---- one object
@@ -235,9 +236,6 @@ sits t (Some u) = eqb u.0 t
 seat_number : Seated → ℕ → ℕ → ℕ
 seat_number owners zero t = 0
 seat_number owners (suc n) t = cond (sits t (seat owners n)) n (seat_number owners n t)
-
-one_txn : (t u : Txn) → t.0 ≡ u.0 → t ≡ u
-one_txn t u e = λ i. record { 0 = e i }
 
 sits_is : (t : Txn) (o : Option Txn) → sits t.0 o ≡ true → o ≡ Some t
 unfolding sits

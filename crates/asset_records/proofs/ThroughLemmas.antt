@@ -1,13 +1,13 @@
 -- The first record of an object is dropped.
-use Rattle.std.proofs.Common.{◌≡◌, ℕ, ◌+◌, ◌<◌, ◌≤◌, suc, Bool, true, false, cond, eqb, if◌then◌else◌, List, [], ◌∷◌, ◌++◌, Some, None, is_some, length, refl, sym, ap, ◌∙◌, arith}
+use Rattle.std.proofs.Common.{◌≡◌, ℕ, ◌+◌, ◌<◌, ◌≤◌, suc, Bool, true, false, cond, eqb, List, [], ◌∷◌, ◌++◌, Some, None, is_some, length, refl, sym, ap, ◌∙◌, arith, if◌then◌else◌}
 use Rattle.std.specs.Prelude.{◌^◌}
 use Rattle.std.proofs.lemmas.Bool.{eqb-false, true≢false, false≢true}
 use Rattle.slab.specs.Slab.{Slab, get}
 use Rattle.asset_chains.specs.Chained.{Chained, chain_of, home_of, first_of, without, ahead, behind, lists, IsSound}
 use Rattle.asset_chains.proofs.Laws.{chain_at_first, chain_without_key, chain_bound}
 use Rattle.asset_chains.proofs.SoundLemmas.{listed_once}
+use Rattle.asset_chains.proofs.KeyLemmas.{without_unlisted}
 use Rattle.asset_records.specs.declared.records.Record.{Record}
-use Rattle.asset_records.proofs.DropLemmas.{without_absent}
 
 module _ (table less : Chained) (key i : ℕ) (sound : IsSound table) (first : first_of (chain_of table i) ≡ Some key) (chains : (j : ℕ) → chain_of less j ≡ without key (chain_of table j)) where
   pub first_home : home_of table key ≡ Some i
@@ -19,7 +19,7 @@ module _ (table less : Chained) (key i : ℕ) (sound : IsSound table) (first : f
       chains i ∙ chain_without_key key i table sound at.0 ∙ ap (λ (front : List ℕ). front ++ behind key (chain_of table i)) at.1
 
   pub others_are : (j : ℕ) → eqb j i ≡ false → chain_of less j ≡ chain_of table j
-  others_are j apart = chains j ∙ without_absent key (chain_of table j) (listed_once table sound key i j first_home (eqb-false j i apart))
+  others_are j apart = chains j ∙ without_unlisted key (chain_of table j) (listed_once table sound key i j first_home (eqb-false j i apart))
 
   chain_is : chain_of table i ≡ key ∷ behind key (chain_of table i)
   chain_is = (chain_at_first key i table sound first).2

@@ -12,6 +12,7 @@ use Rattle.asset_reference.specs.declared.allowing.Added.{Added}
 use Rattle.asset_reference.specs.declared.allowing.Added.TheVariants.{Nothing, One, Copies}
 use Rattle.asset_reference.specs.Allowing.{added_arrows, goes_along, leads_on, leads_by}
 use Rattle.asset_reference.proofs.AppliedLemmas.{reverse_take_item}
+use Rattle.asset_reference.proofs.WayLemmas.{or_none}
 
 -- the arrows of the first entries of a number: those that the newest of them adds, and those of the others
 pub arrows_more : (entries : List Entry) (count : ℕ) (item : Entry) (added : Added) (x : ℕ) (op : Op) → 0 < count → count ≤ length entries → item ≡ get_or entries (count - 1) item
@@ -26,9 +27,6 @@ arrows_more entries count item added x op some within is adds =
     ∙ adds
 
 -- what is false adds nothing, and the order of two ways does not matter
-or_none : (p : Bool) → p ≡ (p || false)
-or_none true = refl
-or_none false = refl
 
 swapped : (p q : Bool) → (p || q) ≡ (q || p)
 swapped true true = refl

@@ -44,7 +44,7 @@ or_parts : (p q : Bool) → (p || q) ≡ false → (p ≡ false) × (q ≡ false
 or_parts false q none = (refl, none)
 or_parts true q none = absurd (false≢true (sym none))
 
-or_none : (p : Bool) → p ≡ (p || false)
+pub or_none : (p : Bool) → p ≡ (p || false)
 or_none true = refl
 or_none false = refl
 

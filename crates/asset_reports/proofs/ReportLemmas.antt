@@ -6,10 +6,10 @@ use Rattle.std.specs.List.{range_with_len}
 use Rattle.std.proofs.lemmas.Grind.{flat_map-append}
 use Rattle.std.proofs.lemmas.List.Folds.{flat_map-map}
 use Rattle.std.proofs.lemmas.List.FromFn.{map-range_with_len_more, get_or-map-range_with_len}
+use Rattle.asset_history.proofs.EntryLemmas.{next_entry}
 use Rattle.asset_names.specs.declared.names.Txn.{Txn}
 use Rattle.asset_names.specs.declared.names.Ob.{Ob}
 use Rattle.asset_names.specs.Steps.{Opening, Entry}
-use Rattle.asset_deletion.proofs.NameLemmas.{next_entry}
 use Rattle.asset_printing.specs.Printed.{step_text}
 use Rattle.asset_buckets.specs.Bucketed.{indices_of, buckets_of}
 use Rattle.asset_deletion.specs.Grouping.{Grouping, named}

@@ -1,5 +1,5 @@
 -- More buckets and more seats.
-use Rattle.std.proofs.Common.{◌≡◌, ℕ, ◌<◌, ◌≤◌, ◌+◌, ◌-◌, List, [], ◌∷◌, ◌++◌, length, zero, suc, Option, Some, None, is_some, Result, Ok, Err, OnErr, refl, sym, ap, ◌∙◌, arith, inl, inr}
+use Rattle.std.proofs.Common.{◌≡◌, ℕ, ◌<◌, ◌≤◌, ◌+◌, ◌-◌, List, [], ◌∷◌, ◌++◌, length, zero, suc, Option, Some, None, is_some, refl, sym, ap, ◌∙◌, arith, inl, inr}
 use Rattle.std.specs.Prelude.{slice_index_or, unwrap_or}
 use Rattle.std.proofs.lemmas.Bool.{cases_eq}
 use Rattle.std.proofs.lemmas.List.{get_or_past}
@@ -9,11 +9,6 @@ use Rattle.asset_chains.proofs.Laws.{read_more, pushes, key_more-home, key_more-
 use Rattle.asset_seats.specs.Seated.{Seated, seat}
 use Rattle.asset_seats.specs.Bucketed.{bucket_in, no_name, name_in, taken, seats_of, rebucketed, AreSeated}
 use Rattle.asset_seats.proofs.SeatLemmas.{seat_at, seat_is, same_taken, vacant_is, room_is, many_at, many_are, last_appended}
-
--- what holds in any case holds if there is an error
-pub on_any_err : {T E Q : Type 0} (r : Result T E) → Q → OnErr r Q
-on_any_err (Ok x) q = tt
-on_any_err (Err e) q = q
 
 -- past the last key there is no home
 pub home_past : (table : Chained) (k : ℕ) → length table.homes ≤ k → home_of table k ≡ None

@@ -3,6 +3,7 @@ use Rattle.std.proofs.Common.{◌≡◌, ℕ, ◌<◌, ◌+◌, Bool, true, fals
 use Rattle.std.specs.Prelude.{slice_index_or, unwrap_or, IfSome, IfNone}
 use Rattle.std.proofs.lemmas.Bool.{true≢false}
 use Rattle.asset_names.specs.declared.names.Txn.{Txn}
+use Rattle.asset_names.proofs.Common.{some_of}
 use Rattle.asset_chains.specs.Chained.{Chained, chain_of, home_of, last_of, lists, IsSound}
 use Rattle.asset_chains.proofs.Laws.{key_within, chain_at_last}
 use Rattle.asset_seats.specs.Seated.{Seated, seat}
@@ -94,17 +95,10 @@ pub last_some : (keys : List ℕ) (k : ℕ) → lists keys k ≡ true → is_som
 last_some [] k h = absurd (true≢false (sym h))
 last_some (x ∷ keys) k h = refl
 
-pub some_of : {X : Type 0} (o : Option X) → is_some o ≡ true → (x : X) × (o ≡ Some x)
-some_of None h = absurd (true≢false (sym h))
-some_of (Some x) h = (x, refl)
-
 pub last_appended : (keys : List ℕ) (k : ℕ) → last_of (keys ++ k ∷ []) ≡ Some k
 last_appended [] k = refl
 last_appended (x ∷ []) k = refl
 last_appended (x ∷ y ∷ keys) k = ap (λ (o : Option ℕ). Some (unwrap_or o x)) (last_appended (y ∷ keys) k)
-
-pub one_txn : (t u : Txn) → t.0 ≡ u.0 → t ≡ u
-one_txn t u e = λ i. record { 0 = e i }
 
 -- a seat that is free last is given next
 pub vacant_of : (names : List Txn) (table : Chained) (c : ℕ) → last_of (chain_of table 0) ≡ Some c → (seats_of names table).vacant ≡ c

@@ -18,14 +18,15 @@ use Rattle.asset_names.specs.Groups.{actor, partner, joins, joined_by, was_commi
 use Rattle.asset_names.specs.Answers.{answer, IsLegal}
 use Rattle.asset_names.proofs.Common.{both_follow}
 use Rattle.asset_names.proofs.EndLemmas.{live_parts, commits, commit_ends}
+use Rattle.asset_names.proofs.ListLemmas.{lists_at}
 use Rattle.asset_laws.specs.Serial.{committed_by as named_by, committed_names, is_apart, shares_nothing, CommittedShareNothing}
 use Rattle.asset_laws.proofs.KeepLinks.{Keeps}
 use Rattle.asset_laws.proofs.GroupLemmas.{keeps_respects}
 use Rattle.asset_history.specs.Committing.{committed_by, passes, has_commit, commit_at}
+use Rattle.asset_history.proofs.EntryLemmas.{next_entry}
 use Rattle.asset_deletion.specs.Named.{with_name}
 use Rattle.asset_deletion.proofs.DeadLemmas.{committed_by_member, member_committed, committed_after, committed_stays}
-use Rattle.asset_deletion.proofs.NameLemmas.{with_new, with_old, next_entry}
-use Rattle.asset_deletion.proofs.MeansLemmas.{lists_at}
+use Rattle.asset_deletion.proofs.NameLemmas.{with_new, with_old}
 use Rattle.asset_serial.specs.Answered.{with_answered, answered_names}
 
 -- ---- names

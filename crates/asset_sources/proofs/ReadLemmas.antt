@@ -15,10 +15,11 @@ use Rattle.asset_names.specs.Sources.{Numbered, source, IsAlone, IsOwnOrCommitte
 use Rattle.asset_names.specs.Answers.{IsLegal}
 use Rattle.asset_laws.specs.Renumbered.{source_number, writing, reading, renumbered}
 use Rattle.asset_history.specs.Recorded.{Recorded}
+use Rattle.asset_history.proofs.EntryLemmas.{between}
 use Rattle.asset_sources.specs.declared.sourced.Source.{Source}
 use Rattle.asset_sources.specs.Sourced.{source_from, source_of, source_at, read_of}
 use Rattle.asset_sources.specs.Traced.{write_with, reply_with, restored, traced, with_numbers, IsTraced}
-use Rattle.asset_sources.proofs.WalkLemmas.{between, older_length, no_read, source_found, alone_found}
+use Rattle.asset_sources.proofs.WalkLemmas.{older_length, no_read, source_found, alone_found}
 use Rattle.asset_sources.proofs.TraceLemmas.{reversed_front, reversed_end, length_renumbered, length_restored}
 
 -- ---- entries with numbers, and with values

@@ -22,12 +22,12 @@ use Rattle.asset_laws.specs.Renumbered.{source_number, writing, reading, outcome
 use Rattle.asset_laws.proofs.SourceLemmas.{source_gives, source_written}
 use Rattle.asset_laws.proofs.ShapeLemmas.{live_same}
 use Rattle.asset_laws.proofs.SharingLemmas.{effect_answer}
-use Rattle.asset_laws.proofs.RenumberLemmas.{renumbered_same, outcome_renumbered, room_renumbered}
+use Rattle.asset_laws.proofs.RenumberLemmas.{renumbered_same, outcome_renumbered, room_renumbered, effect_same}
 use Rattle.asset_history.specs.Recorded.{Recorded, opened, answer_to, with_entry, has_room, is_ending}
 use Rattle.asset_sources.specs.declared.sourced.Source.TheVariants as Source'
 use Rattle.asset_sources.specs.Sourced.{source_from}
 use Rattle.asset_sources.specs.Traced.{value_in, write_with, reply_with, restored, traced, with_numbers, IsTraced, HasWritten}
-use Rattle.asset_sources.proofs.WalkLemmas.{listed_front, listed_end, effect_numbered}
+use Rattle.asset_sources.proofs.WalkLemmas.{listed_front, listed_end}
 
 -- ---- lists
 
@@ -227,16 +227,16 @@ memory_same n (Commit t) = refl
 memory_same n (Abort t) = refl
 memory_same n (WaitFor t) = refl
 
-effect_same : (n : ℕ) (older : List Entry) (step : Step) (outcome : Outcome) → outcome_takes_effect (writing n step) (outcome_read older step outcome) ≡ outcome_takes_effect step outcome
+outcome_effect : (n : ℕ) (older : List Entry) (step : Step) (outcome : Outcome) → outcome_takes_effect (writing n step) (outcome_read older step outcome) ≡ outcome_takes_effect step outcome
 unfolding outcome_takes_effect outcome_read
-effect_same n older step (Answer reply) = effect_numbered n older step reply
-effect_same n older step Wait = refl
+outcome_effect n older step (Answer reply) = effect_same n older step reply
+outcome_effect n older step Wait = refl
 
 pub traced_effect : (given : Opening) (kept : List ℤ) (run : Recorded) → IsTraced given kept run → (step : Step)
     → outcome_takes_effect (writing (length run.entries) step) (answer_to run (writing (length run.entries) step)) ≡ outcome_takes_effect step (answer_to (traced given kept run) step)
 traced_effect given kept run is step =
     ap (outcome_takes_effect (writing (length run.entries) step)) (traced_outcome given kept run is step)
-    ∙ effect_same (length run.entries) (traced given kept run).entries step (answer_to (traced given kept run) step)
+    ∙ outcome_effect (length run.entries) (traced given kept run).entries step (answer_to (traced given kept run) step)
 
 -- the one changes a status if the other does
 change_same : (older : List Entry) (n : ℕ) (step : Step) (reply : Reply) → changes_status (applied (renumbered older)) (writing n step) (reading older step reply) ≡ changes_status (applied older) step reply

@@ -1,9 +1,9 @@
 -- One more entry of a walk, and what it finds there.
-use Rattle.std.proofs.Common.{◌≡◌, ℕ, ◌+◌, ◌<◌, ◌≤◌, ℤ, suc, zero, Bool, true, cond, List, [], ◌∷◌, ◌++◌, length, get_or, take, drop, reverse, refl, sym, ap, subst, ◌∙◌, arith, Some, None, inl, inr}
+use Rattle.std.proofs.Common.{◌≡◌, ℕ, ◌+◌, ◌<◌, ◌≤◌, ℤ, suc, zero, Bool, true, cond, List, [], ◌∷◌, ◌++◌, length, take, drop, reverse, refl, sym, ap, subst, ◌∙◌, arith, Some, None, inl, inr}
 use Rattle.std.specs.Prelude.{slice_get}
 use Rattle.std.proofs.lemmas.Bool.{eq-eqb, ne_eqb}
-use Rattle.std.proofs.lemmas.List.{length-append, length-reverse, length-take-le, reverse-append, reverse-reverse, take-append-drop, take_more}
-use Rattle.std.proofs.lemmas.Option.{slice_get_cases, slice_get_within, get_or_from_slice_get}
+use Rattle.std.proofs.lemmas.List.{length-append, length-reverse, length-take-le}
+use Rattle.std.proofs.lemmas.Option.{slice_get_cases, slice_get_within}
 use Rattle.std.proofs.Math.Nat.{eq-or-lt_of_le}
 use Rattle.asset_names.specs.declared.names.Txn.{Txn}
 use Rattle.asset_names.specs.declared.names.Ob.{Ob}
@@ -19,9 +19,10 @@ use Rattle.asset_names.specs.Answers.{IsLegal}
 use Rattle.asset_names.proofs.LegalLemmas.{legal_orderly, effect_unrefused}
 use Rattle.asset_laws.specs.Renumbered.{source_number, writing, reading, renumbered, zeroed}
 use Rattle.asset_laws.proofs.GroupLemmas.{legal_rest}
-use Rattle.asset_laws.proofs.RenumberLemmas.{value_is_source, renumbered_legal}
+use Rattle.asset_laws.proofs.RenumberLemmas.{value_is_source, renumbered_legal, effect_same}
 use Rattle.asset_laws.proofs.SourceLemmas.{alone_source}
 use Rattle.asset_history.specs.Recorded.{Recorded, objects_of}
+use Rattle.asset_history.proofs.EntryLemmas.{next_entry, between}
 use Rattle.asset_ends.specs.Shows.{Shows}
 use Rattle.asset_ends.specs.Standing.{Standing, values_of}
 use Rattle.asset_ends.specs.Ready.{IsReady}
@@ -31,21 +32,6 @@ use Rattle.asset_sources.specs.Sourced.{source_from, source_of, sources_of, sour
 use Rattle.asset_sources.specs.Walked.{first_entries, ShowsFirst}
 
 -- ---- entries in order
-
--- the first entries with the next one
-next_entry : (entries : List Entry) (i : ℕ) (entry : Entry) → slice_get entries i ≡ Some entry → reverse (take (i + 1) entries) ≡ entry ∷ reverse (take i entries)
-next_entry entries i entry at =
-    ap reverse (take_more entries i entry (slice_get_within entries i entry at)) ∙ reverse-append (take i entries) (get_or entries i entry ∷ [])
-    ∙ ap (λ (x : Entry). x ∷ reverse (take i entries)) (get_or_from_slice_get entries i entry entry at)
-
--- the entry at i between the newer and the older ones
-pub between : (all : List Entry) (i : ℕ) (entry : Entry) → slice_get (reverse all) i ≡ Some entry → reverse (drop (i + 1) (reverse all)) ++ entry ∷ reverse (take i (reverse all)) ≡ all
-between all i entry at =
-    let entries = reverse all in
-    ap (λ l. reverse (drop (i + 1) (reverse all)) ++ l) (sym (next_entry entries i entry at))
-    ∙ sym (reverse-append (take (i + 1) entries) (drop (i + 1) entries))
-    ∙ ap reverse (take-append-drop (i + 1) entries)
-    ∙ reverse-reverse all
 
 -- the entry at i is legal after the older ones
 pub legal_here : (opening : Opening) (all : List Entry) (i : ℕ) (entry : Entry) → slice_get (reverse all) i ≡ Some entry → IsLegal opening all → IsLegal opening (entry ∷ reverse (take i (reverse all)))
@@ -106,10 +92,6 @@ effect_reading older (Commit t) reply = refl
 effect_reading older (Abort t) reply = refl
 effect_reading older (WaitFor t) reply = refl
 
--- the entry with numbers takes effect as the entry with values does
-pub effect_numbered : (n : ℕ) (older : List Entry) (step : Step) (reply : Reply) → takes_effect (writing n step) (reading older step reply) ≡ takes_effect step reply
-effect_numbered n older step reply = effect_writing n step (reading older step reply) ∙ effect_reading older step reply
-
 -- ---- one more entry
 
 -- a legal entry finds tables ready for its step with its number
@@ -119,14 +101,14 @@ unfolding IsLegal renumbered
 numbered_ready opening older tables step reply n is stand legal effect =
     subst (λ (m : ℕ). IsReady (writing m step) tables) is
     (ready (zeroed opening) (applied (renumbered older)) tables (writing (length older) step) (reading older step reply) stand
-    (renumbered_legal opening ((step, reply) ∷ older) legal).0 (effect_numbered (length older) older step reply ∙ effect))
+    (renumbered_legal opening ((step, reply) ∷ older) legal).0 (effect_same (length older) older step reply ∙ effect))
 
 -- the steps that took effect, with one more
 applied_numbered : (older : List Entry) (step : Step) (reply : Reply) → applied ((writing (length older) step, reply) ∷ renumbered older) ≡ applied (renumbered ((step, reply) ∷ older))
 unfolding applied renumbered
 applied_numbered older step reply =
     ap (λ (effect : Bool). cond effect (writing (length older) step ∷ applied (renumbered older)) (applied (renumbered older)))
-    (effect_writing (length older) step reply ∙ sym (effect_numbered (length older) older step reply))
+    (effect_writing (length older) step reply ∙ sym (effect_same (length older) older step reply))
 
 -- the steps of a renumbered history are orderly
 orderly_numbered : (opening : Opening) (entries : List Entry) → IsLegal opening entries → IsOrderly (applied (renumbered entries))

@@ -1,8 +1,8 @@
 use Rattle.std.proofs.Common.{◌≡◌, ◌<◌, ◌∙◌, eqb, true, false, sym, ap, subst, refl, get_or, length, arith}
 use Rattle.std.proofs.lemmas.Bool.{true≢false, ne_eqb}
 use Rattle.asset_names.specs.Arrows.{lists}
+use Rattle.asset_names.proofs.ListLemmas.{lists_at}
 use Rattle.asset_marks.specs.Searched.{Expands}
-use Rattle.asset_marks.proofs.MarkLemmas.{lists_at}
 use Rattle.asset_marks.proofs.WalkLemmas.{walk_from, walk_on, walk_across}
 use Rattle.asset_marks.proofs.search.is_linked.Goals as goal
 

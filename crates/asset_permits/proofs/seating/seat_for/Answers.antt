@@ -1,6 +1,7 @@
 use Rattle.std.proofs.Common.{cond, eqb, Option, Some, sym, ap, ◌∙◌, arith}
 use Rattle.asset_names.specs.declared.names.Txn.{Txn}
-use Rattle.asset_permits.proofs.SeatLemmas.{on_any_err, grown_same, within_grown, within_sits, sits_down}
+use Rattle.asset_names.proofs.Common.{always_err}
+use Rattle.asset_permits.proofs.SeatLemmas.{grown_same, within_grown, within_sits, sits_down}
 use Rattle.asset_permits.proofs.seating.seat_for.Goals as goal
 
 pub returns-in_err-reserve-clause-within : goal.returns-in_err-reserve-clause-within
@@ -9,7 +10,7 @@ returns-in_err-reserve-clause-within c =
     (grown_same c.args.by_giver.now) (grown_same c.args.by_taker.now) c.reserve.ensures.seats (omega arith)
 
 pub returns-in_err-reserve-clause-unchanged : goal.returns-in_err-reserve-clause-unchanged
-returns-in_err-reserve-clause-unchanged c = on_any_err c.from_residual.result c.reserve.ensures.seats
+returns-in_err-reserve-clause-unchanged c = always_err c.from_residual.result c.reserve.ensures.seats
 
 pub returns-in_err-make_room-clause-within : goal.returns-in_err-make_room-clause-within
 returns-in_err-make_room-clause-within c =
@@ -17,7 +18,7 @@ returns-in_err-make_room-clause-within c =
     c.make_room.ensures.by_giver c.make_room.ensures.by_taker c.reserve.ensures.seats c.make_room.ensures.marks
 
 pub returns-in_err-make_room-clause-unchanged : goal.returns-in_err-make_room-clause-unchanged
-returns-in_err-make_room-clause-unchanged c = on_any_err c.from_residual-in_err-make_room.result c.reserve.ensures.seats
+returns-in_err-make_room-clause-unchanged c = always_err c.from_residual-in_err-make_room.result c.reserve.ensures.seats
 
 pub sit-requires-clause-absent : goal.sit-requires-clause-absent
 sit-requires-clause-absent c = λ d sat. c.in_default.ensures.absent d (sym (c.reserve.ensures.seats d) ∙ sat)

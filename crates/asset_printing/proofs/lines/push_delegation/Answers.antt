@@ -1,7 +1,8 @@
 use Rattle.std.proofs.Common.{◌<◌, ◌^◌, arith, rules}
 use Rattle.std.proofs.lemmas.Grind.{common_steps}
+use Rattle.asset_names.proofs.Common.{on_ok_two}
 use Rattle.asset_printing.specs.Printed.{step_text, step_words}
-use Rattle.asset_printing.proofs.StepLemmas.{on_ok_two, delegate_reads}
+use Rattle.asset_printing.proofs.StepLemmas.{delegate_reads}
 use Rattle.asset_printing.proofs.lines.push_delegation.Goals as goal
 
 pub returns-clause-text : goal.returns-clause-text

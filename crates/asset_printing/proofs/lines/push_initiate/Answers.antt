@@ -1,5 +1,6 @@
-use Rattle.asset_printing.proofs.StepLemmas.{always_ok, child_reads, initiate_reads}
+use Rattle.asset_printing.proofs.StepLemmas.{child_reads, initiate_reads}
 use Rattle.asset_printing.proofs.lines.push_initiate.Goals as goal
+use Rattle.asset_names.proofs.Common.{always_ok}
 
 pub returns-in-None-clause-reads : goal.returns-in-None-clause-reads
 returns-in-None-clause-reads c = rw c.in-None.is (always_ok c.push_one.result (initiate_reads c.args.t c.push_one.ensures.small))

@@ -1,8 +1,9 @@
 use Rattle.std.proofs.Common.{w64, arith}
 use Rattle.std.proofs.lemmas.Grind.{common_steps}
 use Rattle.std.proofs.lemmas.Int.{to_z-of_z}
+use Rattle.asset_names.proofs.Common.{always_ok}
 use Rattle.asset_printing.specs.Printed.{object_text}
-use Rattle.asset_printing.proofs.StepLemmas.{always_ok, object_reads}
+use Rattle.asset_printing.proofs.StepLemmas.{object_reads}
 use Rattle.asset_printing.proofs.lines.push_object.Goals as goal
 
 pub returns-clause-reads : goal.returns-clause-reads

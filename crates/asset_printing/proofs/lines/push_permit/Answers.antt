@@ -1,5 +1,6 @@
-use Rattle.asset_printing.proofs.StepLemmas.{on_ok_two, permit_reads}
+use Rattle.asset_printing.proofs.StepLemmas.{permit_reads}
 use Rattle.asset_printing.proofs.lines.push_permit.Goals as goal
+use Rattle.asset_names.proofs.Common.{on_ok_two}
 
 pub returns-clause-reads : goal.returns-clause-reads
 returns-clause-reads c =

@@ -1,7 +1,8 @@
 use Rattle.std.proofs.Common.{◌≡◌, w64, to_z, of_z, arith}
 use Rattle.std.proofs.lemmas.Int.{to_z-of_z}
 use Rattle.asset_names.specs.Steps.{value_asked}
-use Rattle.asset_printing.proofs.StepLemmas.{always_ok, abort_reads, begin_reads, commit_reads, complete_reads, depend_reads, read_reads, wait_reads, write_reads}
+use Rattle.asset_names.proofs.Common.{always_ok}
+use Rattle.asset_printing.proofs.StepLemmas.{abort_reads, begin_reads, commit_reads, complete_reads, depend_reads, read_reads, wait_reads, write_reads}
 use Rattle.asset_printing.proofs.lines.push_step.Goals as goal
 
 pub returns-in-Begin-clause-reads : goal.returns-in-Begin-clause-reads

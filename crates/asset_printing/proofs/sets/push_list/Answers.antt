@@ -1,6 +1,6 @@
 use Rattle.asset_printing.proofs.SetLemmas.{no_objects_small, one_small}
-use Rattle.asset_printing.proofs.StepLemmas.{on_ok}
 use Rattle.asset_printing.proofs.sets.push_list.Goals as goal
+use Rattle.asset_names.proofs.Common.{on_ok}
 
 pub returns-in-None-clause-small : goal.returns-in-None-clause-small
 returns-in-None-clause-small c = no_objects_small c.args.objects.now c.in-None.ensures.cases

@@ -1,6 +1,6 @@
 use Rattle.asset_printing.proofs.SetLemmas.{set_reads_all, set_lacks_all, set_reads_listed, set_lacks_listed}
-use Rattle.asset_printing.proofs.StepLemmas.{always_ok, on_ok}
 use Rattle.asset_printing.proofs.sets.push_set.Goals as goal
+use Rattle.asset_names.proofs.Common.{on_ok, always_ok}
 
 pub returns-in-All-clause-reads : goal.returns-in-All-clause-reads
 returns-in-All-clause-reads c = always_ok c.push_str.result (rw c.in-All.is set_reads_all)

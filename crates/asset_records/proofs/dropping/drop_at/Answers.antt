@@ -1,11 +1,13 @@
 use Rattle.std.proofs.Common.{◌≡◌, ◌+◌, ◌≤◌, Some, is_some, sym, ap, subst, ◌∙◌, arith}
 use Rattle.std.specs.Prelude.{Option, OnSome}
+use Rattle.asset_names.proofs.Common.{some_of}
 use Rattle.slab.specs.Slab.{get, slab_len}
 use Rattle.asset_chains.specs.Chained.{home_of}
 use Rattle.asset_chains.proofs.Laws.{key_within, unlinks}
+use Rattle.asset_chains.proofs.Walks.{chains_without, homes_without}
 use Rattle.asset_records.specs.declared.records.Record.{Record}
-use Rattle.asset_records.proofs.ListedLemmas.{some_of, home_of_owner}
-use Rattle.asset_records.proofs.DropLemmas.{chains_without, homes_without, dropped_valid, makes_room, rooms_of}
+use Rattle.asset_records.proofs.ListedLemmas.{home_of_owner}
+use Rattle.asset_records.proofs.DropLemmas.{dropped_valid, makes_room, rooms_of}
 use Rattle.asset_records.proofs.dropping.drop_at.Goals as goal
 
 pub unlink-requires : goal.unlink-requires

@@ -1,10 +1,11 @@
 use Rattle.std.proofs.Common.{Bool, cond, Some, is_some, refl, sym, ap, subst, ◌∙◌}
 use Rattle.std.proofs.lemmas.Bool.{eq-eqb}
+use Rattle.asset_names.proofs.Common.{some_of}
 use Rattle.asset_seats.specs.Seated.{seat}
 use Rattle.slab.specs.Slab.{Slab, get}
 use Rattle.asset_records.specs.Listed.{IsValid, has_room}
 use Rattle.asset_records.specs.declared.records.Record.{Record}
-use Rattle.asset_records.proofs.ListedLemmas.{some_of, home_of_owner}
+use Rattle.asset_records.proofs.ListedLemmas.{home_of_owner}
 use Rattle.asset_records.proofs.HandLemmas.{taker_chain, key_less, free_less, moved_valid, moved_room}
 use Rattle.asset_records.proofs.handing.move_at.Goals as goal
 

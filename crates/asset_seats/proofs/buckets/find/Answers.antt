@@ -1,10 +1,10 @@
 use Rattle.std.proofs.Common.{◌≡◌, ℕ, true, ◌<◌, length, Option, sym, ap, subst, ◌∙◌, ◌⊎◌, inl, arith}
 use Rattle.asset_names.specs.declared.names.Txn.{Txn}
+use Rattle.asset_names.proofs.Common.{one_txn}
 use Rattle.asset_chains.specs.Chained.{chain_of, lists}
 use Rattle.asset_chains.proofs.Laws.{chain_at_first, key_within}
 use Rattle.asset_chains.proofs.Walks.{from_key, from_first, next_home, walk_more, walk_ends, walk_less}
 use Rattle.asset_seats.specs.Bucketed.{name_in, no_name}
-use Rattle.asset_seats.proofs.SeatLemmas.{one_txn}
 use Rattle.asset_seats.proofs.buckets.find.Goals as goal
 
 pub keys-init : goal.keys-init

@@ -1,20 +1,21 @@
 use Rattle.std.proofs.Common.{List, false, sym, ap, subst, ◌∙◌, arith}
 use Rattle.asset_names.specs.declared.names.Ob.{Ob}
 use Rattle.asset_names.specs.OpSets.{OpSet}
+use Rattle.asset_names.proofs.Common.{always_err}
 use Rattle.asset_locks.specs.declared.lock.Lock.{Lock}
 use Rattle.asset_locks.specs.LockTable.{is_on, new_lock}
 use Rattle.asset_locks.specs.Valid.{is_some_op}
 use Rattle.asset_locks.specs.Stored.{number_in, IsAdded}
 use Rattle.asset_locks.proofs.StoreLemmas.{same_lock}
 use Rattle.asset_locks.proofs.OpsLemmas.{some_only}
-use Rattle.asset_locks.proofs.GrantLemmas.{grown_twice, added_later, on_error}
+use Rattle.asset_locks.proofs.GrantLemmas.{grown_twice, added_later}
 use Rattle.asset_locks.proofs.store.LockStore.add_lock.Goals as goal
 
 pub returns-in_err-number-clause-unchanged : goal.returns-in_err-number-clause-unchanged
-returns-in_err-number-clause-unchanged c = on_error c.from_residual.result c.number_for.ensures.grown
+returns-in_err-number-clause-unchanged c = always_err c.from_residual.result c.number_for.ensures.grown
 
 pub returns-in_err-key-clause-unchanged : goal.returns-in_err-key-clause-unchanged
-returns-in_err-key-clause-unchanged c = on_error c.from_residual-in_err-key.result (grown_twice c.args.self.now c.number_for.new.self c.reserve_key.new.self c.number_for.ensures.grown c.reserve_key.ensures.grown)
+returns-in_err-key-clause-unchanged c = always_err c.from_residual-in_err-key.result (grown_twice c.args.self.now c.number_for.new.self c.reserve_key.new.self c.number_for.ensures.grown c.reserve_key.ensures.grown)
 
 pub insert-requires-clause-room : goal.insert-requires-clause-room
 insert-requires-clause-room c = c.in_ok-key.ensures.room

@@ -1,9 +1,10 @@
 use Rattle.std.proofs.Common.{refl, sym, ap, ◌∙◌, is_some, subst}
+use Rattle.asset_names.proofs.Common.{some_of}
 use Rattle.asset_chains.specs.Chained.{home_of, IsSound}
 use Rattle.asset_chains.proofs.Laws.{key_within, unlinks}
 use Rattle.asset_chains.proofs.Walks.{chains_without, homes_without}
 use Rattle.asset_locks.specs.Stored.{Stored, IsDropped}
-use Rattle.asset_locks.proofs.StoreLemmas.{some_of, same_lock, stored_dropped}
+use Rattle.asset_locks.proofs.StoreLemmas.{same_lock, stored_dropped}
 use Rattle.asset_locks.proofs.store.LockStore.drop_lock.Goals as goal
 
 pub unlink-requires : goal.unlink-requires

@@ -1,6 +1,7 @@
 use Rattle.std.proofs.Common.{length, sym, ap, ◌∙◌, inl, arith}
+use Rattle.asset_names.proofs.Common.{always_err}
 use Rattle.asset_chains.specs.Chained.{Chained, home_of}
-use Rattle.asset_locks.proofs.GrantLemmas.{grants_again, suspends_again, grants_first, suspends_first, none_here, grown_same, on_error}
+use Rattle.asset_locks.proofs.GrantLemmas.{grants_again, suspends_again, grants_first, suspends_first, none_here, grown_same}
 use Rattle.asset_locks.proofs.store.LockStore.grant.Goals as goal
 
 pub take-requires : goal.take-requires
@@ -25,7 +26,7 @@ pub returns-in_err-key-in-None-clause-first : goal.returns-in_err-key-in-None-cl
 returns-in_err-key-in-None-clause-first c = λ failed. (none_here c.args.self.now c.laws.ensures.stored c.laws.ensures.owners c.args.c c.args.x c.in-None.ensures.none).0
 
 pub returns-in_err-key-in-None-clause-unchanged : goal.returns-in_err-key-in-None-clause-unchanged
-returns-in_err-key-in-None-clause-unchanged c = on_error c.from_residual.result (grown_same c.args.self.now c.add_lock.new.self c.in_err-key-in-None.ensures.unchanged)
+returns-in_err-key-in-None-clause-unchanged c = always_err c.from_residual.result (grown_same c.args.self.now c.add_lock.new.self c.in_err-key-in-None.ensures.unchanged)
 
 pub returns-in_ok-key-in-None-clause-own : goal.returns-in_ok-key-in-None-clause-own
 returns-in_ok-key-in-None-clause-own c = grants_first c.args.self.now c.laws.ensures.stored c.laws.ensures.owners c.args.c c.args.x c.take-in-None.new.self c.args.op c.in_ok-key-in-None.key c.add_lock.new.self c.in-None.ensures.none c.in_ok-key-in-None.ensures.added c.take-in-None.ensures.own

@@ -1,11 +1,12 @@
 use Rattle.std.proofs.Common.{◌≡◌, ℕ, ◌<◌, Bool, length, true, false, Some, is_some, refl, sym, ap, subst, ◌∙◌}
 use Rattle.asset_names.specs.declared.operations.Op.{Op}
 use Rattle.asset_names.specs.OpSets.{with_op}
+use Rattle.asset_names.proofs.Common.{some_of}
 use Rattle.asset_chains.specs.Chained.{home_of, IsSound}
 use Rattle.asset_chains.proofs.Laws.{key_within, unlinks, pushes}
 use Rattle.asset_locks.specs.LockTable.{both_conflict}
 use Rattle.asset_locks.specs.Stored.{Stored, lock_at, number_in, chain_for}
-use Rattle.asset_locks.proofs.StoreLemmas.{some_of, chains_fit, chain_there}
+use Rattle.asset_locks.proofs.StoreLemmas.{chains_fit, chain_there}
 use Rattle.asset_locks.proofs.OpsLemmas.{write_with_read, write_with_write}
 use Rattle.asset_locks.proofs.GrantLemmas.{stored_granted}
 use Rattle.asset_locks.proofs.SuspendLemmas.{in_chain}

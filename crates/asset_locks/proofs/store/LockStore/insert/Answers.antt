@@ -1,10 +1,11 @@
 use Rattle.std.proofs.Common.{◌≡◌, ℕ, ◌<◌, length, false, Some, is_some, refl, sym, ap, subst, ◌∙◌, arith}
+use Rattle.asset_names.proofs.Common.{none_of}
 use Rattle.slab.specs.Slab.{get, Updates}
 use Rattle.asset_chains.specs.Chained.{home_of}
 use Rattle.asset_chains.proofs.Laws.{IsPushed, pushes}
 use Rattle.asset_locks.specs.LockTable.{is_on}
 use Rattle.asset_locks.specs.Stored.{Stored, lock_at, number_in, IsAdded}
-use Rattle.asset_locks.proofs.StoreLemmas.{none_of, same_lock, read_lock, chains_fit, chain_there, stored_added}
+use Rattle.asset_locks.proofs.StoreLemmas.{same_lock, read_lock, chains_fit, chain_there, stored_added}
 use Rattle.asset_locks.proofs.store.LockStore.insert.Goals as goal
 
 pub chain_of-chain-requires : goal.chain_of-chain-requires

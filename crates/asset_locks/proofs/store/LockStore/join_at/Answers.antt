@@ -1,8 +1,9 @@
 use Rattle.std.proofs.Common.{◌<◌, Bool, length, true, Some, is_some, refl, sym, ap, subst, ◌∙◌}
+use Rattle.asset_names.proofs.Common.{some_of}
 use Rattle.asset_chains.specs.Chained.{home_of, IsSound}
 use Rattle.asset_chains.proofs.Laws.{key_within, unlinks, pushes}
 use Rattle.asset_locks.specs.Stored.{Stored, lock_at, number_in, chain_for}
-use Rattle.asset_locks.proofs.StoreLemmas.{some_of, chains_fit, chain_there}
+use Rattle.asset_locks.proofs.StoreLemmas.{chains_fit, chain_there}
 use Rattle.asset_locks.proofs.SuspendLemmas.{in_chain}
 use Rattle.asset_locks.proofs.HandLemmas.{stored_merged, both_write, both_read}
 use Rattle.asset_locks.proofs.store.LockStore.join_at.Goals as goal

@@ -1,9 +1,9 @@
 use Rattle.std.proofs.Common.{◌≡◌, ℕ, ◌<◌, length, Some, is_some, false, sym, ap, subst, ◌∙◌}
+use Rattle.asset_names.proofs.Common.{some_of}
 use Rattle.asset_chains.specs.Chained.{home_of, IsSound}
 use Rattle.asset_chains.proofs.Laws.{key_within, unlinks}
 use Rattle.asset_locks.specs.LockTable.{is_on}
 use Rattle.asset_locks.specs.Stored.{Stored, lock_at, IsMoved}
-use Rattle.asset_locks.proofs.StoreLemmas.{some_of}
 use Rattle.asset_locks.proofs.HandLemmas.{stored_moved, moved_homes, moved_chain}
 use Rattle.asset_locks.proofs.store.LockStore.move_key.Goals as goal
 

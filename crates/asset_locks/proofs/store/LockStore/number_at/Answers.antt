@@ -1,7 +1,8 @@
 use Rattle.std.proofs.Common.{◌≡◌, ◌/◌, ℕ, Some, sym, ap, ◌∙◌}
+use Rattle.asset_names.proofs.Common.{some_of}
 use Rattle.asset_chains.specs.Chained.{home_of}
 use Rattle.asset_locks.specs.Stored.{Stored, lock_at, chain_for}
-use Rattle.asset_locks.proofs.StoreLemmas.{some_of, half_chain}
+use Rattle.asset_locks.proofs.StoreLemmas.{half_chain}
 use Rattle.asset_locks.proofs.store.LockStore.number_at.Goals as goal
 
 pub returns : goal.returns

@@ -1,8 +1,8 @@
 use Rattle.std.proofs.Common.{Bool, is_some, refl, sym, ap, ◌∙◌, arith}
+use Rattle.asset_names.proofs.Common.{always_err}
 use Rattle.asset_permits.specs.Descriptors.{allows_by}
 use Rattle.asset_locks.specs.LockTable.{LockTable, is_on, is_free_in, enrolled_in, lock_in, wait_in, grant_in}
 use Rattle.asset_locks.specs.Valid.{answer_where, after_ask}
-use Rattle.asset_locks.proofs.GrantLemmas.{on_error}
 use Rattle.asset_locks.proofs.TableLemmas.{is_blocked_by, is_free_by, waits, grants, rows_kept, find_absent, lock_of_seat, nobody_seated}
 use Rattle.asset_locks.proofs.table.Locks.ask.Goals as goal
 
@@ -33,7 +33,7 @@ returns-in_err-grant-clause-first c = λ failed.
 
 pub returns-in_err-grant-clause-unchanged : goal.returns-in_err-grant-clause-unchanged
 returns-in_err-grant-clause-unchanged c =
-    on_error c.from_residual.result (rows_kept c.self.inside.seats c.self.inside.pending.items c.self.inside.order c.self.inside.store c.grant.new.self c.in_err-grant.ensures.unchanged ∙ c.self.view_is)
+    always_err c.from_residual.result (rows_kept c.self.inside.seats c.self.inside.pending.items c.self.inside.order c.self.inside.store c.grant.new.self c.in_err-grant.ensures.unchanged ∙ c.self.view_is)
 
 pub returns-clause-answer : goal.returns-clause-answer
 unfolding answer_where

@@ -1,10 +1,10 @@
 use Rattle.std.proofs.Common.{◌≡◌, ℕ, eqb, cond, Some, None, sym, ap, subst, ◌∙◌}
+use Rattle.asset_names.proofs.Common.{always_err}
 use Rattle.asset_chains.proofs.Laws.{pushes}
 use Rattle.asset_chains.proofs.SoundLemmas.{sound_same}
 use Rattle.asset_seats.specs.Seated.{seat}
 use Rattle.asset_locks.specs.LockTable.{LockTable, enrolled_in, enrol_in}
 use Rattle.asset_locks.specs.Stored.{enrolled_chain}
-use Rattle.asset_locks.proofs.GrantLemmas.{on_error}
 use Rattle.asset_locks.proofs.TableLemmas.{no_seat, seated_grown, rows_grown, seated_more, enrols}
 use Rattle.asset_locks.proofs.table.Locks.enrol_new.Goals as goal
 
@@ -12,7 +12,7 @@ pub invariant_of-self : goal.invariant_of-self
 invariant_of-self c = seated_grown c.self.inside.seats c.self.inside.pending.items c.self.inside.order c.self.inside.store c.self.invariant c.reserve_seat.new.seats c.reserve_seat.new.pending.items c.reserve_seat.new.order c.reserve_seat.new.store c.reserve_seat.ensures.same c.reserve_seat.ensures.store
 
 pub returns-in_err-c-clause-unchanged : goal.returns-in_err-c-clause-unchanged
-returns-in_err-c-clause-unchanged c = on_error c.from_residual.result (rows_grown c.self.inside.seats c.self.inside.pending.items c.self.inside.order c.self.inside.store c.self.invariant c.reserve_seat.new.seats c.reserve_seat.new.pending.items c.reserve_seat.new.order c.reserve_seat.new.store c.reserve_seat.ensures.same c.reserve_seat.ensures.store ∙ c.self.view_is)
+returns-in_err-c-clause-unchanged c = always_err c.from_residual.result (rows_grown c.self.inside.seats c.self.inside.pending.items c.self.inside.order c.self.inside.store c.self.invariant c.reserve_seat.new.seats c.reserve_seat.new.pending.items c.reserve_seat.new.order c.reserve_seat.new.store c.reserve_seat.ensures.same c.reserve_seat.ensures.store ∙ c.self.view_is)
 
 pub sit-requires-clause-absent : goal.sit-requires-clause-absent
 sit-requires-clause-absent c = (λ d sits. no_seat c.self.inside.seats c.self.inside.pending.items c.self.inside.order c.self.inside.store c.self.invariant c.laws.ensures.sound c.args.t (ap (λ (table : LockTable). enrolled_in table c.args.t.0) c.self.view_is ∙ c.requires) d (sym (c.reserve_seat.ensures.same.names d) ∙ sits))

@@ -1,10 +1,11 @@
 use Rattle.std.proofs.Common.{◌≡◌, ◌<◌, ◌||◌, false, length, Some, is_some, refl, sym, ap, subst, ◌∙◌, arith}
+use Rattle.asset_names.proofs.Common.{always_err}
 use Rattle.slab.specs.Slab.{Updates}
 use Rattle.asset_chains.proofs.Laws.{pushes}
 use Rattle.asset_permits.specs.Descriptors.{Descriptor, stands, one_covers, same_descriptor, lets}
 use Rattle.asset_permits.specs.Stored.{asked}
 use Rattle.asset_permits.specs.Valid.{parts, descriptors_of, IsValid}
-use Rattle.asset_permits.proofs.SeatLemmas.{grown_then, within_grown, used_same, on_any_err}
+use Rattle.asset_permits.proofs.SeatLemmas.{grown_then, within_grown, used_same}
 use Rattle.asset_permits.proofs.SlotLemmas.{any_added, stands_again, covers_again}
 use Rattle.asset_permits.proofs.TableLemmas.{slots_stand, valid_grown, valid_added}
 use Rattle.asset_permits.proofs.table.Permits.add_permit.Goals as goal
@@ -26,7 +27,7 @@ invariant_of-self c =
     (within_grown inside.by_giver inside.by_taker c.reserve.new.by_giver c.reserve.new.by_taker inside.seats inside.seats inside.marks.size inside.marks.size c.self.invariant.within c.reserve.ensures.by_giver c.reserve.ensures.by_taker (λ s. refl) (omega arith))
 
 pub returns-in_err-reserve-clause-unchanged : goal.returns-in_err-reserve-clause-unchanged
-returns-in_err-reserve-clause-unchanged c = on_any_err c.from_residual.result (slots_stand c.self.inside.permits c.reserve.new.permits c.reserve.ensures.slots ∙ c.self.view_is)
+returns-in_err-reserve-clause-unchanged c = always_err c.from_residual.result (slots_stand c.self.inside.permits c.reserve.new.permits c.reserve.ensures.slots ∙ c.self.view_is)
 
 pub invariant_of-self-in_err-permit : goal.invariant_of-self-in_err-permit
 invariant_of-self-in_err-permit c =
@@ -36,7 +37,7 @@ invariant_of-self-in_err-permit c =
     (within_grown inside.by_giver inside.by_taker c.reserve.new.by_giver c.reserve.new.by_taker inside.seats inside.seats inside.marks.size inside.marks.size c.self.invariant.within c.reserve.ensures.by_giver c.reserve.ensures.by_taker (λ s. refl) (omega arith))
 
 pub returns-in_err-permit-clause-unchanged : goal.returns-in_err-permit-clause-unchanged
-returns-in_err-permit-clause-unchanged c = on_any_err c.from_residual-in_err-permit.result (slots_stand c.self.inside.permits c.reserve.new.permits c.reserve.ensures.slots ∙ c.self.view_is)
+returns-in_err-permit-clause-unchanged c = always_err c.from_residual-in_err-permit.result (slots_stand c.self.inside.permits c.reserve.new.permits c.reserve.ensures.slots ∙ c.self.view_is)
 
 pub seat_both-requires-clause-used : goal.seat_both-requires-clause-used
 seat_both-requires-clause-used c = λ s.
@@ -52,7 +53,7 @@ invariant_of-self-in_err-from c =
     valid_grown inside.permits c.reserve.new.permits inside.by_giver both.by_giver inside.by_taker both.by_taker inside.seats both.seats inside.marks.size both.marks.size c.self.invariant c.reserve.ensures.slots given taken c.in_err-from.ensures.unchanged c.seat_both.ensures.within
 
 pub returns-in_err-from-clause-unchanged : goal.returns-in_err-from-clause-unchanged
-returns-in_err-from-clause-unchanged c = on_any_err c.from_residual-in_err-from.result (slots_stand c.self.inside.permits c.reserve.new.permits c.reserve.ensures.slots ∙ c.self.view_is)
+returns-in_err-from-clause-unchanged c = always_err c.from_residual-in_err-from.result (slots_stand c.self.inside.permits c.reserve.new.permits c.reserve.ensures.slots ∙ c.self.view_is)
 
 pub invariant_of-self-2 : goal.invariant_of-self-2
 invariant_of-self-2 c =

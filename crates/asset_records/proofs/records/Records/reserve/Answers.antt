@@ -1,11 +1,12 @@
 use Rattle.std.proofs.Common.{◌≡◌, ◌⊎◌, ℕ, inl, inr, length, refl, sym, ap, ◌∙◌, arith}
 use Rattle.std.proofs.lemmas.Bool.{true≢false}
 use Rattle.std.proofs.lemmas.Result.{on_ok_weaker}
+use Rattle.asset_chains.proofs.Walks.{chain_same, home_same}
 use Rattle.slab.specs.Slab.{Slab, slab_len}
 use Rattle.asset_records.specs.declared.records.Record.{Record}
 use Rattle.asset_records.proofs.ListedLemmas.{has_reserved, valid_slots}
 use Rattle.asset_records.proofs.DropLemmas.{rooms_of, makes_room}
-use Rattle.asset_records.proofs.ReserveLemmas.{reserve_valid, lists_kept, shown_room, chain_same, home_same}
+use Rattle.asset_records.proofs.ReserveLemmas.{reserve_valid, lists_kept, shown_room}
 use Rattle.asset_records.proofs.StretchLemmas.{spared_kept, spared_lesser, spared_slots}
 use Rattle.asset_records.proofs.records.Records.reserve.Goals as goal
 

@@ -1,15 +1,16 @@
 use Rattle.std.proofs.Common.{◌≡◌, ℕ, ◌+◌, ◌<◌, length, List, refl, ap, subst, ◌∙◌, arith}
 use Rattle.asset_names.specs.declared.names.Txn.{Txn}
+use Rattle.asset_names.proofs.Common.{always_err}
 use Rattle.asset_chains.specs.Chained.{Chained, home_of, pushed}
 use Rattle.asset_chains.proofs.Laws.{key_more-home, key_more-keys, key_more-chains}
 use Rattle.asset_seats.specs.Bucketed.{AreSeated}
-use Rattle.asset_seats.proofs.GrowLemmas.{on_any_err, home_past, seats_same, rest_same, names_valid, added_keys, added_valid, added_taken, added_last}
+use Rattle.asset_seats.proofs.GrowLemmas.{home_past, seats_same, rest_same, names_valid, added_keys, added_valid, added_taken, added_last}
 use Rattle.asset_seats.proofs.SeatLemmas.{vacant_of, room_of, many_at, many_are}
 use Rattle.asset_seats.proofs.seats.Seats.add_seat.Goals as goal
 
 pub returns-in_err-widen-clause-unchanged : goal.returns-in_err-widen-clause-unchanged
 returns-in_err-widen-clause-unchanged c =
-    on_any_err c.from_residual.result
+    always_err c.from_residual.result
     (rest_same c.self.inside.names.items c.self.inside.names.items c.self.inside.chains c.widen.new.chains c.args.self.now c.self.view_is c.widen.ensures.free c.widen.ensures.keys)
 
 pub returns-in_err-widen-clause-seats : goal.returns-in_err-widen-clause-seats
@@ -18,7 +19,7 @@ returns-in_err-widen-clause-seats c =
 
 pub returns-in_err-add_name-clause-unchanged : goal.returns-in_err-add_name-clause-unchanged
 returns-in_err-add_name-clause-unchanged c =
-    on_any_err c.from_residual-in_err-add_name.result
+    always_err c.from_residual-in_err-add_name.result
     (rest_same c.self.inside.names.items c.add_name.new.names.items c.self.inside.chains c.widen.new.chains c.args.self.now c.self.view_is c.widen.ensures.free c.widen.ensures.keys)
 
 pub returns-in_err-add_name-clause-seats : goal.returns-in_err-add_name-clause-seats
