@@ -1,14 +1,10 @@
 -- More chains and keys.
-use Rattle.std.proofs.Common.{◌≡◌, ℕ, ◌≤◌, true, List, [], ◌∷◌, length, Option, None, Result, Ok, Err, OnErr, refl, ap, arith}
-use Rattle.std.specs.Prelude.{slice_index_or, is_some}
-use Rattle.std.proofs.lemmas.Bool.{false≢true}
-use Rattle.asset_chains.specs.Chained.{Chained, chain_of, home_of, first_of, lists}
+use Rattle.std.proofs.Common.{◌≡◌, ℕ, ◌≤◌, List, [], length, Option, None, ap, arith, refl}
+use Rattle.std.specs.Prelude.{slice_index_or}
+use Rattle.asset_chains.specs.Chained.{Chained, chain_of, home_of}
 use Rattle.asset_deps.specs.Changes.{IsGrown}
 
 -- what holds in any case holds if there is an error
-pub on_any_err : {T E Q : Type 0} (r : Result T E) → Q → OnErr r Q
-on_any_err (Ok x) q = tt
-on_any_err (Err e) q = q
 
 pub grown_same : (table : Chained) → IsGrown table table
 grown_same table = record { chains = λ c. refl; homes = λ k. refl; more = omega arith; more_keys = omega arith }
@@ -30,8 +26,3 @@ grown_chains old new chains homes more = record {
   more = more;
   more_keys = omega (arith, ap length homes);
 }
-
--- a chain that lists a key is not empty
-pub first_some : (keys : List ℕ) (k : ℕ) → lists keys k ≡ true → is_some (first_of keys) ≡ true
-first_some [] k h = absurd (false≢true h)
-first_some (y ∷ keys) k h = refl

@@ -4,9 +4,11 @@ use Rattle.std.specs.List.{list_any}
 use Rattle.asset_names.specs.declared.steps.Kind.{Kind}
 use Rattle.asset_names.specs.declared.steps.Kind.TheVariants.{Cd, Ad, Gc}
 use Rattle.asset_names.specs.Arrows.{Arrow, linked, has_arrow}
-use Rattle.asset_names.specs.Paths.{same_kind, both_ways, leads}
+use Rattle.asset_names.specs.Paths.{same_kind, leads}
 use Rattle.asset_names.proofs.PermitLemmas.{linked_same}
-use Rattle.asset_marks.proofs.KeyedLemmas.{arrow-append, turned_leads}
+use Rattle.asset_names.proofs.ListLemmas.{any_alike, any_of_two}
+use Rattle.asset_names.proofs.DependLemmas.{has_append, has_both}
+use Rattle.asset_marks.proofs.KeyedLemmas.{turned_leads}
 use Rattle.asset_deps.specs.declared.kinds.Kinds.{Kinds}
 use Rattle.asset_deps.specs.declared.kinds.Kinds.TheVariants.{Class, Dooming, Order, All}
 use Rattle.asset_deps.specs.Dependencies.{Dependency, arrows_of, class_ways, order_ways, doom_ways, class_in, doomed_in}
@@ -34,23 +36,9 @@ pub arrow_of : (kind : Kind) (ds : List Dependency) (u v : ℕ) → has_arrow (a
 unfolding arrows_of
 arrow_of kind ds u v = arrows_pass (λ (d : Dependency). same_kind kind d.kind) ds u v
 
--- a test that is two tests in one
-any_either : {X : Type 0} (both one other : X → Bool) (xs : List X) → ((x : X) → both x ≡ (one x || other x)) → list_any both xs ≡ (list_any one xs || list_any other xs)
-any_either both one other [] is = refl
-any_either both one other (x ∷ xs) is = (λ i. is x i || any_either both one other xs is i) ∙ regroup (one x) (other x) (list_any one xs) (list_any other xs) where
-  regroup : (a b c d : Bool) → ((a || b) || (c || d)) ≡ ((a || c) || (b || d))
-  regroup true b c d = refl
-  regroup false true true d = refl
-  regroup false true false d = refl
-  regroup false false c d = refl
-
-any_alike : {X : Type 0} (one other : X → Bool) (xs : List X) → ((x : X) → one x ≡ other x) → list_any one xs ≡ list_any other xs
-any_alike one other [] is = refl
-any_alike one other (x ∷ xs) is = λ i. is x i || any_alike one other xs is i
-
 -- kinds that are those of one set or of another
 either_kind : (both one other : Dependency → Bool) (ds : List Dependency) (u v : ℕ) → ((d : Dependency) → both d ≡ (one d || other d)) → list_any (joins both u v) ds ≡ (list_any (joins one u v) ds || list_any (joins other u v) ds)
-either_kind both one other ds u v is = any_either (joins both u v) (joins one u v) (joins other u v) ds (λ d. ap (λ b. b && eqb d.source u && eqb d.dependent v) (is d) ∙ spread (one d) (other d) (eqb d.source u) (eqb d.dependent v)) where
+either_kind both one other ds u v is = any_of_two (joins both u v) (joins one u v) (joins other u v) ds (λ d. ap (λ b. b && eqb d.source u && eqb d.dependent v) (is d) ∙ spread (one d) (other d) (eqb d.source u) (eqb d.dependent v)) where
   spread : (a b c d : Bool) → ((a || b) && c && d) ≡ ((a && c && d) || (b && c && d))
   spread true true true true = refl
   spread true true true false = refl
@@ -84,7 +72,7 @@ unfolding depends_by of_kinds has_kind same_kind order_ways
 by_order ds u v =
     either_kind (of_kinds Order) (λ (d : Dependency). same_kind Cd d.kind) (λ (d : Dependency). same_kind Ad d.kind) ds u v (λ d. one d.kind)
     ∙ (λ i. sym (arrow_of Cd ds u v) i || sym (arrow_of Ad ds u v) i)
-    ∙ sym (arrow-append (arrows_of Cd ds) (arrows_of Ad ds) u v) where
+    ∙ sym (has_append (arrows_of Cd ds) (arrows_of Ad ds) u v) where
       one : (k : Kind) → has_kind Order k ≡ (same_kind Cd k || same_kind Ad k)
       one Cd = refl
       one Ad = refl
@@ -99,27 +87,11 @@ by_all ds u v =
       one Ad = refl
       one Gc = refl
 
--- an arrow both ways
-pub both_lead : (arrows : List Arrow) (u v : ℕ) → has_arrow (both_ways arrows) u v ≡ (has_arrow arrows u v || has_arrow arrows v u)
-unfolding has_arrow both_ways
-both_lead [] u v = refl
-both_lead (arrow ∷ arrows) u v =
-    ap (λ b. eqb arrow.0 u && eqb arrow.1 v || (eqb arrow.1 u && eqb arrow.0 v || b)) (both_lead arrows u v)
-    ∙ go (eqb arrow.0 u && eqb arrow.1 v) (eqb arrow.1 u) (eqb arrow.0 v) (has_arrow arrows u v) (has_arrow arrows v u) where
-      go : (a b c d e : Bool) → (a || (b && c || (d || e))) ≡ ((a || d) || (c && b || e))
-      go true b c d e = refl
-      go false true true true e = refl
-      go false true true false e = refl
-      go false true false d true = refl
-      go false true false d false = refl
-      go false false true d e = refl
-      go false false false d e = refl
-
 -- the arrows of a search: those of the kinds, and those of group commits turned round
 pub way_in : (kinds : Kinds) (ds : List Dependency) (u v : ℕ) → has_arrow (ways_in kinds ds) u v ≡ (depends_by kinds ds u v || depends_by Class ds v u)
 unfolding ways_in
 way_in kinds ds u v =
-    arrow-append (arrows_in kinds ds) (map (λ (arrow : Arrow). (arrow.1, arrow.0)) (arrows_in Class ds)) u v
+    has_append (arrows_in kinds ds) (map (λ (arrow : Arrow). (arrow.1, arrow.0)) (arrows_in Class ds)) u v
     ∙ (λ i. arrow_in kinds ds u v i || (turned_leads (arrows_in Class ds) u v ∙ arrow_in Class ds v u) i)
 
 swap : (a b c : Bool) → ((a || b) || c) ≡ ((a || c) || b)
@@ -131,7 +103,7 @@ swap false false false = refl
 
 class_way : (ds : List Dependency) (u v : ℕ) → has_arrow (class_ways ds) u v ≡ (has_arrow (arrows_of Gc ds) u v || has_arrow (arrows_of Gc ds) v u)
 unfolding class_ways
-class_way ds u v = both_lead (arrows_of Gc ds) u v
+class_way ds u v = has_both (arrows_of Gc ds) u v
 
 pub class_linked : (ds : List Dependency) (a b : ℕ) → linked (ways_in Class ds) a b ≡ class_in ds a b
 unfolding class_in
@@ -145,7 +117,7 @@ doom_linked ds a b =
     ∙ (λ i. by_dooming ds u v i || by_group ds v u i)
     ∙ swap (has_arrow (arrows_of Gc ds) u v) (has_arrow (arrows_of Ad ds) u v) (has_arrow (arrows_of Gc ds) v u)
     ∙ ap (λ b. b || has_arrow (arrows_of Ad ds) u v) (sym (class_way ds u v))
-    ∙ sym (arrow-append (class_ways ds) (arrows_of Ad ds) u v)) a b
+    ∙ sym (has_append (class_ways ds) (arrows_of Ad ds) u v)) a b
 
 pub path_linked : (ds : List Dependency) (a b : ℕ) → linked (ways_in All ds) a b ≡ leads (class_ways ds) (order_ways ds) a b
 unfolding leads
@@ -155,4 +127,4 @@ path_linked ds a b =
     ∙ (λ i. by_all ds u v i || by_group ds v u i)
     ∙ swap (has_arrow (arrows_of Gc ds) u v) (has_arrow (order_ways ds) u v) (has_arrow (arrows_of Gc ds) v u)
     ∙ ap (λ b. b || has_arrow (order_ways ds) u v) (sym (class_way ds u v))
-    ∙ sym (arrow-append (class_ways ds) (order_ways ds) u v)) a b
+    ∙ sym (has_append (class_ways ds) (order_ways ds) u v)) a b

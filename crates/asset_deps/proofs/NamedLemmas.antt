@@ -5,21 +5,22 @@ use Rattle.slab.specs.Slab.{Slab, get}
 use Rattle.asset_names.specs.declared.names.Txn.{Txn}
 use Rattle.asset_names.specs.Arrows.{Arrow, linked, lists, has_arrow}
 use Rattle.asset_names.proofs.Arrows.{linked_refl}
+use Rattle.asset_names.proofs.Common.{some_of, both_follow}
+use Rattle.asset_names.proofs.DependLemmas.{has_append}
 use Rattle.asset_chains.specs.Chained.{Chained, home_of}
 use Rattle.asset_seats.specs.Seated.{seat}
 use Rattle.asset_marks.specs.Marked.{Met}
 use Rattle.asset_marks.specs.Searched.{arrows_from, arrows_along, leads_to}
 use Rattle.asset_marks.proofs.ArrowLemmas.{linked_step, kept_linked, closed_linked}
-use Rattle.asset_marks.proofs.KeyedLemmas.{arrow-append, turned, turned_leads, turned_append, linked_turned, arrows_turned, item_leads, item_of_arrow, leads_by}
+use Rattle.asset_marks.proofs.KeyedLemmas.{turned, turned_leads, turned_append, linked_turned, arrows_turned, item_leads, item_of_arrow, leads_by}
 use Rattle.asset_marks.proofs.SlotLemmas.{any_has, key_of_any}
-use Rattle.asset_marks.proofs.MarkLemmas.{same_truth}
 use Rattle.asset_deps.specs.declared.kinds.Kinds.{Kinds}
 use Rattle.asset_deps.specs.declared.kinds.Kinds.TheVariants.{Class}
 use Rattle.asset_deps.specs.Dependencies.{Dependency}
 use Rattle.asset_deps.specs.Reached.{of_kinds, depends_by, ways_in, seat_ways}
 use Rattle.asset_deps.specs.Valid.{Parts, dependencies_of, marked_of, AreTaken, IsValid}
 use Rattle.asset_deps.proofs.KindLemmas.{joins, way_in}
-use Rattle.asset_deps.proofs.SeatLemmas.{some_of, marked_seat, seat_marked}
+use Rattle.asset_deps.proofs.SeatLemmas.{marked_seat, seat_marked}
 
 -- ---- a dependency and its two seats
 pub record HasEnds (p : Parts) (k : ℕ) (d : Dependency) : Type 0 where
@@ -112,7 +113,7 @@ module _ (p : Parts) (size : ℕ) (marked : Met) (valid : IsValid p size marked)
       ≡ (has_arrow (arrows_along (of_kinds kinds) p.links p.along p.across) c d || has_arrow (arrows_along (of_kinds Class) p.links p.along p.across) d c)
   unfolding seat_ways
   seat_way kinds c d =
-      arrow-append (arrows_along (of_kinds kinds) p.links p.along p.across) (arrows_along (of_kinds Class) p.links p.across p.along) c d
+      has_append (arrows_along (of_kinds kinds) p.links p.along p.across) (arrows_along (of_kinds Class) p.links p.across p.along) c d
       ∙ ap (λ b. has_arrow (arrows_along (of_kinds kinds) p.links p.along p.across) c d || b) (back_is Class c d)
 
   way_named : (kinds : Kinds) (c d : ℕ) → has_arrow (seat_ways kinds p.links p.along p.across) c d ≡ true → Between p (λ u v. has_arrow (ways_in kinds (dependencies_of p.links)) u v ≡ true) c d
@@ -143,7 +144,7 @@ module _ (p : Parts) (size : ℕ) (marked : Met) (valid : IsValid p size marked)
 
   -- ---- one who has no seat leads to nobody, and nobody to it
   pub leads_to_nobody : (kinds : Kinds) (t : Txn) (n : ℕ) → ((c : ℕ) → seat p.seats c ≡ Some t → ⊥) → linked (ways_in kinds (dependencies_of p.links)) t.0 n ≡ eqb t.0 n
-  leads_to_nobody kinds t n absent = same_truth _ _ to (λ same. subst (λ k. linked (ways_in kinds (dependencies_of p.links)) t.0 k ≡ true) (eqb-true t.0 n same) (linked_refl (ways_in kinds (dependencies_of p.links)) t.0)) where
+  leads_to_nobody kinds t n absent = both_follow _ _ to (λ same. subst (λ k. linked (ways_in kinds (dependencies_of p.links)) t.0 k ≡ true) (eqb-true t.0 n same) (linked_refl (ways_in kinds (dependencies_of p.links)) t.0)) where
     closed : (u v : ℕ) → has_arrow (ways_in kinds (dependencies_of p.links)) u v ≡ true → eqb t.0 u ≡ true → eqb t.0 v ≡ true
     closed u v arrow is = let found = named_way kinds u v arrow in absurd (absent found.first (found.from ∙ (λ i. Some (record { 0 = sym (eqb-true t.0 u is) i }))))
 
@@ -187,7 +188,7 @@ module _ (p : Parts) (size : ℕ) (marked : Met) (valid : IsValid p size marked)
 
     pub linked_named : (kinds : Kinds) (a b : ℕ) (t u : Txn) → seat p.seats a ≡ Some t → seat p.seats b ≡ Some u → linked (seat_ways kinds p.links p.along p.across) a b ≡ linked (ways_in kinds (dependencies_of p.links)) t.0 u.0
     linked_named kinds a b t u sat other =
-        same_truth _ _
+        both_follow _ _
         (λ way.
         let found = reached_name kinds a b t sat way in
         let same : Some found.0 ≡ Some u = sym found.1 ∙ other in
@@ -224,10 +225,11 @@ module _ (p : Parts) (size : ℕ) (marked met : Met) (valid : IsValid p size mar
     dependents = valid.dependents;
     within = λ c there. let old = valid.within c there in (old.0, old.1, old.2, rw same_size old.3);
     taken = met_taken;
+    single = valid.single;
   }
 
   pub marked_reached : (n : ℕ) → lists (marked_of p.seats met.nodes) n ≡ linked (ways_in kinds (dependencies_of p.links)) t.0 n
-  marked_reached n = same_truth _ _ to back where
+  marked_reached n = both_follow _ _ to back where
     to : lists (marked_of p.seats met.nodes) n ≡ true → linked (ways_in kinds (dependencies_of p.links)) t.0 n ≡ true
     to h =
         let found = marked_seat p.seats met.nodes n met_taken h in

@@ -5,21 +5,14 @@ use Rattle.std.specs.List.{IsDistinct}
 use Rattle.std.proofs.lemmas.Bool.{or_cases, or_left, or_right, and_from, and_parts, eqb-true, eqb-false, eq-eqb, ne_eqb, true≢false, false≢true}
 use Rattle.asset_names.specs.declared.names.Txn.{Txn}
 use Rattle.asset_names.specs.Arrows.{lists}
-use Rattle.asset_names.proofs.Common.{eqb-flip}
+use Rattle.asset_names.proofs.Common.{eqb-flip, some_of, one_txn, both_follow}
+use Rattle.asset_names.proofs.ListLemmas.{lists_at}
 use Rattle.asset_chains.specs.Chained.{lists as lists_key}
 use Rattle.asset_chains.proofs.Walks.{distinct_map}
 use Rattle.asset_seats.specs.Seated.{Seated, seat}
-use Rattle.asset_marks.proofs.MarkLemmas.{same_truth, lists_at}
 use Rattle.asset_marks.proofs.WalkLemmas.{lists_left, lists_right, one_listed}
 use Rattle.std.proofs.lemmas.List.{map-append}
 use Rattle.asset_deps.specs.Valid.{names_of, name_at, marked_of, AreTaken}
-
-pub some_of : {X : Type 0} (o : Option X) → is_some o ≡ true → (x : X) × (o ≡ Some x)
-some_of None h = absurd (true≢false (sym h))
-some_of (Some x) h = (x, refl)
-
-pub one_txn : (t u : Txn) → t.0 ≡ u.0 → t ≡ u
-one_txn t u same = λ i. record { 0 = same i }
 
 -- ---- who is enrolled
 abbrev in_seats : List (Option Txn) → List ℕ
@@ -80,7 +73,7 @@ names_same old new same = slots_same old.slots new.slots same
 
 -- one more is enrolled
 pub names_enrolled : (old new : Seated) (s : ℕ) (t : Txn) → seat old s ≡ None → ((c : ℕ) → seat new c ≡ cond (eqb c s) (Some t) (seat old c)) → (n : ℕ) → lists (names_of new) n ≡ (lists (names_of old) n || eqb n t.0)
-names_enrolled old new s t free sits n = same_truth _ _ to back where
+names_enrolled old new s t free sits n = both_follow _ _ to back where
   to : lists (names_of new) n ≡ true → (lists (names_of old) n || eqb n t.0) ≡ true
   to h =
       let found = seat_named new n h in
@@ -103,7 +96,7 @@ names_enrolled old new s t free sits n = same_truth _ _ to back where
 
 -- one is enrolled no longer
 pub names_left : (old new : Seated) (s : ℕ) (t : Txn) → seat old s ≡ Some t → ((c : ℕ) → seat old c ≡ Some t → c ≡ s) → ((c : ℕ) → seat new c ≡ cond (eqb c s) None (seat old c)) → (n : ℕ) → lists (names_of new) n ≡ (lists (names_of old) n && not (eqb n t.0))
-names_left old new s t sat alone leaves n = same_truth _ _ to back where
+names_left old new s t sat alone leaves n = both_follow _ _ to back where
   to : lists (names_of new) n ≡ true → (lists (names_of old) n && not (eqb n t.0)) ≡ true
   to h =
       let found = seat_named new n h in
@@ -171,7 +164,7 @@ seat_marked seats nodes c t sat listed = ap (lists (map (name_at seats) nodes)) 
 
 -- a transaction is marked where its seat is
 pub marked_is : (seats : Seated) (nodes : List ℕ) (c : ℕ) (t : Txn) → AreTaken seats nodes → seat seats c ≡ Some t → ((d : ℕ) → seat seats d ≡ Some t → d ≡ c) → lists nodes c ≡ lists (marked_of seats nodes) t.0
-marked_is seats nodes c t taken sat alone = same_truth _ _ (seat_marked seats nodes c t sat) (λ h.
+marked_is seats nodes c t taken sat alone = both_follow _ _ (seat_marked seats nodes c t sat) (λ h.
     let found = marked_seat seats nodes t.0 taken h in
     subst (λ d. lists nodes d ≡ true) (alone found.0 found.2) found.1)
 

@@ -8,13 +8,12 @@ use Rattle.asset_names.specs.declared.names.Txn.{Txn}
 use Rattle.asset_names.specs.declared.steps.Kind.{Kind}
 use Rattle.asset_names.specs.Arrows.{lists, has_arrow}
 use Rattle.asset_names.specs.Paths.{same_kind}
-use Rattle.asset_names.proofs.Common.{eqb-flip}
+use Rattle.asset_names.proofs.Common.{eqb-flip, some_of, both_follow}
 use Rattle.asset_chains.specs.Chained.{Chained, home_of}
 use Rattle.asset_chains.proofs.Laws.{IsPushed}
 use Rattle.asset_chains.proofs.SoundLemmas.{no_home_of}
 use Rattle.asset_seats.specs.Seated.{Seated, seat}
 use Rattle.asset_marks.specs.Marked.{Met}
-use Rattle.asset_marks.proofs.MarkLemmas.{same_truth}
 use Rattle.asset_marks.proofs.SlotLemmas.{any_has, key_of_any, any_added, any_dropped, IsRid}
 use Rattle.asset_deps.specs.Dependencies.{Dependency, DepTable, arrows_of}
 use Rattle.asset_deps.specs.Valid.{Parts, parts, dependencies_of, names_of, marked_of, IsPlaced, IsNamed, IsWithin, IsValid}
@@ -22,7 +21,7 @@ use Rattle.asset_deps.specs.Changes.{IsGrown, Shrinks}
 use Rattle.asset_deps.proofs.KindLemmas.{joins, arrow_of}
 use Rattle.asset_deps.proofs.LinkLemmas.{kind_is, kind_self}
 use Rattle.asset_deps.proofs.NamedLemmas.{has_across, joins_parts, joins_from, joins_source, joins_dependent}
-use Rattle.asset_deps.proofs.SeatLemmas.{some_of, named_seat, marked_seat, seat_marked, marked_same, nobody_marked, nothing_marked, names_same}
+use Rattle.asset_deps.proofs.SeatLemmas.{named_seat, marked_seat, seat_marked, marked_same, nobody_marked, nothing_marked, names_same}
 
 -- the dependencies of a kind
 abbrev pub of_kind : Kind → Dependency → Bool
@@ -96,6 +95,7 @@ valid_nothing links along across seats size marked none homes homes_across nobod
   dependents = λ k c d there home. cc (sym there ∙ nothing k);
   within = λ c sat. absurd (true≢false (sym sat ∙ ap is_some (nobody c)));
   taken = λ c listed. absurd (true≢false (sym listed ∙ ap (λ (l : List ℕ). list_any (λ m. eqb m c) l) unmarked));
+  single = λ j k d here there. cc (sym there ∙ nothing k);
 } where
   nothing : (k : ℕ) → get links k ≡ None
   nothing k = ap (λ (l : List (Option Dependency)). slice_index_or l k None) none
@@ -124,6 +124,7 @@ module _ (links more : Slab Dependency) (along longer across longer_across : Cha
     dependents = λ k c d there home. kept c (record { 0 = d.dependent }) (valid.dependents k c d (sym (slot_same k) ∙ there) (sym (back.homes k) ∙ home));
     within = within;
     taken = λ c listed. let t = some_of (seat seats c) (valid.taken c (ap (λ (l : List ℕ). lists l c) (sym nodes) ∙ listed)) in ap is_some (kept c t.0 t.1);
+    single = λ j k d here there. valid.single j k d (sym (slot_same j) ∙ here) (sym (slot_same k) ∙ there);
   }
 
   -- the seats that were there have their room still
@@ -148,7 +149,7 @@ sits_still s t old new free sits c u sat = sits c ∙ ap (λ b. cond b (Some t) 
 
 -- ---- one more dependency
 module _ (links more : Slab Dependency) (along longer across longer_across : Chained) (seats : Seated) (size : ℕ) (marked : Met) (d : Dependency) (key from to : ℕ) (valid : IsValid (parts links along across seats) size marked)
-    (source : seat seats from ≡ Some (record { 0 = d.source })) (dependent : seat seats to ≡ Some (record { 0 = d.dependent })) (put : Updates links more key (Some d)) (on : IsPushed from key along longer) (back : IsPushed to key across longer_across) where
+    (source : seat seats from ≡ Some (record { 0 = d.source })) (dependent : seat seats to ≡ Some (record { 0 = d.dependent })) (put : Updates links more key (Some d)) (on : IsPushed from key along longer) (back : IsPushed to key across longer_across) (new : (k : ℕ) → get links k ≡ Some d → ⊥) where
   pub valid_added : IsValid (parts more longer longer_across seats) size marked
   valid_added = record {
     placed = record { along = placed; across = placed_across };
@@ -156,6 +157,7 @@ module _ (links more : Slab Dependency) (along longer across longer_across : Cha
     dependents = dependents;
     within = λ c sat. let old = valid.within c sat in (omega (arith, old.0, on.same_chains), omega (arith, old.1, back.same_chains), old.2, old.3);
     taken = valid.taken;
+    single = single;
   } where
     placed : (k : ℕ) → is_some (get more k) ≡ is_some (home_of longer k)
     placed k = elim (cases_eq k key) [
@@ -189,6 +191,21 @@ module _ (links more : Slab Dependency) (along longer across longer_across : Cha
           let is : e ≡ d = cc same in
           ap (seat seats) at ∙ dependent ∙ (λ i. Some (record { 0 = (sym is i).dependent }))
       | inr other ↦ valid.dependents k c e (sym (put.others k other) ∙ there) (sym (back.homes k other) ∙ home)
+    ]
+
+    twice : (k : ℕ) (e : Dependency) → (k ≡ key → ⊥) → get more k ≡ Some e → get more key ≡ Some e → ⊥
+    twice k e other there here = let same : Some e ≡ Some d = sym here ∙ put.changed in new k (sym (put.others k other) ∙ there ∙ same)
+
+    single : (j k : ℕ) (e : Dependency) → get more j ≡ Some e → get more k ≡ Some e → j ≡ k
+    single j k e here there = elim (cases_eq j key) [
+      | inl first ↦ elim (cases_eq k key) [
+        | inl second ↦ first ∙ sym second
+        | inr other ↦ absurd (twice k e other there (ap (get more) (sym first) ∙ here))
+      ]
+      | inr apart ↦ elim (cases_eq k key) [
+        | inl second ↦ absurd (twice j e apart here (ap (get more) (sym second) ∙ there))
+        | inr other ↦ valid.single j k e (sym (put.others j apart) ∙ here) (sym (put.others k other) ∙ there)
+      ]
     ]
 
 pub arrow_added : (links more : Slab Dependency) (key : ℕ) (kind : Kind) (a b : ℕ) → get links key ≡ None → Updates links more key (Some (record { kind = kind; source = a; dependent = b }))
@@ -244,6 +261,7 @@ module _ (links mid new : Slab Dependency) (on mid_on less back mid_back less_ba
     taken = λ c listed.
         let both = and_parts (lists marked.nodes c) (not (eqb c s)) (sym (forgets c) ∙ listed) in
         ap is_some (sits c (λ is. false≢true (ap not (sym (eq-eqb c s is)) ∙ both.1))) ∙ valid.taken c both.0;
+    single = λ j k d here there. valid.single j k d (first.links j d (second.links j d here)) (first.links k d (second.links k d there));
   }
 
   rid : IsRid (λ (d : Dependency). d.source) (λ (d : Dependency). d.dependent) t.0 links new
@@ -274,7 +292,7 @@ module _ (links mid new : Slab Dependency) (on mid_on less back mid_back less_ba
       ∙ ap (λ b. b && not (eqb u t.0) && not (eqb v t.0)) (sym (arrow_of k (values links) u v))
 
   pub marked_ended : (n : ℕ) → lists (marked_of left fewer.nodes) n ≡ (lists (marked_of seats marked.nodes) n && not (eqb n t.0))
-  marked_ended n = same_truth _ _ to back' where
+  marked_ended n = both_follow _ _ to back' where
     to : lists (marked_of left fewer.nodes) n ≡ true → (lists (marked_of seats marked.nodes) n && not (eqb n t.0)) ≡ true
     to h =
         let found = marked_seat left fewer.nodes n valid_ended.taken h in

@@ -54,10 +54,11 @@ abbrev pub AreTaken : Seated → List ℕ → Type 0
 AreTaken seats nodes = (c : ℕ) → lists nodes c ≡ true → is_some (seat seats c) ≡ true
 
 -- a dependency's homes are the seats of its source and its dependent, each seat that is taken has its chains and its marks,
--- and none is marked that is not taken
+-- none is marked that is not taken, and no dependency is stored twice
 pub record IsValid (p : Parts) (size : ℕ) (marked : Met) : Type 0 where
   pub placed : IsPlaced p.links p.along p.across
   pub sources : IsNamed (λ (d : Dependency). d.source) p.links p.along p.seats
   pub dependents : IsNamed (λ (d : Dependency). d.dependent) p.links p.across p.seats
   pub within : IsWithin p.along p.across p.seats size marked.size
   pub taken : AreTaken p.seats marked.nodes
+  pub single : (j k : ℕ) (d : Dependency) → get p.links j ≡ Some d → get p.links k ≡ Some d → j ≡ k

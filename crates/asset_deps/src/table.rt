@@ -43,7 +43,7 @@ impl Deps {
     ghost use Rattle.asset_names.specs.declared.steps.Kind.{Kind};
     ghost use Rattle.asset_names.specs.Arrows.{lists, has_arrow};
     ghost use Rattle.asset_names.specs.Paths.{same_kind};
-    ghost use Rattle.asset_deps.specs.Dependencies.{arrows_of, class_in, doomed_in, would_cycle_in, outside_source_in};
+    ghost use Rattle.asset_deps.specs.Dependencies.{same_dependency, arrows_of, class_in, doomed_in, would_cycle_in, outside_source_in};
 
     /// Returns a table without transactions. It does not allocate.
     pub fn new(alloc: Global) -> Deps
@@ -177,6 +177,7 @@ impl Deps {
         ensures enrolled { (k : Kind) (u v : ℕ) → has_arrow (arrows_of k self.now.dependencies) u v ≡ true → (lists self.now.names u ≡ true) × (lists self.now.names v ≡ true) }
         ensures marked { (n : ℕ) → lists self.now.marked n ≡ true → lists self.now.names n ≡ true }
         ensures once { IsDistinct nat_eq self.now.marked }
+        ensures different { IsDistinct same_dependency self.now.dependencies }
     {
         self.seats.laws();
         self.marked.laws();

@@ -2,7 +2,7 @@ use Rattle.std.proofs.Common.{◌≡◌, Some, is_some, refl, sym, ap, ◌∙◌
 use Rattle.std.proofs.lemmas.Bool.{true≢false}
 use Rattle.asset_chains.specs.Chained.{chain_of, home_of, first_of}
 use Rattle.asset_chains.proofs.Laws.{chain_at_first}
-use Rattle.asset_deps.proofs.GrownLemmas.{first_some}
+use Rattle.asset_chains.proofs.KeyLemmas.{first_is_some}
 use Rattle.asset_deps.proofs.DropLemmas.{shrinks_nothing, shrinks_then}
 use Rattle.asset_deps.proofs.dropping.drop_along.Goals as goal
 
@@ -27,4 +27,4 @@ first-preserved c =
     }
 
 pub returns-clause-gone : goal.returns-clause-gone
-returns-clause-gone c = λ k home. true≢false (sym (first_some (chain_of c.first.along c.args.seat) k (c.first.invariant.sound.listed c.args.seat k home)) ∙ sym (ap is_some c.first-in-first.ensures) ∙ ap is_some c.in_default.is)
+returns-clause-gone c = λ k home. true≢false (sym (first_is_some (chain_of c.first.along c.args.seat) k (c.first.invariant.sound.listed c.args.seat k home)) ∙ sym (ap is_some c.first-in-first.ensures) ∙ ap is_some c.in_default.is)

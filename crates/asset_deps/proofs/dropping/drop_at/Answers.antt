@@ -1,7 +1,7 @@
 use Rattle.std.proofs.Common.{sym, ◌∙◌}
+use Rattle.asset_names.proofs.Common.{some_of}
 use Rattle.asset_chains.specs.Chained.{home_of}
 use Rattle.asset_chains.proofs.Laws.{key_within}
-use Rattle.asset_deps.proofs.SeatLemmas.{some_of}
 use Rattle.asset_deps.proofs.DropLemmas.{dropped_placed, dropped_shrinks}
 use Rattle.asset_deps.proofs.dropping.drop_at.Goals as goal
 

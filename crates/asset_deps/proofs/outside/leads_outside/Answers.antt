@@ -1,7 +1,7 @@
 use Rattle.std.proofs.Common.{◌≡◌, ◌<◌, true, subst, sym, length, arith}
 use Rattle.asset_names.specs.Arrows.{has_arrow}
+use Rattle.asset_names.proofs.ListLemmas.{listed_at, lists_at}
 use Rattle.asset_marks.specs.Searched.{arrows_along}
-use Rattle.asset_marks.proofs.MarkLemmas.{listed_at, lists_at}
 use Rattle.asset_deps.specs.declared.kinds.Kinds.TheVariants.{Order}
 use Rattle.asset_deps.specs.Reached.{of_kinds}
 use Rattle.asset_deps.proofs.outside.leads_outside.Goals as goal

@@ -1,13 +1,14 @@
-use Rattle.std.proofs.Common.{◌≡◌, ◌<◌, List, ◌||◌, ◌&&◌, eqb, length, Some, is_some, refl, sym, ap, subst, ◌∙◌, arith}
-use Rattle.slab.specs.Slab.{Updates}
+use Rattle.std.proofs.Common.{◌≡◌, ℕ, ◌<◌, true, false, List, ◌||◌, ◌&&◌, eqb, length, Some, is_some, refl, sym, ap, subst, ◌∙◌, arith}
+use Rattle.std.proofs.lemmas.Bool.{true≢false}
+use Rattle.slab.specs.Slab.{get, Updates}
 use Rattle.asset_names.specs.Arrows.{has_arrow}
 use Rattle.asset_names.specs.Paths.{same_kind}
+use Rattle.asset_names.proofs.Common.{always_err}
 use Rattle.asset_chains.proofs.Laws.{pushes}
-use Rattle.asset_deps.specs.Dependencies.{Dependency, arrows_of}
+use Rattle.asset_deps.specs.Dependencies.{Dependency, DepTable, arrows_of}
 use Rattle.asset_deps.specs.Valid.{parts, IsValid, dependencies_of}
 use Rattle.asset_marks.proofs.SlotLemmas.{one_longer}
-use Rattle.asset_deps.proofs.GrownLemmas.{on_any_err}
-use Rattle.asset_deps.proofs.TableLemmas.{slots_stand, shows_same, valid_grown, within_grown, valid_added, arrow_added, arrow_again}
+use Rattle.asset_deps.proofs.TableLemmas.{slots_stand, shows_same, valid_grown, within_grown, valid_added, arrow_added, arrow_again, arrow_of_link}
 use Rattle.asset_deps.proofs.table.Deps.add.Goals as goal
 
 pub returns-then-has-clause-added : goal.returns-then-has-clause-added
@@ -16,7 +17,7 @@ returns-then-has-clause-added c = arrow_again c.args.self.now.dependencies c.arg
 pub returns-in_err-reserve-clause-unchanged : goal.returns-in_err-reserve-clause-unchanged
 returns-in_err-reserve-clause-unchanged c =
     let inside = c.self.inside in
-    on_any_err c.from_residual.result (shows_same inside.links c.reserve.new.links inside.seats inside.seats inside.marked.nodes inside.marked.nodes c.reserve.ensures.slots (λ d. refl) refl ∙ c.self.view_is)
+    always_err c.from_residual.result (shows_same inside.links c.reserve.new.links inside.seats inside.seats inside.marked.nodes inside.marked.nodes c.reserve.ensures.slots (λ d. refl) refl ∙ c.self.view_is)
 
 pub invariant_of-self-2 : goal.invariant_of-self-2
 invariant_of-self-2 c =
@@ -36,9 +37,14 @@ invariant_of-self-2 c =
     let to_there = (valid.within c.seat_in-to.result (ap is_some c.seat_in-to.ensures)).1 in
     let key_source : c.insert.result < length on.homes = omega (arith, c.insert.ensures.key, c.in_ok-reserve.ensures.sources) in
     let key_dependent : c.insert.result < length back.homes = omega (arith, c.insert.ensures.key, c.in_ok-reserve.ensures.dependents) in
+    let was : has_arrow (arrows_of c.args.kind c.args.self.now.dependencies) c.args.a.0 c.args.b.0 ≡ false = sym c.has.ensures ∙ c.if-has.false in
+    let then : has_arrow (arrows_of c.args.kind (dependencies_of inside.links)) c.args.a.0 c.args.b.0 ≡ false = subst (λ (table : DepTable). has_arrow (arrows_of c.args.kind table.dependencies) c.args.a.0 c.args.b.0 ≡ false) (sym c.self.view_is) was in
+    let absent : has_arrow (arrows_of c.args.kind (dependencies_of links)) c.args.a.0 c.args.b.0 ≡ false = ap (λ ds. has_arrow (arrows_of c.args.kind ds) c.args.a.0 c.args.b.0) (slots_stand inside.links links c.reserve.ensures.slots) ∙ then in
+    let new : (k : ℕ) → get links k ≡ Some d → ⊥ = λ k there. true≢false (sym (arrow_of_link links c.args.kind c.args.a.0 c.args.b.0 k there) ∙ absent) in
     valid_added links c.insert.new.links on c.insert.new.by_source back c.insert.new.by_dependent inside.seats inside.marks.size inside.marked d c.insert.result c.seat_in-from.result c.seat_in-to.result valid c.seat_in-from.ensures c.seat_in-to.ensures put
     (pushes c.seat_in-from.result c.insert.result on c.insert.new.by_source from_there key_source c.insert.ensures.by_source)
     (pushes c.seat_in-to.result c.insert.result back c.insert.new.by_dependent to_there key_dependent c.insert.ensures.by_dependent)
+    new
 
 pub returns-clause-added : goal.returns-clause-added
 returns-clause-added c = λ k u v.

@@ -1,8 +1,8 @@
 use Rattle.std.proofs.Common.{◌||◌, eqb, refl, sym, ap, ◌∙◌}
 use Rattle.asset_names.specs.Arrows.{lists}
+use Rattle.asset_names.proofs.Common.{always_err}
 use Rattle.asset_deps.specs.Dependencies.{DepTable}
 use Rattle.asset_deps.specs.Valid.{marked_of}
-use Rattle.asset_deps.proofs.GrownLemmas.{on_any_err}
 use Rattle.asset_deps.proofs.SeatLemmas.{names_same, names_enrolled, marked_same, marked_kept, not_named}
 use Rattle.asset_deps.proofs.TableLemmas.{shows_same}
 use Rattle.asset_deps.proofs.table.Deps.enrol.Goals as goal
@@ -13,7 +13,7 @@ returns-in_err-reserve-clause-marked c = let inside = c.self.inside in rw (← c
 pub returns-in_err-reserve-clause-unchanged : goal.returns-in_err-reserve-clause-unchanged
 returns-in_err-reserve-clause-unchanged c =
     let inside = c.self.inside in
-    on_any_err c.from_residual.result (shows_same inside.links inside.links inside.seats c.reserve.new.self inside.marked.nodes inside.marked.nodes refl c.reserve.ensures.seats refl ∙ c.self.view_is)
+    always_err c.from_residual.result (shows_same inside.links inside.links inside.seats c.reserve.new.self inside.marked.nodes inside.marked.nodes refl c.reserve.ensures.seats refl ∙ c.self.view_is)
 
 pub returns-in_err-make_room-clause-marked : goal.returns-in_err-make_room-clause-marked
 returns-in_err-make_room-clause-marked c =
@@ -23,7 +23,7 @@ returns-in_err-make_room-clause-marked c =
 pub returns-in_err-make_room-clause-unchanged : goal.returns-in_err-make_room-clause-unchanged
 returns-in_err-make_room-clause-unchanged c =
     let inside = c.self.inside in
-    on_any_err c.from_residual-in_err-make_room.result (shows_same inside.links inside.links inside.seats c.reserve.new.self inside.marked.nodes c.make_room.new.marked.nodes refl c.reserve.ensures.seats c.make_room.ensures.same ∙ c.self.view_is)
+    always_err c.from_residual-in_err-make_room.result (shows_same inside.links inside.links inside.seats c.reserve.new.self inside.marked.nodes c.make_room.new.marked.nodes refl c.reserve.ensures.seats c.make_room.ensures.same ∙ c.self.view_is)
 
 pub sit-requires-clause-absent : goal.sit-requires-clause-absent
 sit-requires-clause-absent c = λ d sat.

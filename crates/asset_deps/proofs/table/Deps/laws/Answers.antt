@@ -1,5 +1,6 @@
 use Rattle.asset_deps.specs.Valid.{parts}
 use Rattle.asset_deps.proofs.SeatLemmas.{marked_enrolled, marked_once}
+use Rattle.asset_deps.proofs.LinkLemmas.{are_different}
 use Rattle.asset_deps.proofs.TableLemmas.{ends_enrolled}
 use Rattle.asset_deps.proofs.table.Deps.laws.Goals as goal
 
@@ -13,3 +14,6 @@ returns-clause-marked c = let inside = c.self.inside in rw (← c.self.view_is) 
 
 pub returns-clause-once : goal.returns-clause-once
 returns-clause-once c = let inside = c.self.inside in rw (← c.self.view_is) (marked_once inside.seats inside.marked.nodes c.self.invariant.taken c.laws.ensures.one c.laws-2.ensures.once)
+
+pub returns-clause-different : goal.returns-clause-different
+returns-clause-different c = let inside = c.self.inside in rw (← c.self.view_is) (are_different inside.links c.self.invariant.single)

@@ -25,6 +25,7 @@ invariant_of-self-2 c =
       dependents = valid.dependents;
       within = λ d there. let old = valid.within d there in (old.0, old.1, old.2, rw c.pop.ensures.size old.3);
       taken = taken_before inside.seats inside.marked.nodes c.pop.new.self.nodes c.in_ok-seat.seat valid.taken last.1;
+      single = valid.single;
     }
 
 pub returns-clause-last : goal.returns-clause-last
