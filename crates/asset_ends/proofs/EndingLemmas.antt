@@ -1,34 +1,34 @@
 -- Those who are marked end one after another, and in the end all of them have; whether a class may commit.
-use Rattle.std.proofs.Common.{◌≡◌, ℕ, ◌+◌, take, Bool, true, false, cond, not, eqb, ◌&&◌, ◌||◌, List, [], ◌∷◌, ◌++◌, reverse, refl, sym, ◌∙◌, ap, subst, inl, inr}
-use Rattle.std.specs.Prelude.{Option, Some, is_some, slice_get}
+use Rattle.std.proofs.Common.{◌≡◌, ℕ, ◌+◌, take, Bool, true, false, cond, not, eqb, ◌&&◌, ◌||◌, List, [], ◌∷◌, ◌++◌, reverse, refl, sym, ◌∙◌, ap, subst}
+use Rattle.std.specs.Prelude.{Some, is_some, slice_get}
 use Rattle.std.specs.List.{list_all}
 use Rattle.std.proofs.lemmas.Option.{slice_get_within, get_or_from_slice_get}
 use Rattle.std.proofs.lemmas.List.Folds.{list_all_at, list_all_more}
-use Rattle.std.proofs.lemmas.Bool.{or_cases, or_left, or_right, and_parts, and_from, eqb-true, eq-eqb, false≢true}
+use Rattle.std.proofs.lemmas.Bool.{or_left, or_right, and_parts, and_from, eqb-true, eq-eqb, false≢true}
 use Rattle.asset_names.specs.declared.names.Txn.{Txn}
 use Rattle.asset_names.specs.declared.statuses.End.{End}
 use Rattle.asset_names.specs.declared.statuses.End.TheVariants as End'
-use Rattle.asset_names.specs.declared.statuses.Status.{Status}
 use Rattle.asset_names.specs.declared.steps.Step.{Step}
 use Rattle.asset_names.specs.declared.steps.Step.TheVariants.{Commit, Abort}
-use Rattle.asset_names.specs.Arrows.{lists, linked, among}
+use Rattle.asset_names.specs.Arrows.{lists, among}
 use Rattle.asset_names.specs.Steps.{Opening, initiated}
-use Rattle.asset_names.specs.Endings.{class_arrows, doom_arrows, live, status, same_class, has_outside_source, is_live_status}
-use Rattle.asset_names.specs.Answers.{is_unknown, is_completed, class_completed, may_commit}
+use Rattle.asset_names.specs.Endings.{live, status, same_class, is_live_status}
+use Rattle.asset_names.specs.Answers.{is_completed, class_completed, may_commit}
 use Rattle.asset_names.proofs.Common.{both_follow, eqb-flip}
 use Rattle.asset_names.proofs.EndLemmas.{commits, aborts}
-use Rattle.asset_objects.specs.Cells.{ObjectTable, cells}
+use Rattle.asset_names.proofs.ListLemmas.{all_listed, listed_all, lists_pushed}
+use Rattle.asset_objects.specs.Cells.{cells}
 use Rattle.asset_locks.specs.LockTable as Locks
-use Rattle.asset_permits.specs.Descriptors.{Descriptor}
-use Rattle.asset_deps.specs.Dependencies.{DepTable, Dependency, class_in, doomed_in, outside_source_in}
+use Rattle.asset_deps.specs.Dependencies.{DepTable, class_in, doomed_in, outside_source_in}
 use Rattle.asset_trans.specs.TransRows.{NamedTransRow, names_of, row_in, status_in, set_in, ended_as}
 use Rattle.asset_ends.specs.Shows.{Shows, table_values}
 use Rattle.asset_ends.specs.Standing.{Standing, values_of, may_commit_in, AreEnrolled, DependAlive, IsValid}
-use Rattle.asset_ends.specs.Ended.{Parts, parts, AreEnded, ended_cell}
+use Rattle.asset_ends.specs.declared.parts.Parts.{Parts}
+use Rattle.asset_ends.specs.Ended.{parts, AreEnded, ended_cell}
 use Rattle.asset_ends.proofs.CellLemmas.{is_name}
 use Rattle.asset_ends.proofs.TransLaws.{status_set, row_named}
 use Rattle.asset_ends.proofs.LockLaws.{names_released}
-use Rattle.asset_ends.proofs.HistoryLemmas.{lists_pushed, reverse-cons}
+use Rattle.asset_ends.proofs.HistoryLemmas.{reverse-cons}
 use Rattle.asset_ends.proofs.DependLaws.{class_shown, commits_shown, aborts_shown, outside_shown}
 use Rattle.asset_ends.proofs.ShowsLemmas.{row_known, commit_shows, abort_shows, live_shown}
 use Rattle.asset_ends.proofs.EnrolledLemmas.{lists_filter, live_known, same_depends}
@@ -207,24 +207,11 @@ pub one_passes : (test : ℕ → Bool) (names : List ℕ) (i n : ℕ) → slice_
 one_passes test names i n at passes before =
     list_all_more test names i n (slice_get_within names i n at) ∙ and_from _ _ before (ap test (get_or_from_slice_get names i n n at) ∙ passes)
 
-all_from : (test : ℕ → Bool) (names : List ℕ) → ((n : ℕ) → lists names n ≡ true → test n ≡ true) → list_all test names ≡ true
-unfolding lists
-all_from test [] each = refl
-all_from test (n ∷ names) each = and_from _ _ (each n (or_left _ _ (eq-eqb n n refl))) (all_from test names (λ m listed. each m (or_right (eqb n m) _ listed)))
-
-all_at : (test : ℕ → Bool) (names : List ℕ) (n : ℕ) → list_all test names ≡ true → lists names n ≡ true → test n ≡ true
-unfolding lists
-all_at test [] n all listed = absurd (false≢true listed)
-all_at test (m ∷ names) n all listed = let parts = and_parts (test m) _ all in elim (or_cases (eqb m n) (lists names n) listed) [
-  | inl here ↦ ap test (sym (eqb-true m n here)) ∙ parts.0
-  | inr later ↦ all_at test names n parts.1 later
-]
-
 -- each of some names passes exactly if, of more names, each passes that is among the some
-pub all_listed : (test : ℕ → Bool) (some more : List ℕ) → ((n : ℕ) → lists some n ≡ true → lists more n ≡ true) → list_all test some ≡ list_all (λ n. not (lists some n) || test n) more
-all_listed test some more within = both_follow _ _
-    (λ all. all_from _ more (λ n listed. unless n (lists some n) refl (all_at test some n all)))
-    (λ all. all_from test some (λ n listed. then_passes n (lists some n) listed (all_at (λ m. not (lists some m) || test m) more n all (within n listed)))) where
+pub all_among : (test : ℕ → Bool) (some more : List ℕ) → ((n : ℕ) → lists some n ≡ true → lists more n ≡ true) → list_all test some ≡ list_all (λ n. not (lists some n) || test n) more
+all_among test some more within = both_follow _ _
+    (λ all. listed_all _ more (λ n listed. unless n (lists some n) refl (all_listed test some n all)))
+    (λ all. listed_all test some (λ n listed. then_passes n (lists some n) listed (all_listed (λ m. not (lists some m) || test m) more n all (within n listed)))) where
       unless : (n : ℕ) (among : Bool) → lists some n ≡ among → (lists some n ≡ true → test n ≡ true) → (not among || test n) ≡ true
       unless n true e passes = passes e
       unless n false e passes = refl
@@ -268,7 +255,7 @@ pub may_by_marks : (tables : Standing) (t : ℕ) (marked : List ℕ) (completed 
     → ((n : ℕ) → lists marked n ≡ class_in tables.deps t n) → ((n : ℕ) → lists marked n ≡ true → is_live_status (status_in tables.trans n) ≡ true)
     → completed ≡ list_all (λ n. not (class_in tables.deps t n) || is_completed (status_in tables.trans n)) (names_of tables.trans)
 may_by_marks tables t marked completed is same alive =
-    is ∙ all_listed (λ n. is_completed (status_in tables.trans n)) marked (names_of tables.trans) (λ n listed. live_named tables.trans n (alive n listed))
+    is ∙ all_among (λ n. is_completed (status_in tables.trans n)) marked (names_of tables.trans) (λ n listed. live_named tables.trans n (alive n listed))
     ∙ (λ i. list_all (λ n. not (same n i) || is_completed (status_in tables.trans n)) (names_of tables.trans))
 
 -- the class of one that is not enrolled is itself
@@ -277,7 +264,7 @@ pub may_alone : (tables : Standing) (t : ℕ) → is_live_status (status_in tabl
 unfolding may_commit_in lists
 may_alone tables t alive alone none =
     rw none (sym (trues (is_completed (status_in tables.trans t)))
-    ∙ all_listed (λ n. is_completed (status_in tables.trans n)) (t ∷ []) (names_of tables.trans) (λ n listed. subst (λ m. lists (names_of tables.trans) m ≡ true) (eqb-true t n (sym (falses (eqb t n)) ∙ listed)) (live_named tables.trans t alive))
+    ∙ all_among (λ n. is_completed (status_in tables.trans n)) (t ∷ []) (names_of tables.trans) (λ n listed. subst (λ m. lists (names_of tables.trans) m ≡ true) (eqb-true t n (sym (falses (eqb t n)) ∙ listed)) (live_named tables.trans t alive))
     ∙ (λ i. list_all (λ n. not ((falses (eqb t n) ∙ sym (alone n)) i) || is_completed (status_in tables.trans n)) (names_of tables.trans))
     ∙ sym (trues _)) where
       trues : (b : Bool) → (b && true) ≡ b

@@ -10,14 +10,14 @@ use Rattle.asset_names.specs.declared.statuses.Status.TheVariants as Status'
 use Rattle.asset_names.specs.Arrows.{lists}
 use Rattle.asset_names.specs.Endings.{is_live_status}
 use Rattle.asset_names.specs.Answers.{is_unknown}
-use Rattle.asset_names.proofs.Common.{eqb-flip}
+use Rattle.asset_names.proofs.Common.{none_of}
+use Rattle.asset_names.proofs.ListLemmas.{lists_pushed}
 use Rattle.asset_deps.specs.Dependencies.{DepTable}
 use Rattle.asset_locks.specs.LockTable as Locks
 use Rattle.asset_locks.specs.Valid.{after_ask}
 use Rattle.asset_trans.specs.TransRows.{NamedTransRow, row_in, status_in, status_or_unknown, initiate_in, set_in}
 use Rattle.asset_ends.specs.Standing.{AreEnrolled, DependAlive}
 use Rattle.asset_ends.proofs.CellLemmas.{is_name}
-use Rattle.asset_ends.proofs.HistoryLemmas.{lists_pushed}
 use Rattle.asset_ends.proofs.LockLaws.{names_enrolled, names_granted, names_waiting}
 use Rattle.asset_ends.proofs.TransLaws.{status_initiate_in}
 use Rattle.asset_ends.proofs.ShowsLemmas.{set_alone}
@@ -43,10 +43,6 @@ enrolled_named (who ∷ everyone) t = go (eqb who.name t) (enrolled_named everyo
       → is_some (cond here (Some who) (find (λ (h : Locks.Enrolled). eqb h.name t) everyone)) ≡ (here || lists (map (λ (h : Locks.Enrolled). h.name) everyone) t)
   go true ih = refl
   go false ih = ih
-
-none_of : {A : Type 0} (found : Option A) → is_some found ≡ false → found ≡ None
-none_of None h = refl
-none_of (Some x) h = absurd (false≢true (sym h))
 
 -- who is live is enrolled
 pub live_enrolled : (rows : List NamedTransRow) (table : Locks.LockTable) (t : ℕ) → AreEnrolled rows table → is_live_status (status_in rows t) ≡ true → is_some (Locks.enrolled_in table t) ≡ true

@@ -19,6 +19,7 @@ use Rattle.asset_names.specs.Orderly.{IsOrderly}
 use Rattle.asset_names.proofs.LiveLemmas.{live_initiate}
 use Rattle.asset_names.proofs.EndLemmas.{live_parts, commits, aborts, commits_live, aborts_live, commit_ends, abort_ends}
 use Rattle.asset_names.proofs.Common.{cond_same, option_or_none}
+use Rattle.asset_names.proofs.ListLemmas.{lists_pushed}
 use Rattle.asset_objects.specs.Cells.{change_at, change_each, written, undone, settled}
 use Rattle.asset_ends.specs.Shows.{placed, used, cell_after, cell_of}
 use Rattle.asset_ends.proofs.CellLemmas.{cell_same, cell_undone, cell_settled}
@@ -53,10 +54,6 @@ pub reverse-cons : (names : List ℕ) (n : ℕ) → reverse (n ∷ names) ≡ re
 reverse-cons names n = reverse-append (n ∷ []) names
 
 -- what is listed in reverse
-pub lists_pushed : (names : List ℕ) (n m : ℕ) → lists (names ++ n ∷ []) m ≡ (lists names m || eqb n m)
-unfolding lists
-lists_pushed [] n m = grind arith
-lists_pushed (k ∷ names) n m = rw (lists_pushed names n m) (grind arith)
 
 pub lists_reverse : (names : List ℕ) (n : ℕ) → lists (reverse names) n ≡ lists names n
 unfolding lists

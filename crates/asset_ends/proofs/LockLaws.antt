@@ -1,6 +1,6 @@
 -- The table of locks after a change, and who is free by it.
-use Rattle.std.proofs.Common.{◌≡◌, ◌≢◌, ℕ, Bool, true, false, cond, not, eqb, ◌&&◌, ◌||◌, List, [], ◌∷◌, ◌++◌, map, filter, refl, sym, ◌∙◌, ap, arith, Some, None, inl, inr, ◌⊎◌}
-use Rattle.std.specs.Prelude.{is_some, find}
+use Rattle.std.proofs.Common.{◌≡◌, ◌≢◌, ℕ, Bool, true, false, cond, not, eqb, ◌&&◌, ◌||◌, List, [], ◌∷◌, ◌++◌, map, filter, refl, sym, ◌∙◌, ap, arith, Some, inl, inr, ◌⊎◌, None}
+use Rattle.std.specs.Prelude.{is_some}
 use Rattle.std.specs.List.{list_any}
 use Rattle.std.proofs.lemmas.List.{map-append}
 use Rattle.std.proofs.lemmas.List.Folds.{list_any-append}
@@ -10,8 +10,10 @@ use Rattle.asset_names.specs.declared.operations.Op.{Op}
 use Rattle.asset_names.specs.declared.operations.Op.TheVariants as Op'
 use Rattle.asset_names.specs.Operations.{conflict, same_op}
 use Rattle.asset_names.specs.OpSets.{has_op, OpSet, only_op, with_op}
+use Rattle.asset_names.proofs.ListLemmas.{any_alike, any_map, any_of_two, any_and}
 use Rattle.asset_locks.specs.declared.lock.Lock.{Lock}
 use Rattle.asset_locks.specs.LockTable.{Enrolled, LockTable, is_on, carries_on, carries, one_conflicts, both_conflict, conflicts_on, blocks, is_free_in, lock_in, ops_with, taken, new_lock, granted_own, suspended, granted_row, grant_in, waiting_row, wait_in, enrol_in, release_in, enrolled_in, names_in}
+use Rattle.asset_locks.proofs.HandLaws.{any_named, names_changed}
 
 -- one more operation
 has_with_op : (o op : Op) (ops : OpSet) → has_op (with_op o ops) op ≡ (same_op o op || has_op ops op)
@@ -27,32 +29,6 @@ has_only Op'.Read Op'.Read = refl
 has_only Op'.Read Op'.Write = refl
 has_only Op'.Write Op'.Read = refl
 has_only Op'.Write Op'.Write = refl
-
--- ---- tests of lists
-any_either : {A : Type 0} (f g h : A → Bool) (xs : List A) → ((x : A) → f x ≡ (g x || h x)) → list_any f xs ≡ (list_any g xs || list_any h xs)
-any_either f g h [] each = refl
-any_either f g h (x ∷ xs) each = rw (each x, any_either f g h xs each) (grind arith)
-
-any_mapped : {A : Type 0} (test : A → Bool) (change : A → A) (xs : List A) → list_any test (map change xs) ≡ list_any (λ x. test (change x)) xs
-any_mapped test change [] = refl
-any_mapped test change (x ∷ xs) = ap (λ b. test (change x) || b) (any_mapped test change xs)
-
-any_same : {A : Type 0} (f g : A → Bool) (xs : List A) → ((x : A) → f x ≡ g x) → list_any f xs ≡ list_any g xs
-any_same f g [] same = refl
-any_same f g (x ∷ xs) same = λ i. same x i || any_same f g xs same i
-
-any_and : {A : Type 0} (test : A → Bool) (b : Bool) (xs : List A) → list_any (λ x. test x && b) xs ≡ (list_any test xs && b)
-any_and test b [] = refl
-any_and test b (x ∷ xs) = rw (any_and test b xs) (grind arith)
-
--- what holds of those who have a name holds if somebody has it
-any_named : (u : ℕ) (holds : ℕ → Bool) (table : LockTable) → list_any (λ (who : Enrolled). eqb who.name u && holds who.name) table ≡ (is_some (find (λ (who : Enrolled). eqb who.name u) table) && holds u)
-any_named u holds [] = refl
-any_named u holds (who ∷ table) = go (eqb who.name u) refl (any_named u holds table) where
-  go : (own : Bool) → eqb who.name u ≡ own → list_any (λ (h : Enrolled). eqb h.name u && holds h.name) table ≡ (is_some (find (λ (h : Enrolled). eqb h.name u) table) && holds u)
-      → ((own && holds who.name) || list_any (λ (h : Enrolled). eqb h.name u && holds h.name) table) ≡ (is_some (cond own (Some who) (find (λ (h : Enrolled). eqb h.name u) table)) && holds u)
-  go false e ih = ih
-  go true e ih = rw (eqb-true who.name u e, ih) (grind arith)
 
 -- ---- the locks of one transaction after a grant
 taken_carries : (y : ℕ) (o : Op) (x : ℕ) (op : Op) (lock : Lock) → carries_on x op (taken y o lock) ≡ ((is_on y lock && (eqb y x && same_op o op)) || carries_on x op lock)
@@ -74,14 +50,14 @@ own_carries y o x op locks = go (list_any (is_on y.0) locks) refl where
 
   go : (there : Bool) → list_any (is_on y.0) locks ≡ there → list_any (carries_on x op) (cond there (map (taken y.0 o) locks) (locks ++ new_lock y o ∷ [])) ≡ ((eqb y.0 x && same_op o op) || list_any (carries_on x op) locks)
   go true e =
-      any_mapped (carries_on x op) (taken y.0 o) locks
-      ∙ any_either (λ lock. carries_on x op (taken y.0 o lock)) (λ lock. is_on y.0 lock && (eqb y.0 x && same_op o op)) (carries_on x op) locks (taken_carries y.0 o x op)
+      any_map (carries_on x op) (taken y.0 o) locks
+      ∙ any_of_two (λ lock. carries_on x op (taken y.0 o lock)) (λ lock. is_on y.0 lock && (eqb y.0 x && same_op o op)) (carries_on x op) locks (taken_carries y.0 o x op)
       ∙ ap (λ b. b || list_any (carries_on x op) locks) (any_and (is_on y.0) (eqb y.0 x && same_op o op) locks ∙ ap (λ b. b && (eqb y.0 x && same_op o op)) e)
   go false e = list_any-append (carries_on x op) locks (new_lock y o ∷ []) ∙ rw new (grind arith)
 
 others_carry : (y : ℕ) (ops : OpSet) (x : ℕ) (op : Op) (locks : List Lock) → list_any (carries_on x op) (map (suspended y ops) locks) ≡ list_any (carries_on x op) locks
 unfolding suspended carries_on is_on
-others_carry y ops x op locks = any_mapped (carries_on x op) (suspended y ops) locks ∙ any_same _ (carries_on x op) locks (λ lock. go lock (is_on y lock && both_conflict lock.ops ops)) where
+others_carry y ops x op locks = any_map (carries_on x op) (suspended y ops) locks ∙ any_alike _ (carries_on x op) locks (λ lock. go lock (is_on y lock && both_conflict lock.ops ops)) where
   go : (lock : Lock) (b : Bool) → carries_on x op (cond b (record lock { granted = false }) lock) ≡ carries_on x op lock
   go lock true = refl
   go lock false = refl
@@ -105,8 +81,8 @@ pub carries_granted : (u : ℕ) (y : Ob) (o : Op) (table : LockTable) (t x : ℕ
 unfolding carries grant_in enrolled_in
 carries_granted u y o table t x op enrolled =
     let ops = ops_with o (lock_in table u y.0) in
-    any_mapped (row_carries t x op) (granted_row u y o ops) table
-    ∙ any_either (λ who. row_carries t x op (granted_row u y o ops who)) (λ (who : Enrolled). eqb who.name u && (eqb who.name t && (eqb y.0 x && same_op o op))) (row_carries t x op) table (granted_row_carries u y o ops t x op)
+    any_map (row_carries t x op) (granted_row u y o ops) table
+    ∙ any_of_two (λ who. row_carries t x op (granted_row u y o ops who)) (λ (who : Enrolled). eqb who.name u && (eqb who.name t && (eqb y.0 x && same_op o op))) (row_carries t x op) table (granted_row_carries u y o ops t x op)
     ∙ ap (λ b. b || list_any (row_carries t x op) table) (any_named u (λ n. eqb n t && (eqb y.0 x && same_op o op)) table ∙ ap (λ b. b && (eqb u t && (eqb y.0 x && same_op o op))) enrolled ∙ grind arith)
 
 -- who carries what after a release
@@ -132,15 +108,12 @@ carries_enrolled u table t x op = list_any-append (row_carries t x op) table (re
 
 pub carries_waiting : (u : ℕ) (y : Ob) (o : Op) (table : LockTable) (t x : ℕ) (op : Op) → carries (wait_in u y o table) t x op ≡ carries table t x op
 unfolding carries wait_in waiting_row
-carries_waiting u y o table t x op = any_mapped (row_carries t x op) (waiting_row u y o) table ∙ any_same _ (row_carries t x op) table (λ who. go who (eqb who.name u)) where
+carries_waiting u y o table t x op = any_map (row_carries t x op) (waiting_row u y o) table ∙ any_alike _ (row_carries t x op) table (λ who. go who (eqb who.name u)) where
   go : (who : Enrolled) (own : Bool) → row_carries t x op (cond own (record who { pending = Some (y, o) }) who) ≡ row_carries t x op who
   go who true = refl
   go who false = refl
 
 -- ---- the enrolled names after a change
-names_changed : (change : Enrolled → Enrolled) (table : LockTable) → ((who : Enrolled) → (change who).name ≡ who.name) → map (λ (who : Enrolled). who.name) (map change table) ≡ map (λ (who : Enrolled). who.name) table
-names_changed change [] keeps = refl
-names_changed change (who ∷ table) keeps = λ i. keeps who i ∷ names_changed change table keeps i
 
 pub names_granted : (u : ℕ) (y : Ob) (o : Op) (table : LockTable) → names_in (grant_in u y o table) ≡ names_in table
 unfolding names_in grant_in granted_row

@@ -1,8 +1,8 @@
 -- The tables go on standing for the history with each step.
-use Rattle.std.proofs.Common.{◌≡◌, ℕ, Bool, true, false, cond, eqb, ◌&&◌, List, [], ◌∷◌, ◌++◌, reverse, refl, sym, ◌∙◌, ap, subst, arith, Some, None}
+use Rattle.std.proofs.Common.{◌≡◌, ℕ, Bool, true, false, cond, eqb, ◌&&◌, List, [], ◌∷◌, reverse, refl, sym, ◌∙◌, ap, subst, arith, Some, None}
 use Rattle.std.specs.Prelude.{Option, ℤ, option_map, is_some, sum_by}
 use Rattle.std.specs.Map.{values_of}
-use Rattle.std.proofs.lemmas.Bool.{or_parts, eqb-true}
+use Rattle.std.proofs.lemmas.Bool.{eqb-true}
 use Rattle.std.proofs.lemmas.List.Sums.{sum_by_push, sum_by-cons}
 use Rattle.asset_names.specs.declared.names.Txn.{Txn}
 use Rattle.asset_names.specs.declared.names.Ob.{Ob}
@@ -31,6 +31,7 @@ use Rattle.asset_names.proofs.RoomLemmas.{sum_same}
 use Rattle.asset_names.specs.declared.sets.ObSet.{ObSet}
 use Rattle.asset_names.proofs.PermitLemmas.{allows_linked}
 use Rattle.asset_names.proofs.Common.{eqb-flip, both_follow}
+use Rattle.asset_names.proofs.ListLemmas.{distinct_pushed}
 use Rattle.asset_deps.specs.Dependencies.{Dependency, arrows_of}
 use Rattle.asset_permits.specs.Descriptors.{Descriptor, allows_by, one_covers, arrows_for}
 use Rattle.asset_objects.specs.Cells.{Cell, Cells, opened, shown, value_in, written, undone, settled, change_at, change_each}
@@ -45,7 +46,7 @@ use Rattle.asset_ends.proofs.DependLaws.{IsJoined, depended_quiet, depended_init
 use Rattle.asset_ends.proofs.CellLemmas.{is_name, value_shown}
 use Rattle.asset_ends.proofs.TransLaws.{names_set, status_set, parent_set, names_initiate, status_initiate_in, parent_initiate_in, row_named, row_absent, sum_by_names}
 use Rattle.asset_ends.proofs.LockLaws.{carries_granted, carries_released, carries_enrolled, names_granted, names_waiting, carries_waiting, names_enrolled, names_released, free_by_locks, locks_by_free}
-use Rattle.asset_ends.proofs.HistoryLemmas.{IsQuiet, lists_pushed, lists_reverse, reverse-cons, cell_quiet, cell_same_steps, holds_quiet, holds_same_steps, enrolled_quiet, begin_quiet, complete_quiet, enrolled_initiate, cell_initiate, holds_initiate, holds_operation, holds_end, enrolled_end, read_ends, write_ends, wait_ends, cell_read, cell_write, cell_abort, cell_commit}
+use Rattle.asset_ends.proofs.HistoryLemmas.{IsQuiet, lists_reverse, reverse-cons, cell_quiet, cell_same_steps, holds_quiet, holds_same_steps, enrolled_quiet, begin_quiet, complete_quiet, enrolled_initiate, cell_initiate, holds_initiate, holds_operation, holds_end, enrolled_end, read_ends, write_ends, wait_ends, cell_read, cell_write, cell_abort, cell_commit}
 
 -- who is not unknown has a row
 pub row_known : (rows : List NamedTransRow) (t : ℕ) → is_unknown (status_in rows t) ≡ false → is_some (row_in rows t) ≡ true
@@ -286,12 +287,6 @@ unfolding value_in
 value_of_tables opening steps rows objects table descriptors deps x shows = ap (option_map shown) (shows.cells x) ∙ value_shown opening steps x
 
 -- different names are different in reverse
-distinct_pushed : (names : List ℕ) (n : ℕ) → Distinct names → lists names n ≡ false → Distinct (names ++ n ∷ [])
-unfolding lists
-distinct_pushed [] n different new = (refl, tt)
-distinct_pushed (m ∷ names) n different new =
-    let parts = or_parts (eqb m n) (lists names n) new in
-    (lists_pushed names n m ∙ rw (different.0, eqb-flip n m, parts.0) refl, distinct_pushed names n different.1 parts.1)
 
 distinct_reverse : (names : List ℕ) → Distinct names → Distinct (reverse names)
 distinct_reverse [] different = tt

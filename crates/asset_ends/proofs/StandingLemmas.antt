@@ -1,5 +1,5 @@
 -- What the tables' own calls say, put together.
-use Rattle.std.proofs.Common.{◌≡◌, ℕ, Bool, true, false, cond, not, eqb, List, [], ◌∷◌, ◌++◌, filter, refl, ◌∙◌, ap, Some, None, Ok, Err, OnOk, OnErr}
+use Rattle.std.proofs.Common.{◌≡◌, ℕ, Bool, true, false, cond, not, eqb, List, [], ◌∷◌, ◌++◌, filter, refl, ◌∙◌, ap, Some, None, Ok, Err, OnErr}
 use Rattle.std.specs.Prelude.{Option, Result, find, is_some, option_map, ℤ}
 use Rattle.std.proofs.lemmas.Bool.{eq-eqb}
 use Rattle.asset_names.specs.declared.steps.Step.{Step}
@@ -15,26 +15,10 @@ use Rattle.asset_ends.specs.Shows.{Shows, cell_of, cell_after, table_values}
 use Rattle.asset_ends.specs.Standing.{Standing, values_of, SameView, ShowAlike}
 
 -- what holds where a call succeeded, of what held there
-pub on_ok : {T E : Type 0} {P Q : Type 0} (r : Result T E) → (P → Q) → OnOk r P → OnOk r Q
-on_ok (Ok x) f p = f p
-on_ok (Err e) f p = p
-
-pub on_ok_two : {T E : Type 0} {P Q R : Type 0} (r : Result T E) → (P → Q → R) → OnOk r P → OnOk r Q → OnOk r R
-on_ok_two (Ok x) f p q = f p q
-on_ok_two (Err e) f p q = p
-
-pub always_ok : {T E : Type 0} {P : Type 0} (r : Result T E) → P → OnOk r P
-always_ok (Ok x) p = p
-always_ok (Err e) p = tt
 
 pub always_err : {T E : Type 0} {P : Type 0} (r : Result T E) → P → OnErr r P
 always_err (Ok x) p = tt
 always_err (Err e) p = p
-
--- what holds where a call failed, of what held there
-pub on_err : {T E : Type 0} {P Q : Type 0} (r : Result T E) → (P → Q) → OnErr r P → OnErr r Q
-on_err (Ok x) f p = p
-on_err (Err e) f p = f p
 
 -- tables that are the same show alike
 pub same_alike : (later before : Standing) → SameView later before → ShowAlike later before

@@ -7,7 +7,8 @@ use Rattle.asset_names.specs.declared.statuses.Status.{Status}
 use Rattle.asset_objects.specs.Cells.{Written, Cell, Cells, cells, undone, settled, settled_value, newer, change_each}
 use Rattle.asset_locks.specs.LockTable as Locks
 use Rattle.asset_trans.specs.TransRows.{NamedTransRow, set_entry, set_in, ended_as}
-use Rattle.asset_ends.specs.Ended.{Parts, AreEnded, ended_cell}
+use Rattle.asset_ends.specs.declared.parts.Parts.{Parts}
+use Rattle.asset_ends.specs.Ended.{AreEnded, ended_cell}
 
 -- who passes one of two tests
 unfoldable pub either : (ℕ → Bool) → (ℕ → Bool) → ℕ → Bool

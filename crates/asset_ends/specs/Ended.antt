@@ -10,15 +10,9 @@ use Rattle.asset_locks.specs.LockTable as Locks
 use Rattle.asset_permits.specs.Descriptors.{Descriptor, one_covers}
 use Rattle.asset_deps.specs.Dependencies.{Dependency, DepTable, arrows_of}
 use Rattle.asset_trans.specs.TransRows.{NamedTransRow, set_in, ended_as}
+use Rattle.asset_ends.specs.declared.parts.Parts.{Parts}
 
 -- what the five tables hold
-pub record Parts : Type 0 where
-  pub trans : List NamedTransRow
-  pub objects : ObjectTable
-  pub locks : Locks.LockTable
-  pub permits : List Descriptor
-  pub deps : DepTable
-
 abbrev pub parts : List NamedTransRow → ObjectTable → Locks.LockTable → List Descriptor → DepTable → Parts
 parts trans objects locks permits deps = record { trans = trans; objects = objects; locks = locks; permits = permits; deps = deps }
 

@@ -23,10 +23,10 @@ impl Tables {
         ensures locks { OnOk result (self.new.locks ≡ hand_over_in giver.0 taker.0 obs.now self.old.locks) }
         ensures unchanged { OnErr result (ShowAlike self.new self.old) }
     {
-        let moved = self.locks.held_among(self.alloc, giver, obs)?;
-        self.permits.copy_for(giver, taker, &moved)?;
-        self.locks.hand_over(giver, taker, obs);
-        self.objects.hand_over(giver, taker, obs);
+        let moved = self.parts.locks.held_among(self.alloc, giver, obs)?;
+        self.parts.permits.copy_for(giver, taker, &moved)?;
+        self.parts.locks.hand_over(giver, taker, obs);
+        self.parts.objects.hand_over(giver, taker, obs);
         Ok(())
     }
 }

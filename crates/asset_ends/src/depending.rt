@@ -20,7 +20,7 @@ impl Tables {
         ensures shown { ForShown self.old (λ opening steps. result ≡ would_cycle steps kind a.0 b.0) }
         ensures same { self.new ≡ self.old }
     {
-        self.deps.would_cycle(kind, a, b)
+        self.parts.deps.would_cycle(kind, a, b)
     }
 
     /// Makes `b` depend on `a`, both of which are live; a group commit joins their classes. It closes no cycle. If memory
@@ -33,8 +33,8 @@ impl Tables {
         ensures locks { self.new.locks ≡ self.old.locks }
         ensures unchanged { OnErr result (SameView self.new self.old) }
     {
-        self.deps.enrol(a)?;
-        self.deps.enrol(b)?;
-        self.deps.add(kind, a, b)
+        self.parts.deps.enrol(a)?;
+        self.parts.deps.enrol(b)?;
+        self.parts.deps.add(kind, a, b)
     }
 }

@@ -7,15 +7,12 @@ ghost use Rattle.asset_names.specs.Answers.{is_completed};
 ghost use Rattle.asset_names.specs.Endings.{is_live_status};
 ghost use Rattle.asset_objects.specs.Cells.{cells, change_each};
 ghost use Rattle.asset_trans.specs.TransRows.{status_in};
-ghost use Rattle.asset_ends.specs.Ended.{parts, ended_cell, AreEnded};
+ghost use Rattle.asset_ends.specs.Ended.{ended_cell, AreEnded};
 
+use crate::parts::Parts;
 use crate::tables::Tables;
-use asset_deps::Deps;
-use asset_locks::Locks;
 use asset_names::{End, Txn};
 use asset_objects::Objects;
-use asset_permits::Permits;
-use asset_trans::Trans;
 
 /// What became of a commit.
 #[derive(Clone, Copy, Debug, PartialEq, Eq)]
@@ -37,50 +34,35 @@ fn end_writes(objects: &mut Objects, t: Txn, how: End)
 }
 
 /// Ends a live transaction in each table.
-fn end_one(
-    trans: &mut Trans,
-    objects: &mut Objects,
-    locks: &mut Locks,
-    permits: &mut Permits,
-    deps: &mut Deps,
-    t: Txn,
-    how: End,
-)
-    requires live { is_live_status (status_in trans.old t.0) ≡ true }
-    ensures ended { AreEnded (λ n. n == t.0) how (parts trans.old objects.old locks.old permits.old deps.old) (parts trans.new objects.new locks.new permits.new deps.new) }
-    ensures marked { lists deps.old.marked t.0 ≡ false → deps.new.marked ≡ deps.old.marked }
+fn end_one(parts: &mut Parts, t: Txn, how: End)
+    requires live { is_live_status (status_in parts.old.trans t.0) ≡ true }
+    ensures ended { AreEnded (λ n. n == t.0) how parts.old parts.new }
+    ensures marked { lists parts.old.deps.marked t.0 ≡ false → parts.new.deps.marked ≡ parts.old.deps.marked }
 {
-    end_writes(objects, t, how);
-    locks.release(t);
-    permits.drop_all(t);
-    deps.end(t);
-    trans.end(t, how);
+    end_writes(&mut parts.objects, t, how);
+    parts.locks.release(t);
+    parts.permits.drop_all(t);
+    parts.deps.end(t);
+    parts.trans.end(t, how);
 }
 
 /// Ends those who are marked, all of whom are live. The order does not matter.
-fn end_marked(
-    trans: &mut Trans,
-    objects: &mut Objects,
-    locks: &mut Locks,
-    permits: &mut Permits,
-    deps: &mut Deps,
-    how: End,
-)
-    requires live { (n : ℕ) → lists deps.old.marked n ≡ true → is_live_status (status_in trans.old n) ≡ true }
-    ensures ended { AreEnded (lists deps.old.marked) how (parts trans.old objects.old locks.old permits.old deps.old) (parts trans.new objects.new locks.new permits.new deps.new) }
+fn end_marked(parts: &mut Parts, how: End)
+    requires live { (n : ℕ) → lists parts.old.deps.marked n ≡ true → is_live_status (status_in parts.old.trans n) ≡ true }
+    ensures ended { AreEnded (lists parts.old.deps.marked) how parts.old parts.new }
 {
-    'marked: while let Some(t) = deps.next_marked() {
-        end_one(trans, objects, locks, permits, deps, t, how);
+    'marked: while let Some(t) = parts.deps.next_marked() {
+        end_one(parts, t, how);
     }
 }
 
 /// Returns whether all who are marked have completed.
-fn all_completed(trans: &Trans, deps: &Deps) -> bool
-    ensures { result ≡ list_all (λ n. is_completed (status_in trans.now n)) deps.now.marked }
+fn all_completed(parts: &Parts) -> bool
+    ensures { result ≡ list_all (λ n. is_completed (status_in parts.now.trans n)) parts.now.deps.marked }
 {
-    'marked: for index in 0..deps.marked_count() {
-        if let Some(t) = deps.marked(index) {
-            if !trans.status(t).is_completed() {
+    'marked: for index in 0..parts.deps.marked_count() {
+        if let Some(t) = parts.deps.marked(index) {
+            if !parts.trans.status(t).is_completed() {
                 return false;
             }
         }
@@ -108,12 +90,12 @@ impl Tables {
         ensures shown { ForShown self.old (λ opening steps. result ≡ may_commit steps t.0) }
         ensures same { self.new ≡ self.old }
     {
-        if !self.deps.is_enrolled(t) {
-            return self.trans.status(t).is_completed();
+        if !self.parts.deps.is_enrolled(t) {
+            return self.parts.trans.status(t).is_completed();
         }
-        self.deps.mark_class(t);
-        self.deps.laws();
-        all_completed(&self.trans, &self.deps) && !self.deps.has_outside_source(t)
+        self.parts.deps.mark_class(t);
+        self.parts.deps.laws();
+        all_completed(&self.parts) && !self.parts.deps.has_outside_source(t)
     }
 
     /// Commits a live transaction with its whole class, if the class may commit: their writes stand for good, and their
@@ -138,27 +120,12 @@ impl Tables {
         ensures stand { ShowsWith self.old (Step.Commit t) self.new }
         ensures locks { self.new.locks ≡ release_in (class_in self.old.deps t.0) self.old.locks }
     {
-        if self.deps.is_enrolled(t) {
-            self.deps.mark_class(t);
-            self.deps.laws();
-            end_marked(
-                &mut self.trans,
-                &mut self.objects,
-                &mut self.locks,
-                &mut self.permits,
-                &mut self.deps,
-                End::Committed,
-            );
+        if self.parts.deps.is_enrolled(t) {
+            self.parts.deps.mark_class(t);
+            self.parts.deps.laws();
+            end_marked(&mut self.parts, End::Committed);
         } else {
-            end_one(
-                &mut self.trans,
-                &mut self.objects,
-                &mut self.locks,
-                &mut self.permits,
-                &mut self.deps,
-                t,
-                End::Committed,
-            );
+            end_one(&mut self.parts, t, End::Committed);
         }
     }
 
@@ -169,27 +136,12 @@ impl Tables {
         ensures stand { ShowsWith self.old (Step.Abort t) self.new }
         ensures locks { self.new.locks ≡ release_in (doomed_in self.old.deps t.0) self.old.locks }
     {
-        if self.deps.is_enrolled(t) {
-            self.deps.mark_doomed(t);
-            self.deps.laws();
-            end_marked(
-                &mut self.trans,
-                &mut self.objects,
-                &mut self.locks,
-                &mut self.permits,
-                &mut self.deps,
-                End::Aborted,
-            );
+        if self.parts.deps.is_enrolled(t) {
+            self.parts.deps.mark_doomed(t);
+            self.parts.deps.laws();
+            end_marked(&mut self.parts, End::Aborted);
         } else {
-            end_one(
-                &mut self.trans,
-                &mut self.objects,
-                &mut self.locks,
-                &mut self.permits,
-                &mut self.deps,
-                t,
-                End::Aborted,
-            );
+            end_one(&mut self.parts, t, End::Aborted);
         }
     }
 }

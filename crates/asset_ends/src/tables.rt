@@ -1,5 +1,6 @@
 //! The tables, and what they show.
 
+use crate::parts::Parts;
 use asset_deps::Deps;
 use asset_locks::Locks;
 use asset_names::{End, NoMemory, Ob, Op, Status, Txn};
@@ -15,11 +16,7 @@ use std::marker::Model;
 #[derive(Drop)]
 pub struct Tables {
     pub(crate) alloc: Global,
-    pub(crate) objects: Objects,
-    pub(crate) locks: Locks,
-    pub(crate) permits: Permits,
-    pub(crate) trans: Trans,
-    pub(crate) deps: Deps,
+    pub(crate) parts: Parts,
 }
 
 impl Model for Tables {
@@ -27,9 +24,9 @@ impl Model for Tables {
 
     ghost Value = { Standing };
 
-    ghost view = { λ t. record { trans = t.trans; objects = t.objects; locks = t.locks; permits = t.permits; deps = t.deps.dependencies } };
+    ghost view = { λ t. record { trans = t.parts.trans; objects = t.parts.objects; locks = t.parts.locks; permits = t.parts.permits; deps = t.parts.deps.dependencies } };
 
-    ghost invariant = { λ t. IsValid t.trans t.locks t.deps };
+    ghost invariant = { λ t. IsValid t.parts.trans t.parts.locks t.parts.deps };
 }
 
 impl Tables {
@@ -78,14 +75,14 @@ impl Tables {
         ensures shows { (opening : Opening) → cells objects ≡ opened opening → Shows opening [] (values_of result) }
         ensures locks { result.locks ≡ [] }
     {
-        Tables {
-            alloc,
+        let parts = Parts {
             objects,
             locks: Locks::new(alloc),
             permits: Permits::new(alloc),
             trans: Trans::new(alloc),
             deps: Deps::new(alloc),
-        }
+        };
+        Tables { alloc, parts }
     }
 
     /// Returns the status of a transaction: Unknown if it was never initiated.
@@ -93,7 +90,7 @@ impl Tables {
         ensures row { result ≡ status_in self.now.trans t.0 }
         ensures shown { ForShown self.now (λ opening steps. result ≡ status steps t.0) }
     {
-        self.trans.status(t)
+        self.parts.trans.status(t)
     }
 
     /// Returns how many entries all live transactions are owed.
@@ -101,7 +98,7 @@ impl Tables {
         ensures counted { result ≡ owed_in self.now.trans }
         ensures shown { ForShown self.now (λ opening steps. IsOrderly steps → result ≡ owed steps) }
     {
-        self.trans.owed()
+        self.parts.trans.owed()
     }
 
     /// Returns how many transactions have ended in this way. It is a counter: no row is looked at.
@@ -109,7 +106,7 @@ impl Tables {
         ensures counted { result ≡ ended_in how self.now.trans }
         ensures shown { ForShown self.now (λ opening steps. IsOrderly steps → result ≡ ended_count how steps) }
     {
-        self.trans.ended(how)
+        self.parts.trans.ended(how)
     }
 
     /// Returns the value of an object, and `None` if there is no such object.
@@ -117,7 +114,7 @@ impl Tables {
         ensures cell { result ≡ value_in (cells self.now.objects) x.0 }
         ensures shown { ForShown self.now (λ opening steps. result ≡ value_if_any opening steps x.0) }
     {
-        self.objects.value(x)
+        self.parts.objects.value(x)
     }
 
     /// Returns the waiter of this index for `x`, in order of initiation from 0, with the operation that it asked for,
@@ -125,7 +122,7 @@ impl Tables {
     pub fn waiters(&self, x: Ob, index: usize) -> Option<(Txn, Op)>
         ensures { result ≡ slice_get (waiters_in self.now.locks x.0) index }
     {
-        self.locks.waiters(x, index)
+        self.parts.locks.waiters(x, index)
     }
 
     /// Returns whether `x` is free for `t` to do `op`. Nothing changes: a search for permits marks what it met, and no
@@ -136,6 +133,6 @@ impl Tables {
         ensures allowed { ForShown self.old (λ opening steps. (u v y : ℕ) (o : Operation) → allows_by self.old.permits u v y o ≡ allows steps u v y o) }
         ensures same { self.new ≡ self.old }
     {
-        self.locks.is_free(t, x, op, &mut self.permits)
+        self.parts.locks.is_free(t, x, op, &mut self.parts.permits)
     }
 }

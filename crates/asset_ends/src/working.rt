@@ -24,11 +24,11 @@ impl Tables {
         ensures locks { OnOk result (self.new.locks ≡ enrol_in t.0 self.old.locks) }
         ensures unchanged { OnErr result (SameView self.new self.old) }
     {
-        self.locks.enrol(t)?;
-        match self.trans.initiate(t, parent) {
+        self.parts.locks.enrol(t)?;
+        match self.parts.trans.initiate(t, parent) {
             Ok(()) => Ok(()),
             Err(fault) => {
-                self.locks.release(t);
+                self.parts.locks.release(t);
                 Err(fault)
             }
         }
@@ -40,7 +40,7 @@ impl Tables {
         ensures stand { ShowsWith self.old (Step.Begin t) self.new }
         ensures locks { self.new.locks ≡ self.old.locks }
     {
-        self.trans.begin(t);
+        self.parts.trans.begin(t);
     }
 
     /// Reads an object for a transaction that runs, which holds it by a read from then on. If the object is not free, the
@@ -54,8 +54,12 @@ impl Tables {
         ensures memory { IsErr result → is_free_for self.old t.0 x.0 Operation.Read ≡ true }
         ensures unchanged { OnErr result (SameView self.new self.old) }
     {
-        match self.locks.ask(t, x, Op::Read, &mut self.permits)? {
-            Asked::Granted => Ok(self.objects.value(x)),
+        match self
+            .parts
+            .locks
+            .ask(t, x, Op::Read, &mut self.parts.permits)?
+        {
+            Asked::Granted => Ok(self.parts.objects.value(x)),
             Asked::Pending => Ok(None),
         }
     }
@@ -72,7 +76,7 @@ impl Tables {
         ensures memory { IsErr result → is_free_for self.old t.0 x.0 Operation.Write ≡ true }
         ensures unchanged { OnErr result (SameView self.new self.old) }
     {
-        match self.objects.reserve_write() {
+        match self.parts.objects.reserve_write() {
             Ok(()) => self.write_reserved(t, x, v),
             Err(fault) => self.wait_unless_free(t, x, fault),
         }
@@ -93,9 +97,13 @@ impl Tables {
         ensures memory { IsErr result → is_free_for self.old t.0 x.0 Operation.Write ≡ true }
         ensures unchanged { OnErr result (self.new ≡ self.old) }
     {
-        match self.locks.ask(t, x, Op::Write, &mut self.permits)? {
+        match self
+            .parts
+            .locks
+            .ask(t, x, Op::Write, &mut self.parts.permits)?
+        {
             Asked::Granted => {
-                self.objects.write(t, x, v);
+                self.parts.objects.write(t, x, v);
                 Ok(true)
             }
             Asked::Pending => Ok(false),
@@ -116,10 +124,16 @@ impl Tables {
         ensures memory { IsErr result → is_free_for self.old t.0 x.0 Operation.Write ≡ true }
         ensures unchanged { OnErr result (self.new ≡ self.old) }
     {
-        if self.locks.is_free(t, x, Op::Write, &mut self.permits) {
+        if self
+            .parts
+            .locks
+            .is_free(t, x, Op::Write, &mut self.parts.permits)
+        {
             return Err(fault);
         }
-        self.locks.ask(t, x, Op::Write, &mut self.permits)?;
+        self.parts
+            .locks
+            .ask(t, x, Op::Write, &mut self.parts.permits)?;
         Ok(false)
     }
 
@@ -129,7 +143,7 @@ impl Tables {
         ensures stand { ShowsWith self.old (Step.Complete t) self.new }
         ensures locks { self.new.locks ≡ self.old.locks }
     {
-        self.trans.complete(t);
+        self.parts.trans.complete(t);
     }
 
     /// Lets the taker do the operations on the objects although they conflict with the giver's. Both are live. If memory
@@ -141,6 +155,6 @@ impl Tables {
         ensures locks { self.new.locks ≡ self.old.locks }
         ensures unchanged { OnErr result (SameView self.new self.old) }
     {
-        self.permits.add(giver, taker, obs, ops)
+        self.parts.permits.add(giver, taker, obs, ops)
     }
 }

@@ -4,8 +4,9 @@ use Rattle.asset_names.specs.Answers.{takes_memory}
 use Rattle.asset_locks.specs.Valid.{after_ask}
 use Rattle.asset_ends.specs.Standing.{step_if}
 use Rattle.asset_names.specs.Steps.{value_asked}
+use Rattle.asset_names.proofs.Common.{on_ok, always_ok}
 use Rattle.asset_ends.specs.Ready.{locks_after}
-use Rattle.asset_ends.proofs.StandingLemmas.{on_ok, always_ok, always_err}
+use Rattle.asset_ends.proofs.StandingLemmas.{always_err}
 use Rattle.asset_ends.proofs.ShowsLemmas.{wait_shows}
 use Rattle.asset_ends.proofs.applying.apply_step.Goals as goal
 

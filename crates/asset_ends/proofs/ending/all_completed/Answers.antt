@@ -8,14 +8,14 @@ use Rattle.asset_ends.proofs.ending.all_completed.Goals.{in-Some+else-not-is_com
 
 pub returns-then-not-is_completed : goal.returns-then-not-is_completed
 returns-then-not-is_completed c =
-    sym (one_fails (λ n. is_completed (status_in c.args.trans.now n)) c.args.deps.now.marked c.marked.index c.in-Some.t.0 (sym c.in-Some.ensures) (ap is_completed (sym c.status.ensures) ∙ sym c.if-not-is_completed.ensures))
+    sym (one_fails (λ n. is_completed (status_in c.args.parts.now.trans n)) c.args.parts.now.deps.marked c.marked.index c.in-Some.t.0 (sym c.in-Some.ensures) (ap is_completed (sym c.status.ensures) ∙ sym c.if-not-is_completed.ensures))
 
 pub marked-preserved : goal.marked-preserved
 marked-preserved c = elim c.match-marked.branch [
   | in-Some+else-not-is_completed w ↦
-      one_passes (λ n. is_completed (status_in c.args.trans.now n)) c.args.deps.now.marked c.marked.index w.in-Some.t.0 (sym w.in-Some.ensures) (ap is_completed (sym w.status.ensures) ∙ sym w.if-not-is_completed.ensures) c.marked.invariant
+      one_passes (λ n. is_completed (status_in c.args.parts.now.trans n)) c.args.parts.now.deps.marked c.marked.index w.in-Some.t.0 (sym w.in-Some.ensures) (ap is_completed (sym w.status.ensures) ∙ sym w.if-not-is_completed.ensures) c.marked.invariant
   | in_default w ↦
-      let there = slice_get-get_or c.args.deps.now.marked c.marked.index 0 (omega (arith, c.marked_count-index-end.ensures, c.marked-test.true)) in
+      let there = slice_get-get_or c.args.parts.now.deps.marked c.marked.index 0 (omega (arith, c.marked_count-index-end.ensures, c.marked-test.true)) in
       let none = rw w.in_default.is at c.marked-in-marked.ensures in
       cc (there, none)
 ]

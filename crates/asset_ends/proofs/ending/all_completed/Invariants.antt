@@ -6,4 +6,4 @@ use Rattle.asset_ends.proofs.ending.all_completed.Given as goal
 
 -- the marked so far have completed
 abbrev pub invariant-marked : goal.invariant-marked
-invariant-marked l = list_all (λ n. is_completed (status_in l.trans n)) (take l.index l.deps.marked) ≡ true
+invariant-marked l = list_all (λ n. is_completed (status_in l.parts.trans n)) (take l.index l.parts.deps.marked) ≡ true

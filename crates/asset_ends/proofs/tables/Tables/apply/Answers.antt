@@ -1,6 +1,6 @@
 use Rattle.std.proofs.Common.{sym, ◌∙◌}
 use Rattle.asset_names.proofs.AppliedLemmas.{applied_with_effect, applied_without_effect}
-use Rattle.asset_ends.proofs.StandingLemmas.{on_ok}
+use Rattle.asset_names.proofs.Common.{on_ok}
 use Rattle.asset_ends.proofs.tables.Tables.apply.Goals as goal
 
 pub returns-clause-stand : goal.returns-clause-stand

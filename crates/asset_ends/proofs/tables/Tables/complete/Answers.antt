@@ -12,8 +12,8 @@ unfolding is_unknown is_live_status
 invariant_of-self c =
     let runs = rw (← c.self.view_is) at c.requires.runs in
     rw c.complete.ensures (record {
-      locks = changed_enrolled c.self.inside.trans c.self.inside.locks c.args.t.0 Status'.Completed (ap is_unknown runs) (ap is_live_status runs) c.self.invariant.locks;
-      deps = changed_depends c.self.inside.trans c.self.inside.deps c.args.t.0 Status'.Completed (ap is_unknown runs) refl c.self.invariant.deps;
+      locks = changed_enrolled c.self.inside.parts.trans c.self.inside.parts.locks c.args.t.0 Status'.Completed (ap is_unknown runs) (ap is_live_status runs) c.self.invariant.locks;
+      deps = changed_depends c.self.inside.parts.trans c.self.inside.parts.deps c.args.t.0 Status'.Completed (ap is_unknown runs) refl c.self.invariant.deps;
     })
 
 pub returns-clause-stand : goal.returns-clause-stand

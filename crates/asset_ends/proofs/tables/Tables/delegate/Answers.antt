@@ -17,7 +17,7 @@ hand_over-requires-clause-taker c = live_enrolled _ _ c.args.taker.0 c.self.inva
 pub invariant_of-self-2 : goal.invariant_of-self-2
 unfolding AreEnrolled
 invariant_of-self-2 c = record {
-  locks = rw c.hand_over.ensures.done (λ t. ap (λ names. lists names t) (names_handed c.args.giver.0 c.args.taker.0 c.args.obs.now c.self.inside.locks) ∙ c.self.invariant.locks t);
+  locks = rw c.hand_over.ensures.done (λ t. ap (λ names. lists names t) (names_handed c.args.giver.0 c.args.taker.0 c.args.obs.now c.self.inside.parts.locks) ∙ c.self.invariant.locks t);
   deps = c.self.invariant.deps;
 }
 

@@ -1,15 +1,14 @@
-use Rattle.std.proofs.Common.{refl, sym, ◌∙◌, ap}
-use Rattle.asset_names.specs.Endings.{is_live_status}
-use Rattle.asset_deps.specs.Dependencies.{DepTable}
+use Rattle.std.proofs.Common.{refl, sym, ◌∙◌}
+use Rattle.asset_names.proofs.Common.{on_ok}
 use Rattle.asset_ends.proofs.EnrolledLemmas.{joined_depends, same_depends}
 use Rattle.asset_ends.proofs.ShowsLemmas.{depend_shows, live_shown}
-use Rattle.asset_ends.proofs.StandingLemmas.{on_ok, stand_as}
+use Rattle.asset_ends.proofs.StandingLemmas.{stand_as}
 use Rattle.asset_ends.proofs.tables.Tables.depend.Goals as goal
 
 pub invariant_of-self-in_err-enrol-2 : goal.invariant_of-self-in_err-enrol-2
 invariant_of-self-in_err-enrol-2 c =
     let one = rw (← c.self.view_is) at c.requires.source in
-    rw c.in_err-enrol-2.ensures.unchanged (record { locks = c.self.invariant.locks; deps = joined_depends c.self.inside.trans c.self.inside.deps c.enrol.new.self c.args.a.0 one c.in_ok-enrol.ensures.names c.self.invariant.deps })
+    rw c.in_err-enrol-2.ensures.unchanged (record { locks = c.self.invariant.locks; deps = joined_depends c.self.inside.parts.trans c.self.inside.parts.deps c.enrol.new.self c.args.a.0 one c.in_ok-enrol.ensures.names c.self.invariant.deps })
 
 pub invariant_of-self-2 : goal.invariant_of-self-2
 invariant_of-self-2 c =
@@ -17,8 +16,8 @@ invariant_of-self-2 c =
     let other = rw (← c.self.view_is) at c.requires.dependent in
     record {
       locks = c.self.invariant.locks;
-      deps = same_depends c.self.inside.trans c.enrol-2.new.self c.add.new.self c.add.ensures.names (joined_depends c.self.inside.trans c.enrol.new.self c.enrol-2.new.self c.args.b.0 other c.in_ok-enrol-2.ensures.names
-          (joined_depends c.self.inside.trans c.self.inside.deps c.enrol.new.self c.args.a.0 one c.in_ok-enrol.ensures.names c.self.invariant.deps));
+      deps = same_depends c.self.inside.parts.trans c.enrol-2.new.self c.add.new.self c.add.ensures.names (joined_depends c.self.inside.parts.trans c.enrol.new.self c.enrol-2.new.self c.args.b.0 other c.in_ok-enrol-2.ensures.names
+          (joined_depends c.self.inside.parts.trans c.self.inside.parts.deps c.enrol.new.self c.args.a.0 one c.in_ok-enrol.ensures.names c.self.invariant.deps));
     }
 
 pub returns-clause-stand : goal.returns-clause-stand

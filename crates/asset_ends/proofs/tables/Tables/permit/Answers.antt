@@ -1,6 +1,7 @@
 use Rattle.std.proofs.Common.{refl, sym, ◌∙◌}
+use Rattle.asset_names.proofs.Common.{on_ok}
 use Rattle.asset_ends.proofs.ShowsLemmas.{permit_shows, live_shown}
-use Rattle.asset_ends.proofs.StandingLemmas.{on_ok, stand_as}
+use Rattle.asset_ends.proofs.StandingLemmas.{stand_as}
 use Rattle.asset_ends.proofs.tables.Tables.permit.Goals as goal
 
 pub returns-clause-stand : goal.returns-clause-stand

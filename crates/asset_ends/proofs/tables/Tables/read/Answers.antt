@@ -1,10 +1,11 @@
 use Rattle.std.proofs.Common.{refl, sym, ◌∙◌}
 use Rattle.asset_names.specs.declared.operations.Op.TheVariants as Op'
+use Rattle.asset_names.proofs.Common.{always_ok}
 use Rattle.asset_ends.specs.Standing.{is_free_for}
 use Rattle.asset_ends.proofs.AskedLemmas.{granted_free, pending_blocked, read_asked_shows}
 use Rattle.asset_ends.proofs.EnrolledLemmas.{running_enrolled, asked_enrolled}
 use Rattle.asset_ends.proofs.ShowsLemmas.{running_live}
-use Rattle.asset_ends.proofs.StandingLemmas.{always_ok, stand_as}
+use Rattle.asset_ends.proofs.StandingLemmas.{stand_as}
 use Rattle.asset_ends.proofs.tables.Tables.read.Goals as goal
 use Rattle.asset_ends.proofs.tables.Tables.read.Goals.{in-Granted, in-Pending}
 
