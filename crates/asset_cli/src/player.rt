@@ -1,8 +1,9 @@
 //! Who answers the steps of a script.
 
-ghost use Rattle.std.specs.Prelude.{◌≡◌, ◌↔◌, false, IfOk, OnErr, IsErrOf};
+ghost use Rattle.std.specs.Prelude.{◌≡◌, IfOk};
 ghost use Rattle.asset_names.specs.Sets.{HasNoDouble};
-ghost use Rattle.asset_history.specs.Recorded.{objects_of, opened, answer_to, after, has_room};
+ghost use Rattle.asset_history.specs.Answered.{IsAnswered};
+ghost use Rattle.asset_history.specs.Recorded.{objects_of, opened};
 ghost use Rattle.asset_core.specs.OpenFaults.{IsCapacity};
 ghost use Rattle.asset_cli.specs.Playing.{history_of, traces_in, left_of};
 
@@ -45,10 +46,7 @@ pub(crate) fn open_player(
 #[inline(always)]
 #[tactic(auto, unfolding(crate::specs::Playing::history_of, crate::specs::Playing::traces_in))]
 pub(crate) fn play_step(player: &mut Player, step: &Step) -> Result<Outcome, Fault>
-    ensures answered { IfOk result (λ outcome. outcome ≡ answer_to (history_of player.old) step.now) }
-    ensures grown { IfOk result (λ outcome. history_of player.new ≡ after (history_of player.old) step.now outcome) }
-    ensures full { IsErrOf result Fault.Full ↔ (has_room (history_of player.old) step.now (answer_to (history_of player.old) step.now) ≡ false) }
-    ensures fault { OnErr result (history_of player.new ≡ history_of player.old) }
+    ensures answered { IsAnswered (history_of player.old) step.now result (history_of player.new) }
     ensures same { traces_in player.new ≡ traces_in player.old }
 {
     match player {
