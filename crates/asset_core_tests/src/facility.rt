@@ -3,7 +3,7 @@
 use crate::again::opened;
 use crate::opening::{ROOM, THREE};
 use crate::script::{first_other_entry, first_wrong_line};
-use asset_core::{Core, OpenFault};
+use asset_core::{Core, Counts, OpenFault};
 use asset_names::{NoMemory, Ob, Op, Status, Txn, least_double};
 use std::alloc::Global;
 use std::test::Fail;
@@ -167,4 +167,35 @@ const DELEGATIONS: &str = "\
 #[test]
 fn delegations_are_entries_with_their_objects(rt: HostRuntime) {
     assert_eq!(rt; wrong_over_three(rt.alloc(), DELEGATIONS), Ok([None; 2]));
+}
+
+/// Two transactions of one class, which commits, one that aborts, and one that is refused.
+const ENDS: &str = "\
+    initiate 7: ok\nbegin 7: ok\ncomplete 7: ok\ninitiate 8: ok\nbegin 8: ok\ncomplete 8: ok\n\
+    initiate 9: ok\ndepend gc 7 8: ok\ncommit 8: committed\nabort 9: aborted\nbegin 9: refused ended 9\n";
+
+/// Asks the steps of `ENDS`. Returns the counts before and after, and the first line that goes wrong.
+fn counts_of_both(alloc: Global, core: &mut Core) -> ([Counts; 2], Option<usize>) {
+    let before = core.counts();
+    let wrong = first_wrong_line(alloc, core, ENDS);
+    ([before, core.counts()], wrong)
+}
+
+#[test]
+fn entries_and_ends_are_counted(rt: HostRuntime) -> Result<(), Fail> {
+    let mut core = opened(rt.alloc(), &THREE, ROOM)?;
+    let (counts, wrong) = counts_of_both(rt.alloc(), &mut core);
+    drop(core);
+    let none = Counts {
+        entries: 0,
+        committed: 0,
+        aborted: 0,
+    };
+    let some = Counts {
+        entries: 11,
+        committed: 2,
+        aborted: 1,
+    };
+    assert_eq!(rt; (counts, wrong), ([none, some], None));
+    Ok(())
 }

@@ -129,3 +129,32 @@ fn out_of_memory_changes_nothing(rt: HostRuntime) {
     drop(trans);
     assert!(rt; initiated);
 }
+
+/// Returns how many have committed and how many have aborted.
+fn ended(trans: &Trans) -> (usize, usize) {
+    (trans.ended(End::Committed), trans.ended(End::Aborted))
+}
+
+/// Returns how many have ended in each way before anybody is there, and after one commit and two aborts among five.
+fn counts_of_ends(trans: &mut Trans) -> Option<[(usize, usize); 2]> {
+    let before = ended(trans);
+    for t in 1..6 {
+        if initiate_again(trans, Txn(t), None) != Ok(true) {
+            return None;
+        }
+    }
+    for (t, how) in [(2, End::Aborted), (4, End::Committed), (5, End::Aborted)] {
+        if !end(trans, Txn(t), how) {
+            return None;
+        }
+    }
+    Some([before, ended(trans)])
+}
+
+#[test]
+fn ended_transactions_are_counted(rt: HostRuntime) {
+    let mut trans = Trans::new(rt.alloc());
+    let counts = counts_of_ends(&mut trans);
+    drop(trans);
+    assert_eq!(rt; counts, Some([(0, 0), (1, 2)]));
+}

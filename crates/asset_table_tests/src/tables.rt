@@ -1,7 +1,7 @@
 //! Worked rows as calls of the tables, which answer for no refusal, and what is left if memory runs out.
 
 use asset_ends::{Tables, Tried};
-use asset_names::{NoMemory, Ob, ObList, ObSet, Op, Ops, Status, Txn};
+use asset_names::{End, NoMemory, Ob, ObList, ObSet, Op, Ops, Status, Txn};
 use asset_objects::ObjectsFault;
 use std::alloc::Global;
 use std::test::Fail;
@@ -189,6 +189,7 @@ fn one_transaction(tables: &mut Tables) -> bool {
         && tables.status(Txn(7)) == Status::Committed
         && tables.value(Ob(1)) == Some(50)
         && tables.owed() == 0
+        && (tables.ended(End::Committed), tables.ended(End::Aborted)) == (1, 0)
 }
 
 /// Starts transactions 7, 8 and 9, and returns whether they are new.

@@ -69,6 +69,8 @@ fn wrong_ones(trans: &mut Trans) -> [Option<usize>; 4] {
 fn five_thousand_transactions_live(rt: HostRuntime) {
     let mut trans = Trans::new(rt.alloc());
     let wrong = wrong_ones(&mut trans);
+    let ended = (trans.ended(End::Committed), trans.ended(End::Aborted));
     drop(trans);
     assert_eq!(rt; wrong, [None; 4]);
+    assert_eq!(rt; ended, (LIVE, 0));
 }
