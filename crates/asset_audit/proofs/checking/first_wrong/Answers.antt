@@ -1,7 +1,7 @@
 use Rattle.std.proofs.Common.{map, take, reverse, sym, refl, arith, true≢false}
 use Rattle.asset_audit.specs.Audited.{Call, IsGood}
 use Rattle.asset_audit.proofs.Places.{good_rises, one_more, item_at}
-use Rattle.asset_audit.proofs.auditing.first_wrong.Goals as goal
+use Rattle.asset_audit.proofs.checking.first_wrong.Goals as goal
 
 pub is_good-requires-clause-before : goal.is_good-requires-clause-before
 is_good-requires-clause-before g c = good_rises (reverse c.args.history.now.entries) (map g.C.Calls.listed c.args.earlier.now) c.args.calls.now c.loop-place.place c.loop-place.invariant

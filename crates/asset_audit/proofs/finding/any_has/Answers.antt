@@ -2,7 +2,7 @@ use Rattle.std.proofs.Common.{List, map, subst, sym, refl, arith, true≢false}
 use Rattle.std.proofs.lemmas.Option.{slice_get_within}
 use Rattle.asset_audit.specs.Audited.{Call, Rises, HasNumber}
 use Rattle.asset_audit.proofs.Places.{item_there, length_of-map, one_more}
-use Rattle.asset_audit.proofs.auditing.any_has.Goals as goal
+use Rattle.asset_audit.proofs.finding.any_has.Goals as goal
 
 pub has_number-requires : goal.has_number-requires
 has_number-requires g c = subst Rises (sym c.calls.ensures) (c.requires _ _ (item_there g.C.Calls.listed c.args.sessions.now _ c.session-item.result (omega arith) c.session-item.is))

@@ -1,0 +1,64 @@
+//! How many of the first sessions have no number in common, found by marks for one window of numbers after another.
+
+ghost use Rattle.std.specs.Prelude.{◌≡◌, ◌+◌, ◌<◌, ◌≤◌, ◌^◌, map, length, IsTrue};
+ghost use Rattle.asset_audit.specs.Audited.{Rises, AllRise};
+ghost use Rattle.asset_audit.specs.Apart.{IsMarked, AreApartIn, AreApartBelow};
+
+use crate::calls::Calls;
+use crate::finding::count_below;
+use asset_names::{Reply, Step};
+
+/// How many numbers a window has, with a mark for each.
+const WINDOW: usize = 65536;
+
+/// Returns how many of the first sessions have no number below `limit` in common. It does not allocate. It goes over the
+/// calls once, and makes a binary search in each session for each window.
+pub(crate) fn count_apart<C: Calls>(sessions: &[C], limit: usize) -> usize
+    requires rise { AllRise (map C.listed sessions.now) }
+    requires limit { limit < 2 ^ 63 }
+    ensures within { result ≤ length sessions.now }
+    ensures apart { AreApartBelow (map C.listed sessions.now) result limit }
+{
+    let mut apart = sessions.len();
+    let mut first = 0;
+    while first < limit {
+        apart = count_apart_from(&sessions[..apart], first);
+        first += WINDOW;
+    }
+    apart
+}
+
+/// Returns how many of the first sessions have no number of the window from `first` on in common.
+fn count_apart_from<C: Calls>(sessions: &[C], first: usize) -> usize
+    requires { AllRise (map C.listed sessions.now) }
+    ensures within { result ≤ length sessions.now }
+    ensures apart { AreApartIn (map C.listed sessions.now) result first 65536 }
+{
+    let mut marks = [false; WINDOW];
+    for (place, session) in sessions.iter().enumerate() {
+        if !mark_calls(session.calls(), first, &mut marks) {
+            return place;
+        }
+    }
+    sessions.len()
+}
+
+/// Sets the marks of the calls whose numbers are in the window from `first` on; returns whether none was set before.
+fn mark_calls(calls: &[(usize, Step, Reply)], first: usize, marks: &mut [bool]) -> bool
+    requires { Rises calls.now }
+    ensures length { length marks.new ≡ length marks.old }
+    ensures marked { IsTrue result → IsMarked calls.now first marks.old marks.new }
+{
+    let start = count_below(calls, first);
+    for place in start..calls.len() {
+        let offset = calls[place].0 - first;
+        if offset >= marks.len() {
+            return true;
+        }
+        if marks[offset] {
+            return false;
+        }
+        marks[offset] = true;
+    }
+    true
+}
