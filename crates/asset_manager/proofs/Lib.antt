@@ -1,0 +1,2 @@
+pub mod ServeLemmas
+pub mod AskLemmas

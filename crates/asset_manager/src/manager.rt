@@ -1,0 +1,215 @@
+//! The manager.
+
+ghost use Rattle.std.specs.Prelude.{◌≡◌, [], IfOk, IfErr, OnOk, IsOk, Some, map, reverse};
+ghost use Rattle.std.specs.Arc.{arc_value};
+ghost use Rattle.asset_names.specs.Answers.{IsLegal};
+ghost use Rattle.asset_audit.specs.Audited.{IsAudit, HasEach};
+ghost use Rattle.asset_core.specs.OpenFaults.{MayOpen, IsOpenFault};
+ghost use Rattle.asset_counts.specs.Shown.{no_counts};
+ghost use Rattle.asset_manager.specs.Serves.{IsServed};
+ghost use Rattle.asset_manager.specs.Asks.{as_outcome};
+
+use crate::book::{Book, Closed};
+use crate::session::Session;
+use asset_core::{Core, OpenFault};
+use asset_counts::{Publisher, Watch, WatchPass};
+use asset_names::{Fault, NoMemory, Ob, Outcome, Reply, Step};
+use std::alloc::Global;
+use std::marker::Model;
+use std::sync::{Arc, Condvar, Mutex, Wait};
+
+/// Does nothing. A call of it fails to compile unless the type may go to another thread.
+fn needs_send<T: Send>() {}
+
+/// Does nothing. A call of it fails to compile unless threads may share the type.
+fn needs_sync<T: Sync>() {}
+
+/// A word of counts that shows zeros, three times, with the right to publish there and a pass of it.
+#[derive(Drop)]
+struct Word {
+    for_book: Arc<Watch, Global>,
+    for_session: Arc<Watch, Global>,
+    for_manager: Arc<Watch, Global>,
+    by: Publisher,
+    pass: WatchPass,
+}
+
+/// Returns the word, to be shared.
+fn share(alloc: Global, watch: Watch) -> Result<Arc<Watch, Global>, NoMemory>
+    ensures { IfOk result (λ shared. arc_value shared ≡ watch) }
+{
+    match Arc::new(alloc, watch) {
+        Ok(shared) => Ok(shared),
+        Err(_) => Err(NoMemory),
+    }
+}
+
+/// Returns the word once more. It answers `NoMemory` if it has too many owners.
+fn again(watch: &Arc<Watch, Global>) -> Result<Arc<Watch, Global>, NoMemory>
+    ensures { IfOk result (λ shared. arc_value shared ≡ arc_value watch.now) }
+{
+    match Arc::try_clone(watch) {
+        Ok(shared) => Ok(shared),
+        Err(_) => Err(NoMemory),
+    }
+}
+
+/// Returns a new word of counts.
+fn make_word(alloc: Global) -> Result<Word, NoMemory>
+    ensures { IfOk result (λ word. (arc_value word.for_book ≡ arc_value word.for_manager) × (arc_value word.for_session ≡ arc_value word.for_manager) × (word.by.of ≡ arc_value word.for_manager) × (word.by.last ≡ no_counts) × (word.pass.of ≡ Some (arc_value word.for_manager)) × (word.pass.last ≡ no_counts)) }
+{
+    let (watch, mut by) = Watch::open(alloc)?;
+    let pass = watch.pass_of(&mut by);
+    let for_manager = share(alloc, watch)?;
+    let for_book = again(&for_manager)?;
+    let for_session = again(&for_manager)?;
+    Ok(Word {
+        for_book,
+        for_session,
+        for_manager,
+        by,
+        pass,
+    })
+}
+
+/// A facility under a lock, to be shared by threads, each of which asks by a session. Contracts see its word of
+/// published counts, by which they know which sessions are its own. It is `Send` and `Sync`.
+#[derive(Drop)]
+pub struct Manager {
+    book: Mutex<Book>,
+    turned: Condvar,
+    watch: Arc<Watch, Global>,
+}
+
+impl Model for Manager {
+    ghost use Rattle.std.specs.Arc.{arc_value};
+    ghost use Rattle.atomic_table.specs.Seated.{TableId};
+
+    ghost Value = { TableId };
+
+    ghost view = { λ manager. arc_value manager.watch };
+}
+
+impl Manager {
+    /// Opens a manager of a facility over these objects with their values, with room for `capacity` entries, and its
+    /// first session.
+    ///
+    /// It answers `BadCapacity` unless the capacity is from 1 to 1,000,000; otherwise `DoubleObject` with the least
+    /// object that is given twice; otherwise `NoMemory` if memory runs out.
+    pub fn open(
+        alloc: Global,
+        opening: &[(Ob, i64)],
+        capacity: usize,
+    ) -> Result<(Manager, Session), OpenFault>
+        ensures of { IfOk result (λ opened. opened.1.of ≡ Some opened.0) }
+        ensures calls { IfOk result (λ opened. opened.1.list.calls ≡ []) }
+        ensures seen { IfOk result (λ opened. opened.1.seen ≡ no_counts) }
+        ensures may { OnOk result (MayOpen opening.now capacity) }
+        ensures fault { IfErr result (IsOpenFault opening.now capacity) }
+    {
+        let core = Core::open(alloc, opening, capacity)?;
+        match make_word(alloc) {
+            Ok(word) => Ok(Manager::over(alloc, core, word)),
+            Err(NoMemory) => {
+                // The tables are dropped there, by name.
+                drop(core.into_history());
+                Err(OpenFault::NoMemory)
+            }
+        }
+    }
+
+    /// Returns a manager of a facility without entries, and its first session.
+    fn over(alloc: Global, core: Core, word: Word) -> (Manager, Session)
+        requires empty { core.history.entries ≡ [] }
+        requires word { (arc_value word.for_book ≡ arc_value word.for_manager) × (arc_value word.for_session ≡ arc_value word.for_manager) }
+        requires by { (word.by.of ≡ arc_value word.for_manager) × (word.by.last ≡ no_counts) }
+        requires pass { (word.pass.of ≡ Some (arc_value word.for_manager)) × (word.pass.last ≡ no_counts) }
+        ensures of { result.1.of ≡ Some result.0 }
+        ensures calls { result.1.list.calls ≡ [] }
+        ensures seen { result.1.seen ≡ no_counts }
+    {
+        needs_send::<Session>();
+        needs_send::<Manager>();
+        needs_sync::<Manager>();
+        let Word {
+            for_book,
+            for_session,
+            for_manager,
+            by,
+            pass,
+        } = word;
+        let manager = Manager {
+            book: Mutex::new(Book::new(core, for_book, by)),
+            turned: Condvar::new(),
+            watch: for_manager,
+        };
+        (manager, Session::first(alloc, for_session, pass))
+    }
+
+    /// Returns the word of published counts.
+    pub fn watch(&self) -> &Watch
+        ensures { result.now ≡ self.now }
+    {
+        self.word()
+    }
+
+    /// Returns the word of published counts, to be shared.
+    pub(crate) fn word(&self) -> &Arc<Watch, Global>
+        ensures { arc_value result.now ≡ self.now }
+    {
+        &self.watch
+    }
+
+    /// Serves a step under the lock.
+    pub(crate) fn serve<R: Wait>(
+        &self,
+        rt: &R,
+        session: &mut Session,
+        step: &Step,
+    ) -> Result<Outcome, Fault>
+        ensures { IsServed session.old step.now result session.new }
+    {
+        self.book.lock(rt).serve_lent(session, step)
+    }
+
+    /// Serves a step under the lock, and while the answer is to wait gives the lock up and sleeps until it is woken.
+    pub(crate) fn serve_waiting<R: Wait>(
+        &self,
+        rt: &R,
+        session: &mut Session,
+        step: &Step,
+    ) -> Result<Reply, Fault>
+        ensures { IsServed session.old step.now (as_outcome result) session.new }
+    {
+        let mut book = self.book.lock(rt);
+        for _ in rt.forever() {
+            match book.serve_lent(session, step) {
+                Ok(Outcome::Answer(reply)) => return Ok(reply),
+                Ok(Outcome::Wait) => {}
+                Err(fault) => return Err(fault),
+            }
+            book = self.turned.wait(rt, book);
+        }
+        unreachable!()
+    }
+
+    /// Wakes all who sleep until somebody's step is answered.
+    pub(crate) fn notify(&self) {
+        self.turned.notify_all();
+    }
+
+    /// Closes the manager: returns the history, and the audit of the sessions against it, as `Book::close` does. It
+    /// does not allocate.
+    pub fn close(self, sessions: Vec<Session>) -> Closed
+        ensures legal { IsLegal result.history.opening result.history.entries }
+        ensures audit { IsAudit (reverse result.history.entries) (map (λ session. session.list.calls) sessions.items) result.audit }
+        ensures each { IsOk result.audit → HasEach (reverse result.history.entries) (map (λ session. session.list.calls) sessions.items) }
+    {
+        let Manager {
+            book,
+            turned: _,
+            watch: _,
+        } = self;
+        book.into_inner().close(sessions)
+    }
+}
