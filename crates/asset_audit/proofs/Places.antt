@@ -1,5 +1,5 @@
 -- Reads of lists by place.
-use Rattle.std.proofs.Common.{◌≡◌, ℕ, zero, suc, ◌+◌, ◌-◌, ◌<◌, List, [], ◌∷◌, length, map, take, slice_get, get_or, Some, sym, ap, ◌∙◌, subst, refl, arith}
+use Rattle.std.proofs.Common.{◌≡◌, ℕ, zero, suc, ◌+◌, ◌-◌, ◌<◌, ◌≤◌, List, [], ◌∷◌, length, map, take, slice_get, get_or, Some, sym, ap, ◌∙◌, subst, refl, arith}
 use native.Mathlib.Decide.{ℕ_discrete}
 use Rattle.std.proofs.lemmas.Option.{slice_get-get_or, slice_get_within, slice_get_read, slice_get-map}
 use Rattle.std.specs.Option.{option_map}
@@ -76,3 +76,10 @@ above_last l d n rises some lt k b e = go (ℕ_discrete k (length l - 1)) where
 
 pub last_above : (l : List Call) (d : Call) (n : ℕ) → 0 < length l → IsAbove l n → (get_or l (length l - 1) d).0 < n
 last_above l d n some above = above (length l - 1) (get_or l (length l - 1) d) (slice_get-get_or l (length l - 1) d (omega (arith, some)))
+
+-- what stands at a place or after it has no lower number
+pub later_above : (l : List Call) (n : ℕ) (c : Call) → Rises l → slice_get l n ≡ Some c → (k : ℕ) (d : Call) → n ≤ k → slice_get l k ≡ Some d → c.0 ≤ d.0
+later_above l n c rises at k d most e = go (ℕ_discrete k n) where
+  go : Dec (k ≡ n) → c.0 ≤ d.0
+  go (yes same) = let one : d ≡ c = some_inj d c (sym e ∙ (ap (slice_get l) same ∙ at)) in let numbers : d.0 ≡ c.0 = ap (λ (x : Call). x.0) one in omega arith
+  go (no other) = let lower : c.0 < d.0 = rises n k c d (omega arith) at e in omega arith

@@ -50,8 +50,5 @@ told_next ss k l e = subst (λ n. told_by (take n ss) ≡ told_by (take k ss) + 
   next = omega arith
 
 -- when all sessions were looked at
-pub all_good : (log : List Entry) (ss : List (List Call)) (k : ℕ) → length ss ≤ k → ListsAreGood log ss k → ListsAreGood log ss (length ss)
-all_good log ss k most good i l lt e = good i l (omega (arith, lt, most)) e
-
 pub all_told : (ss : List (List Call)) (k : ℕ) → length ss ≤ k → told_by (take k ss) ≡ told_by ss
 all_told ss k most = ap told_by (take_all k ss most)

@@ -1,8 +1,8 @@
 //! How many of the first sessions have no number in common, found by marks for one window of numbers after another.
 
-ghost use Rattle.std.specs.Prelude.{◌≡◌, ◌+◌, ◌<◌, ◌≤◌, ◌^◌, map, length, IsTrue};
+ghost use Rattle.std.specs.Prelude.{◌≡◌, ◌+◌, ◌<◌, ◌≤◌, ◌^◌, map, length, IsTrue, IsFalse};
 ghost use Rattle.asset_audit.specs.Audited.{Rises, AllRise};
-ghost use Rattle.asset_audit.specs.Apart.{IsMarked, AreApartIn, AreApartBelow};
+ghost use Rattle.asset_audit.specs.Apart.{IsMarked, HasMarked, AreApartIn, AreApartBelow, SharesEarlier};
 
 use crate::calls::Calls;
 use crate::finding::count_below;
@@ -18,6 +18,7 @@ pub(crate) fn count_apart<C: Calls>(sessions: &[C], limit: usize) -> usize
     requires limit { limit < 2 ^ 63 }
     ensures within { result ≤ length sessions.now }
     ensures apart { AreApartBelow (map C.listed sessions.now) result limit }
+    ensures next { result < length sessions.now → SharesEarlier (map C.listed sessions.now) result }
 {
     let mut apart = sessions.len();
     let mut first = 0;
@@ -33,6 +34,7 @@ fn count_apart_from<C: Calls>(sessions: &[C], first: usize) -> usize
     requires { AllRise (map C.listed sessions.now) }
     ensures within { result ≤ length sessions.now }
     ensures apart { AreApartIn (map C.listed sessions.now) result first 65536 }
+    ensures next { result < length sessions.now → SharesEarlier (map C.listed sessions.now) result }
 {
     let mut marks = [false; WINDOW];
     for (place, session) in sessions.iter().enumerate() {
@@ -48,6 +50,7 @@ fn mark_calls(calls: &[(usize, Step, Reply)], first: usize, marks: &mut [bool]) 
     requires { Rises calls.now }
     ensures length { length marks.new ≡ length marks.old }
     ensures marked { IsTrue result → IsMarked calls.now first marks.old marks.new }
+    ensures shared { IsFalse result → HasMarked calls.now first marks.old }
 {
     let start = count_below(calls, first);
     for place in start..calls.len() {
