@@ -1,4 +1,4 @@
-use Rattle.std.proofs.Common.{◌≡◌, ◌∙◌, refl, sym, ap, subst, eqb}
+use Rattle.std.proofs.Common.{◌≡◌, ◌∙◌, refl, sym, ap, subst, eqb, rules}
 use Rattle.std.proofs.lemmas.Bool.{eqb-true}
 use Rattle.asset_names.specs.Endings.{is_live_status}
 use Rattle.asset_names.specs.declared.statuses.End.TheVariants as End'
@@ -31,3 +31,6 @@ returns-else-is_enrolled-clause-stand c =
     rw (← c.self.view_is) (λ opening steps stand.
     abort_stands opening steps _ (parts c.self.inside.parts.trans c.self.inside.parts.objects c.self.inside.parts.locks c.self.inside.parts.permits c.self.inside.parts.deps) _ c.args.t c.end_one.ensures.ended
     (λ n. eqb-flip n c.args.t.0 ∙ sym ((c.is_enrolled.ensures.alone c.if-is_enrolled.false) n).1) alive stand)
+
+pub returns-then-is_enrolled-clause-locks : goal.returns-then-is_enrolled-clause-locks
+returns-then-is_enrolled-clause-locks c = search rules

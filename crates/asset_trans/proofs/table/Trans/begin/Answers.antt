@@ -1,4 +1,4 @@
-use Rattle.std.proofs.Common.{refl, arith}
+use Rattle.std.proofs.Common.{refl, arith, rules}
 use Rattle.asset_names.specs.Room.{owed_to}
 use Rattle.asset_names.specs.Answers.{is_unknown}
 use Rattle.asset_trans.specs.TransRows.{one_if_live}
@@ -25,3 +25,6 @@ change-requires-clause-known c = refl
 pub change-requires-clause-live : goal.change-requires-clause-live
 unfolding is_live_status
 change-requires-clause-live c = rw c.requires.initiated refl
+
+pub returns : goal.returns
+returns c = search rules
