@@ -1,4 +1,4 @@
-use Rattle.std.proofs.Common.{is_some, inl, inr, sym, ap, ◌∙◌}
+use Rattle.std.proofs.Common.{is_some, inl, inr, sym, ap, ◌∙◌, rules}
 use Rattle.asset_names.specs.InSet.{in_set}
 use Rattle.asset_chains.specs.Chained.{chain_of, home_of, first_of, behind}
 use Rattle.asset_locks.specs.declared.lock.Lock.{Lock}
@@ -66,3 +66,6 @@ returns-clause-giver c = sym (all_kept c.args.objects.now c.keys.self c.args.fro
 
 pub returns-clause-taker : goal.returns-clause-taker
 returns-clause-taker c = sym (all_given c.args.objects.now c.keys.self c.args.from c.keys.next c.keys.invariant.passed c.in_default.is (locks_at c.keys.self c.args.to)) ∙ c.keys.invariant.taker
+
+pub keys-init : goal.keys-init
+keys-init c = search rules
