@@ -1,4 +1,4 @@
-use Rattle.std.proofs.Common.{◌≡◌, ◌||◌, Bool, true, false, take, refl, sym, ap, ◌∙◌, arith}
+use Rattle.std.proofs.Common.{◌≡◌, ◌||◌, Bool, true, false, take, refl, sym, ap, ◌∙◌, arith, rules}
 use Rattle.asset_permits.specs.Descriptors.{stands, same_descriptor}
 use Rattle.asset_permits.specs.Copies.{given_by, copy_of}
 use Rattle.asset_permits.proofs.CopyLemmas.{given_nothing, given_more, adds_nothing, take_item}
@@ -30,3 +30,6 @@ cuts-preserved c =
       regroup : (a b c : Bool) → ((a || b) || c) ≡ (a || (b || c))
       regroup true b c = refl
       regroup false b c = refl
+
+pub returns-in-Err-clause-unchanged : goal.returns-in-Err-clause-unchanged
+returns-in-Err-clause-unchanged c = search rules
