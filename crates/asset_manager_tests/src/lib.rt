@@ -1,0 +1,26 @@
+//! The tests of the locked manager: of its sessions and its book, of the word of counts, and of the audit, through
+//! their public calls.
+#![tactic(auto)]
+
+mod again;
+mod closing;
+mod script;
+
+pub use again::{ROOM, THREE, call, is_answered, opened, reserved, shown};
+pub use closing::{hand_in, room_for};
+pub use script::{first_wrong_line, is_replayed};
+
+#[cfg(test)]
+mod audit;
+#[cfg(test)]
+mod book;
+#[cfg(test)]
+mod crowd;
+#[cfg(test)]
+mod sessions;
+#[cfg(test)]
+mod sizes;
+#[cfg(test)]
+mod waiting;
+#[cfg(test)]
+mod watching;

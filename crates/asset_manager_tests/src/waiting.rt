@@ -1,0 +1,126 @@
+//! A session that waits on one thread, until a session on another lets it go on.
+
+ghost use Rattle.std.specs.Thread.{IsSync};
+ghost use Rattle.asset_counts.specs.Pass.{IsOf};
+
+use crate::again::{ROOM, THREE, opened};
+use crate::closing::{hand_in, room_for};
+use crate::script::first_wrong_line;
+use asset_manager::{Manager, Session};
+use asset_names::{Outcome, Reply};
+use asset_test_tools::{abort, read};
+use std::alloc::Global;
+use std::sync::Wait;
+use std::test::Fail;
+use std::thread;
+use std::thread::{Threads, join};
+
+/// How a reader waits.
+#[derive(Clone, Copy)]
+enum How {
+    /// By `call_wait`.
+    Asleep,
+    /// By `call_turns`.
+    ByTurns,
+}
+
+/// More turns than a wait takes.
+const MANY: u32 = 1_000_000_000;
+
+/// Reads object 1 as 8, and returns whether it was answered by 100.
+fn reads_100<R: Wait>(rt: &R, manager: &Manager, session: &mut Session, how: How) -> bool
+    requires { IsOf session.old.of manager.now }
+{
+    match how {
+        How::Asleep => session.call_wait(rt, manager, read(8, 1)) == Ok(Reply::Value(100)),
+        How::ByTurns => {
+            session.call_turns(rt, manager, read(8, 1), MANY)
+                == Ok(Outcome::Answer(Reply::Value(100)))
+        }
+    }
+}
+
+/// Yields a thousand times, and aborts 7.
+fn aborts_late<R: Wait>(rt: &R, manager: &Manager, session: &mut Session) -> bool
+    requires { IsOf session.old.of manager.now }
+{
+    for _ in 0..1_000 {
+        thread::yield_now();
+    }
+    session.call(rt, manager, abort(7)) == Ok(Outcome::Answer(Reply::Aborted))
+}
+
+/// Reads on one thread, and aborts the writer on another.
+fn goes_on<R: Threads + Wait + Sync>(
+    rt: &R,
+    manager: &Manager,
+    reader: &mut Session,
+    writer: &mut Session,
+    how: How,
+) -> (bool, bool)
+    requires reader { IsOf reader.old.of manager.now }
+    requires writer { IsOf writer.old.of manager.now }
+{
+    join(
+        rt,
+        || -> bool
+            requires { IsSync R.row × IsOf reader.now.of manager.now }
+        { reads_100(rt, manager, reader, how) },
+        || -> bool
+            requires { IsSync R.row × IsOf writer.now.of manager.now }
+        { aborts_late(rt, manager, writer) },
+    )
+}
+
+/// Starts a writer and a reader, which waits, on two threads. Returns the line that went wrong before, and whether both
+/// were answered as they should.
+fn waits_and_goes_on<R: Threads + Wait + Sync>(
+    rt: &R,
+    alloc: Global,
+    manager: &Manager,
+    reader: &mut Session,
+    writer: &mut Session,
+    how: How,
+) -> (Option<usize>, (bool, bool))
+    requires reader { IsOf reader.old.of manager.now }
+    requires writer { IsOf writer.old.of manager.now }
+{
+    let starts = "\
+        initiate 7: ok\ninitiate 8: ok\nbegin 7: ok\nbegin 8: ok\nwrite 7 1 50: ok\nread 8 1: wait\n";
+    let wrong = first_wrong_line(rt, alloc, manager, writer, starts);
+    (wrong, goes_on(rt, manager, reader, writer, how))
+}
+
+#[test]
+fn reader_sleeps_until_the_abort(rt: HostRuntime) -> Result<(), Fail> {
+    let alloc: Global = rt.alloc();
+    let mut closing = room_for(alloc, 2)?;
+    let (manager, mut writer) = opened(alloc, &THREE, ROOM)?;
+    let mut reader = writer.split();
+    let asked = waits_and_goes_on(&rt, alloc, &manager, &mut reader, &mut writer, How::Asleep);
+    let handed = [hand_in(&mut closing, reader), hand_in(&mut closing, writer)];
+    let closed = manager.close(closing);
+    let left = (closed.history.len(), closed.audit);
+    drop(closed);
+    assert_eq!(rt; asked, (None, (true, true)));
+    assert_eq!(rt; handed, [true; 2]);
+    assert_eq!(rt; left, (7, Ok(())));
+    Ok(())
+}
+
+#[test]
+fn reader_turns_until_the_abort(rt: HostRuntime) -> Result<(), Fail> {
+    let alloc: Global = rt.alloc();
+    let mut closing = room_for(alloc, 2)?;
+    let (manager, mut writer) = opened(alloc, &THREE, ROOM)?;
+    let mut reader = writer.split();
+    let asked = waits_and_goes_on(&rt, alloc, &manager, &mut reader, &mut writer, How::ByTurns);
+    let handed = [hand_in(&mut closing, reader), hand_in(&mut closing, writer)];
+    let closed = manager.close(closing);
+    let left = (closed.history.len(), closed.audit);
+    drop(closed);
+    assert_eq!(rt; asked, (None, (true, true)));
+    assert_eq!(rt; handed, [true; 2]);
+    assert_eq!(rt; left, (7, Ok(())));
+    Ok(())
+}
