@@ -3,11 +3,11 @@
 ghost use Rattle.std.specs.Thread.{IsSync};
 ghost use Rattle.asset_counts.specs.Pass.{IsOf};
 
-use crate::again::{ROOM, THREE, opened};
+use crate::again::{ROOM, THREE, is_answered, opened};
 use crate::closing::{hand_in, room_for};
 use crate::script::first_wrong_line;
 use asset_manager::{Manager, Session};
-use asset_names::{Outcome, Reply};
+use asset_names::{Fault, Outcome, Reply};
 use asset_test_tools::{abort, read};
 use std::alloc::Global;
 use std::sync::Wait;
@@ -27,16 +27,33 @@ enum How {
 /// More turns than a wait takes.
 const MANY: u32 = 1_000_000_000;
 
+/// Reads object 1 as 8, and sleeps while that waits. If memory runs out once, it is asked again.
+fn sleeps<R: Wait>(rt: &R, manager: &Manager, session: &mut Session) -> Result<Reply, Fault>
+    requires { IsOf session.old.of manager.now }
+{
+    match session.call_wait(rt, manager, read(8, 1)) {
+        Err(Fault::NoMemory) => session.call_wait(rt, manager, read(8, 1)),
+        answer => answer,
+    }
+}
+
+/// Reads object 1 as 8, by many asks while that waits. If memory runs out once, it is asked again.
+fn turns<R: Wait>(rt: &R, manager: &Manager, session: &mut Session) -> Result<Outcome, Fault>
+    requires { IsOf session.old.of manager.now }
+{
+    match session.call_turns(rt, manager, read(8, 1), MANY) {
+        Err(Fault::NoMemory) => session.call_turns(rt, manager, read(8, 1), MANY),
+        answer => answer,
+    }
+}
+
 /// Reads object 1 as 8, and returns whether it was answered by 100.
 fn reads_100<R: Wait>(rt: &R, manager: &Manager, session: &mut Session, how: How) -> bool
     requires { IsOf session.old.of manager.now }
 {
     match how {
-        How::Asleep => session.call_wait(rt, manager, read(8, 1)) == Ok(Reply::Value(100)),
-        How::ByTurns => {
-            session.call_turns(rt, manager, read(8, 1), MANY)
-                == Ok(Outcome::Answer(Reply::Value(100)))
-        }
+        How::Asleep => sleeps(rt, manager, session) == Ok(Reply::Value(100)),
+        How::ByTurns => { turns(rt, manager, session) == Ok(Outcome::Answer(Reply::Value(100))) }
     }
 }
 
@@ -47,7 +64,7 @@ fn aborts_late<R: Wait>(rt: &R, manager: &Manager, session: &mut Session) -> boo
     for _ in 0..1_000 {
         thread::yield_now();
     }
-    session.call(rt, manager, abort(7)) == Ok(Outcome::Answer(Reply::Aborted))
+    is_answered(rt, manager, session, &abort(7), Reply::Aborted)
 }
 
 /// Reads on one thread, and aborts the writer on another.

@@ -5,11 +5,11 @@ ghost use Rattle.std.specs.Thread.{IsSync};
 ghost use Rattle.asset_counts.specs.Shown.{no_counts};
 ghost use Rattle.asset_counts.specs.Pass.{IsOf};
 
-use crate::again::{ROOM, THREE, opened};
+use crate::again::{ROOM, THREE, is_answered, opened};
 use crate::closing::{hand_in, room_for};
 use asset_counts::{Publisher, Watch, WatchPass};
 use asset_manager::{Counts, Manager, Session};
-use asset_names::{NoMemory, Outcome, Reply, Step};
+use asset_names::{NoMemory, Reply, Step};
 use asset_test_tools::initiate;
 use std::alloc::Global;
 use std::sync::Wait;
@@ -22,7 +22,7 @@ fn asks_and_looks<R: Wait>(rt: &R, manager: &Manager, session: &mut Session, ste
     requires { IsOf session.old.of manager.now }
 {
     let mut pass = session.watch_pass();
-    if session.call(rt, manager, step) != Ok(Outcome::Answer(Reply::Done)) {
+    if !is_answered(rt, manager, session, &step, Reply::Done) {
         return false;
     }
     for _ in 0..1_000_000 {
