@@ -47,6 +47,7 @@ fn run_session<R: Wait>(rt: &R, manager: &Manager, session: &mut Session, count:
 /// Runs transactions by one session, through the lock.
 pub fn calls<R: Clock + Wait>(rt: &R, alloc: Global, request: &Request) -> Option<(Duration, u64)> {
     let (manager, mut session) = Manager::open(alloc, &OBJECTS, ROOM).ok()?;
+    session.reserve(ROOM).ok()?;
     let start = Instant::now(rt);
     let ran = run_session(rt, &manager, &mut session, request.count);
     let end = Instant::now(rt);
