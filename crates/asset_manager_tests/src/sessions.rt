@@ -3,7 +3,7 @@
 ghost use Rattle.asset_counts.specs.Pass.{IsOf};
 
 use crate::again::{ROOM, THREE, opened, reserved, shown};
-use crate::closing::{hand_in, room_for};
+use crate::closing::{close_one, close_three, close_two, hand_in, room_for};
 use crate::script::first_wrong_line;
 use asset_manager::{AuditFault, Counts, Manager, OpenFault, Session};
 use asset_names::{Ob, Outcome, Reply};
@@ -48,45 +48,35 @@ const TEN: Counts = Counts {
 #[test]
 fn ten_calls_are_all_in_the_history(rt: HostRuntime) -> Result<(), Fail> {
     let alloc: Global = rt.alloc();
-    let mut closing = room_for(alloc, 3)?;
+    let closing = room_for(alloc, 3)?;
     let (manager, mut first) = opened(alloc, &THREE, ROOM)?;
     let mut a = first.split();
     let mut b = first.split();
     let asked = asks_ten(&rt, alloc, &manager, &mut first, &mut a, &mut b);
     let counts = shown(&manager);
     let lens = [first.calls().len(), a.calls().len(), b.calls().len()];
-    let handed = [
-        hand_in(&mut closing, first),
-        hand_in(&mut closing, a),
-        hand_in(&mut closing, b),
-    ];
-    let closed = manager.close(closing);
-    let (len, audit) = (closed.history.len(), closed.audit);
-    drop(closed);
+    let closed = close_three(manager, closing, first, a, b);
     assert_eq!(rt; asked, (true, [None; 3]));
-    assert_eq!(rt; counts, TEN);
-    assert_eq!(rt; lens, [2, 4, 4]);
-    assert_eq!(rt; handed, [true; 3]);
-    assert_eq!(rt; (len, audit), (10, Ok(())));
+    assert_eq!(rt; (counts, lens), (TEN, [2, 4, 4]));
+    assert_eq!(rt; closed, (10, Ok(())));
     Ok(())
 }
 
 #[test]
 fn session_kept_back_is_missed(rt: HostRuntime) -> Result<(), Fail> {
     let alloc: Global = rt.alloc();
-    let mut closing = room_for(alloc, 2)?;
+    let closing = room_for(alloc, 2)?;
     let (manager, mut first) = opened(alloc, &THREE, ROOM)?;
     let mut a = first.split();
     let mut b = first.split();
     let asked = asks_ten(&rt, alloc, &manager, &mut first, &mut a, &mut b);
-    let handed = [hand_in(&mut closing, first), hand_in(&mut closing, a)];
     drop(b);
-    let closed = manager.close(closing);
-    let audit = closed.audit;
-    drop(closed);
+    let closed = close_two(manager, closing, first, a);
     assert_eq!(rt; asked, (true, [None; 3]));
-    assert_eq!(rt; handed, [true; 2]);
-    assert_eq!(rt; audit, Err(AuditFault::Missing { told: 6, kept: 10 }));
+    assert_eq!(rt;
+        closed,
+        (10, Err(AuditFault::Missing { told: 6, kept: 10 }))
+    );
     Ok(())
 }
 
@@ -117,22 +107,14 @@ fn asks_a_wait<R: Wait>(
 #[test]
 fn four_asks_wait_and_list_nothing(rt: HostRuntime) -> Result<(), Fail> {
     let alloc: Global = rt.alloc();
-    let mut closing = room_for(alloc, 3)?;
+    let closing = room_for(alloc, 3)?;
     let (manager, mut first) = opened(alloc, &THREE, ROOM)?;
     let mut a = first.split();
     let mut b = first.split();
     let asked = asks_a_wait(&rt, alloc, &manager, &mut first, &mut a, &mut b);
-    let handed = [
-        hand_in(&mut closing, first),
-        hand_in(&mut closing, a),
-        hand_in(&mut closing, b),
-    ];
-    let closed = manager.close(closing);
-    let (len, audit) = (closed.history.len(), closed.audit);
-    drop(closed);
+    let closed = close_three(manager, closing, first, a, b);
     assert_eq!(rt; asked, (true, [4, 1, 0], [None; 4]));
-    assert_eq!(rt; handed, [true; 3]);
-    assert_eq!(rt; (len, audit), (7, Ok(())));
+    assert_eq!(rt; closed, (7, Ok(())));
     Ok(())
 }
 
@@ -210,19 +192,6 @@ fn split_session_is_joined(rt: HostRuntime) -> Result<(), Fail> {
     assert_eq!(rt; asked, (None, true, true));
     assert_eq!(rt; closed, (2, Ok(())));
     Ok(())
-}
-
-/// Closes a manager with one session, and returns how long the history is, and the audit.
-pub(crate) fn close_one(
-    manager: Manager,
-    mut closing: Vec<Session>,
-    session: Session,
-) -> (usize, Result<(), AuditFault>) {
-    let _handed = hand_in(&mut closing, session);
-    let closed = manager.close(closing);
-    let left = (closed.history.len(), closed.audit);
-    drop(closed);
-    left
 }
 
 /// Asks what is refused and what finds no room, by a session whose list has room for four calls.

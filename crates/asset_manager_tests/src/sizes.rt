@@ -3,8 +3,7 @@
 ghost use Rattle.asset_counts.specs.Pass.{IsOf};
 
 use crate::again::{THREE, is_answered, opened, shown};
-use crate::closing::{hand_in, room_for};
-use crate::sessions::close_one;
+use crate::closing::{close_one, hand_in, room_for};
 use asset_manager::{Counts, Manager, Session};
 use asset_names::{Outcome, Refusal, Reply, Step, Txn};
 use asset_test_tools::{begin, commit, complete, initiate, read, write};

@@ -4,7 +4,7 @@ ghost use Rattle.std.specs.Thread.{IsSync};
 ghost use Rattle.asset_counts.specs.Pass.{IsOf};
 
 use crate::again::{ROOM, THREE, is_answered, opened};
-use crate::closing::{hand_in, room_for};
+use crate::closing::{close_two, room_for};
 use crate::script::first_wrong_line;
 use asset_manager::{Manager, Session};
 use asset_names::{Fault, Outcome, Reply};
@@ -111,33 +111,25 @@ fn waits_and_goes_on<R: Threads + Wait + Sync>(
 #[test]
 fn reader_sleeps_until_the_abort(rt: HostRuntime) -> Result<(), Fail> {
     let alloc: Global = rt.alloc();
-    let mut closing = room_for(alloc, 2)?;
+    let closing = room_for(alloc, 2)?;
     let (manager, mut writer) = opened(alloc, &THREE, ROOM)?;
     let mut reader = writer.split();
     let asked = waits_and_goes_on(&rt, alloc, &manager, &mut reader, &mut writer, How::Asleep);
-    let handed = [hand_in(&mut closing, reader), hand_in(&mut closing, writer)];
-    let closed = manager.close(closing);
-    let left = (closed.history.len(), closed.audit);
-    drop(closed);
+    let closed = close_two(manager, closing, reader, writer);
     assert_eq!(rt; asked, (None, (true, true)));
-    assert_eq!(rt; handed, [true; 2]);
-    assert_eq!(rt; left, (7, Ok(())));
+    assert_eq!(rt; closed, (7, Ok(())));
     Ok(())
 }
 
 #[test]
 fn reader_turns_until_the_abort(rt: HostRuntime) -> Result<(), Fail> {
     let alloc: Global = rt.alloc();
-    let mut closing = room_for(alloc, 2)?;
+    let closing = room_for(alloc, 2)?;
     let (manager, mut writer) = opened(alloc, &THREE, ROOM)?;
     let mut reader = writer.split();
     let asked = waits_and_goes_on(&rt, alloc, &manager, &mut reader, &mut writer, How::ByTurns);
-    let handed = [hand_in(&mut closing, reader), hand_in(&mut closing, writer)];
-    let closed = manager.close(closing);
-    let left = (closed.history.len(), closed.audit);
-    drop(closed);
+    let closed = close_two(manager, closing, reader, writer);
     assert_eq!(rt; asked, (None, (true, true)));
-    assert_eq!(rt; handed, [true; 2]);
-    assert_eq!(rt; left, (7, Ok(())));
+    assert_eq!(rt; closed, (7, Ok(())));
     Ok(())
 }

@@ -6,7 +6,7 @@ ghost use Rattle.asset_counts.specs.Shown.{no_counts};
 ghost use Rattle.asset_counts.specs.Pass.{IsOf};
 
 use crate::again::{ROOM, THREE, is_answered, opened};
-use crate::closing::{hand_in, room_for};
+use crate::closing::{close_two, room_for};
 use asset_counts::{Publisher, Watch, WatchPass};
 use asset_manager::{Counts, Manager, Session};
 use asset_names::{NoMemory, Reply, Step};
@@ -57,17 +57,13 @@ fn both_look<R: Threads + Wait + Sync>(
 
 #[test]
 fn two_threads_see_two_entries(rt: HostRuntime) -> Result<(), Fail> {
-    let mut closing = room_for(rt.alloc(), 2)?;
+    let closing = room_for(rt.alloc(), 2)?;
     let (manager, mut first) = opened(rt.alloc(), &THREE, ROOM)?;
     let mut second = first.split();
     let seen = both_look(&rt, &manager, &mut first, &mut second);
-    let handed = [hand_in(&mut closing, first), hand_in(&mut closing, second)];
-    let closed = manager.close(closing);
-    let left = (closed.history.len(), closed.audit);
-    drop(closed);
+    let closed = close_two(manager, closing, first, second);
     assert_eq!(rt; seen, (true, true));
-    assert_eq!(rt; handed, [true; 2]);
-    assert_eq!(rt; left, (2, Ok(())));
+    assert_eq!(rt; closed, (2, Ok(())));
     Ok(())
 }
 
