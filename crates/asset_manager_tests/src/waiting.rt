@@ -11,6 +11,7 @@ use asset_names::{Fault, Outcome, Reply};
 use asset_test_tools::{abort, read};
 use std::alloc::Global;
 use std::sync::Wait;
+use std::sync::atomic::{AtomicU64, Ordering};
 use std::test::Fail;
 use std::thread;
 use std::thread::{Threads, join};
@@ -47,20 +48,44 @@ fn turns<R: Wait>(rt: &R, manager: &Manager, session: &mut Session) -> Result<Ou
     }
 }
 
-/// Reads object 1 as 8, and returns whether it was answered by 100.
-fn reads_100<R: Wait>(rt: &R, manager: &Manager, session: &mut Session, how: How) -> bool
+/// Says that it starts, reads object 1 as 8, and returns whether it was answered by 100.
+fn reads_100<R: Wait>(
+    rt: &R,
+    manager: &Manager,
+    session: &mut Session,
+    how: How,
+    started: &AtomicU64,
+) -> bool
     requires { IsOf session.old.of manager.now }
 {
+    started.store(1, Ordering::SeqCst);
     match how {
         How::Asleep => sleeps(rt, manager, session) == Ok(Reply::Value(100)),
         How::ByTurns => { turns(rt, manager, session) == Ok(Outcome::Answer(Reply::Value(100))) }
     }
 }
 
-/// Yields a thousand times, and aborts 7.
-fn aborts_late<R: Wait>(rt: &R, manager: &Manager, session: &mut Session) -> bool
+/// Yields until the reader has said that it starts, at most a million times.
+fn reader_starts(started: &AtomicU64) {
+    for _ in 0..1_000_000 {
+        if started.load(Ordering::SeqCst) == 1 {
+            return;
+        }
+        thread::yield_now();
+    }
+}
+
+/// Aborts 7 once the reader has asked: it yields a thousand times after the reader has said that it starts, which is
+/// much longer than one ask takes.
+fn aborts_late<R: Wait>(
+    rt: &R,
+    manager: &Manager,
+    session: &mut Session,
+    started: &AtomicU64,
+) -> bool
     requires { IsOf session.old.of manager.now }
 {
+    reader_starts(started);
     for _ in 0..1_000 {
         thread::yield_now();
     }
@@ -78,14 +103,15 @@ fn goes_on<R: Threads + Wait + Sync>(
     requires reader { IsOf reader.old.of manager.now }
     requires writer { IsOf writer.old.of manager.now }
 {
+    let started = AtomicU64::new(0);
     join(
         rt,
         || -> bool
             requires { IsSync R.row × IsOf reader.now.of manager.now }
-        { reads_100(rt, manager, reader, how) },
+        { reads_100(rt, manager, reader, how, &started) },
         || -> bool
             requires { IsSync R.row × IsOf writer.now.of manager.now }
-        { aborts_late(rt, manager, writer) },
+        { aborts_late(rt, manager, writer, &started) },
     )
 }
 
