@@ -12,7 +12,7 @@ PROGRAM = TOP / "crates" / "asset_load" / "out" / "asset_load"
 
 
 def took(runs, *arguments):
-    """Returns the least microseconds of several runs, and the number that the load left."""
+    """Returns the least microseconds of several runs, and the number that the last one left."""
     best, left = None, None
     for _ in range(runs):
         words = [str(PROGRAM), *map(str, arguments)]
