@@ -1,0 +1,11 @@
+use Rattle.asset_queue.proofs.Moves.{begins, forks, merges}
+use Rattle.asset_queue.proofs.work.run.Goals as goal
+
+pub ruled-requires-clause-rule : goal.ruled-requires-clause-rule
+ruled-requires-clause-rule g c = begins g.J.Ticketed.ticket
+
+pub another-theirs-requires-clause-rule : goal.another-theirs-requires-clause-rule
+another-theirs-requires-clause-rule g c = forks g.J.Ticketed.ticket _ _
+
+pub absorb-requires-clause-rule : goal.absorb-requires-clause-rule
+absorb-requires-clause-rule g c = merges g.J.Ticketed.ticket _ _ _ _

@@ -1,0 +1,49 @@
+-- Each job that was put stands once, in the queue or as taken by one pass.
+use Rattle.std.specs.Prelude.{◌≡◌, ◌≤◌, ℕ, ◌+◌, List, [], ◌∷◌, map}
+use mathlib.Core.Option.{some}
+use lib.ListN.{get_elem?}
+use Rattle.asset_queue.specs.declared.rule.Hand.{Hand}
+
+-- the place of a job in the order in which jobs were made, and its name
+abbrev pub Ticket : Type 0
+Ticket = ℕ × ℕ
+
+abbrev pub hand : ℕ → List Ticket → List Ticket → Hand
+hand parts put taken = record { parts = parts; put = put; taken = taken }
+
+-- the weights of the tickets, added up
+abbrev pub weigh : (Ticket → ℕ) → List Ticket → ℕ
+weigh h [] = 0
+weigh h (x ∷ xs) = h x + weigh h xs
+
+-- what f gives for each pass, added up
+abbrev pub total : (Hand → ℕ) → List Hand → ℕ
+total f [] = 0
+total f (v ∷ vs) = f v + total f vs
+
+-- a pass without a part has put and taken nothing
+abbrev pub IdleIsEmpty : List Hand → Type 0
+IdleIsEmpty views = (port : ℕ) (v : Hand) → get_elem? views port ≡ some v → v.parts ≡ 0 → (v.put ≡ []) × (v.taken ≡ [])
+
+-- the rule: what was put is what was taken and what the queue holds, however tickets are weighed, and so each as often;
+-- there are 128 parts in all
+pub record Balanced (items : List Ticket) (views : List Hand) : Type 0 where
+  pub parts : total (λ v. v.parts) views ≡ 128
+  pub even : (h : Ticket → ℕ) → total (λ v. weigh h v.put) views ≡ total (λ v. weigh h v.taken) views + weigh h items
+  pub idle : IdleIsEmpty views
+
+-- each ticket stands in the first list as often as in the other two together
+abbrev pub SharedOut : List Ticket → List Ticket → List Ticket → Type 0
+SharedOut put taken left = (h : Ticket → ℕ) → weigh h put ≡ weigh h taken + weigh h left
+
+-- a pass with all parts knows that what it put is what it took and what is left
+abbrev pub Accounts : Hand → List Ticket → Type 0
+Accounts v left = v.parts ≡ 128 → SharedOut v.put v.taken left
+
+-- a pass with all parts has taken no more than it put
+abbrev pub Within : Hand → Type 0
+Within v = v.parts ≡ 128 → (h : Ticket → ℕ) → weigh h v.taken ≤ weigh h v.put
+
+-- the rule over jobs, each by its ticket
+abbrev pub Holds : {J : Type 0} → (J → Ticket) → List J → List Hand → Type 0
+Holds ticket jobs views = Balanced (map ticket jobs) views

@@ -1,0 +1,207 @@
+//! Workers, each in a thread of its own, that take jobs until none is left.
+
+ghost use Rattle.std.specs.Prelude.{◌≡◌, ◌<◌, ◌≤◌, ◌+◌, ◌++◌, [], length, map, vec_len, vec_capacity, IfOk, IfErr};
+ghost use Rattle.std.specs.Thread.{IsSync};
+ghost use Rattle.crossbeam_queue.specs.Passes.{view, IsPassOf, ruled_capacity};
+ghost use Rattle.asset_queue.specs.Once.{hand, SharedOut};
+ghost use Rattle.asset_queue.specs.Rows.{tickets_of, HasRows};
+
+use crate::rule::{Halves, Hand, Once, Puts, Takes, Ticketed};
+use crossbeam_queue::{Pass, RuledArrayQueue};
+use std::alloc::Global;
+use std::sync::Wait;
+use std::thread::{Threads, join};
+
+type Jobs<J> = RuledArrayQueue<J, Hand, Once, Global>;
+
+/// The most workers that share jobs.
+pub const MOST_WORKERS: usize = 64;
+
+/// The parts of the right to know the whole queue: two for each worker.
+const PARTS: usize = 128;
+
+/// Does jobs.
+pub trait Work<J: Ticketed, E: Ticketed>: Sync {
+    /// Does one job, and returns what came of it. It may wait.
+    fn run<R: Wait>(&self, rt: &R, job: J) -> E
+        ensures { E.ticket result ≡ J.ticket job };
+}
+
+/// Takes jobs until none is left, or memory runs out.
+fn take_all<J: Ticketed, E: Ticketed, W: Work<J, E>, R: Wait>(
+    rt: &R,
+    alloc: Global,
+    jobs: &Jobs<J>,
+    work: &W,
+    mut pass: Pass<J, Hand>,
+) -> (Pass<J, Hand>, Vec<E>)
+    requires pass { IsPassOf jobs.now pass }
+    requires hand { (view pass ≡ hand (view pass).parts [] []) × (0 < (view pass).parts) }
+    ensures pass { IsPassOf jobs.now result.0 }
+    ensures taken { view result.0 ≡ hand (view pass).parts [] (map E.ticket result.1.items) }
+{
+    let mut ends = Vec::new(alloc);
+    for _ in rt.forever() {
+        if ends.reserve(1).is_err() {
+            break;
+        }
+        match jobs.pop_as::<Takes, R>(rt, &mut pass) {
+            Some(job) => ends.push_reserved(work.run(rt, job)),
+            None => break,
+        }
+    }
+    (pass, ends)
+}
+
+/// Does what one worker does. It takes nothing if it has no room for its answers.
+fn one<J: Ticketed, E: Ticketed + Drop, W: Work<J, E>, R: Wait>(
+    rt: &R,
+    alloc: Global,
+    jobs: &Jobs<J>,
+    work: &W,
+    pass: Pass<J, Hand>,
+) -> (Pass<J, Hand>, Vec<Vec<E>>)
+    requires pass { IsPassOf jobs.now pass }
+    requires hand { (view pass ≡ hand (view pass).parts [] []) × (0 < (view pass).parts) }
+    ensures pass { IsPassOf jobs.now result.0 }
+    ensures taken { view result.0 ≡ hand (view pass).parts [] (tickets_of E.ticket result.1.items) }
+    ensures rows { HasRows 1 result.1 }
+{
+    let Ok(mut rows) = Vec::with_capacity(alloc, MOST_WORKERS) else {
+        return (pass, Vec::new(alloc));
+    };
+    let (pass, ends) = take_all(rt, alloc, jobs, work, pass);
+    rows.push_reserved(ends);
+    (pass, rows)
+}
+
+/// Returns the rows of both, in room that one of them has.
+fn joined<E: Drop>(mut rows: Vec<Vec<E>>, mut more: Vec<Vec<E>>) -> Vec<Vec<E>>
+    requires room { vec_len rows + vec_len more ≤ MOST_WORKERS }
+    requires rows { HasRows (vec_len rows) rows }
+    requires more { HasRows (vec_len more) more }
+    ensures items { result.items ≡ rows.items ++ more.items }
+    ensures rows { HasRows (vec_len rows + vec_len more) result }
+{
+    if rows.is_empty() {
+        return more;
+    }
+    if rows.append(&mut more).is_err() {
+        unreachable!()
+    }
+    rows
+}
+
+/// Shares the jobs among so many workers, by halves: the one half of them works here, the other in another thread.
+fn share<J: Ticketed + Send, E: Ticketed + Drop + Send, W: Work<J, E>, R: Threads + Wait + Sync>(
+    rt: &R,
+    alloc: Global,
+    jobs: &Jobs<J>,
+    work: &W,
+    mut pass: Pass<J, Hand>,
+    workers: usize,
+) -> (Pass<J, Hand>, Vec<Vec<E>>)
+    requires pass { IsPassOf jobs.now pass }
+    requires hand { view pass ≡ hand (view pass).parts [] [] }
+    requires workers { (0 < workers) × (workers ≤ (view pass).parts) × (workers ≤ MOST_WORKERS) }
+    ensures pass { IsPassOf jobs.now result.0 }
+    ensures taken { view result.0 ≡ hand (view pass).parts [] (tickets_of E.ticket result.1.items) }
+    ensures rows { HasRows workers result.1 }
+{
+    if workers == 1 {
+        return one(rt, alloc, jobs, work, pass);
+    }
+    let half = workers / 2;
+    let rest = workers - half;
+    let other = jobs.another::<Halves>(&mut pass);
+    let ((mut pass, rows), (other, more)) = join(
+        rt,
+        move || -> (Pass<J, Hand>, Vec<Vec<E>>)
+            requires { IsSync R.row × IsPassOf jobs.now pass × (view pass ≡ hand (view pass).parts [] []) × (0 < rest) × (rest ≤ (view pass).parts) × (rest ≤ MOST_WORKERS) }
+            ensures { IsPassOf jobs.entry.now result.0 × (view result.0 ≡ hand (view pass).parts [] (tickets_of E.ticket result.1.items)) × HasRows rest result.1 }
+        { share(rt, alloc, jobs, work, pass, rest) },
+        move || -> (Pass<J, Hand>, Vec<Vec<E>>)
+            requires { IsSync R.row × IsPassOf jobs.now other × (view other ≡ hand (view other).parts [] []) × (0 < half) × (half ≤ (view other).parts) × (half ≤ MOST_WORKERS) }
+            ensures { IsPassOf jobs.entry.now result.0 × (view result.0 ≡ hand (view other).parts [] (tickets_of E.ticket result.1.items)) × HasRows half result.1 }
+        { share(rt, alloc, jobs, work, other, half) },
+    );
+    jobs.absorb::<Halves>(&mut pass, other);
+    (pass, joined(rows, more))
+}
+
+/// Puts all jobs into a queue that has room for them.
+fn put_all<J: Ticketed + Drop, R: Wait>(
+    rt: &R,
+    jobs: &Jobs<J>,
+    mut pass: Pass<J, Hand>,
+    all: Vec<J>,
+) -> Pass<J, Hand>
+    requires pass { IsPassOf jobs.now pass }
+    requires hand { view pass ≡ hand PARTS [] [] }
+    requires room { vec_len all ≤ ruled_capacity jobs.now }
+    ensures pass { IsPassOf jobs.now result }
+    ensures put { view result ≡ hand PARTS (map J.ticket all.items) [] }
+{
+    for job in all {
+        match jobs.push_as::<Puts, R>(rt, &mut pass, job) {
+            Ok(()) => {}
+            Err(_) => unreachable!(),
+        }
+    }
+    pass
+}
+
+/// Takes what is left. The pass has all parts, so it knows then that each job that was put was taken.
+fn drain<J: Ticketed + Drop, R: Wait>(
+    rt: &R,
+    jobs: &Jobs<J>,
+    mut pass: Pass<J, Hand>,
+    mut left: Vec<J>,
+) -> Vec<J>
+    requires pass { IsPassOf jobs.now pass }
+    requires all { (view pass).parts ≡ PARTS }
+    requires empty { left.items ≡ [] }
+    requires room { length (view pass).put ≤ vec_capacity left }
+    ensures { SharedOut (view pass).put (view pass).taken (map J.ticket result.items) }
+{
+    for _ in rt.forever() {
+        match jobs.pop_as::<Takes, R>(rt, &mut pass) {
+            Some(job) => left.push_reserved(job),
+            None => return left,
+        }
+    }
+    unreachable!()
+}
+
+/// Has the jobs done by so many workers, each in a thread of its own, and returns what came of them, a row for each
+/// worker, and the jobs that nobody took: each job is once in one or the other. A job is left only if memory ran out. If
+/// it ran out before the workers started, all jobs come back as the error.
+pub fn run<
+    J: Ticketed + Drop + Send,
+    E: Ticketed + Drop + Send,
+    W: Work<J, E>,
+    R: Threads + Wait + Sync,
+>(
+    rt: &R,
+    alloc: Global,
+    work: &W,
+    all: Vec<J>,
+    workers: usize,
+) -> Result<(Vec<Vec<E>>, Vec<J>), Vec<J>>
+    requires { (0 < workers) × (workers ≤ MOST_WORKERS) }
+    ensures once { IfOk result (λ r. SharedOut (map J.ticket all.items) (tickets_of E.ticket r.0.items) (map J.ticket r.1.items)) }
+    ensures err { IfErr result (λ back. back.items ≡ all.items) }
+{
+    let Ok(left) = Vec::with_capacity(alloc, all.len()) else {
+        return Err(all);
+    };
+    let Ok((queue, pass)) = Jobs::ruled(alloc, all.len().max(1)) else {
+        return Err(all);
+    };
+    let mut pass = put_all(rt, &queue, pass, all);
+    let theirs = queue.another::<Halves>(&mut pass);
+    let (theirs, rows) = share(rt, alloc, &queue, work, theirs, workers);
+    queue.absorb::<Halves>(&mut pass, theirs);
+    let left = drain(rt, &queue, pass, left);
+    Ok((rows, left))
+}
