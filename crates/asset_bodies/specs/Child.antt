@@ -1,0 +1,45 @@
+-- The steps of a child's run, before and after its body.
+use Rattle.std.specs.Prelude.{◌≡◌, Bool, true, false, List, [], ◌∷◌, Some}
+use Rattle.asset_names.specs.declared.names.Txn.{Txn}
+use Rattle.asset_names.specs.OpSets.{op_set}
+use Rattle.asset_names.specs.declared.sets.ObSet.TheVariants.{All}
+use Rattle.asset_names.specs.declared.steps.Step.{Step}
+use Rattle.asset_names.specs.declared.steps.Step.TheVariants.{Initiate, Begin, Permit, Delegate, Commit, Abort}
+use Rattle.asset_audit.specs.Audited.{Call}
+use Rattle.asset_bodies.specs.Asked.{Met, IsAsked, InTurn}
+
+-- first the child is initiated
+abbrev pub initiates : Txn → Txn → List Step
+initiates parent child = Initiate child (Some parent) ∷ []
+
+-- then it may do whatever conflicts with its parent, and begins
+abbrev pub begins : Txn → Txn → List Step
+begins parent child = Permit parent child All (op_set true true) ∷ Begin child ∷ []
+
+-- each step before the body was answered `Done`
+pub record Begun (parent child : Txn) (before later : List Call) : Type 0 where
+  pub between : List Call
+  pub initiated : InTurn (initiates parent child) before true between
+  pub begun : InTurn (begins parent child) between true later
+
+-- a child that was initiated and did not begin was aborted, and nothing more was asked of one that was not initiated
+abbrev pub GivesUp : Txn → Txn → Bool → List Call → List Call → Type 0
+GivesUp parent child false before later = later ≡ before
+GivesUp parent child true before later = (between : List Call) × (met : Met) × InTurn (begins parent child) before false between × IsAsked between (Abort child) met later
+
+-- a step before the body was not answered `Done`
+abbrev pub FailsToBegin : Txn → Txn → List Call → List Call → Type 0
+FailsToBegin parent child before later = (initiated : Bool) × (between : List Call) × InTurn (initiates parent child) before initiated between × GivesUp parent child initiated between later
+
+-- a child whose work was handed over is committed, and else it is aborted
+abbrev pub last_step : Txn → Bool → Step
+last_step child true = Commit child
+last_step child false = Abort child
+
+-- after the body: nothing if it gave up; an abort if it is done and has not completed; else its work is handed over to
+-- its parent, and its last step is asked
+abbrev pub Closes : Txn → Txn → Bool → Bool → List Call → List Call → Type 0
+Closes parent child false completed before later = later ≡ before
+Closes parent child true false before later = (met : Met) × IsAsked before (Abort child) met later
+Closes parent child true true before later = (handed : Bool) × (between : List Call) × (met : Met)
+    × InTurn (Delegate child parent All ∷ []) before handed between × IsAsked between (last_step child handed) met later
