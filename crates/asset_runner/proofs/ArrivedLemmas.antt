@@ -1,0 +1,193 @@
+-- Lists of arrivals.
+use Rattle.std.proofs.Common.{◌≡◌, ℕ, zero, suc, ◌+◌, ◌<◌, ◌≤◌, true, false, cond, List, [], ◌∷◌, ◌++◌, length, map, set, get_or, Vec, Option, Some, None, sym, refl, ap, ◌∙◌, subst, append_assoc, arith}
+use Rattle.std.proofs.lemmas.List.{map-append, append-nil, length-map}
+use Rattle.asset_names.specs.declared.names.Txn.{Txn}
+use Rattle.asset_audit.specs.Audited.{Call}
+use Rattle.asset_manager.specs.Asker.{Asker}
+use Rattle.asset_queue.specs.Once.{Ticket, weigh, SharedOut}
+use Rattle.asset_queue.specs.Rows.{tickets_of}
+use Rattle.asset_queue.proofs.Moves.{weigh-append}
+use Rattle.asset_runner.specs.declared.report.RunCause.{RunCause}
+use Rattle.asset_runner.specs.declared.report.RunCause.TheVariants.{NoWorkers, NoMemory, Stranger}
+use Rattle.asset_runner.specs.Placing as placing
+use Rattle.asset_runner.specs.Placing.{somes, nones}
+use Rattle.asset_runner.specs.Runs.{JobRun, is_called, left_row, left_of}
+use Rattle.asset_runner.specs.Arrived.{Arrived, ticket_of, left_at, numbered, placed}
+use Rattle.asset_runner.specs.Rows.{all_of, names_of, runs_of}
+use Rattle.asset_runner.specs.Comes.{IsCause, IsWorkCause}
+use Rattle.asset_runner.proofs.PlacingLemmas.{placed-append, length_placed, length_nones, somes-append, comes_back}
+
+pub placed-snoc : (slots : List (Option Arrived)) (xs : List Arrived) (x : Arrived) → placed slots (xs ++ x ∷ []) ≡ placed (set slots x.place (Some x)) xs
+placed-snoc slots xs x = placed-append (λ (a : Arrived). a.place) (λ (a : Arrived). a.run.name.0) slots xs (x ∷ [])
+
+pub all_of-append : {A : Type 0} (xs ys : List (Vec Arrived A)) → all_of (xs ++ ys) ≡ all_of xs ++ all_of ys
+all_of-append [] ys = refl
+all_of-append (x ∷ xs) ys = ap (λ l. x.items ++ l) (all_of-append xs ys) ∙ sym (append_assoc x.items (all_of xs) (all_of ys))
+
+-- the last row is put first
+pub placed_row : {A : Type 0} (slots : List (Option Arrived)) (rows : List (Vec Arrived A)) (row : Vec Arrived A) → placed slots (all_of (rows ++ row ∷ [])) ≡ placed (placed slots row.items) (all_of rows)
+placed_row slots rows row =
+    let e : all_of (rows ++ row ∷ []) ≡ all_of rows ++ (row.items ++ []) = all_of-append rows (row ∷ []) in
+    let n : row.items ++ [] ≡ row.items = append-nil row.items in
+    ap (placed slots) (e ∙ ap (λ l. all_of rows ++ l) n) ∙ placed-append (λ (a : Arrived). a.place) (λ (a : Arrived). a.run.name.0) slots (all_of rows) row.items
+
+tickets_all : {A : Type 0} (rows : List (Vec Arrived A)) → tickets_of ticket_of rows ≡ map ticket_of (all_of rows)
+tickets_all [] = refl
+tickets_all (r ∷ rs) = ap (λ l. map ticket_of r.items ++ l) (tickets_all rs) ∙ sym (map-append ticket_of r.items (all_of rs))
+
+abbrev txn : ℕ → Txn
+txn n = record { 0 = n }
+
+same_txn : (x y : Txn) → x.0 ≡ y.0 → x ≡ y
+same_txn x y e = ap txn e
+
+numbers_names : (xs ys : List Txn) → map (λ (t : Txn). t.0) xs ≡ map (λ (t : Txn). t.0) ys → xs ≡ ys
+numbers_names [] [] e = refl
+numbers_names [] (y ∷ ys) e = absurd (cc)
+numbers_names (x ∷ xs) [] e = absurd (cc)
+numbers_names (x ∷ xs) (y ∷ ys) e =
+    let h : x.0 ≡ y.0 = cc in
+    let t : map (λ (t : Txn). t.0) xs ≡ map (λ (t : Txn). t.0) ys = cc in
+    λ i. same_txn x y h i ∷ numbers_names xs ys t i
+
+-- what comes back stands in order, under the names of the jobs
+pub arranged : {A : Type 0} (names : List Txn) (tickets : List Ticket) (rows : List (Vec Arrived A)) (left : List Arrived) (lefts : List Ticket)
+    → tickets ≡ numbered names → map ticket_of left ≡ lefts → SharedOut tickets (tickets_of ticket_of rows) lefts
+    → names_of (somes (placed (placed (nones (length names)) left) (all_of rows))) ≡ names
+arranged names tickets rows left lefts ts ls shared =
+    let all : List Arrived = all_of rows ++ left in
+    let numbers : List ℕ = map (λ (t : Txn). t.0) names in
+    let place = λ (a : Arrived). a.place in
+    let name = λ (a : Arrived). a.run.name.0 in
+    let counts : (h : ℕ × ℕ → ℕ) → weigh h (numbered names) ≡ weigh h (map ticket_of all) = λ h.
+    let s = shared h in
+    let t : weigh h tickets ≡ weigh h (numbered names) = ap (weigh h) ts in
+    let l : weigh h (map ticket_of left) ≡ weigh h lefts = ap (weigh h) ls in
+    let r : weigh h (tickets_of ticket_of rows) ≡ weigh h (map ticket_of (all_of rows)) = ap (weigh h) (tickets_all rows) in
+    let m : weigh h (map ticket_of all) ≡ weigh h (map ticket_of (all_of rows) ++ map ticket_of left) = ap (weigh h) (map-append ticket_of (all_of rows) left) in
+    omega (arith, s, t, l, r, m, weigh-append h (map ticket_of (all_of rows)) (map ticket_of left)) in
+    let back : map name (somes (placed (nones (length numbers)) all)) ≡ numbers = comes_back place name numbers all counts in
+    let len : length numbers ≡ length names = length-map names (λ (t : Txn). t.0) in
+    let e : placed (nones (length numbers)) all ≡ placed (placed (nones (length names)) left) (all_of rows) =
+    ap (λ n. placed (nones n) all) len ∙ placed-append place name (nones (length names)) (all_of rows) left in
+    let f : map name (somes (placed (placed (nones (length names)) left) (all_of rows))) ≡ numbers = subst (λ (o : List (Option Arrived)). map name (somes o) ≡ numbers) e back in
+    numbers_names (names_of (somes (placed (placed (nones (length names)) left) (all_of rows)))) names (twice (somes (placed (placed (nones (length names)) left) (all_of rows))) ∙ f)
+  where
+    twice : (xs : List Arrived) → map (λ (t : Txn). t.0) (names_of xs) ≡ map (λ (a : Arrived). a.run.name.0) xs
+    twice [] = refl
+    twice (x ∷ xs) = ap (λ l. x.run.name.0 ∷ l) (twice xs)
+
+-- a change that keeps the name keeps all names
+pub names_set : (xs : List Arrived) (i : ℕ) (a b : Arrived) → i < length xs → a ≡ get_or xs i a → b.run.name ≡ a.run.name → names_of (set xs i b) ≡ names_of xs
+names_set [] i a b h e n = absurd (omega arith)
+names_set (x ∷ xs) zero a b h e n = ap (λ t. t ∷ names_of xs) (n ∙ ap (λ (y : Arrived). y.run.name) e)
+names_set (x ∷ xs) (suc i) a b h e n = ap (λ l. x.run.name ∷ l) (names_set xs i a b (omega arith) e n)
+
+pub somes_few : (xs : List (Option Arrived)) → length (somes xs) ≤ length xs
+somes_few [] = omega arith
+somes_few (None ∷ xs) = omega (arith, somes_few xs)
+somes_few (Some x ∷ xs) = omega (arith, somes_few xs)
+
+-- the last of what is to be placed is placed first
+pub placed_last : {E : Type 0} (f : E → Arrived) (slots slots' : List (Option Arrived)) (all xs : List E) (x : E) (a : Arrived)
+    → a ≡ f x → slots' ≡ set slots a.place (Some a) → all ≡ xs ++ x ∷ [] → placed slots' (map f xs) ≡ placed slots (map f all)
+placed_last {E} f slots slots' all xs x a e s h =
+    let m : map f (xs ++ x ∷ []) ≡ map f xs ++ f x ∷ [] = map-append f xs (x ∷ []) in
+    let p : placed slots (map f xs ++ f x ∷ []) ≡ placed (set slots (f x).place (Some (f x))) (map f xs) = placed-snoc slots (map f xs) (f x) in
+    let q : slots' ≡ set slots (f x).place (Some (f x)) = s ∙ ap (λ (b : Arrived). set slots b.place (Some b)) e in
+    ap (λ (l : List (Option Arrived)). placed l (map f xs)) q ∙ sym (ap (λ (l : List E). placed slots (map f l)) h ∙ (ap (placed slots) m ∙ p))
+
+pub nones_more : (A : Type 0) (n : ℕ) → nones {A = A} n ++ None ∷ [] ≡ nones (n + 1)
+nones_more A n = snoc n ∙ ap (nones {A = A}) (one n)
+  where
+    snoc : (m : ℕ) → nones {A = A} m ++ None ∷ [] ≡ nones (suc m)
+    snoc zero = refl
+    snoc (suc m) = ap (λ l. None ∷ l) (snoc m)
+
+    one : (m : ℕ) → suc m ≡ m + 1
+    one m = omega arith
+
+pub somes_more : {A : Type 0} (xs : List (Option A)) (o : Option A) (a : A) → o ≡ Some a → somes (xs ++ o ∷ []) ≡ somes xs ++ a ∷ []
+somes_more xs o a e = ap (λ o. somes (xs ++ o ∷ [])) e ∙ somes-append xs (Some a ∷ [])
+
+pub somes_same : {A : Type 0} (xs : List (Option A)) (o : Option A) → o ≡ None → somes (xs ++ o ∷ []) ≡ somes xs
+somes_same xs o e = ap (λ o. somes (xs ++ o ∷ [])) e ∙ (somes-append xs (None ∷ []) ∙ append-nil (somes xs))
+
+pub nones_len : {A : Type 0} (xs : List (Option A)) (n : ℕ) → xs ≡ nones n → length xs ≡ n
+nones_len {A} xs n e = ap length e ∙ length_nones A n
+
+-- what a push adds to a map of the items
+pub pushed : {E B : Type 0} (f : E → B) (old new : List E) (x : E) (ys : List B) (y : B) → new ≡ old ++ x ∷ [] → map f old ≡ ys → f x ≡ y → map f new ≡ ys ++ y ∷ []
+pushed f old new x ys y e o h = ap (map f) e ∙ (map-append f old (x ∷ []) ∙ (λ i. o i ++ h i ∷ []))
+
+pub left_snoc : (xs : List Arrived) (a : Arrived) → is_called a.run.answered ≡ false → left_of (runs_of (xs ++ a ∷ [])) ≡ left_of (runs_of xs) ++ a.run.name ∷ []
+left_snoc [] a e = ap (λ b. cond b [] (a.run.name ∷ []) ++ []) e
+left_snoc (x ∷ xs) a e =
+    ap (λ l. left_row x.run.name x.run.answered ++ l) (left_snoc xs a e) ∙ sym (append_assoc (left_row x.run.name x.run.answered) (left_of (runs_of xs)) (a.run.name ∷ []))
+
+pub left_same : (xs : List Arrived) (a : Arrived) → is_called a.run.answered ≡ true → left_of (runs_of (xs ++ a ∷ [])) ≡ left_of (runs_of xs)
+left_same [] a e = ap (λ b. cond b [] (a.run.name ∷ []) ++ []) e
+left_same (x ∷ xs) a e = ap (λ l. left_row x.run.name x.run.answered ++ l) (left_same xs a e)
+
+pub calls_snoc : (xs : List Arrived) (a : Arrived) → map (λ (s : JobRun). s.calls) (runs_of (xs ++ a ∷ [])) ≡ map (λ (s : JobRun). s.calls) (runs_of xs) ++ a.run.calls ∷ []
+calls_snoc [] a = refl
+calls_snoc (x ∷ xs) a = ap (λ l. x.run.calls ∷ l) (calls_snoc xs a)
+
+-- the sessions' calls, after a session more
+pub calls_more : (old new first : List Asker) (s : Asker) (xs : List Arrived) (a : Arrived) → new ≡ old ++ s ∷ [] → s.list.calls ≡ a.run.calls
+    → map (λ (s : Asker). s.list.calls) old ≡ map (λ (s : Asker). s.list.calls) first ++ map (λ (s : JobRun). s.calls) (runs_of xs)
+    → map (λ (s : Asker). s.list.calls) new ≡ map (λ (s : Asker). s.list.calls) first ++ map (λ (s : JobRun). s.calls) (runs_of (xs ++ a ∷ []))
+calls_more old new first s xs a e h o =
+    pushed (λ (s : Asker). s.list.calls) old new s (map (λ (s : Asker). s.list.calls) first ++ map (λ (s : JobRun). s.calls) (runs_of xs)) a.run.calls e o h
+    ∙ (append_assoc (map (λ (s : Asker). s.list.calls) first) (map (λ (s : JobRun). s.calls) (runs_of xs)) (a.run.calls ∷ []) ∙ ap (λ l. map (λ (s : Asker). s.list.calls) first ++ l) (sym (calls_snoc xs a)))
+
+-- what was added to is still what a longer list begins with
+pub more_after : {E : Type 0} (first old new : List E) (x : E) → new ≡ old ++ x ∷ [] → (rest : List E) × (old ≡ first ++ rest) → (rest : List E) × (new ≡ first ++ rest)
+more_after first old new x e was = (was.0 ++ x ∷ [], e ∙ (ap (λ l. l ++ x ∷ []) was.1 ∙ append_assoc first was.0 (x ∷ [])))
+
+pub names_runs : (xs : List Arrived) → map (λ (s : JobRun). s.name) (runs_of xs) ≡ names_of xs
+names_runs [] = refl
+names_runs (x ∷ xs) = ap (λ l. x.run.name ∷ l) (names_runs xs)
+
+numbered_last : (k : ℕ) (ns : List ℕ) (n : ℕ) → placing.numbered k (ns ++ n ∷ []) ≡ placing.numbered k ns ++ (k + length ns, n) ∷ []
+numbered_last k [] n = let e : k ≡ k + 0 = omega arith in ap (λ (m : ℕ). (m, n) ∷ []) e
+numbered_last k (x ∷ xs) n =
+    let e : k + 1 + length xs ≡ k + suc (length xs) = omega arith in
+    ap (λ l. (k, x) ∷ l) (numbered_last (k + 1) xs n ∙ ap (λ (m : ℕ). placing.numbered (k + 1) xs ++ (m, n) ∷ []) e)
+
+-- the tickets of the jobs, after a job more
+pub tickets_more : {E : Type 0} (f : E → Ticket) (jobs jobs' : List E) (job : E) (names names' : List Txn) (t : Txn) (n : ℕ)
+    → jobs' ≡ jobs ++ job ∷ [] → names' ≡ names ++ t ∷ [] → f job ≡ (n, t.0) → n ≡ length names → map f jobs ≡ numbered names → map f jobs' ≡ numbered names'
+tickets_more f jobs jobs' job names names' t n j ns x len was =
+    let nums : List ℕ = map (λ (t : Txn). t.0) names in
+    let l : length nums ≡ length names = length-map names (λ (t : Txn). t.0) in
+    let place : n ≡ 0 + length nums = omega (arith, len, l) in
+    let at : f job ≡ (0 + length nums, t.0) = x ∙ ap (λ (m : ℕ). (m, t.0)) place in
+    let m : map (λ (t : Txn). t.0) (names ++ t ∷ []) ≡ nums ++ t.0 ∷ [] = map-append (λ (t : Txn). t.0) names (t ∷ []) in
+    pushed f jobs jobs' job (numbered names) (0 + length nums, t.0) j was at
+    ∙ sym (ap numbered ns ∙ (ap (placing.numbered 0) m ∙ numbered_last 0 nums t.0))
+
+pub placed_few : {A : Type 0} (n : ℕ) (left : List Arrived) (rows : List (Vec Arrived A)) → length (placed (placed (nones n) left) (all_of rows)) ≡ n
+placed_few n left rows =
+    length_placed (λ (a : Arrived). a.place) (λ (a : Arrived). a.run.name.0) (placed (nones n) left) (all_of rows)
+    ∙ (length_placed (λ (a : Arrived). a.place) (λ (a : Arrived). a.run.name.0) (nones n) left ∙ length_nones (Arrived) n)
+
+pub lefts_are : {E : Type 0} (place : E → ℕ) (name : E → Txn) (calls : E → List Call) (xs : List E)
+    → map ticket_of (map (λ x. left_at (place x) (name x) (calls x)) xs) ≡ map (λ x. (place x, (name x).0)) xs
+lefts_are place name calls [] = refl
+lefts_are place name calls (x ∷ xs) = ap (λ l. (place x, (name x).0) ∷ l) (lefts_are place name calls xs)
+
+-- what comes back and is settled stands in order, under the names of the jobs
+pub in_order_of : {A : Type 0} (names : List Txn) (n : ℕ) (tickets : List Ticket) (rows : List (Vec Arrived A)) (left : List Arrived) (lefts : List Ticket) (order order' : List Arrived)
+    → n ≡ length names → tickets ≡ numbered names → map ticket_of left ≡ lefts → SharedOut tickets (tickets_of ticket_of rows) lefts
+    → order ≡ somes (placed (placed (nones n) left) (all_of rows)) → names_of order' ≡ names_of order → names_of order' ≡ names
+in_order_of names n tickets rows left lefts order order' len ts ls shared o s =
+    s ∙ (ap names_of o ∙ (ap (λ m. names_of (somes (placed (placed (nones m) left) (all_of rows)))) len ∙ arranged names tickets rows left lefts ts ls shared))
+
+pub as_many : (xs : List Arrived) (names : List Txn) → names_of xs ≡ names → length xs ≡ length names
+as_many xs names e = sym (length-map xs (λ (a : Arrived). a.run.name)) ∙ ap (length {A = Txn}) e
+
+pub work_cause : (workers : ℕ) (slots : List JobRun) (cause : RunCause) → IsWorkCause workers cause → IsCause workers slots cause
+work_cause workers slots NoWorkers h = h
+work_cause workers slots NoMemory h = h
+work_cause workers slots (Stranger t) h = absurd h

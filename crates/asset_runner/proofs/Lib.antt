@@ -1,0 +1,4 @@
+pub mod PlacingLemmas
+pub mod ArrivedLemmas
+pub mod FirstLemmas
+pub mod InitiatedLemmas

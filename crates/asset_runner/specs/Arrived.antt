@@ -1,0 +1,27 @@
+-- What comes back from the workers.
+use Rattle.std.specs.Prelude.{ℕ, List, map, Option, None}
+use Rattle.asset_names.specs.declared.names.Txn.{Txn}
+use Rattle.asset_audit.specs.Audited.{Call}
+use Rattle.asset_queue.specs.Once.{Ticket}
+use Rattle.asset_runner.specs.Runs.{JobRun}
+use Rattle.asset_runner.specs.Placing as placing
+
+-- what came of a job, and its place in the order of initiation
+pub record Arrived : Type 0 where
+  pub place : ℕ
+  pub run : JobRun
+
+abbrev pub ticket_of : Arrived → Ticket
+ticket_of a = (a.place, a.run.name.0)
+
+-- a job whose body was not called, with the calls of its session
+abbrev pub left_at : ℕ → Txn → List Call → Arrived
+left_at place t calls = record { place = place; run = record { name = t; answered = None; calls = calls } }
+
+-- the tickets of jobs of these names, in order
+abbrev pub numbered : List Txn → List Ticket
+numbered names = placing.numbered 0 (map (λ (t : Txn). t.0) names)
+
+-- each is put into its place, the last one first
+abbrev pub placed : List (Option Arrived) → List Arrived → List (Option Arrived)
+placed slots all = placing.placed (λ (a : Arrived). a.place) slots all

@@ -1,0 +1,28 @@
+-- What a plan's run gives.
+use Rattle.std.specs.Prelude.{◌≡◌, ◌<◌, ℕ, List, ◌∷◌, map, Some}
+use Rattle.asset_names.specs.declared.names.Txn.{Txn}
+use Rattle.asset_audit.specs.Audited.{Call}
+use Rattle.asset_bodies.specs.declared.ends.JobEnd.{JobEnd}
+use Rattle.asset_runner.specs.declared.report.RunCause.{RunCause}
+use Rattle.asset_runner.specs.declared.report.RunCause.TheVariants.{NoWorkers, NoMemory, Stranger}
+use Rattle.asset_runner.specs.Runs.{JobRun, ends_of, left_of, first_stranger}
+
+-- each job that was initiated, in order, is in `ends` or in `left`; the sessions' calls are the plan's and then the jobs',
+-- in order
+pub record Comes (names : List Txn) (plan : List Call) (runs : List JobRun) (ends : List (Txn × JobEnd)) (left : List Txn) (sessions : List (List Call)) : Type 0 where
+  pub names_are : map (λ (run : JobRun). run.name) runs ≡ names
+  pub ends_are : ends ≡ ends_of runs runs
+  pub left_are : left ≡ left_of runs
+  pub sessions_are : sessions ≡ plan ∷ map (λ (run : JobRun). run.calls) runs
+
+-- why a run did not go as planned
+abbrev pub IsCause : ℕ → List JobRun → RunCause → Type 0
+IsCause workers runs NoWorkers = workers ≡ 0
+IsCause workers runs NoMemory = 0 < workers
+IsCause workers runs (Stranger t) = (0 < workers) × (first_stranger runs ≡ Some t)
+
+-- of what the workers answer: strangers are looked for later
+abbrev pub IsWorkCause : ℕ → RunCause → Type 0
+IsWorkCause workers NoWorkers = workers ≡ 0
+IsWorkCause workers NoMemory = 0 < workers
+IsWorkCause workers (Stranger t) = ⊥

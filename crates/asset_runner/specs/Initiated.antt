@@ -1,0 +1,35 @@
+-- What an initiation asked.
+use Rattle.std.specs.Prelude.{◌≡◌, ℕ, List, [], ◌∷◌, ◌++◌, Option, Some, None, Result, Ok, Err}
+use Rattle.asset_names.specs.declared.steps.Step.{Step}
+use Rattle.asset_names.specs.declared.replies.Reply.TheVariants.{Done, Refused}
+use Rattle.asset_names.specs.declared.replies.Outcome.{Outcome}
+use Rattle.asset_names.specs.declared.replies.Outcome.TheVariants.{Answer}
+use Rattle.asset_names.specs.declared.replies.Fault.{Fault}
+use Rattle.asset_names.specs.declared.replies.Fault.TheVariants.{Full, NoMemory}
+use Rattle.asset_audit.specs.Audited.{Call}
+use Rattle.asset_runner.specs.declared.plan.Cause.{Cause}
+use Rattle.asset_runner.specs.declared.plan.Cause.TheVariants as Cause'
+
+-- an initiation that was answered `Done` is one call more
+abbrev pub IsInitiated : List Call → Step → List Call → Type 0
+IsInitiated before step later = (n : ℕ) × (later ≡ before ++ (n, step, Done) ∷ [])
+
+-- one that was not: a refusal is one call more, and the other causes are none
+abbrev pub IsRefused : List Call → Step → Cause → List Call → Type 0
+IsRefused before step (Cause'.Refused refusal) later = (n : ℕ) × (later ≡ before ++ (n, step, Refused refusal) ∷ [])
+IsRefused before step Cause'.Full later = later ≡ before
+IsRefused before step Cause'.NoMemory later = later ≡ before
+
+-- of an initiation: it is answered `Done` or refused, and does not wait
+abbrev pub IsInitiation : Result Outcome Fault → Type 0
+IsInitiation (Ok (Answer Done)) = Unit {0}
+IsInitiation (Ok (Answer (Refused refusal))) = Unit {0}
+IsInitiation (Err fault) = Unit {0}
+IsInitiation outcome = ⊥
+
+-- why an initiation was not answered `Done`
+abbrev pub cause_by : Result Outcome Fault → Option Cause
+cause_by (Ok (Answer (Refused refusal))) = Some (Cause'.Refused refusal)
+cause_by (Err NoMemory) = Some Cause'.NoMemory
+cause_by (Err Full) = Some Cause'.Full
+cause_by outcome = None

@@ -1,0 +1,17 @@
+//! Plans of jobs: each job is a transaction with a boxed body, and workers in threads of their own run them. Each job that
+//! was accepted has its end or is handed back, once, whatever bodies do.
+#![tactic(auto)]
+
+mod arrival;
+mod firsts;
+mod gate;
+mod job;
+mod order;
+mod plan;
+mod report;
+mod rooms;
+
+pub use asset_bodies::{Body, ChildEnd, Finished, JobEnd, Tx, job_end};
+pub use gate::Gate;
+pub use plan::{Cause, InitFault, Plan};
+pub use report::{Job, Report, RunCause, RunFault};

@@ -1,0 +1,312 @@
+//! A plan of jobs.
+
+ghost use Rattle.std.specs.Prelude.{◌≡◌, ◌≤◌, ◌<◌, ◌+◌, ◌++◌, ◌∷◌, ◌⊎◌, [], List, map, None, Some, vec_len, vec_capacity, OnOk, IfOk, IfErr, MatchOption, MatchResult};
+ghost use Rattle.std.specs.Arc.{arc_value};
+ghost use base.Stored.{Coded-set, coded_list, coded×, coded_ℕ};
+ghost use Rattle.asset_names.specs.declared.steps.Step.TheVariants as Step;
+ghost use Rattle.asset_counts.specs.Pass.{IsOf, IsOf-prop};
+ghost use Rattle.asset_manager.specs.Asker.{Asker};
+ghost use Rattle.asset_bodies.specs.Working.{Working, Worked};
+ghost use Rattle.asset_queue.specs.Once.{SharedOut};
+ghost use Rattle.asset_queue.specs.Rows.{tickets_of};
+ghost use Rattle.asset_runner.specs.Placing.{nones, somes};
+ghost use Rattle.asset_runner.specs.Runs.{JobRun, first_stranger};
+ghost use Rattle.asset_runner.specs.Arrived.{numbered, placed, left_at, ticket_of};
+ghost use Rattle.asset_runner.specs.Rows.{all_of};
+ghost use Rattle.asset_runner.specs.Comes.{Comes, IsCause, IsWorkCause};
+ghost use Rattle.asset_runner.specs.Initiated.{IsInitiated, IsRefused, IsInitiation, cause_by};
+
+use crate::arrival::Arrival;
+use crate::firsts::firsts_of;
+use crate::gate::Gate;
+use crate::job::{Crew, Planned};
+use crate::order::{empty_slots, in_order, put_left, put_rows, settle};
+use crate::report::{Report, RunCause, RunFault, ends_of, first_stranger, hand_out};
+use crate::rooms::Rooms;
+use asset_bodies::Body;
+use asset_manager::{Manager, Session};
+use asset_names::{Fault, Outcome, Refusal, Reply, Step, Txn};
+use asset_queue::{MOST_WORKERS, run};
+use std::alloc::Global;
+use std::sync::{Arc, Wait};
+use std::thread::Threads;
+
+/// Why a job was not initiated.
+#[derive(Clone, Copy, PartialEq, Eq, Debug)]
+pub enum Cause {
+    /// The facility refused it.
+    Refused(Refusal),
+    /// The history has no room.
+    Full,
+    /// Memory ran out.
+    NoMemory,
+}
+
+/// A job that was not initiated: its body, and why.
+#[derive(Drop)]
+pub struct InitFault {
+    /// The body.
+    pub body: Body,
+    /// The cause.
+    pub cause: Cause,
+}
+
+/// Jobs that were initiated, for workers to run.
+#[derive(Drop)]
+pub struct Plan {
+    manager: Arc<Manager, Global>,
+    session: Session,
+    turns: Option<u32>,
+    alloc: Global,
+    names: Vec<Txn>,
+    jobs: Vec<Planned>,
+    rooms: Rooms,
+    ghost fits: { IsOf session.of (arc_value manager) } by { IsOf-prop session.of (arc_value manager) },
+    ghost tickets: { map (λ j. (j.place, j.name.0)) jobs.items ≡ numbered names.items } by { Coded-set (coded_list (coded× coded_ℕ coded_ℕ)) (map (λ j. (j.place, j.name.0)) jobs.items) (numbered names.items) },
+    ghost room: { 0 < vec_len names → vec_len names < rooms.jobs },
+}
+
+/// What came of the workers, whatever they took.
+#[derive(Drop)]
+struct FromWorkers {
+    rows: Vec<Vec<Arrival>>,
+    left: Vec<Planned>,
+    cause: Option<RunCause>,
+}
+
+/// Has the jobs run by so many workers, 64 at most.
+fn work<R: Threads + Wait + Sync, G: Gate>(
+    rt: &R,
+    alloc: Global,
+    jobs: Vec<Planned>,
+    workers: usize,
+    gate: &G,
+) -> FromWorkers
+    ensures shared { SharedOut (map (λ j. (j.place, j.name.0)) jobs.items) (tickets_of ticket_of result.rows.items) (map (λ j. (j.place, j.name.0)) result.left.items) }
+    ensures cause { MatchOption result.cause (0 < workers) (λ cause. IsWorkCause workers cause) }
+{
+    if workers == 0 {
+        return FromWorkers {
+            rows: Vec::new(alloc),
+            left: jobs,
+            cause: Some(RunCause::NoWorkers),
+        };
+    }
+    let crew = Crew { gate };
+    match run::<Planned, Arrival, Crew<'_, G>, R>(
+        rt,
+        alloc,
+        &crew,
+        jobs,
+        workers.min(MOST_WORKERS),
+    ) {
+        Ok((rows, left)) => {
+            let cause = if left.is_empty() {
+                None
+            } else {
+                Some(RunCause::NoMemory)
+            };
+            FromWorkers { rows, left, cause }
+        }
+        Err(all) => FromWorkers {
+            rows: Vec::new(alloc),
+            left: all,
+            cause: Some(RunCause::NoMemory),
+        },
+    }
+}
+
+/// Returns what came of the jobs, in order of initiation.
+fn arrange(
+    jobs: usize,
+    slots: Vec<Option<Arrival>>,
+    order: Vec<Arrival>,
+    rows: Vec<Vec<Arrival>>,
+    left: Vec<Planned>,
+) -> Vec<Arrival>
+    requires empty { (slots.items ≡ []) × (order.items ≡ []) }
+    requires room { (jobs ≤ vec_capacity slots) × (jobs ≤ vec_capacity order) }
+    ensures { result.items ≡ somes (placed (placed (nones jobs) (map (λ j. left_at j.place j.name j.session.list.calls) left.items)) (all_of rows.items)) }
+{
+    let mut slots = empty_slots(slots, jobs);
+    put_left(&mut slots, left);
+    put_rows(&mut slots, rows);
+    in_order(slots, order)
+}
+
+/// Returns why an initiation was not answered `Done`, and `None` if it was.
+fn cause_of(outcome: Result<Outcome, Fault>) -> Option<Cause>
+    requires { IsInitiation outcome }
+    ensures { result ≡ cause_by outcome }
+{
+    match outcome {
+        Ok(Outcome::Answer(Reply::Done)) => None,
+        Ok(Outcome::Answer(Reply::Refused(refusal))) => Some(Cause::Refused(refusal)),
+        Ok(_) => unreachable!(),
+        Err(Fault::Full) => Some(Cause::Full),
+        Err(Fault::NoMemory) => Some(Cause::NoMemory),
+    }
+}
+
+impl Plan {
+    /// Returns a plan without jobs, which asks by this session. Operations of bodies ask again at most `turns` times
+    /// while the answer is to wait, or without such a bound until they are answered. It does not allocate.
+    pub fn new(
+        alloc: Global,
+        manager: Arc<Manager, Global>,
+        session: Session,
+        turns: Option<u32>,
+    ) -> Plan
+        requires { IsOf session.of (arc_value manager) }
+        ensures names { result.names.items ≡ [] }
+        ensures own { (arc_value result.manager ≡ arc_value manager) × (result.session ≡ session) }
+    {
+        Plan {
+            manager,
+            session,
+            turns,
+            alloc,
+            names: Vec::new(alloc),
+            jobs: Vec::new(alloc),
+            rooms: Rooms::new(alloc),
+        }
+    }
+
+    /// Initiates a transaction for the body, with a session of its own that has room for its three entries. The body's
+    /// promise is that it may be called with any transaction of the plan's manager, and that the `Finished` that it then
+    /// answers is of that manager. If the transaction is refused, or the history has no room, or memory runs out, the
+    /// body comes back with the cause and the plan is as before.
+    pub fn initiate<R: Wait>(
+        &mut self,
+        rt: &R,
+        t: Txn,
+        parent: Option<Txn>,
+        body: Body,
+    ) -> Result<(), InitFault>
+        requires ready { (tx : Working) → tx.manager ≡ arc_value self.old.manager → pre body tx }
+        requires same { (tx : Working) (f : Worked) → tx.manager ≡ arc_value self.old.manager → post body tx f → f.of ≡ Some tx.manager }
+        ensures manager { arc_value self.new.manager ≡ arc_value self.old.manager }
+        ensures of { IsOf self.new.session.of (arc_value self.new.manager) }
+        ensures back { IfErr result (λ fault. fault.body ≡ body) }
+        ensures names { MatchResult result (λ _. self.new.names.items ≡ self.old.names.items ++ t ∷ []) (λ _. self.new.names.items ≡ self.old.names.items) }
+        ensures asked { MatchResult result (λ _. IsInitiated self.old.session.list.calls (Step.Initiate t parent) self.new.session.list.calls) (λ fault. IsRefused self.old.session.list.calls (Step.Initiate t parent) fault.cause self.new.session.list.calls) }
+    {
+        let (Ok(manager), Ok(lent)) = (Arc::try_clone(&self.manager), Arc::try_clone(&self.manager))
+        else {
+            return Err(fault(body, Cause::NoMemory));
+        };
+        let place = self.names.len();
+        if self.names.reserve(1).is_err()
+            || self.jobs.reserve(1).is_err()
+            || self.rooms.reserve(place + 2).is_err()
+        {
+            return Err(fault(body, Cause::NoMemory));
+        }
+        let mut session = self.session.split();
+        if session.reserve(3).is_err() {
+            self.session.join(session);
+            return Err(fault(body, Cause::NoMemory));
+        }
+        let outcome = self
+            .session
+            .call(rt, &self.manager, Step::Initiate { t, parent });
+        match cause_of(outcome) {
+            Some(cause) => {
+                self.session.join(session);
+                return Err(fault(body, cause));
+            }
+            None => {}
+        }
+        let job = Planned::new(place, t, self.turns, session, manager, lent, body);
+        self.names.push_reserved(t);
+        self.jobs.push_reserved(job);
+        Ok(())
+    }
+
+    /// Has the jobs run by so many workers, 64 at most, each in a thread of its own, and returns what came of them. A
+    /// worker takes a job, begins its transaction, calls its body, and asks the commit of what the body answered as done;
+    /// when all workers have ended, the commits that wait are asked again, in passes until a pass changes nothing.
+    ///
+    /// It fails with `NoWorkers` if there are none; otherwise with `NoMemory` if memory ran out before each job was
+    /// taken; otherwise with `Stranger` for the first job whose body answered another's `Finished`. The fault has what
+    /// came of the jobs all the same. Only a plan without jobs that is refused memory loses its session.
+    pub fn run<R: Threads + Wait + Sync, G: Gate>(
+        self,
+        rt: &R,
+        workers: usize,
+        gate: &G,
+    ) -> Result<Report, RunFault>
+        ensures ok { IfOk result (λ r. (runs : List JobRun) × Comes self.names.items self.session.list.calls runs r.ends.items (map (λ j. j.name) r.left.items) (map (λ (s : Asker). s.list.calls) r.sessions.items) × (first_stranger runs ≡ None)) }
+        ensures err { IfErr result (λ e. (self.names.items ≡ []) ⊎ ((runs : List JobRun) × Comes self.names.items self.session.list.calls runs e.report.ends.items (map (λ j. j.name) e.report.left.items) (map (λ (s : Asker). s.list.calls) e.report.sessions.items) × IsCause workers runs e.cause)) }
+        ensures workers { OnOk result (0 < workers) }
+        ensures session { IfOk result (λ r. (rest : List Asker) × (r.sessions.items ≡ self.session ∷ rest)) }
+    {
+        let Plan {
+            manager: _,
+            session,
+            turns: _,
+            alloc,
+            names,
+            jobs,
+            mut rooms,
+        } = self;
+        let count = names.len();
+        let Ok(()) = rooms.reserve(count + 1) else {
+            return Err(no_room(alloc, workers));
+        };
+        let FromWorkers { rows, left, cause } = work(rt, alloc, jobs, workers, gate);
+        let Rooms {
+            jobs: _,
+            slots,
+            order,
+            firsts,
+            ends,
+            left: kept,
+            mut sessions,
+        } = rooms;
+        let mut order = arrange(count, slots, order, rows, left);
+        settle(rt, &mut order);
+        let firsts = firsts_of(&order, firsts);
+        let ends = ends_of(&order, &firsts, ends);
+        let stranger = first_stranger(&order);
+        sessions.push_reserved(session);
+        let (left, sessions) = hand_out(order, kept, sessions);
+        let report = Report {
+            ends,
+            left,
+            sessions,
+        };
+        match (cause, stranger) {
+            (None, None) => Ok(report),
+            (Some(cause), _) => Err(RunFault { report, cause }),
+            (None, Some(t)) => Err(RunFault {
+                report,
+                cause: RunCause::Stranger(t),
+            }),
+        }
+    }
+}
+
+/// Returns what a plan without jobs answers if there is no room for its own session.
+fn no_room(alloc: Global, workers: usize) -> RunFault {
+    let cause = if workers == 0 {
+        RunCause::NoWorkers
+    } else {
+        RunCause::NoMemory
+    };
+    RunFault {
+        report: Report {
+            ends: Vec::new(alloc),
+            left: Vec::new(alloc),
+            sessions: Vec::new(alloc),
+        },
+        cause,
+    }
+}
+
+/// Returns a body that was not taken, with the cause.
+fn fault(body: Body, cause: Cause) -> InitFault
+    ensures { (result.body ≡ body) × (result.cause ≡ cause) }
+{
+    InitFault { body, cause }
+}
