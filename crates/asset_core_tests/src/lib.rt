@@ -8,7 +8,7 @@ mod script;
 
 pub use again::{ask, opened};
 pub use opening::{ROOM, THREE};
-pub use script::{first_wrong_line, parsed, reads};
+pub use script::{first_other_entry, first_wrong_line, parsed, reads};
 
 #[cfg(test)]
 mod delegations;

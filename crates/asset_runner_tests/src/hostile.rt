@@ -1,0 +1,228 @@
+//! Bodies that do nothing, ignore an answer to wait, wait for one another, and jobs that somebody else aborts.
+
+ghost use Rattle.std.specs.Prelude.{◌≡◌, Some};
+ghost use Rattle.asset_counts.specs.Pass.{IsOf};
+ghost use Rattle.asset_bodies.specs.Working.{Working, Worked};
+
+use crate::bodies::{does_nothing, gives_up, writes};
+use crate::gates::Open;
+use crate::running::{Closing, Wanted, initiated, open_plan, run_and_close};
+use asset_manager::{AuditFault, Manager, Session};
+use asset_names::{Kind, Ob, Outcome, Step, Txn};
+use asset_runner::{Body, Finished, JobEnd, Tx};
+use asset_test_tools::{abort, begin, initiate, write};
+use std::sync::Wait;
+use std::test::Fail;
+
+/// Asks steps of a session, and returns how many of them were answered by `Done`, a value or `Aborted`.
+fn asks<R: Wait>(rt: &R, manager: &Manager, session: &mut Session, steps: &[Step]) -> usize
+    requires { IsOf session.old.of manager.now }
+    ensures { IsOf session.new.of manager.now }
+{
+    let mut answered: usize = 0;
+    for step in steps {
+        if let Ok(Outcome::Answer(_)) = session.call(rt, manager, *step) {
+            answered = answered.saturating_add(1);
+        }
+    }
+    answered
+}
+
+#[test]
+fn one_worker_does_three_jobs(rt: HostRuntime) -> Result<(), Fail> {
+    let alloc = rt.alloc();
+    let seven: Body = Box::new(alloc, move |tx: Tx| does_nothing(&rt, tx))?;
+    let eight: Body = Box::new(alloc, move |tx: Tx| does_nothing(&rt, tx))?;
+    let nine: Body = Box::new(alloc, move |tx: Tx| does_nothing(&rt, tx))?;
+    let mut all = open_plan(alloc, Some(3))?;
+    let refused = (
+        initiated(&rt, &mut all.plan, 7, seven),
+        initiated(&rt, &mut all.plan, 8, eight),
+        initiated(&rt, &mut all.plan, 9, nine),
+    );
+    let wanted = Wanted {
+        ends: &[
+            (7, JobEnd::Committed),
+            (8, JobEnd::Committed),
+            (9, JobEnd::Committed),
+        ],
+        left: &[],
+        history: "\
+            initiate 7: ok\ninitiate 8: ok\ninitiate 9: ok\nbegin 7: ok\ncomplete 7: ok\ncommit 7: committed\n\
+            begin 8: ok\ncomplete 8: ok\ncommit 8: committed\nbegin 9: ok\ncomplete 9: ok\ncommit 9: committed\n",
+    };
+    let left = run_and_close(&rt, alloc, all, 1, &Open, Closing::All, &wanted)?;
+    assert_eq!(rt; refused, (None, None, None));
+    assert_eq!(rt; (left.cause, left.wrong), (None, None));
+    assert_eq!(rt;
+        (left.as_wanted, left.counts, left.audit),
+        (true, (12, 3, 0), Ok(()))
+    );
+    Ok(())
+}
+
+#[test]
+fn body_that_waits_gives_up(rt: HostRuntime) -> Result<(), Fail> {
+    let alloc = rt.alloc();
+    let seven: Body = Box::new(alloc, move |tx: Tx| gives_up(&rt, tx, 1, 70))?;
+    let mut all = open_plan(alloc, Some(3))?;
+    let asked = asks(
+        &rt,
+        &all.manager,
+        &mut all.other,
+        &[initiate(5), begin(5), write(5, 1, 5)],
+    );
+    let refused = initiated(&rt, &mut all.plan, 7, seven);
+    let wanted = Wanted {
+        ends: &[(7, JobEnd::Aborted)],
+        left: &[],
+        history: "initiate 5: ok\nbegin 5: ok\nwrite 5 1 5: ok\ninitiate 7: ok\nbegin 7: ok\nabort 7: aborted\n",
+    };
+    let left = run_and_close(&rt, alloc, all, 1, &Open, Closing::All, &wanted)?;
+    assert_eq!(rt;
+        (asked, refused, left.cause, left.wrong),
+        (3, None, None, None)
+    );
+    assert_eq!(rt;
+        (left.as_wanted, left.counts, left.audit),
+        (true, (6, 0, 1), Ok(()))
+    );
+    Ok(())
+}
+
+#[test]
+fn body_that_ignores_a_wait_commits(rt: HostRuntime) -> Result<(), Fail> {
+    let alloc = rt.alloc();
+    let seven: Body = Box::new(alloc, move |tx: Tx| writes(&rt, tx, 1, 70))?;
+    let mut all = open_plan(alloc, Some(3))?;
+    let asked = asks(
+        &rt,
+        &all.manager,
+        &mut all.other,
+        &[initiate(5), begin(5), write(5, 1, 5)],
+    );
+    let refused = initiated(&rt, &mut all.plan, 7, seven);
+    let wanted = Wanted {
+        ends: &[(7, JobEnd::Committed)],
+        left: &[],
+        history: "\
+            initiate 5: ok\nbegin 5: ok\nwrite 5 1 5: ok\ninitiate 7: ok\nbegin 7: ok\ncomplete 7: ok\n\
+            commit 7: committed\nread 5 1: 5\n",
+    };
+    let read = Closing::AfterRead(Txn(5), Ob(1));
+    let left = run_and_close(&rt, alloc, all, 1, &Open, read, &wanted)?;
+    assert_eq!(rt;
+        (asked, refused, left.cause, left.wrong),
+        (3, None, None, None)
+    );
+    assert_eq!(rt;
+        (left.as_wanted, left.counts, left.audit),
+        (true, (7, 1, 0), Ok(()))
+    );
+    Ok(())
+}
+
+/// Makes 7 depend on another, by a commit dependency, and is done.
+fn waits_for<R: Wait>(rt: &R, tx: Tx, source: Txn) -> Finished
+    ensures { result.of ≡ Some tx.manager }
+{
+    let mut tx = tx;
+    let _ = tx.depend(rt, Kind::Cd, source, Txn(7));
+    tx.done(rt)
+}
+
+#[test]
+fn commit_that_waits_is_asked_again(rt: HostRuntime) -> Result<(), Fail> {
+    let alloc = rt.alloc();
+    let seven: Body = Box::new(alloc, move |tx: Tx| waits_for(&rt, tx, Txn(8)))?;
+    let eight: Body = Box::new(alloc, move |tx: Tx| does_nothing(&rt, tx))?;
+    let mut all = open_plan(alloc, Some(3))?;
+    let refused = (
+        initiated(&rt, &mut all.plan, 7, seven),
+        initiated(&rt, &mut all.plan, 8, eight),
+    );
+    let wanted = Wanted {
+        ends: &[(7, JobEnd::Committed), (8, JobEnd::Committed)],
+        left: &[],
+        history: "\
+            initiate 7: ok\ninitiate 8: ok\nbegin 7: ok\ndepend cd 8 7: ok\ncomplete 7: ok\nbegin 8: ok\ncomplete 8: ok\n\
+            commit 8: committed\ncommit 7: committed\n",
+    };
+    let left = run_and_close(&rt, alloc, all, 1, &Open, Closing::All, &wanted)?;
+    assert_eq!(rt; refused, (None, None));
+    assert_eq!(rt; (left.cause, left.wrong), (None, None));
+    assert_eq!(rt;
+        (left.as_wanted, left.counts, left.audit),
+        (true, (9, 2, 0), Ok(()))
+    );
+    Ok(())
+}
+
+#[test]
+fn commit_that_goes_on_waiting_is_unsettled(rt: HostRuntime) -> Result<(), Fail> {
+    let alloc = rt.alloc();
+    let seven: Body = Box::new(alloc, move |tx: Tx| waits_for(&rt, tx, Txn(5)))?;
+    let mut all = open_plan(alloc, Some(3))?;
+    let asked = asks(&rt, &all.manager, &mut all.other, &[initiate(5)]);
+    let refused = initiated(&rt, &mut all.plan, 7, seven);
+    let wanted = Wanted {
+        ends: &[(7, JobEnd::Unsettled)],
+        left: &[],
+        history: "initiate 5: ok\ninitiate 7: ok\nbegin 7: ok\ndepend cd 5 7: ok\ncomplete 7: ok\n",
+    };
+    let left = run_and_close(&rt, alloc, all, 1, &Open, Closing::All, &wanted)?;
+    assert_eq!(rt;
+        (asked, refused, left.cause, left.wrong),
+        (1, None, None, None)
+    );
+    assert_eq!(rt;
+        (left.as_wanted, left.counts, left.audit),
+        (true, (5, 0, 0), Ok(()))
+    );
+    Ok(())
+}
+
+#[test]
+fn job_that_somebody_aborts_is_left(rt: HostRuntime) -> Result<(), Fail> {
+    let alloc = rt.alloc();
+    let seven: Body = Box::new(alloc, move |tx: Tx| does_nothing(&rt, tx))?;
+    let mut all = open_plan(alloc, Some(3))?;
+    let refused = initiated(&rt, &mut all.plan, 7, seven);
+    let asked = asks(&rt, &all.manager, &mut all.other, &[abort(7)]);
+    let wanted = Wanted {
+        ends: &[],
+        left: &[7],
+        history: "initiate 7: ok\nabort 7: aborted\nbegin 7: refused ended 7\n",
+    };
+    let left = run_and_close(&rt, alloc, all, 1, &Open, Closing::All, &wanted)?;
+    assert_eq!(rt;
+        (asked, refused, left.cause, left.wrong),
+        (1, None, None, None)
+    );
+    assert_eq!(rt;
+        (left.as_wanted, left.counts, left.audit),
+        (true, (3, 0, 1), Ok(()))
+    );
+    Ok(())
+}
+
+#[test]
+fn session_of_the_aborter_is_missed(rt: HostRuntime) -> Result<(), Fail> {
+    let alloc = rt.alloc();
+    let seven: Body = Box::new(alloc, move |tx: Tx| does_nothing(&rt, tx))?;
+    let mut all = open_plan(alloc, Some(3))?;
+    let refused = initiated(&rt, &mut all.plan, 7, seven);
+    let asked = asks(&rt, &all.manager, &mut all.other, &[abort(7)]);
+    let wanted = Wanted {
+        ends: &[],
+        left: &[7],
+        history: "initiate 7: ok\nabort 7: aborted\nbegin 7: refused ended 7\n",
+    };
+    let left = run_and_close(&rt, alloc, all, 1, &Open, Closing::WithoutOther, &wanted)?;
+    assert_eq!(rt;
+        (asked, refused, left.cause, left.wrong),
+        (1, None, None, None)
+    );
+    assert_eq!(rt; left.audit, Err(AuditFault::Missing { told: 2, kept: 3 }));
+    Ok(())
+}
