@@ -1,0 +1,5 @@
+pub mod ClientLemmas
+pub mod RunLemmas
+pub mod SagaLemmas
+pub mod TogetherLemmas
+pub mod TurnLemmas

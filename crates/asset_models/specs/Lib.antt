@@ -1,0 +1,4 @@
+pub mod Calls
+pub mod Clients
+pub mod Courses
+pub mod Follows

@@ -1,0 +1,116 @@
+//! A transaction with children.
+
+ghost use Rattle.std.specs.Prelude.{◌≡◌, OnOk, IfErr};
+ghost use Rattle.asset_names.specs.OpSets.{OpSet};
+ghost use Rattle.asset_models.specs.Courses.{Course, IsRun, read_write, child_course, children_course, nested_course};
+ghost use Rattle.asset_models.specs.Follows.{Follows, cut_end, model_end};
+
+use crate::asking::{commit, do_part, must, must_each};
+use crate::calls::Asset;
+use crate::ending::{give_up, last_commit};
+use crate::parts::{Cut, ModelEnd, Part, model_end};
+use asset_names::{Fault, ObSet, Op, Ops, Step, Txn};
+
+/// Returns the set of reads and writes.
+#[tactic(auto, unfolding(crate::specs::Courses::read_write, asset_names::specs::OpSets::only_op, asset_names::specs::OpSets::with_op))]
+pub(crate) fn read_write() -> Ops
+    ensures { result ≡ read_write }
+{
+    Ops::only(Op::Read).with(Op::Write)
+}
+
+/// Runs a child of `t`.
+fn run_child<A: Asset>(asset: &mut A, t: Txn, child: &Part, tries: u32) -> Result<(), Cut>
+    ensures follows { OnOk result ((next : Course) → Follows (child_course t child.now next) (A.calls asset.old) next (A.calls asset.new)) }
+    ensures cut { IfErr result (λ cut. (next : Course) → IsRun (child_course t child.now next) (A.calls asset.old) (A.calls asset.new) (cut_end cut)) }
+{
+    let c = child.name;
+    let ops = read_write();
+    must_each(
+        asset,
+        &[
+            Step::Initiate {
+                t: c,
+                parent: Some(t),
+            },
+            Step::Permit {
+                giver: t,
+                taker: c,
+                obs: ObSet::All,
+                ops,
+            },
+            Step::Begin { t: c },
+        ],
+        tries,
+    )?;
+    if !do_part(asset, child, tries)? {
+        must(asset, &Step::Abort { t: c }, tries)?;
+        return Ok(());
+    }
+    must_each(
+        asset,
+        &[
+            Step::Complete { t: c },
+            Step::Delegate {
+                giver: c,
+                taker: t,
+                obs: ObSet::All,
+            },
+        ],
+        tries,
+    )?;
+    commit(asset, c, tries)?;
+    Ok(())
+}
+
+/// Runs the children of `t` in turn.
+fn run_children<A: Asset>(asset: &mut A, t: Txn, children: &[Part], tries: u32) -> Result<(), Cut>
+    ensures follows { OnOk result ((next : Course) → Follows (children_course t children.now next) (A.calls asset.old) next (A.calls asset.new)) }
+    ensures cut { IfErr result (λ cut. (next : Course) → IsRun (children_course t children.now next) (A.calls asset.old) (A.calls asset.new) (cut_end cut)) }
+{
+    let mut left = children;
+    'children: while let Some((child, more)) = left.split_first() {
+        match run_child(asset, t, child, tries) {
+            Ok(()) => {}
+            Err(cut) => return Err(cut),
+        }
+        left = more;
+    }
+    Ok(())
+}
+
+/// Runs the transaction with its children.
+fn run_nested<A: Asset>(
+    asset: &mut A,
+    p: &Part,
+    children: &[Part],
+    tries: u32,
+) -> Result<ModelEnd, Cut>
+    ensures { IsRun (nested_course p.now children.now) (A.calls asset.old) (A.calls asset.new) (model_end result) }
+{
+    let t = p.name;
+    must_each(
+        asset,
+        &[Step::Initiate { t, parent: None }, Step::Begin { t }],
+        tries,
+    )?;
+    if !do_part(asset, p, tries)? {
+        return give_up(asset, t, tries);
+    }
+    run_children(asset, t, children, tries)?;
+    must(asset, &Step::Complete { t }, tries)?;
+    last_commit(asset, t, tries)
+}
+
+/// Runs a transaction and then its children in turn. A child may do what the parent may, and what it did becomes the
+/// parent's when it commits. A child that aborts does not stop the parent.
+pub fn nested<A: Asset>(
+    asset: &mut A,
+    p: &Part,
+    children: &[Part],
+    tries: u32,
+) -> Result<ModelEnd, Fault>
+    ensures { IsRun (nested_course p.now children.now) (A.calls asset.old) (A.calls asset.new) result }
+{
+    model_end(run_nested(asset, p, children, tries))
+}
