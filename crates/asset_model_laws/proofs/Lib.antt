@@ -1,0 +1,11 @@
+pub mod RunAmid
+pub mod EndLaws
+pub mod OwnerLaws
+pub mod AmidLemmas
+pub mod ContingentLaw
+pub mod FinalLemmas
+pub mod TogetherLaws
+pub mod SagaLaw
+pub mod NestedLaw
+pub mod HandingLaws
+pub mod ClientLaw
