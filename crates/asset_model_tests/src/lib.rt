@@ -1,0 +1,20 @@
+//! The tests of the extended models: worked rows over a `Core`, three of them over clients of a manager on threads, memory
+//! that runs out, and drawn models beside another client.
+#![tactic(auto)]
+
+mod counting;
+mod parts;
+mod rows_of;
+
+pub use counting::Counting;
+pub use parts::part;
+pub use rows_of::{Row, missing_lines, row_of};
+
+#[cfg(test)]
+mod clients;
+#[cfg(test)]
+mod drawn;
+#[cfg(test)]
+mod examples;
+#[cfg(test)]
+mod rows;
