@@ -19,6 +19,8 @@ pub use device::Device;
 pub use ends::RunEnd;
 pub use faults::ScriptFault;
 pub use laws::printed_scripts_run_again;
+pub use opening_objects::OpeningObjects;
+pub use reading::read_all;
 pub use reporting::{Report, Work};
 pub use running::{
     groups_script, prune_script, run_for, run_script, serial_script, sources_script,

@@ -9,7 +9,7 @@ use std::marker::Model;
 /// Objects with their values, in the order in which they were added; none comes twice. Contracts see this
 /// list. Whether an object is among them is found without going over them.
 #[derive(Drop)]
-pub(crate) struct OpeningObjects {
+pub struct OpeningObjects {
     pairs: Vec<(Ob, i64)>,
     objects: IndexSet<Ob>,
 }

@@ -60,10 +60,7 @@ fn read_into<R: Read>(
 
 /// Returns all that the reader gives, up to its end. Gives up a reader that gives more than 67,108,864
 /// bytes, or has no end within 134,217,728 requests.
-pub(crate) fn read_all<R: Read>(
-    alloc: Global,
-    input: &mut Device<R>,
-) -> Result<Vec<u8>, ScriptFault>
+pub fn read_all<R: Read>(alloc: Global, input: &mut Device<R>) -> Result<Vec<u8>, ScriptFault>
     requires { IsUnused input.old }
     ensures gave { IfOk result (λ bytes.
         Consumes (R.remaining input.old.inner) (R.remaining input.new.inner) bytes.items) }

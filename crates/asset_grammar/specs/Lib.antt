@@ -7,5 +7,6 @@ pub mod PermitOperands
 pub mod DependOperands
 pub mod Sets
 pub mod Grammar
+pub mod JobLines
 pub mod Texts
 pub mod Writable

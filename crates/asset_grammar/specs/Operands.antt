@@ -33,6 +33,11 @@ unfoldable pub one_txn : List (List ℕ) → Option Txn
 one_txn (t ∷ []) = txn_of t
 one_txn _ = None
 
+-- one object
+unfoldable pub one_object : List (List ℕ) → Option Ob
+one_object (x ∷ []) = ob_of x
+one_object _ = None
+
 -- a transaction, and perhaps its parent
 unfoldable pub txn_and_parent : List (List ℕ) → Option (Txn × Option Txn)
 txn_and_parent (t ∷ []) = both (txn_of t) (Some None)

@@ -6,10 +6,10 @@ use crate::words::Words;
 use asset_names::{Ob, Step};
 
 /// The first word of an object line.
-const OBJECT: &[u8] = b"object";
+pub(crate) const OBJECT: &[u8] = b"object";
 
 /// The most bytes that a line may have.
-const LONGEST_LINE: usize = 4096;
+pub(crate) const LONGEST_LINE: usize = 4096;
 
 /// What a line of a script asks.
 #[derive(Clone, Copy)]
@@ -71,7 +71,7 @@ impl Line {
 
     /// Returns whether a line says nothing.
     #[tactic(auto, unfolding(crate::specs::Grammar::is_blank))]
-    fn is_blank(line: &[u8]) -> bool
+    pub(crate) fn is_blank(line: &[u8]) -> bool
         ensures { result ≡ is_blank line.now }
     {
         match line.split_first() {

@@ -1,8 +1,9 @@
-//! The lines of a script: what each of them says, and the lines of text that answer them. Reads and writes
+//! The lines of scripts and of job scripts: what each of them says, and the lines of text that answer them. Reads and writes
 //! nothing, and asks no facility.
 #![tactic(auto)]
 
 mod grammar;
+mod job_lines;
 mod keywords;
 mod laws;
 mod lines;
@@ -13,6 +14,7 @@ mod texts;
 mod words;
 
 pub use grammar::{Command, Line};
+pub use job_lines::{JobAct, JobLine};
 pub use laws::lines_say_what_is_in_range;
 pub use lines::split_line;
 pub use texts::{push_bad_line, push_full, push_outcome};

@@ -1,6 +1,6 @@
 //! The operands of a line: the words after its keyword, all of which are read.
 ghost use Rattle.std.specs.Prelude.{◌≡◌};
-ghost use Rattle.asset_grammar.specs.Operands.{ob_of, object_and_value, one_txn, txn_and_object, txn_and_parent, txn_object_and_value, txn_of};
+ghost use Rattle.asset_grammar.specs.Operands.{ob_of, object_and_value, one_object, one_txn, txn_and_object, txn_and_parent, txn_object_and_value, txn_of};
 ghost use Rattle.asset_grammar.specs.PermitOperands.{txns_ops_and_set, txns_and_set};
 ghost use Rattle.asset_grammar.specs.DependOperands.{kind_of, kind_and_txns};
 
@@ -60,6 +60,17 @@ impl Words<'_> {
             return None;
         };
         parse_txn(t)
+    }
+
+    /// Reads one object.
+    #[tactic(auto, unfolding(crate::specs::Operands::one_object))]
+    pub(crate) fn one_object(mut self) -> Option<Ob>
+        ensures { result ≡ one_object self.entry }
+    {
+        let (Some(x), None) = (self.next(), self.next()) else {
+            return None;
+        };
+        parse_ob(x)
     }
 
     /// Reads a transaction, and perhaps its parent.

@@ -1,0 +1,25 @@
+-- What a script that was read says.
+use Rattle.std.specs.Prelude.{ℕ, List, map, Vec, Option, None, Some, Result, Ok, Err}
+use Rattle.std.specs.declared.alloc.Global.{Global}
+use Rattle.asset_names.specs.declared.names.Txn.{Txn}
+use Rattle.asset_names.specs.Steps.{Opening}
+use Rattle.asset_grammar.specs.declared.job_lines.JobAct.{JobAct}
+use Rattle.asset_jobs.specs.declared.scripts.JobScript.{JobScript}
+use Rattle.asset_jobs.specs.Jobs.{Named, Script}
+
+-- a job without what its vector has besides its items
+abbrev pub named : Txn × Vec JobAct Global → Named
+named job = (job.0, job.1.items)
+
+-- the objects and the jobs of a script
+abbrev pub script_of : JobScript → Script
+script_of script = record { opening = script.opening.items; jobs = map named script.jobs.items }
+
+-- the objects and the jobs so far
+abbrev pub so_far : Opening → List Named → Script
+so_far opening jobs = record { opening = opening; jobs = jobs }
+
+-- what lines say that end at this bad line, or are all looked at
+unfoldable pub said_at : Option ℕ → Script → Result Script ℕ
+said_at None said = Ok said
+said_at (Some n) said = Err n
