@@ -1,17 +1,78 @@
 //! The program `asset`: it runs the script that comes on standard input, and writes the transcript to
-//! standard output.
+//! standard output; or it runs the jobs of a job script, and writes how each of them ended.
 #![tactic(auto)]
 
+use asset_bodies::{Body, Tx};
 use asset_cli::Device;
-use asset_program::{read_arguments, requested, run_program};
+use asset_jobs::do_acts;
+use asset_program::{
+    Asked, Begun, JobsStop, Opened, add_job, begin_jobs, end_jobs, finish_jobs, read_arguments,
+    requested, run_program,
+};
+use asset_runner::Plan;
 use std::process::ExitCode;
 
 fn main(rt: HostRuntime) -> ExitCode {
-    let arguments = read_arguments(&rt);
-    let request = requested(rt.alloc(), &arguments);
+    let alloc = rt.alloc();
     let mut input = Device::new(rt.stdin());
     let mut output = Device::new(rt.stdout());
     let mut errors = rt.stderr();
-    let status = run_program(rt.alloc(), &request, &mut input, &mut output, &mut errors);
-    ExitCode::from(status)
+    let request = match requested(alloc, &read_arguments(&rt)) {
+        Ok(Asked::Jobs(request)) => request,
+        Ok(Asked::Script(request)) => {
+            let status = run_program(alloc, &Ok(request), &mut input, &mut output, &mut errors);
+            return ExitCode::from(status);
+        }
+        Err(answer) => {
+            let status = run_program(alloc, &Err(answer), &mut input, &mut output, &mut errors);
+            return ExitCode::from(status);
+        }
+    };
+    let ended = match begin_jobs(alloc, request, &mut input) {
+        Ok(
+            Begun {
+                jobs,
+                names,
+                opened,
+                limits,
+            },
+        ) => {
+            let Opened {
+                manager,
+                theirs,
+                session,
+            } = opened;
+            let mut plan = Plan::new(alloc, theirs, session, Some(limits.turns));
+            let mut added = Ok(());
+            'jobs: for (t, acts) in jobs {
+                if added.is_ok() {
+                    let body: Result<Body, JobsStop> = match Box::new(
+                        alloc,
+                        move |tx: Tx| do_acts(&rt, tx, acts.as_slice()),
+                    ) {
+                        Ok(body) => Ok(body),
+                        Err(_) => Err(JobsStop::NoMemory),
+                    };
+                    added = match body {
+                        Ok(body) => add_job(&rt, &mut plan, t, body),
+                        Err(stop) => Err(stop),
+                    };
+                }
+            }
+            match added {
+                Ok(()) => finish_jobs(
+                    &rt,
+                    alloc,
+                    manager,
+                    plan,
+                    &names,
+                    limits.workers,
+                    &mut output,
+                ),
+                Err(stop) => Err(stop),
+            }
+        }
+        Err(stop) => Err(stop),
+    };
+    ExitCode::from(end_jobs(alloc, ended, &mut output, &mut errors))
 }

@@ -1,2 +1,4 @@
 pub mod Exit
 pub mod Program
+pub mod Limits
+pub mod JobsEnd

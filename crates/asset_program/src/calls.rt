@@ -1,6 +1,6 @@
 //! The call that takes a script, for somebody who gave its path as an argument.
 
-use crate::command_line::work_named;
+use crate::command_line::{JOBS, work_named};
 use std::alloc::{AllocError, Global};
 
 /// Returns whether a text is an option.
@@ -8,26 +8,53 @@ fn is_option(text: &str) -> bool {
     text.starts_with('-')
 }
 
-/// Returns whether an option is one that the program takes beside a word.
-fn is_taken(option: &str) -> bool {
-    option == "--cap" || option.starts_with("--cap=")
+/// Returns whether the program has this word.
+fn is_word(text: &str) -> bool {
+    text == JOBS || work_named(text).is_some()
+}
+
+/// Returns whether an option is one that the word for jobs alone takes.
+fn is_of_jobs(option: &str) -> bool {
+    option == "--workers"
+        || option == "--turns"
+        || option.starts_with("--workers=")
+        || option.starts_with("--turns=")
+}
+
+/// Returns whether an option is one that the program takes beside the first word.
+fn is_taken(option: &str, for_jobs: bool) -> bool {
+    option == "--cap" || option.starts_with("--cap=") || (for_jobs && is_of_jobs(option))
+}
+
+/// Returns whether an option's value is the next argument.
+fn takes_next(option: &str) -> bool {
+    option == "--cap" || option == "--workers" || option == "--turns"
 }
 
 /// Returns whether an argument may be the path of a script: it is not the value of an option, no option, and not the word
 /// that comes first.
 fn may_be_path(text: &str, before: &str, index: usize) -> bool {
-    before != "--cap" && !is_option(text) && (index != 1 || work_named(text).is_none())
+    !takes_next(before) && !is_option(text) && (index != 1 || !is_word(text))
+}
+
+/// Returns whether the first argument after the program's name is the word for jobs.
+fn is_for_jobs(arguments: &[String]) -> bool {
+    match arguments.get(1) {
+        Some(argument) => argument.as_str() == JOBS,
+        None => false,
+    }
 }
 
 /// Returns the index of the argument that may be the path of a script. `None` if there is no such argument or more than one,
 /// or there is an option that the program does not take.
 fn path_index(arguments: &[String]) -> Option<usize> {
+    let for_jobs = is_for_jobs(arguments);
     let mut found = None;
     let mut before = "";
     for (index, argument) in arguments.iter().enumerate() {
         let text = argument.as_str();
         if index != 0 {
-            if is_option(text) && !is_taken(text) {
+            if is_option(text) && !is_taken(text, for_jobs) {
                 return None;
             }
             if may_be_path(text, before, index) {
@@ -45,7 +72,7 @@ fn path_index(arguments: &[String]) -> Option<usize> {
 /// Returns whether the first argument after the program's name is a word of the program.
 fn has_word(arguments: &[String]) -> bool {
     match arguments.get(1) {
-        Some(argument) => work_named(argument.as_str()).is_some(),
+        Some(argument) => is_word(argument.as_str()),
         None => false,
     }
 }

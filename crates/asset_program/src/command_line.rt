@@ -1,5 +1,7 @@
 //! The command line that the program takes: its words, its option, and the texts of its help.
 
+use crate::limits::JobsRequest;
+use crate::requests::{Asked, Request};
 use asset_cli::{Report, Work};
 use clap::{Arg, ArgMatches, Command, value_parser};
 use std::alloc::{AllocError, Global};
@@ -7,11 +9,21 @@ use std::alloc::{AllocError, Global};
 /// How the program is called.
 const USAGE: &str = "asset [<word> [--cap <n>]] < SCRIPT";
 
+/// How the program is called for jobs.
+const JOBS_USAGE: &str = "asset jobs [--cap <n>] [--workers <n>] [--turns <n>] < SCRIPT";
+
+/// The word for jobs.
+pub(crate) const JOBS: &str = "jobs";
+
 /// What help says after the arguments.
 const NOTES: &str =
     "The output is written once the input has ended.\n\nExit status:\n  0  every line was looked at, or help or the version was asked for\n  1  the input or the output failed, memory ran out, or serial found something shared\n  2  a line is bad, or an argument is refused";
 
-/// Returns what a script is run for by this word. `None` if the program has no such word.
+/// What help says after the arguments of jobs.
+const JOBS_NOTES: &str =
+    "The output is written once all jobs have ended.\n\nExit status:\n  0  the jobs were run, or help was asked for\n  1  the input, the output or the audit failed, or memory ran out\n  2  a line is bad, and no job was run, or an argument is refused";
+
+/// Returns what a script is run for by this word. `None` if the program has no such word for scripts.
 pub(crate) fn work_named(word: &str) -> Option<Work> {
     match word {
         "run" => Some(Work::Run),
@@ -31,6 +43,26 @@ fn capacity_argument<'a>(alloc: Global) -> Arg<'a> {
         .help("How many entries the history has room for, from 1 to 1000000")
         .value_parser(value_parser!(u32).range(1..=1_000_000))
         .default_value("10000")
+}
+
+/// Returns the argument that gives the number of threads.
+fn workers_argument<'a>(alloc: Global) -> Arg<'a> {
+    Arg::new(alloc, "workers")
+        .long("workers")
+        .value_name("n")
+        .help("How many threads run the jobs, from 1 to 64")
+        .value_parser(value_parser!(u32).range(1..=64))
+        .default_value("2")
+}
+
+/// Returns the argument that says how often a step is asked again.
+fn turns_argument<'a>(alloc: Global) -> Arg<'a> {
+    Arg::new(alloc, "turns")
+        .long("turns")
+        .value_name("n")
+        .help("How often a step that waits is asked again, from 0 to 1000000")
+        .value_parser(value_parser!(u32).range(0..=1_000_000))
+        .default_value("1000")
 }
 
 /// Returns the command of one word.
@@ -54,6 +86,28 @@ fn with_word<'a>(
     about: &'a str,
 ) -> Result<Command<'a>, AllocError> {
     line.subcommand(word_command(alloc, name, about)?)
+}
+
+/// Returns the command of jobs without its arguments.
+fn bare_jobs<'a>(alloc: Global) -> Command<'a> {
+    Command::new(alloc, JOBS)
+        .about(
+            "Runs the jobs of the job script on standard input by threads, and writes how each ended",
+        )
+        .override_usage(JOBS_USAGE)
+        .after_help(JOBS_NOTES)
+}
+
+/// Returns the command of jobs. One argument at a time, because an early return drops what is there.
+fn jobs_command<'a>(alloc: Global) -> Result<Command<'a>, AllocError> {
+    let jobs = bare_jobs(alloc).arg(capacity_argument(alloc))?;
+    let jobs = jobs.arg(workers_argument(alloc))?;
+    jobs.arg(turns_argument(alloc))
+}
+
+/// Returns a command line with the word for jobs.
+fn with_jobs<'a>(line: Command<'a>, alloc: Global) -> Result<Command<'a>, AllocError> {
+    line.subcommand(jobs_command(alloc)?)
 }
 
 /// Returns the command line without its words.
@@ -91,21 +145,40 @@ pub(crate) fn command_line<'a>(alloc: Global) -> Result<Command<'a>, AllocError>
         "sources",
         "Writes where each value that was read comes from",
     )?;
-    with_word(
+    let line = with_word(
         line,
         alloc,
         "serial",
         "Writes the script of those who committed, one after another",
-    )
+    )?;
+    with_jobs(line, alloc)
 }
 
-/// Returns what a script is run for and the capacity, by the matched arguments: its transcript if they name nothing.
-pub(crate) fn work_and_capacity(matches: &ArgMatches<'_>) -> (Work, Option<u32>) {
+/// Returns what the matched arguments of the word for jobs ask for.
+fn jobs_request(given: &ArgMatches<'_>) -> JobsRequest {
+    JobsRequest {
+        capacity: given.get_one::<u32>("cap"),
+        workers: given.get_one::<u32>("workers"),
+        turns: given.get_one::<u32>("turns"),
+    }
+}
+
+/// Returns what the matched arguments of another word ask for.
+fn script_request(word: &str, given: &ArgMatches<'_>) -> Request {
+    Request {
+        work: work_named(word).unwrap_or(Work::Run),
+        capacity: given.get_one::<u32>("cap"),
+    }
+}
+
+/// Returns what the matched arguments ask for: the transcript of a script if they name nothing.
+pub(crate) fn asked_by(matches: &ArgMatches<'_>) -> Asked {
     match matches.subcommand() {
-        Some((word, given)) => (
-            work_named(word).unwrap_or(Work::Run),
-            given.get_one::<u32>("cap"),
-        ),
-        None => (Work::Run, None),
+        Some((JOBS, given)) => Asked::Jobs(jobs_request(given)),
+        Some((word, given)) => Asked::Script(script_request(word, given)),
+        None => Asked::Script(Request {
+            work: Work::Run,
+            capacity: None,
+        }),
     }
 }

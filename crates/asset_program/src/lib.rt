@@ -6,11 +6,17 @@ mod arguments;
 mod calls;
 mod command_line;
 mod exit;
+mod jobs_end;
+mod jobs_run;
+mod limits;
 mod program;
 mod requests;
 
 pub use answers::Answer;
 pub use arguments::{ArgumentsFault, read_arguments};
 pub use exit::{status_of_answer, status_of_run};
+pub use jobs_end::{JobsStop, end_jobs};
+pub use jobs_run::{Begun, Opened, add_job, begin_jobs, finish_jobs};
+pub use limits::{JobsRequest, Limits, limits_of};
 pub use program::run_program;
-pub use requests::{Request, capacity_or_default, requested};
+pub use requests::{Asked, Request, capacity_or_default, requested};

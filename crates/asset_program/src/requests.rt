@@ -6,18 +6,28 @@ ghost use Rattle.asset_program.specs.Exit.{capacity_of};
 
 use crate::answers::{Answer, answer_to};
 use crate::arguments::ArgumentsFault;
-use crate::command_line::{command_line, work_and_capacity};
+use crate::command_line::{asked_by, command_line};
+use crate::limits::JobsRequest;
 use asset_cli::Work;
 use clap::Error;
 use std::alloc::Global;
 
-/// What the arguments ask for.
+/// What the arguments ask of a script.
 #[derive(Clone, Copy, Debug, PartialEq, Eq)]
 pub struct Request {
     /// What the script is run for.
     pub work: Work,
     /// The capacity of the history, if an argument gives one.
     pub capacity: Option<u32>,
+}
+
+/// What the arguments ask for.
+#[derive(Clone, Copy, Debug, PartialEq, Eq)]
+pub enum Asked {
+    /// That a script is run.
+    Script(Request),
+    /// That the jobs of a job script are run.
+    Jobs(JobsRequest),
 }
 
 /// The capacity of a history if no argument gives one.
@@ -39,18 +49,18 @@ pub fn capacity_or_default(requested: Option<u32>) -> Option<usize>
 
 /// Returns what the arguments ask for; the program's name comes first among them. An error may be the help or the version
 /// that was asked for.
-fn parsed<'a>(alloc: Global, arguments: &'a [String]) -> Result<Request, Error> {
+fn parsed<'a>(alloc: Global, arguments: &'a [String]) -> Result<Asked, Error> {
     let matches = command_line(alloc)?.try_get_matches_from(arguments)?;
-    let (work, capacity) = work_and_capacity(&matches);
+    let asked = asked_by(&matches);
     // By name: the call's proof is made once for each type in the matches.
     drop(matches);
-    Ok(Request { work, capacity })
+    Ok(asked)
 }
 
 /// Returns what arguments that could be read ask for, or what they are answered.
-fn asked(alloc: Global, arguments: &[String]) -> Result<Request, Answer> {
+fn asked_for(alloc: Global, arguments: &[String]) -> Result<Asked, Answer> {
     match parsed(alloc, arguments) {
-        Ok(request) => Ok(request),
+        Ok(asked) => Ok(asked),
         Err(error) => match answer_to(alloc, &error, arguments) {
             Ok(answer) => Err(answer),
             Err(_) => Err(Answer::Fault(ArgumentsFault::NoMemory)),
@@ -63,11 +73,11 @@ fn asked(alloc: Global, arguments: &[String]) -> Result<Request, Answer> {
 pub fn requested(
     alloc: Global,
     arguments: &Result<Vec<String>, ArgumentsFault>,
-) -> Result<Request, Answer>
+) -> Result<Asked, Answer>
     ensures unread { IfErr arguments.now (λ fault. result ≡ Err (Answer.Fault fault)) }
 {
     match arguments {
-        Ok(arguments) => asked(alloc, arguments.as_slice()),
+        Ok(arguments) => asked_for(alloc, arguments.as_slice()),
         Err(fault) => Err(Answer::Fault(*fault)),
     }
 }

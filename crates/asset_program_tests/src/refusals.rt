@@ -43,6 +43,31 @@ fn help_goes_to_the_output(rt: HostRuntime) -> Result<(), Fail> {
     expect(&rt, &["run", "--help"], SCRIPT, (RUN_HELP, "", 0))
 }
 
+/// What help says of the word `jobs`.
+const JOBS_HELP: &str = "\
+Runs the jobs of the job script on standard input by threads, and writes how each ended
+
+Usage: asset jobs [--cap <n>] [--workers <n>] [--turns <n>] < SCRIPT
+
+Options:
+      --cap <n>      How many entries the history has room for, from 1 to 1000000 [default: 10000]
+      --workers <n>  How many threads run the jobs, from 1 to 64 [default: 2]
+      --turns <n>    How often a step that waits is asked again, from 0 to 1000000 [default: 1000]
+  -h, --help         Print help
+
+The output is written once all jobs have ended.
+
+Exit status:
+  0  the jobs were run, or help was asked for
+  1  the input, the output or the audit failed, or memory ran out
+  2  a line is bad, and no job was run, or an argument is refused
+";
+
+#[test]
+fn help_of_jobs_goes_to_the_output(rt: HostRuntime) -> Result<(), Fail> {
+    expect(&rt, &["jobs", "--help"], SCRIPT, (JOBS_HELP, "", 0))
+}
+
 #[test]
 fn version_goes_to_the_output(rt: HostRuntime) -> Result<(), Fail> {
     expect(&rt, &["--version"], SCRIPT, (VERSION, "", 0))?;
@@ -97,6 +122,14 @@ fn path_is_refused_with_the_right_call(rt: HostRuntime) -> Result<(), Fail> {
             "asset run --cap 4 < my.asset",
         ),
         (&["--cap", "4", "my"][..], "asset run --cap 4 < my"),
+        (
+            &["jobs", "--workers", "4", "my.jobs"][..],
+            "asset jobs --workers 4 < my.jobs",
+        ),
+        (
+            &["jobs", "jobs", "--turns=5"][..],
+            "asset jobs --turns=5 < jobs",
+        ),
     ] {
         expect_call(&rt, texts, call)?;
     }
@@ -106,6 +139,6 @@ fn path_is_refused_with_the_right_call(rt: HostRuntime) -> Result<(), Fail> {
 #[test]
 fn unknown_word_is_named(rt: HostRuntime) -> Result<(), Fail> {
     let errors =
-        "asset: there is no word jobs (see asset --help); a script comes on standard input: asset < jobs\n";
-    expect_refused(&rt, &["jobs"], errors)
+        "asset: there is no word job (see asset --help); a script comes on standard input: asset < job\n";
+    expect_refused(&rt, &["job"], errors)
 }

@@ -2,12 +2,14 @@
 
 use crate::running::list;
 use asset_cli::{Report, Work};
-use asset_program::{Request, capacity_or_default, requested};
+use asset_program::{
+    Asked, JobsRequest, Limits, Request, capacity_or_default, limits_of, requested,
+};
 use std::alloc::{AllocError, Global};
 use std::process::Abort;
 
 /// Returns what the arguments ask for, if they are taken.
-fn request(alloc: Global, texts: &[&str]) -> Result<Option<Request>, AllocError> {
+fn request(alloc: Global, texts: &[&str]) -> Result<Option<Asked>, AllocError> {
     let arguments = Ok(list(alloc, texts)?);
     Ok(requested(alloc, &arguments).ok())
 }
@@ -34,15 +36,74 @@ fn arguments_give_the_word_and_the_capacity(rt: HostRuntime) {
     ] {
         assert_eq!(rt;
             request(rt.alloc(), texts),
-            Ok(Some(Request { work, capacity })),
+            Ok(Some(Asked::Script(Request { work, capacity }))),
             "at {texts:?}"
         );
     }
 }
 
 #[test]
+fn arguments_give_the_limits_of_jobs(rt: HostRuntime) {
+    for (texts, capacity, workers, turns) in [
+        (&["jobs"][..], 10_000, 2, 1_000),
+        (&["jobs", "--cap", "4"][..], 4, 2, 1_000),
+        (&["jobs", "--workers", "64"][..], 10_000, 64, 1_000),
+        (&["jobs", "--turns=0"][..], 10_000, 2, 0),
+        (
+            &["jobs", "--turns", "1000000", "--workers", "1"][..],
+            10_000,
+            1,
+            1_000_000,
+        ),
+    ] {
+        let asked = JobsRequest {
+            capacity: Some(capacity),
+            workers: Some(workers),
+            turns: Some(turns),
+        };
+        assert_eq!(rt;
+            request(rt.alloc(), texts),
+            Ok(Some(Asked::Jobs(asked))),
+            "at {texts:?}"
+        );
+    }
+}
+
+/// Returns the limits of jobs whose arguments ask for these numbers.
+fn limits(capacity: Option<u32>, workers: Option<u32>, turns: Option<u32>) -> Option<Limits> {
+    limits_of(JobsRequest {
+        capacity,
+        workers,
+        turns,
+    })
+}
+
+#[test]
+fn limits_out_of_range_are_none(rt: HostRuntime) {
+    let usual = Limits {
+        capacity: 10_000,
+        workers: 2,
+        turns: 1_000,
+    };
+    assert_eq!(rt; limits(None, None, None), Some(usual));
+    assert_eq!(rt; limits(Some(0), None, None), None);
+    assert_eq!(rt; limits(None, Some(0), None), None);
+    assert_eq!(rt; limits(None, Some(65), None), None);
+    assert_eq!(rt; limits(None, None, Some(1_000_001)), None);
+}
+
+#[test]
 fn refused_arguments_ask_for_nothing(rt: HostRuntime) {
-    for texts in [&["jobs"][..], &["run", "x"][..], &["--help"][..]] {
+    for texts in [
+        &["job"][..],
+        &["run", "x"][..],
+        &["--help"][..],
+        &["run", "--workers", "2"][..],
+        &["jobs", "--workers", "0"][..],
+        &["jobs", "--workers", "65"][..],
+        &["jobs", "--turns", "1000001"][..],
+        &["jobs", "--cap", "0"][..],
+    ] {
         assert_eq!(rt; request(rt.alloc(), texts), Ok(None), "at {texts:?}");
     }
 }

@@ -1,7 +1,7 @@
 //! How a test runs the program.
 
 use asset_cli::Device;
-use asset_program::{ArgumentsFault, requested, run_program};
+use asset_program::{Answer, ArgumentsFault, Asked, Request, requested, run_program};
 use std::alloc::{AllocError, Global};
 use std::io;
 use std::process::Abort;
@@ -17,6 +17,18 @@ pub(crate) fn list(alloc: Global, texts: &[&str]) -> Result<Vec<String>, AllocEr
     Ok(arguments)
 }
 
+/// Returns what the arguments ask of a script, or what they are answered. Arguments that ask for jobs are none of these tests'.
+fn script_request(
+    alloc: Global,
+    arguments: &Result<Vec<String>, ArgumentsFault>,
+) -> Result<Request, Answer> {
+    match requested(alloc, arguments) {
+        Ok(Asked::Script(request)) => Ok(request),
+        Ok(Asked::Jobs(_)) => Err(Answer::Fault(ArgumentsFault::NoMemory)),
+        Err(answer) => Err(answer),
+    }
+}
+
 /// Runs the program over this reader and this writer, and adds what it says to the complaints. Returns the exit status.
 pub(crate) fn run_over<R: io::Read + Drop, W: io::Write + Drop>(
     alloc: Global,
@@ -25,7 +37,7 @@ pub(crate) fn run_over<R: io::Read + Drop, W: io::Write + Drop>(
     output: W,
     complaints: &mut Vec<u8>,
 ) -> u8 {
-    let request = requested(alloc, arguments);
+    let request = script_request(alloc, arguments);
     let mut input = Device::new(input);
     let mut output = Device::new(output);
     run_program(alloc, &request, &mut input, &mut output, complaints)

@@ -13,6 +13,7 @@ Commands:
   groups   Writes the groups of those who shared something
   sources  Writes where each value that was read comes from
   serial   Writes the script of those who committed, one after another
+  jobs     Runs the jobs of the job script on standard input by threads, and writes how each ended
   help     Print this message or the help of the given subcommand(s)
 
 Options:

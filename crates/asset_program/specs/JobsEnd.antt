@@ -1,0 +1,47 @@
+-- How a run of jobs ends.
+use Rattle.std.specs.Prelude.{◌≡◌, ◌⊎◌, ℕ, List, Option, Result, Ok, Err}
+use Rattle.std.specs.Io.KnownBytes.{Appends}
+use Rattle.asset_audit.specs.declared.auditing.AuditFault.{AuditFault}
+use Rattle.asset_cli.specs.declared.faults.ScriptFault.{ScriptFault}
+use Rattle.asset_cli.specs.declared.faults.ScriptFault.TheVariants as ScriptFault'
+use Rattle.asset_cli.specs.Device.{DeviceState}
+use Rattle.asset_cli.specs.Transfers.{TookPrefix}
+use Rattle.asset_grammar.specs.Texts.{bad_line}
+use Rattle.asset_jobs.specs.declared.faults.JobsFault.{JobsFault}
+use Rattle.asset_jobs.specs.declared.faults.JobsFault.TheVariants as JobsFault'
+use Rattle.asset_program.specs.declared.jobs_end.JobsStop.{JobsStop}
+use Rattle.asset_program.specs.declared.jobs_end.JobsStop.TheVariants.{BadLine, Read, Write, NoMemory, OutOfRange, InUse}
+
+-- why jobs were not run, by why their script was not read
+abbrev pub stop_of_read : JobsFault → JobsStop
+stop_of_read (JobsFault'.BadLine n) = BadLine n
+stop_of_read JobsFault'.Read = Read
+stop_of_read JobsFault'.NoMemory = NoMemory
+
+-- why jobs did not come to their end, by why what they did was not written
+abbrev pub stop_of_write : ScriptFault → JobsStop
+stop_of_write ScriptFault'.Read = Read
+stop_of_write ScriptFault'.Write = Write
+stop_of_write ScriptFault'.NoMemory = NoMemory
+
+-- the exit status: 2 if a line is bad or a number is out of range, and 1 at a fault
+unfoldable pub stop_status : JobsStop → ℕ
+stop_status (BadLine n) = 2
+stop_status OutOfRange = 2
+stop_status stop = 1
+
+-- the line that says that line n is bad was written, and the status is 2; at a fault a prefix of it was, and the status is 1
+unfoldable pub SaysBadLine : {W : Type 0} → (W → Option (List ℕ)) → ℕ → DeviceState W → DeviceState W → ℕ → Type 0
+SaysBadLine contents n old new status =
+    ((status ≡ 2) × Appends (contents old.inner) (contents new.inner) (bad_line n)) ⊎ ((status ≡ 1) × TookPrefix contents old new (bad_line n))
+
+-- a bad line alone is written
+unfoldable pub EndsStopped : {W : Type 0} → (W → Option (List ℕ)) → JobsStop → DeviceState W → DeviceState W → ℕ → Type 0
+EndsStopped contents (BadLine n) old new status = SaysBadLine contents n old new status
+EndsStopped contents stop old new status = (status ≡ stop_status stop) × (new ≡ old)
+
+-- the status is 0 if the audit found nothing, and 1 if it did
+unfoldable pub EndsJobs : {W : Type 0} → (W → Option (List ℕ)) → Result (Result Unit AuditFault) JobsStop → DeviceState W → DeviceState W → ℕ → Type 0
+EndsJobs contents (Ok (Ok u)) old new status = (status ≡ 0) × (new ≡ old)
+EndsJobs contents (Ok (Err fault)) old new status = (status ≡ 1) × (new ≡ old)
+EndsJobs contents (Err stop) old new status = EndsStopped contents stop old new status
