@@ -6,10 +6,10 @@ ghost use Rattle.asset_bodies.specs.Working.{Working, Worked};
 
 use crate::bodies::{gives_up, writes};
 use crate::gates::Open;
-use crate::running::{Closing, Wanted, initiated, open_plan, run_and_close};
+use crate::running::{Closing, Setting, Wanted, initiated, open_manager, run_and_close};
 use asset_manager::{Manager, Session};
 use asset_names::{Fault, Kind, Ob, ObSet, Op, Ops, Outcome, Reply, Txn};
-use asset_runner::{Body, ChildEnd, Finished, JobEnd, Tx};
+use asset_runner::{Body, ChildEnd, Finished, JobEnd, Plan, Tx};
 use asset_test_tools::initiate;
 use std::sync::atomic::{AtomicU64, Ordering};
 use std::sync::{Arc, Wait};
@@ -77,8 +77,14 @@ fn child_commits(rt: HostRuntime) -> Result<(), Fail> {
         };
         runs_a_child(&rt, tx, Txn(8), body, &theirs)
     })?;
-    let mut all = open_plan(alloc, Some(1_000))?;
-    let refused = initiated(&rt, &mut all.plan, 7, seven);
+    let Setting {
+        manager,
+        shared,
+        session,
+        other,
+    } = open_manager(alloc)?;
+    let mut plan = Plan::new(alloc, shared, session, Some(1_000));
+    let refused = initiated(&rt, &mut plan, 7, seven);
     let wanted = Wanted {
         ends: &[(7, JobEnd::Committed)],
         left: &[],
@@ -87,7 +93,17 @@ fn child_commits(rt: HostRuntime) -> Result<(), Fail> {
             write 8 2 80: ok\ncomplete 8: ok\ndelegate 8 7 all: ok\ncommit 8: committed\nread 7 2: 80\ncomplete 7: ok\n\
             commit 7: committed\n",
     };
-    let left = run_and_close(&rt, alloc, all, 1, &Open, Closing::All, &wanted)?;
+    let left = run_and_close(
+        &rt,
+        alloc,
+        manager,
+        plan,
+        other,
+        1,
+        &Open,
+        Closing::All,
+        &wanted,
+    )?;
     assert_eq!(rt; (refused, left.cause, left.wrong), (None, None, None));
     assert_eq!(rt;
         (left.as_wanted, left.counts, left.audit),
@@ -109,8 +125,14 @@ fn child_gives_up(rt: HostRuntime) -> Result<(), Fail> {
         };
         runs_a_child(&rt, tx, Txn(8), body, &theirs)
     })?;
-    let mut all = open_plan(alloc, Some(1_000))?;
-    let refused = initiated(&rt, &mut all.plan, 7, seven);
+    let Setting {
+        manager,
+        shared,
+        session,
+        other,
+    } = open_manager(alloc)?;
+    let mut plan = Plan::new(alloc, shared, session, Some(1_000));
+    let refused = initiated(&rt, &mut plan, 7, seven);
     let wanted = Wanted {
         ends: &[(7, JobEnd::Committed)],
         left: &[],
@@ -118,7 +140,17 @@ fn child_gives_up(rt: HostRuntime) -> Result<(), Fail> {
             initiate 7: ok\nbegin 7: ok\nwrite 7 1 50: ok\ninitiate 8 7: ok\npermit 7 8 rw all: ok\nbegin 8: ok\n\
             write 8 2 80: ok\nabort 8: aborted\nread 7 2: 200\ncomplete 7: ok\ncommit 7: committed\n",
     };
-    let left = run_and_close(&rt, alloc, all, 1, &Open, Closing::All, &wanted)?;
+    let left = run_and_close(
+        &rt,
+        alloc,
+        manager,
+        plan,
+        other,
+        1,
+        &Open,
+        Closing::All,
+        &wanted,
+    )?;
     assert_eq!(rt; (refused, left.cause, left.wrong), (None, None, None));
     assert_eq!(rt;
         (left.as_wanted, left.counts, left.audit),
@@ -140,8 +172,14 @@ fn child_of_a_taken_name_is_not_begun(rt: HostRuntime) -> Result<(), Fail> {
         };
         runs_a_child(&rt, tx, Txn(7), body, &theirs)
     })?;
-    let mut all = open_plan(alloc, Some(1_000))?;
-    let refused = initiated(&rt, &mut all.plan, 7, seven);
+    let Setting {
+        manager,
+        shared,
+        session,
+        other,
+    } = open_manager(alloc)?;
+    let mut plan = Plan::new(alloc, shared, session, Some(1_000));
+    let refused = initiated(&rt, &mut plan, 7, seven);
     let wanted = Wanted {
         ends: &[(7, JobEnd::Committed)],
         left: &[],
@@ -149,7 +187,17 @@ fn child_of_a_taken_name_is_not_begun(rt: HostRuntime) -> Result<(), Fail> {
             initiate 7: ok\nbegin 7: ok\nwrite 7 1 50: ok\ninitiate 7 7: refused taken 7\nread 7 2: 200\ncomplete 7: ok\n\
             commit 7: committed\n",
     };
-    let left = run_and_close(&rt, alloc, all, 1, &Open, Closing::All, &wanted)?;
+    let left = run_and_close(
+        &rt,
+        alloc,
+        manager,
+        plan,
+        other,
+        1,
+        &Open,
+        Closing::All,
+        &wanted,
+    )?;
     assert_eq!(rt; (refused, left.cause, left.wrong), (None, None, None));
     assert_eq!(rt;
         (left.as_wanted, left.counts, left.audit),
@@ -187,9 +235,15 @@ fn body_permits_delegates_and_depends(rt: HostRuntime) -> Result<(), Fail> {
     let notes = Arc::new(alloc, Notes::none())?;
     let theirs = Arc::try_clone(&notes)?;
     let seven: Body = Box::new(alloc, move |tx: Tx| shares_with_eight(&rt, tx, &theirs))?;
-    let mut all = open_plan(alloc, Some(1_000))?;
-    let eight = all.other.call(&rt, &all.manager, initiate(8));
-    let refused = initiated(&rt, &mut all.plan, 7, seven);
+    let Setting {
+        manager,
+        shared,
+        session,
+        mut other,
+    } = open_manager(alloc)?;
+    let mut plan = Plan::new(alloc, shared, session, Some(1_000));
+    let eight = other.call(&rt, &manager, initiate(8));
+    let refused = initiated(&rt, &mut plan, 7, seven);
     let wanted = Wanted {
         ends: &[(7, JobEnd::Committed)],
         left: &[],
@@ -197,7 +251,17 @@ fn body_permits_delegates_and_depends(rt: HostRuntime) -> Result<(), Fail> {
             initiate 8: ok\ninitiate 7: ok\nbegin 7: ok\npermit 7 8 rw all: ok\ndelegate 7 8 all: ok\ndepend cd 7 8: ok\n\
             complete 7: ok\ncommit 7: committed\n",
     };
-    let left = run_and_close(&rt, alloc, all, 1, &Open, Closing::All, &wanted)?;
+    let left = run_and_close(
+        &rt,
+        alloc,
+        manager,
+        plan,
+        other,
+        1,
+        &Open,
+        Closing::All,
+        &wanted,
+    )?;
     assert!(rt; is_done(eight));
     assert_eq!(rt; (refused, left.cause, left.wrong), (None, None, None));
     assert_eq!(rt;

@@ -6,10 +6,10 @@ ghost use Rattle.asset_bodies.specs.Working.{Working, Worked};
 
 use crate::bodies::{does_nothing, gives_up, writes};
 use crate::gates::Open;
-use crate::running::{Closing, Wanted, initiated, open_plan, run_and_close};
+use crate::running::{Closing, Setting, Wanted, initiated, open_manager, run_and_close};
 use asset_manager::{AuditFault, Manager, Session};
 use asset_names::{Kind, Ob, Outcome, Step, Txn};
-use asset_runner::{Body, Finished, JobEnd, Tx};
+use asset_runner::{Body, Finished, JobEnd, Plan, Tx};
 use asset_test_tools::{abort, begin, initiate, write};
 use std::sync::Wait;
 use std::test::Fail;
@@ -34,11 +34,17 @@ fn one_worker_does_three_jobs(rt: HostRuntime) -> Result<(), Fail> {
     let seven: Body = Box::new(alloc, move |tx: Tx| does_nothing(&rt, tx))?;
     let eight: Body = Box::new(alloc, move |tx: Tx| does_nothing(&rt, tx))?;
     let nine: Body = Box::new(alloc, move |tx: Tx| does_nothing(&rt, tx))?;
-    let mut all = open_plan(alloc, Some(3))?;
+    let Setting {
+        manager,
+        shared,
+        session,
+        other,
+    } = open_manager(alloc)?;
+    let mut plan = Plan::new(alloc, shared, session, Some(3));
     let refused = (
-        initiated(&rt, &mut all.plan, 7, seven),
-        initiated(&rt, &mut all.plan, 8, eight),
-        initiated(&rt, &mut all.plan, 9, nine),
+        initiated(&rt, &mut plan, 7, seven),
+        initiated(&rt, &mut plan, 8, eight),
+        initiated(&rt, &mut plan, 9, nine),
     );
     let wanted = Wanted {
         ends: &[
@@ -51,7 +57,17 @@ fn one_worker_does_three_jobs(rt: HostRuntime) -> Result<(), Fail> {
             initiate 7: ok\ninitiate 8: ok\ninitiate 9: ok\nbegin 7: ok\ncomplete 7: ok\ncommit 7: committed\n\
             begin 8: ok\ncomplete 8: ok\ncommit 8: committed\nbegin 9: ok\ncomplete 9: ok\ncommit 9: committed\n",
     };
-    let left = run_and_close(&rt, alloc, all, 1, &Open, Closing::All, &wanted)?;
+    let left = run_and_close(
+        &rt,
+        alloc,
+        manager,
+        plan,
+        other,
+        1,
+        &Open,
+        Closing::All,
+        &wanted,
+    )?;
     assert_eq!(rt; refused, (None, None, None));
     assert_eq!(rt; (left.cause, left.wrong), (None, None));
     assert_eq!(rt;
@@ -65,20 +81,36 @@ fn one_worker_does_three_jobs(rt: HostRuntime) -> Result<(), Fail> {
 fn body_that_waits_gives_up(rt: HostRuntime) -> Result<(), Fail> {
     let alloc = rt.alloc();
     let seven: Body = Box::new(alloc, move |tx: Tx| gives_up(&rt, tx, 1, 70))?;
-    let mut all = open_plan(alloc, Some(3))?;
+    let Setting {
+        manager,
+        shared,
+        session,
+        mut other,
+    } = open_manager(alloc)?;
+    let mut plan = Plan::new(alloc, shared, session, Some(3));
     let asked = asks(
         &rt,
-        &all.manager,
-        &mut all.other,
+        &manager,
+        &mut other,
         &[initiate(5), begin(5), write(5, 1, 5)],
     );
-    let refused = initiated(&rt, &mut all.plan, 7, seven);
+    let refused = initiated(&rt, &mut plan, 7, seven);
     let wanted = Wanted {
         ends: &[(7, JobEnd::Aborted)],
         left: &[],
         history: "initiate 5: ok\nbegin 5: ok\nwrite 5 1 5: ok\ninitiate 7: ok\nbegin 7: ok\nabort 7: aborted\n",
     };
-    let left = run_and_close(&rt, alloc, all, 1, &Open, Closing::All, &wanted)?;
+    let left = run_and_close(
+        &rt,
+        alloc,
+        manager,
+        plan,
+        other,
+        1,
+        &Open,
+        Closing::All,
+        &wanted,
+    )?;
     assert_eq!(rt;
         (asked, refused, left.cause, left.wrong),
         (3, None, None, None)
@@ -94,14 +126,20 @@ fn body_that_waits_gives_up(rt: HostRuntime) -> Result<(), Fail> {
 fn body_that_ignores_a_wait_commits(rt: HostRuntime) -> Result<(), Fail> {
     let alloc = rt.alloc();
     let seven: Body = Box::new(alloc, move |tx: Tx| writes(&rt, tx, 1, 70))?;
-    let mut all = open_plan(alloc, Some(3))?;
+    let Setting {
+        manager,
+        shared,
+        session,
+        mut other,
+    } = open_manager(alloc)?;
+    let mut plan = Plan::new(alloc, shared, session, Some(3));
     let asked = asks(
         &rt,
-        &all.manager,
-        &mut all.other,
+        &manager,
+        &mut other,
         &[initiate(5), begin(5), write(5, 1, 5)],
     );
-    let refused = initiated(&rt, &mut all.plan, 7, seven);
+    let refused = initiated(&rt, &mut plan, 7, seven);
     let wanted = Wanted {
         ends: &[(7, JobEnd::Committed)],
         left: &[],
@@ -110,7 +148,7 @@ fn body_that_ignores_a_wait_commits(rt: HostRuntime) -> Result<(), Fail> {
             commit 7: committed\nread 5 1: 5\n",
     };
     let read = Closing::AfterRead(Txn(5), Ob(1));
-    let left = run_and_close(&rt, alloc, all, 1, &Open, read, &wanted)?;
+    let left = run_and_close(&rt, alloc, manager, plan, other, 1, &Open, read, &wanted)?;
     assert_eq!(rt;
         (asked, refused, left.cause, left.wrong),
         (3, None, None, None)
@@ -136,10 +174,16 @@ fn commit_that_waits_is_asked_again(rt: HostRuntime) -> Result<(), Fail> {
     let alloc = rt.alloc();
     let seven: Body = Box::new(alloc, move |tx: Tx| waits_for(&rt, tx, Txn(8)))?;
     let eight: Body = Box::new(alloc, move |tx: Tx| does_nothing(&rt, tx))?;
-    let mut all = open_plan(alloc, Some(3))?;
+    let Setting {
+        manager,
+        shared,
+        session,
+        other,
+    } = open_manager(alloc)?;
+    let mut plan = Plan::new(alloc, shared, session, Some(3));
     let refused = (
-        initiated(&rt, &mut all.plan, 7, seven),
-        initiated(&rt, &mut all.plan, 8, eight),
+        initiated(&rt, &mut plan, 7, seven),
+        initiated(&rt, &mut plan, 8, eight),
     );
     let wanted = Wanted {
         ends: &[(7, JobEnd::Committed), (8, JobEnd::Committed)],
@@ -148,7 +192,17 @@ fn commit_that_waits_is_asked_again(rt: HostRuntime) -> Result<(), Fail> {
             initiate 7: ok\ninitiate 8: ok\nbegin 7: ok\ndepend cd 8 7: ok\ncomplete 7: ok\nbegin 8: ok\ncomplete 8: ok\n\
             commit 8: committed\ncommit 7: committed\n",
     };
-    let left = run_and_close(&rt, alloc, all, 1, &Open, Closing::All, &wanted)?;
+    let left = run_and_close(
+        &rt,
+        alloc,
+        manager,
+        plan,
+        other,
+        1,
+        &Open,
+        Closing::All,
+        &wanted,
+    )?;
     assert_eq!(rt; refused, (None, None));
     assert_eq!(rt; (left.cause, left.wrong), (None, None));
     assert_eq!(rt;
@@ -162,15 +216,31 @@ fn commit_that_waits_is_asked_again(rt: HostRuntime) -> Result<(), Fail> {
 fn commit_that_goes_on_waiting_is_unsettled(rt: HostRuntime) -> Result<(), Fail> {
     let alloc = rt.alloc();
     let seven: Body = Box::new(alloc, move |tx: Tx| waits_for(&rt, tx, Txn(5)))?;
-    let mut all = open_plan(alloc, Some(3))?;
-    let asked = asks(&rt, &all.manager, &mut all.other, &[initiate(5)]);
-    let refused = initiated(&rt, &mut all.plan, 7, seven);
+    let Setting {
+        manager,
+        shared,
+        session,
+        mut other,
+    } = open_manager(alloc)?;
+    let mut plan = Plan::new(alloc, shared, session, Some(3));
+    let asked = asks(&rt, &manager, &mut other, &[initiate(5)]);
+    let refused = initiated(&rt, &mut plan, 7, seven);
     let wanted = Wanted {
         ends: &[(7, JobEnd::Unsettled)],
         left: &[],
         history: "initiate 5: ok\ninitiate 7: ok\nbegin 7: ok\ndepend cd 5 7: ok\ncomplete 7: ok\n",
     };
-    let left = run_and_close(&rt, alloc, all, 1, &Open, Closing::All, &wanted)?;
+    let left = run_and_close(
+        &rt,
+        alloc,
+        manager,
+        plan,
+        other,
+        1,
+        &Open,
+        Closing::All,
+        &wanted,
+    )?;
     assert_eq!(rt;
         (asked, refused, left.cause, left.wrong),
         (1, None, None, None)
@@ -186,15 +256,31 @@ fn commit_that_goes_on_waiting_is_unsettled(rt: HostRuntime) -> Result<(), Fail>
 fn job_that_somebody_aborts_is_left(rt: HostRuntime) -> Result<(), Fail> {
     let alloc = rt.alloc();
     let seven: Body = Box::new(alloc, move |tx: Tx| does_nothing(&rt, tx))?;
-    let mut all = open_plan(alloc, Some(3))?;
-    let refused = initiated(&rt, &mut all.plan, 7, seven);
-    let asked = asks(&rt, &all.manager, &mut all.other, &[abort(7)]);
+    let Setting {
+        manager,
+        shared,
+        session,
+        mut other,
+    } = open_manager(alloc)?;
+    let mut plan = Plan::new(alloc, shared, session, Some(3));
+    let refused = initiated(&rt, &mut plan, 7, seven);
+    let asked = asks(&rt, &manager, &mut other, &[abort(7)]);
     let wanted = Wanted {
         ends: &[],
         left: &[7],
         history: "initiate 7: ok\nabort 7: aborted\nbegin 7: refused ended 7\n",
     };
-    let left = run_and_close(&rt, alloc, all, 1, &Open, Closing::All, &wanted)?;
+    let left = run_and_close(
+        &rt,
+        alloc,
+        manager,
+        plan,
+        other,
+        1,
+        &Open,
+        Closing::All,
+        &wanted,
+    )?;
     assert_eq!(rt;
         (asked, refused, left.cause, left.wrong),
         (1, None, None, None)
@@ -210,15 +296,31 @@ fn job_that_somebody_aborts_is_left(rt: HostRuntime) -> Result<(), Fail> {
 fn session_of_the_aborter_is_missed(rt: HostRuntime) -> Result<(), Fail> {
     let alloc = rt.alloc();
     let seven: Body = Box::new(alloc, move |tx: Tx| does_nothing(&rt, tx))?;
-    let mut all = open_plan(alloc, Some(3))?;
-    let refused = initiated(&rt, &mut all.plan, 7, seven);
-    let asked = asks(&rt, &all.manager, &mut all.other, &[abort(7)]);
+    let Setting {
+        manager,
+        shared,
+        session,
+        mut other,
+    } = open_manager(alloc)?;
+    let mut plan = Plan::new(alloc, shared, session, Some(3));
+    let refused = initiated(&rt, &mut plan, 7, seven);
+    let asked = asks(&rt, &manager, &mut other, &[abort(7)]);
     let wanted = Wanted {
         ends: &[],
         left: &[7],
         history: "initiate 7: ok\nabort 7: aborted\nbegin 7: refused ended 7\n",
     };
-    let left = run_and_close(&rt, alloc, all, 1, &Open, Closing::WithoutOther, &wanted)?;
+    let left = run_and_close(
+        &rt,
+        alloc,
+        manager,
+        plan,
+        other,
+        1,
+        &Open,
+        Closing::WithoutOther,
+        &wanted,
+    )?;
     assert_eq!(rt;
         (asked, refused, left.cause, left.wrong),
         (1, None, None, None)

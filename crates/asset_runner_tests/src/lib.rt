@@ -7,7 +7,9 @@ mod running;
 
 pub use bodies::{does_nothing, gives_up, writes};
 pub use gates::{Holding, Open};
-pub use running::{Closing, MUCH_ROOM, Ran, Setting, Wanted, initiated, open_plan, run_and_close};
+pub use running::{
+    Closing, MUCH_ROOM, Ran, Setting, Wanted, initiated, open_manager, run_and_close,
+};
 
 #[cfg(test)]
 mod children;

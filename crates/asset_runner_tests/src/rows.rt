@@ -2,10 +2,10 @@
 
 use crate::bodies::{does_nothing, gives_up, writes};
 use crate::gates::{Holding, Open};
-use crate::running::{Closing, Wanted, initiated, open_plan, run_and_close};
+use crate::running::{Closing, Setting, Wanted, initiated, open_manager, run_and_close};
 use asset_manager::AuditFault;
 use asset_names::{Refusal, Txn};
-use asset_runner::{Body, Cause, JobEnd, RunCause, Tx};
+use asset_runner::{Body, Cause, JobEnd, Plan, RunCause, Tx};
 use std::test::Fail;
 
 /// Two jobs, of which 8 is done before 7 begins.
@@ -20,17 +20,33 @@ fn two_workers_at_once(rt: HostRuntime) -> Result<(), Fail> {
     let alloc = rt.alloc();
     let seven: Body = Box::new(alloc, move |tx: Tx| writes(&rt, tx, 1, 150))?;
     let eight: Body = Box::new(alloc, move |tx: Tx| writes(&rt, tx, 2, 250))?;
-    let mut all = open_plan(alloc, Some(1_000))?;
+    let Setting {
+        manager,
+        shared,
+        session,
+        other,
+    } = open_manager(alloc)?;
+    let mut plan = Plan::new(alloc, shared, session, Some(1_000));
     let refused = (
-        initiated(&rt, &mut all.plan, 7, seven),
-        initiated(&rt, &mut all.plan, 8, eight),
+        initiated(&rt, &mut plan, 7, seven),
+        initiated(&rt, &mut plan, 8, eight),
     );
     let wanted = Wanted {
         ends: &BOTH_COMMIT,
         left: &[],
         history: EIGHT_FIRST,
     };
-    let left = run_and_close(&rt, alloc, all, 2, &Holding::new(), Closing::All, &wanted)?;
+    let left = run_and_close(
+        &rt,
+        alloc,
+        manager,
+        plan,
+        other,
+        2,
+        &Holding::new(),
+        Closing::All,
+        &wanted,
+    )?;
     assert_eq!(rt; refused, (None, None));
     assert_eq!(rt;
         (left.as_wanted, left.cause, left.wrong),
@@ -46,10 +62,16 @@ fn session_kept_back_is_missed(rt: HostRuntime) -> Result<(), Fail> {
     let alloc = rt.alloc();
     let seven: Body = Box::new(alloc, move |tx: Tx| writes(&rt, tx, 1, 150))?;
     let eight: Body = Box::new(alloc, move |tx: Tx| writes(&rt, tx, 2, 250))?;
-    let mut all = open_plan(alloc, Some(1_000))?;
+    let Setting {
+        manager,
+        shared,
+        session,
+        other,
+    } = open_manager(alloc)?;
+    let mut plan = Plan::new(alloc, shared, session, Some(1_000));
     let refused = (
-        initiated(&rt, &mut all.plan, 7, seven),
-        initiated(&rt, &mut all.plan, 8, eight),
+        initiated(&rt, &mut plan, 7, seven),
+        initiated(&rt, &mut plan, 8, eight),
     );
     let wanted = Wanted {
         ends: &BOTH_COMMIT,
@@ -59,7 +81,9 @@ fn session_kept_back_is_missed(rt: HostRuntime) -> Result<(), Fail> {
     let left = run_and_close(
         &rt,
         alloc,
-        all,
+        manager,
+        plan,
+        other,
         2,
         &Holding::new(),
         Closing::WithoutLastJob,
@@ -78,14 +102,30 @@ fn session_kept_back_is_missed(rt: HostRuntime) -> Result<(), Fail> {
 fn body_gives_up(rt: HostRuntime) -> Result<(), Fail> {
     let alloc = rt.alloc();
     let seven: Body = Box::new(alloc, move |tx: Tx| gives_up(&rt, tx, 1, 50))?;
-    let mut all = open_plan(alloc, Some(1_000))?;
-    let refused = initiated(&rt, &mut all.plan, 7, seven);
+    let Setting {
+        manager,
+        shared,
+        session,
+        other,
+    } = open_manager(alloc)?;
+    let mut plan = Plan::new(alloc, shared, session, Some(1_000));
+    let refused = initiated(&rt, &mut plan, 7, seven);
     let wanted = Wanted {
         ends: &[(7, JobEnd::Aborted)],
         left: &[],
         history: "initiate 7: ok\nbegin 7: ok\nwrite 7 1 50: ok\nabort 7: aborted\n",
     };
-    let left = run_and_close(&rt, alloc, all, 1, &Open, Closing::All, &wanted)?;
+    let left = run_and_close(
+        &rt,
+        alloc,
+        manager,
+        plan,
+        other,
+        1,
+        &Open,
+        Closing::All,
+        &wanted,
+    )?;
     assert_eq!(rt; (refused, left.cause, left.wrong), (None, None, None));
     assert_eq!(rt;
         (left.as_wanted, left.counts, left.audit),
@@ -99,17 +139,33 @@ fn no_workers_leave_all_jobs(rt: HostRuntime) -> Result<(), Fail> {
     let alloc = rt.alloc();
     let seven: Body = Box::new(alloc, move |tx: Tx| does_nothing(&rt, tx))?;
     let eight: Body = Box::new(alloc, move |tx: Tx| does_nothing(&rt, tx))?;
-    let mut all = open_plan(alloc, Some(1_000))?;
+    let Setting {
+        manager,
+        shared,
+        session,
+        other,
+    } = open_manager(alloc)?;
+    let mut plan = Plan::new(alloc, shared, session, Some(1_000));
     let refused = (
-        initiated(&rt, &mut all.plan, 7, seven),
-        initiated(&rt, &mut all.plan, 8, eight),
+        initiated(&rt, &mut plan, 7, seven),
+        initiated(&rt, &mut plan, 8, eight),
     );
     let wanted = Wanted {
         ends: &[],
         left: &[7, 8],
         history: "initiate 7: ok\ninitiate 8: ok\n",
     };
-    let left = run_and_close(&rt, alloc, all, 0, &Open, Closing::All, &wanted)?;
+    let left = run_and_close(
+        &rt,
+        alloc,
+        manager,
+        plan,
+        other,
+        0,
+        &Open,
+        Closing::All,
+        &wanted,
+    )?;
     assert_eq!(rt; refused, (None, None));
     assert_eq!(rt; left.cause, Some(RunCause::NoWorkers));
     assert_eq!(rt;
@@ -122,13 +178,29 @@ fn no_workers_leave_all_jobs(rt: HostRuntime) -> Result<(), Fail> {
 #[test]
 fn plan_without_jobs_gives_its_session_back(rt: HostRuntime) -> Result<(), Fail> {
     let alloc = rt.alloc();
-    let all = open_plan(alloc, Some(1_000))?;
+    let Setting {
+        manager,
+        shared,
+        session,
+        other,
+    } = open_manager(alloc)?;
+    let plan = Plan::new(alloc, shared, session, Some(1_000));
     let wanted = Wanted {
         ends: &[],
         left: &[],
         history: "",
     };
-    let left = run_and_close(&rt, alloc, all, 1_000, &Open, Closing::All, &wanted)?;
+    let left = run_and_close(
+        &rt,
+        alloc,
+        manager,
+        plan,
+        other,
+        1_000,
+        &Open,
+        Closing::All,
+        &wanted,
+    )?;
     assert_eq!(rt; (left.cause, left.wrong), (None, None));
     assert_eq!(rt;
         (left.as_wanted, left.counts, left.audit),
@@ -142,17 +214,33 @@ fn name_that_is_taken_is_refused(rt: HostRuntime) -> Result<(), Fail> {
     let alloc = rt.alloc();
     let first: Body = Box::new(alloc, move |tx: Tx| does_nothing(&rt, tx))?;
     let second: Body = Box::new(alloc, move |tx: Tx| writes(&rt, tx, 1, 50))?;
-    let mut all = open_plan(alloc, None)?;
+    let Setting {
+        manager,
+        shared,
+        session,
+        other,
+    } = open_manager(alloc)?;
+    let mut plan = Plan::new(alloc, shared, session, None);
     let refused = (
-        initiated(&rt, &mut all.plan, 7, first),
-        initiated(&rt, &mut all.plan, 7, second),
+        initiated(&rt, &mut plan, 7, first),
+        initiated(&rt, &mut plan, 7, second),
     );
     let wanted = Wanted {
         ends: &[(7, JobEnd::Committed)],
         left: &[],
         history: "initiate 7: ok\ninitiate 7: refused taken 7\nbegin 7: ok\ncomplete 7: ok\ncommit 7: committed\n",
     };
-    let left = run_and_close(&rt, alloc, all, 3, &Open, Closing::All, &wanted)?;
+    let left = run_and_close(
+        &rt,
+        alloc,
+        manager,
+        plan,
+        other,
+        3,
+        &Open,
+        Closing::All,
+        &wanted,
+    )?;
     assert_eq!(rt;
         refused,
         (None, Some(Cause::Refused(Refusal::Taken(Txn(7)))))

@@ -20,25 +20,28 @@ pub const MUCH_ROOM: usize = 100_000;
 /// Three objects with 100, 200 and 300.
 const THREE: [(Ob, i64); 3] = [(Ob(1), 100), (Ob(2), 200), (Ob(3), 300)];
 
-/// A manager, a plan without jobs, and another session.
+/// A manager twice, a session for a plan, and another session.
 #[derive(Drop)]
 pub struct Setting {
     pub manager: Arc<Manager, Global>,
-    pub plan: Plan,
+    pub shared: Arc<Manager, Global>,
+    pub session: Session,
     pub other: Session,
 }
 
-/// Opens a manager over three objects, with a plan whose bodies ask at most so many turns.
-pub fn open_plan(alloc: Global, turns: Option<u32>) -> Result<Setting, Fail>
-    ensures { IfOk result (λ setting. IsOf setting.other.of (arc_value setting.manager)) }
+/// Opens a manager over three objects.
+pub fn open_manager(alloc: Global) -> Result<Setting, Fail>
+    ensures session { IfOk result (λ setting. IsOf setting.session.of (arc_value setting.shared)) }
+    ensures other { IfOk result (λ setting. IsOf setting.other.of (arc_value setting.manager)) }
 {
     let (manager, mut session) = Manager::open(alloc, &THREE, MUCH_ROOM)?;
     let other = session.split();
     let manager = Arc::new(alloc, manager)?;
-    let theirs = Arc::try_clone(&manager)?;
+    let shared = Arc::try_clone(&manager)?;
     Ok(Setting {
         manager,
-        plan: Plan::new(alloc, theirs, session, turns),
+        shared,
+        session,
         other,
     })
 }
@@ -192,19 +195,16 @@ fn hand_in<R: Wait>(
 pub fn run_and_close<R: Threads + Wait + Sync, G: Gate>(
     rt: &R,
     alloc: Global,
-    setting: Setting,
+    manager: Arc<Manager, Global>,
+    plan: Plan,
+    other: Session,
     workers: usize,
     gate: &G,
     closing: Closing,
     wanted: &Wanted<'_>,
 ) -> Result<Ran, Fail>
-    requires { IsOf setting.other.of (arc_value setting.manager) }
+    requires { IsOf other.of (arc_value manager) }
 {
-    let Setting {
-        manager,
-        plan,
-        other,
-    } = setting;
     let (report, cause) = told(plan.run(rt, workers, gate));
     let Report {
         ends,
