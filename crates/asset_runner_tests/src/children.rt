@@ -70,13 +70,18 @@ fn child_commits(rt: HostRuntime) -> Result<(), Fail> {
     let alloc = rt.alloc();
     let notes = Arc::new(alloc, Notes::none())?;
     let theirs = Arc::try_clone(&notes)?;
-    let seven: Body = Box::new(alloc, move |tx: Tx| {
-        let body: Body = match Box::new(alloc, move |tx: Tx| writes(&rt, tx, 2, 80)) {
-            Ok(body) => body,
-            Err(_) => return tx.done(&rt),
-        };
-        runs_a_child(&rt, tx, Txn(8), body, &theirs)
-    })?;
+    let seven: Body = Box::new(
+        alloc,
+        move |tx: Tx| -> Finished
+            ensures { result.of ≡ Some tx.manager }
+        {
+            let body: Body = match Box::new(alloc, move |tx: Tx| writes(&rt, tx, 2, 80)) {
+                Ok(body) => body,
+                Err(_) => return tx.done(&rt),
+            };
+            runs_a_child(&rt, tx, Txn(8), body, &theirs)
+        },
+    )?;
     let Setting {
         manager,
         shared,
@@ -118,13 +123,18 @@ fn child_gives_up(rt: HostRuntime) -> Result<(), Fail> {
     let alloc = rt.alloc();
     let notes = Arc::new(alloc, Notes::none())?;
     let theirs = Arc::try_clone(&notes)?;
-    let seven: Body = Box::new(alloc, move |tx: Tx| {
-        let body: Body = match Box::new(alloc, move |tx: Tx| gives_up(&rt, tx, 2, 80)) {
-            Ok(body) => body,
-            Err(_) => return tx.done(&rt),
-        };
-        runs_a_child(&rt, tx, Txn(8), body, &theirs)
-    })?;
+    let seven: Body = Box::new(
+        alloc,
+        move |tx: Tx| -> Finished
+            ensures { result.of ≡ Some tx.manager }
+        {
+            let body: Body = match Box::new(alloc, move |tx: Tx| gives_up(&rt, tx, 2, 80)) {
+                Ok(body) => body,
+                Err(_) => return tx.done(&rt),
+            };
+            runs_a_child(&rt, tx, Txn(8), body, &theirs)
+        },
+    )?;
     let Setting {
         manager,
         shared,
@@ -165,13 +175,18 @@ fn child_of_a_taken_name_is_not_begun(rt: HostRuntime) -> Result<(), Fail> {
     let alloc = rt.alloc();
     let notes = Arc::new(alloc, Notes::none())?;
     let theirs = Arc::try_clone(&notes)?;
-    let seven: Body = Box::new(alloc, move |tx: Tx| {
-        let body: Body = match Box::new(alloc, move |tx: Tx| writes(&rt, tx, 2, 80)) {
-            Ok(body) => body,
-            Err(_) => return tx.done(&rt),
-        };
-        runs_a_child(&rt, tx, Txn(7), body, &theirs)
-    })?;
+    let seven: Body = Box::new(
+        alloc,
+        move |tx: Tx| -> Finished
+            ensures { result.of ≡ Some tx.manager }
+        {
+            let body: Body = match Box::new(alloc, move |tx: Tx| writes(&rt, tx, 2, 80)) {
+                Ok(body) => body,
+                Err(_) => return tx.done(&rt),
+            };
+            runs_a_child(&rt, tx, Txn(7), body, &theirs)
+        },
+    )?;
     let Setting {
         manager,
         shared,

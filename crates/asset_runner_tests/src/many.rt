@@ -131,15 +131,20 @@ fn two_hundred_jobs_end_once(rt: HostRuntime) -> Result<(), Fail> {
     let mut plan = Plan::new(alloc, Arc::try_clone(&manager)?, session, Some(3));
     let mut refused: usize = 0;
     for number in 0..JOBS as u64 {
-        let made: Result<Box<_>, _> = Box::new(alloc, move |tx: Tx| {
-            let child: Body = match Box::new(alloc, move |tx: Tx| {
-                operates_and_ends(&rt, tx, number.wrapping_add(CHILD))
-            }) {
-                Ok(child) => child,
-                Err(_) => return tx.give_up(&rt),
-            };
-            works(&rt, tx, number, child)
-        });
+        let made: Result<Box<_>, _> = Box::new(
+            alloc,
+            move |tx: Tx| -> Finished
+                ensures { result.of ≡ Some tx.manager }
+            {
+                let child: Body = match Box::new(alloc, move |tx: Tx| {
+                    operates_and_ends(&rt, tx, number.wrapping_add(CHILD))
+                }) {
+                    Ok(child) => child,
+                    Err(_) => return tx.give_up(&rt),
+                };
+                works(&rt, tx, number, child)
+            },
+        );
         let body: Body = match made {
             Ok(body) => body,
             Err(_) => continue,
