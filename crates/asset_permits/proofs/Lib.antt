@@ -6,3 +6,4 @@ pub mod SeatLemmas
 pub mod SlotLemmas
 pub mod CopyLemmas
 pub mod TableLemmas
+pub mod GivingLemmas

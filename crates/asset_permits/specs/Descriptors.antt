@@ -54,6 +54,10 @@ lets giver taker x op d = d.giver == giver && d.taker == taker && covers x op d
 unfoldable pub one_covers : List Descriptor → ℕ → ℕ → ℕ → Op → Bool
 one_covers descriptors giver taker x op = list_any (lets giver taker x op) descriptors
 
+-- whether the transaction gives a permit
+unfoldable pub gives : ℕ → List Descriptor → Bool
+gives giver descriptors = list_any (λ (d : Descriptor). d.giver == giver) descriptors
+
 -- the arrows from givers to takers who may do op on x
 unfoldable pub arrows_for : List Descriptor → ℕ → Op → List Arrow
 arrows_for descriptors x op = map (λ (d : Descriptor). (d.giver, d.taker)) (filter (covers x op) descriptors)

@@ -7,6 +7,7 @@ mod adding;
 mod copying;
 mod dropping;
 mod finding;
+mod giving;
 mod laws;
 mod permit;
 mod permit_objects;
