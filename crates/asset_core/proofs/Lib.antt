@@ -1,3 +1,4 @@
 pub mod PendingLemmas
 pub mod ValidLemmas
 pub mod StepLemmas
+pub mod OperateLemmas

@@ -2,6 +2,7 @@
 
 ghost use Rattle.std.specs.Prelude.{◌≡◌};
 ghost use Rattle.asset_names.specs.Room.{initiates};
+ghost use Rattle.asset_names.specs.Sources.{is_operation};
 
 use crate::OpenFault;
 use asset_ends::Tables;
@@ -25,6 +26,14 @@ fn initiates(step: &Step) -> bool
     ensures { result ≡ initiates step.now }
 {
     matches!(step, Step::Initiate { .. })
+}
+
+/// Returns whether the step is a read or a write.
+#[tactic(auto, unfolding(asset_names::specs::Sources::is_operation))]
+fn is_operation(step: &Step) -> bool
+    ensures { result ≡ is_operation step.now }
+{
+    matches!(step, Step::Read { .. } | Step::Write { .. })
 }
 
 /// A history, which grows by one answered step at a time, and the tables that show it. Contracts see the
@@ -141,12 +150,50 @@ impl Core {
     pub fn step(&mut self, step: Step) -> Result<Outcome, Fault>
         ensures { IsStep self.old step result self.new }
     {
-        match self.answer(&step) {
+        if is_operation(&step) && self.has_place() {
+            self.operate(&step)
+        } else {
+            self.ask(&step)
+        }
+    }
+
+    /// Returns whether there is room for an entry after which nobody is owed more than before.
+    #[inline(always)]
+    fn has_place(&self) -> bool
+        ensures { result ≡ true → length self.now.history.entries + 1 + owed (applied self.now.history.entries) ≤ self.now.history.capacity }
+    {
+        let capacity = self.history.room();
+        self.history.len() + 1 + self.tables.owed() <= capacity
+    }
+
+    /// Asks for a read or a write, for whose entry there is room: the locks are looked at once.
+    #[inline(always)]
+    fn operate(&mut self, step: &Step) -> Result<Outcome, Fault>
+        requires operation { is_operation step.now ≡ true }
+        requires room { length self.old.history.entries + 1 + owed (applied self.old.history.entries) ≤ self.old.history.capacity }
+        ensures { IsStep self.old step.now result self.new }
+    {
+        match self.tables.operate(step) {
+            Ok(Outcome::Answer(answer)) => {
+                self.history.append(*step, answer);
+                Ok(Outcome::Answer(answer))
+            }
+            Ok(Outcome::Wait) => Ok(Outcome::Wait),
+            Err(_) => Err(Fault::NoMemory),
+        }
+    }
+
+    /// Asks for a step: finds its answer first, and then whether there is room for it.
+    #[inline(always)]
+    fn ask(&mut self, step: &Step) -> Result<Outcome, Fault>
+        ensures { IsStep self.old step.now result self.new }
+    {
+        match self.answer(step) {
             Outcome::Wait => {
-                self.wait(&step);
+                self.wait(step);
                 Ok(Outcome::Wait)
             }
-            Outcome::Answer(reply) => self.record(&step, reply),
+            Outcome::Answer(reply) => self.record(step, reply),
         }
     }
 

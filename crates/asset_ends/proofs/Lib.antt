@@ -13,3 +13,4 @@ pub mod AskedLemmas
 pub mod StandingLemmas
 pub mod AnswerLemmas
 pub mod ReadyLemmas
+pub mod OperatedLemmas

@@ -3,3 +3,4 @@ pub mod Ended
 pub mod Standing
 pub mod Shown
 pub mod Ready
+pub mod Operated

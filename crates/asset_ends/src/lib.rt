@@ -8,6 +8,7 @@ mod applying;
 mod delegating;
 mod depending;
 mod ending;
+mod operating;
 mod parts;
 mod tables;
 mod working;

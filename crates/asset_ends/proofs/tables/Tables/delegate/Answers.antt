@@ -25,10 +25,9 @@ pub returns-clause-stand : goal.returns-clause-stand
 returns-clause-stand c =
     let gives = rw (← c.self.view_is) at c.requires.giver in
     let takes = rw (← c.self.view_is) at c.requires.taker in
-    let held = c.deref.ensures.value ∙ c.in_ok-moved.ensures.held in
     rw (← c.self.view_is) (λ opening steps stand.
     stand_as opening _ _ _ _ _ _ _ refl c.hand_over-2.ensures.cells c.hand_over.ensures.done refl refl
     (delegate_shows opening steps _ _ _ _ _ c.args.giver c.args.taker c.args.obs.now stand
     (sym (live_shown opening steps _ _ _ _ _ c.args.giver.0 stand) ∙ gives) (sym (live_shown opening steps _ _ _ _ _ c.args.taker.0 stand) ∙ takes)
     c.hand_over.ensures.valid (live_enrolled _ _ c.args.taker.0 c.self.invariant.locks takes) _
-    (rw held at c.in_ok-copy_for.ensures.covers)))
+    c.in_ok-copy_permits.ensures.covers))

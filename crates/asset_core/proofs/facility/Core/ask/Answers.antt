@@ -1,6 +1,6 @@
 use Rattle.std.proofs.Common.{sym}
 use Rattle.asset_core.proofs.StepLemmas.{waiting_step}
-use Rattle.asset_core.proofs.facility.Core.step.Goals as goal
+use Rattle.asset_core.proofs.facility.Core.ask.Goals as goal
 
 pub wait-requires : goal.wait-requires
 wait-requires c = record { waits = rw c.answer.ensures.same (sym c.in-Wait.ensures.answer) }
@@ -10,7 +10,7 @@ record-requires c = record { answer = rw c.answer.ensures.same (sym c.in-Answer.
 
 pub returns-in-Wait : goal.returns-in-Wait
 returns-in-Wait c =
-    rw (← c.answer.ensures.same) (waiting_step _ _ c.args.step (rw c.answer.ensures.same (sym c.in-Wait.ensures.answer)) c.wait.ensures.history c.wait.ensures.pending c.wait.ensures.still)
+    rw (← c.answer.ensures.same) (waiting_step _ _ c.args.step.now (rw c.answer.ensures.same (sym c.in-Wait.ensures.answer)) c.wait.ensures.history c.wait.ensures.pending c.wait.ensures.still)
 
 pub returns-in-Answer : goal.returns-in-Answer
 returns-in-Answer c = rw (← c.answer.ensures.same) c.record.ensures
