@@ -1,3 +1,4 @@
+use Rattle.std.proofs.Common.{rules}
 use Rattle.asset_queue.proofs.Moves.{begins, forks, merges}
 use Rattle.asset_queue.proofs.work.run.Goals as goal
 
@@ -9,3 +10,6 @@ another-theirs-requires-clause-rule g c = forks g.J.Ticketed.ticket _ _
 
 pub absorb-requires-clause-rule : goal.absorb-requires-clause-rule
 absorb-requires-clause-rule g c = merges g.J.Ticketed.ticket _ _ _ _
+
+pub returns-in_default-ruled-clause-err : goal.returns-in_default-ruled-clause-err
+returns-in_default-ruled-clause-err g c = search rules
