@@ -27,6 +27,11 @@ impl Holding {
             left: AtomicU64::new(0),
         }
     }
+
+    /// Returns whether it was told that 8 has left.
+    pub fn has_left(&self) -> bool {
+        self.left.load(Ordering::SeqCst) == 1
+    }
 }
 
 impl Gate for Holding {

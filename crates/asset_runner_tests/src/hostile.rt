@@ -160,12 +160,13 @@ fn body_that_ignores_a_wait_commits(rt: HostRuntime) -> Result<(), Fail> {
     Ok(())
 }
 
-/// Makes 7 depend on another, by a commit dependency, and is done.
+/// Depends on another, by a commit dependency, and is done.
 fn waits_for<R: Wait>(rt: &R, tx: Tx, source: Txn) -> Finished
     ensures { result.of ≡ Some tx.manager }
 {
     let mut tx = tx;
-    let _ = tx.depend(rt, Kind::Cd, source, Txn(7));
+    let own = tx.name();
+    let _ = tx.depend(rt, Kind::Cd, source, own);
     tx.done(rt)
 }
 
@@ -208,6 +209,56 @@ fn commit_that_waits_is_asked_again(rt: HostRuntime) -> Result<(), Fail> {
     assert_eq!(rt;
         (left.as_wanted, left.counts, left.audit),
         (true, (9, 2, 0), Ok(()))
+    );
+    Ok(())
+}
+
+#[test]
+fn commits_that_wait_in_a_row_are_asked_in_passes(rt: HostRuntime) -> Result<(), Fail> {
+    let alloc = rt.alloc();
+    let seven: Body = Box::new(alloc, move |tx: Tx| waits_for(&rt, tx, Txn(8)))?;
+    let eight: Body = Box::new(alloc, move |tx: Tx| waits_for(&rt, tx, Txn(9)))?;
+    let nine: Body = Box::new(alloc, move |tx: Tx| does_nothing(&rt, tx))?;
+    let Setting {
+        manager,
+        shared,
+        session,
+        other,
+    } = open_manager(alloc)?;
+    let mut plan = Plan::new(alloc, shared, session, Some(3));
+    let refused = (
+        initiated(&rt, &mut plan, 7, seven),
+        initiated(&rt, &mut plan, 8, eight),
+        initiated(&rt, &mut plan, 9, nine),
+    );
+    let wanted = Wanted {
+        ends: &[
+            (7, JobEnd::Committed),
+            (8, JobEnd::Committed),
+            (9, JobEnd::Committed),
+        ],
+        left: &[],
+        history: "\
+            initiate 7: ok\ninitiate 8: ok\ninitiate 9: ok\nbegin 7: ok\ndepend cd 8 7: ok\ncomplete 7: ok\n\
+            begin 8: ok\ndepend cd 9 8: ok\ncomplete 8: ok\nbegin 9: ok\ncomplete 9: ok\ncommit 9: committed\n\
+            commit 8: committed\ncommit 7: committed\n",
+    };
+    let left = run_and_close(
+        &rt,
+        alloc,
+        manager,
+        plan,
+        other,
+        1,
+        &Open,
+        Closing::All,
+        &wanted,
+    )?;
+    assert_eq!(rt; refused, (None, None, None));
+    assert_eq!(rt; (left.cause, left.wrong), (None, None));
+    assert_eq!(rt;
+        (left.as_wanted, left.counts, left.audit),
+        (true, (14, 3, 0), Ok(()))
     );
     Ok(())
 }

@@ -36,6 +36,7 @@ fn two_workers_at_once(rt: HostRuntime) -> Result<(), Fail> {
         left: &[],
         history: EIGHT_FIRST,
     };
+    let gate = Holding::new();
     let left = run_and_close(
         &rt,
         alloc,
@@ -43,11 +44,11 @@ fn two_workers_at_once(rt: HostRuntime) -> Result<(), Fail> {
         plan,
         other,
         2,
-        &Holding::new(),
+        &gate,
         Closing::All,
         &wanted,
     )?;
-    assert_eq!(rt; refused, (None, None));
+    assert_eq!(rt; (refused, gate.has_left()), ((None, None), true));
     assert_eq!(rt;
         (left.as_wanted, left.cause, left.wrong),
         (true, None, None)
