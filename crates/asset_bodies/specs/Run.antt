@@ -10,11 +10,13 @@ use Rattle.asset_bodies.specs.Asked.{is_done}
 use Rattle.asset_bodies.specs.Working.{Working, Worked, HasRoom}
 use Rattle.asset_bodies.specs.Child.{Begun, FailsToBegin, Closes}
 
--- the body was called with the child, whose list had room for its end, and answered `finished`
+-- the body was called with the child, which owes three entries more than its parent and whose list had room for them,
+-- and answered `finished`
 pub record Called (post : Working → Worked → Type 0) (parent : Working) (child : Txn) (finished : Worked) : Type 0 where
   pub tx : Working
   pub name : tx.name ≡ child
   pub manager : tx.manager ≡ parent.manager
+  pub owed : tx.owed ≡ parent.owed + 3
   pub room : HasRoom tx
   pub begun : Begun parent.name child parent.list.calls tx.list.calls
   pub answered : post tx finished

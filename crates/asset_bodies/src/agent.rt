@@ -1,6 +1,6 @@
 //! Who asks steps of a manager by a session.
 
-ghost use Rattle.std.specs.Prelude.{◌≡◌, ◌≤◌, ◌<◌, ◌+◌, ◌∷◌, [], true, length, OnOk, IfSome, Some};
+ghost use Rattle.std.specs.Prelude.{◌≡◌, ◌≤◌, ◌<◌, ◌+◌, ◌∷◌, [], true, length, OnOk, IfSome, MatchOption, Some};
 ghost use Rattle.std.specs.Arc.{arc_value};
 ghost use Rattle.asset_names.specs.Answers.{takes_memory};
 ghost use Rattle.asset_manager.specs.Listed.{IsListed};
@@ -104,6 +104,7 @@ impl Agent {
         ensures manager { self.new.manager ≡ self.old.manager }
         ensures asked { IsAsked self.old.list.calls step result self.new.list.calls }
         ensures room { self.old.list.room ≤ self.new.list.room }
+        ensures if_room { MatchOption result (self.old.list.room ≤ length self.old.list.calls) (λ _. length self.old.list.calls < self.old.list.room) }
         ensures memory { length self.old.list.calls < self.old.list.room → (takes_memory step ≡ true → ⊥) → HasOutcome result }
     {
         if !self.session.has_room(1) {

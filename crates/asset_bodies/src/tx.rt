@@ -1,6 +1,6 @@
 //! A transaction on which a body works, and one that its body has ended.
 
-ghost use Rattle.std.specs.Prelude.{◌≡◌, ◌≤◌, ◌<◌, ◌+◌, true, false, length, OnOk, Some};
+ghost use Rattle.std.specs.Prelude.{◌≡◌, ◌≤◌, ◌<◌, ◌+◌, true, false, length, OnOk, MatchOption, Some};
 ghost use Rattle.asset_names.specs.declared.steps.Step.TheVariants as Step;
 ghost use Rattle.asset_names.specs.Answers.{takes_memory};
 ghost use Rattle.asset_manager.specs.Listed.{IsListed};
@@ -186,6 +186,7 @@ impl Tx {
         ensures own { (result.name ≡ self.name) × (result.done ≡ done) × (result.of ≡ Some self.manager) }
         ensures asked { IsAsked self.list.calls step result.met result.list.calls }
         ensures room { self.list.room ≤ result.list.room }
+        ensures if_room { MatchOption result.met (self.list.room ≤ length self.list.calls) (λ _. length self.list.calls < self.list.room) }
         ensures memory { length self.list.calls < self.list.room → (takes_memory step ≡ true → ⊥) → HasOutcome result.met }
     {
         let Tx {
@@ -211,6 +212,7 @@ impl Tx {
         ensures own { (result.name ≡ self.name) × (result.done ≡ true) × (result.of ≡ Some self.manager) }
         ensures asked { IsAsked self.list.calls (Step.Complete self.name) result.met result.list.calls }
         ensures room { self.list.room ≤ result.list.room }
+        ensures if_room { MatchOption result.met (self.list.room ≤ length self.list.calls) (λ _. length self.list.calls < self.list.room) }
         ensures memory { length self.list.calls < self.list.room → HasOutcome result.met }
     {
         let step = Step::Complete { t: self.name };
@@ -223,6 +225,7 @@ impl Tx {
         ensures own { (result.name ≡ self.name) × (result.done ≡ false) × (result.of ≡ Some self.manager) }
         ensures asked { IsAsked self.list.calls (Step.Abort self.name) result.met result.list.calls }
         ensures room { self.list.room ≤ result.list.room }
+        ensures if_room { MatchOption result.met (self.list.room ≤ length self.list.calls) (λ _. length self.list.calls < self.list.room) }
         ensures memory { length self.list.calls < self.list.room → HasOutcome result.met }
     {
         let step = Step::Abort { t: self.name };
