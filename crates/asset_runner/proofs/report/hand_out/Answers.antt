@@ -1,5 +1,6 @@
-use Rattle.std.proofs.Common.{◌≡◌, ◌++◌, ◌∷◌, [], true, false, sym, ap, ◌∙◌, append_assoc, arith}
+use Rattle.std.proofs.Common.{◌≡◌, ◌++◌, ◌∷◌, [], true, false, sym, ap, ◌∙◌, append_assoc, arith, rules}
 use Rattle.std.proofs.lemmas.List.{length-append}
+use Rattle.std.proofs.lemmas.Grind.{common_steps}
 use Rattle.asset_runner.specs.Runs.{is_called}
 use Rattle.asset_runner.proofs.ArrivedLemmas.{pushed, left_snoc, left_same, calls_more, more_after}
 use Rattle.asset_runner.proofs.report.hand_out.Goals as goal
@@ -31,3 +32,9 @@ order-preserved g c =
       omega (arith, c.push_reserved.ensures.capacity, c.order.invariant.6),
       more_after c.args.sessions.items c.order.sessions.items c.push_reserved.new.self.items _ c.push_reserved.ensures.items c.order.invariant.7,
     )
+
+pub returns-clause-first : goal.returns-clause-first
+returns-clause-first g c = search rules
+
+pub returns-clause-sessions : goal.returns-clause-sessions
+returns-clause-sessions g c = grind (arith, common_steps)

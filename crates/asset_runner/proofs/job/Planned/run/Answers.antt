@@ -1,4 +1,4 @@
-use Rattle.std.proofs.Common.{◌≡◌, Some, ap, ◌∙◌}
+use Rattle.std.proofs.Common.{◌≡◌, Some, ap, ◌∙◌, rules}
 use Rattle.std.specs.Arc.{arc_value}
 use base.Stored.{Coded-set}
 use Rattle.std.specs.Coded.{coded_option}
@@ -10,3 +10,6 @@ pub called-requires : goal.called-requires
 called-requires g c =
     let of : c.new-in-Ok-Answer-Done.result.manager ≡ arc_value c.args.self.manager = c.new-in-Ok-Answer-Done.ensures.own.1 ∙ c.new.ensures.0 ∙ c.args.self.one in
     ∥∥₁_elim c.args.self.same (Coded-set (coded_option table_id_coded) _ _) (λ s. s c.new-in-Ok-Answer-Done.result c.call_once-finished.result of c.call_once-finished.ensures ∙ ap Some of)
+
+pub returns-in-Ok-Answer-Done : goal.returns-in-Ok-Answer-Done
+returns-in-Ok-Answer-Done g c = search rules

@@ -1,4 +1,4 @@
-use Rattle.std.proofs.Common.{List, ◌++◌, ◌∷◌, [], sym, ap, ◌∙◌, subst, arith}
+use Rattle.std.proofs.Common.{List, ◌++◌, ◌∷◌, [], sym, ap, ◌∙◌, subst, arith, rules}
 use Rattle.asset_names.specs.declared.steps.Step.TheVariants.{Initiate}
 use Rattle.asset_audit.specs.Audited.{Call}
 use Rattle.asset_manager.specs.Asker.{Asker}
@@ -13,10 +13,10 @@ cause_of-requires g c = is_initiation c.args.t c.args.parent c.call-outcome.resu
 pub invariant_of-self-2-clause-tickets : goal.invariant_of-self-2-clause-tickets
 invariant_of-self-2-clause-tickets g c =
     tickets_more (λ j. (j.place, j.name.0)) c.args.self.now.jobs.items c.push_reserved-2.new.self.items c.new-job.result
-    c.args.self.now.names.items c.push_reserved.new.self.items c.args.t c.len-place.result
+    c.args.self.now.names.items c.push_reserved.new.self.items c.new-job.result.name c.len-place.result
     (c.push_reserved-2.ensures.items ∙ ap (λ l. l ++ c.new-job.result ∷ []) c.reserve-else-is_err.ensures.items)
-    (c.push_reserved.ensures.items ∙ ap (λ l. l ++ c.args.t ∷ []) c.reserve.ensures.items)
-    (λ i. (c.new-job.ensures.0 i, (c.new-job.ensures.1 i).0))
+    (c.push_reserved.ensures.items ∙ (λ i. c.reserve.ensures.items i ++ sym c.new-job.ensures.1 i ∷ []))
+    (λ i. (c.new-job.ensures.0 i, c.new-job.result.name.0))
     (omega (arith, c.len-place.ensures, c.args.self.now.names.ok))
     c.args.self.now.tickets
 
@@ -27,3 +27,6 @@ returns-clause-asked g c =
     (initiated c.split-session.new.self.list.calls c.call-outcome.new.self.list.calls (Initiate c.args.t c.args.parent) c.call-outcome.result
     (is_initiation c.args.t c.args.parent c.call-outcome.result c.call-outcome.ensures.answer)
     (sym c.cause_of.ensures ∙ c.in-None.is) c.call-outcome.ensures.listed)
+
+pub returns-clause-names : goal.returns-clause-names
+returns-clause-names g c = search rules
