@@ -9,3 +9,4 @@ pub mod SagaLaw
 pub mod NestedLaw
 pub mod HandingLaws
 pub mod ClientLaw
+mod PremiseCases
