@@ -4,7 +4,7 @@
 use crate::parts::part;
 use asset_core::{Core, OpenFault};
 use asset_core_tests::{ROOM, opened};
-use asset_models::{Act, Asset, ModelEnd, nested, saga};
+use asset_models::{Act, Asset, ModelEnd, Part, nested, saga};
 use asset_names::{Fault, Ob};
 use std::alloc::Global;
 use std::test::Fail;
@@ -18,27 +18,34 @@ const ROOMS: Ob = Ob(2);
 /// How many cars are free. No such object is opened here, so each write of it is refused.
 const CARS: Ob = Ob(3);
 
-/// Books a seat, a room and a car, one transaction after another, so that others see each at once. If one cannot be had, those
+/// Books the parts of a trip, one transaction after another, so that others see each at once. If one cannot be had, those
 /// before it are given back in reverse order.
-fn book_trip<A: Asset>(alloc: Global, asset: &mut A) -> Result<ModelEnd, Fault> {
+// The example begins here.
+fn book_trip<A: Asset>(asset: &mut A, trip: &[(Part, Part)]) -> Result<ModelEnd, Fault> {
+    saga(asset, trip, 0) // if a part aborts, those before it are undone by their second parts: `Undone`
+}
+// The example ends here.
+
+/// Books a seat, a room and a car, of which there is none.
+fn book_all<A: Asset>(alloc: Global, asset: &mut A) -> Result<ModelEnd, Fault> {
     let take_seat = part(alloc, 1, &[Act::Read(SEATS), Act::Write(SEATS, 19)]);
     let give_seat_back = part(alloc, 11, &[Act::Write(SEATS, 20)]);
     let take_room = part(alloc, 2, &[Act::Read(ROOMS), Act::Write(ROOMS, 9)]);
     let give_room_back = part(alloc, 12, &[Act::Write(ROOMS, 10)]);
     let take_car = part(alloc, 3, &[Act::Read(CARS), Act::Write(CARS, 4)]);
     let give_car_back = part(alloc, 13, &[]);
-    let pairs = [
+    let trip = [
         (take_seat, give_seat_back),
         (take_room, give_room_back),
         (take_car, give_car_back),
     ];
-    saga(asset, &pairs, 0)
+    book_trip(asset, &trip)
 }
 
 /// Opens a facility in which 20 seats and 10 rooms are free, books a trip, and returns how that ended and what is free then.
 fn trip(alloc: Global) -> Result<(Result<ModelEnd, Fault>, [Option<i64>; 2]), OpenFault> {
     let mut core = opened(alloc, &[(SEATS, 20), (ROOMS, 10)], ROOM)?;
-    let end = book_trip(alloc, &mut core);
+    let end = book_all(alloc, &mut core);
     let free = [core.value(SEATS), core.value(ROOMS)];
     drop(core.into_history());
     Ok((end, free))
