@@ -15,7 +15,7 @@ use Rattle.asset_names.specs.Orderly.{IsOrderly}
 use Rattle.asset_names.proofs.Common.{eqb-flip, option_or_none, both_follow}
 use Rattle.asset_names.proofs.EndLemmas.{commits, aborts}
 use Rattle.asset_names.proofs.LiveLemmas.{live_initiate}
-use Rattle.asset_names.proofs.PermitLemmas.{linked_same, has_among, has_listed}
+use Rattle.asset_names.proofs.PermitLemmas.{linked_same, has_among}
 use Rattle.asset_names.proofs.DependLemmas.{has_append, has_both, dependencies_more}
 use Rattle.asset_deps.specs.Dependencies.{Dependency, arrows_of, class_ways, order_ways, doom_ways, class_in, doomed_in, would_cycle_in, outside_source_in}
 use Rattle.asset_ends.specs.Shows.{depended}

@@ -12,7 +12,7 @@ use Rattle.asset_names.specs.declared.steps.Step.{Step}
 use Rattle.asset_names.specs.declared.steps.Step.TheVariants.{Commit, Abort}
 use Rattle.asset_names.specs.Arrows.{lists, among}
 use Rattle.asset_names.specs.Steps.{Opening, initiated}
-use Rattle.asset_names.specs.Endings.{live, status, same_class, is_live_status}
+use Rattle.asset_names.specs.Endings.{status, same_class, is_live_status}
 use Rattle.asset_names.specs.Answers.{is_completed, class_completed, may_commit}
 use Rattle.asset_names.proofs.Common.{both_follow, eqb-flip}
 use Rattle.asset_names.proofs.EndLemmas.{commits, aborts}

@@ -15,8 +15,6 @@ use Rattle.asset_names.specs.declared.replies.Reply.TheVariants.{Done, Value, Re
 use Rattle.asset_names.specs.declared.replies.Outcome.{Outcome}
 use Rattle.asset_names.specs.declared.replies.Outcome.TheVariants.{Answer, Wait}
 use Rattle.asset_names.specs.Steps.{Opening, takes_effect, applied}
-use Rattle.asset_names.specs.Endings.{status}
-use Rattle.asset_names.specs.Operations.{exists}
 use Rattle.asset_names.specs.Sources.{is_operation}
 use Rattle.asset_names.specs.Answers.{answer, outcome_unless, unrefused, rules_for, first_refusal, unknown, ended, not_running, no_object, is_unknown, has_ended, is_running}
 use Rattle.asset_names.proofs.AppliedLemmas.{applied_with_effect, applied_without_effect}
@@ -25,7 +23,7 @@ use Rattle.asset_locks.specs.Valid.{after_ask}
 use Rattle.asset_trans.specs.TransRows.{status_in}
 use Rattle.asset_ends.specs.Shows.{Shows}
 use Rattle.asset_ends.specs.Shown.{ForShown, ShowsWithIf}
-use Rattle.asset_ends.specs.Standing.{Standing, values_of, is_free_for, step_if, SameView, ShowAlike}
+use Rattle.asset_ends.specs.Standing.{Standing, values_of, is_free_for, step_if, SameView}
 use Rattle.asset_ends.specs.Ready.{value_or_zero, read_outcome, locks_after, locks_waiting}
 use Rattle.asset_ends.specs.Operated.{ShowsOutcome, locks_with, Operated, Lacked}
 use Rattle.asset_ends.proofs.AnswerLemmas.{read_answered}

@@ -1,5 +1,5 @@
 -- Some end, and then others: it is as if all had ended at once. So it does not matter in which order they end.
-use Rattle.std.proofs.Common.{◌≡◌, ℕ, Bool, true, false, cond, not, ◌&&◌, ◌||◌, List, [], ◌∷◌, filter, map, refl, sym, ◌∙◌, ap, subst, None, Some}
+use Rattle.std.proofs.Common.{◌≡◌, ℕ, Bool, true, false, cond, not, ◌&&◌, ◌||◌, List, [], ◌∷◌, filter, refl, sym, ◌∙◌, ap, subst, None, Some}
 use Rattle.std.specs.Prelude.{ℤ, Option, option_map}
 use Rattle.asset_names.specs.declared.statuses.End.{End}
 use Rattle.asset_names.specs.declared.statuses.End.TheVariants as End'

@@ -1,12 +1,12 @@
 -- Who gives permits.
-use Rattle.std.proofs.Common.{◌≡◌, ℕ, Bool, true, false, eqb, List, [], ◌∷◌, Option, Some, None, is_some, sym, ap, ◌∙◌, inl, inr}
+use Rattle.std.proofs.Common.{◌≡◌, ℕ, false, eqb, List, [], ◌∷◌, Option, Some, None, is_some, sym, ap, ◌∙◌, inl, inr}
 use Rattle.std.proofs.lemmas.Bool.{eqb-true, eq-eqb, or_cases, or_left, or_right, true≢false, false_from_ne_true}
 use Rattle.std.specs.List.{list_any}
 use Rattle.slab.specs.Slab.{get}
 use Rattle.asset_names.specs.declared.names.Txn.{Txn}
 use Rattle.asset_names.specs.declared.operations.Op.{Op}
 use Rattle.asset_names.proofs.Common.{both_follow, some_of}
-use Rattle.asset_chains.specs.Chained.{chain_of, home_of, first_of, IsSound}
+use Rattle.asset_chains.specs.Chained.{chain_of, first_of, IsSound}
 use Rattle.asset_chains.proofs.KeyLemmas.{first_listed, first_is_some}
 use Rattle.asset_seats.specs.Seated.{seat}
 use Rattle.asset_permits.specs.Descriptors.{Descriptor, gives, lets, one_covers}
@@ -44,8 +44,8 @@ gives_by_seat p size valid sound giver from sits alone = both_follow _ _
     let home = home_along p found.0 found.1 valid.seated found.2 in
     let here : home.0 ≡ from = alone home.0 (valid.given found.0 home.0 found.1 found.2 home.1 ∙ (λ i. Some (record { 0 = eqb-true found.1.giver giver.0 found.3 i }))) in
     first_is_some (chain_of p.along from) found.0 (sound.listed from found.0 (home.1 ∙ ap Some here))) where
-  one_giver : (a b : ℕ) → named a ≡ named b → a ≡ b
-  one_giver a b e = ap number e
+      one_giver : (a b : ℕ) → named a ≡ named b → a ≡ b
+      one_giver a b e = ap number e
 
 -- who gives nothing lets nobody do anything
 pub gives_nothing : (descriptors : List Descriptor) (giver t x : ℕ) (op : Op) → gives giver descriptors ≡ false → one_covers descriptors giver t x op ≡ false

@@ -1,6 +1,5 @@
-use Rattle.std.proofs.Common.{◌≡◌, ◌+◌, length, [], arith, sym, ◌∙◌, ap}
+use Rattle.std.proofs.Common.{◌∙◌, ap}
 use Rattle.asset_deps.specs.Dependencies.{DepTable}
-use Rattle.asset_ends.specs.Ended.{parts}
 use Rattle.asset_ends.proofs.EndingLemmas.{none_ending, next_ending, next_live, all_ended}
 use Rattle.asset_ends.proofs.ending.end_marked.Goals as goal
 

@@ -1,13 +1,12 @@
-use Rattle.std.proofs.Common.{◌≡◌, ◌∙◌, true, refl, sym, ap, arith}
+use Rattle.std.proofs.Common.{◌∙◌, refl, sym, ap, arith}
 use Rattle.std.proofs.lemmas.Bool.{leb-true, true≢false}
 use Rattle.asset_names.specs.Steps.{applied}
 use Rattle.asset_names.specs.Room.{fits}
 use Rattle.asset_names.specs.Answers.{IsLegal}
-use Rattle.asset_names.specs.declared.replies.Outcome.TheVariants.{Answer, Wait}
 use Rattle.asset_history.specs.Recorded.{answer_to, after, with_entry, has_room, is_ending}
 use Rattle.asset_core.specs.Pending.{pending_after}
 use Rattle.asset_core.specs.Tables.{pending_in}
-use Rattle.asset_ends.specs.Operated.{Operated, ShowsOutcome, locks_with}
+use Rattle.asset_ends.specs.Operated.{ShowsOutcome, locks_with}
 use Rattle.asset_core.proofs.ValidLemmas.{valid_orderly, askers_followed}
 use Rattle.asset_core.proofs.PendingLemmas.{pending_requests, askers_waiting}
 use Rattle.asset_core.proofs.OperateLemmas.{operation_quiet, operation_room}

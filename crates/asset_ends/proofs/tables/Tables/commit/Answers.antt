@@ -1,9 +1,6 @@
-use Rattle.std.proofs.Common.{◌≡◌, ◌∙◌, refl, sym, ap, subst, eqb}
-use Rattle.std.proofs.lemmas.Bool.{eqb-true}
-use Rattle.asset_names.specs.Endings.{is_live_status}
+use Rattle.std.proofs.Common.{◌∙◌, sym, ap}
 use Rattle.asset_names.specs.declared.statuses.End.TheVariants as End'
 use Rattle.asset_names.proofs.Common.{eqb-flip}
-use Rattle.asset_trans.specs.TransRows.{status_in}
 use Rattle.asset_ends.specs.Ended.{parts}
 use Rattle.asset_deps.specs.Dependencies.{class_in}
 use Rattle.asset_ends.proofs.EndingLemmas.{commit_stands, ended_valid, marked_live, one_live, same_valid}

@@ -1,8 +1,6 @@
-use Rattle.std.proofs.Common.{◌≡◌, ℕ, Bool, true, false, not, ◌||◌, refl, sym, ap, ◌∙◌}
-use Rattle.std.specs.List.{list_all}
+use Rattle.std.proofs.Common.{true, false, not, refl, ap, ◌∙◌}
 use Rattle.asset_names.specs.Answers.{is_completed}
-use Rattle.asset_deps.specs.Dependencies.{class_in, outside_source_in}
-use Rattle.asset_trans.specs.TransRows.{names_of, status_in}
+use Rattle.asset_deps.specs.Dependencies.{outside_source_in}
 use Rattle.asset_ends.specs.Standing.{may_commit_in}
 use Rattle.asset_ends.proofs.EndingLemmas.{marked_live, same_valid, may_by_marks, may_alone, may_commit_shown}
 use Rattle.asset_ends.proofs.tables.Tables.may_commit.Goals as goal

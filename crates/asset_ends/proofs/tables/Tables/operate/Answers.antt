@@ -1,7 +1,6 @@
 use Rattle.std.proofs.Common.{◌≡◌, w64, to_z, of_z, arith}
 use Rattle.std.proofs.lemmas.Int.{to_z-of_z}
 use Rattle.asset_names.specs.Steps.{value_asked}
-use Rattle.asset_names.specs.Sources.{is_operation}
 use Rattle.asset_ends.proofs.OperatedLemmas.{no_other}
 use Rattle.asset_ends.proofs.tables.Tables.operate.Goals as goal
 

@@ -1,4 +1,4 @@
-use Rattle.std.proofs.Common.{refl, sym, ◌∙◌}
+use Rattle.std.proofs.Common.{refl}
 use Rattle.asset_ends.specs.Standing.{tried, step_if}
 use Rattle.asset_ends.proofs.tables.Tables.try_commit.Goals as goal
 
