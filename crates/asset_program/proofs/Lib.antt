@@ -1,2 +1,3 @@
 pub mod ProgramLemmas
 pub mod JobsEndLemmas
+pub mod JobsRunLemmas

@@ -2,3 +2,4 @@ pub mod Exit
 pub mod Program
 pub mod Limits
 pub mod JobsEnd
+pub mod JobsRun

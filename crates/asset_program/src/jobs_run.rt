@@ -1,10 +1,18 @@
 //! Runs the jobs of a job script. The caller boxes their bodies.
 
-ghost use Rattle.std.specs.Prelude.{◌≡◌, Some, IfOk};
+ghost use Rattle.std.specs.Prelude.{◌≡◌, ◌<◌, Some, IfErr, IfOk, OnErr, OnOk, map, vec_len, ◌∷◌, List};
 ghost use Rattle.std.specs.Arc.{arc_value};
+ghost use Rattle.std.specs.Io.KnownBytes.{Appends};
 ghost use Rattle.asset_counts.specs.Pass.{IsOf};
+ghost use Rattle.asset_names.specs.Counted.{IsBelow};
 ghost use Rattle.asset_cli.specs.Device.{IsUnused};
+ghost use Rattle.asset_manager.specs.Asker.{Asker};
 ghost use Rattle.asset_bodies.specs.Working.{Working, Worked};
+ghost use Rattle.asset_jobs.specs.Ended.{row_among};
+ghost use Rattle.asset_jobs.specs.Scripts.{named};
+ghost use Rattle.asset_jobs.specs.Texts.{jobs_text};
+ghost use Rattle.asset_program.specs.declared.jobs_end.JobsStop.TheVariants as Stop;
+ghost use Rattle.asset_program.specs.JobsRun.{AddsJob, BeginsJobs, FinishesJobs, IsAudited, RanJobs, StopsAfter, StopsBefore, StopsWriting};
 
 use crate::jobs_end::JobsStop;
 use crate::limits::{JobsRequest, Limits, limits_of};
@@ -43,11 +51,13 @@ pub struct Begun {
     pub limits: Limits,
 }
 
-/// What is known of jobs that were run.
+/// What is known of jobs that were run: how each of them ended, the sessions, and the counts that the manager then
+/// published.
 #[derive(Drop)]
 struct Ran {
     ends: Vec<(Txn, JobEnd)>,
     sessions: Vec<Session>,
+    counts: Counts,
 }
 
 /// A gate that does nothing.
@@ -61,7 +71,9 @@ impl Gate for Open {
 
 /// Opens a manager over objects that are all different. It answers `NoMemory` if memory runs out.
 fn open_manager(alloc: Global, opening: &[(Ob, i64)], capacity: usize) -> Result<Opened, JobsStop>
-    ensures { IfOk result (λ opened. IsOf opened.session.of (arc_value opened.theirs)) }
+    ensures of { IfOk result (λ opened. IsOf opened.session.of (arc_value opened.theirs)) }
+    ensures one { IfOk result (λ opened. arc_value opened.theirs ≡ arc_value opened.manager) }
+    ensures stopped { IfErr result (λ stop. stop ≡ Stop.NoMemory) }
 {
     let Ok((manager, session)) = Manager::open(alloc, opening, capacity) else {
         return Err(JobsStop::NoMemory);
@@ -81,7 +93,10 @@ fn open_manager(alloc: Global, opening: &[(Ob, i64)], capacity: usize) -> Result
 
 /// Opens what a script needs that was read.
 fn open_script(alloc: Global, script: JobScript, limits: Limits) -> Result<Begun, JobsStop>
-    ensures { IfOk result (λ begun. IsOf begun.opened.session.of (arc_value begun.opened.theirs)) }
+    ensures of { IfOk result (λ begun. IsOf begun.opened.session.of (arc_value begun.opened.theirs)) }
+    ensures one { IfOk result (λ begun. arc_value begun.opened.theirs ≡ arc_value begun.opened.manager) }
+    ensures begun { IfOk result (λ begun. (begun.jobs ≡ script.jobs) × (begun.limits ≡ limits) × (begun.names.items ≡ map (λ job. job.0) script.jobs.items)) }
+    ensures stopped { IfErr result (λ stop. stop ≡ Stop.NoMemory) }
 {
     let JobScript { opening, jobs } = script;
     let names = names_of(alloc, &jobs);
@@ -100,13 +115,19 @@ fn open_script(alloc: Global, script: JobScript, limits: Limits) -> Result<Begun
 }
 
 /// Reads the job script that the reader gives, and opens what it needs.
+///
+/// It answers `OutOfRange` if a number that is asked for is out of range, and then reads nothing; otherwise `BadLine` with
+/// the number of the first bad line, `Read` if the reader failed or gave too much, and `NoMemory` if memory runs out.
 pub fn begin_jobs<R: Read>(
     alloc: Global,
     request: JobsRequest,
     input: &mut Device<R>,
 ) -> Result<Begun, JobsStop>
     requires { IsUnused input.old }
-    ensures { IfOk result (λ begun. IsOf begun.opened.session.of (arc_value begun.opened.theirs)) }
+    ensures of { IfOk result (λ begun. IsOf begun.opened.session.of (arc_value begun.opened.theirs)) }
+    ensures one { IfOk result (λ begun. arc_value begun.opened.theirs ≡ arc_value begun.opened.manager) }
+    ensures begun { IfOk result (λ begun. BeginsJobs R.remaining request input.old input.new (map named begun.jobs.items) begun.names.items begun.limits) }
+    ensures stopped { IfErr result (StopsBefore R.remaining request input.old input.new) }
 {
     let Some(limits) = limits_of(request) else {
         return Err(JobsStop::OutOfRange);
@@ -117,45 +138,79 @@ pub fn begin_jobs<R: Read>(
     }
 }
 
-/// Puts a job into the plan, unless the history has no room for it. It answers `NoMemory` if memory runs out.
+/// Puts a job into the plan, unless it is refused or the history has no room for it. It answers `NoMemory` if memory runs
+/// out.
 pub fn add_job<R: Wait>(rt: &R, plan: &mut Plan, t: Txn, body: Body) -> Result<(), JobsStop>
     requires ready { (tx : Working) → pre body tx }
     requires same { (tx : Working) (f : Worked) → post body tx f → f.of ≡ Some tx.manager }
+    ensures manager { arc_value plan.new.manager ≡ arc_value plan.old.manager }
+    ensures added { OnOk result (AddsJob plan.old.names.items plan.old.session.list.calls t plan.new.names.items plan.new.session.list.calls) }
+    ensures unchanged { OnErr result ((plan.new.names.items ≡ plan.old.names.items) × (plan.new.session.list.calls ≡ plan.old.session.list.calls)) }
+    ensures stopped { IfErr result (λ stop. stop ≡ Stop.NoMemory) }
 {
     match plan.initiate(rt, t, None, body) {
         Ok(()) => Ok(()),
         Err(InitFault { body: _, cause }) => match cause {
             Cause::NoMemory => Err(JobsStop::NoMemory),
-            _ => Ok(()),
+            Cause::Full => Ok(()),
+            Cause::Refused(_) => Ok(()),
         },
     }
 }
 
-/// Runs the plan. It answers `NoMemory` if memory runs out.
-fn run_plan<R: Threads + Wait + Sync>(rt: &R, plan: Plan, workers: usize) -> Result<Ran, JobsStop> {
+/// Returns the counts that the manager publishes, none below those that the first of the sessions saw.
+fn counts_of(manager: &Manager, sessions: &mut Vec<Session>) -> Counts
+    requires { (first : Asker) (rest : List Asker) → sessions.old.items ≡ first ∷ rest → IsOf first.of manager.now }
+    ensures same { sessions.new.items ≡ sessions.old.items }
+    ensures later { (first : Asker) (rest : List Asker) → sessions.old.items ≡ first ∷ rest → IsBelow first.seen result }
+{
+    let mut pass = if sessions.len() > 0 {
+        sessions[0].watch_pass()
+    } else {
+        WatchPass::none()
+    };
+    manager.watch().read(&mut pass)
+}
+
+/// Runs the plan, and looks at the counts by its session. It answers `NoMemory` if memory runs out.
+fn run_plan<R: Threads + Wait + Sync>(
+    rt: &R,
+    manager: &Manager,
+    plan: Plan,
+    workers: usize,
+) -> Result<Ran, JobsStop>
+    requires { arc_value plan.manager ≡ manager.now }
+    ensures ran { IfOk result (λ ran. RanJobs plan.names.items plan.session.list.calls ran.ends.items (map (λ (s : Asker). s.list.calls) ran.sessions.items)) }
+    ensures later { IfOk result (λ ran. IsBelow plan.session.seen ran.counts) }
+    ensures stopped { IfErr result (λ stop. stop ≡ Stop.NoMemory) }
+{
     match plan.run(rt, workers, &Open) {
         Ok(
             Report {
                 ends,
                 left: _,
-                sessions,
+                mut sessions,
             },
-        ) => Ok(Ran { ends, sessions }),
+        ) => {
+            let counts = counts_of(manager, &mut sessions);
+            Ok(Ran {
+                ends,
+                sessions,
+                counts,
+            })
+        }
         Err(_) => Err(JobsStop::NoMemory),
     }
-}
-
-/// Returns the counts that the manager publishes.
-fn counts_of(manager: &Manager) -> Counts {
-    let mut pass = WatchPass::none();
-    manager.watch().read(&mut pass)
 }
 
 /// Closes the manager, and returns its audit. It answers `InUse` if somebody else has the manager.
 fn close(
     manager: Arc<Manager, Global>,
     sessions: Vec<Session>,
-) -> Result<Result<(), AuditFault>, JobsStop> {
+) -> Result<Result<(), AuditFault>, JobsStop>
+    ensures audited { IfOk result (IsAudited (map (λ (s : Asker). s.list.calls) sessions.items)) }
+    ensures stopped { IfErr result (λ stop. stop ≡ Stop.InUse) }
+{
     match Arc::try_unwrap(manager) {
         Ok(manager) => Ok(manager.close(sessions).audit),
         Err(_) => Err(JobsStop::InUse),
@@ -170,7 +225,10 @@ fn write_ends<W: Write>(
     ends: &[(Txn, JobEnd)],
     audit: &Result<(), AuditFault>,
     counts: Counts,
-) -> Result<(), JobsStop> {
+) -> Result<(), JobsStop>
+    ensures wrote { OnOk result (Appends (W.contents output.old.inner) (W.contents output.new.inner) (jobs_text (map (row_among ends.now) names.now) audit.now counts)) }
+    ensures stopped { IfErr result (StopsWriting W.contents output.old output.new (jobs_text (map (row_among ends.now) names.now) audit.now counts)) }
+{
     match rows_of(alloc, names, ends) {
         Ok(rows) => match write_jobs(alloc, output, &rows, audit, counts) {
             Ok(()) => Ok(()),
@@ -181,7 +239,9 @@ fn write_ends<W: Write>(
 }
 
 /// Runs the jobs by so many threads, closes the manager, and writes how the jobs of these names ended, in order, and then the
-/// audit, which it returns.
+/// audit, which it returns. The manager is the one of the plan.
+///
+/// It answers `InUse` if somebody else has the manager, `NoMemory` if memory runs out, and `Write` if the writer failed.
 pub fn finish_jobs<R: Threads + Wait + Sync, W: Write>(
     rt: &R,
     alloc: Global,
@@ -190,10 +250,25 @@ pub fn finish_jobs<R: Threads + Wait + Sync, W: Write>(
     names: &[Txn],
     workers: usize,
     output: &mut Device<W>,
-) -> Result<Result<(), AuditFault>, JobsStop> {
-    let Ran { ends, sessions } = run_plan(rt, plan, workers)?;
-    let counts = counts_of(&manager);
-    let audit = close(manager, sessions)?;
-    write_ends(alloc, output, names, &ends, &audit, counts)?;
-    Ok(audit)
+) -> Result<Result<(), AuditFault>, JobsStop>
+    requires { arc_value plan.manager ≡ arc_value manager }
+    ensures finished { IfOk result (λ audit. FinishesJobs W.contents plan.names.items plan.session.list.calls names.now audit output.old output.new) }
+    ensures stopped { IfErr result (StopsAfter W.contents output.old output.new) }
+{
+    match run_plan(rt, &manager, plan, workers) {
+        Ok(
+            Ran {
+                ends,
+                sessions,
+                counts,
+            },
+        ) => match close(manager, sessions) {
+            Ok(audit) => match write_ends(alloc, output, names, &ends, &audit, counts) {
+                Ok(()) => Ok(audit),
+                Err(stop) => Err(stop),
+            },
+            Err(stop) => Err(stop),
+        },
+        Err(stop) => Err(stop),
+    }
 }

@@ -1,0 +1,84 @@
+-- What reading, adding and running the jobs of a script comes to.
+use Rattle.std.specs.Prelude.{◌≡◌, ◌⊎◌, ◌++◌, ◌∷◌, [], ℕ, true, List, map, reverse, Option, None, Some, Result, Ok, Err}
+use Rattle.std.specs.Io.KnownBytes.{Appends}
+use Rattle.asset_names.specs.declared.names.Txn.{Txn}
+use Rattle.asset_names.specs.declared.counts.Counts.{Counts}
+use Rattle.asset_names.specs.declared.steps.Step.TheVariants.{Initiate}
+use Rattle.asset_names.specs.declared.replies.Reply.TheVariants.{Refused}
+use Rattle.asset_names.specs.declared.replies.Refusal.{Refusal}
+use Rattle.asset_names.specs.Steps.{Opening, Entry}
+use Rattle.asset_audit.specs.Audited.{Call, IsAudit}
+use Rattle.asset_audit.specs.declared.auditing.AuditFault.{AuditFault}
+use Rattle.asset_bodies.specs.declared.ends.JobEnd.{JobEnd}
+use Rattle.asset_cli.specs.Device.{DeviceState}
+use Rattle.asset_cli.specs.Transfers.{IsReadFault, TookPrefix}
+use Rattle.asset_jobs.specs.Ended.{row_among}
+use Rattle.asset_jobs.specs.Jobs.{Named}
+use Rattle.asset_jobs.specs.Reads.{GaveScript}
+use Rattle.asset_jobs.specs.Texts.{jobs_text}
+use Rattle.asset_runner.specs.Comes.{Comes}
+use Rattle.asset_runner.specs.Initiated.{IsInitiated}
+use Rattle.asset_runner.specs.Runs.{JobRun}
+use Rattle.asset_program.specs.declared.jobs_end.JobsStop.{JobsStop}
+use Rattle.asset_program.specs.declared.jobs_end.JobsStop.TheVariants.{BadLine, Read, Write, NoMemory, OutOfRange, InUse}
+use Rattle.asset_program.specs.declared.limits.JobsRequest.{JobsRequest}
+use Rattle.asset_program.specs.declared.limits.Limits.{Limits}
+use Rattle.asset_program.specs.Limits.{limits_by}
+
+-- all bytes of the reader say these jobs, which have these names, and these limits were asked for
+pub record BeginsJobs {R : Type 0} (remaining : R → Option (List ℕ)) (request : JobsRequest) (old new : DeviceState R) (jobs : List Named) (names : List Txn) (limits : Limits) : Type 0 where
+  pub opening : Opening
+  pub script : GaveScript remaining old new (Ok (record { opening = opening; jobs = jobs }))
+  pub named : names ≡ map (λ (job : Named). job.0) jobs
+  pub within : limits_by request ≡ Some limits
+
+-- why jobs were not begun: a number is out of range, and nothing was read; a bad line; a fault of the reader; or no memory
+unfoldable pub StopsBefore : {R : Type 0} → (R → Option (List ℕ)) → JobsRequest → DeviceState R → DeviceState R → JobsStop → Type 0
+StopsBefore remaining request old new OutOfRange = (limits_by request ≡ None) × (new ≡ old)
+StopsBefore remaining request old new (BadLine n) = GaveScript remaining old new (Err n)
+StopsBefore remaining request old new Read = IsReadFault remaining old new
+StopsBefore remaining request old new NoMemory = Unit {0}
+StopsBefore remaining request old new stop = ⊥
+
+-- the initiation was refused, which is one call more, or there was no room for it, which is none
+unfoldable pub IsKeptOut : List Call → Txn → List Call → Type 0
+IsKeptOut calls t calls' = (calls' ≡ calls) ⊎ ((n : ℕ) × (refusal : Refusal) × (calls' ≡ calls ++ (n, Initiate t None, Refused refusal) ∷ []))
+
+-- the job is one more of the plan after an initiation that is answered `Done`; or it is kept out
+unfoldable pub AddsJob : List Txn → List Call → Txn → List Txn → List Call → Type 0
+AddsJob names calls t names' calls' =
+    ((names' ≡ names ++ t ∷ []) × IsInitiated calls (Initiate t None) calls') ⊎ ((names' ≡ names) × IsKeptOut calls t calls')
+
+-- the jobs of a plan were run, and ended so; the plan's session and then theirs have these calls
+pub record RanJobs (planned : List Txn) (plan : List Call) (ends : List (Txn × JobEnd)) (sessions : List (List Call)) : Type 0 where
+  pub runs : List JobRun
+  pub left : List Txn
+  pub came : Comes planned plan runs ends left sessions
+
+-- this is the audit of the sessions against some history
+pub record IsAudited (sessions : List (List Call)) (audit : Result Unit AuditFault) : Type 0 where
+  pub entries : List Entry
+  pub audited : IsAudit (reverse entries) sessions audit
+
+-- the jobs of a plan were run, their sessions audited, and how those of the script ended was written
+pub record FinishesJobs {W : Type 0} (contents : W → Option (List ℕ)) (planned : List Txn) (plan : List Call) (names : List Txn) (audit : Result Unit AuditFault) (old new : DeviceState W) : Type 0 where
+  pub ends : List (Txn × JobEnd)
+  pub sessions : List (List Call)
+  pub counts : Counts
+  pub ran : RanJobs planned plan ends sessions
+  pub audited : IsAudited sessions audit
+  pub wrote : Appends (contents old.inner) (contents new.inner) (jobs_text (map (row_among ends) names) audit counts)
+
+-- why the text of jobs was not written: the writer failed after a prefix of it, or there was no memory
+unfoldable pub StopsWriting : {W : Type 0} → (W → Option (List ℕ)) → DeviceState W → DeviceState W → List ℕ → JobsStop → Type 0
+StopsWriting contents old new text Write = TookPrefix contents old new text × (new.failed ≡ true)
+StopsWriting contents old new text NoMemory = new ≡ old
+StopsWriting contents old new text stop = ⊥
+
+-- why jobs were not finished: the writer failed after a prefix of some text; or nothing was written, because there was no
+-- memory, or somebody else had the manager
+unfoldable pub StopsAfter : {W : Type 0} → (W → Option (List ℕ)) → DeviceState W → DeviceState W → JobsStop → Type 0
+StopsAfter contents old new Write = (text : List ℕ) × TookPrefix contents old new text × (new.failed ≡ true)
+StopsAfter contents old new NoMemory = new ≡ old
+StopsAfter contents old new InUse = new ≡ old
+StopsAfter contents old new stop = ⊥
