@@ -17,4 +17,6 @@ mod drawn;
 #[cfg(test)]
 mod examples;
 #[cfg(test)]
+mod faults;
+#[cfg(test)]
 mod rows;

@@ -14,6 +14,14 @@ use asset_test_tools::{initiate, listed, write};
 use std::alloc::Global;
 use std::test::Fail;
 
+/// The row of a parent and its child.
+pub(crate) const NESTED: &str =
+    "initiate 7: ok\nbegin 7: ok\nwrite 7 1 50: ok\ninitiate 8 7: ok\npermit 7 8 rw all: ok\nbegin 8: ok\nread 8 1: 50\nwrite 8 2 80: ok\ncomplete 8: ok\ndelegate 8 7 all: ok\ncommit 8: committed\ncomplete 7: ok\ncommit 7: committed\n";
+
+/// The row of a saga of two pairs, whose second transaction gives up.
+pub(crate) const SAGA: &str =
+    "initiate 7: ok\nbegin 7: ok\nwrite 7 1 50: ok\ncomplete 7: ok\ncommit 7: committed\ninitiate 8: ok\nbegin 8: ok\nabort 8: aborted\ninitiate 17: ok\nbegin 17: ok\nwrite 17 1 100: ok\ncomplete 17: ok\ncommit 17: committed\n";
+
 /// Returns whether memory ran out in a row, whose history then has the first of the lines.
 fn ran_out(row: &Row) -> bool {
     row.end == Err(Fault::NoMemory) && row.missing.is_some()
@@ -25,9 +33,7 @@ fn nested_row(alloc: Global) -> Result<Row, OpenFault> {
     let parent = part(alloc, 7, &[Act::Write(Ob(1), 50)]);
     let child = part(alloc, 8, &[Act::Read(Ob(1)), Act::Write(Ob(2), 80)]);
     let end = nested(&mut core, &parent, &[child], 2);
-    let lines =
-        "initiate 7: ok\nbegin 7: ok\nwrite 7 1 50: ok\ninitiate 8 7: ok\npermit 7 8 rw all: ok\nbegin 8: ok\nread 8 1: 50\nwrite 8 2 80: ok\ncomplete 8: ok\ndelegate 8 7 all: ok\ncommit 8: committed\ncomplete 7: ok\ncommit 7: committed\n";
-    Ok(row_of(alloc, core, end, lines, [7, 8, 9]))
+    Ok(row_of(alloc, core, end, NESTED, [7, 8, 9]))
 }
 
 #[test]
@@ -106,9 +112,7 @@ fn saga_row(alloc: Global) -> Result<Row, OpenFault> {
     let undo_second = part(alloc, 18, &[]);
     let pairs = [(first, undo_first), (second, undo_second)];
     let end = saga(&mut core, &pairs, 2);
-    let lines =
-        "initiate 7: ok\nbegin 7: ok\nwrite 7 1 50: ok\ncomplete 7: ok\ncommit 7: committed\ninitiate 8: ok\nbegin 8: ok\nabort 8: aborted\ninitiate 17: ok\nbegin 17: ok\nwrite 17 1 100: ok\ncomplete 17: ok\ncommit 17: committed\n";
-    Ok(row_of(alloc, core, end, lines, [8, 17, 18]))
+    Ok(row_of(alloc, core, end, SAGA, [8, 17, 18]))
 }
 
 #[test]
@@ -208,9 +212,14 @@ fn waiting_row(alloc: Global) -> Result<(Row, u32), OpenFault> {
     let before = "initiate 6: ok\nbegin 6: ok\nwrite 6 1 5: ok\n";
     let _played = first_wrong_line(alloc, &mut core, before);
     let waits = part(alloc, 7, &[Act::Write(Ob(1), 9)]);
-    let mut counting = Counting { core, asks: 0 };
+    let mut counting = Counting::new(core);
     let end = atomic(&mut counting, &waits, 2);
-    let Counting { core, asks } = counting;
+    let Counting {
+        core,
+        asks,
+        answers: _,
+        last: _,
+    } = counting;
     let lines = "initiate 6: ok\nbegin 6: ok\nwrite 6 1 5: ok\ninitiate 7: ok\nbegin 7: ok\n";
     Ok((row_of(alloc, core, end, lines, [6, 7, 8]), asks))
 }
