@@ -29,18 +29,18 @@ fn drawn_act(number: u64) -> Act {
 }
 
 /// Returns a part with two acts that a number stands for.
-fn drawn_part(alloc: Global, t: u64, number: u64) -> Part {
+pub(crate) fn drawn_part(alloc: Global, t: u64, number: u64) -> Part {
     let second = next(number);
     part(alloc, t, &[drawn_act(number), drawn_act(second)])
 }
 
 /// Returns the values of the three objects.
-fn values(core: &Core) -> [Option<i64>; 3] {
+pub(crate) fn values(core: &Core) -> [Option<i64>; 3] {
     [core.value(Ob(1)), core.value(Ob(2)), core.value(Ob(3))]
 }
 
 /// Lets another client's transaction read or write an object, and commit or go on.
-fn other_acts(core: &mut Core, t: u64, number: u64) {
+pub(crate) fn other_acts(core: &mut Core, t: u64, number: u64) {
     let x = 1 + (number >> 24) % 3;
     let _initiated = core.step(initiate(t));
     let _begun = core.step(begin(t));

@@ -5,11 +5,15 @@
 mod counting;
 mod parts;
 mod rows_of;
+mod shared;
 
 pub use counting::Counting;
 pub use parts::part;
 pub use rows_of::{Row, missing_lines, row_of};
+pub use shared::Shared;
 
+#[cfg(test)]
+mod between;
 #[cfg(test)]
 mod clients;
 #[cfg(test)]
