@@ -14,6 +14,8 @@ pub use running::{
 #[cfg(test)]
 mod children;
 #[cfg(test)]
+mod failing;
+#[cfg(test)]
 mod hostile;
 #[cfg(test)]
 mod many;

@@ -29,12 +29,14 @@ pub struct Setting {
     pub other: Session,
 }
 
-/// Opens a manager over three objects.
-pub fn open_manager(alloc: Global) -> Result<Setting, Fail>
+/// Opens a manager over three objects, unless memory runs out.
+fn open_once(alloc: Global) -> Result<Setting, AllocError>
     ensures session { IfOk result (λ setting. IsOf setting.session.of (arc_value setting.shared)) }
     ensures other { IfOk result (λ setting. IsOf setting.other.of (arc_value setting.manager)) }
 {
-    let (manager, mut session) = Manager::open(alloc, &THREE, MUCH_ROOM)?;
+    let Ok((manager, mut session)) = Manager::open(alloc, &THREE, MUCH_ROOM) else {
+        return Err(AllocError);
+    };
     let other = session.split();
     let manager = Arc::new(alloc, manager)?;
     let shared = Arc::try_clone(&manager)?;
@@ -44,6 +46,17 @@ pub fn open_manager(alloc: Global) -> Result<Setting, Fail>
         session,
         other,
     })
+}
+
+/// Opens a manager over three objects. If memory runs out once, it is opened again.
+pub fn open_manager(alloc: Global) -> Result<Setting, AllocError>
+    ensures session { IfOk result (λ setting. IsOf setting.session.of (arc_value setting.shared)) }
+    ensures other { IfOk result (λ setting. IsOf setting.other.of (arc_value setting.manager)) }
+{
+    match open_once(alloc) {
+        Ok(setting) => Ok(setting),
+        Err(AllocError) => open_once(alloc),
+    }
 }
 
 /// Initiates a job, and returns why it was not. If memory runs out once, its body comes back, and it is initiated again.
