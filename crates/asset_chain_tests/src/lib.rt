@@ -7,6 +7,8 @@ mod buckets;
 #[cfg(test)]
 mod chains;
 #[cfg(test)]
+mod crossed;
+#[cfg(test)]
 mod handing_writes;
 #[cfg(test)]
 mod labels;

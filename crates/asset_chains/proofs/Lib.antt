@@ -1,6 +1,9 @@
+pub mod ClearLemmas
+pub mod CrossedLemmas
 pub mod KeyLemmas
 pub mod Laws
 pub mod RowLemmas
+pub mod SlotLemmas
 pub mod SoundLemmas
 pub mod StoreLemmas
 pub mod Walks

@@ -1,2 +1,4 @@
 pub mod Chained
+pub mod Crossed
 pub mod Linked
+pub mod Slots

@@ -16,3 +16,16 @@ impl Head {
         count: 0,
     };
 }
+
+ghost use Rattle.std.specs.Prelude.{◌≡◌};
+ghost use Rattle.asset_chains.specs.Linked.{head_at};
+
+/// Returns the head of the chain: one without keys, past the last.
+pub(crate) fn head_in(heads: &[Head], chain: usize) -> Head
+    ensures { result ≡ head_at heads.now chain }
+{
+    match heads.get(chain) {
+        Some(head) => *head,
+        None => Head::NONE,
+    }
+}

@@ -2,9 +2,16 @@
 //! constant time. Only `add_key` and `add_chain` can run out of memory.
 #![tactic(auto)]
 
+mod changing;
+mod crossed;
 mod heads;
+mod lines;
 mod links;
+mod side;
+mod slots;
 mod table;
 mod writes;
 
+pub use crossed::Crossed;
+pub use side::Side;
 pub use table::Chains;

@@ -6,5 +6,5 @@ mod buckets;
 mod room;
 mod seats;
 
-pub use room::{add_chains, add_keys};
+pub use room::{add_chains, add_keys, add_lines, reserve_item};
 pub use seats::Seats;

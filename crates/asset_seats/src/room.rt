@@ -1,9 +1,10 @@
 //! Room for one more key or chain.
 
-ghost use Rattle.std.specs.Prelude.{◌≡◌, ℕ, ◌<◌, ◌≤◌, length, IsOk, OnOk};
+ghost use Rattle.std.specs.Prelude.{◌≡◌, ℕ, ◌<◌, ◌≤◌, length, true, IsOk, OnOk};
 ghost use Rattle.asset_chains.specs.Chained.{chain_of, home_of};
+ghost use Rattle.asset_chains.specs.Crossed.{lines, has_room, IsGrown};
 
-use asset_chains::Chains;
+use asset_chains::{Chains, Crossed, Side};
 use asset_names::NoMemory;
 
 /// Adds keys, in no chain, until the key is there. If memory runs out, some may have been added.
@@ -33,6 +34,35 @@ pub fn add_chains(chains: &mut Chains, chain: usize) -> Result<(), NoMemory>
 {
     'chains: while chains.chains() <= chain {
         match chains.add_chain() {
+            Ok(()) => {}
+            Err(_) => return Err(NoMemory),
+        }
+    }
+    Ok(())
+}
+
+/// Reserves the memory for one more item. If memory runs out, no item changes.
+pub fn reserve_item<T>(items: &mut Crossed<T>) -> Result<(), NoMemory>
+    ensures room { OnOk result (has_room items.new ≡ true) }
+    ensures standing { has_room items.old ≡ true → IsOk result }
+    ensures grown { IsGrown items.old items.new }
+{
+    match items.reserve() {
+        Ok(()) => Ok(()),
+        Err(_) => Err(NoMemory),
+    }
+}
+
+/// Adds rows or columns, without items, until the one of this number is there. If memory runs out, some may have been
+/// added.
+pub fn add_lines<T>(items: &mut Crossed<T>, side: Side, line: usize) -> Result<(), NoMemory>
+    ensures there { OnOk result (line < length (lines side items.new).chains) }
+    ensures standing { line < length (lines side items.old).chains → IsOk result }
+    ensures items { items.new.items ≡ items.old.items }
+    ensures grown { IsGrown items.old items.new }
+{
+    'lines: while items.count(side) <= line {
+        match items.add(side) {
             Ok(()) => {}
             Err(_) => return Err(NoMemory),
         }

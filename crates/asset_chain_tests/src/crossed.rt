@@ -1,0 +1,177 @@
+//! Items in rows and columns beside plain lists of the keys that joined them, and what is left if memory runs out.
+
+use asset_chains::{Crossed, Side};
+use asset_test_tools::next;
+use std::alloc::{AllocError, Global};
+use std::test::Fail;
+
+/// How many rows and columns there are, how many items at most, and how many calls are drawn.
+const LINES: usize = 5;
+
+const ITEMS: usize = 300;
+
+const CALLS: usize = 4_000;
+
+/// What joined a row or a column: which one, the key, and the item.
+type Joined = (usize, usize, u64);
+
+/// Returns whether the row or column has the keys and items of its list, in both directions.
+fn has_line(table: &Crossed<u64>, side: Side, line: usize, joined: &[Joined]) -> bool {
+    let mut count = 0;
+    let mut at = table.first(side, line);
+    for (_, key, item) in joined.iter().filter(|one| one.0 == line) {
+        if at != Some(*key)
+            || table.home(side, *key) != Some(line)
+            || table.get(*key) != Some(item)
+        {
+            return false;
+        }
+        at = table.next(side, *key);
+        count += 1;
+    }
+    let mut back = table.last(side, line);
+    for (_, key, _) in joined.iter().rev().filter(|one| one.0 == line) {
+        if back != Some(*key) {
+            return false;
+        }
+        back = table.previous(side, *key);
+    }
+    at == None && back == None && table.len(side, line) == count
+}
+
+/// Returns whether the rows and columns have the items of their lists.
+fn agrees(table: &Crossed<u64>, rows: &[Joined], columns: &[Joined]) -> bool {
+    for line in 0..=LINES {
+        if !(has_line(table, Side::Row, line, rows)
+            && has_line(table, Side::Column, line, columns))
+        {
+            return false;
+        }
+    }
+    (table.count(Side::Row), table.count(Side::Column)) == (LINES, LINES)
+}
+
+/// Adds the rows and the columns. If memory runs out, the same call is made again, as often as it takes.
+fn lined(alloc: Global) -> Result<Crossed<u64>, AllocError> {
+    let mut table = Crossed::new(alloc);
+    for _ in 0..LINES {
+        for side in [Side::Row, Side::Column] {
+            match table.add(side) {
+                Ok(()) => {}
+                Err(AllocError) => table.add(side)?,
+            }
+        }
+    }
+    Ok(table)
+}
+
+/// Adds an item, and notes it. Returns whether it was added.
+fn insert(
+    table: &mut Crossed<u64>,
+    rows: &mut Vec<Joined>,
+    columns: &mut Vec<Joined>,
+    (row, column, item): Joined,
+) -> Result<bool, Fail> {
+    match table.reserve() {
+        Ok(()) => {}
+        Err(AllocError) => table.reserve()?,
+    }
+    if row >= table.count(Side::Row) || column >= table.count(Side::Column) {
+        return Ok(false);
+    }
+    let key = table.insert(row, column, item);
+    rows.push((row, key, item))?;
+    columns.push((column, key, item))?;
+    Ok(true)
+}
+
+/// Takes the item at the key out, if there is one.
+fn remove(table: &mut Crossed<u64>, rows: &mut Vec<Joined>, columns: &mut Vec<Joined>, key: usize) {
+    if table.get(key).is_some() {
+        let gone = table.remove(key);
+        rows.retain(|one| (one.1, one.2) != (key, gone));
+        columns.retain(|one| (one.1, one.2) != (key, gone));
+    }
+}
+
+/// Moves the item at the key to another row, if both are there.
+fn shift(
+    table: &mut Crossed<u64>,
+    rows: &mut Vec<Joined>,
+    key: usize,
+    row: usize,
+) -> Result<(), Fail> {
+    if let Some(item) = table.get(key)
+        && row < table.count(Side::Row)
+    {
+        let item = *item;
+        table.move_to(Side::Row, key, row);
+        rows.retain(|one| one.1 != key);
+        rows.push((row, key, item))?;
+    }
+    Ok(())
+}
+
+/// Puts another item in the place of the one at the key, if there is one.
+fn replace(table: &mut Crossed<u64>, lists: [&mut Vec<Joined>; 2], key: usize, item: u64) {
+    if table.get(key).is_some() {
+        table.replace(key, item);
+        for list in lists {
+            for one in list.iter_mut() {
+                if one.1 == key {
+                    one.2 = item;
+                }
+            }
+        }
+    }
+}
+
+/// Makes the call that a number stands for, on the items and the lists.
+fn call(
+    table: &mut Crossed<u64>,
+    rows: &mut Vec<Joined>,
+    columns: &mut Vec<Joined>,
+    number: u64,
+) -> Result<(), Fail> {
+    let line = (number >> 40) as usize % LINES;
+    let key = (number >> 30) as usize % ITEMS;
+    match (number >> 50) % 64 {
+        0..=30 if rows.len() < ITEMS => {
+            let column = (number >> 20) as usize % LINES;
+            insert(table, rows, columns, (line, column, number))?;
+        }
+        31..=40 => shift(table, rows, key, line)?,
+        41..=46 => replace(table, [rows, columns], key, number),
+        47 => {
+            table.clear(Side::Column, line);
+            rows.retain(|one| !columns.iter().any(|gone| gone.0 == line && gone.1 == one.1));
+            columns.retain(|one| one.0 != line);
+        }
+        _ => remove(table, rows, columns, key),
+    }
+    Ok(())
+}
+
+/// Draws calls, and returns the first after which the items are not those of the lists.
+fn first_difference(table: &mut Crossed<u64>, alloc: Global) -> Result<Option<usize>, Fail> {
+    let mut rows = Vec::new(alloc);
+    let mut columns = Vec::new(alloc);
+    let mut number = 1;
+    for i in 0..CALLS {
+        number = next(number);
+        call(table, &mut rows, &mut columns, number)?;
+        if !agrees(table, &rows, &columns) {
+            return Ok(Some(i));
+        }
+    }
+    Ok(None)
+}
+
+#[test]
+fn items_are_in_their_rows_and_columns(rt: HostRuntime) -> Result<(), Fail> {
+    let mut table = lined(rt.alloc())?;
+    let difference = first_difference(&mut table, rt.alloc());
+    drop(table);
+    assert_eq!(rt; difference?, None);
+    Ok(())
+}
