@@ -1,8 +1,6 @@
 pub mod KindLemmas
 pub mod SeatLemmas
 pub mod NamedLemmas
-pub mod DropLemmas
-pub mod GrownLemmas
 pub mod LinkLemmas
 pub mod OutsideLemmas
 pub mod TableLemmas

@@ -1,7 +1,6 @@
 -- What a call makes of the table of dependencies.
 use Rattle.std.proofs.Common.{◌≡◌, ℕ, ◌<◌, ◌≤◌, Bool, true, false, cond, eqb, not, ◌&&◌, ◌||◌, List, [], length, filter_map, Option, Some, None, is_some, refl, sym, ap, ◌∙◌, arith, inl, inr}
 use Rattle.std.specs.Prelude.{slice_index_or, option_map}
-use Rattle.std.specs.List.{list_any}
 use Rattle.std.proofs.lemmas.Bool.{or_left, and_from, and_parts, eqb-true, eqb-false, eq-eqb, ne_eqb, true≢false, false≢true, cases_eq}
 use Rattle.slab.specs.Slab.{Slab, get, values, Updates}
 use Rattle.asset_names.specs.declared.names.Txn.{Txn}
@@ -9,19 +8,27 @@ use Rattle.asset_names.specs.declared.steps.Kind.{Kind}
 use Rattle.asset_names.specs.Arrows.{lists, has_arrow}
 use Rattle.asset_names.specs.Paths.{same_kind}
 use Rattle.asset_names.proofs.Common.{eqb-flip, some_of, both_follow}
-use Rattle.asset_chains.specs.Chained.{Chained, home_of}
-use Rattle.asset_chains.proofs.Laws.{IsPushed}
-use Rattle.asset_chains.proofs.SoundLemmas.{no_home_of}
+use Rattle.asset_chains.specs.Chained.{home_of}
+use Rattle.asset_chains.specs.declared.side.Side.TheVariants.{Row, Column}
+use Rattle.asset_chains.specs.Crossed.{Crossed, IsGrown, Joins, IsCrossed}
+use Rattle.asset_chains.proofs.ClearLemmas.{IsCleared}
 use Rattle.asset_seats.specs.Seated.{Seated, seat}
 use Rattle.asset_marks.specs.Marked.{Met}
 use Rattle.asset_marks.proofs.SlotLemmas.{any_has, key_of_any, any_added, any_dropped, IsRid}
 use Rattle.asset_deps.specs.Dependencies.{Dependency, DepTable, arrows_of}
 use Rattle.asset_deps.specs.Valid.{Parts, parts, dependencies_of, names_of, marked_of, IsPlaced, IsNamed, IsWithin, IsValid}
-use Rattle.asset_deps.specs.Changes.{IsGrown, Shrinks}
 use Rattle.asset_deps.proofs.KindLemmas.{joins, arrow_of}
 use Rattle.asset_deps.proofs.LinkLemmas.{kind_is, kind_self}
 use Rattle.asset_deps.proofs.NamedLemmas.{has_across, joins_parts, joins_from, joins_source, joins_dependent}
 use Rattle.asset_deps.proofs.SeatLemmas.{named_seat, marked_seat, seat_marked, marked_same, nobody_marked, nothing_marked, names_same}
+
+-- the parts of a table
+abbrev pub parts_of : Crossed Dependency → Seated → Parts
+parts_of links seats = parts links.items links.rows links.columns seats
+
+-- exactly the dependencies have homes
+placed_by : (links : Crossed Dependency) → IsCrossed links → IsPlaced links.items links.rows links.columns
+placed_by links crossed = record { along = λ k. sym (crossed.placed Row k); across = λ k. sym (crossed.placed Column k) }
 
 -- the dependencies of a kind
 abbrev pub of_kind : Kind → Dependency → Bool
@@ -83,21 +90,20 @@ module _ (p : Parts) (size : ℕ) (marked : Met) (valid : IsValid p size marked)
       absent refl k (across.end ∙ ap Some (alone across.to across.dependent)) (there ∙ ap Some (sym is))))
 
 -- ---- a new table
-pub valid_nothing : (links : Slab Dependency) (along across : Chained) (seats : Seated) (size : ℕ) (marked : Met) → links.slots ≡ [] → along.homes ≡ [] → across.homes ≡ [] → ((c : ℕ) → seat seats c ≡ None) → marked.nodes ≡ []
-    → IsValid (parts links along across seats) size marked
+pub valid_nothing : (links : Crossed Dependency) (seats : Seated) (size : ℕ) (marked : Met) → links.items.slots ≡ [] → IsCrossed links → ((c : ℕ) → seat seats c ≡ None) → marked.nodes ≡ [] → IsValid (parts_of links seats) size marked
 unfolding lists
-valid_nothing links along across seats size marked none homes homes_across nobody unmarked = record {
-  placed = record {
-    along = λ k. ap is_some (nothing k) ∙ sym (ap is_some (no_home_of along homes k));
-    across = λ k. ap is_some (nothing k) ∙ sym (ap is_some (no_home_of across homes_across k));
-  };
+valid_nothing links seats size marked none crossed nobody unmarked = record {
+  placed = placed_by links crossed;
   sources = λ k c d there home. cc (sym there ∙ nothing k);
   dependents = λ k c d there home. cc (sym there ∙ nothing k);
   within = λ c sat. absurd (true≢false (sym sat ∙ ap is_some (nobody c)));
-  taken = λ c listed. absurd (true≢false (sym listed ∙ ap (λ (l : List ℕ). list_any (λ m. eqb m c) l) unmarked));
+  taken = λ c listed. absurd (true≢false (sym listed ∙ ap (λ (l : List ℕ). lists l c) unmarked ∙ nobody_listed c));
   single = λ j k d here there. cc (sym there ∙ nothing k);
 } where
-  nothing : (k : ℕ) → get links k ≡ None
+  nobody_listed : (c : ℕ) → lists [] c ≡ false
+  nobody_listed c = refl
+
+  nothing : (k : ℕ) → get links.items k ≡ None
   nothing k = ap (λ (l : List (Option Dependency)). slice_index_or l k None) none
 
 pub nothing_stands : (links : Slab Dependency) → links.slots ≡ [] → dependencies_of links ≡ []
@@ -109,101 +115,88 @@ unfolding dependencies_of
 slots_stand links more same = ap (λ (l : List (Option Dependency)). filter_map (λ (slot : Option Dependency). slot) l) same
 
 -- ---- there is more room, and somebody sat down, or nobody
-module _ (links more : Slab Dependency) (along longer across longer_across : Chained) (seats new : Seated) (size most : ℕ) (marked grown : Met) (valid : IsValid (parts links along across seats) size marked)
-    (slots : more.slots ≡ links.slots) (on : IsGrown along longer) (back : IsGrown across longer_across) (nodes : grown.nodes ≡ marked.nodes) where
-  slot_same : (k : ℕ) → get more k ≡ get links k
-  slot_same k = ap (λ (l : List (Option Dependency)). slice_index_or l k None) slots
+module _ (links more : Crossed Dependency) (seats new : Seated) (size most : ℕ) (marked grown : Met) (valid : IsValid (parts_of links seats) size marked) (grows : IsGrown links more) (nodes : grown.nodes ≡ marked.nodes) where
+  slot_same : (k : ℕ) → get more.items k ≡ get links.items k
+  slot_same k = ap (λ (l : List (Option Dependency)). slice_index_or l k None) grows.items
 
-  pub valid_grown : ((c : ℕ) (t : Txn) → seat seats c ≡ Some t → seat new c ≡ Some t) → IsWithin longer longer_across new most grown.size → IsValid (parts more longer longer_across new) most grown
+  pub valid_grown : ((c : ℕ) (t : Txn) → seat seats c ≡ Some t → seat new c ≡ Some t) → IsWithin more.rows more.columns new most grown.size → IsValid (parts_of more new) most grown
   valid_grown kept within = record {
     placed = record {
-      along = λ k. ap is_some (slot_same k) ∙ valid.placed.along k ∙ sym (ap is_some (on.homes k));
-      across = λ k. ap is_some (slot_same k) ∙ valid.placed.across k ∙ sym (ap is_some (back.homes k));
+      along = λ k. ap is_some (slot_same k) ∙ valid.placed.along k ∙ sym (ap is_some (grows.homes Row k));
+      across = λ k. ap is_some (slot_same k) ∙ valid.placed.across k ∙ sym (ap is_some (grows.homes Column k));
     };
-    sources = λ k c d there home. kept c (record { 0 = d.source }) (valid.sources k c d (sym (slot_same k) ∙ there) (sym (on.homes k) ∙ home));
-    dependents = λ k c d there home. kept c (record { 0 = d.dependent }) (valid.dependents k c d (sym (slot_same k) ∙ there) (sym (back.homes k) ∙ home));
+    sources = λ k c d there home. kept c (record { 0 = d.source }) (valid.sources k c d (sym (slot_same k) ∙ there) (sym (grows.homes Row k) ∙ home));
+    dependents = λ k c d there home. kept c (record { 0 = d.dependent }) (valid.dependents k c d (sym (slot_same k) ∙ there) (sym (grows.homes Column k) ∙ home));
     within = within;
     taken = λ c listed. let t = some_of (seat seats c) (valid.taken c (ap (λ (l : List ℕ). lists l c) (sym nodes) ∙ listed)) in ap is_some (kept c t.0 t.1);
     single = λ j k d here there. valid.single j k d (sym (slot_same j) ∙ here) (sym (slot_same k) ∙ there);
   }
 
   -- the seats that were there have their room still
-  pub within_grown : ((c : ℕ) → is_some (seat new c) ≡ true → is_some (seat seats c) ≡ true) → size ≤ most → marked.size ≤ grown.size → IsWithin longer longer_across new most grown.size
+  pub within_grown : ((c : ℕ) → is_some (seat new c) ≡ true → is_some (seat seats c) ≡ true) → size ≤ most → marked.size ≤ grown.size → IsWithin more.rows more.columns new most grown.size
   within_grown were bound marks c sat =
       let old = valid.within c (were c sat) in
-      (omega (arith, old.0, on.more), omega (arith, old.1, back.more), omega (arith, old.2, bound), omega (arith, old.3, marks))
+      (omega (arith, old.0, grows.many Row), omega (arith, old.1, grows.many Column), omega (arith, old.2, bound), omega (arith, old.3, marks))
 
   -- and so has the seat on which somebody sits down
-  pub within_sits : (s : ℕ) (t : Txn) → ((c : ℕ) → seat new c ≡ cond (eqb c s) (Some t) (seat seats c)) → size ≤ most → marked.size ≤ grown.size → s < length longer.chains → s < length longer_across.chains → s < most → s < grown.size
-      → IsWithin longer longer_across new most grown.size
+  pub within_sits : (s : ℕ) (t : Txn) → ((c : ℕ) → seat new c ≡ cond (eqb c s) (Some t) (seat seats c)) → size ≤ most → marked.size ≤ grown.size → s < length more.rows.chains → s < length more.columns.chains → s < most → s < grown.size
+      → IsWithin more.rows more.columns new most grown.size
   within_sits s t sits bound marks first second third fourth c sat = go (eqb c s) refl where
-    go : (b : Bool) → eqb c s ≡ b → (c < length longer.chains) × (c < length longer_across.chains) × (c < most) × (c < grown.size)
+    go : (b : Bool) → eqb c s ≡ b → (c < length more.rows.chains) × (c < length more.columns.chains) × (c < most) × (c < grown.size)
     go true at = let here : c ≡ s = eqb-true c s at in rw here (first, second, third, fourth)
     go false at =
         let old = valid.within c (sym (ap is_some (sits c ∙ ap (λ b. cond b (Some t) (seat seats c)) at)) ∙ sat) in
-        (omega (arith, old.0, on.more), omega (arith, old.1, back.more), omega (arith, old.2, bound), omega (arith, old.3, marks))
+        (omega (arith, old.0, grows.many Row), omega (arith, old.1, grows.many Column), omega (arith, old.2, bound), omega (arith, old.3, marks))
 
 -- who sat before sits still
 pub sits_still : (s : ℕ) (t : Txn) (old new : Seated) → seat old s ≡ None → ((c : ℕ) → seat new c ≡ cond (eqb c s) (Some t) (seat old c)) → (c : ℕ) (u : Txn) → seat old c ≡ Some u → seat new c ≡ Some u
 sits_still s t old new free sits c u sat = sits c ∙ ap (λ b. cond b (Some t) (seat old c)) (ne_eqb c s (λ is. cc (sym free ∙ ap (seat old) (sym is) ∙ sat))) ∙ sat
 
 -- ---- one more dependency
-module _ (links more : Slab Dependency) (along longer across longer_across : Chained) (seats : Seated) (size : ℕ) (marked : Met) (d : Dependency) (key from to : ℕ) (valid : IsValid (parts links along across seats) size marked)
-    (source : seat seats from ≡ Some (record { 0 = d.source })) (dependent : seat seats to ≡ Some (record { 0 = d.dependent })) (put : Updates links more key (Some d)) (on : IsPushed from key along longer) (back : IsPushed to key across longer_across) (new : (k : ℕ) → get links k ≡ Some d → ⊥) where
-  pub valid_added : IsValid (parts more longer longer_across seats) size marked
+module _ (links more : Crossed Dependency) (seats : Seated) (size : ℕ) (marked : Met) (d : Dependency) (key from to : ℕ) (valid : IsValid (parts_of links seats) size marked)
+    (source : seat seats from ≡ Some (record { 0 = d.source })) (dependent : seat seats to ≡ Some (record { 0 = d.dependent })) (put : Updates links.items more.items key (Some d)) (on : Joins from key links.rows more.rows) (back : Joins to key links.columns more.columns) (crossed : IsCrossed more) (new : (k : ℕ) → get links.items k ≡ Some d → ⊥) where
+  pub valid_added : IsValid (parts_of more seats) size marked
   valid_added = record {
-    placed = record { along = placed; across = placed_across };
+    placed = placed_by more crossed;
     sources = sources;
     dependents = dependents;
-    within = λ c sat. let old = valid.within c sat in (omega (arith, old.0, on.same_chains), omega (arith, old.1, back.same_chains), old.2, old.3);
+    within = λ c sat. let old = valid.within c sat in (omega (arith, old.0, on.many), omega (arith, old.1, back.many), old.2, old.3);
     taken = valid.taken;
     single = single;
   } where
-    placed : (k : ℕ) → is_some (get more k) ≡ is_some (home_of longer k)
-    placed k = elim (cases_eq k key) [
-      | inl here ↦ ap is_some (ap (get more) here ∙ put.changed) ∙ sym (ap is_some (ap (home_of longer) here ∙ on.home))
-      | inr other ↦ ap is_some (put.others k other) ∙ valid.placed.along k ∙ sym (ap is_some (on.homes k other))
-    ]
-
-    placed_across : (k : ℕ) → is_some (get more k) ≡ is_some (home_of longer_across k)
-    placed_across k = elim (cases_eq k key) [
-      | inl here ↦ ap is_some (ap (get more) here ∙ put.changed) ∙ sym (ap is_some (ap (home_of longer_across) here ∙ back.home))
-      | inr other ↦ ap is_some (put.others k other) ∙ valid.placed.across k ∙ sym (ap is_some (back.homes k other))
-    ]
-
-    sources : IsNamed (λ (d : Dependency). d.source) more longer seats
+    sources : IsNamed (λ (d : Dependency). d.source) more.items more.rows seats
     sources k c e there home = elim (cases_eq k key) [
       | inl here ↦
-          let same : Some e ≡ Some d = sym there ∙ ap (get more) here ∙ put.changed in
-          let seat_is : Some c ≡ Some from = sym home ∙ ap (home_of longer) here ∙ on.home in
+          let same : Some e ≡ Some d = sym there ∙ ap (get more.items) here ∙ put.changed in
+          let seat_is : Some c ≡ Some from = sym home ∙ ap (home_of more.rows) here ∙ on.home in
           let at : c ≡ from = cc seat_is in
           let is : e ≡ d = cc same in
           ap (seat seats) at ∙ source ∙ (λ i. Some (record { 0 = (sym is i).source }))
       | inr other ↦ valid.sources k c e (sym (put.others k other) ∙ there) (sym (on.homes k other) ∙ home)
     ]
 
-    dependents : IsNamed (λ (d : Dependency). d.dependent) more longer_across seats
+    dependents : IsNamed (λ (d : Dependency). d.dependent) more.items more.columns seats
     dependents k c e there home = elim (cases_eq k key) [
       | inl here ↦
-          let same : Some e ≡ Some d = sym there ∙ ap (get more) here ∙ put.changed in
-          let seat_is : Some c ≡ Some to = sym home ∙ ap (home_of longer_across) here ∙ back.home in
+          let same : Some e ≡ Some d = sym there ∙ ap (get more.items) here ∙ put.changed in
+          let seat_is : Some c ≡ Some to = sym home ∙ ap (home_of more.columns) here ∙ back.home in
           let at : c ≡ to = cc seat_is in
           let is : e ≡ d = cc same in
           ap (seat seats) at ∙ dependent ∙ (λ i. Some (record { 0 = (sym is i).dependent }))
       | inr other ↦ valid.dependents k c e (sym (put.others k other) ∙ there) (sym (back.homes k other) ∙ home)
     ]
 
-    twice : (k : ℕ) (e : Dependency) → (k ≡ key → ⊥) → get more k ≡ Some e → get more key ≡ Some e → ⊥
+    twice : (k : ℕ) (e : Dependency) → (k ≡ key → ⊥) → get more.items k ≡ Some e → get more.items key ≡ Some e → ⊥
     twice k e other there here = let same : Some e ≡ Some d = sym here ∙ put.changed in new k (sym (put.others k other) ∙ there ∙ same)
 
-    single : (j k : ℕ) (e : Dependency) → get more j ≡ Some e → get more k ≡ Some e → j ≡ k
+    single : (j k : ℕ) (e : Dependency) → get more.items j ≡ Some e → get more.items k ≡ Some e → j ≡ k
     single j k e here there = elim (cases_eq j key) [
       | inl first ↦ elim (cases_eq k key) [
         | inl second ↦ first ∙ sym second
-        | inr other ↦ absurd (twice k e other there (ap (get more) (sym first) ∙ here))
+        | inr other ↦ absurd (twice k e other there (ap (get more.items) (sym first) ∙ here))
       ]
       | inr apart ↦ elim (cases_eq k key) [
-        | inl second ↦ absurd (twice j e apart here (ap (get more) (sym second) ∙ there))
+        | inl second ↦ absurd (twice j e apart here (ap (get more.items) (sym second) ∙ there))
         | inr other ↦ valid.single j k e (sym (put.others j apart) ∙ here) (sym (put.others k other) ∙ there)
       ]
     ]
@@ -232,9 +225,8 @@ arrow_again ds kind a b there k u v = go (same_kind k kind) refl (eqb u a) refl 
   go false is q first r second = or_none (has_arrow (arrows_of k ds) u v)
 
 -- ---- a transaction ends
-module _ (links mid new : Slab Dependency) (on mid_on less back mid_back less_back : Chained) (seats left : Seated) (size : ℕ) (marked fewer : Met) (t : Txn) (s : ℕ) (valid : IsValid (parts links on back seats) size marked)
-    (sat : seat seats s ≡ Some t) (alone : (c : ℕ) → seat seats c ≡ Some t → c ≡ s) (first : Shrinks links mid on mid_on back mid_back) (gone : (k : ℕ) → home_of mid_on k ≡ Some s → ⊥) (kept : (k : ℕ) → (home_of on k ≡ Some s → ⊥) → get mid k ≡ get links k)
-    (second : Shrinks mid new mid_on less mid_back less_back) (placed : IsPlaced new less less_back) (gone_back : (k : ℕ) → home_of less_back k ≡ Some s → ⊥) (kept_back : (k : ℕ) → (home_of mid_back k ≡ Some s → ⊥) → get new k ≡ get mid k)
+module _ (links mid new : Crossed Dependency) (seats left : Seated) (size : ℕ) (marked fewer : Met) (t : Txn) (s : ℕ) (valid : IsValid (parts_of links seats) size marked)
+    (sat : seat seats s ≡ Some t) (alone : (c : ℕ) → seat seats c ≡ Some t → c ≡ s) (first : IsCleared Row s links mid) (second : IsCleared Column s mid new) (crossed : IsCrossed new)
     (leaves : (c : ℕ) → seat left c ≡ cond (eqb c s) None (seat seats c)) (forgets : (n : ℕ) → lists fewer.nodes n ≡ (lists marked.nodes n && not (eqb n s))) (same_size : fewer.size ≡ marked.size) where
   named : (n : ℕ) → Some (record { 0 = n }) ≡ Some t → n ≡ t.0
   named n same = let is : record { 0 = n } ≡ t = cc same in ap (λ (u : Txn). u.0) is
@@ -249,47 +241,47 @@ module _ (links mid new : Slab Dependency) (on mid_on less back mid_back less_ba
     go true at = absurd (true≢false (sym some ∙ ap is_some (leaves c ∙ ap (λ b. cond b None (seat seats c)) at)))
     go false at = (eqb-false c s at, sym (ap is_some (leaves c ∙ ap (λ b. cond b None (seat seats c)) at)) ∙ some)
 
-  pub valid_ended : IsValid (parts new less less_back left) size fewer
+  pub valid_ended : IsValid (parts_of new left) size fewer
   valid_ended = record {
-    placed = placed;
+    placed = placed_by new crossed;
     sources = λ k c d there home.
-        sits c (λ is. gone k (second.along k s (home ∙ ap Some is))) ∙ valid.sources k c d (first.links k d (second.links k d there)) (first.along k c (second.along k c home));
-    dependents = λ k c d there home. sits c (λ is. gone_back k (home ∙ ap Some is)) ∙ valid.dependents k c d (first.links k d (second.links k d there)) (first.across k c (second.across k c home));
+        sits c (λ is. first.gone k (second.homes Row k s (home ∙ ap Some is))) ∙ valid.sources k c d (first.items k d (second.items k d there)) (first.homes Row k c (second.homes Row k c home));
+    dependents = λ k c d there home. sits c (λ is. second.gone k (home ∙ ap Some is)) ∙ valid.dependents k c d (first.items k d (second.items k d there)) (first.homes Column k c (second.homes Column k c home));
     within = λ c some.
         let old = valid.within c (still_taken c some).1 in
-        (omega (arith, old.0, first.many_along, second.many_along), omega (arith, old.1, first.many_across, second.many_across), old.2, omega (arith, old.3, same_size));
+        (omega (arith, old.0, first.many Row, second.many Row), omega (arith, old.1, first.many Column, second.many Column), old.2, omega (arith, old.3, same_size));
     taken = λ c listed.
         let both = and_parts (lists marked.nodes c) (not (eqb c s)) (sym (forgets c) ∙ listed) in
         ap is_some (sits c (λ is. false≢true (ap not (sym (eq-eqb c s is)) ∙ both.1))) ∙ valid.taken c both.0;
-    single = λ j k d here there. valid.single j k d (first.links j d (second.links j d here)) (first.links k d (second.links k d there));
+    single = λ j k d here there. valid.single j k d (first.items j d (second.items j d here)) (first.items k d (second.items k d there));
   }
 
-  rid : IsRid (λ (d : Dependency). d.source) (λ (d : Dependency). d.dependent) t.0 links new
+  rid : IsRid (λ (d : Dependency). d.source) (λ (d : Dependency). d.dependent) t.0 links.items new.items
   rid = record {
-    still = λ k d there. first.links k d (second.links k d there);
+    still = λ k d there. first.items k d (second.items k d there);
     begins = λ k d there.
-        let home = some_of (home_of less k) (sym (placed.along k) ∙ ap is_some there) in
+        let home = some_of (home_of new.rows k) (crossed.placed Row k ∙ ap is_some there) in
         ne_eqb d.source t.0 (λ is.
-        let at = valid.sources k home.0 d (first.links k d (second.links k d there)) (first.along k home.0 (second.along k home.0 home.1)) in
+        let at = valid.sources k home.0 d (first.items k d (second.items k d there)) (first.homes Row k home.0 (second.homes Row k home.0 home.1)) in
         let here = alone home.0 (at ∙ (λ i. Some (record { 0 = is i }))) in
-        gone k (second.along k s (home.1 ∙ ap Some here)));
+        first.gone k (second.homes Row k s (home.1 ∙ ap Some here)));
     across = λ k d there.
-        let end = some_of (home_of less_back k) (sym (placed.across k) ∙ ap is_some there) in
+        let end = some_of (home_of new.columns k) (crossed.placed Column k ∙ ap is_some there) in
         ne_eqb d.dependent t.0 (λ is.
-        let at = valid.dependents k end.0 d (first.links k d (second.links k d there)) (first.across k end.0 (second.across k end.0 end.1)) in
+        let at = valid.dependents k end.0 d (first.items k d (second.items k d there)) (first.homes Column k end.0 (second.homes Column k end.0 end.1)) in
         let here = alone end.0 (at ∙ (λ i. Some (record { 0 = is i }))) in
-        gone_back k (end.1 ∙ ap Some here));
+        second.gone k (end.1 ∙ ap Some here));
     kept = λ k d there source dependent.
-        let mid_there : get mid k ≡ Some d = kept k (λ home. eqb-false d.source t.0 source (named d.source (sym (valid.sources k s d there home) ∙ sat))) ∙ there in
-        kept_back k (λ end. eqb-false d.dependent t.0 dependent (named d.dependent (sym (valid.dependents k s d there (first.across k s end)) ∙ sat))) ∙ mid_there;
+        let mid_there : get mid.items k ≡ Some d = first.kept k (λ home. eqb-false d.source t.0 source (named d.source (sym (valid.sources k s d there home) ∙ sat))) ∙ there in
+        second.kept k (λ end. eqb-false d.dependent t.0 dependent (named d.dependent (sym (valid.dependents k s d there (first.homes Column k s end)) ∙ sat))) ∙ mid_there;
   }
 
-  pub arrow_ended : (k : Kind) (u v : ℕ) → has_arrow (arrows_of k (dependencies_of new)) u v ≡ (has_arrow (arrows_of k (dependencies_of links)) u v && not (eqb u t.0) && not (eqb v t.0))
+  pub arrow_ended : (k : Kind) (u v : ℕ) → has_arrow (arrows_of k (dependencies_of new.items)) u v ≡ (has_arrow (arrows_of k (dependencies_of links.items)) u v && not (eqb u t.0) && not (eqb v t.0))
   unfolding dependencies_of
   arrow_ended k u v =
-      arrow_of k (values new) u v
-      ∙ any_dropped (λ (d : Dependency). d.source) (λ (d : Dependency). d.dependent) (joins (of_kind k) u v) t.0 u v links new (joins_source (of_kind k) u v) (joins_dependent (of_kind k) u v) rid
-      ∙ ap (λ b. b && not (eqb u t.0) && not (eqb v t.0)) (sym (arrow_of k (values links) u v))
+      arrow_of k (values new.items) u v
+      ∙ any_dropped (λ (d : Dependency). d.source) (λ (d : Dependency). d.dependent) (joins (of_kind k) u v) t.0 u v links.items new.items (joins_source (of_kind k) u v) (joins_dependent (of_kind k) u v) rid
+      ∙ ap (λ b. b && not (eqb u t.0) && not (eqb v t.0)) (sym (arrow_of k (values links.items) u v))
 
   pub marked_ended : (n : ℕ) → lists (marked_of left fewer.nodes) n ≡ (lists (marked_of seats marked.nodes) n && not (eqb n t.0))
   marked_ended n = both_follow _ _ to back' where

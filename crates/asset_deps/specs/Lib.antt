@@ -1,4 +1,3 @@
-pub mod Changes
 pub mod Dependencies
 pub mod Reached
 pub mod Valid

@@ -4,6 +4,7 @@ use crate::kinds::Kinds;
 use crate::outside::leads_outside;
 use crate::search::Search;
 use crate::table::Deps;
+use asset_chains::Side;
 use asset_marks::{Way, is_linked, spread};
 use asset_names::{Kind, Txn};
 
@@ -60,19 +61,15 @@ impl Deps {
             return false;
         };
         self.seats.laws();
-        self.by_source.laws();
-        self.by_dependent.laws();
         let search = Search {
             links: &self.links,
-            along: &self.by_source,
-            across: &self.by_dependent,
+            side: Side::Row,
             kinds: Kinds::Class,
         };
         spread(&search, seat, &mut self.marks);
         let back = Way {
             items: &self.links,
-            along: &self.by_dependent,
-            across: &self.by_source,
+            side: Side::Column,
         };
         leads_outside(&back, &self.marks)
     }
@@ -100,21 +97,17 @@ impl Deps {
             return false;
         };
         self.seats.laws();
-        self.by_source.laws();
-        self.by_dependent.laws();
-        if self.by_source.len(from) <= self.by_dependent.len(to) {
+        if self.links.len(Side::Row, from) <= self.links.len(Side::Column, to) {
             let search = Search {
                 links: &self.links,
-                along: &self.by_source,
-                across: &self.by_dependent,
+                side: Side::Row,
                 kinds,
             };
             is_linked(&search, from, to, &mut self.marks)
         } else {
             let search = Search {
                 links: &self.links,
-                along: &self.by_dependent,
-                across: &self.by_source,
+                side: Side::Column,
                 kinds,
             };
             is_linked(&search, to, from, &mut self.marks)

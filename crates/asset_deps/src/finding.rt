@@ -1,38 +1,38 @@
-//! The dependency that is asked for, in a chain, and the seat of a transaction that is enrolled.
+//! The dependency that is asked for, in a row or a column, and the seat of a transaction that is enrolled.
 
 ghost use Rattle.std.specs.Prelude.{◌≡◌, ◌≢◌, ℕ, true, false, Some};
 ghost use Rattle.slab.specs.Slab.{get};
 ghost use Rattle.asset_names.specs.Arrows.{lists};
 ghost use Rattle.asset_chains.specs.Chained.{home_of};
+ghost use Rattle.asset_chains.specs.Crossed.{lines};
 ghost use Rattle.asset_seats.specs.Seated.{seat};
 ghost use Rattle.asset_deps.specs.Valid.{names_of};
 
 use crate::link::Link;
-use asset_chains::Chains;
+use asset_chains::{Crossed, Side};
 use asset_names::Txn;
 use asset_seats::Seats;
-use slab::Slab;
 
-/// Returns whether the dependency that is asked for is in the chain of the seat, or there at all.
-pub(crate) fn is_there(links: &Slab<Link>, along: &Chains, seat: usize, sought: &Link) -> bool
-    ensures found { result ≡ true → (k : ℕ) × (get links.now k ≡ Some sought.now) }
-    ensures absent { result ≡ false → (k : ℕ) → home_of along.now k ≡ Some seat → get links.now k ≢ Some sought.now }
+/// Returns whether the dependency that is asked for is in the row or column of the seat, or there at all.
+pub(crate) fn is_there(links: &Crossed<Link>, side: Side, seat: usize, sought: &Link) -> bool
+    ensures found { result ≡ true → (k : ℕ) × (get links.now.items k ≡ Some sought.now) }
+    ensures absent { result ≡ false → (k : ℕ) → home_of (lines side links.now) k ≡ Some seat → get links.now.items k ≢ Some sought.now }
 {
-    along.laws();
-    let mut next = along.first(seat);
+    links.laws();
+    let mut next = links.first(side, seat);
     'keys: while let Some(key) = next {
         if is_at(links, key, sought) {
             return true;
         }
-        next = along.next(key);
+        next = links.next(side, key);
     }
     false
 }
 
 /// Returns whether the dependency at the key is the one that is asked for.
-fn is_at(links: &Slab<Link>, key: usize, sought: &Link) -> bool
-    ensures found { result ≡ true → get links.now key ≡ Some sought.now }
-    ensures absent { result ≡ false → get links.now key ≢ Some sought.now }
+fn is_at(links: &Crossed<Link>, key: usize, sought: &Link) -> bool
+    ensures found { result ≡ true → get links.now.items key ≡ Some sought.now }
+    ensures absent { result ≡ false → get links.now.items key ≢ Some sought.now }
 {
     match links.get(key) {
         Some(link) => link.is_same(sought),

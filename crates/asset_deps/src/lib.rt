@@ -1,11 +1,10 @@
 //! The table of dependencies: who depends on whom and how, the classes that group commits make, and whom an end takes with
-//! it. Each dependency is in the chain of its source and in that of its dependent, so that an end costs its own
+//! it. Each dependency is in the row of its source and in the column of its dependent, so that an end costs its own
 //! dependencies alone. Only `enrol` and `add` can run out of memory.
 #![tactic(auto)]
 
 mod adding;
 mod asking;
-mod dropping;
 mod finding;
 mod kinds;
 mod link;

@@ -4,6 +4,7 @@ use crate::finding::seat_in;
 use crate::kinds::Kinds;
 use crate::search::Search;
 use crate::table::Deps;
+use asset_chains::Side;
 use asset_marks::spread;
 use asset_names::Txn;
 
@@ -43,12 +44,9 @@ impl Deps {
     {
         let seat = seat_in(&self.seats, t);
         self.seats.laws();
-        self.by_source.laws();
-        self.by_dependent.laws();
         let search = Search {
             links: &self.links,
-            along: &self.by_source,
-            across: &self.by_dependent,
+            side: Side::Row,
             kinds,
         };
         spread(&search, seat, &mut self.marked);

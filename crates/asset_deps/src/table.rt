@@ -1,26 +1,22 @@
 //! The table of dependencies: who is enrolled, and what comes and goes.
 
-use crate::adding::{insert, make_room, reserve};
-use crate::dropping::drop_along;
+use crate::adding::make_room;
 use crate::finding::{is_there, seat_in};
 use crate::link::Link;
-use asset_chains::Chains;
+use asset_chains::{Crossed, Side};
 use asset_marks::Marks;
 use asset_names::{Kind, NoMemory, Txn};
-use asset_seats::Seats;
-use slab::Slab;
+use asset_seats::{Seats, reserve_item};
 use std::alloc::Global;
 use std::marker::Model;
 
 /// The dependencies that stand between enrolled transactions, and those of them that are marked. Each dependency is in the
-/// chain of its source and in that of its dependent, and exactly those who are enrolled have a seat.
+/// row of its source and in the column of its dependent, and exactly those who are enrolled have a seat.
 ///
 /// A transaction that never depends on another nor is depended on needs no place here.
 #[derive(Drop)]
 pub struct Deps {
-    pub(crate) links: Slab<Link>,
-    pub(crate) by_source: Chains,
-    pub(crate) by_dependent: Chains,
+    pub(crate) links: Crossed<Link>,
     pub(crate) seats: Seats,
     pub(crate) marks: Marks,
     pub(crate) marked: Marks,
@@ -32,9 +28,9 @@ impl Model for Deps {
 
     ghost Value = { DepTable };
 
-    ghost view = { λ p. record { names = names_of p.seats; dependencies = dependencies_of p.links; marked = marked_of p.seats p.marked.nodes } };
+    ghost view = { λ p. record { names = names_of p.seats; dependencies = dependencies_of p.links.items; marked = marked_of p.seats p.marked.nodes } };
 
-    ghost invariant = { λ p. IsValid (parts p.links p.by_source p.by_dependent p.seats) p.marks.size p.marked };
+    ghost invariant = { λ p. IsValid (parts p.links.items p.links.rows p.links.columns p.seats) p.marks.size p.marked };
 }
 
 impl Deps {
@@ -50,9 +46,7 @@ impl Deps {
         ensures { result ≡ record { names = []; dependencies = []; marked = [] } }
     {
         Deps {
-            links: Slab::new(alloc),
-            by_source: Chains::new(alloc),
-            by_dependent: Chains::new(alloc),
+            links: Crossed::new(alloc),
             seats: Seats::new(alloc),
             marks: Marks::new(alloc),
             marked: Marks::new(alloc),
@@ -83,13 +77,7 @@ impl Deps {
         }
         self.seats.reserve()?;
         let vacant = self.seats.vacant();
-        make_room(
-            &mut self.by_source,
-            &mut self.by_dependent,
-            &mut self.marks,
-            &mut self.marked,
-            vacant,
-        )?;
+        make_room(&mut self.links, &mut self.marks, &mut self.marked, vacant)?;
         self.seats.sit(t);
         Ok(())
     }
@@ -113,17 +101,11 @@ impl Deps {
         if self.has(kind, a, b) {
             return Ok(());
         }
-        reserve(&mut self.links, &mut self.by_source, &mut self.by_dependent)?;
+        reserve_item(&mut self.links)?;
         let from = seat_in(&self.seats, a);
         let to = seat_in(&self.seats, b);
-        insert(
-            &mut self.links,
-            &mut self.by_source,
-            &mut self.by_dependent,
-            from,
-            to,
-            Link::of(kind, a, b),
-        );
+        self.links.insert(from, to, Link::of(kind, a, b));
+        self.links.laws();
         Ok(())
     }
 
@@ -138,10 +120,10 @@ impl Deps {
             return false;
         };
         let sought = Link::of(kind, a, b);
-        if self.by_source.len(from) <= self.by_dependent.len(to) {
-            is_there(&self.links, &self.by_source, from, &sought)
+        if self.links.len(Side::Row, from) <= self.links.len(Side::Column, to) {
+            is_there(&self.links, Side::Row, from, &sought)
         } else {
-            is_there(&self.links, &self.by_dependent, to, &sought)
+            is_there(&self.links, Side::Column, to, &sought)
         }
     }
 
@@ -156,18 +138,11 @@ impl Deps {
         let Some(seat) = self.seats.seat_of(t) else {
             return;
         };
-        drop_along(
-            &mut self.links,
-            &mut self.by_source,
-            &mut self.by_dependent,
-            seat,
-        );
-        drop_along(
-            &mut self.links,
-            &mut self.by_dependent,
-            &mut self.by_source,
-            seat,
-        );
+        self.links.laws();
+        self.links.clear(Side::Row, seat);
+        self.links.laws();
+        self.links.clear(Side::Column, seat);
+        self.links.laws();
         self.marked.forget(seat);
         self.seats.leave(seat);
     }

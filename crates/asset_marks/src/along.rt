@@ -1,15 +1,14 @@
-//! Arrows of items in a slab, each of which is in two chains: it leads from its home in the one partition to its home in
-//! the other.
+//! Arrows of items that are each in a row and in a column: each leads from the one to the other, or back.
 
 ghost use Rattle.std.specs.Prelude.{◌≡◌, ℕ, ◌<◌, true, false, Some};
 ghost use Rattle.slab.specs.Slab.{get};
 ghost use Rattle.asset_names.specs.Arrows.{lists, has_arrow};
 ghost use Rattle.asset_chains.specs.Chained.{home_of};
+ghost use Rattle.asset_chains.specs.Crossed.{lines, other_side};
 ghost use Rattle.asset_marks.specs.Searched.{arrows_along, leads_to, AreWithin, Expands};
 
 use crate::marks::Marks;
-use asset_chains::Chains;
-use slab::Slab;
+use asset_chains::{Crossed, Side};
 
 /// A test of items: along those that pass it a search goes.
 pub trait Pick<T> {
@@ -22,25 +21,23 @@ pub trait Pick<T> {
         ensures { result ≡ passes self.now item.now };
 }
 
-/// Items, the chains along which a search goes, and those of their other sides.
+/// Items, and the side along which a search goes.
 #[derive(Clone, Copy)]
 pub struct Way<'a, T> {
     /// The items.
-    pub items: &'a Slab<T>,
-    /// The chains along which the search goes.
-    pub along: &'a Chains,
-    /// The chains of the other sides.
-    pub across: &'a Chains,
+    pub items: &'a Crossed<T>,
+    /// The side along whose rows or columns the search goes. Items lead to the other side.
+    pub side: Side,
 }
 
 /// Returns the node to which the item at the key leads, if it is there and passes.
 fn across_from<T, P: Pick<T>>(way: &Way<T>, pick: &P, key: usize) -> Option<usize>
-    ensures { result ≡ leads_to (P.passes pick.now) (get way.now.items.now key) (home_of way.now.across.now key) }
+    ensures { result ≡ leads_to (P.passes pick.now) (get way.now.items.now.items key) (home_of (lines (other_side way.now.side) way.now.items.now) key) }
 {
     match way.items.get(key) {
         Some(item) => {
             if pick.passes(item) {
-                way.across.home(key)
+                way.items.home(way.side.other(), key)
             } else {
                 None
             }
@@ -51,35 +48,35 @@ fn across_from<T, P: Pick<T>>(way: &Way<T>, pick: &P, key: usize) -> Option<usiz
 
 /// Meets the nodes to which the items in the chain of the node lead that pass.
 pub fn expand_along<T, P: Pick<T>>(way: &Way<T>, pick: &P, node: usize, marks: &mut Marks)
-    requires { AreWithin (arrows_along (P.passes pick.now) way.now.items.now way.now.along.now way.now.across.now) marks.old.size }
+    requires { AreWithin (arrows_along (P.passes pick.now) way.now.items.now.items (lines way.now.side way.now.items.now) (lines (other_side way.now.side) way.now.items.now)) marks.old.size }
     ensures size { marks.new.size ≡ marks.old.size }
-    ensures expanded { Expands (arrows_along (P.passes pick.now) way.now.items.now way.now.along.now way.now.across.now) node marks.old.nodes marks.new.nodes }
+    ensures expanded { Expands (arrows_along (P.passes pick.now) way.now.items.now.items (lines way.now.side way.now.items.now) (lines (other_side way.now.side) way.now.items.now)) node marks.old.nodes marks.new.nodes }
 {
-    way.along.laws();
-    let mut next = way.along.first(node);
+    way.items.laws();
+    let mut next = way.items.first(way.side, node);
     'keys: while let Some(key) = next {
         if let Some(other) = across_from(way, pick, key) {
             marks.meet(other);
         }
-        next = way.along.next(key);
+        next = way.items.next(way.side, key);
     }
 }
 
 /// Returns whether an item in the chain of the node that passes leads to a node that is not met.
 pub fn leads_out<T, P: Pick<T>>(way: &Way<T>, pick: &P, node: usize, marks: &Marks) -> bool
-    requires { AreWithin (arrows_along (P.passes pick.now) way.now.items.now way.now.along.now way.now.across.now) marks.now.size }
-    ensures leads { result ≡ true → (t : ℕ) × (has_arrow (arrows_along (P.passes pick.now) way.now.items.now way.now.along.now way.now.across.now) node t ≡ true) × (lists marks.now.nodes t ≡ false) }
-    ensures met { result ≡ false → (t : ℕ) → has_arrow (arrows_along (P.passes pick.now) way.now.items.now way.now.along.now way.now.across.now) node t ≡ true → lists marks.now.nodes t ≡ true }
+    requires { AreWithin (arrows_along (P.passes pick.now) way.now.items.now.items (lines way.now.side way.now.items.now) (lines (other_side way.now.side) way.now.items.now)) marks.now.size }
+    ensures leads { result ≡ true → (t : ℕ) × (has_arrow (arrows_along (P.passes pick.now) way.now.items.now.items (lines way.now.side way.now.items.now) (lines (other_side way.now.side) way.now.items.now)) node t ≡ true) × (lists marks.now.nodes t ≡ false) }
+    ensures met { result ≡ false → (t : ℕ) → has_arrow (arrows_along (P.passes pick.now) way.now.items.now.items (lines way.now.side way.now.items.now) (lines (other_side way.now.side) way.now.items.now)) node t ≡ true → lists marks.now.nodes t ≡ true }
 {
-    way.along.laws();
-    let mut next = way.along.first(node);
+    way.items.laws();
+    let mut next = way.items.first(way.side, node);
     'keys: while let Some(key) = next {
         if let Some(other) = across_from(way, pick, key) {
             if !marks.has(other) {
                 return true;
             }
         }
-        next = way.along.next(key);
+        next = way.items.next(way.side, key);
     }
     false
 }

@@ -1,16 +1,17 @@
 -- Who has a seat, and which chains are used.
-use Rattle.std.proofs.Common.{◌≡◌, ℕ, ◌<◌, ◌≤◌, Bool, true, false, cond, eqb, not, ◌&&◌, ◌||◌, List, [], length, Option, Some, None, is_some, refl, sym, ap, ◌∙◌, arith, ◌⊎◌, inl, inr}
-use Rattle.std.specs.Prelude.{slice_index_or}
+use Rattle.std.proofs.Common.{◌≡◌, ℕ, ◌<◌, ◌≤◌, Bool, true, false, cond, eqb, not, ◌&&◌, ◌||◌, length, Option, Some, None, is_some, refl, sym, ap, ◌∙◌, arith, ◌⊎◌, inl, inr}
 use Rattle.std.proofs.lemmas.Bool.{or_cases, or_left, eqb-true, eqb-false, eq-eqb, ne_eqb, true≢false}
-use Rattle.slab.specs.Slab.{Slab, get}
+use Rattle.slab.specs.Slab.{get}
 use Rattle.asset_names.specs.declared.names.Txn.{Txn}
 use Rattle.asset_names.proofs.Common.{some_of}
 use Rattle.asset_chains.specs.Chained.{Chained, chain_of, home_of, first_of, IsSound}
 use Rattle.asset_chains.proofs.KeyLemmas.{first_listed as first_is_listed, first_is_some}
 use Rattle.asset_seats.specs.Seated.{Seated, seat}
 use Rattle.asset_permits.specs.Descriptors.{Descriptor}
-use Rattle.asset_permits.specs.Valid.{Parts, parts, is_used, IsSeated, IsWithin}
-use Rattle.asset_permits.specs.Changes.{IsGrown, Sits}
+use Rattle.asset_chains.specs.declared.side.Side.TheVariants.{Row, Column}
+use Rattle.asset_chains.specs.Crossed.{Crossed, IsGrown, IsCrossed}
+use Rattle.asset_permits.specs.Valid.{Parts, parts_of, is_used, IsUsed, IsSeated, IsWithin}
+use Rattle.asset_permits.specs.Changes.{Sits}
 
 -- ---- which chains are used
 pub used_along : (along across : Chained) (k c : ℕ) → IsSound along → home_of along k ≡ Some c → is_used along across c ≡ true
@@ -48,45 +49,15 @@ home_along p k d seated there = some_of (home_of p.along k) (sym (seated.along k
 pub home_at_end : (p : Parts) (k : ℕ) (d : Descriptor) → IsSeated p → get p.permits k ≡ Some d → (c : ℕ) × (home_of p.across k ≡ Some c)
 home_at_end p k d seated there = some_of (home_of p.across k) (sym (seated.across k) ∙ ap is_some there)
 
--- the same, seen from the other ends
-pub seated_turned : (permits : Slab Descriptor) (along across : Chained) (seats : Seated) → IsSeated (parts permits along across seats) → IsSeated (parts permits across along seats)
-seated_turned permits along across seats seated = record { along = seated.across; across = seated.along; used = λ c. seated.used c ∙ used_turned along across c }
+-- exactly the permits have homes
+pub seated_by : (permits : Crossed Descriptor) (seats : Seated) → IsCrossed permits → IsUsed permits seats → IsSeated (parts_of permits seats)
+seated_by permits seats crossed used = record { along = λ k. sym (crossed.placed Row k); across = λ k. sym (crossed.placed Column k); used = used }
 
--- ---- more chains and keys
-pub grown_same : (table : Chained) → IsGrown table table
-grown_same table = record { chains = λ c. refl; homes = λ k. refl; more = omega arith; more_keys = omega arith }
-
-pub grown_then : (old mid new : Chained) → IsGrown old mid → IsGrown mid new → IsGrown old new
-grown_then old mid new first second = record {
-  chains = λ c. second.chains c ∙ first.chains c;
-  homes = λ k. second.homes k ∙ first.homes k;
-  more = omega (arith, first.more, second.more);
-  more_keys = omega (arith, first.more_keys, second.more_keys);
-}
-
-pub grown_keys : (old new : Chained) → new.chains ≡ old.chains → ((k : ℕ) → home_of new k ≡ home_of old k) → length old.homes ≤ length new.homes → IsGrown old new
-unfolding chain_of
-grown_keys old new chains homes more = record {
-  chains = λ c. ap (λ (l : List (List ℕ)). slice_index_or l c []) chains;
-  homes = homes;
-  more = omega (arith, ap length chains);
-  more_keys = more;
-}
-
-pub grown_chains : (old new : Chained) → ((c : ℕ) → chain_of new c ≡ chain_of old c) → new.homes ≡ old.homes → length old.chains ≤ length new.chains → IsGrown old new
-unfolding home_of
-grown_chains old new chains homes more = record {
-  chains = chains;
-  homes = λ k. ap (λ (l : List (Option ℕ)). slice_index_or l k None) homes;
-  more = more;
-  more_keys = omega (arith, ap length homes);
-}
-
-pub within_grown : (along across longer longer_across : Chained) (seats new : Seated) (size more : ℕ) → IsWithin along across seats size → IsGrown along longer → IsGrown across longer_across → ((c : ℕ) → seat new c ≡ seat seats c) → size ≤ more
-    → IsWithin longer longer_across new more
-within_grown along across longer longer_across seats new size more within grown grown_across same bound c sat =
+pub within_grown : (permits more : Crossed Descriptor) (seats new : Seated) (size most : ℕ) → IsWithin permits.rows permits.columns seats size → IsGrown permits more → ((c : ℕ) → seat new c ≡ seat seats c) → size ≤ most
+    → IsWithin more.rows more.columns new most
+within_grown permits more seats new size most within grown same bound c sat =
     let old = within c (sym (ap is_some (same c)) ∙ sat) in
-    (omega (arith, old.0, grown.more), omega (arith, old.1, grown_across.more), omega (arith, old.2, bound))
+    (omega (arith, old.0, grown.many Row), omega (arith, old.1, grown.many Column), omega (arith, old.2, bound))
 
 pub within_sits : (along across : Chained) (seats new : Seated) (size : ℕ) (t : Txn) (s : ℕ) → IsWithin along across seats size → Sits t s seats new → s < length along.chains → s < length across.chains → s < size → IsWithin along across new size
 within_sits along across seats new size t s within sits first second third c sat = go (eqb c s) refl where
@@ -105,13 +76,13 @@ pub sits_down : (t : Txn) (s : ℕ) (old new : Seated) → seat old s ≡ None �
 sits_down t s old new free seats = record { seats = seats; same = λ some. absurd (true≢false (sym some ∙ ap is_some free)) }
 
 -- one who has just sat down, and whose chains are not used, leaves again
-pub left_again : (giver : Txn) (from : ℕ) (along across longer longer_across : Chained) (old mid same new : Seated) → ((c : ℕ) → is_some (seat old c) ≡ is_used along across c) → Sits giver from old mid → ((c : ℕ) → seat same c ≡ seat mid c)
-    → IsGrown along longer → IsGrown across longer_across → ((c : ℕ) → seat new c ≡ cond (eqb c from && not (is_used longer longer_across c)) None (seat same c)) → (c : ℕ) → seat new c ≡ seat old c
-left_again giver from along across longer longer_across old mid same new used sits same_is grown grown_across leaves c = leaves c ∙ go (eqb c from) refl where
-  still : is_used longer longer_across c ≡ is_some (seat old c)
-  still = used_same along across longer longer_across c (grown.chains c) (grown_across.chains c) ∙ sym (used c)
+pub left_again : (giver : Txn) (from : ℕ) (permits more : Crossed Descriptor) (old mid same new : Seated) → IsUsed permits old → Sits giver from old mid → ((c : ℕ) → seat same c ≡ seat mid c)
+    → IsGrown permits more → ((c : ℕ) → seat new c ≡ cond (eqb c from && not (is_used more.rows more.columns c)) None (seat same c)) → (c : ℕ) → seat new c ≡ seat old c
+left_again giver from permits more old mid same new used sits same_is grown leaves c = leaves c ∙ go (eqb c from) refl where
+  still : is_used more.rows more.columns c ≡ is_some (seat old c)
+  still = used_same permits.rows permits.columns more.rows more.columns c (grown.chains Row c) (grown.chains Column c) ∙ sym (used c)
 
-  at : (o : Option Txn) → seat old c ≡ o → c ≡ from → cond (not (is_used longer longer_across c)) None (seat same c) ≡ seat old c
+  at : (o : Option Txn) → seat old c ≡ o → c ≡ from → cond (not (is_used more.rows more.columns c)) None (seat same c) ≡ seat old c
   at None e here = ap (λ (b : Bool). cond (not b) None (seat same c)) (still ∙ ap is_some e) ∙ sym e
   at (Some t) e here =
       let sat : seat old from ≡ Some t = ap (seat old) (sym here) ∙ e in
@@ -122,6 +93,6 @@ left_again giver from along across longer longer_across old mid same new used si
       ∙ sym (sits.same (ap is_some sat))
       ∙ ap (seat old) (sym here)
 
-  go : (b : Bool) → eqb c from ≡ b → cond (eqb c from && not (is_used longer longer_across c)) None (seat same c) ≡ seat old c
-  go true e = ap (λ (b : Bool). cond (b && not (is_used longer longer_across c)) None (seat same c)) e ∙ at (seat old c) refl (eqb-true c from e)
-  go false e = ap (λ (b : Bool). cond (b && not (is_used longer longer_across c)) None (seat same c)) e ∙ same_is c ∙ sits_apart giver from old mid sits c (eqb-false c from e)
+  go : (b : Bool) → eqb c from ≡ b → cond (eqb c from && not (is_used more.rows more.columns c)) None (seat same c) ≡ seat old c
+  go true e = ap (λ (b : Bool). cond (b && not (is_used more.rows more.columns c)) None (seat same c)) e ∙ at (seat old c) refl (eqb-true c from e)
+  go false e = ap (λ (b : Bool). cond (b && not (is_used more.rows more.columns c)) None (seat same c)) e ∙ same_is c ∙ sits_apart giver from old mid sits c (eqb-false c from e)

@@ -4,15 +4,16 @@ use Rattle.std.specs.Prelude.{slice_index_or}
 use Rattle.std.proofs.lemmas.Bool.{eqb-false, eqb-true, eq-eqb, ne_eqb, true≢false, false_from_ne_true, cases_eq, and_from, and_parts, or_left, or_right, or_cases}
 use Rattle.slab.specs.Slab.{Slab, get, Updates}
 use Rattle.asset_names.specs.declared.names.Txn.{Txn}
-use Rattle.asset_chains.specs.Chained.{Chained, chain_of, home_of, first_of, IsSound}
-use Rattle.asset_chains.proofs.Laws.{IsPushed}
-use Rattle.asset_chains.proofs.SoundLemmas.{no_chain_of, no_home_of}
+use Rattle.asset_chains.specs.Chained.{chain_of, home_of, first_of, IsSound}
+use Rattle.asset_chains.specs.declared.side.Side.TheVariants.{Row, Column}
+use Rattle.asset_chains.specs.Crossed.{Crossed, IsGrown, Joins, IsCrossed}
+use Rattle.asset_chains.proofs.SoundLemmas.{no_chain_of}
 use Rattle.asset_chains.proofs.KeyLemmas.{first_pushed}
 use Rattle.asset_seats.specs.Seated.{Seated, seat}
 use Rattle.asset_permits.specs.Descriptors.{Descriptor, stands}
-use Rattle.asset_permits.specs.Valid.{Parts, parts, descriptors_of, is_used, IsSeated, IsNamed, IsWithin, IsValid}
-use Rattle.asset_permits.specs.Changes.{IsGrown, BothSit, Shrinks}
-use Rattle.asset_permits.proofs.SeatLemmas.{used_same, used_along, used_across, home_along, home_at_end}
+use Rattle.asset_permits.specs.Valid.{Parts, parts_of, descriptors_of, is_used, IsUsed, IsNamed, IsWithin, IsValid}
+use Rattle.asset_permits.specs.Changes.{BothSit, Shrinks}
+use Rattle.asset_permits.proofs.SeatLemmas.{used_same, used_along, used_across, home_along, seated_by}
 use Rattle.asset_permits.proofs.SearchLemmas.{has_across}
 use Rattle.asset_permits.proofs.SlotLemmas.{IsRidOf, key_of_standing, stands_at, any_has, key_of_any}
 use Rattle.asset_permits.proofs.CopyLemmas.{any_cut}
@@ -20,7 +21,7 @@ use Rattle.asset_permits.specs.declared.copying.Cut.{Cut}
 use Rattle.asset_permits.specs.Copies.{cut_of, cuts_on, gives_on}
 use Rattle.asset_names.specs.declared.names.Ob.{Ob}
 use Rattle.asset_names.specs.InSet.{in_set}
-use Rattle.asset_names.proofs.Common.{both_follow}
+use Rattle.asset_names.proofs.Common.{both_follow, some_of}
 use Rattle.std.specs.List.{list_any}
 
 -- ---- whether a permit stands
@@ -71,21 +72,17 @@ pub marked_home : (p : Parts) (size : ℕ) → IsValid p size → IsSound p.alon
 marked_home p size valid sound k c home = (valid.within c (valid.seated.used c ∙ used_along p.along p.across k c sound home)).2
 
 -- ---- a new table
-pub valid_nothing : (permits : Slab Descriptor) (along across : Chained) (seats : Seated) (size : ℕ) → permits.slots ≡ [] → along.chains ≡ [] → along.homes ≡ [] → across.chains ≡ [] → across.homes ≡ [] → ((c : ℕ) → seat seats c ≡ None)
-    → IsValid (parts permits along across seats) size
+pub valid_nothing : (permits : Crossed Descriptor) (seats : Seated) (size : ℕ) → permits.items.slots ≡ [] → permits.rows.chains ≡ [] → permits.columns.chains ≡ [] → IsCrossed permits → ((c : ℕ) → seat seats c ≡ None)
+    → IsValid (parts_of permits seats) size
 unfolding is_used
-valid_nothing permits along across seats size none chains homes chains_across homes_across nobody = record {
-  seated = record {
-    along = λ k. ap is_some (nothing k) ∙ sym (ap is_some (no_home_of along homes k));
-    across = λ k. ap is_some (nothing k) ∙ sym (ap is_some (no_home_of across homes_across k));
-    used = λ c. ap is_some (nobody c) ∙ sym (λ i. is_some (first_of (no_chain_of along chains c i)) || is_some (first_of (no_chain_of across chains_across c i)));
-  };
+valid_nothing permits seats size none rows columns crossed nobody = record {
+  seated = seated_by permits seats crossed (λ c. ap is_some (nobody c) ∙ sym (λ i. is_some (first_of (no_chain_of permits.rows rows c i)) || is_some (first_of (no_chain_of permits.columns columns c i))));
   given = λ k c d there home. cc (sym there ∙ nothing k);
   taken = λ k c d there home. cc (sym there ∙ nothing k);
   single = λ j k d here there. cc (sym there ∙ nothing k);
   within = λ c sat. absurd (true≢false (sym sat ∙ ap is_some (nobody c)));
 } where
-  nothing : (k : ℕ) → get permits k ≡ None
+  nothing : (k : ℕ) → get permits.items k ≡ None
   nothing k = ap (λ (l : List (Option Descriptor)). slice_index_or l k None) none
 
 pub nothing_stands : (permits : Slab Descriptor) → permits.slots ≡ [] → descriptors_of permits ≡ []
@@ -100,37 +97,35 @@ slots_stand permits more same = ap (λ (l : List (Option Descriptor)). filter_ma
 pub slot_same : (permits more : Slab Descriptor) → more.slots ≡ permits.slots → (k : ℕ) → get more k ≡ get permits k
 slot_same permits more same k = ap (λ (l : List (Option Descriptor)). slice_index_or l k None) same
 
-pub seated_grown : (permits more : Slab Descriptor) (along longer across longer_across : Chained) (seats new : Seated) → IsSeated (parts permits along across seats) → more.slots ≡ permits.slots → IsGrown along longer → IsGrown across longer_across
-    → ((c : ℕ) → seat new c ≡ seat seats c) → IsSeated (parts more longer longer_across new)
-seated_grown permits more along longer across longer_across seats new seated slots grown grown_across same = record {
-  along = λ k. ap is_some (slot_same permits more slots k) ∙ seated.along k ∙ sym (ap is_some (grown.homes k));
-  across = λ k. ap is_some (slot_same permits more slots k) ∙ seated.across k ∙ sym (ap is_some (grown_across.homes k));
-  used = λ c. ap is_some (same c) ∙ seated.used c ∙ sym (used_same along across longer longer_across c (grown.chains c) (grown_across.chains c));
-}
+pub used_grown : (permits more : Crossed Descriptor) (seats new : Seated) → IsUsed permits seats → IsGrown permits more → ((c : ℕ) → seat new c ≡ seat seats c) → IsUsed more new
+used_grown permits more seats new used grown same c =
+    ap is_some (same c) ∙ used c ∙ sym (used_same permits.rows permits.columns more.rows more.columns c (grown.chains Row c) (grown.chains Column c))
 
-pub valid_grown : (permits more : Slab Descriptor) (along longer across longer_across : Chained) (seats new : Seated) (size most : ℕ) → IsValid (parts permits along across seats) size → more.slots ≡ permits.slots → IsGrown along longer → IsGrown across longer_across
-    → ((c : ℕ) → seat new c ≡ seat seats c) → IsWithin longer longer_across new most → IsValid (parts more longer longer_across new) most
-valid_grown permits more along longer across longer_across seats new size most valid slots grown grown_across same within = record {
-  seated = seated_grown permits more along longer across longer_across seats new valid.seated slots grown grown_across same;
-  given = λ k c d there home. same c ∙ valid.given k c d (sym (slot_same permits more slots k) ∙ there) (sym (grown.homes k) ∙ home);
-  taken = λ k c d there home. same c ∙ valid.taken k c d (sym (slot_same permits more slots k) ∙ there) (sym (grown_across.homes k) ∙ home);
-  single = λ j k d here there. valid.single j k d (sym (slot_same permits more slots j) ∙ here) (sym (slot_same permits more slots k) ∙ there);
+pub valid_grown : (permits more : Crossed Descriptor) (seats new : Seated) (size most : ℕ) → IsValid (parts_of permits seats) size → IsGrown permits more → ((c : ℕ) → seat new c ≡ seat seats c) → IsWithin more.rows more.columns new most
+    → IsValid (parts_of more new) most
+valid_grown permits more seats new size most valid grown same within = record {
+  seated = record {
+    along = λ k. ap is_some (slot_same permits.items more.items grown.items k) ∙ valid.seated.along k ∙ sym (ap is_some (grown.homes Row k));
+    across = λ k. ap is_some (slot_same permits.items more.items grown.items k) ∙ valid.seated.across k ∙ sym (ap is_some (grown.homes Column k));
+    used = used_grown permits more seats new valid.seated.used grown same;
+  };
+  given = λ k c d there home. same c ∙ valid.given k c d (sym (slot_same permits.items more.items grown.items k) ∙ there) (sym (grown.homes Row k) ∙ home);
+  taken = λ k c d there home. same c ∙ valid.taken k c d (sym (slot_same permits.items more.items grown.items k) ∙ there) (sym (grown.homes Column k) ∙ home);
+  single = λ j k d here there. valid.single j k d (sym (slot_same permits.items more.items grown.items j) ∙ here) (sym (slot_same permits.items more.items grown.items k) ∙ there);
   within = within;
 }
 
 -- ---- one more permit
--- a chain with a key at its end is not empty
-
-module _ (permits more : Slab Descriptor) (along longer across longer_across : Chained) (seats new : Seated) (size most : ℕ) (d : Descriptor) (key from to : ℕ)
-    (valid : IsValid (parts permits along across seats) size) (sits : BothSit (record { 0 = d.giver }) (record { 0 = d.taker }) from to seats new)
-    (put : Updates permits more key (Some d)) (none : stands (descriptors_of permits) d ≡ false)
-    (change : IsPushed from key along longer) (change_across : IsPushed to key across longer_across) where
-  used_more : (c : ℕ) → is_some (seat new c) ≡ is_used longer longer_across c
+module _ (permits more : Crossed Descriptor) (seats new : Seated) (size most : ℕ) (d : Descriptor) (key from to : ℕ)
+    (valid : IsValid (parts_of permits seats) size) (sits : BothSit (record { 0 = d.giver }) (record { 0 = d.taker }) from to seats new)
+    (put : Updates permits.items more.items key (Some d)) (none : stands (descriptors_of permits.items) d ≡ false)
+    (change : Joins from key permits.rows more.rows) (change_across : Joins to key permits.columns more.columns) (crossed : IsCrossed more) where
+  used_more : IsUsed more new
   unfolding is_used
   used_more c = elim (cases_eq c from) [
-    | inl here ↦ ap is_some (ap (seat new) here ∙ sits.giver_sits) ∙ sym (left_used (is_some (first_of (chain_of longer_across c))) (ap (λ (keys : List ℕ). is_some (first_of keys)) (ap (chain_of longer) here ∙ change.chain) ∙ first_pushed (chain_of along from) key))
+    | inl here ↦ ap is_some (ap (seat new) here ∙ sits.giver_sits) ∙ sym (left_used (is_some (first_of (chain_of more.columns c))) (ap (λ (keys : List ℕ). is_some (first_of keys)) (ap (chain_of more.rows) here ∙ change.chain) ∙ first_pushed (chain_of permits.rows from) key))
     | inr apart ↦ elim (cases_eq c to) [
-      | inl here ↦ ap is_some (ap (seat new) here ∙ sits.taker_sits) ∙ sym (right_used (is_some (first_of (chain_of longer c))) (ap (λ (keys : List ℕ). is_some (first_of keys)) (ap (chain_of longer_across) here ∙ change_across.chain) ∙ first_pushed (chain_of across to) key))
+      | inl here ↦ ap is_some (ap (seat new) here ∙ sits.taker_sits) ∙ sym (right_used (is_some (first_of (chain_of more.rows c))) (ap (λ (keys : List ℕ). is_some (first_of keys)) (ap (chain_of more.columns) here ∙ change_across.chain) ∙ first_pushed (chain_of permits.columns to) key))
       | inr differ ↦ ap is_some (sits.others c apart differ) ∙ valid.seated.used c ∙ sym (λ i. is_some (first_of (change.chains c apart i)) || is_some (first_of (change_across.chains c differ i)))
     ]
   ] where
@@ -141,88 +136,76 @@ module _ (permits more : Slab Descriptor) (along longer across longer_across : C
     right_used true e = refl
     right_used false e = e
 
-  pub valid_added : IsWithin along across new most → IsValid (parts more longer longer_across new) most
+  pub valid_added : IsWithin permits.rows permits.columns new most → IsValid (parts_of more new) most
   valid_added within = record {
-    seated = record { along = placed; across = placed_across; used = used_more };
+    seated = seated_by more new crossed used_more;
     given = given;
     taken = taken;
     single = single;
-    within = λ c sat. let old = within c sat in (omega (arith, old.0, change.same_chains), omega (arith, old.1, change_across.same_chains), old.2);
+    within = λ c sat. let old = within c sat in (omega (arith, old.0, change.many), omega (arith, old.1, change_across.many), old.2);
   } where
-    placed : (k : ℕ) → is_some (get more k) ≡ is_some (home_of longer k)
-    placed k = elim (cases_eq k key) [
-      | inl here ↦ ap is_some (ap (get more) here ∙ put.changed) ∙ sym (ap is_some (ap (home_of longer) here ∙ change.home))
-      | inr other ↦ ap is_some (put.others k other) ∙ valid.seated.along k ∙ sym (ap is_some (change.homes k other))
-    ]
-
-    placed_across : (k : ℕ) → is_some (get more k) ≡ is_some (home_of longer_across k)
-    placed_across k = elim (cases_eq k key) [
-      | inl here ↦ ap is_some (ap (get more) here ∙ put.changed) ∙ sym (ap is_some (ap (home_of longer_across) here ∙ change_across.home))
-      | inr other ↦ ap is_some (put.others k other) ∙ valid.seated.across k ∙ sym (ap is_some (change_across.homes k other))
-    ]
-
-    given : IsNamed (λ (d : Descriptor). d.giver) more longer new
+    given : IsNamed (λ (d : Descriptor). d.giver) more.items more.rows new
     given k c e there home = elim (cases_eq k key) [
       | inl here ↦
-          let same : Some e ≡ Some d = sym there ∙ ap (get more) here ∙ put.changed in
-          let seat_is : Some c ≡ Some from = sym home ∙ ap (home_of longer) here ∙ change.home in
+          let same : Some e ≡ Some d = sym there ∙ ap (get more.items) here ∙ put.changed in
+          let seat_is : Some c ≡ Some from = sym home ∙ ap (home_of more.rows) here ∙ change.home in
           let at : c ≡ from = cc seat_is in
           let is : e ≡ d = cc same in
           ap (seat new) at ∙ sits.giver_sits ∙ (λ i. Some (record { 0 = (sym is i).giver }))
       | inr other ↦ sits.kept c (record { 0 = e.giver }) (valid.given k c e (sym (put.others k other) ∙ there) (sym (change.homes k other) ∙ home))
     ]
 
-    taken : IsNamed (λ (d : Descriptor). d.taker) more longer_across new
+    taken : IsNamed (λ (d : Descriptor). d.taker) more.items more.columns new
     taken k c e there home = elim (cases_eq k key) [
       | inl here ↦
-          let same : Some e ≡ Some d = sym there ∙ ap (get more) here ∙ put.changed in
-          let seat_is : Some c ≡ Some to = sym home ∙ ap (home_of longer_across) here ∙ change_across.home in
+          let same : Some e ≡ Some d = sym there ∙ ap (get more.items) here ∙ put.changed in
+          let seat_is : Some c ≡ Some to = sym home ∙ ap (home_of more.columns) here ∙ change_across.home in
           let at : c ≡ to = cc seat_is in
           let is : e ≡ d = cc same in
           ap (seat new) at ∙ sits.taker_sits ∙ (λ i. Some (record { 0 = (sym is i).taker }))
       | inr other ↦ sits.kept c (record { 0 = e.taker }) (valid.taken k c e (sym (put.others k other) ∙ there) (sym (change_across.homes k other) ∙ home))
     ]
 
-    twice : (k : ℕ) (e : Descriptor) → (k ≡ key → ⊥) → get more k ≡ Some e → get more key ≡ Some e → ⊥
+    twice : (k : ℕ) (e : Descriptor) → (k ≡ key → ⊥) → get more.items k ≡ Some e → get more.items key ≡ Some e → ⊥
     twice k e other there here =
         let same : Some e ≡ Some d = sym here ∙ put.changed in
-        true≢false (sym (stands_at permits k d (sym (put.others k other) ∙ there ∙ same)) ∙ none)
+        true≢false (sym (stands_at permits.items k d (sym (put.others k other) ∙ there ∙ same)) ∙ none)
 
-    single : (j k : ℕ) (e : Descriptor) → get more j ≡ Some e → get more k ≡ Some e → j ≡ k
+    single : (j k : ℕ) (e : Descriptor) → get more.items j ≡ Some e → get more.items k ≡ Some e → j ≡ k
     single j k e here there = elim (cases_eq j key) [
       | inl first ↦ elim (cases_eq k key) [
         | inl second ↦ first ∙ sym second
-        | inr other ↦ absurd (twice k e other there (ap (get more) (sym first) ∙ here))
+        | inr other ↦ absurd (twice k e other there (ap (get more.items) (sym first) ∙ here))
       ]
       | inr apart ↦ elim (cases_eq k key) [
-        | inl second ↦ absurd (twice j e apart here (ap (get more) (sym second) ∙ there))
+        | inl second ↦ absurd (twice j e apart here (ap (get more.items) (sym second) ∙ there))
         | inr other ↦ valid.single j k e (sym (put.others j apart) ∙ here) (sym (put.others k other) ∙ there)
       ]
     ]
 
 -- ---- the permits of one transaction are gone
-pub rid_of : (old mid new : Parts) (size : ℕ) (t : Txn) (s : ℕ) → IsValid old size → seat old.seats s ≡ Some t → ((c : ℕ) → seat old.seats c ≡ Some t → c ≡ s) → Shrinks old mid → ((k : ℕ) → home_of mid.along k ≡ Some s → ⊥)
-    → ((k : ℕ) → (home_of old.along k ≡ Some s → ⊥) → get mid.permits k ≡ get old.permits k) → Shrinks mid new → IsSeated new → ((k : ℕ) → home_of new.across k ≡ Some s → ⊥)
-    → ((k : ℕ) → (home_of mid.across k ≡ Some s → ⊥) → get new.permits k ≡ get mid.permits k) → IsRidOf t.0 old.permits new.permits
-rid_of old mid new size t s valid sat alone first gone kept second seated gone_across kept_across = record {
+pub rid_of : (old mid new : Crossed Descriptor) (seats left rest : Seated) (size : ℕ) (t : Txn) (s : ℕ) → IsValid (parts_of old seats) size → seat seats s ≡ Some t → ((c : ℕ) → seat seats c ≡ Some t → c ≡ s)
+    → Shrinks old mid seats left → ((k : ℕ) → home_of mid.rows k ≡ Some s → ⊥) → ((k : ℕ) → (home_of old.rows k ≡ Some s → ⊥) → get mid.items k ≡ get old.items k)
+    → Shrinks mid new left rest → IsCrossed new → ((k : ℕ) → home_of new.columns k ≡ Some s → ⊥) → ((k : ℕ) → (home_of mid.columns k ≡ Some s → ⊥) → get new.items k ≡ get mid.items k) → IsRidOf t.0 old.items new.items
+rid_of old mid new seats left rest size t s valid sat alone first gone kept second crossed gone_across kept_across = record {
   still = λ k d there. first.permits k d (second.permits k d there);
   begins = λ k d there.
-      let home = home_along new k d seated there in
+      let home = some_of (home_of new.rows k) (crossed.placed Row k ∙ ap is_some there) in
       let old_there = first.permits k d (second.permits k d there) in
       ne_eqb d.giver t.0 (λ is.
-      let at = valid.given k home.0 d old_there (first.along k home.0 (second.along k home.0 home.1)) in
+      let at = valid.given k home.0 d old_there (first.homes Row k home.0 (second.homes Row k home.0 home.1)) in
       let here = alone home.0 (at ∙ (λ i. Some (record { 0 = is i }))) in
-      gone k (second.along k s (home.1 ∙ ap Some here)));
+      gone k (second.homes Row k s (home.1 ∙ ap Some here)));
   across = λ k d there.
-      let end = home_at_end new k d seated there in
+      let end = some_of (home_of new.columns k) (crossed.placed Column k ∙ ap is_some there) in
       let old_there = first.permits k d (second.permits k d there) in
       ne_eqb d.taker t.0 (λ is.
-      let at = valid.taken k end.0 d old_there (first.across k end.0 (second.across k end.0 end.1)) in
+      let at = valid.taken k end.0 d old_there (first.homes Column k end.0 (second.homes Column k end.0 end.1)) in
       let here = alone end.0 (at ∙ (λ i. Some (record { 0 = is i }))) in
       gone_across k (end.1 ∙ ap Some here));
   kept = λ k d there giver taker.
-      let mid_there : get mid.permits k ≡ Some d = kept k (λ home. eqb-false d.giver t.0 giver (named t d.giver (sym (valid.given k s d there home) ∙ sat))) ∙ there in
-      kept_across k (λ end. eqb-false d.taker t.0 taker (named t d.taker (sym (valid.taken k s d there (first.across k s end)) ∙ sat))) ∙ mid_there;
+      let mid_there : get mid.items k ≡ Some d = kept k (λ home. eqb-false d.giver t.0 giver (named t d.giver (sym (valid.given k s d there home) ∙ sat))) ∙ there in
+      kept_across k (λ end. eqb-false d.taker t.0 taker (named t d.taker (sym (valid.taken k s d there (first.homes Column k s end)) ∙ sat))) ∙ mid_there;
 } where
   named : (t : Txn) (n : ℕ) → Some (record { 0 = n }) ≡ Some t → n ≡ t.0
   named t n same = let is : record { 0 = n } ≡ t = cc same in ap (λ (u : Txn). u.0) is

@@ -1,8 +1,9 @@
--- Permits in a slab, beside two partitions of its keys into chains: by giver, and by taker. A chain's number is the seat
--- of the transaction.
+-- Permits, each in the row of its giver and in the column of its taker. The number of a row or a column is the seat of the
+-- transaction.
 use Rattle.std.specs.Prelude.{◌≡◌, ℕ, ◌<◌, Bool, true, ◌||◌, List, length, Option, Some, is_some, filter_map}
 use Rattle.slab.specs.Slab.{Slab, get}
 use Rattle.asset_chains.specs.Chained.{Chained, chain_of, home_of, first_of}
+use Rattle.asset_chains.specs.Crossed.{Crossed}
 use Rattle.asset_seats.specs.Seated.{Seated, seat}
 use Rattle.asset_permits.specs.Descriptors.{Descriptor}
 
@@ -20,6 +21,10 @@ pub record Parts : Type 0 where
 abbrev pub parts : Slab Descriptor → Chained → Chained → Seated → Parts
 parts permits along across seats = record { permits = permits; along = along; across = across; seats = seats }
 
+-- the parts of a table
+abbrev pub parts_of : Crossed Descriptor → Seated → Parts
+parts_of permits seats = parts permits.items permits.rows permits.columns seats
+
 -- whether a permit is in the chain of a seat, in either partition
 unfoldable pub is_used : Chained → Chained → ℕ → Bool
 is_used along across c = is_some (first_of (chain_of along c)) || is_some (first_of (chain_of across c))
@@ -29,6 +34,10 @@ pub record IsSeated (p : Parts) : Type 0 where
   pub along : (k : ℕ) → is_some (get p.permits k) ≡ is_some (home_of p.along k)
   pub across : (k : ℕ) → is_some (get p.permits k) ≡ is_some (home_of p.across k)
   pub used : (c : ℕ) → is_some (seat p.seats c) ≡ is_used p.along p.across c
+
+-- exactly the seats that are taken have permits in their row or column
+abbrev pub IsUsed : Crossed Descriptor → Seated → Type 0
+IsUsed permits seats = (c : ℕ) → is_some (seat seats c) ≡ is_used permits.rows permits.columns c
 
 -- a permit's home is the seat of its giver, or of its taker
 abbrev pub IsNamed : (Descriptor → ℕ) → Slab Descriptor → Chained → Seated → Type 0

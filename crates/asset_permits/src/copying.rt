@@ -13,9 +13,8 @@ use crate::dropping::drop_at;
 use crate::finding::find;
 use crate::permit::{Permit, Sought};
 use crate::table::Permits;
-use asset_chains::Chains;
+use asset_chains::{Crossed, Side};
 use asset_names::{NoMemory, Ob, ObList, ObSet, Ops, Txn};
-use slab::Slab;
 
 /// What is copied of a permit: for whom it is, on which one of its objects, and by which operations.
 #[derive(Clone, Copy)]
@@ -45,10 +44,10 @@ impl Cut {
 }
 
 /// Appends what is copied on `x` of the permit at the key, if it has the object.
-fn cut_at(permits: &Slab<Permit>, key: usize, x: Ob, cuts: &mut Vec<Cut>) -> Result<(), NoMemory>
+fn cut_at(permits: &Crossed<Permit>, key: usize, x: Ob, cuts: &mut Vec<Cut>) -> Result<(), NoMemory>
     ensures kept { (test : Copied → Bool) → list_any test cuts.old.items ≡ true → list_any test cuts.new.items ≡ true }
-    ensures made { (test : Copied → Bool) → list_any test cuts.new.items ≡ true → (list_any test cuts.old.items ≡ true) ⊎ ((d : Descriptor) × (get permits.now key ≡ Some d) × (in_set d.objects x.0 ≡ true) × (test (cut_of x d) ≡ true)) }
-    ensures all { OnOk result ((test : Copied → Bool) (d : Descriptor) → get permits.now key ≡ Some d → in_set d.objects x.0 ≡ true → test (cut_of x d) ≡ true → list_any test cuts.new.items ≡ true) }
+    ensures made { (test : Copied → Bool) → list_any test cuts.new.items ≡ true → (list_any test cuts.old.items ≡ true) ⊎ ((d : Descriptor) × (get permits.now.items key ≡ Some d) × (in_set d.objects x.0 ≡ true) × (test (cut_of x d) ≡ true)) }
+    ensures all { OnOk result ((test : Copied → Bool) (d : Descriptor) → get permits.now.items key ≡ Some d → in_set d.objects x.0 ≡ true → test (cut_of x d) ≡ true → list_any test cuts.new.items ≡ true) }
 {
     let Some(permit) = permits.get(key) else {
         return Ok(());
@@ -62,23 +61,22 @@ fn cut_at(permits: &Slab<Permit>, key: usize, x: Ob, cuts: &mut Vec<Cut>) -> Res
     }
 }
 
-/// Appends what is copied on `x` of each permit in the chain of the seat. If memory runs out, some may have been appended.
+/// Appends what is copied on `x` of each permit in the row of the seat. If memory runs out, some may have been appended.
 fn cut_along(
-    permits: &Slab<Permit>,
-    along: &Chains,
+    permits: &Crossed<Permit>,
     seat: usize,
     x: Ob,
     cuts: &mut Vec<Cut>,
 ) -> Result<(), NoMemory>
     ensures kept { (test : Copied → Bool) → list_any test cuts.old.items ≡ true → list_any test cuts.new.items ≡ true }
-    ensures made { (test : Copied → Bool) → list_any test cuts.new.items ≡ true → (list_any test cuts.old.items ≡ true) ⊎ ((k : ℕ) × (d : Descriptor) × (home_of along.now k ≡ Some seat) × (get permits.now k ≡ Some d) × (in_set d.objects x.0 ≡ true) × (test (cut_of x d) ≡ true)) }
-    ensures all { OnOk result ((test : Copied → Bool) (k : ℕ) (d : Descriptor) → home_of along.now k ≡ Some seat → get permits.now k ≡ Some d → in_set d.objects x.0 ≡ true → test (cut_of x d) ≡ true → list_any test cuts.new.items ≡ true) }
+    ensures made { (test : Copied → Bool) → list_any test cuts.new.items ≡ true → (list_any test cuts.old.items ≡ true) ⊎ ((k : ℕ) × (d : Descriptor) × (home_of permits.now.rows k ≡ Some seat) × (get permits.now.items k ≡ Some d) × (in_set d.objects x.0 ≡ true) × (test (cut_of x d) ≡ true)) }
+    ensures all { OnOk result ((test : Copied → Bool) (k : ℕ) (d : Descriptor) → home_of permits.now.rows k ≡ Some seat → get permits.now.items k ≡ Some d → in_set d.objects x.0 ≡ true → test (cut_of x d) ≡ true → list_any test cuts.new.items ≡ true) }
 {
-    along.laws();
-    let mut next = along.first(seat);
+    permits.laws();
+    let mut next = permits.first(Side::Row, seat);
     'keys: while let Some(key) = next {
         cut_at(permits, key, x, cuts)?;
-        next = along.next(key);
+        next = permits.next(Side::Row, key);
     }
     Ok(())
 }
@@ -117,7 +115,7 @@ impl Permits {
             return Ok(cuts);
         };
         'moved: for &x in moved {
-            cut_along(&self.permits, &self.by_giver, seat, x, &mut cuts)?;
+            cut_along(&self.permits, seat, x, &mut cuts)?;
         }
         Ok(cuts)
     }
@@ -192,17 +190,10 @@ impl Permits {
         let Some(from) = self.seats.seat_of(sought.giver) else {
             return;
         };
-        let Some(key) = find(&self.permits, &self.by_giver, from, sought) else {
+        let Some(key) = find(&self.permits, Side::Row, from, sought) else {
             return;
         };
-        drop_at(
-            &mut self.permits,
-            &mut self.by_giver,
-            &mut self.by_taker,
-            &mut self.seats,
-            key,
-        );
-        self.by_giver.laws();
-        self.by_taker.laws();
+        drop_at(&mut self.permits, &mut self.seats, key);
+        self.permits.laws();
     }
 }

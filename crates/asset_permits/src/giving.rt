@@ -1,6 +1,7 @@
 //! Who gives permits.
 
 use crate::table::Permits;
+use asset_chains::Side;
 use asset_names::Txn;
 
 impl Permits {
@@ -12,9 +13,9 @@ impl Permits {
     pub fn gives(&self, giver: Txn) -> bool
         ensures { result ≡ gives giver.0 self.now }
     {
-        self.by_giver.laws();
+        self.permits.laws();
         match self.seats.seat_of(giver) {
-            Some(seat) => self.by_giver.first(seat).is_some(),
+            Some(seat) => self.permits.first(Side::Row, seat).is_some(),
             None => false,
         }
     }

@@ -1,9 +1,8 @@
 //! The table of permits: who lets whom do what on which objects, and who allows whom by them. Each permit is in the
-//! chain of its giver and in that of its taker, so that an end costs its own permits alone. Only `add` can run out of
+//! row of its giver and in the column of its taker, so that an end costs its own permits alone. Only `add` can run out of
 //! memory.
 #![tactic(auto)]
 
-mod adding;
 mod copying;
 mod dropping;
 mod finding;

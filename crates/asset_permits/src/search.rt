@@ -1,10 +1,9 @@
 //! The search along permits, from givers to takers or the other way.
 
 use crate::permit::Permit;
-use asset_chains::Chains;
+use asset_chains::{Crossed, Side};
 use asset_marks::{Arrows, Marks, Pick, Way, expand_along};
 use asset_names::{Ob, Op};
-use slab::Slab;
 
 /// An object and an operation, which a permit covers or not.
 #[derive(Clone, Copy)]
@@ -23,27 +22,25 @@ impl Pick<Permit> for Covered {
     }
 }
 
-/// The permits that cover an operation on an object, the chains along which a search goes, and those of their other sides.
-/// The nodes are the seats.
+/// The permits that cover an operation on an object, and the side along which a search goes. The nodes are the seats.
 #[derive(Clone, Copy)]
 pub(crate) struct Search<'a> {
-    pub permits: &'a Slab<Permit>,
-    pub along: &'a Chains,
-    pub across: &'a Chains,
+    pub permits: &'a Crossed<Permit>,
+    pub side: Side,
     pub covered: Covered,
 }
 
 impl<'a> Arrows for Search<'a> {
+    ghost use Rattle.asset_chains.specs.Crossed.{lines, other_side};
     ghost use Rattle.asset_marks.specs.Searched.{arrows_along};
     ghost use Rattle.asset_permits.specs.Descriptors.{covers};
 
-    ghost arrows = { λ s. arrows_along (covers s.covered.x.0 s.covered.op) s.permits.now s.along.now s.across.now };
+    ghost arrows = { λ s. arrows_along (covers s.covered.x.0 s.covered.op) s.permits.now.items (lines s.side s.permits.now) (lines (other_side s.side) s.permits.now) };
 
     fn expand(&self, node: usize, marks: &mut Marks) {
         let way = Way {
             items: self.permits,
-            along: self.along,
-            across: self.across,
+            side: self.side,
         };
         expand_along(&way, &self.covered, node, marks);
     }

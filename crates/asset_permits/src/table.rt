@@ -1,27 +1,23 @@
 //! The table of permits and its calls.
 
-use crate::adding::{insert, reserve};
 use crate::dropping::drop_along;
 use crate::finding::find;
 use crate::permit::{Permit, Sought};
 use crate::search::{Covered, Search};
 use crate::seating::seat_both;
-use asset_chains::Chains;
+use asset_chains::{Crossed, Side};
 use asset_marks::{Marks, is_linked};
 use asset_names::{NoMemory, Ob, ObSet, Op, Ops, Txn};
-use asset_seats::Seats;
-use slab::Slab;
+use asset_seats::{Seats, reserve_item};
 use std::alloc::Global;
 use std::marker::Model;
 
 /// The permits that stand. Contracts see them as descriptors, none of which stands twice; their order means
-/// nothing. Each permit is in the chain of its giver and in that of its taker, and exactly those who give or take
+/// nothing. Each permit is in the row of its giver and in the column of its taker, and exactly those who give or take
 /// something have a seat.
 #[derive(Drop)]
 pub struct Permits {
-    pub(crate) permits: Slab<Permit>,
-    pub(crate) by_giver: Chains,
-    pub(crate) by_taker: Chains,
+    pub(crate) permits: Crossed<Permit>,
     pub(crate) seats: Seats,
     marks: Marks,
     pub(crate) alloc: Global,
@@ -30,13 +26,13 @@ pub struct Permits {
 impl Model for Permits {
     ghost use Rattle.std.specs.Prelude.{List};
     ghost use Rattle.asset_permits.specs.Descriptors.{Descriptor};
-    ghost use Rattle.asset_permits.specs.Valid.{parts, IsValid, descriptors_of};
+    ghost use Rattle.asset_permits.specs.Valid.{parts_of, IsValid, descriptors_of};
 
     ghost Value = { List Descriptor };
 
-    ghost view = { λ p. descriptors_of p.permits };
+    ghost view = { λ p. descriptors_of p.permits.items };
 
-    ghost invariant = { λ p. IsValid (parts p.permits p.by_giver p.by_taker p.seats) p.marks.size };
+    ghost invariant = { λ p. IsValid (parts_of p.permits p.seats) p.marks.size };
 }
 
 impl Permits {
@@ -52,9 +48,7 @@ impl Permits {
         ensures { result ≡ [] }
     {
         Permits {
-            permits: Slab::new(alloc),
-            by_giver: Chains::new(alloc),
-            by_taker: Chains::new(alloc),
+            permits: Crossed::new(alloc),
             seats: Seats::new(alloc),
             marks: Marks::new(alloc),
             alloc,
@@ -90,24 +84,17 @@ impl Permits {
         if self.has(sought) {
             return Ok(());
         }
-        reserve(&mut self.permits, &mut self.by_giver, &mut self.by_taker)?;
+        reserve_item(&mut self.permits)?;
         let permit = Permit::of(sought, self.alloc)?;
         let (from, to) = seat_both(
             &mut self.seats,
-            &mut self.by_giver,
-            &mut self.by_taker,
+            &mut self.permits,
             &mut self.marks,
             sought.giver,
             sought.taker,
         )?;
-        insert(
-            &mut self.permits,
-            &mut self.by_giver,
-            &mut self.by_taker,
-            from,
-            to,
-            permit,
-        );
+        self.permits.insert(from, to, permit);
+        self.permits.laws();
         Ok(())
     }
 
@@ -136,10 +123,10 @@ impl Permits {
         let Some(to) = self.seats.seat_of(sought.taker) else {
             return false;
         };
-        if self.by_giver.len(from) <= self.by_taker.len(to) {
-            find(&self.permits, &self.by_giver, from, sought).is_some()
+        if self.permits.len(Side::Row, from) <= self.permits.len(Side::Column, to) {
+            find(&self.permits, Side::Row, from, sought).is_some()
         } else {
-            find(&self.permits, &self.by_taker, to, sought).is_some()
+            find(&self.permits, Side::Column, to, sought).is_some()
         }
     }
 
@@ -158,21 +145,18 @@ impl Permits {
             return false;
         };
         self.seats.laws();
-        self.by_giver.laws();
-        self.by_taker.laws();
-        if self.by_giver.len(from) <= self.by_taker.len(to) {
+        self.permits.laws();
+        if self.permits.len(Side::Row, from) <= self.permits.len(Side::Column, to) {
             let search = Search {
                 permits: &self.permits,
-                along: &self.by_giver,
-                across: &self.by_taker,
+                side: Side::Row,
                 covered: Covered { x, op },
             };
             is_linked(&search, from, to, &mut self.marks)
         } else {
             let search = Search {
                 permits: &self.permits,
-                along: &self.by_taker,
-                across: &self.by_giver,
+                side: Side::Column,
                 covered: Covered { x, op },
             };
             is_linked(&search, to, from, &mut self.marks)
@@ -187,21 +171,8 @@ impl Permits {
         let Some(seat) = self.seats.seat_of(t) else {
             return;
         };
-        drop_along(
-            &mut self.permits,
-            &mut self.by_giver,
-            &mut self.by_taker,
-            &mut self.seats,
-            seat,
-        );
-        drop_along(
-            &mut self.permits,
-            &mut self.by_taker,
-            &mut self.by_giver,
-            &mut self.seats,
-            seat,
-        );
-        self.by_giver.laws();
-        self.by_taker.laws();
+        drop_along(&mut self.permits, &mut self.seats, Side::Row, seat);
+        drop_along(&mut self.permits, &mut self.seats, Side::Column, seat);
+        self.permits.laws();
     }
 }

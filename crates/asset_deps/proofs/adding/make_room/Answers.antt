@@ -1,23 +1,9 @@
-use Rattle.asset_deps.proofs.GrownLemmas.{grown_chains}
+use Rattle.std.proofs.Common.{arith}
+use Rattle.std.proofs.lemmas.Result.{on_ok_weaker}
+use Rattle.asset_chains.specs.declared.side.Side.TheVariants.{Row}
 use Rattle.asset_deps.proofs.adding.make_room.Goals as goal
 
-pub returns-in_err-add_chains-clause-by_source : goal.returns-in_err-add_chains-clause-by_source
-returns-in_err-add_chains-clause-by_source c = grown_chains c.args.by_source.now c.add_chains.new.chains c.add_chains.ensures.chains c.add_chains.ensures.homes c.add_chains.ensures.more
-
-pub returns-in_err-add_chains-2-clause-by_source : goal.returns-in_err-add_chains-2-clause-by_source
-returns-in_err-add_chains-2-clause-by_source c = grown_chains c.args.by_source.now c.add_chains.new.chains c.add_chains.ensures.chains c.add_chains.ensures.homes c.add_chains.ensures.more
-
-pub returns-in_err-add_chains-2-clause-by_dependent : goal.returns-in_err-add_chains-2-clause-by_dependent
-returns-in_err-add_chains-2-clause-by_dependent c = grown_chains c.args.by_dependent.now c.add_chains-2.new.chains c.add_chains-2.ensures.chains c.add_chains-2.ensures.homes c.add_chains-2.ensures.more
-
-pub returns-clause-by_source : goal.returns-clause-by_source
-returns-clause-by_source c = grown_chains c.args.by_source.now c.add_chains.new.chains c.add_chains.ensures.chains c.add_chains.ensures.homes c.add_chains.ensures.more
-
-pub returns-clause-by_dependent : goal.returns-clause-by_dependent
-returns-clause-by_dependent c = grown_chains c.args.by_dependent.now c.add_chains-2.new.chains c.add_chains-2.ensures.chains c.add_chains-2.ensures.homes c.add_chains-2.ensures.more
-
-pub returns-in_err-add-clause-by_source : goal.returns-in_err-add-clause-by_source
-returns-in_err-add-clause-by_source c = grown_chains c.args.by_source.now c.add_chains.new.chains c.add_chains.ensures.chains c.add_chains.ensures.homes c.add_chains.ensures.more
-
-pub returns-in_err-add-clause-by_dependent : goal.returns-in_err-add-clause-by_dependent
-returns-in_err-add-clause-by_dependent c = grown_chains c.args.by_dependent.now c.add_chains-2.new.chains c.add_chains-2.ensures.chains c.add_chains-2.ensures.homes c.add_chains-2.ensures.more
+pub returns-clause-room : goal.returns-clause-room
+returns-clause-room c =
+    on_ok_weaker c.add-2.result
+    (λ marked. (omega (arith, c.in_ok-add_lines.ensures.there, c.add_lines-2.ensures.grown.many Row), c.in_ok-add_lines-2.ensures.there, c.in_ok-add.ensures.there, marked)) c.add-2.ensures.there

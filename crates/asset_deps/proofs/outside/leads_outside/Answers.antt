@@ -1,6 +1,7 @@
 use Rattle.std.proofs.Common.{◌≡◌, ◌<◌, true, subst, sym, length, arith}
 use Rattle.asset_names.specs.Arrows.{has_arrow}
 use Rattle.asset_names.proofs.ListLemmas.{listed_at, lists_at}
+use Rattle.asset_chains.specs.Crossed.{lines, other_side}
 use Rattle.asset_marks.specs.Searched.{arrows_along}
 use Rattle.asset_deps.specs.declared.kinds.Kinds.TheVariants.{Order}
 use Rattle.asset_deps.specs.Reached.{of_kinds}
@@ -17,4 +18,4 @@ pub returns-clause-met : goal.returns-clause-met
 returns-clause-met c = λ here u t met arrow.
     let way = c.args.way.now in
     let found = listed_at c.args.marks.now.nodes u met in
-    c.met.invariant found.0 (omega (arith, found.1, c.met-test.false, c.len.ensures.len)) t (subst (λ n. has_arrow (arrows_along (of_kinds Order) way.items.now way.along.now way.across.now) n t ≡ true) (sym found.2) arrow)
+    c.met.invariant found.0 (omega (arith, found.1, c.met-test.false, c.len.ensures.len)) t (subst (λ n. has_arrow (arrows_along (of_kinds Order) way.items.now.items (lines way.side way.items.now) (lines (other_side way.side) way.items.now)) n t ≡ true) (sym found.2) arrow)

@@ -2,6 +2,7 @@ use Rattle.std.proofs.Common.{◌≡◌, ℕ, true, Some}
 use Rattle.slab.specs.Slab.{get}
 use Rattle.asset_names.specs.Arrows.{lists as lists_node}
 use Rattle.asset_chains.specs.Chained.{chain_of, home_of, lists}
+use Rattle.asset_chains.specs.Crossed.{lines, other_side}
 use Rattle.asset_marks.specs.Searched.{leads_to}
 use Rattle.asset_marks.proofs.KeyWalkLemmas.{passed, left, IsOn}
 use Rattle.asset_marks.proofs.along.leads_out.Given as goal
@@ -9,9 +10,9 @@ use Rattle.asset_marks.proofs.along.leads_out.Given as goal
 -- where the items that are passed lead is met
 abbrev pub invariant-keys : goal.invariant-keys
 invariant-keys g l = record {
-  on : IsOn l.way.along.now l.node l.next;
-  passed : (k t : ℕ) → lists (passed l.next (chain_of l.way.along.now l.node)) k ≡ true → leads_to (g.P.Pick.passes l.pick) (get l.way.items.now k) (home_of l.way.across.now k) ≡ Some t → lists_node l.marks.nodes t ≡ true;
+  on : IsOn (lines l.way.side l.way.items.now) l.node l.next;
+  passed : (k t : ℕ) → lists (passed l.next (chain_of (lines l.way.side l.way.items.now) l.node)) k ≡ true → leads_to (g.P.Pick.passes l.pick) (get l.way.items.now.items k) (home_of (lines (other_side l.way.side) l.way.items.now) k) ≡ Some t → lists_node l.marks.nodes t ≡ true;
 }
 
 abbrev pub decreases-keys : goal.decreases-keys
-decreases-keys g l = left l.next (chain_of l.way.along.now l.node)
+decreases-keys g l = left l.next (chain_of (lines l.way.side l.way.items.now) l.node)

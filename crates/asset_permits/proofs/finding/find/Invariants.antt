@@ -1,6 +1,7 @@
 use Rattle.std.proofs.Common.{◌≡◌, ℕ, true, Some}
 use Rattle.slab.specs.Slab.{get}
 use Rattle.asset_chains.specs.Chained.{chain_of, lists}
+use Rattle.asset_chains.specs.Crossed.{lines}
 use Rattle.asset_permits.specs.Stored.{asked}
 use Rattle.asset_marks.proofs.KeyWalkLemmas.{passed, left, IsOn}
 use Rattle.asset_permits.proofs.finding.find.Given as goal
@@ -8,9 +9,9 @@ use Rattle.asset_permits.proofs.finding.find.Given as goal
 -- none of the keys that are passed has the permit
 abbrev pub invariant-keys : goal.invariant-keys
 invariant-keys l = record {
-  on : IsOn l.along l.seat l.next;
-  absent : (k : ℕ) → lists (passed l.next (chain_of l.along l.seat)) k ≡ true → get l.permits k ≡ Some (asked l.sought) → ⊥;
+  on : IsOn (lines l.side l.permits) l.seat l.next;
+  absent : (k : ℕ) → lists (passed l.next (chain_of (lines l.side l.permits) l.seat)) k ≡ true → get l.permits.items k ≡ Some (asked l.sought) → ⊥;
 }
 
 abbrev pub decreases-keys : goal.decreases-keys
-decreases-keys l = left l.next (chain_of l.along l.seat)
+decreases-keys l = left l.next (chain_of (lines l.side l.permits) l.seat)

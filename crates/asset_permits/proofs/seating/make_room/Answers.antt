@@ -1,17 +1,9 @@
-use Rattle.asset_permits.proofs.SeatLemmas.{grown_chains}
+use Rattle.std.proofs.Common.{arith}
+use Rattle.std.proofs.lemmas.Result.{on_ok_weaker}
+use Rattle.asset_chains.specs.declared.side.Side.TheVariants.{Row}
 use Rattle.asset_permits.proofs.seating.make_room.Goals as goal
 
-pub returns-in_err-add_chains-clause-by_giver : goal.returns-in_err-add_chains-clause-by_giver
-returns-in_err-add_chains-clause-by_giver c = grown_chains c.args.by_giver.now c.add_chains.new.chains c.add_chains.ensures.chains c.add_chains.ensures.homes c.add_chains.ensures.more
-
-pub returns-in_err-add_chains-2-clause-by_giver : goal.returns-in_err-add_chains-2-clause-by_giver
-returns-in_err-add_chains-2-clause-by_giver c = grown_chains c.args.by_giver.now c.add_chains.new.chains c.add_chains.ensures.chains c.add_chains.ensures.homes c.add_chains.ensures.more
-
-pub returns-in_err-add_chains-2-clause-by_taker : goal.returns-in_err-add_chains-2-clause-by_taker
-returns-in_err-add_chains-2-clause-by_taker c = grown_chains c.args.by_taker.now c.add_chains-2.new.chains c.add_chains-2.ensures.chains c.add_chains-2.ensures.homes c.add_chains-2.ensures.more
-
-pub returns-clause-by_giver : goal.returns-clause-by_giver
-returns-clause-by_giver c = grown_chains c.args.by_giver.now c.add_chains.new.chains c.add_chains.ensures.chains c.add_chains.ensures.homes c.add_chains.ensures.more
-
-pub returns-clause-by_taker : goal.returns-clause-by_taker
-returns-clause-by_taker c = grown_chains c.args.by_taker.now c.add_chains-2.new.chains c.add_chains-2.ensures.chains c.add_chains-2.ensures.homes c.add_chains-2.ensures.more
+pub returns-clause-room : goal.returns-clause-room
+returns-clause-room c =
+    on_ok_weaker c.add.result
+    (λ marked. (omega (arith, c.in_ok-add_lines.ensures.there, c.add_lines-2.ensures.grown.many Row), c.in_ok-add_lines-2.ensures.there, marked)) c.add.ensures.there

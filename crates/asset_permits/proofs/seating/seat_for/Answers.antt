@@ -1,21 +1,22 @@
-use Rattle.std.proofs.Common.{cond, eqb, Option, Some, sym, ap, ◌∙◌, arith}
+use Rattle.std.proofs.Common.{cond, eqb, Option, Some, refl, sym, ap, ◌∙◌, arith}
+use Rattle.asset_chains.proofs.CrossedLemmas.{grown_same}
 use Rattle.asset_names.specs.declared.names.Txn.{Txn}
 use Rattle.asset_names.proofs.Common.{always_err}
-use Rattle.asset_permits.proofs.SeatLemmas.{grown_same, within_grown, within_sits, sits_down}
+use Rattle.asset_permits.proofs.SeatLemmas.{within_grown, within_sits, sits_down}
 use Rattle.asset_permits.proofs.seating.seat_for.Goals as goal
 
 pub returns-in_err-reserve-clause-within : goal.returns-in_err-reserve-clause-within
 returns-in_err-reserve-clause-within c =
-    within_grown c.args.by_giver.now c.args.by_taker.now c.args.by_giver.now c.args.by_taker.now c.args.seats.now c.reserve.new.self c.args.marks.now.size c.args.marks.now.size c.requires
-    (grown_same c.args.by_giver.now) (grown_same c.args.by_taker.now) c.reserve.ensures.seats (omega arith)
+    within_grown c.args.permits.now c.args.permits.now c.args.seats.now c.reserve.new.self c.args.marks.now.size c.args.marks.now.size c.requires
+    (grown_same c.args.permits.now c.args.permits.now refl refl refl) c.reserve.ensures.seats (omega arith)
 
 pub returns-in_err-reserve-clause-unchanged : goal.returns-in_err-reserve-clause-unchanged
 returns-in_err-reserve-clause-unchanged c = always_err c.from_residual.result c.reserve.ensures.seats
 
 pub returns-in_err-make_room-clause-within : goal.returns-in_err-make_room-clause-within
 returns-in_err-make_room-clause-within c =
-    within_grown c.args.by_giver.now c.args.by_taker.now c.make_room.new.by_giver c.make_room.new.by_taker c.args.seats.now c.reserve.new.self c.args.marks.now.size c.make_room.new.marks.size c.requires
-    c.make_room.ensures.by_giver c.make_room.ensures.by_taker c.reserve.ensures.seats c.make_room.ensures.marks
+    within_grown c.args.permits.now c.make_room.new.permits c.args.seats.now c.reserve.new.self c.args.marks.now.size c.make_room.new.marks.size c.requires
+    c.make_room.ensures.grown c.reserve.ensures.seats c.make_room.ensures.marks
 
 pub returns-in_err-make_room-clause-unchanged : goal.returns-in_err-make_room-clause-unchanged
 returns-in_err-make_room-clause-unchanged c = always_err c.from_residual-in_err-make_room.result c.reserve.ensures.seats
@@ -29,8 +30,8 @@ returns-clause-within c =
     let vacant = c.vacant-vacant.ensures in
     let same = c.reserve.ensures.seats in
     let room = c.in_ok-make_room.ensures.room in
-    within_sits c.make_room.new.by_giver c.make_room.new.by_taker c.reserve.new.self c.sit.new.self c.make_room.new.marks.size c.args.t c.sit.result
-    (within_grown c.args.by_giver.now c.args.by_taker.now c.make_room.new.by_giver c.make_room.new.by_taker c.args.seats.now c.reserve.new.self c.args.marks.now.size c.make_room.new.marks.size c.requires c.make_room.ensures.by_giver c.make_room.ensures.by_taker same c.make_room.ensures.marks)
+    within_sits c.make_room.new.permits.rows c.make_room.new.permits.columns c.reserve.new.self c.sit.new.self c.make_room.new.marks.size c.args.t c.sit.result
+    (within_grown c.args.permits.now c.make_room.new.permits c.args.seats.now c.reserve.new.self c.args.marks.now.size c.make_room.new.marks.size c.requires c.make_room.ensures.grown same c.make_room.ensures.marks)
     (sits_down c.args.t c.sit.result c.reserve.new.self c.sit.new.self c.sit.ensures.free c.sit.ensures.seats)
     (omega (arith, given, vacant, room.0)) (omega (arith, given, vacant, room.1)) (omega (arith, given, vacant, room.2))
 

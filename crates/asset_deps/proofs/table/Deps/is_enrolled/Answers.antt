@@ -15,8 +15,8 @@ returns-clause-enrolled c =
 pub returns-clause-alone : goal.returns-clause-alone
 returns-clause-alone c =
     let inside = c.self.inside in
-    let p = parts inside.links inside.by_source inside.by_dependent inside.seats in
-    let ds = dependencies_of inside.links in
+    let p = parts inside.links.items inside.links.rows inside.links.columns inside.seats in
+    let ds = dependencies_of inside.links.items in
     rw (← c.self.view_is) (λ none n.
     let absent = absent_unless c.seat_of.result c.seat_of.ensures.absent (sym c.is_some.ensures ∙ none) in (
       sym (class_linked ds c.args.t.0 n) ∙ leads_to_nobody p inside.marks.size inside.marked c.self.invariant Class c.args.t n absent,
@@ -26,5 +26,5 @@ returns-clause-alone c =
 pub returns-clause-no_source : goal.returns-clause-no_source
 returns-clause-no_source c =
     let inside = c.self.inside in
-    let p = parts inside.links inside.by_source inside.by_dependent inside.seats in
+    let p = parts inside.links.items inside.links.rows inside.links.columns inside.seats in
     rw (← c.self.view_is) (λ none. no_outside p inside.marks.size inside.marked c.self.invariant c.args.t (absent_unless c.seat_of.result c.seat_of.ensures.absent (sym c.is_some.ensures ∙ none)))

@@ -7,7 +7,7 @@ use Rattle.asset_deps.proofs.table.Deps.laws.Goals as goal
 pub returns-clause-enrolled : goal.returns-clause-enrolled
 returns-clause-enrolled c =
     let inside = c.self.inside in
-    rw (← c.self.view_is) (λ k u v arrow. ends_enrolled (parts inside.links inside.by_source inside.by_dependent inside.seats) inside.marks.size inside.marked c.self.invariant k u v arrow)
+    rw (← c.self.view_is) (λ k u v arrow. ends_enrolled (parts inside.links.items inside.links.rows inside.links.columns inside.seats) inside.marks.size inside.marked c.self.invariant k u v arrow)
 
 pub returns-clause-marked : goal.returns-clause-marked
 returns-clause-marked c = let inside = c.self.inside in rw (← c.self.view_is) (λ n listed. marked_enrolled inside.seats inside.marked.nodes n c.self.invariant.taken listed)
@@ -16,4 +16,4 @@ pub returns-clause-once : goal.returns-clause-once
 returns-clause-once c = let inside = c.self.inside in rw (← c.self.view_is) (marked_once inside.seats inside.marked.nodes c.self.invariant.taken c.laws.ensures.one c.laws-2.ensures.once)
 
 pub returns-clause-different : goal.returns-clause-different
-returns-clause-different c = let inside = c.self.inside in rw (← c.self.view_is) (are_different inside.links c.self.invariant.single)
+returns-clause-different c = let inside = c.self.inside in rw (← c.self.view_is) (are_different inside.links.items c.self.invariant.single)

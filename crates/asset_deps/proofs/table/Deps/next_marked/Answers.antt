@@ -11,7 +11,7 @@ returns-in_err-seat-clause-none c =
     rw (← c.self.view_is)
     (on_any_none c.from_residual.result (
       nothing_marked inside.seats inside.marked.nodes none.0,
-      ap (λ (m : Met). record { names = names_of inside.seats; dependencies = dependencies_of inside.links; marked = marked_of inside.seats m.nodes }) none.1,
+      ap (λ (m : Met). record { names = names_of inside.seats; dependencies = dependencies_of inside.links.items; marked = marked_of inside.seats m.nodes }) none.1,
     ))
 
 pub invariant_of-self-2 : goal.invariant_of-self-2

@@ -11,4 +11,4 @@ returns-then-eq-clause-allowed c =
     c.if-eq.true ∙ sym (allows_itself c.args.self.now c.args.giver.0 c.args.x.0 c.args.op) ∙ ap (λ t. allows_by c.args.self.now c.args.giver.0 t c.args.x.0 c.args.op) same
 
 pub returns-then-eq-clause-different : goal.returns-then-eq-clause-different
-returns-then-eq-clause-different c = subst AreDifferent c.self.view_is (are_different c.self.inside.permits c.self.invariant.single)
+returns-then-eq-clause-different c = subst AreDifferent c.self.view_is (are_different c.self.inside.permits.items c.self.invariant.single)
