@@ -1,0 +1,9 @@
+pub mod AtLemmas
+pub mod PlacedLemmas
+pub mod RowLemmas
+pub mod SwapLemmas
+pub mod EndLemmas
+pub mod PartLemmas
+pub mod GrowLemmas
+pub mod Laws
+pub mod CutLemmas

@@ -1,0 +1,12 @@
+use Rattle.std.proofs.Common.{◌≡◌, ◌≤◌, ◌+◌, ◌-◌}
+use Rattle.asset_lists.proofs.table.KeyLists.add_lists.Given as goal
+
+-- lists were added, and nothing else changed
+abbrev pub invariant-lists : goal.invariant-lists
+invariant-lists l = record {
+  parts : l.self.parts ≡ l.initial.self.parts;
+  more : l.initial.self.lists ≤ l.self.lists;
+}
+
+abbrev pub decreases-lists : goal.decreases-lists
+decreases-lists l = l.list + 1 - l.self.lists

@@ -1,0 +1,225 @@
+//! The lists and their calls.
+
+use crate::moves::swap;
+use crate::part::Part;
+use crate::rows::{Place, Row};
+use smallvec::SmallVec;
+use std::alloc::{AllocError, Global};
+use std::marker::Model;
+
+/// Keys in lists. Keys and lists are numbers from 0 on, such as a slab gives, and each key is in one list at most, in its
+/// front part or in its back part. Contracts see the part of each key, and no order among the keys of a part.
+///
+/// A key takes 8 bytes and 4 more while it is in a list, the first four of which lie in the list itself. Each call but
+/// `add_key`, `add_list` and `push` takes constant time and no memory.
+#[derive(Drop)]
+pub struct KeyLists {
+    alloc: Global,
+    rows: Vec<Row>,
+    places: Vec<Place>,
+}
+
+impl Model for KeyLists {
+    ghost use Rattle.asset_lists.specs.Parted.{Parted};
+    ghost use Rattle.asset_lists.specs.Placed.{seen, IsValid};
+
+    ghost Value = { Parted };
+
+    ghost view = { λ table. seen table.rows.items table.places.items };
+
+    ghost invariant = { λ table. IsValid table.rows.items table.places.items };
+}
+
+impl KeyLists {
+    ghost use Rattle.std.specs.Prelude.{◌≡◌, ℕ, ◌<◌, ◌^◌, [], length, true, false, None, Some, OnOk, OnErr};
+    ghost use Rattle.asset_lists.specs.Parted.{part_of, advanced, one_key_more, one_list_more, AreKeys, IsChangedAt};
+
+    /// Returns no lists and no keys. It does not allocate.
+    pub fn new(alloc: Global) -> KeyLists
+        ensures lists { result.lists ≡ 0 }
+        ensures parts { result.parts ≡ [] }
+    {
+        KeyLists {
+            alloc,
+            rows: Vec::new(alloc),
+            places: Vec::new(alloc),
+        }
+    }
+
+    /// Adds a key, which is in no list. Its number is how many keys there were.
+    ///
+    /// If memory runs out, or the number is above 2^32 - 2, nothing changes. The cost is that of a push to a vector.
+    pub fn add_key(&mut self) -> Result<(), AllocError>
+        ensures added { OnOk result (self.new ≡ one_key_more self.old) }
+        ensures unchanged { OnErr result (self.new ≡ self.old) }
+    {
+        if self.places.len() >= u32::MAX as usize || self.places.push(Place::NONE).is_err() {
+            return Err(AllocError);
+        }
+        Ok(())
+    }
+
+    /// Adds a list without keys. Its number is how many lists there were.
+    ///
+    /// If memory runs out, or the number is above 2^32 - 2, nothing changes. The cost is that of a push to a vector.
+    pub fn add_list(&mut self) -> Result<(), AllocError>
+        ensures added { OnOk result (self.new ≡ one_list_more self.old) }
+        ensures unchanged { OnErr result (self.new ≡ self.old) }
+    {
+        let row = Row {
+            keys: SmallVec::new(self.alloc),
+            front: 0,
+        };
+        if self.rows.len() >= u32::MAX as usize || self.rows.push(row).is_err() {
+            return Err(AllocError);
+        }
+        Ok(())
+    }
+
+    /// Puts a key that is in no list into a part of a list.
+    ///
+    /// If memory runs out, or the list has 2^32 - 1 keys, nothing changes. The cost is that of a push to a vector.
+    pub fn push(&mut self, part: Part, key: usize) -> Result<(), AllocError>
+        requires list { part.list < self.old.lists }
+        requires key { key < length self.old.parts }
+        requires free { part_of self.old key ≡ None }
+        ensures pushed { OnOk result (IsChangedAt key (Some part) self.old self.new) }
+        ensures unchanged { OnErr result (self.new ≡ self.old) }
+    {
+        match self.append(part.list, key) {
+            Ok(()) => {}
+            Err(_) => return Err(AllocError),
+        }
+        if part.front {
+            self.raise(key, part.list);
+        }
+        Ok(())
+    }
+
+    /// Moves a key to the front part of its list. If it is in no list, nothing changes.
+    pub fn advance(&mut self, key: usize)
+        ensures { IsChangedAt key (advanced (part_of self.old key)) self.old self.new }
+    {
+        if let Some(part) = self.part(key) {
+            if !part.front {
+                self.raise(key, part.list);
+            }
+        }
+    }
+
+    /// Takes a key out of its list. If it is in none, nothing changes.
+    pub fn remove(&mut self, key: usize)
+        ensures { IsChangedAt key None self.old self.new }
+    {
+        if let Some(part) = self.part(key) {
+            if part.front {
+                self.lower(key, part.list);
+            }
+            self.cut(key, part.list);
+        }
+    }
+
+    /// Returns the part that the key is in, if it is in one.
+    pub fn part(&self, key: usize) -> Option<Part>
+        ensures { result ≡ part_of self.now key }
+    {
+        if key >= self.places.len() {
+            return None;
+        }
+        let place = self.places[key];
+        if place.home == 0 {
+            return None;
+        }
+        let list = place.home as usize - 1;
+        Some(Part {
+            list,
+            front: (place.position as usize) < self.rows[list].front,
+        })
+    }
+
+    /// Returns the keys of a part, each once, in no order that a caller may rely on. Past the last list there are none.
+    pub fn keys(&self, part: Part) -> &[u32]
+        ensures { AreKeys self.now part result.now }
+    {
+        if part.list >= self.rows.len() {
+            return &[];
+        }
+        let row = &self.rows[part.list];
+        if part.front {
+            &row.keys.as_slice()[..row.front]
+        } else {
+            &row.keys.as_slice()[row.front..]
+        }
+    }
+
+    /// Returns how many keys there are.
+    pub fn key_count(&self) -> usize
+        ensures { result ≡ length self.now.parts }
+    {
+        self.places.len()
+    }
+
+    /// Returns how many lists there are.
+    pub fn list_count(&self) -> usize
+        ensures { result ≡ self.now.lists }
+    {
+        self.rows.len()
+    }
+
+    /// Puts a key that is in no list at the end of the list. If memory runs out, nothing changes.
+    fn append(&mut self, list: usize, key: usize) -> Result<(), AllocError>
+        requires list { list < self.old.lists }
+        requires key { key < length self.old.parts }
+        requires free { part_of self.old key ≡ None }
+        ensures pushed { OnOk result (IsChangedAt key (Some (record { list = list; front = false })) self.old self.new) }
+        ensures unchanged { OnErr result (self.new ≡ self.old) }
+    {
+        let row = &mut self.rows[list];
+        let position = row.keys.len();
+        if position >= u32::MAX as usize || row.keys.push(key as u32).is_err() {
+            return Err(AllocError);
+        }
+        self.places[key] = Place {
+            home: list as u32 + 1,
+            position: position as u32,
+        };
+        Ok(())
+    }
+
+    /// Moves a key from the back part of its list to the front part.
+    fn raise(&mut self, key: usize, list: usize)
+        requires { part_of self.old key ≡ Some (record { list = list; front = false }) }
+        ensures { IsChangedAt key (Some (record { list = list; front = true })) self.old self.new }
+    {
+        let position = self.places[key].position as usize;
+        let row = &mut self.rows[list];
+        let front = row.front;
+        swap(row.keys.as_mut_slice(), &mut self.places, position, front);
+        row.front = front + 1;
+    }
+
+    /// Moves a key from the front part of its list to the back part.
+    fn lower(&mut self, key: usize, list: usize)
+        requires { part_of self.old key ≡ Some (record { list = list; front = true }) }
+        ensures { IsChangedAt key (Some (record { list = list; front = false })) self.old self.new }
+    {
+        let position = self.places[key].position as usize;
+        let row = &mut self.rows[list];
+        let last = row.front - 1;
+        swap(row.keys.as_mut_slice(), &mut self.places, position, last);
+        row.front = last;
+    }
+
+    /// Takes a key out of the back part of its list. The last key of the list takes its position.
+    fn cut(&mut self, key: usize, list: usize)
+        requires { part_of self.old key ≡ Some (record { list = list; front = false }) }
+        ensures { IsChangedAt key None self.old self.new }
+    {
+        let position = self.places[key].position as usize;
+        let row = &mut self.rows[list];
+        let last = row.keys.len() - 1;
+        swap(row.keys.as_mut_slice(), &mut self.places, position, last);
+        row.keys.pop();
+        self.places[key] = Place::NONE;
+    }
+}
