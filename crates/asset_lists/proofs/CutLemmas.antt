@@ -1,6 +1,5 @@
 -- A key of the back part that is swapped with the last key of its list, which goes then.
-use Rattle.std.proofs.Common.{◌≡◌, ℕ, ◌+◌, ◌-◌, ◌<◌, ◌≤◌, Bool, true, false, List, [], ◌∷◌, length, take, set, get_or, Option, Some, None, refl, sym, ap, subst, ◌∙◌, arith}
-use Rattle.std.specs.Prelude.{nat_lt}
+use Rattle.std.proofs.Common.{◌≡◌, ℕ, ◌+◌, ◌-◌, ◌<◌, ◌≤◌, false, List, length, take, set, get_or, None, sym, ap, subst, ◌∙◌, arith}
 use Rattle.std.specs.List.{refill}
 use Rattle.std.proofs.lemmas.Bool.{le-ltb, ltb-false}
 use Rattle.asset_lists.specs.declared.rows.Row.{Row}
@@ -8,7 +7,7 @@ use Rattle.asset_lists.specs.declared.rows.Place.{Place}
 use Rattle.asset_lists.specs.Parted.{part_of, IsAt, IsChangedAt}
 use Rattle.asset_lists.specs.Placed.{row_at, keys_of, front_of, place_at, no_place, seen, swapped, IsValid, IsSwapped}
 use Rattle.asset_lists.proofs.RowLemmas.{some_part, row_set, row_again}
-use Rattle.asset_lists.proofs.SwapLemmas.{key_in, list_in, side, border, at_key, row_now, items_now, valid_now, changed_now, at_now, back_border}
+use Rattle.asset_lists.proofs.SwapLemmas.{key_in, list_in, side, at_key, row_now, items_now, valid_now, changed_now, at_now, back_border}
 use Rattle.asset_lists.proofs.EndLemmas.{valid_popped, changed_popped}
 use Rattle.asset_lists.proofs.Laws.{changed_twice}
 

@@ -1,13 +1,12 @@
 -- One more key, or one more list.
-use Rattle.std.proofs.Common.{◌≡◌, ℕ, ◌+◌, ◌<◌, ◌≤◌, ◌^◌, List, [], ◌∷◌, ◌++◌, length, get_or, map, Option, Some, None, refl, sym, ap, subst, ◌∙◌, arith, zero, suc}
+use Rattle.std.proofs.Common.{◌≡◌, ℕ, ◌+◌, ◌<◌, ◌≤◌, ◌^◌, List, [], ◌∷◌, ◌++◌, length, map, Option, Some, refl, sym, ap, subst, ◌∙◌, arith, zero, suc}
 use Rattle.std.specs.Prelude.{nat_lt}
-use Rattle.std.proofs.lemmas.List.{length-append, length-map, map-append, ext_get_or}
-use Rattle.std.proofs.Math.ListN.{get_or-map}
+use Rattle.std.proofs.lemmas.List.{length-append, map-append}
 use Rattle.asset_lists.specs.declared.part.Part.{Part}
 use Rattle.asset_lists.specs.declared.rows.Row.{Row}
 use Rattle.asset_lists.specs.declared.rows.Place.{Place}
-use Rattle.asset_lists.specs.Parted.{Parted, IsAt, one_key_more, one_list_more}
-use Rattle.asset_lists.specs.Placed.{no_row, no_place, row_at, keys_of, front_of, place_at, part_in, seen, IsPlaced, IsValid}
+use Rattle.asset_lists.specs.Parted.{IsAt, one_key_more, one_list_more}
+use Rattle.asset_lists.specs.Placed.{no_place, keys_of, front_of, place_at, part_in, seen, IsValid}
 
 -- reads past the end are those of nothing, and so is what is added
 place_more : (places : List Place) (k : ℕ) → place_at (places ++ no_place ∷ []) k ≡ place_at places k

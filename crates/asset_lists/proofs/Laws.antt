@@ -1,6 +1,5 @@
 -- What callers use of the parts of keys.
-use Rattle.std.proofs.Common.{◌≡◌, ℕ, ◌+◌, ◌<◌, ◌++◌, List, [], ◌∷◌, length, get_or, Option, None, Some, refl, sym, ap, ◌∙◌, arith, inl, inr, zero, suc}
-use Rattle.std.proofs.lemmas.Bool.{cases_eq}
+use Rattle.std.proofs.Common.{◌≡◌, ℕ, ◌+◌, ◌++◌, List, [], ◌∷◌, length, get_or, Option, None, refl, ap, ◌∙◌, zero, suc}
 use Rattle.std.proofs.lemmas.List.{length-append}
 use Rattle.asset_lists.specs.declared.part.Part.{Part}
 use Rattle.asset_lists.specs.Parted.{Parted, part_of, one_key_more, one_list_more, IsChangedAt}
@@ -46,3 +45,13 @@ list_more-lists table = refl
 pub list_more-parts : (table : Parted) → (one_list_more table).parts ≡ table.parts
 unfolding one_list_more
 list_more-parts table = refl
+
+-- a table without keys
+pub no_part_of : (table : Parted) → table.parts ≡ [] → (k : ℕ) → part_of table k ≡ None
+unfolding part_of
+no_part_of table none k = ap (λ (parts : List (Option Part)). get_or parts k None) none
+
+-- the same parts
+pub part_same : (old new : Parted) → new.parts ≡ old.parts → (k : ℕ) → part_of new k ≡ part_of old k
+unfolding part_of
+part_same old new same k = ap (λ (parts : List (Option Part)). get_or parts k None) same

@@ -1,14 +1,13 @@
 -- The keys of a part, and the part of a key, as they are read.
-use Rattle.std.proofs.Common.{◌≡◌, ℕ, ◌+◌, ◌-◌, ◌<◌, ◌≤◌, Bool, true, false, List, [], ◌∷◌, ◌++◌, length, take, drop, get_or, map, Option, Some, None, refl, sym, ap, subst, ◌∙◌, arith, zero, suc}
+use Rattle.std.proofs.Common.{◌≡◌, ℕ, ◌+◌, ◌-◌, ◌<◌, ◌≤◌, Bool, true, false, List, [], length, take, drop, Some, None, sym, ap, subst, ◌∙◌, arith, suc}
 use Rattle.std.specs.Prelude.{nat_lt}
 use Rattle.std.proofs.lemmas.Bool.{lt-ltb, le-ltb, ltb-true, ltb-false}
-use Rattle.std.proofs.lemmas.List.{get_or_past, get_or_read, take_all, length-drop, length-append, length-map, ext_get_or}
-use Rattle.std.proofs.Math.ListN.{get_or-map}
+use Rattle.std.proofs.lemmas.List.{take_all, length-drop}
 use Rattle.asset_lists.specs.declared.part.Part.{Part}
 use Rattle.asset_lists.specs.declared.rows.Row.{Row}
 use Rattle.asset_lists.specs.declared.rows.Place.{Place}
-use Rattle.asset_lists.specs.Parted.{Parted, part_of, IsAt, AreKeys}
-use Rattle.asset_lists.specs.Placed.{no_row, no_place, row_at, keys_of, front_of, place_at, part_in, seen, IsPlaced, IsValid}
+use Rattle.asset_lists.specs.Parted.{part_of, IsAt, AreKeys}
+use Rattle.asset_lists.specs.Placed.{keys_of, front_of, place_at, part_in, seen, IsValid}
 use Rattle.asset_lists.proofs.AtLemmas.{at_take, take_at, at_drop, drop_at}
 use Rattle.asset_lists.proofs.PlacedLemmas.{one_position}
 use Rattle.asset_lists.proofs.RowLemmas.{some_part, part_seen, Stands, stands_at}
@@ -52,9 +51,11 @@ module _ (rows : List Row) (places : List Place) (valid : IsValid rows places) w
           ∙ ap (λ (n : ℕ). some_part part.list (nat_lt q n)) (sym border_is)
           ∙ ap (λ (b : Bool). some_part part.list b) (lt-ltb q border old.1 ∙ sym side);
       all = λ k here.
-          let st = stood k true side here in
-          ((place_at places k).position, take_at border keys (place_at places k).position k fits (row_at_key (place_at places k).position k st.at)
-              (subst (λ (n : ℕ). (place_at places k).position < n) (sym border_is) (ltb-true (place_at places k).position (front_of rows part.list) st.side)));
+          let st = stood k true side here in (
+            (place_at places k).position,
+            take_at border keys (place_at places k).position k fits (row_at_key (place_at places k).position k st.at)
+                (subst (λ (n : ℕ). (place_at places k).position < n) (sym border_is) (ltb-true (place_at places k).position (front_of rows part.list) st.side)),
+          );
       once = λ p q k first second.
           one_position (keys_of rows) (place_at places) valid.placed part.list p q k (at_row p k (at_take border keys p k fits first).0) (at_row q k (at_take border keys q k fits second).0);
     }

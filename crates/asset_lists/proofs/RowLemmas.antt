@@ -1,15 +1,15 @@
 -- Rows and places after a call, and the parts that are seen of them.
-use Rattle.std.proofs.Common.{◌≡◌, ℕ, ◌+◌, ◌-◌, ◌<◌, ◌≤◌, ◌^◌, Bool, true, false, eqb, ltb, cond, List, [], ◌∷◌, ◌++◌, length, get_or, set, map, Option, Some, None, refl, sym, ap, subst, ◌∙◌, arith, zero, suc, inl, inr, ◌⊎◌}
+use Rattle.std.proofs.Common.{◌≡◌, ℕ, ◌<◌, ◌≤◌, ◌^◌, Bool, false, ltb, List, [], ◌∷◌, ◌++◌, length, get_or, set, Option, Some, None, refl, sym, ap, subst, ◌∙◌, arith, zero, suc, inl, inr}
 use Rattle.std.specs.Prelude.{nat_lt}
-use Rattle.std.proofs.lemmas.Bool.{cases_eq, cases_Bool, eqb-true, eqb-false, lt-ltb, le-ltb, ltb-true, ltb-false}
+use Rattle.std.proofs.lemmas.Bool.{cases_eq, cases_Bool, ltb-true, ltb-false}
 use Rattle.std.proofs.lemmas.List.{length-set, length-map, get_or-set_same, get_or-set_other, get_or_past}
 use Rattle.std.proofs.Math.ListN.{get_or-map}
 use Rattle.asset_lists.specs.declared.part.Part.{Part}
 use Rattle.asset_lists.specs.declared.rows.Row.{Row}
 use Rattle.asset_lists.specs.declared.rows.Place.{Place}
-use Rattle.asset_lists.specs.Parted.{Parted, part_of, IsAt, IsChangedAt}
+use Rattle.asset_lists.specs.Parted.{part_of, IsAt, IsChangedAt}
 use Rattle.asset_lists.specs.Placed.{no_row, no_place, row_at, keys_of, front_of, place_at, part_in, seen, swapped, IsPlaced, IsValid, IsSwapped}
-use Rattle.asset_lists.proofs.AtLemmas.{swapped_first, swapped_second, swapped_other}
+use Rattle.asset_lists.proofs.AtLemmas.{swapped_first}
 use Rattle.asset_lists.proofs.PlacedLemmas.{placed_swap, placed_out, placed_in, stays, stands, home_at, position_at}
 
 -- a part, which a key is in

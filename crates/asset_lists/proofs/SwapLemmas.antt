@@ -1,5 +1,5 @@
 -- A list of which two keys are swapped, as it is read and written.
-use Rattle.std.proofs.Common.{◌≡◌, ℕ, ◌+◌, ◌-◌, ◌<◌, ◌≤◌, ◌^◌, Bool, true, false, List, length, set, get_or, Option, Some, refl, sym, ap, subst, ◌∙◌, arith, inl, inr}
+use Rattle.std.proofs.Common.{◌≡◌, ℕ, ◌+◌, ◌-◌, ◌<◌, ◌≤◌, ◌^◌, Bool, List, length, set, get_or, sym, ap, subst, ◌∙◌, arith, inl, inr}
 use Rattle.std.specs.Prelude.{nat_lt}
 use Rattle.std.specs.List.{refill}
 use Rattle.std.proofs.lemmas.Bool.{cases_eq, lt-ltb, le-ltb, ltb-true, ltb-false, cases_Bool}
@@ -7,7 +7,7 @@ use Rattle.std.proofs.lemmas.List.{get_or_read}
 use Rattle.asset_lists.specs.declared.rows.Row.{Row}
 use Rattle.asset_lists.specs.declared.rows.Place.{Place}
 use Rattle.asset_lists.specs.Parted.{part_of, IsAt, IsChangedAt}
-use Rattle.asset_lists.specs.Placed.{no_row, no_place, row_at, keys_of, front_of, place_at, seen, swapped, IsValid, IsSwapped}
+use Rattle.asset_lists.specs.Placed.{no_row, no_place, row_at, keys_of, place_at, seen, swapped, IsValid, IsSwapped}
 use Rattle.asset_lists.proofs.AtLemmas.{swapped_first, swapped_second, swapped_other, refilled}
 use Rattle.asset_lists.proofs.RowLemmas.{some_part, Stands, stands_at, at_within, at_position, row_set, valid_swapped, changed_swapped}
 

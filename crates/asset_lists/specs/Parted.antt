@@ -1,5 +1,5 @@
 -- Keys in lists, as callers see them.
-use Rattle.std.specs.Prelude.{◌≡◌, ℕ, ◌<◌, ◌+◌, Bool, true, List, [], ◌∷◌, ◌++◌, length, Option, None, Some, slice_index, slice_index_or}
+use Rattle.std.specs.Prelude.{◌≡◌, ℕ, ◌<◌, ◌+◌, true, List, [], ◌∷◌, ◌++◌, length, Option, None, Some, slice_index, slice_index_or}
 use Rattle.asset_lists.specs.declared.part.Part.{Part}
 
 -- keys and lists are numbers from 0 on; each key is in one part at most

@@ -10,11 +10,12 @@ use Rattle.asset_names.specs.Operations.{conflict}
 use Rattle.asset_names.specs.OpSets.{OpSet, has_op, only_op}
 use Rattle.asset_chains.specs.Chained.{chain_of, home_of, IsSound}
 use Rattle.asset_chains.proofs.Walks.{any_found, any_from}
+use Rattle.asset_lists.specs.Parted.{part_of}
 use Rattle.asset_seats.specs.Seated.{Seated, seat}
 use Rattle.asset_locks.specs.LockTable.{is_on, one_conflicts, conflicts_on, blocks}
-use Rattle.asset_locks.specs.Stored.{Stored, lock_at, locks_at, number_in, chain_for, is_others, name_of, name_blocks, key_blocks, IsStored}
+use Rattle.asset_locks.specs.Stored.{Stored, lock_at, locks_at, number_in, part_for, is_others, name_of, name_blocks, key_blocks, IsStored}
 use Rattle.asset_locks.proofs.WalkLemmas.{others_own, blocked_by}
-use Rattle.asset_locks.proofs.SuspendLemmas.{on_object, in_chain}
+use Rattle.asset_locks.proofs.SuspendLemmas.{on_object, in_list}
 use Rattle.asset_locks.proofs.LockLemmas.{on_to, on_from}
 
 pub if_some : {X : Type 0} {P Q : X → Type 0} (o : Option X) → IfSome o P → ((x : X) → P x → Q x) → IfSome o Q
@@ -26,13 +27,13 @@ if_none None h f = f h
 if_none (Some x) h f = tt
 
 -- ---- the lock of a seat on an object
-module _ (store : Stored) (stored : IsStored store) (sound : IsSound store.by_object) (x number : ℕ) (numbered : number_in store.objects x ≡ Some number) where
-  pub found_on : (k c : ℕ) (w : Bool) → home_of store.by_owner k ≡ Some c → home_of store.by_object k ≡ Some (chain_for number w) → is_on x (lock_at store.locks k) ≡ true
-  found_on k c w home at = on_from x _ (on_object store stored sound x number numbered k c w home at).0
+module _ (store : Stored) (stored : IsStored store) (x number : ℕ) (numbered : number_in store.objects x ≡ Some number) where
+  pub found_on : (k c : ℕ) (w : Bool) → home_of store.by_owner k ≡ Some c → part_of store.by_object k ≡ Some (part_for number w) → is_on x (lock_at store.locks k) ≡ true
+  found_on k c w home at = on_from x _ (on_object store stored x number numbered k c w home at).0
 
-  pub absent_on : (k c : ℕ) → ((k : ℕ) (w : Bool) → home_of store.by_object k ≡ Some (chain_for number w) → is_others c (home_of store.by_owner k) ≡ true) → home_of store.by_owner k ≡ Some c → is_on x (lock_at store.locks k) ≡ false
+  pub absent_on : (k c : ℕ) → ((k : ℕ) (w : Bool) → part_of store.by_object k ≡ Some (part_for number w) → is_others c (home_of store.by_owner k) ≡ true) → home_of store.by_owner k ≡ Some c → is_on x (lock_at store.locks k) ≡ false
   absent_on k c none home = false_from_ne_true _ (λ on.
-      let at = in_chain store stored sound x number numbered k c home (on_to x _ on) in
+      let at = in_list store stored x number numbered k c home (on_to x _ on) in
       both_ways (is_others c (Some c)) (others_own c) (ap (is_others c) (sym home) ∙ none k _ at))
 
 pub absent_unnumbered : (store : Stored) → IsStored store → (x : ℕ) → number_in store.objects x ≡ None → (k c : ℕ) → home_of store.by_owner k ≡ Some c → is_on x (lock_at store.locks k) ≡ false
@@ -52,7 +53,7 @@ read_conflict ops = go ops.read ops.write where
   go false true = refl
   go false false = refl
 
--- so a lock that conflicts is in a chain that is looked at
+-- so a lock that conflicts is in a part that is looked at
 looked_at : (ops : OpSet) (op : Op) → one_conflicts ops op ≡ true → (ops.write || has_op (only_op op) Op'.Write) ≡ true
 unfolding only_op
 looked_at ops Op'.Read conflicts = or_left _ _ (sym (read_conflict ops) ∙ conflicts)
@@ -64,7 +65,7 @@ three_from a b c h = let last = and_parts (a && b) c h in let first = and_parts 
 three_all : (a b c : Bool) → a ≡ true → b ≡ true → c ≡ true → (a && b && c) ≡ true
 three_all a b c p q r = λ i. p i && q i && r i
 
-module _ (store : Stored) (stored : IsStored store) (of_object : IsSound store.by_object) (of_owner : IsSound store.by_owner) (seats : Seated) (allows : ℕ → Bool) (t x : ℕ) (op : Op) where
+module _ (store : Stored) (stored : IsStored store) (of_owner : IsSound store.by_owner) (seats : Seated) (allows : ℕ → Bool) (t x : ℕ) (op : Op) where
   -- whose a lock is that blocks
   blocker : (k : ℕ) → key_blocks store seats allows t op k ≡ true → (c : ℕ) × (u : Txn) × (home_of store.by_owner k ≡ Some c) × (seat seats c ≡ Some u)
   unfolding key_blocks name_blocks name_of
@@ -82,13 +83,13 @@ module _ (store : Stored) (stored : IsStored store) (of_object : IsSound store.b
 
   module _ (number : ℕ) (numbered : number_in store.objects x ≡ Some number) where
     -- if a lock of the object blocks, its owner does
-    pub blocks_by_key : (k : ℕ) (w : Bool) → home_of store.by_object k ≡ Some (chain_for number w) → key_blocks store seats allows t op k ≡ true
+    pub blocks_by_key : (k : ℕ) (w : Bool) → part_of store.by_object k ≡ Some (part_for number w) → key_blocks store seats allows t op k ≡ true
         → (c : ℕ) × (u : Txn) × (seat seats c ≡ Some u) × (blocks allows t x op u.0 (locks_at store c) ≡ true)
     unfolding blocks conflicts_on locks_at
     blocks_by_key k w at h =
         let who = blocker k h in
         let parts = three_from _ _ _ (sym (blocked_by store seats allows t op k who.1 (named k who.0 who.1 who.2 who.3)) ∙ h) in
-        let on = on_from x _ (on_object store stored of_object x number numbered k who.0 w who.2 at).0 in (
+        let on = on_from x _ (on_object store stored x number numbered k who.0 w who.2 at).0 in (
           who.0,
           who.1,
           who.3,
@@ -96,7 +97,7 @@ module _ (store : Stored) (stored : IsStored store) (of_object : IsSound store.b
         )
 
     -- if no lock that is looked at does, nobody does
-    pub free_by_keys : ((k : ℕ) (w : Bool) → home_of store.by_object k ≡ Some (chain_for number w) → (w || has_op (only_op op) Op'.Write) ≡ true → key_blocks store seats allows t op k ≡ false)
+    pub free_by_keys : ((k : ℕ) (w : Bool) → part_of store.by_object k ≡ Some (part_for number w) → (w || has_op (only_op op) Op'.Write) ≡ true → key_blocks store seats allows t op k ≡ false)
         → (c : ℕ) (u : Txn) → seat seats c ≡ Some u → blocks allows t x op u.0 (locks_at store c) ≡ false
     unfolding blocks conflicts_on locks_at
     free_by_keys none c u sits = false_from_ne_true _ (λ h.
@@ -104,7 +105,7 @@ module _ (store : Stored) (stored : IsStored store) (of_object : IsSound store.b
         let found = any_found (conflicts_on x op) (lock_at store.locks) (chain_of store.by_owner c) parts.2 in
         let home = of_owner.at_home c found.0 found.1 in
         let both = and_parts _ _ found.2 in
-        let at = in_chain store stored of_object x number numbered found.0 c home (on_to x _ both.0) in
+        let at = in_list store stored x number numbered found.0 c home (on_to x _ both.0) in
         both_ways (key_blocks store seats allows t op found.0) (none found.0 _ at (looked_at _ op both.1))
         (blocked_by store seats allows t op found.0 u (named found.0 c u home sits) ∙ three_all _ _ _ parts.0 both.1 parts.1))
 

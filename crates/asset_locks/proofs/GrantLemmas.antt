@@ -1,5 +1,5 @@
 -- A lock that is granted, and the locks of its seat.
-use Rattle.std.proofs.Common.{◌≡◌, ℕ, ◌<◌, ◌*◌, ◌≤◌, Bool, true, false, eqb, cond, ◌&&◌, List, [], ◌∷◌, ◌++◌, map, length, Option, Some, None, is_some, ◌⊎◌, refl, sym, ap, subst, ◌∙◌, inl, inr, arith}
+use Rattle.std.proofs.Common.{◌≡◌, ℕ, ◌<◌, ◌≤◌, Bool, true, false, eqb, cond, ◌&&◌, List, [], ◌∷◌, ◌++◌, map, length, Option, Some, None, is_some, ◌⊎◌, refl, sym, ap, subst, ◌∙◌, inl, inr, arith}
 use Rattle.std.specs.Prelude.{find}
 use Rattle.std.specs.List.{list_any}
 use Rattle.std.proofs.lemmas.Bool.{eqb-true, eqb-false, eq-eqb, ne_eqb, cases_Bool, both_ways, and_parts, or_parts}
@@ -14,10 +14,11 @@ use Rattle.asset_chains.proofs.Laws.{chain_at_key, chain_without_key}
 use Rattle.asset_chains.proofs.SoundLemmas.{listed_once}
 use Rattle.asset_chains.proofs.Walks.{map_same, any_none, any_from, find_key, find_none}
 use Rattle.asset_chains.proofs.KeyLemmas.{without_unlisted}
+use Rattle.asset_lists.specs.Parted.{part_of, IsChangedAt}
 use Rattle.asset_locks.specs.declared.lock.Lock.{Lock}
 use Rattle.asset_locks.specs.LockTable.{is_on, both_conflict, suspended, taken, granted_own, new_lock, ops_with}
 use Rattle.asset_locks.specs.Valid.{is_some_op}
-use Rattle.asset_locks.specs.Stored.{Stored, lock_at, locks_at, number_in, chain_for, IsPlaced, IsStored, IsSuspended, IsAdded, IsDropped, IsGrown}
+use Rattle.asset_locks.specs.Stored.{Stored, lock_at, locks_at, number_in, part_for, IsPlaced, IsStored, IsSuspended, IsAdded, IsDropped, IsGrown}
 use Rattle.asset_locks.proofs.StoreLemmas.{stored_changed, same_lock}
 use Rattle.asset_locks.proofs.OpsLemmas.{some_with, with_same, with_only, conflict_swapped}
 use Rattle.asset_locks.proofs.LockLemmas.{on_to, off_from}
@@ -29,24 +30,23 @@ with_grant op lock = record lock { ops = with_op op lock.ops; granted = true }
 -- op is granted to the lock at a key, which may move to another chain of its object
 pub stored_granted : (old new : Stored) (key number : ℕ) (op : Op) → IsStored old → number_in old.objects (lock_at old.locks key).object.0 ≡ Some number
     → ((k : ℕ) → lock_at new.locks k ≡ cond (eqb k key) (with_grant op (lock_at old.locks key)) (lock_at old.locks k)) → ((k : ℕ) → is_some (get new.locks k) ≡ is_some (get old.locks k))
-    → home_of new.by_object key ≡ Some (chain_for number (with_op op (lock_at old.locks key).ops).write) → ((k : ℕ) → (k ≡ key → ⊥) → home_of new.by_object k ≡ home_of old.by_object k)
-    → is_some (home_of old.by_object key) ≡ true → length new.by_object.chains ≡ length old.by_object.chains → new.by_owner ≡ old.by_owner → new.objects ≡ old.objects
+    → IsChangedAt key (Some (part_for number (with_op op (lock_at old.locks key).ops).write)) old.by_object new.by_object → is_some (part_of old.by_object key) ≡ true → new.by_owner ≡ old.by_owner → new.objects ≡ old.objects
     → ((j c d : ℕ) → home_of old.by_owner key ≡ Some c → home_of old.by_owner j ≡ Some d → (d ≡ c → ⊥) → (lock_at old.locks j).object.0 ≡ (lock_at old.locks key).object.0
     → both_conflict (lock_at old.locks j).ops (with_op op (lock_at old.locks key).ops) ≡ true → (lock_at old.locks j).granted ≡ false)
     → IsStored new
-stored_granted old new key number op stored numbered locks keys home homes there chains of_owner objects alone =
+stored_granted old new key number op stored numbered locks keys change there of_owner objects alone =
     stored_changed old new stored keys
     (λ k. elim (cases_Bool (eqb k key)) [
-      | inl here ↦ ap (λ (n : ℕ). is_some (home_of new.by_object n)) (eqb-true k key here) ∙ ap is_some home ∙ sym there ∙ ap (λ (n : ℕ). is_some (home_of old.by_object n)) (sym (eqb-true k key here))
-      | inr apart ↦ ap is_some (homes k (eqb-false k key apart))
+      | inl here ↦ ap (λ (n : ℕ). is_some (part_of new.by_object n)) (eqb-true k key here) ∙ ap is_some change.here ∙ sym there ∙ ap (λ (n : ℕ). is_some (part_of old.by_object n)) (sym (eqb-true k key here))
+      | inr apart ↦ ap is_some (change.others k (eqb-false k key apart))
     ])
     of_owner
-    (subst (λ n. 2 * length new.objects ≤ n) (sym chains) (subst (λ l. 2 * length l ≤ length old.by_object.chains) (sym objects) stored.chains))
+    (subst (λ n. length new.objects ≤ n) (sym change.same_lists) (subst (λ l. length l ≤ old.by_object.lists) (sym objects) stored.lists))
     (λ k c at. elim (cases_Bool (eqb k key)) [
       | inl here ↦ subst (IsPlaced new) (sym (eqb-true k key here)) (record {
         number = number;
         numbered = ap (λ l. number_in l (lock_at new.locks key).object.0) objects ∙ ap (number_in old.objects) (object key) ∙ numbered;
-        home = home ∙ ap (λ (l : Lock). Some (chain_for number l.ops.write)) (sym at_key);
+        part = change.here ∙ ap (λ (l : Lock). Some (part_for number l.ops.write)) (sym at_key);
       })
       | inr apart ↦
           let placed = stored.placed k c at in
@@ -54,7 +54,7 @@ stored_granted old new key number op stored numbered locks keys home homes there
           record {
             number = placed.number;
             numbered = ap (λ l. number_in l (lock_at new.locks k).object.0) objects ∙ ap (number_in old.objects) (object k) ∙ placed.numbered;
-            home = homes k (eqb-false k key apart) ∙ placed.home ∙ ap (λ (l : Lock). Some (chain_for placed.number l.ops.write)) (sym same);
+            part = change.others k (eqb-false k key apart) ∙ placed.part ∙ ap (λ (l : Lock). Some (part_for placed.number l.ops.write)) (sym same);
           }
     ])
     object

@@ -1,5 +1,5 @@
 -- A lock that becomes another seat's, and what is stored then.
-use Rattle.std.proofs.Common.{◌≡◌, ℕ, ◌*◌, ◌<◌, ◌≤◌, Bool, true, false, eqb, cond, ◌&&◌, ◌||◌, List, [], ◌∷◌, ◌++◌, map, length, Option, Some, None, is_some, refl, sym, ap, subst, ◌∙◌, inl, inr}
+use Rattle.std.proofs.Common.{◌≡◌, ℕ, ◌<◌, ◌≤◌, Bool, true, false, eqb, cond, ◌&&◌, ◌||◌, List, [], ◌∷◌, ◌++◌, map, length, Option, Some, None, is_some, refl, sym, ap, subst, ◌∙◌, inl, inr}
 use Rattle.std.proofs.lemmas.Bool.{eqb-true, eqb-false, eq-eqb, ne_eqb, cases_Bool, cases_eq, both_ways, true≢false}
 use Rattle.std.proofs.lemmas.List.{map-append}
 use Rattle.slab.specs.Slab.{Slab, get, with_value}
@@ -10,10 +10,11 @@ use Rattle.asset_chains.proofs.Laws.{key_within, unlinks, pushes}
 use Rattle.asset_chains.proofs.SoundLemmas.{listed_once}
 use Rattle.asset_chains.proofs.Walks.{chains_without, map_same}
 use Rattle.asset_chains.proofs.KeyLemmas.{without_unlisted}
+use Rattle.asset_lists.specs.Parted.{part_of, IsChangedAt}
 use Rattle.asset_locks.specs.declared.lock.Lock.{Lock}
 use Rattle.asset_locks.specs.LockTable.{is_on, both_conflict, both_ops, merged}
 use Rattle.asset_locks.specs.Valid.{is_some_op}
-use Rattle.asset_locks.specs.Stored.{Stored, lock_at, locks_at, number_in, chain_for, IsPlaced, IsStored, IsDropped, IsMoved, IsHanded}
+use Rattle.asset_locks.specs.Stored.{Stored, lock_at, locks_at, number_in, part_for, IsPlaced, IsStored, IsDropped, IsMoved, IsHanded}
 use Rattle.asset_locks.proofs.StoreLemmas.{stored_changed, written, read_lock}
 use Rattle.asset_locks.proofs.GrantLemmas.{found_here, none_here, seat_one}
 use Rattle.asset_locks.proofs.MergeLemmas.{with_ops, merged_here, merged_apart, ops_one, moved_here, moved_alone}
@@ -89,8 +90,8 @@ module _ (old : Stored) (table : Chained) (key to : ℕ) (stored : IsStored old)
     listed = stored.listed;
     placed = λ k c home.
         let placed = stored.placed k (was k c home).0 (was k c home).1 in
-        record { number = placed.number; numbered = placed.numbered; home = placed.home };
-    chains = stored.chains;
+        record { number = placed.number; numbered = placed.numbered; part = placed.part };
+    lists = stored.lists;
     single = λ j k c one other same. elim (cases_Bool (eqb j key)) [
       | inl first ↦ elim (cases_Bool (eqb k key)) [
         | inl second ↦ eqb-true j key first ∙ sym (eqb-true k key second)
@@ -143,21 +144,20 @@ some_both own ops some = go own.read own.write some where
 -- a lock gets the operations of another, and is suspended
 pub stored_merged : (old new : Stored) (key number : ℕ) (ops : OpSet) → IsStored old → number_in old.objects (lock_at old.locks key).object.0 ≡ Some number
     → ((k : ℕ) → lock_at new.locks k ≡ cond (eqb k key) (with_ops ops (lock_at old.locks key)) (lock_at old.locks k)) → ((k : ℕ) → is_some (get new.locks k) ≡ is_some (get old.locks k))
-    → home_of new.by_object key ≡ Some (chain_for number (both_ops (lock_at old.locks key).ops ops).write) → ((k : ℕ) → (k ≡ key → ⊥) → home_of new.by_object k ≡ home_of old.by_object k)
-    → is_some (home_of old.by_object key) ≡ true → length new.by_object.chains ≡ length old.by_object.chains → new.by_owner ≡ old.by_owner → new.objects ≡ old.objects → IsStored new
-stored_merged old new key number ops stored numbered locks keys home homes there chains of_owner objects =
+    → IsChangedAt key (Some (part_for number (both_ops (lock_at old.locks key).ops ops).write)) old.by_object new.by_object → is_some (part_of old.by_object key) ≡ true → new.by_owner ≡ old.by_owner → new.objects ≡ old.objects → IsStored new
+stored_merged old new key number ops stored numbered locks keys change there of_owner objects =
     stored_changed old new stored keys
     (λ k. elim (cases_Bool (eqb k key)) [
-      | inl here ↦ ap (λ (n : ℕ). is_some (home_of new.by_object n)) (eqb-true k key here) ∙ ap is_some home ∙ sym there ∙ ap (λ (n : ℕ). is_some (home_of old.by_object n)) (sym (eqb-true k key here))
-      | inr apart ↦ ap is_some (homes k (eqb-false k key apart))
+      | inl here ↦ ap (λ (n : ℕ). is_some (part_of new.by_object n)) (eqb-true k key here) ∙ ap is_some change.here ∙ sym there ∙ ap (λ (n : ℕ). is_some (part_of old.by_object n)) (sym (eqb-true k key here))
+      | inr apart ↦ ap is_some (change.others k (eqb-false k key apart))
     ])
     of_owner
-    (subst (λ n. 2 * length new.objects ≤ n) (sym chains) (subst (λ l. 2 * length l ≤ length old.by_object.chains) (sym objects) stored.chains))
+    (subst (λ n. length new.objects ≤ n) (sym change.same_lists) (subst (λ l. length l ≤ old.by_object.lists) (sym objects) stored.lists))
     (λ k c at. elim (cases_Bool (eqb k key)) [
       | inl here ↦ subst (IsPlaced new) (sym (eqb-true k key here)) (record {
         number = number;
         numbered = ap (λ l. number_in l (lock_at new.locks key).object.0) objects ∙ ap (number_in old.objects) (object key) ∙ numbered;
-        home = home ∙ ap (λ (l : Lock). Some (chain_for number l.ops.write)) (sym at_key);
+        part = change.here ∙ ap (λ (l : Lock). Some (part_for number l.ops.write)) (sym at_key);
       })
       | inr apart ↦
           let placed = stored.placed k c at in
@@ -165,7 +165,7 @@ stored_merged old new key number ops stored numbered locks keys home homes there
           record {
             number = placed.number;
             numbered = ap (λ l. number_in l (lock_at new.locks k).object.0) objects ∙ ap (number_in old.objects) (object k) ∙ placed.numbered;
-            home = homes k (eqb-false k key apart) ∙ placed.home ∙ ap (λ (l : Lock). Some (chain_for placed.number l.ops.write)) (sym same);
+            part = change.others k (eqb-false k key apart) ∙ placed.part ∙ ap (λ (l : Lock). Some (part_for placed.number l.ops.write)) (sym same);
           }
     ])
     object

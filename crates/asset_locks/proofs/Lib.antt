@@ -1,6 +1,7 @@
 pub mod LockLemmas
 pub mod StoreLemmas
 pub mod WalkLemmas
+pub mod ListLemmas
 pub mod OpsLemmas
 pub mod MergeLemmas
 pub mod SuspendLemmas

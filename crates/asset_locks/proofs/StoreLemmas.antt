@@ -1,5 +1,5 @@
 -- Locks in a slab and its chains, and what a change of them leaves.
-use Rattle.std.proofs.Common.{◌≡◌, ℕ, ◌+◌, ◌*◌, ◌/◌, ◌^◌, ◌≤◌, ◌<◌, ltb, not, ◌++◌, Bool, true, false, eqb, cond, ◌&&◌, ◌||◌, List, [], ◌∷◌, length, Option, Some, None, is_some, refl, sym, ap, subst, ◌∙◌, inl, inr, arith}
+use Rattle.std.proofs.Common.{◌≡◌, ℕ, ◌+◌, ◌≤◌, ◌<◌, ltb, not, ◌++◌, Bool, true, false, eqb, cond, ◌&&◌, ◌||◌, List, [], ◌∷◌, length, Option, Some, None, is_some, refl, sym, ap, subst, ◌∙◌, inl, inr, arith}
 use Rattle.std.specs.Prelude.{unwrap_or, slice_index_or}
 use Rattle.std.specs.List.{list_any, position_or_len}
 use Rattle.std.proofs.lemmas.List.Quantifiers.{position-Some}
@@ -15,11 +15,14 @@ use Rattle.asset_names.specs.OpSets.{with_op}
 use Rattle.asset_names.proofs.Common.{some_is_not_none, and_false}
 use Rattle.asset_chains.specs.Chained.{Chained, home_of}
 use Rattle.asset_chains.proofs.Laws.{IsPushed}
+use Rattle.asset_lists.specs.declared.part.Part.{Part}
+use Rattle.asset_lists.specs.Parted.{Parted, part_of, advanced, IsChangedAt}
+use Rattle.asset_lists.proofs.Laws.{no_part_of}
 use Rattle.asset_chains.proofs.SoundLemmas.{no_home_of}
 use Rattle.asset_locks.specs.declared.lock.Lock.{Lock}
 use Rattle.asset_locks.specs.LockTable.{is_on, both_conflict}
 use Rattle.asset_locks.specs.Valid.{is_some_op}
-use Rattle.asset_locks.specs.Stored.{Stored, no_lock, lock_at, number_in, chain_for, IsPlaced, IsStored}
+use Rattle.asset_locks.specs.Stored.{Stored, no_lock, lock_at, number_in, part_for, IsPlaced, IsStored}
 
 -- ---- reads and writes of the slab
 pub read_lock : (locks : Slab Lock) (k : ℕ) (lock : Lock) → get locks k ≡ Some lock → lock_at locks k ≡ lock
@@ -85,22 +88,22 @@ granted_some locks key op lock there k =
 
 -- ---- the locks stay as they are stored
 pub placed_as : (old new : Stored) (k : ℕ) → IsPlaced old k → ((x n : ℕ) → number_in old.objects x ≡ Some n → number_in new.objects x ≡ Some n) → lock_at new.locks k ≡ lock_at old.locks k
-    → home_of new.by_object k ≡ home_of old.by_object k → IsPlaced new k
-placed_as old new k placed numbers lock home = record {
+    → part_of new.by_object k ≡ part_of old.by_object k → IsPlaced new k
+placed_as old new k placed numbers lock part = record {
   number = placed.number;
   numbered = ap (λ (l : Lock). number_in new.objects l.object.0) lock ∙ numbers _ _ placed.numbered;
-  home = home ∙ placed.home ∙ ap (λ (l : Lock). Some (chain_for placed.number l.ops.write)) (sym lock);
+  part = part ∙ placed.part ∙ ap (λ (l : Lock). Some (part_for placed.number l.ops.write)) (sym lock);
 }
 
 -- more room, or one more object with a number
-pub stored_grown : (old new : Stored) → IsStored old → ((k : ℕ) → get new.locks k ≡ get old.locks k) → ((k : ℕ) → home_of new.by_object k ≡ home_of old.by_object k)
+pub stored_grown : (old new : Stored) → IsStored old → ((k : ℕ) → get new.locks k ≡ get old.locks k) → ((k : ℕ) → part_of new.by_object k ≡ part_of old.by_object k)
     → ((k : ℕ) → home_of new.by_owner k ≡ home_of old.by_owner k) → ((x n : ℕ) → number_in old.objects x ≡ Some n → number_in new.objects x ≡ Some n)
-    → 2 * length new.objects ≤ length new.by_object.chains → IsStored new
-stored_grown old new stored locks of_object of_owner numbers chains = record {
+    → length new.objects ≤ new.by_object.lists → IsStored new
+stored_grown old new stored locks of_object of_owner numbers lists = record {
   held = λ k. ap is_some (of_owner k) ∙ stored.held k ∙ sym (ap is_some (locks k));
   listed = λ k. ap is_some (of_object k) ∙ stored.listed k ∙ sym (ap is_some (locks k));
   placed = λ k c home. placed_as old new k (stored.placed k c (sym (of_owner k) ∙ home)) numbers (same k) (of_object k);
-  chains = chains;
+  lists = lists;
   single = λ j k c one other same_object. stored.single j k c (sym (of_owner j) ∙ one) (sym (of_owner k) ∙ other) (sym (object j) ∙ same_object ∙ object k);
   carry = λ k c home. ap (λ (l : Lock). is_some_op l.ops) (same k) ∙ stored.carry k c (sym (of_owner k) ∙ home);
   apart = λ j k c d one other differ same_object conflict.
@@ -113,23 +116,23 @@ stored_grown old new stored locks of_object of_owner numbers chains = record {
   object : (k : ℕ) → (lock_at new.locks k).object.0 ≡ (lock_at old.locks k).object.0
   object k = ap (λ (l : Lock). l.object.0) (same k)
 
--- one lock is gone from the slab and both chains
-pub stored_dropped : (old new : Stored) (key : ℕ) → IsStored old → Updates old.locks new.locks key None → ((k : ℕ) → home_of new.by_object k ≡ cond (eqb k key) None (home_of old.by_object k))
-    → ((k : ℕ) → home_of new.by_owner k ≡ cond (eqb k key) None (home_of old.by_owner k)) → new.objects ≡ old.objects → length new.by_object.chains ≡ length old.by_object.chains → IsStored new
-stored_dropped old new key stored gone of_object of_owner objects chains = record {
+-- one lock is gone from the slab, from its object's list and from its owner's chain
+pub stored_dropped : (old new : Stored) (key : ℕ) → IsStored old → Updates old.locks new.locks key None → IsChangedAt key None old.by_object new.by_object
+    → ((k : ℕ) → home_of new.by_owner k ≡ cond (eqb k key) None (home_of old.by_owner k)) → new.objects ≡ old.objects → IsStored new
+stored_dropped old new key stored gone of_object of_owner objects = record {
   held = λ k. elim (cases_Bool (eqb k key)) [
     | inl here ↦ ap is_some (of_owner k ∙ ap (λ b. cond b None (home_of old.by_owner k)) here) ∙ sym (ap is_some (empty k here))
     | inr apart ↦ ap is_some (of_owner k ∙ ap (λ b. cond b None (home_of old.by_owner k)) apart) ∙ stored.held k ∙ sym (ap is_some (gone.others k (eqb-false k key apart)))
   ];
   listed = λ k. elim (cases_Bool (eqb k key)) [
-    | inl here ↦ ap is_some (of_object k ∙ ap (λ b. cond b None (home_of old.by_object k)) here) ∙ sym (ap is_some (empty k here))
-    | inr apart ↦ ap is_some (of_object k ∙ ap (λ b. cond b None (home_of old.by_object k)) apart) ∙ stored.listed k ∙ sym (ap is_some (gone.others k (eqb-false k key apart)))
+    | inl here ↦ ap is_some (ap (part_of new.by_object) (eqb-true k key here) ∙ of_object.here) ∙ sym (ap is_some (empty k here))
+    | inr apart ↦ ap is_some (of_object.others k (eqb-false k key apart)) ∙ stored.listed k ∙ sym (ap is_some (gone.others k (eqb-false k key apart)))
   ];
   placed = λ k c home.
       let was = still k c home in
       placed_as old new k (stored.placed k c was.1) (λ x n e. ap (λ (l : List Ob). number_in l x) objects ∙ e) (same k was.0)
-      (of_object k ∙ ap (λ b. cond b None (home_of old.by_object k)) (ne_eqb k key was.0));
-  chains = omega (arith, stored.chains, chains, ap (λ (l : List Ob). length l) objects);
+      (of_object.others k was.0);
+  lists = omega (arith, stored.lists, of_object.same_lists, ap (λ (l : List Ob). length l) objects);
   single = λ j k c one other same_object.
       let first = still j c one in
       let second = still k c other in
@@ -158,9 +161,9 @@ stored_dropped old new key stored gone of_object of_owner objects chains = recor
   object : (k : ℕ) → (k ≡ key → ⊥) → (lock_at new.locks k).object.0 ≡ (lock_at old.locks k).object.0
   object k apart = ap (λ (l : Lock). l.object.0) (same k apart)
 
--- one more lock, which is suspended, is in the slab and both chains
+-- one more lock, which is suspended, is in the slab, in its object's list and in its owner's chain
 pub stored_added : (old new : Stored) (key c number : ℕ) (lock : Lock) → IsStored old → get old.locks key ≡ None → Updates old.locks new.locks key (Some lock)
-    → IsPushed (chain_for number lock.ops.write) key old.by_object new.by_object → IsPushed c key old.by_owner new.by_owner → new.objects ≡ old.objects → number_in old.objects lock.object.0 ≡ Some number
+    → IsChangedAt key (Some (part_for number lock.ops.write)) old.by_object new.by_object → IsPushed c key old.by_owner new.by_owner → new.objects ≡ old.objects → number_in old.objects lock.object.0 ≡ Some number
     → ((k : ℕ) → home_of old.by_owner k ≡ Some c → is_on lock.object.0 (lock_at old.locks k) ≡ false) → lock.granted ≡ false → is_some_op lock.ops ≡ true → IsStored new
 unfolding is_on
 stored_added old new key c number lock stored vacant added of_object of_owner objects numbered none asleep some = record {
@@ -169,20 +172,20 @@ stored_added old new key c number lock stored vacant added of_object of_owner ob
     | inr apart ↦ ap is_some (of_owner.homes k (eqb-false k key apart)) ∙ stored.held k ∙ sym (ap is_some (added.others k (eqb-false k key apart)))
   ];
   listed = λ k. elim (cases_Bool (eqb k key)) [
-    | inl here ↦ ap is_some (ap (home_of new.by_object) (eqb-true k key here) ∙ of_object.home) ∙ sym (ap is_some (ap (get new.locks) (eqb-true k key here) ∙ added.changed))
-    | inr apart ↦ ap is_some (of_object.homes k (eqb-false k key apart)) ∙ stored.listed k ∙ sym (ap is_some (added.others k (eqb-false k key apart)))
+    | inl here ↦ ap is_some (ap (part_of new.by_object) (eqb-true k key here) ∙ of_object.here) ∙ sym (ap is_some (ap (get new.locks) (eqb-true k key here) ∙ added.changed))
+    | inr apart ↦ ap is_some (of_object.others k (eqb-false k key apart)) ∙ stored.listed k ∙ sym (ap is_some (added.others k (eqb-false k key apart)))
   ];
   placed = λ k d home. elim (cases_Bool (eqb k key)) [
     | inl here ↦ subst (IsPlaced new) (sym (eqb-true k key here)) (record {
       number = number;
       numbered = ap (λ (l : Lock). number_in new.objects l.object.0) at_key ∙ ap (λ (l : List Ob). number_in l lock.object.0) objects ∙ numbered;
-      home = of_object.home ∙ ap (λ (l : Lock). Some (chain_for number l.ops.write)) (sym at_key);
+      part = of_object.here ∙ ap (λ (l : Lock). Some (part_for number l.ops.write)) (sym at_key);
     })
     | inr apart ↦
         let differ = eqb-false k key apart in
-        placed_as old new k (stored.placed k d (sym (of_owner.homes k differ) ∙ home)) (λ x n e. ap (λ (l : List Ob). number_in l x) objects ∙ e) (same k differ) (of_object.homes k differ)
+        placed_as old new k (stored.placed k d (sym (of_owner.homes k differ) ∙ home)) (λ x n e. ap (λ (l : List Ob). number_in l x) objects ∙ e) (same k differ) (of_object.others k differ)
   ];
-  chains = omega (arith, stored.chains, of_object.same_chains, ap (λ (l : List Ob). length l) objects);
+  lists = omega (arith, stored.lists, of_object.same_lists, ap (λ (l : List Ob). length l) objects);
   single = λ j k d one other same_object. elim (cases_Bool (eqb j key)) [
     | inl first ↦ elim (cases_Bool (eqb k key)) [
       | inl second ↦ eqb-true j key first ∙ sym (eqb-true k key second)
@@ -234,18 +237,18 @@ stored_added old new key c number lock stored vacant added of_object of_owner ob
       both_ways (eqb (lock_at old.locks k).object.0 lock.object.0) (none k seat) (eq-eqb _ _ (sym (object k differ) ∙ sym same_object ∙ ap (λ (l : Lock). l.object.0) at_key))
 
 -- locks change where they are
-pub stored_changed : (old new : Stored) → IsStored old → ((k : ℕ) → is_some (get new.locks k) ≡ is_some (get old.locks k)) → ((k : ℕ) → is_some (home_of new.by_object k) ≡ is_some (home_of old.by_object k))
-    → new.by_owner ≡ old.by_owner → 2 * length new.objects ≤ length new.by_object.chains → ((k c : ℕ) → home_of old.by_owner k ≡ Some c → IsPlaced new k)
+pub stored_changed : (old new : Stored) → IsStored old → ((k : ℕ) → is_some (get new.locks k) ≡ is_some (get old.locks k)) → ((k : ℕ) → is_some (part_of new.by_object k) ≡ is_some (part_of old.by_object k))
+    → new.by_owner ≡ old.by_owner → length new.objects ≤ new.by_object.lists → ((k c : ℕ) → home_of old.by_owner k ≡ Some c → IsPlaced new k)
     → ((k : ℕ) → (lock_at new.locks k).object.0 ≡ (lock_at old.locks k).object.0)
     → ((k c : ℕ) → home_of old.by_owner k ≡ Some c → is_some_op (lock_at new.locks k).ops ≡ true)
     → ((j k c d : ℕ) → home_of old.by_owner j ≡ Some c → home_of old.by_owner k ≡ Some d → (c ≡ d → ⊥) → (lock_at old.locks j).object.0 ≡ (lock_at old.locks k).object.0
     → both_conflict (lock_at new.locks j).ops (lock_at new.locks k).ops ≡ true → ((lock_at new.locks j).granted && (lock_at new.locks k).granted) ≡ false)
     → IsStored new
-stored_changed old new stored keys of_object of_owner chains placed object carry apart = record {
+stored_changed old new stored keys of_object of_owner lists placed object carry apart = record {
   held = λ k. ap is_some (home k) ∙ stored.held k ∙ sym (keys k);
   listed = λ k. of_object k ∙ stored.listed k ∙ sym (keys k);
   placed = λ k c at. placed k c (sym (home k) ∙ at);
-  chains = chains;
+  lists = lists;
   single = λ j k c one other same_object. stored.single j k c (sym (home j) ∙ one) (sym (home k) ∙ other) (sym (object j) ∙ same_object ∙ object k);
   carry = λ k c at. carry k c (sym (home k) ∙ at);
   apart = λ j k c d one other differ same_object conflict. apart j k c d (sym (home j) ∙ one) (sym (home k) ∙ other) differ (sym (object j) ∙ same_object ∙ object k) conflict;
@@ -254,18 +257,21 @@ stored_changed old new stored keys of_object of_owner chains placed object carry
   home k = ap (λ (table : Chained). home_of table k) of_owner
 
 -- nothing is stored, at first
-pub stored_nothing : (store : Stored) → store.locks.slots ≡ [] → store.objects ≡ [] → store.by_object.homes ≡ [] → store.by_owner.homes ≡ [] → IsStored store
+pub stored_nothing : (store : Stored) → store.locks.slots ≡ [] → store.objects ≡ [] → store.by_object.parts ≡ [] → store.by_owner.homes ≡ [] → IsStored store
 stored_nothing store locks objects of_object of_owner = record {
   held = λ k. ap is_some (no_home k) ∙ sym (ap is_some (no_lock_at k));
-  listed = λ k. ap is_some (no_home_of store.by_object of_object k) ∙ sym (ap is_some (no_lock_at k));
+  listed = λ k. ap is_some (no_part k) ∙ sym (ap is_some (no_lock_at k));
   placed = λ k c home. absurd (some_is_not_none c (sym home ∙ no_home k));
-  chains = omega (arith, ap (λ (l : List Ob). length l) objects);
+  lists = omega (arith, ap (λ (l : List Ob). length l) objects);
   single = λ j k c one other same. absurd (some_is_not_none c (sym one ∙ no_home j));
   carry = λ k c home. absurd (some_is_not_none c (sym home ∙ no_home k));
   apart = λ j k c d one other differ same conflict. absurd (some_is_not_none c (sym one ∙ no_home j));
 } where
   no_home : (k : ℕ) → home_of store.by_owner k ≡ None
   no_home = no_home_of store.by_owner of_owner
+
+  no_part : (k : ℕ) → part_of store.by_object k ≡ None
+  no_part = no_part_of store.by_object of_object
 
   no_lock_at : (k : ℕ) → get store.locks k ≡ None
   no_lock_at k = ap (λ (l : List (Option Lock)). slice_index_or l k None) locks
@@ -339,29 +345,21 @@ unlisted_at test (o ∷ objects) e = elim (cases_Bool (test o)) [
 pub unnumbered : (objects : List Ob) (y : Ob) → number_in objects y.0 ≡ None → list_any (λ (o : Ob). eqb y.0 o.0) objects ≡ false
 unnumbered objects y none = unlisted_at (λ (o : Ob). eqb y.0 o.0) objects (absent objects y none)
 
--- the number of an object by either of its chains
-pub half_chain : (n : ℕ) (w : Bool) → chain_for n w / 2 ≡ n
-unfolding chain_for
-half_chain n true = omega arith
-half_chain n false = omega arith
+-- the list of an object is among the lists
+pub list_there : (store : Stored) → IsStored store → (x n : ℕ) → number_in store.objects x ≡ Some n → n < store.by_object.lists
+list_there store stored x n is = omega (arith, number_within store.objects x n is, stored.lists)
 
--- the two chains of an object are among the chains
-pub chain_there : (store : Stored) → IsStored store → (x n : ℕ) (w : Bool) → number_in store.objects x ≡ Some n → chain_for n w < length store.by_object.chains
-unfolding chain_for
-chain_there store stored x n true is = omega (arith, number_within store.objects x n is, stored.chains)
-chain_there store stored x n false is = omega (arith, number_within store.objects x n is, stored.chains)
+-- two parts are of one object, and both are of its writers or neither
+pub parts_one : (n m : ℕ) (w v : Bool) → part_for n w ≡ part_for m v → (n ≡ m) × (w ≡ v)
+unfolding part_for
+parts_one n m w v e = (ap (λ (p : Part). p.list) e, ap (λ (p : Part). p.front) e)
 
-pub chains_fit : (store : Stored) → IsStored store → length store.by_object.chains < 2 ^ 32 → (x n : ℕ) → number_in store.objects x ≡ Some n → 2 * n + 1 < 2 ^ 64
-chains_fit store stored few x n is = omega (arith, number_within store.objects x n is, stored.chains, few)
+-- the number of the object, by the part of a lock on it
+pub list_of : (n : ℕ) (w : Bool) → (part_for n w).list ≡ n
+unfolding part_for
+list_of n w = refl
 
--- two chains are of one object, and both are of its writers or neither
-pub chains_one : (n m : ℕ) (w v : Bool) → chain_for n w ≡ chain_for m v → (n ≡ m) × (w ≡ v)
-unfolding chain_for
-chains_one n m true true e = (omega (arith, e), refl)
-chains_one n m false false e = (omega (arith, e), refl)
-chains_one n m true false e = absurd (omega (arith, e))
-chains_one n m false true e = absurd (omega (arith, e))
-
-pub pair_there : (n : ℕ) → chain_for n true ≡ 2 * n + 1
-unfolding chain_for
-pair_there n = refl
+-- a lock that is moved to the front part is among those that write
+pub part_advanced : (table : Parted) (k n : ℕ) (w : Bool) → part_of table k ≡ Some (part_for n w) → advanced (part_of table k) ≡ Some (part_for n true)
+unfolding advanced part_for
+part_advanced table k n w is = ap advanced is

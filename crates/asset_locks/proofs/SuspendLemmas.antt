@@ -1,60 +1,52 @@
 -- The locks on an object that conflict with one that is granted.
-use Rattle.std.proofs.Common.{◌≡◌, ℕ, Bool, true, false, eqb, ◌&&◌, ◌||◌, ◌*◌, ◌≤◌, length, Option, Some, is_some, refl, sym, ap, subst, ◌∙◌, inl, inr}
-use Rattle.std.proofs.lemmas.Bool.{eqb-true, eqb-false, true≢false, cases_Bool, false_from_ne_true, both_ways}
+use Rattle.std.proofs.Common.{◌≡◌, ℕ, Bool, true, false, eqb, ◌&&◌, ◌||◌, ◌≤◌, length, Option, Some, is_some, refl, sym, ap, subst, ◌∙◌, inl, inr}
+use Rattle.std.proofs.lemmas.Bool.{eqb-true, eqb-false, eq-eqb, ne_eqb, true≢false, cases_Bool, both_ways}
 use Rattle.slab.specs.Slab.{Slab, get}
 use Rattle.asset_names.specs.OpSets.{OpSet}
 use Rattle.asset_names.proofs.Common.{and_false, and_true, or_false}
-use Rattle.asset_chains.specs.Chained.{Chained, chain_of, home_of, lists, IsSound}
-use Rattle.asset_chains.proofs.SoundLemmas.{listed_once}
+use Rattle.asset_chains.specs.Chained.{home_of}
+use Rattle.asset_lists.specs.declared.part.Part.{Part}
+use Rattle.asset_lists.specs.Parted.{Parted, part_of}
 use Rattle.asset_locks.specs.declared.lock.Lock.{Lock}
 use Rattle.asset_locks.specs.LockTable.{is_on, both_conflict, suspended}
 use Rattle.asset_locks.specs.Valid.{is_some_op}
-use Rattle.asset_locks.specs.Stored.{Stored, lock_at, number_in, chain_for, is_others, IsStored, IsSuspended}
-use Rattle.asset_locks.proofs.StoreLemmas.{stored_changed, number_one, chains_one}
+use Rattle.asset_locks.specs.Stored.{Stored, lock_at, number_in, part_for, same_flag, is_in, is_others, IsStored, IsSuspended}
+use Rattle.asset_locks.proofs.StoreLemmas.{stored_changed, number_one, parts_one}
 use Rattle.asset_locks.proofs.WalkLemmas.{passed_lock, others_own, others_from}
+use Rattle.asset_locks.proofs.ListLemmas.{twice_passed}
 use Rattle.asset_locks.proofs.OpsLemmas.{writer_conflicts, reader_conflicts}
 
--- whether two flags are the same
-abbrev pub same_flag : Bool → Bool → Bool
-same_flag true b = b
-same_flag false true = false
-same_flag false false = true
-
--- ---- which chains of an object list a lock
-module _ (store : Stored) (stored : IsStored store) (sound : IsSound store.by_object) (x number : ℕ) (numbered : number_in store.objects x ≡ Some number) where
-  -- a key in a chain of the object has a lock on it
-  pub on_object : (k c : ℕ) (w : Bool) → home_of store.by_owner k ≡ Some c → home_of store.by_object k ≡ Some (chain_for number w) → ((lock_at store.locks k).object.0 ≡ x) × ((lock_at store.locks k).ops.write ≡ w)
+-- ---- which part of an object's list has a lock
+module _ (store : Stored) (stored : IsStored store) (x number : ℕ) (numbered : number_in store.objects x ≡ Some number) where
+  -- a key in a part of the object has a lock on it
+  pub on_object : (k c : ℕ) (w : Bool) → home_of store.by_owner k ≡ Some c → part_of store.by_object k ≡ Some (part_for number w) → ((lock_at store.locks k).object.0 ≡ x) × ((lock_at store.locks k).ops.write ≡ w)
   on_object k c w home at =
       let placed = stored.placed k c home in
-      let same : Some (chain_for placed.number (lock_at store.locks k).ops.write) ≡ Some (chain_for number w) = sym placed.home ∙ at in
-      let one = chains_one placed.number number (lock_at store.locks k).ops.write w (cc) in
+      let same : Some (part_for placed.number (lock_at store.locks k).ops.write) ≡ Some (part_for number w) = sym placed.part ∙ at in
+      let one = parts_one placed.number number (lock_at store.locks k).ops.write w (cc) in
       (number_one store.objects _ x number (placed.numbered ∙ ap Some one.0) numbered, one.1)
 
-  -- a lock on the object is in the chain of those that write, or in the other
-  pub in_chain : (k c : ℕ) → home_of store.by_owner k ≡ Some c → (lock_at store.locks k).object.0 ≡ x → home_of store.by_object k ≡ Some (chain_for number (lock_at store.locks k).ops.write)
-  in_chain k c home on =
+  -- a lock on the object is in the part of those that write, or in the other
+  pub in_list : (k c : ℕ) → home_of store.by_owner k ≡ Some c → (lock_at store.locks k).object.0 ≡ x → part_of store.by_object k ≡ Some (part_for number (lock_at store.locks k).ops.write)
+  in_list k c home on =
       let placed = stored.placed k c home in
       let same : Some placed.number ≡ Some number = sym placed.numbered ∙ ap (number_in store.objects) on ∙ numbered in
       let is : placed.number ≡ number = cc in
-      placed.home ∙ ap (λ (n : ℕ). Some (chain_for n (lock_at store.locks k).ops.write)) is
+      placed.part ∙ ap (λ (n : ℕ). Some (part_for n (lock_at store.locks k).ops.write)) is
 
-  chains_apart : (w v : Bool) → chain_for number w ≡ chain_for number v → w ≡ v
-  chains_apart w v e = (chains_one number number w v e).1
-
-  -- whether a chain of the object lists a lock
-  pub chain_lists : (k c : ℕ) (w : Bool) → home_of store.by_owner k ≡ Some c → lists (chain_of store.by_object (chain_for number w)) k ≡ (is_on x (lock_at store.locks k) && same_flag w (lock_at store.locks k).ops.write)
-  unfolding is_on
-  chain_lists k c w home = elim (cases_Bool (eqb (lock_at store.locks k).object.0 x)) [
-    | inl on ↦ by_flags w (lock_at store.locks k).ops.write (in_chain k c home (eqb-true _ _ on)) ∙ sym (ap (λ (b : Bool). b && same_flag w (lock_at store.locks k).ops.write) on)
+  -- whether a part of the object has a lock
+  pub part_has : (k c : ℕ) (w : Bool) → home_of store.by_owner k ≡ Some c → is_in (part_for number w) (part_of store.by_object k) ≡ (is_on x (lock_at store.locks k) && same_flag w (lock_at store.locks k).ops.write)
+  unfolding is_on part_for
+  part_has k c w home = elim (cases_Bool (eqb (lock_at store.locks k).object.0 x)) [
+    | inl on ↦
+        ap (is_in (part_for number w)) (in_list k c home (eqb-true _ _ on))
+        ∙ ap (λ (b : Bool). b && same_flag w (lock_at store.locks k).ops.write) (eq-eqb number number refl ∙ sym on)
     | inr off ↦
-        false_from_ne_true _ (λ there. eqb-false _ _ off (on_object k c w home (sound.at_home (chain_for number w) k there)).0)
-        ∙ sym (ap (λ (b : Bool). b && same_flag w (lock_at store.locks k).ops.write) off)
-  ] where
-    by_flags : (w v : Bool) → home_of store.by_object k ≡ Some (chain_for number v) → lists (chain_of store.by_object (chain_for number w)) k ≡ same_flag w v
-    by_flags true true at = sound.listed (chain_for number true) k at
-    by_flags false false at = sound.listed (chain_for number false) k at
-    by_flags true false at = listed_once store.by_object sound k (chain_for number false) (chain_for number true) at (λ e. true≢false (chains_apart true false e))
-    by_flags false true at = listed_once store.by_object sound k (chain_for number true) (chain_for number false) at (λ e. true≢false (sym (chains_apart false true e)))
+        let placed = stored.placed k c home in
+        ap (is_in (part_for number w)) placed.part
+        ∙ ap (λ (b : Bool). b && same_flag w (lock_at store.locks k).ops.write)
+        (ne_eqb placed.number number (λ same. eqb-false _ _ off (number_one store.objects _ x number (placed.numbered ∙ ap Some same) numbered)) ∙ sym off)
+  ]
 
 -- ---- locks that are suspended
 pub passed_object : (b : Bool) (lock : Lock) → (passed_lock b lock).object ≡ lock.object
@@ -78,14 +70,14 @@ fewer_granted a b false q first second none = refl
 pub stored_suspended : (old new : Stored) (which : ℕ → Bool) → IsStored old → ((k : ℕ) → lock_at new.locks k ≡ passed_lock (which k) (lock_at old.locks k)) → ((k : ℕ) → is_some (get new.locks k) ≡ is_some (get old.locks k))
     → new.by_object ≡ old.by_object → new.by_owner ≡ old.by_owner → new.objects ≡ old.objects → IsStored new
 stored_suspended old new which stored locks keys of_object of_owner objects =
-    stored_changed old new stored keys (λ k. ap (λ (t : Chained). is_some (home_of t k)) of_object) of_owner
-    (subst (λ (t : Chained). 2 * length new.objects ≤ length t.chains) (sym of_object) (subst (λ l. 2 * length l ≤ length old.by_object.chains) (sym objects) stored.chains))
+    stored_changed old new stored keys (λ k. ap (λ (t : Parted). is_some (part_of t k)) of_object) of_owner
+    (subst (λ (t : Parted). length new.objects ≤ t.lists) (sym of_object) (subst (λ l. length l ≤ old.by_object.lists) (sym objects) stored.lists))
     (λ k c home.
     let placed = stored.placed k c home in
     record {
       number = placed.number;
       numbered = ap (λ l. number_in l (lock_at new.locks k).object.0) objects ∙ ap (number_in old.objects) (object k) ∙ placed.numbered;
-      home = ap (λ (t : Chained). home_of t k) of_object ∙ placed.home ∙ ap (λ (o : OpSet). Some (chain_for placed.number o.write)) (sym (ops k));
+      part = ap (λ (t : Parted). part_of t k) of_object ∙ placed.part ∙ ap (λ (o : OpSet). Some (part_for placed.number o.write)) (sym (ops k));
     })
     object
     (λ k c home. ap is_some_op (ops k) ∙ stored.carry k c home)
@@ -119,27 +111,22 @@ pub walked : (x : ℕ) (ops : OpSet) (lock : Lock) → is_some_op lock.ops ≡ t
 unfolding suspended
 walked x ops lock carries some = ap (λ (b : Bool). passed_lock b lock) (by_walks ops lock.ops carries some (is_on x lock) lock.ops.write refl)
 
-pub twice_passed : (a b : Bool) (lock : Lock) → passed_lock b (passed_lock a lock) ≡ passed_lock (a || b) lock
-twice_passed true true lock = refl
-twice_passed true false lock = refl
-twice_passed false b lock = refl
-
 -- ---- what the walks leave
-module _ (store : Stored) (stored : IsStored store) (sound : IsSound store.by_object) (x c number : ℕ) (ops : OpSet) (numbered : number_in store.objects x ≡ Some number) (some : is_some_op ops ≡ true) where
-  -- whether a walk along a chain of the object suspends another's lock
-  flag : (k d chain : ℕ) (w : Bool) → home_of store.by_owner k ≡ Some d → (d ≡ c → ⊥) → chain ≡ chain_for number w
-      → (lists (chain_of store.by_object chain) k && is_others c (home_of store.by_owner k)) ≡ (is_on x (lock_at store.locks k) && same_flag w (lock_at store.locks k).ops.write)
-  flag k d chain w home differ is =
-      (λ i. lists (chain_of store.by_object (is i)) k && is_others c (home i))
-      ∙ ap (λ (b : Bool). lists (chain_of store.by_object (chain_for number w)) k && b) (others_from c d differ)
+module _ (store : Stored) (stored : IsStored store) (x c number : ℕ) (ops : OpSet) (numbered : number_in store.objects x ≡ Some number) (some : is_some_op ops ≡ true) where
+  -- whether a walk over a part of the object suspends another's lock
+  flag : (k d : ℕ) (part : Part) (w : Bool) → home_of store.by_owner k ≡ Some d → (d ≡ c → ⊥) → part ≡ part_for number w
+      → (is_in part (part_of store.by_object k) && is_others c (home_of store.by_owner k)) ≡ (is_on x (lock_at store.locks k) && same_flag w (lock_at store.locks k).ops.write)
+  flag k d part w home differ is =
+      (λ i. is_in (is i) (part_of store.by_object k) && is_others c (home i))
+      ∙ ap (λ (b : Bool). is_in (part_for number w) (part_of store.by_object k) && b) (others_from c d differ)
       ∙ and_true _
-      ∙ chain_lists store stored sound x number numbered k d w home
+      ∙ part_has store stored x number numbered k d w home
 
-  no_flag : (k chain : ℕ) → home_of store.by_owner k ≡ Some c → (lists (chain_of store.by_object chain) k && is_others c (home_of store.by_owner k)) ≡ false
-  no_flag k chain home = ap (λ (o : Option ℕ). lists (chain_of store.by_object chain) k && is_others c o) home ∙ ap (λ (b : Bool). lists (chain_of store.by_object chain) k && b) (others_own c) ∙ and_false _
+  no_flag : (k : ℕ) (part : Part) → home_of store.by_owner k ≡ Some c → (is_in part (part_of store.by_object k) && is_others c (home_of store.by_owner k)) ≡ false
+  no_flag k part home = ap (λ (o : Option ℕ). is_in part (part_of store.by_object k) && is_others c o) home ∙ ap (λ (b : Bool). is_in part (part_of store.by_object k) && b) (others_own c) ∙ and_false _
 
-  module _ (once : Slab Lock) (writers : ℕ) (is_writers : writers ≡ chain_for number true)
-      (first : (k : ℕ) → lock_at once k ≡ passed_lock (lists (chain_of store.by_object writers) k && is_others c (home_of store.by_owner k)) (lock_at store.locks k)) where
+  module _ (once : Slab Lock) (writers : Part) (is_writers : writers ≡ part_for number true)
+      (first : (k : ℕ) → lock_at once k ≡ passed_lock (is_in writers (part_of store.by_object k) && is_others c (home_of store.by_owner k)) (lock_at store.locks k)) where
     -- after the walk over those that write, if the operations only read
     pub readers_stay : (new : Stored) → ops.write ≡ false → new.locks ≡ once → new.by_owner ≡ store.by_owner → new.objects ≡ store.objects → IsSuspended x c ops store new
     readers_stay new reads locks of_owner objects = record {
@@ -154,8 +141,8 @@ module _ (store : Stored) (stored : IsStored store) (sound : IsSound store.by_ob
     }
 
     -- and after that over the others, if they write
-    pub all_suspended : (twice : Slab Lock) (readers : ℕ) → readers ≡ chain_for number false
-        → ((k : ℕ) → lock_at twice k ≡ passed_lock (lists (chain_of store.by_object readers) k && is_others c (home_of store.by_owner k)) (lock_at once k))
+    pub all_suspended : (twice : Slab Lock) (readers : Part) → readers ≡ part_for number false
+        → ((k : ℕ) → lock_at twice k ≡ passed_lock (is_in readers (part_of store.by_object k) && is_others c (home_of store.by_owner k)) (lock_at once k))
         → (new : Stored) → ops.write ≡ true → new.locks ≡ twice → new.by_owner ≡ store.by_owner → new.objects ≡ store.objects → IsSuspended x c ops store new
     all_suspended twice readers is_readers second new writes locks of_owner objects = record {
       own = λ k home.

@@ -1,12 +1,10 @@
--- Locks that are suspended along a chain.
-use Rattle.std.proofs.Common.{zero, suc, ◌-◌, map, [], arith, ◌≡◌, ℕ, ◌<◌, ◌⊎◌, length, subst, Bool, true, false, eqb, cond, not, ◌&&◌, ◌||◌, List, ◌∷◌, Option, Some, None, refl, sym, ap, ◌∙◌, inl, inr}
-use Rattle.std.specs.List.{IsDistinct}
+-- Walks along the locks of a seat, and what is asked of each lock.
+use Rattle.std.proofs.Common.{zero, suc, ◌-◌, map, [], arith, ◌≡◌, ℕ, ◌<◌, ◌⊎◌, length, subst, Bool, true, false, eqb, cond, not, ◌&&◌, ◌||◌, List, ◌∷◌, Option, Some, None, refl, sym, ap, ◌∙◌, inl}
 use Rattle.std.specs.Prelude.{slice_get}
-use Rattle.std.proofs.lemmas.Bool.{eqb-true, eqb-false, eq-eqb, ne_eqb, cases_Bool, or_left, true≢false, not-true, not-false}
-use Rattle.slab.specs.Slab.{Slab}
+use Rattle.std.proofs.lemmas.Bool.{eqb-true, eqb-false, eq-eqb, ne_eqb, true≢false, not-true, not-false}
 use Rattle.asset_chains.specs.Chained.{Chained, IsSound, chain_of, home_of, first_of, behind, lists}
 use Rattle.asset_chains.proofs.Laws.{chain_at_first}
-use Rattle.asset_chains.proofs.Walks.{from_key, from_first, from_next, behind_itself, next_home, walk_more, walk_ends, walk_less}
+use Rattle.asset_chains.proofs.Walks.{from_key, from_first, from_next, next_home, walk_more, walk_ends, walk_less}
 use Rattle.asset_locks.specs.declared.lock.Lock.{Lock}
 use Rattle.asset_names.specs.declared.names.Ob.{Ob}
 use Rattle.asset_names.specs.declared.names.Txn.{Txn}
@@ -17,63 +15,9 @@ use Rattle.asset_seats.specs.Seated.{Seated}
 use Rattle.asset_locks.specs.LockTable.{one_conflicts}
 use Rattle.asset_locks.specs.Stored.{Stored, lock_at, locks_at, is_others, name_of, name_blocks, key_blocks}
 
--- whether a walk along the keys that is at a key has passed another
-abbrev pub passed : List ℕ → Option ℕ → ℕ → Bool
-passed keys next k = lists keys k && not (lists (from_key next keys) k)
-
-none_passed : (b o : Bool) → (b && not b && o) ≡ false
-none_passed true o = refl
-none_passed false o = refl
-
-all_passed : (b o : Bool) → (b && not false && o) ≡ (b && o)
-all_passed true o = refl
-all_passed false o = refl
-
--- the lock, suspended if the walk has passed it and it is another's
+-- the lock, suspended if a walk has passed it and it is another's
 abbrev pub passed_lock : Bool → Lock → Lock
 passed_lock b lock = cond b (record lock { granted = false }) lock
-
--- at first none is
-pub passed_first : (keys : List ℕ) (k : ℕ) (other : Bool) (lock : Lock) → lock ≡ passed_lock (passed keys (first_of keys) k && other) lock
-passed_first keys k other lock =
-    sym (ap (λ (l : List ℕ). passed_lock (lists keys k && not (lists l k) && other) lock) (from_first keys) ∙ ap (λ (b : Bool). passed_lock b lock) (none_passed (lists keys k) other))
-
--- at the end all are
-pub passed_last : (keys : List ℕ) (k : ℕ) (other : Bool) (lock : Lock) → passed_lock (passed keys None k && other) lock ≡ passed_lock (lists keys k && other) lock
-passed_last keys k other lock = ap (λ (b : Bool). passed_lock b lock) (all_passed (lists keys k) other)
-
--- at the next key one more is
-pub passed_more : (first now new : Slab Lock) (keys : List ℕ) (key : ℕ) (others : ℕ → Bool) → IsDistinct eqb keys → lists keys key ≡ true
-    → ((k : ℕ) → lock_at now k ≡ passed_lock (passed keys (Some key) k && others k) (lock_at first k))
-    → ((k : ℕ) → lock_at new k ≡ passed_lock (eqb k key && others key) (lock_at now k))
-    → (k : ℕ) → lock_at new k ≡ passed_lock (passed keys (first_of (behind key keys)) k && others k) (lock_at first k)
-passed_more first now new keys key others distinct there before change k = elim (cases_Bool (eqb k key)) [
-  | inl here ↦
-      let same : k ≡ key = eqb-true k key here in
-      let still : lock_at now k ≡ lock_at first k = before k ∙ ap (λ (b : Bool). passed_lock (lists keys k && not b && others k) (lock_at first k)) (or_left (eqb k key) (lists (behind key keys) k) here) ∙ ap (λ (b : Bool). passed_lock (b && others k) (lock_at first k)) (and_false (lists keys k)) in
-      change k
-      ∙ ap (λ (b : Bool). passed_lock (b && others key) (lock_at now k)) here
-      ∙ ap (λ (l : Lock). passed_lock (others key) l) still
-      ∙ ap (λ (n : ℕ). passed_lock (others n) (lock_at first k)) (sym same)
-      ∙ sym (ap (λ (b : Bool). passed_lock (b && others k) (lock_at first k)) (gone k same))
-  | inr apart ↦
-      change k
-      ∙ ap (λ (b : Bool). passed_lock (b && others key) (lock_at now k)) apart
-      ∙ before k
-      ∙ ap (λ (b : Bool). passed_lock (lists keys k && not (b || lists (behind key keys) k) && others k) (lock_at first k)) apart
-      ∙ sym (ap (λ (l : List ℕ). passed_lock (lists keys k && not (lists l k) && others k) (lock_at first k)) (from_next key keys distinct there))
-] where
-  and_false : (b : Bool) → (b && false) ≡ false
-  and_false true = refl
-  and_false false = refl
-
-  both : (a b : Bool) → a ≡ true → b ≡ false → (a && not b) ≡ true
-  both a b p q = λ i. (p i && not (q i))
-
-  gone : (k : ℕ) → k ≡ key → passed keys (first_of (behind key keys)) k ≡ true
-  gone k same =
-      both (lists keys k) (lists (from_key (first_of (behind key keys)) keys) k) (ap (lists keys) same ∙ there)
-      (ap (λ (l : List ℕ). lists l k) (from_next key keys distinct there) ∙ ap (λ (n : ℕ). lists (behind key keys) n) same ∙ behind_itself key keys distinct there)
 
 -- ---- a walk along a chain of a table, which is read as another that is equal
 module _ (read shown : Chained) (same : read ≡ shown) (sound : IsSound read) (c : ℕ) where
@@ -181,7 +125,7 @@ two_true a b c p q = sym (λ i. not (p i) && q i && c)
 pub second_false : (a b c : Bool) → a ≡ false → b ≡ false → false ≡ (not a && b && c)
 second_false a b c p q = sym (λ i. not (p i) && q i && c)
 
--- a chain that is looked at for a read has the locks that write
+-- a part that is looked at for a read has the locks that write
 pub only_writers : (w : Bool) (op : Op) → op ≡ Op'.Read → (w || has_op (only_op op) Op'.Write) ≡ true → w ≡ true
 unfolding only_op
 only_writers w op is looked = or_false w (sym (ap (λ (o : Op). w || has_op (only_op o) Op'.Write) is) ∙ looked) where

@@ -1,7 +1,9 @@
--- How locks are stored: in a slab, beside two partitions of its keys into chains, by object and by the seat of the owner.
-use Rattle.std.specs.Prelude.{◌≡◌, ℕ, ◌*◌, ◌+◌, ◌<◌, ◌≤◌, Bool, true, false, cond, not, ◌==◌, ◌&&◌, ◌⊎◌, List, [], ◌∷◌, ◌++◌, length, map, position, Option, Some, None, is_some, unwrap_or, slice_index_or}
+-- How locks are stored: in a slab, beside lists of its keys by object, and chains of them by the seat of the owner.
+use Rattle.std.specs.Prelude.{◌≡◌, ℕ, ◌<◌, ◌≤◌, Bool, true, false, cond, not, ◌==◌, ◌&&◌, ◌⊎◌, List, [], ◌∷◌, ◌++◌, length, map, position, Option, Some, None, is_some, unwrap_or, slice_index_or}
 use Rattle.slab.specs.Slab.{Slab, get, HasRoomFor}
 use Rattle.asset_chains.specs.Chained.{Chained, chain_of, home_of, without}
+use Rattle.asset_lists.specs.declared.part.Part.{Part}
+use Rattle.asset_lists.specs.Parted.{Parted, part_of}
 use Rattle.asset_names.specs.declared.names.Txn.{Txn}
 use Rattle.asset_names.specs.declared.names.Ob.{Ob}
 use Rattle.asset_names.specs.declared.operations.Op.{Op}
@@ -16,8 +18,8 @@ pub record Stored : Type 0 where
   pub locks : Slab Lock
   -- the objects that ever had a lock
   pub objects : List Ob
-  -- of each object the keys of the locks that only read, and of those that write
-  pub by_object : Chained
+  -- of each object the keys of its locks, those that write in the front part of its list
+  pub by_object : Parted
   -- of each seat the keys of its locks, in order of first grant
   pub by_owner : Chained
 
@@ -37,23 +39,34 @@ locks_at store c = map (lock_at store.locks) (chain_of store.by_owner c)
 unfoldable pub number_in : List Ob → ℕ → Option ℕ
 number_in objects x = position (λ (y : Ob). x == y.0) objects
 
--- the chain of the locks on an object that write, or of those that only read
-unfoldable pub chain_for : ℕ → Bool → ℕ
-chain_for number writes = cond writes (2 * number + 1) (2 * number)
+-- the part of the locks on an object that write, or of those that only read
+unfoldable pub part_for : ℕ → Bool → Part
+part_for number writes = record { list = number; front = writes }
 
--- a key is in the chain of the object that its lock is on
+-- whether two flags are the same
+abbrev pub same_flag : Bool → Bool → Bool
+same_flag true b = b
+same_flag false true = false
+same_flag false false = true
+
+-- whether a key whose part is given is in this one
+abbrev pub is_in : Part → Option Part → Bool
+is_in part None = false
+is_in part (Some other) = other.list == part.list && same_flag part.front other.front
+
+-- a key is in the list of the object that its lock is on
 pub record IsPlaced (store : Stored) (k : ℕ) : Type 0 where
   pub number : ℕ
   pub numbered : number_in store.objects (lock_at store.locks k).object.0 ≡ Some number
-  pub home : home_of store.by_object k ≡ Some (chain_for number (lock_at store.locks k).ops.write)
+  pub part : part_of store.by_object k ≡ Some (part_for number (lock_at store.locks k).ops.write)
 
--- each lock is in the chain of its object and in that of an owner, and nothing else is in a chain
+-- each lock is in the list of its object and in the chain of an owner, and nothing else is in a list or a chain
 pub record IsStored (store : Stored) : Type 0 where
   pub held : (k : ℕ) → is_some (home_of store.by_owner k) ≡ is_some (get store.locks k)
-  pub listed : (k : ℕ) → is_some (home_of store.by_object k) ≡ is_some (get store.locks k)
+  pub listed : (k : ℕ) → is_some (part_of store.by_object k) ≡ is_some (get store.locks k)
   pub placed : (k c : ℕ) → home_of store.by_owner k ≡ Some c → IsPlaced store k
-  -- there are two chains for each object
-  pub chains : 2 * length store.objects ≤ length store.by_object.chains
+  -- there is a list for each object
+  pub lists : length store.objects ≤ store.by_object.lists
   -- an owner has one lock on an object
   pub single : (j k c : ℕ) → home_of store.by_owner j ≡ Some c → home_of store.by_owner k ≡ Some c → (lock_at store.locks j).object.0 ≡ (lock_at store.locks k).object.0 → j ≡ k
   -- a lock carries an operation
@@ -147,7 +160,8 @@ pub record IsHanded (key from to : ℕ) (old new : Stored) : Type 0 where
 pub record HasKey (store : Stored) (key : ℕ) : Type 0 where
   pub slot : HasRoomFor store.locks 1
   pub vacant : store.locks.vacant_key ≡ key
-  pub of_object : key < length store.by_object.homes
+  pub empty : get store.locks key ≡ None
+  pub of_object : key < length store.by_object.parts
   pub of_owner : key < length store.by_owner.homes
 
 -- each lock on x of another than c is suspended if it conflicts with these operations, and nothing else changes

@@ -6,9 +6,9 @@ ghost use Rattle.asset_names.specs.OpSets.{with_op};
 ghost use Rattle.asset_locks.specs.Stored.{lock_at};
 
 use crate::lock::Lock;
-use crate::store::{LockStore, chain_of, writers_of};
+use crate::store::{LockStore, part_of};
 use asset_names::{NoMemory, Ob, Op, Ops};
-use asset_seats::{add_chains, add_keys};
+use asset_seats::add_keys;
 use slab::Slab;
 
 /// Grants `op` to the lock at the key.
@@ -79,7 +79,7 @@ impl LockStore {
         }
         let number = self.number_at(key);
         self.suspend_others(number, lock.object, c, lock.ops.with(op));
-        self.grant_at(key, number, op);
+        self.grant_at(key, op);
     }
 
     /// Returns the number of the object that the lock at the key is on.
@@ -88,16 +88,14 @@ impl LockStore {
         ensures { number_in self.now.objects (lock_at self.now.locks key).object.0 ≡ Some result }
     {
         self.laws();
-        match self.by_object.home(key) {
-            Some(chain) => chain / 2,
+        match self.by_object.part(key) {
+            Some(part) => part.list,
             None => unreachable!(),
         }
     }
 
-    /// Grants `op` to the lock at the key, which is on the object of this number. No other granted lock conflicts with
-    /// what it carries then.
-    fn grant_at(&mut self, key: usize, number: usize, op: Op)
-        requires number { number_in self.old.objects (lock_at self.old.locks key).object.0 ≡ Some number }
+    /// Grants `op` to the lock at the key. No other granted lock conflicts with what it carries then.
+    fn grant_at(&mut self, key: usize, op: Op)
         requires there { is_some (home_of self.old.by_owner key) ≡ true }
         requires apart { (j c d : ℕ) → home_of self.old.by_owner key ≡ Some c → home_of self.old.by_owner j ≡ Some d → (d ≡ c → ⊥) → (lock_at self.old.locks j).object.0 ≡ (lock_at self.old.locks key).object.0 → both_conflict (lock_at self.old.locks j).ops (with_op op (lock_at self.old.locks key).ops) ≡ true → (lock_at self.old.locks j).granted ≡ false }
         ensures locks { (k : ℕ) → lock_at self.new.locks k ≡ cond (k == key) (record (lock_at self.old.locks key) { ops = with_op op (lock_at self.old.locks key).ops; granted = true }) (lock_at self.old.locks k) }
@@ -107,10 +105,7 @@ impl LockStore {
         grant_to(&mut self.locks, key, op);
         match op {
             Op::Read => {}
-            Op::Write => {
-                self.by_object.unlink(key);
-                self.by_object.push(writers_of(number), key);
-            }
+            Op::Write => self.by_object.advance(key),
         }
     }
 
@@ -140,7 +135,7 @@ impl LockStore {
                 ops: Ops::only(op),
                 granted: false,
             },
-        );
+        )?;
         Ok(key)
     }
 
@@ -156,7 +151,7 @@ impl LockStore {
         }
     }
 
-    /// Gives the object a number, and two chains. If memory runs out, no lock changes.
+    /// Gives the object a number, and a list. If memory runs out, no lock changes.
     fn add_object(&mut self, x: Ob) -> Result<usize, NoMemory>
         requires { number_in self.old.objects x.0 ≡ None }
         ensures number { IfOk result (λ number. number_in self.new.objects x.0 ≡ Some number) }
@@ -164,7 +159,10 @@ impl LockStore {
     {
         self.laws();
         let number = self.objects.len();
-        add_chains(&mut self.by_object, writers_of(number))?;
+        match self.by_object.add_lists(number) {
+            Ok(()) => {}
+            Err(_) => return Err(NoMemory),
+        }
         match self.objects.insert(x) {
             Ok(_) => Ok(number),
             Err(_) => Err(NoMemory),
@@ -182,25 +180,34 @@ impl LockStore {
             Err(_) => return Err(NoMemory),
         }
         let key = self.locks.vacant_key();
-        add_keys(&mut self.by_object, key)?;
+        match self.by_object.add_keys(key) {
+            Ok(()) => {}
+            Err(_) => return Err(NoMemory),
+        }
         add_keys(&mut self.by_owner, key)?;
         Ok(key)
     }
 
-    /// Puts a lock at the key, for which there is room, into the chain of the seat and that of the object of this number.
-    fn insert(&mut self, key: usize, number: usize, c: usize, lock: Lock)
+    /// Puts a lock at the key, for which there is room, into the chain of the seat and the list of the object of this
+    /// number. If memory runs out, no lock changes.
+    fn insert(&mut self, key: usize, number: usize, c: usize, lock: Lock) -> Result<(), NoMemory>
         requires room { HasKey self.old key }
         requires number { number_in self.old.objects lock.object.0 ≡ Some number }
         requires seat { c < length self.old.by_owner.chains }
         requires none { (k : ℕ) → home_of self.old.by_owner k ≡ Some c → is_on lock.object.0 (lock_at self.old.locks k) ≡ false }
         requires suspended { lock.granted ≡ false }
         requires ops { is_some_op lock.ops ≡ true }
-        ensures { IsAdded key c lock self.old self.new }
+        ensures added { OnOk result (IsAdded key c lock self.old self.new) }
+        ensures unchanged { OnErr result (IsGrown self.old self.new) }
     {
         self.laws();
-        let chain = chain_of(number, lock.ops);
+        let part = part_of(number, lock.ops);
+        match self.by_object.push(part, key) {
+            Ok(()) => {}
+            Err(_) => return Err(NoMemory),
+        }
         self.locks.insert_reserved(lock);
-        self.by_object.push(chain, key);
         self.by_owner.push(c, key);
+        Ok(())
     }
 }

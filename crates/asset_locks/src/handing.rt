@@ -6,7 +6,7 @@ ghost use Rattle.asset_locks.specs.LockTable.{both_ops};
 ghost use Rattle.asset_locks.specs.Stored.{lock_at};
 
 use crate::lock::Lock;
-use crate::store::{LockStore, writers_of};
+use crate::store::LockStore;
 use asset_names::{Ob, ObSet, Op, Ops};
 use slab::Slab;
 
@@ -139,11 +139,9 @@ impl LockStore {
         ensures by_owner { self.new.by_owner ≡ self.old.by_owner }
     {
         self.laws();
-        let number = self.number_at(key);
         add_ops(&mut self.locks, key, ops);
         if ops.has(Op::Write) {
-            self.by_object.unlink(key);
-            self.by_object.push(writers_of(number), key);
+            self.by_object.advance(key);
         }
     }
 }

@@ -1,8 +1,8 @@
 //! The table of locks: who holds which object by which operations, and who waits for it.
 //!
-//! Locks lie in a slab, and each is in two chains: that of its owner, in order of first grant, and one of its object,
-//! where those that write are apart from those that only read. Only an enrolment, and the first grant to a transaction
-//! on an object, take memory.
+//! Locks lie in a slab. Each is in the chain of its owner, in order of first grant, and in the list of its object, where
+//! those that write are apart from those that only read. Only an enrolment, and the first grant to a transaction on an
+//! object, take memory.
 #![tactic(auto)]
 
 mod granting;

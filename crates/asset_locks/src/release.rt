@@ -7,13 +7,13 @@ impl LockStore {
     ghost use Rattle.asset_chains.specs.Chained.{chain_of, home_of};
     ghost use Rattle.asset_locks.specs.Stored.{locks_at, IsDropped};
 
-    /// Removes the lock at the key from both of its chains, and from the slab.
+    /// Removes the lock at the key from the list of its object and the chain of its owner, and from the slab.
     pub(crate) fn drop_lock(&mut self, key: usize)
         requires { is_some (home_of self.old.by_owner key) ≡ true }
         ensures { IsDropped key self.old self.new }
     {
         self.laws();
-        self.by_object.unlink(key);
+        self.by_object.remove(key);
         self.by_owner.unlink(key);
         self.locks.try_remove(key);
     }

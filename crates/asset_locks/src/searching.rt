@@ -7,6 +7,7 @@ ghost use Rattle.asset_locks.specs.Stored.{is_others};
 use crate::lock::{Request, one_conflicts};
 use crate::store::{LockStore, readers_of, writers_of};
 use asset_chains::Chains;
+use asset_lists::Part;
 use asset_names::{NoMemory, Ob, ObSet, Op, Txn};
 use asset_permits::Permits;
 use asset_seats::Seats;
@@ -24,18 +25,19 @@ pub(crate) fn is_others(by_owner: &Chains, key: usize, c: usize) -> bool
 }
 
 impl LockStore {
-    ghost use Rattle.std.specs.Prelude.{◌≡◌, ℕ, ◌+◌, ◌*◌, ◌<◌, ◌^◌, ◌||◌, ◌&&◌, Bool, true, false, Some, map, filter, slice_get, ◌++◌, IfOk, OnOk, IfSome, IfNone};
+    ghost use Rattle.std.specs.Prelude.{◌≡◌, ℕ, ◌||◌, Bool, true, false, Some, map, filter, slice_get, ◌++◌, IfOk, OnOk, IfSome, IfNone};
     ghost use Rattle.std.specs.List.{list_any};
     ghost use Rattle.asset_names.specs.declared.sets.ObSet.{ObSet as ObjectSet};
     ghost use Rattle.asset_names.specs.InSet.{in_set, only_in};
     ghost use Rattle.asset_names.specs.OpSets.{has_op, only_op};
     ghost use Rattle.asset_names.specs.declared.operations.Op.TheVariants as Op';
-    ghost use Rattle.asset_chains.specs.Chained.{chain_of, home_of};
+    ghost use Rattle.asset_chains.specs.Chained.{home_of};
+    ghost use Rattle.asset_lists.specs.Parted.{part_of};
     ghost use Rattle.asset_permits.specs.Descriptors.{allows_by};
     ghost use Rattle.asset_seats.specs.Seated.{seat};
     ghost use Rattle.asset_locks.specs.declared.lock.Lock.{Lock as Held};
     ghost use Rattle.asset_locks.specs.LockTable.{is_on, blocks};
-    ghost use Rattle.asset_locks.specs.Stored.{name_of, key_blocks, lock_at, locks_at, number_in, chain_for, is_others};
+    ghost use Rattle.asset_locks.specs.Stored.{name_of, key_blocks, lock_at, locks_at, number_in, part_for, is_others};
 
     /// Returns who has the lock at the key, if anybody has it.
     #[tactic(auto, unfolding(crate::specs::Stored::name_of))]
@@ -66,25 +68,23 @@ impl LockStore {
         }
     }
 
-    /// Returns whether a lock of the chain, which is one of the object that is asked for, blocks the request.
-    fn chain_blocks(
+    /// Returns whether a lock of the part, which is one of the object that is asked for, blocks the request.
+    fn part_blocks(
         &self,
-        chain: usize,
+        part: Part,
         request: Request,
         seats: &Seats,
         permits: &mut Permits,
     ) -> bool
-        ensures blocked { result ≡ true → (k : ℕ) × (home_of self.now.by_object k ≡ Some chain) × (key_blocks self.now seats.now (λ u. allows_by permits.old u request.t.0 request.x.0 request.op) request.t.0 request.op k ≡ true) }
-        ensures free { result ≡ false → (k : ℕ) → home_of self.now.by_object k ≡ Some chain → key_blocks self.now seats.now (λ u. allows_by permits.old u request.t.0 request.x.0 request.op) request.t.0 request.op k ≡ false }
+        ensures blocked { result ≡ true → (k : ℕ) × (part_of self.now.by_object k ≡ Some part) × (key_blocks self.now seats.now (λ u. allows_by permits.old u request.t.0 request.x.0 request.op) request.t.0 request.op k ≡ true) }
+        ensures free { result ≡ false → (k : ℕ) → part_of self.now.by_object k ≡ Some part → key_blocks self.now seats.now (λ u. allows_by permits.old u request.t.0 request.x.0 request.op) request.t.0 request.op k ≡ false }
         ensures permits { permits.new ≡ permits.old }
     {
-        self.by_object.laws();
-        let mut next = self.by_object.first(chain);
-        'keys: while let Some(key) = next {
-            if self.key_blocks(key, request, seats, permits) {
+        let keys = self.by_object.keys(part);
+        'keys: for key in keys {
+            if self.key_blocks(*key as usize, request, seats, permits) {
                 return true;
             }
-            next = self.by_object.next(key);
         }
         false
     }
@@ -98,17 +98,16 @@ impl LockStore {
         seats: &Seats,
         permits: &mut Permits,
     ) -> bool
-        requires { 2 * number + 1 < 2 ^ 64 }
-        ensures blocked { result ≡ true → (k : ℕ) × (w : Bool) × (home_of self.now.by_object k ≡ Some (chain_for number w)) × (key_blocks self.now seats.now (λ u. allows_by permits.old u request.t.0 request.x.0 request.op) request.t.0 request.op k ≡ true) }
-        ensures free { result ≡ false → (k : ℕ) (w : Bool) → home_of self.now.by_object k ≡ Some (chain_for number w) → (w || has_op (only_op request.op) Op'.Write) ≡ true → key_blocks self.now seats.now (λ u. allows_by permits.old u request.t.0 request.x.0 request.op) request.t.0 request.op k ≡ false }
+        ensures blocked { result ≡ true → (k : ℕ) × (w : Bool) × (part_of self.now.by_object k ≡ Some (part_for number w)) × (key_blocks self.now seats.now (λ u. allows_by permits.old u request.t.0 request.x.0 request.op) request.t.0 request.op k ≡ true) }
+        ensures free { result ≡ false → (k : ℕ) (w : Bool) → part_of self.now.by_object k ≡ Some (part_for number w) → (w || has_op (only_op request.op) Op'.Write) ≡ true → key_blocks self.now seats.now (λ u. allows_by permits.old u request.t.0 request.x.0 request.op) request.t.0 request.op k ≡ false }
         ensures permits { permits.new ≡ permits.old }
     {
-        if self.chain_blocks(writers_of(number), request, seats, permits) {
+        if self.part_blocks(writers_of(number), request, seats, permits) {
             return true;
         }
         match request.op {
             Op::Read => false,
-            Op::Write => self.chain_blocks(readers_of(number), request, seats, permits),
+            Op::Write => self.part_blocks(readers_of(number), request, seats, permits),
         }
     }
 
@@ -132,18 +131,16 @@ impl LockStore {
         }
     }
 
-    /// Returns the key of a lock of the object's chain that is the seat's, if there is one.
-    fn find_by_object(&self, chain: usize, c: usize) -> Option<usize>
-        ensures found { IfSome result (λ k. home_of self.now.by_object k ≡ Some chain × home_of self.now.by_owner k ≡ Some c) }
-        ensures none { IfNone result ((k : ℕ) → home_of self.now.by_object k ≡ Some chain → is_others c (home_of self.now.by_owner k) ≡ true) }
+    /// Returns the key of a lock of the part that is the seat's, if there is one.
+    fn find_in(&self, part: Part, c: usize) -> Option<usize>
+        ensures found { IfSome result (λ k. part_of self.now.by_object k ≡ Some part × home_of self.now.by_owner k ≡ Some c) }
+        ensures none { IfNone result ((k : ℕ) → part_of self.now.by_object k ≡ Some part → is_others c (home_of self.now.by_owner k) ≡ true) }
     {
-        self.by_object.laws();
-        let mut next = self.by_object.first(chain);
-        'keys: while let Some(key) = next {
-            if !is_others(&self.by_owner, key, c) {
-                return Some(key);
+        let keys = self.by_object.keys(part);
+        'keys: for key in keys {
+            if !is_others(&self.by_owner, *key as usize, c) {
+                return Some(*key as usize);
             }
-            next = self.by_object.next(key);
         }
         None
     }
@@ -166,13 +163,12 @@ impl LockStore {
 
     /// Returns the key of the lock of the seat on the object of this number, if it has one, by the locks on the object.
     fn find_on(&self, number: usize, c: usize) -> Option<usize>
-        requires { 2 * number + 1 < 2 ^ 64 }
-        ensures found { IfSome result (λ k. ((w : Bool) × home_of self.now.by_object k ≡ Some (chain_for number w)) × home_of self.now.by_owner k ≡ Some c) }
-        ensures none { IfNone result ((k : ℕ) (w : Bool) → home_of self.now.by_object k ≡ Some (chain_for number w) → is_others c (home_of self.now.by_owner k) ≡ true) }
+        ensures found { IfSome result (λ k. ((w : Bool) × part_of self.now.by_object k ≡ Some (part_for number w)) × home_of self.now.by_owner k ≡ Some c) }
+        ensures none { IfNone result ((k : ℕ) (w : Bool) → part_of self.now.by_object k ≡ Some (part_for number w) → is_others c (home_of self.now.by_owner k) ≡ true) }
     {
-        match self.find_by_object(writers_of(number), c) {
+        match self.find_in(writers_of(number), c) {
             Some(key) => Some(key),
-            None => self.find_by_object(readers_of(number), c),
+            None => self.find_in(readers_of(number), c),
         }
     }
 
@@ -186,8 +182,9 @@ impl LockStore {
         self.laws();
         match number {
             Some(number) => {
-                let readers = self.by_object.len(readers_of(number));
-                let on_object = readers.saturating_add(self.by_object.len(writers_of(number)));
+                let readers = self.by_object.keys(readers_of(number)).len();
+                let writers = self.by_object.keys(writers_of(number)).len();
+                let on_object = readers.saturating_add(writers);
                 if self.by_owner.len(c) <= on_object {
                     self.find_by_owner(c, x)
                 } else {

@@ -1,10 +1,11 @@
-//! The locks, each in the chain of its object and in that of its owner's seat.
+//! The locks, each in the list of its object and in the chain of its owner's seat.
 
-ghost use Rattle.std.specs.Prelude.{◌≡◌, ℕ, ◌+◌, ◌*◌, ◌<◌, ◌^◌, true, false};
-ghost use Rattle.asset_locks.specs.Stored.{chain_for};
+ghost use Rattle.std.specs.Prelude.{◌≡◌, true, false};
+ghost use Rattle.asset_locks.specs.Stored.{part_for};
 
 use crate::lock::Lock;
 use asset_chains::Chains;
+use asset_lists::{KeyLists, Part};
 use asset_names::{NoMemory, Ob, Op, Ops};
 use asset_seats::add_chains;
 use indexmap::IndexSet;
@@ -12,13 +13,13 @@ use slab::Slab;
 use std::alloc::Global;
 use std::marker::Model;
 
-/// The locks of each seat, in order of first grant. Contracts see the locks by their keys, and the keys in the chains of
-/// objects and of seats.
+/// The locks of each seat, in order of first grant. Contracts see the locks by their keys, and the keys in the lists of
+/// objects and in the chains of seats.
 #[derive(Drop)]
 pub(crate) struct LockStore {
     pub locks: Slab<Lock>,
     pub objects: IndexSet<Ob>,
-    pub by_object: Chains,
+    pub by_object: KeyLists,
     pub by_owner: Chains,
 }
 
@@ -32,28 +33,31 @@ impl Model for LockStore {
     ghost invariant = { λ s. IsStored (record { locks = s.locks; objects = s.objects.keys; by_object = s.by_object; by_owner = s.by_owner }) };
 }
 
-/// Returns the chain of the locks that only read, on the object of this number.
-#[tactic(auto, unfolding(crate::specs::Stored::chain_for))]
-pub(crate) fn readers_of(number: usize) -> usize
-    requires { 2 * number + 1 < 2 ^ 64 }
-    ensures { result ≡ chain_for number false }
+/// Returns the part of the locks that only read, in the list of the object of this number.
+#[tactic(auto, unfolding(crate::specs::Stored::part_for))]
+pub(crate) fn readers_of(number: usize) -> Part
+    ensures { result ≡ part_for number false }
 {
-    2 * number
+    Part {
+        list: number,
+        front: false,
+    }
 }
 
-/// Returns the chain of the locks that write, on the object of this number.
-#[tactic(auto, unfolding(crate::specs::Stored::chain_for))]
-pub(crate) fn writers_of(number: usize) -> usize
-    requires { 2 * number + 1 < 2 ^ 64 }
-    ensures { result ≡ chain_for number true }
+/// Returns the part of the locks that write, in the list of the object of this number.
+#[tactic(auto, unfolding(crate::specs::Stored::part_for))]
+pub(crate) fn writers_of(number: usize) -> Part
+    ensures { result ≡ part_for number true }
 {
-    2 * number + 1
+    Part {
+        list: number,
+        front: true,
+    }
 }
 
-/// Returns the chain of the locks with these operations, on the object of this number.
-pub(crate) fn chain_of(number: usize, ops: Ops) -> usize
-    requires { 2 * number + 1 < 2 ^ 64 }
-    ensures { result ≡ chain_for number ops.write }
+/// Returns the part of the locks with these operations, in the list of the object of this number.
+pub(crate) fn part_of(number: usize, ops: Ops) -> Part
+    ensures { result ≡ part_for number ops.write }
 {
     if ops.has(Op::Write) {
         writers_of(number)
@@ -63,7 +67,7 @@ pub(crate) fn chain_of(number: usize, ops: Ops) -> usize
 }
 
 impl LockStore {
-    ghost use Rattle.std.specs.Prelude.{◌≡◌, ℕ, ◌<◌, ◌^◌, [], length, OnOk};
+    ghost use Rattle.std.specs.Prelude.{◌≡◌, ℕ, ◌<◌, [], length, OnOk};
     ghost use Rattle.asset_chains.specs.Chained.{chain_of, home_of, IsSound};
     ghost use Rattle.asset_locks.specs.Stored.{IsStored, IsGrown, lock_at, locks_at, number_in};
 
@@ -74,7 +78,7 @@ impl LockStore {
         LockStore {
             locks: Slab::new(alloc),
             objects: IndexSet::new(alloc),
-            by_object: Chains::new(alloc),
+            by_object: KeyLists::new(alloc),
             by_owner: Chains::new(alloc),
         }
     }
@@ -82,11 +86,8 @@ impl LockStore {
     /// Says what holds of all locks, for proofs. It does nothing.
     pub(crate) fn laws(&self)
         ensures stored { IsStored self.now }
-        ensures objects { IsSound self.now.by_object }
         ensures owners { IsSound self.now.by_owner }
-        ensures few { length self.now.by_object.chains < 2 ^ 32 }
     {
-        self.by_object.laws();
         self.by_owner.laws();
     }
 

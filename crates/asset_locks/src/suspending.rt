@@ -2,13 +2,15 @@
 
 ghost use Rattle.std.specs.Prelude.{◌≡◌, ◌==◌, ℕ, ◌&&◌, cond, false, is_some};
 ghost use Rattle.slab.specs.Slab.{get};
-ghost use Rattle.asset_chains.specs.Chained.{chain_of, home_of, lists};
-ghost use Rattle.asset_locks.specs.Stored.{lock_at, is_others};
+ghost use Rattle.asset_chains.specs.Chained.{home_of};
+ghost use Rattle.asset_lists.specs.Parted.{part_of};
+ghost use Rattle.asset_locks.specs.Stored.{lock_at, is_others, is_in};
 
 use crate::lock::Lock;
 use crate::searching::is_others;
 use crate::store::{LockStore, readers_of, writers_of};
 use asset_chains::Chains;
+use asset_lists::{KeyLists, Part};
 use asset_names::{Ob, Op, Ops};
 use slab::Slab;
 
@@ -22,23 +24,21 @@ fn suspend_at(locks: &mut Slab<Lock>, key: usize)
     }
 }
 
-/// Suspends the locks of the object's chain, but the one of the seat.
-fn suspend_in(locks: &mut Slab<Lock>, by_object: &Chains, by_owner: &Chains, chain: usize, c: usize)
-    ensures locks { (k : ℕ) → lock_at locks.new k ≡ cond (lists (chain_of by_object.now chain) k && is_others c (home_of by_owner.now k)) (record (lock_at locks.old k) { granted = false }) (lock_at locks.old k) }
+/// Suspends the locks of the part, but the one of the seat.
+fn suspend_in(locks: &mut Slab<Lock>, by_object: &KeyLists, by_owner: &Chains, part: Part, c: usize)
+    ensures locks { (k : ℕ) → lock_at locks.new k ≡ cond (is_in part (part_of by_object.now k) && is_others c (home_of by_owner.now k)) (record (lock_at locks.old k) { granted = false }) (lock_at locks.old k) }
     ensures keys { (k : ℕ) → is_some (get locks.new k) ≡ is_some (get locks.old k) }
 {
-    by_object.laws();
-    let mut next = by_object.first(chain);
-    'keys: while let Some(key) = next {
-        if is_others(by_owner, key, c) {
-            suspend_at(locks, key);
+    let keys = by_object.keys(part);
+    'keys: for key in keys {
+        if is_others(by_owner, *key as usize, c) {
+            suspend_at(locks, *key as usize);
         }
-        next = by_object.next(key);
     }
 }
 
 impl LockStore {
-    ghost use Rattle.std.specs.Prelude.{◌≡◌, ℕ, ◌+◌, ◌*◌, ◌<◌, ◌^◌, true, Some};
+    ghost use Rattle.std.specs.Prelude.{◌≡◌, ℕ, true, Some};
     ghost use Rattle.asset_chains.specs.Chained.{home_of};
     ghost use Rattle.asset_locks.specs.LockTable.{suspended};
     ghost use Rattle.asset_locks.specs.Valid.{is_some_op};

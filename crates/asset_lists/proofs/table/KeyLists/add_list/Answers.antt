@@ -4,7 +4,7 @@ use Rattle.std.proofs.lemmas.Bool.{cond-true}
 use Rattle.asset_lists.specs.declared.rows.Row.{Row}
 use Rattle.asset_lists.specs.Parted.{one_list_more}
 use Rattle.asset_lists.specs.Placed.{seen, IsValid}
-use Rattle.asset_lists.proofs.GrowLemmas.{empty_row, valid_list_more, seen_list_more}
+use Rattle.asset_lists.proofs.GrowLemmas.{valid_list_more, seen_list_more}
 use Rattle.asset_lists.proofs.table.KeyLists.add_list.Goals as goal
 
 -- a row of a list that has no keys

@@ -1,4 +1,4 @@
-use Rattle.std.proofs.Common.{◌≡◌, ℕ, ◌-◌, List, None, false, length, set, refl, sym, ap, subst, ◌∙◌, arith}
+use Rattle.std.proofs.Common.{ℕ, List, None, false, length, set, refl, ap, subst, ◌∙◌, arith}
 use Rattle.asset_lists.specs.Parted.{Parted, part_of, IsChangedAt}
 use Rattle.asset_lists.specs.Placed.{no_place, seen}
 use Rattle.asset_lists.proofs.RowLemmas.{stands_at}

@@ -1,4 +1,4 @@
-use Rattle.std.proofs.Common.{◌≡◌, ℕ, ◌-◌, List, [], length, take, drop, ap, ◌∙◌, sym, subst, arith}
+use Rattle.std.proofs.Common.{◌≡◌, ◌-◌, [], length, take, drop, ap, ◌∙◌, sym, subst, arith}
 use Rattle.std.proofs.lemmas.List.{get_or_read}
 use Rattle.asset_lists.specs.declared.rows.Row.{Row}
 use Rattle.asset_lists.specs.Parted.{Parted, AreKeys}

@@ -1,4 +1,4 @@
-use Rattle.std.proofs.Common.{◌≡◌, ◌≤◌, ◌+◌, true, false, length, set, ap, subst, ◌∙◌, arith}
+use Rattle.std.proofs.Common.{◌+◌, true, false, length, set, ap, subst, ◌∙◌, arith}
 use Rattle.std.specs.List.{refill}
 use Rattle.std.proofs.lemmas.Bool.{ltb-false, lt-ltb}
 use Rattle.asset_lists.specs.Parted.{Parted, part_of, IsChangedAt}

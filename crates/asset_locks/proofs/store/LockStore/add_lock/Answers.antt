@@ -38,4 +38,9 @@ pub returns-clause-added : goal.returns-clause-added
 unfolding new_lock
 returns-clause-added c =
     added_later c.args.self.now c.reserve_key.new.self c.insert.new.self c.in_ok-key.key c.args.c _ (grown_twice c.args.self.now c.number_for.new.self c.reserve_key.new.self c.number_for.ensures.grown c.reserve_key.ensures.grown)
-    (subst (λ (o : OpSet). IsAdded c.in_ok-key.key c.args.c (record { object = c.args.x; ops = o; granted = false }) c.reserve_key.new.self c.insert.new.self) c.only.ensures c.insert.ensures)
+    (subst (λ (o : OpSet). IsAdded c.in_ok-key.key c.args.c (record { object = c.args.x; ops = o; granted = false }) c.reserve_key.new.self c.insert.new.self) c.only.ensures c.in_ok-insert.ensures.added)
+
+pub returns-in_err-insert-clause-unchanged : goal.returns-in_err-insert-clause-unchanged
+returns-in_err-insert-clause-unchanged c =
+    always_err c.from_residual-in_err-insert.result
+    (grown_twice c.args.self.now c.reserve_key.new.self c.insert.new.self (grown_twice c.args.self.now c.number_for.new.self c.reserve_key.new.self c.number_for.ensures.grown c.reserve_key.ensures.grown) c.in_err-insert.ensures.unchanged)

@@ -10,13 +10,6 @@ use Rattle.asset_locks.proofs.store.LockStore.drop_lock.Goals as goal
 pub unlink-requires : goal.unlink-requires
 unlink-requires c =
     let inside = c.self.inside in
-    let there = ap (λ (s : Stored). is_some (home_of s.by_owner c.args.key)) c.self.view_is ∙ c.requires in
-    let at = some_of (home_of inside.by_object c.args.key) (c.self.invariant.listed c.args.key ∙ sym (c.self.invariant.held c.args.key) ∙ there) in
-    key_within c.args.key at.0 inside.by_object at.1
-
-pub unlink-requires-2 : goal.unlink-requires-2
-unlink-requires-2 c =
-    let inside = c.self.inside in
     let at = some_of (home_of inside.by_owner c.args.key) (ap (λ (s : Stored). is_some (home_of s.by_owner c.args.key)) c.self.view_is ∙ c.requires) in
     key_within c.args.key at.0 inside.by_owner at.1
 
@@ -24,13 +17,11 @@ pub invariant_of-self : goal.invariant_of-self
 invariant_of-self c =
     let inside = c.self.inside in
     let there = ap (λ (s : Stored). is_some (home_of s.by_owner c.args.key)) c.self.view_is ∙ c.requires in
-    let of_object = some_of (home_of inside.by_object c.args.key) (c.self.invariant.listed c.args.key ∙ sym (c.self.invariant.held c.args.key) ∙ there) in
     let of_owner = some_of (home_of inside.by_owner c.args.key) there in
     stored_dropped (record { locks = inside.locks; objects = inside.objects.keys; by_object = inside.by_object; by_owner = inside.by_owner }) _ c.args.key c.self.invariant c.try_remove.ensures.updates
-    (homes_without inside.by_object c.unlink.new.self c.args.key of_object.0 of_object.1 c.unlink.ensures)
-    (homes_without inside.by_owner c.unlink-2.new.self c.args.key of_owner.0 of_owner.1 c.unlink-2.ensures)
+    c.remove.ensures
+    (homes_without inside.by_owner c.unlink.new.self c.args.key of_owner.0 of_owner.1 c.unlink.ensures)
     refl
-    (unlinks of_object.0 c.args.key inside.by_object c.unlink.new.self of_object.1 c.unlink.ensures).same_chains
 
 pub returns : goal.returns
 returns c =
@@ -38,9 +29,9 @@ returns c =
     let there = ap (λ (s : Stored). is_some (home_of s.by_owner c.args.key)) c.self.view_is ∙ c.requires in
     let of_owner = some_of (home_of inside.by_owner c.args.key) there in
     let sound = subst (λ (s : Stored). IsSound s.by_owner) (sym c.self.view_is) c.laws.ensures.owners in
-    subst (λ (s : Stored). IsDropped c.args.key s (record { locks = c.try_remove.new.self; objects = inside.objects.keys; by_object = c.unlink.new.self; by_owner = c.unlink-2.new.self })) c.self.view_is (record {
+    subst (λ (s : Stored). IsDropped c.args.key s (record { locks = c.try_remove.new.self; objects = inside.objects.keys; by_object = c.remove.new.self; by_owner = c.unlink.new.self })) c.self.view_is (record {
       locks = λ k apart. same_lock c.try_remove.new.self inside.locks k (c.try_remove.ensures.updates.others k apart);
-      chains = chains_without inside.by_owner c.unlink-2.new.self c.args.key of_owner.0 sound of_owner.1 c.unlink-2.ensures;
-      homes = homes_without inside.by_owner c.unlink-2.new.self c.args.key of_owner.0 of_owner.1 c.unlink-2.ensures;
-      seats = (unlinks of_owner.0 c.args.key inside.by_owner c.unlink-2.new.self of_owner.1 c.unlink-2.ensures).same_chains;
+      chains = chains_without inside.by_owner c.unlink.new.self c.args.key of_owner.0 sound of_owner.1 c.unlink.ensures;
+      homes = homes_without inside.by_owner c.unlink.new.self c.args.key of_owner.0 of_owner.1 c.unlink.ensures;
+      seats = (unlinks of_owner.0 c.args.key inside.by_owner c.unlink.new.self of_owner.1 c.unlink.ensures).same_chains;
     })

@@ -10,24 +10,24 @@ pub invariant_of-self : goal.invariant_of-self
 invariant_of-self c =
     let inside = c.self.inside in
     stored_grown (record { locks = inside.locks; objects = inside.objects.keys; by_object = inside.by_object; by_owner = inside.by_owner }) _ c.self.invariant
-    (λ k. ap (λ (s : Slab Lock). get s k) c.reserve.ensures.rest_kept) (λ k. refl) (λ k. refl) (λ x n is. is) c.self.invariant.chains
+    (λ k. ap (λ (s : Slab Lock). get s k) c.reserve.ensures.rest_kept) (λ k. refl) (λ k. refl) (λ x n is. is) c.self.invariant.lists
+
+pub invariant_of-self-in-Err-add_keys : goal.invariant_of-self-in-Err-add_keys
+invariant_of-self-in-Err-add_keys c =
+    let inside = c.self.inside in
+    stored_grown (record { locks = inside.locks; objects = inside.objects.keys; by_object = inside.by_object; by_owner = inside.by_owner }) _ c.self.invariant
+    (λ k. ap (λ (s : Slab Lock). get s k) c.reserve.ensures.rest_kept) c.add_keys.ensures.parts (λ k. refl) (λ x n is. is) (omega (arith, c.self.invariant.lists, c.add_keys.ensures.lists))
 
 pub invariant_of-self-in_err-add_keys : goal.invariant_of-self-in_err-add_keys
 invariant_of-self-in_err-add_keys c =
     let inside = c.self.inside in
     stored_grown (record { locks = inside.locks; objects = inside.objects.keys; by_object = inside.by_object; by_owner = inside.by_owner }) _ c.self.invariant
-    (λ k. ap (λ (s : Slab Lock). get s k) c.reserve.ensures.rest_kept) c.add_keys.ensures.homes (λ k. refl) (λ x n is. is) (omega (arith, c.self.invariant.chains, ap (λ (l : List (List ℕ)). length l) c.add_keys.ensures.chains))
+    (λ k. ap (λ (s : Slab Lock). get s k) c.reserve.ensures.rest_kept) c.add_keys.ensures.parts c.add_keys-2.ensures.homes (λ x n is. is) (omega (arith, c.self.invariant.lists, c.add_keys.ensures.lists))
 
-pub invariant_of-self-in_err-add_keys-2 : goal.invariant_of-self-in_err-add_keys-2
-invariant_of-self-in_err-add_keys-2 c =
+pub returns-in_err-add_keys-clause-grown : goal.returns-in_err-add_keys-clause-grown
+returns-in_err-add_keys-clause-grown c =
     let inside = c.self.inside in
-    stored_grown (record { locks = inside.locks; objects = inside.objects.keys; by_object = inside.by_object; by_owner = inside.by_owner }) _ c.self.invariant
-    (λ k. ap (λ (s : Slab Lock). get s k) c.reserve.ensures.rest_kept) c.add_keys.ensures.homes c.add_keys-2.ensures.homes (λ x n is. is) (omega (arith, c.self.invariant.chains, ap (λ (l : List (List ℕ)). length l) c.add_keys.ensures.chains))
-
-pub returns-in_err-add_keys-2-clause-grown : goal.returns-in_err-add_keys-2-clause-grown
-returns-in_err-add_keys-2-clause-grown c =
-    let inside = c.self.inside in
-    subst (λ (s : Stored). IsGrown s (record { locks = c.reserve.new.self; objects = inside.objects.keys; by_object = c.add_keys.new.chains; by_owner = c.add_keys-2.new.chains })) c.self.view_is (record {
+    subst (λ (s : Stored). IsGrown s (record { locks = c.reserve.new.self; objects = inside.objects.keys; by_object = c.add_keys.new.self; by_owner = c.add_keys-2.new.chains })) c.self.view_is (record {
       locks = λ k. ap (λ (s : Slab Lock). get s k) c.reserve.ensures.rest_kept;
       chains = chain_same inside.by_owner c.add_keys-2.new.chains c.add_keys-2.ensures.chains;
       homes = c.add_keys-2.ensures.homes;
@@ -38,12 +38,12 @@ pub invariant_of-self-2 : goal.invariant_of-self-2
 invariant_of-self-2 c =
     let inside = c.self.inside in
     stored_grown (record { locks = inside.locks; objects = inside.objects.keys; by_object = inside.by_object; by_owner = inside.by_owner }) _ c.self.invariant
-    (λ k. ap (λ (s : Slab Lock). get s k) c.reserve.ensures.rest_kept) c.add_keys.ensures.homes c.add_keys-2.ensures.homes (λ x n is. is) (omega (arith, c.self.invariant.chains, ap (λ (l : List (List ℕ)). length l) c.add_keys.ensures.chains))
+    (λ k. ap (λ (s : Slab Lock). get s k) c.reserve.ensures.rest_kept) c.add_keys.ensures.parts c.add_keys-2.ensures.homes (λ x n is. is) (omega (arith, c.self.invariant.lists, c.add_keys.ensures.lists))
 
 pub returns-clause-grown : goal.returns-clause-grown
 returns-clause-grown c =
     let inside = c.self.inside in
-    subst (λ (s : Stored). IsGrown s (record { locks = c.reserve.new.self; objects = inside.objects.keys; by_object = c.add_keys.new.chains; by_owner = c.add_keys-2.new.chains })) c.self.view_is (record {
+    subst (λ (s : Stored). IsGrown s (record { locks = c.reserve.new.self; objects = inside.objects.keys; by_object = c.add_keys.new.self; by_owner = c.add_keys-2.new.chains })) c.self.view_is (record {
       locks = λ k. ap (λ (s : Slab Lock). get s k) c.reserve.ensures.rest_kept;
       chains = chain_same inside.by_owner c.add_keys-2.new.chains c.add_keys-2.ensures.chains;
       homes = c.add_keys-2.ensures.homes;

@@ -8,7 +8,7 @@ pub invariant_of-self : goal.invariant_of-self
 invariant_of-self c =
     let inside = c.self.inside in
     stored_grown (record { locks = inside.locks; objects = inside.objects.keys; by_object = inside.by_object; by_owner = inside.by_owner }) _ c.self.invariant
-    (λ k. refl) (λ k. refl) (home_same inside.by_owner c.add_chains.new.chains c.add_chains.ensures.homes) (λ x n is. is) c.self.invariant.chains
+    (λ k. refl) (λ k. refl) (home_same inside.by_owner c.add_chains.new.chains c.add_chains.ensures.homes) (λ x n is. is) c.self.invariant.lists
 
 pub returns-clause-grown : goal.returns-clause-grown
 returns-clause-grown c =

@@ -1,10 +1,9 @@
-use Rattle.std.proofs.Common.{◌&&◌, List, is_some, sym, ap, ◌∙◌}
-use Rattle.asset_names.specs.declared.names.Ob.{Ob}
+use Rattle.std.proofs.Common.{◌&&◌, is_some, sym, ap, ◌∙◌}
 use Rattle.asset_names.specs.OpSets.{has_op}
 use Rattle.asset_chains.specs.Chained.{Chained, home_of}
 use Rattle.asset_locks.specs.declared.lock.Lock.{Lock}
 use Rattle.asset_locks.specs.Valid.{is_some_op}
-use Rattle.asset_locks.specs.Stored.{lock_at, number_in}
+use Rattle.asset_locks.specs.Stored.{number_in}
 use Rattle.asset_locks.proofs.OpsLemmas.{some_with}
 use Rattle.asset_locks.proofs.GrantLemmas.{own_again, others_again, own_granted, others_granted, alone_after, pauses_as}
 use Rattle.asset_locks.proofs.store.LockStore.take.Goals as goal
@@ -20,13 +19,6 @@ suspend_others-requires-clause-number c = ap (λ (l : Lock). number_in c.args.se
 
 pub suspend_others-requires-clause-ops : goal.suspend_others-requires-clause-ops
 suspend_others-requires-clause-ops c = ap is_some_op c.with.ensures ∙ some_with c.args.op c.lock-lock.result.ops
-
-pub grant_at-requires-clause-number : goal.grant_at-requires-clause-number
-grant_at-requires-clause-number c =
-    let pauses = (pauses_as c.args.self.now c.suspend_others.new.self c.args.key c.args.c c.args.op c.lock-lock.result c.with.result c.lock-lock.ensures c.with.ensures c.suspend_others.ensures) in
-    ap (λ (l : List Ob). number_in l (lock_at c.suspend_others.new.self.locks c.args.key).object.0) pauses.objects
-    ∙ ap (λ (l : Lock). number_in c.args.self.now.objects l.object.0) (pauses.own c.args.key c.requires)
-    ∙ c.number_at-number.ensures
 
 pub grant_at-requires-clause-there : goal.grant_at-requires-clause-there
 grant_at-requires-clause-there c = ap (λ (t : Chained). is_some (home_of t c.args.key)) c.suspend_others.ensures.by_owner ∙ ap is_some c.requires
