@@ -16,3 +16,6 @@ keys-preserved c = record {
   parts = λ k. ap (λ (table : Parted). part_of table k) c.in-Ok.ensures.added ∙ key_more-part c.keys.self k ∙ c.keys.invariant.parts k;
   more = omega (arith, ap (λ (table : Parted). length table.parts) c.in-Ok.ensures.added ∙ key_more-keys c.keys.self, c.keys.invariant.more);
 }
+
+pub returns-clause-there : goal.returns-clause-there
+returns-clause-there c = omega (arith, c.keys-test.false, c.key_count.ensures)

@@ -15,3 +15,6 @@ lists-preserved c = record {
   parts = ap (λ (table : Parted). table.parts) c.in-Ok.ensures.added ∙ list_more-parts c.lists.self ∙ c.lists.invariant.parts;
   more = omega (arith, ap (λ (table : Parted). table.lists) c.in-Ok.ensures.added ∙ list_more-lists c.lists.self, c.lists.invariant.more);
 }
+
+pub returns-clause-there : goal.returns-clause-there
+returns-clause-there c = omega (arith, c.lists-test.false, c.list_count.ensures)
