@@ -1,5 +1,5 @@
-//! The tests of chains and of what stands on them alone: seats, records and objects; and of buckets and labels. They call
-//! what is public.
+//! The tests of chains and of what stands on them alone: seats, records and objects; and of lists, buckets and labels.
+//! They call what is public.
 #![tactic(auto)]
 
 #[cfg(test)]
@@ -12,6 +12,8 @@ mod crossed;
 mod handing_writes;
 #[cfg(test)]
 mod labels;
+#[cfg(test)]
+mod lists;
 #[cfg(test)]
 mod many_writes;
 #[cfg(test)]
