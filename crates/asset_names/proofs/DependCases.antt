@@ -1,7 +1,7 @@
 -- Worked rows of dependencies, computed on the definitions.
 use Rattle.std.specs.Prelude.{[], ◌∷◌, ◌++◌, refl}
 use Rattle.asset_names.specs.declared.steps.Kind.TheVariants.{Cd, Ad, Gc}
-use Rattle.asset_names.specs.declared.steps.Step.TheVariants.{Initiate, Begin, Read, Write, Complete, Permit, Delegate, Depend, Commit, Abort, WaitFor}
+use Rattle.asset_names.specs.declared.steps.Step.TheVariants.{Begin, Complete, Depend, Commit, Abort, WaitFor}
 use Rattle.asset_names.specs.declared.replies.Refusal.TheVariants.{Ended, TooLate, Same, Cycle}
 use Rattle.asset_names.specs.declared.replies.Reply.TheVariants.{Committed, Aborted}
 use Rattle.asset_names.specs.declared.replies.Outcome.TheVariants.{Answer, Wait}

@@ -24,7 +24,7 @@ count_by_map f (x ∷ items) n =
     ∙ sym (sum_by-cons (λ x. cond (eqb (f x) n) 1 0) x items)
 
 -- what is not listed is counted 0 times
-count_by-unlisted : (listed : List ℕ) (n : ℕ) → lists listed n ≡ false → count_by (λ m. eqb m n) listed ≡ 0
+pub count_by-unlisted : (listed : List ℕ) (n : ℕ) → lists listed n ≡ false → count_by (λ m. eqb m n) listed ≡ 0
 unfolding lists
 count_by-unlisted [] n h = refl
 count_by-unlisted (m ∷ listed) n h =

@@ -10,7 +10,7 @@ use Rattle.std.proofs.lemmas.Bool.{or_cases, or_left, or_parts, eqb-true, eqb-fa
 use Rattle.asset_names.specs.declared.names.Ob.{Ob}
 use Rattle.asset_names.specs.Arrows.{lists}
 use Rattle.asset_names.specs.Sets.{numbers, twice, HasNoDouble, put_in, rising}
-use Rattle.asset_names.proofs.DoubleLemmas.{count_by_map}
+use Rattle.asset_names.proofs.DoubleLemmas.{count_by_map, count_by-unlisted}
 
 -- each number that is listed is greater
 abbrev Above : ℕ → List Ob → Type 0
@@ -151,3 +151,15 @@ permuted_lists xs ys m same =
 pub kept_is_rising : (objects kept : List Ob) → IsPermutation objects kept → IsStrictlyIncreasing (numbers kept) → HasNoDouble (numbers objects) → kept ≡ rising objects
 kept_is_rising objects kept same up none =
     same_rising kept (rising objects) (rises_pairs kept (AllPairs-from_increasing (numbers kept) up)) (rising_rises objects none) (λ m. permuted_lists objects kept m same ∙ sym (rising_lists objects m))
+
+-- what rises has no double
+rises_no_double : (objects : List Ob) → Rises objects → HasNoDouble (numbers objects)
+unfolding HasNoDouble twice numbers
+rises_no_double [] up m = refl
+rises_no_double (x ∷ objects) up m = rw (sum_by-cons (λ k. cond (eqb k m) 1 0) x.0 (numbers objects)) (go (eqb x.0 m) refl (rises_no_double objects up.1 m)) where
+  go : (here : Bool) → eqb x.0 m ≡ here → leb 2 (count_by (λ k. eqb k m) (numbers objects)) ≡ false → leb 2 (cond here 1 0 + count_by (λ k. eqb k m) (numbers objects)) ≡ false
+  go false e rest = ap (leb 2) (omega arith) ∙ rest
+  go true e rest = rw (count_by-unlisted (numbers objects) m (not_after x.0 m objects up.0 (omega (arith, eqb-true x.0 m e)))) refl
+
+pub increasing_no_double : (objects : List Ob) → IsStrictlyIncreasing (numbers objects) → HasNoDouble (numbers objects)
+increasing_no_double objects up = rises_no_double objects (rises_pairs objects (AllPairs-from_increasing (numbers objects) up))

@@ -1,21 +1,15 @@
 -- Objects in rising order.
-use Rattle.std.proofs.Common.{◌≡◌, ◌≢◌, ℕ, zero, suc, ◌+◌, ◌≤◌, ◌<◌, cond, eqb, List, [], ◌∷◌, ◌++◌, length, get_or, take, drop, replicate, ◌-◌, refl, sym, ◌∙◌, ap, subst, arith, add-one}
+use Rattle.std.proofs.Common.{◌≡◌, ◌≢◌, ℕ, zero, suc, ◌+◌, ◌≤◌, ◌<◌, Bool, true, false, cond, eqb, List, [], ◌∷◌, length, get_or, take, drop, replicate, ◌-◌, refl, sym, ◌∙◌, ap, subst, arith, add-one}
 use Rattle.std.specs.Prelude.{IsPermutation}
 use Rattle.std.specs.List.{count_by}
 use Rattle.std.specs.List.Sorted.{IsNonDecreasingBy, IsStrictlyIncreasing}
-use Rattle.std.proofs.Math.Seq.{take-append_seam}
 use Rattle.std.proofs.lemmas.List.Sums.{sum_by-cons}
 use Rattle.std.proofs.lemmas.List.Sorted.{sum_by-IsPermutation, length_permutation}
 use Rattle.std.proofs.lemmas.List.{take-append-drop, length-append, length-replicate}
-use Rattle.std.proofs.lemmas.Bool.{eq-eqb, leb-false}
+use Rattle.std.proofs.lemmas.Bool.{eq-eqb, eqb-true, eqb-false, leb-false}
 use Rattle.asset_names.specs.declared.names.Ob.{Ob}
 use Rattle.asset_names.specs.Sets.{numbers, twice, HasNoDouble, no_object_name}
 use Rattle.asset_names.proofs.DoubleLemmas.{count_by_map}
-
--- some slots rise if the list rises that was put into them
-pub put_rises : (n : ℕ) (front rest : List Ob) → length front ≡ n → IsNonDecreasingBy (λ (x : Ob). x.0) front → IsNonDecreasingBy (λ (x : Ob). x.0) (take n (front ++ rest))
-put_rises n front rest e h =
-    subst (IsNonDecreasingBy (λ (x : Ob). x.0)) (sym (ap (λ k. take k (front ++ rest)) (sym e) ∙ take-append_seam front rest)) h
 
 -- the number of the object in a slot
 numbers-at : (objects : List Ob) (k : ℕ) → get_or (numbers objects) k 0 ≡ (get_or objects k no_object_name).0
@@ -72,3 +66,33 @@ slots_all objects slots few same rest =
     let front = length_permutation objects (take n slots) same in
     let behind = ap length rest ∙ length-replicate (16 - n) no_object_name in
     omega (arith, front, behind, ap length (take-append-drop n slots), length-append (take n slots) (drop n slots))
+
+-- how many slots there are, if the objects stand in front as they came
+pub slots_given : (objects slots : List Ob) → length objects ≤ 16 → take (length objects) slots ≡ objects → drop (length objects) slots ≡ replicate (16 - length objects) no_object_name → length slots ≡ 16
+slots_given objects slots few front rest =
+    let n = length objects in
+    let behind = ap length rest ∙ length-replicate (16 - n) no_object_name in
+    omega (arith, few, ap length front, behind, ap length (take-append-drop n slots), length-append (take n slots) (drop n slots))
+
+-- each object in front is below the next, and so is the last of them below the one that follows
+pub rises_on : (objects : List Ob) (i : ℕ) → 1 ≤ i → ((k : ℕ) → k + 1 < i → get_or (numbers objects) k 0 < get_or (numbers objects) (k + 1) 0)
+    → (get_or objects (i - 1) no_object_name).0 < (get_or objects i no_object_name).0 → (k : ℕ) → k + 1 < i + 1 → get_or (numbers objects) k 0 < get_or (numbers objects) (k + 1) 0
+rises_on objects i some before next k below = go (eqb (k + 1) i) refl where
+  go : (last : Bool) → eqb (k + 1) i ≡ last → get_or (numbers objects) k 0 < get_or (numbers objects) (k + 1) 0
+  go false e = before k (omega (arith, below, eqb-false (k + 1) i e))
+  go true e =
+      let here : i ≡ k + 1 = sym (eqb-true (k + 1) i e) in
+      let back : i - 1 ≡ k = omega (arith, here) in
+      let step = subst (λ m. (get_or objects k no_object_name).0 < (get_or objects m no_object_name).0) here (subst (λ m. (get_or objects m no_object_name).0 < (get_or objects i no_object_name).0) back next) in
+      omega (arith, step, numbers-at objects k, numbers-at objects (k + 1))
+
+-- an object that is not above the one before it
+pub not_rising : (objects : List Ob) (i : ℕ) → 1 ≤ i → i < length objects → (get_or objects i no_object_name).0 ≤ (get_or objects (i - 1) no_object_name).0 → IsStrictlyIncreasing (numbers objects) → ⊥
+not_rising objects i some there falls up =
+    let same : i - 1 + 1 ≡ i = omega (arith, some) in
+    let here = subst (λ m. get_or (numbers objects) (i - 1) 0 < get_or (numbers objects) m 0) same (up (i - 1) (omega (arith, some, there, length-numbers objects))) in
+    omega (arith, here, falls, numbers-at objects i, numbers-at objects (i - 1))
+
+-- each object is below the next, up to the last
+pub rises_whole : (objects : List Ob) (i : ℕ) → length objects ≤ i → ((k : ℕ) → k + 1 < i → get_or (numbers objects) k 0 < get_or (numbers objects) (k + 1) 0) → IsStrictlyIncreasing (numbers objects)
+rises_whole objects i all before k below = before k (omega (arith, all, below, length-numbers objects))

@@ -1,9 +1,9 @@
 //! Sets of objects.
 
-ghost use Rattle.std.specs.Prelude.{◌≡◌, ◌≤◌, ◌-◌, ◌==◌, length, take, drop, replicate, IsPermutation};
+ghost use Rattle.std.specs.Prelude.{◌≡◌, ◌≤◌, ◌-◌, ◌==◌, length, take, drop, replicate, IsPermutation, MatchBool};
 ghost use Rattle.std.specs.List.{list_any};
-ghost use Rattle.std.specs.List.Sorted.{IsNonDecreasingBy};
-ghost use Rattle.asset_names.specs.Sets.{no_object_name};
+ghost use Rattle.std.specs.List.Sorted.{IsNonDecreasingBy, IsStrictlyIncreasing};
+ghost use Rattle.asset_names.specs.Sets.{no_object_name, numbers};
 
 use crate::doubles::least_double;
 use crate::names::Ob;
@@ -72,6 +72,17 @@ fn sort(objects: &mut [Ob])
     objects.sort_unstable_by_key(|x| x.0);
 }
 
+/// Returns the objects as they come, followed by empty slots.
+fn as_given(objects: &[Ob]) -> [Ob; MOST_OBJECTS]
+    requires { length objects.now ≤ 16 }
+    ensures front { take (length objects.now) result ≡ objects.now }
+    ensures rest { drop (length objects.now) result ≡ replicate (16 - length objects.now) no_object_name }
+{
+    let mut all = [Ob(0); MOST_OBJECTS];
+    all[..objects.len()].copy_from_slice(objects);
+    all
+}
+
 /// Returns the objects in rising order, followed by empty slots.
 fn sorted(objects: &[Ob]) -> [Ob; MOST_OBJECTS]
     requires { length objects.now ≤ 16 }
@@ -79,11 +90,21 @@ fn sorted(objects: &[Ob]) -> [Ob; MOST_OBJECTS]
     ensures sorted { IsNonDecreasingBy (λ x. x.0) (take (length objects.now) result) }
     ensures rest { drop (length objects.now) result ≡ replicate (16 - length objects.now) no_object_name }
 {
-    let mut all = [Ob(0); MOST_OBJECTS];
-    let front = &mut all[..objects.len()];
-    front.copy_from_slice(objects);
-    sort(front);
+    let mut all = as_given(objects);
+    sort(&mut all[..objects.len()]);
     all
+}
+
+/// Returns whether each object is below the next.
+fn is_rising(objects: &[Ob]) -> bool
+    ensures { MatchBool result (IsStrictlyIncreasing (numbers objects.now)) (IsStrictlyIncreasing (numbers objects.now) → ⊥) }
+{
+    'pairs: for i in 1..objects.len() {
+        if objects[i].0 <= objects[i - 1].0 {
+            return false;
+        }
+    }
+    true
 }
 
 /// Returns whether the object is listed.
@@ -103,7 +124,8 @@ impl ObList {
     /// Returns the list of these objects.
     ///
     /// It answers `Empty` if there is no object; otherwise `TooMany` if there are more than 16; otherwise
-    /// `Double` with the least object that occurs twice, if one does.
+    /// `Double` with the least object that occurs twice, if one does. Objects that come rising are kept as they come, in one
+    /// pass; of others each pair is compared, and they are sorted.
     #[tactic(auto, unfolding(crate::specs::Sets::numbers))]
     pub fn of(objects: &[Ob]) -> Result<ObList, SetFault>
         ensures kept { IfOk result (λ list. IsPermutation objects.now list) }
@@ -118,6 +140,12 @@ impl ObList {
         }
         if objects.len() > MOST_OBJECTS {
             return Err(SetFault::TooMany);
+        }
+        if is_rising(objects) {
+            return Ok(ObList {
+                objects: as_given(objects),
+                count: objects.len(),
+            });
         }
         if let Some(x) = least_double(objects) {
             return Err(SetFault::Double(x));
