@@ -4,9 +4,17 @@ use Rattle.asset_cli.specs.Device.{DeviceState}
 use Rattle.asset_cli.specs.declared.faults.ScriptFault.{ScriptFault}
 use Rattle.asset_cli.specs.declared.faults.ScriptFault.TheVariants as ScriptFault'
 use Rattle.std.specs.Prelude.{Vec, [], ◌∷◌}
+use Rattle.std.specs.Io.KnownBytes.{Appends}
 use Rattle.std.specs.declared.alloc.Global.{Global}
 use Rattle.std.proofs.Common.{ap}
 use Rattle.asset_names.specs.declared.names.Txn.{Txn}
+use Rattle.asset_names.specs.declared.counts.Counts.{Counts}
+use Rattle.asset_names.specs.Counted.{IsBelow}
+use Rattle.asset_audit.specs.Audited.{Call}
+use Rattle.asset_audit.specs.declared.auditing.AuditFault.{AuditFault}
+use Rattle.asset_bodies.specs.declared.ends.JobEnd.{JobEnd}
+use Rattle.asset_jobs.specs.Ended.{row_among}
+use Rattle.asset_jobs.specs.Texts.{jobs_text}
 use Rattle.asset_grammar.specs.declared.job_lines.JobAct.{JobAct}
 use Rattle.asset_jobs.specs.Jobs.{Named}
 use Rattle.asset_jobs.specs.Scripts.{named, script_of}
@@ -20,7 +28,7 @@ use Rattle.asset_program.specs.declared.limits.JobsRequest.{JobsRequest}
 use Rattle.asset_program.specs.declared.limits.Limits.{Limits}
 use Rattle.asset_program.specs.JobsEnd.{stop_of_read, stop_of_write}
 use Rattle.asset_program.specs.Limits.{limits_by}
-use Rattle.asset_program.specs.JobsRun.{BeginsJobs, StopsBefore, StopsWriting, StopsAfter}
+use Rattle.asset_program.specs.JobsRun.{BeginsJobs, StopsBefore, StopsWriting, StopsAfter, RanJobs, IsAudited, FinishesJobs}
 
 -- a fault of reading is why jobs were not begun
 pub stops_reading : {R : Type 0} (remaining : R → Option (List ℕ)) (request : JobsRequest) (old new : DeviceState R) (fault : JobsFault) (stop : JobsStop) → stop ≡ stop_of_read fault → FailsToRead remaining old new fault → StopsBefore remaining request old new stop
@@ -82,4 +90,18 @@ begins remaining request old new script jobs names limits within gave same is ca
   script = rw same gave;
   named = called ∙ names_named script.jobs.items ∙ ap (λ (all : Vec (Txn × Vec JobAct Global) Global). map (λ (job : Named). job.0) (map named all.items)) (sym same);
   within = limited ∙ ap Some (sym is);
+}
+
+-- the jobs were run and audited, and what was written has counts that are not below those that were seen
+pub finishes : {W : Type 0} (contents : W → Option (List ℕ)) (planned : List Txn) (plan : List Call) (seen : Counts) (names : List Txn) (audit : Result Unit AuditFault) (old new : DeviceState W)
+    (ends : List (Txn × JobEnd)) (sessions : List (List Call)) (counts : Counts) → RanJobs planned plan ends sessions → IsAudited sessions audit
+    → Appends (contents old.inner) (contents new.inner) (jobs_text (map (row_among ends) names) audit counts) → IsBelow seen counts → FinishesJobs contents planned plan seen names audit old new
+finishes contents planned plan seen names audit old new ends sessions counts ran audited wrote later = record {
+  ends = ends;
+  sessions = sessions;
+  counts = counts;
+  ran = ran;
+  audited = audited;
+  later = later;
+  wrote = wrote;
 }

@@ -7,6 +7,7 @@ use Rattle.asset_names.specs.declared.steps.Step.TheVariants.{Initiate}
 use Rattle.asset_names.specs.declared.replies.Reply.TheVariants.{Refused}
 use Rattle.asset_names.specs.declared.replies.Refusal.{Refusal}
 use Rattle.asset_names.specs.Steps.{Opening, Entry}
+use Rattle.asset_names.specs.Counted.{IsBelow}
 use Rattle.asset_audit.specs.Audited.{Call, IsAudit}
 use Rattle.asset_audit.specs.declared.auditing.AuditFault.{AuditFault}
 use Rattle.asset_bodies.specs.declared.ends.JobEnd.{JobEnd}
@@ -60,13 +61,15 @@ pub record IsAudited (sessions : List (List Call)) (audit : Result Unit AuditFau
   pub entries : List Entry
   pub audited : IsAudit (reverse entries) sessions audit
 
--- the jobs of a plan were run, their sessions audited, and how those of the script ended was written
-pub record FinishesJobs {W : Type 0} (contents : W → Option (List ℕ)) (planned : List Txn) (plan : List Call) (names : List Txn) (audit : Result Unit AuditFault) (old new : DeviceState W) : Type 0 where
+-- the jobs of a plan were run, their sessions audited, and how those of the script ended was written, with counts that are
+-- not below those that the plan's session had seen
+pub record FinishesJobs {W : Type 0} (contents : W → Option (List ℕ)) (planned : List Txn) (plan : List Call) (seen : Counts) (names : List Txn) (audit : Result Unit AuditFault) (old new : DeviceState W) : Type 0 where
   pub ends : List (Txn × JobEnd)
   pub sessions : List (List Call)
   pub counts : Counts
   pub ran : RanJobs planned plan ends sessions
   pub audited : IsAudited sessions audit
+  pub later : IsBelow seen counts
   pub wrote : Appends (contents old.inner) (contents new.inner) (jobs_text (map (row_among ends) names) audit counts)
 
 -- why the text of jobs was not written: the writer failed after a prefix of it, or there was no memory

@@ -252,7 +252,7 @@ pub fn finish_jobs<R: Threads + Wait + Sync, W: Write>(
     output: &mut Device<W>,
 ) -> Result<Result<(), AuditFault>, JobsStop>
     requires { arc_value plan.manager ≡ arc_value manager }
-    ensures finished { IfOk result (λ audit. FinishesJobs W.contents plan.names.items plan.session.list.calls names.now audit output.old output.new) }
+    ensures finished { IfOk result (λ audit. FinishesJobs W.contents plan.names.items plan.session.list.calls plan.session.seen names.now audit output.old output.new) }
     ensures stopped { IfErr result (StopsAfter W.contents output.old output.new) }
 {
     match run_plan(rt, &manager, plan, workers) {

@@ -1,4 +1,5 @@
-use Rattle.asset_program.proofs.JobsRunLemmas.{stops_after, stops_unwritten, stops_in_use}
+use Rattle.std.proofs.Common.{rules}
+use Rattle.asset_program.proofs.JobsRunLemmas.{finishes, stops_after, stops_unwritten, stops_in_use}
 use Rattle.asset_program.proofs.jobs_run.finish_jobs.Goals as goal
 
 pub returns-in-Ok-close-clause-stopped : goal.returns-in-Ok-close-clause-stopped
@@ -9,3 +10,8 @@ returns-in-Ok-clause-stopped g c = stops_in_use g.W.Write.contents c.args.output
 
 pub returns-clause-stopped : goal.returns-clause-stopped
 returns-clause-stopped g c = stops_unwritten g.W.Write.contents c.args.output.now c.in-Err.stop c.in-Err.ensures.stopped
+
+pub returns-in-Ok-write_ends-clause-finished : goal.returns-in-Ok-write_ends-clause-finished
+returns-in-Ok-write_ends-clause-finished g c =
+    let wrote = rw c.deref-in-Ok-close.ensures.value at c.in-Ok-write_ends.ensures.wrote in
+    finishes _ _ _ _ _ _ _ _ _ _ _ c.in-Ok.ensures.ran c.in-Ok-close.ensures.audited wrote (search rules)
