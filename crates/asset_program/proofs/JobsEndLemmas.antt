@@ -1,5 +1,5 @@
 -- How jobs end that were not run to their end.
-use Rattle.std.proofs.Common.{◌≡◌, ℕ, List, [], refl, inl, inr}
+use Rattle.std.proofs.Common.{◌≡◌, ℕ, List, [], refl, inr}
 use Rattle.std.specs.Prelude.{Option}
 use Rattle.std.proofs.KnownBytes.{Appends-nil}
 use Rattle.asset_cli.specs.Device.{DeviceState}

@@ -10,7 +10,7 @@ use Rattle.asset_grammar.specs.Texts.{bad_line}
 use Rattle.asset_jobs.specs.declared.faults.JobsFault.{JobsFault}
 use Rattle.asset_jobs.specs.declared.faults.JobsFault.TheVariants as JobsFault'
 use Rattle.asset_program.specs.declared.jobs_end.JobsStop.{JobsStop}
-use Rattle.asset_program.specs.declared.jobs_end.JobsStop.TheVariants.{BadLine, Read, Write, NoMemory, OutOfRange, InUse}
+use Rattle.asset_program.specs.declared.jobs_end.JobsStop.TheVariants.{BadLine, Read, Write, NoMemory, OutOfRange}
 
 -- why jobs were not run, by why their script was not read
 abbrev pub stop_of_read : JobsFault → JobsStop

@@ -1,6 +1,5 @@
-use Rattle.std.proofs.Common.{◌≡◌, map, refl, sym, ◌∙◌, ap}
-use Rattle.asset_jobs.specs.Scripts.{named}
-use Rattle.asset_program.specs.JobsRun.{StopsBefore, BeginsJobs}
+use Rattle.std.proofs.Common.{refl, sym, ◌∙◌}
+use Rattle.asset_program.specs.JobsRun.{StopsBefore}
 use Rattle.asset_program.proofs.JobsRunLemmas.{if_ok, if_err, begins, stops_opening, stops_reading}
 use Rattle.asset_program.proofs.jobs_run.begin_jobs.Goals as goal
 

@@ -1,4 +1,4 @@
-use Rattle.std.proofs.Common.{refl, sym, ◌∙◌}
+use Rattle.std.proofs.Common.{refl}
 use Rattle.asset_program.specs.JobsRun.{StopsWriting}
 use Rattle.asset_program.proofs.JobsRunLemmas.{stops_writing}
 use Rattle.asset_program.proofs.jobs_run.write_ends.Goals as goal
