@@ -69,7 +69,7 @@ impl Planned {
         requires one { arc_value lent ≡ arc_value manager }
         requires ready { (tx : Working) → tx.manager ≡ arc_value manager → pre body tx }
         requires same { (tx : Working) (f : Worked) → tx.manager ≡ arc_value manager → post body tx f → f.of ≡ Some tx.manager }
-        ensures { (result.place ≡ place) × (result.name ≡ name) }
+        ensures { (result.place ≡ place) × (result.name ≡ name) × (result.turns ≡ turns) }
     {
         Planned {
             place,

@@ -160,6 +160,7 @@ impl Plan {
         requires { IsOf session.of (arc_value manager) }
         ensures names { result.names.items ≡ [] }
         ensures own { (arc_value result.manager ≡ arc_value manager) × (result.session ≡ session) }
+        ensures turns { result.turns ≡ turns }
     {
         Plan {
             manager,
@@ -187,6 +188,7 @@ impl Plan {
         requires same { (tx : Working) (f : Worked) → tx.manager ≡ arc_value self.old.manager → post body tx f → f.of ≡ Some tx.manager }
         ensures manager { arc_value self.new.manager ≡ arc_value self.old.manager }
         ensures of { IsOf self.new.session.of (arc_value self.new.manager) }
+        ensures turns { self.new.turns ≡ self.old.turns }
         ensures back { IfErr result (λ fault. fault.body ≡ body) }
         ensures names { MatchResult result (λ _. self.new.names.items ≡ self.old.names.items ++ t ∷ []) (λ _. self.new.names.items ≡ self.old.names.items) }
         ensures asked { MatchResult result (λ _. IsInitiated self.old.session.list.calls (Step.Initiate t parent) self.new.session.list.calls) (λ fault. IsRefused self.old.session.list.calls (Step.Initiate t parent) fault.cause self.new.session.list.calls) }
