@@ -3,7 +3,7 @@
 ghost use Rattle.std.specs.Prelude.{◌≡◌, Some};
 ghost use Rattle.asset_bodies.specs.Working.{IsSame};
 
-use asset_names::{Fault, Ob, Outcome};
+use asset_names::{Fault, Ob, Outcome, Step, Txn};
 use asset_runner::{Finished, Tx};
 use std::sync::Wait;
 
@@ -40,4 +40,15 @@ pub fn gives_up<R: Wait>(rt: &R, tx: Tx, x: u64, v: i64) -> Finished
     let mut tx = tx;
     let _ = write_again(rt, &mut tx, Ob(x), v);
     tx.give_up(rt)
+}
+
+/// Completes its transaction, and answers the `Finished` of another, which it asks to complete by its own session.
+pub fn answers_for<R: Wait>(rt: &R, tx: Tx, other: u64) -> Finished
+    ensures { result.of ≡ Some tx.manager }
+{
+    let mut tx = tx;
+    let _ = tx.make_room(2);
+    let (name, owed, turns, mut agent) = tx.into_parts();
+    let _ = agent.ask_once(rt, Step::Complete { t: name });
+    Tx::new(Txn(other), owed, turns, agent).done(rt)
 }

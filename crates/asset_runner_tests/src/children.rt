@@ -4,7 +4,7 @@ ghost use Rattle.std.specs.Prelude.{◌≡◌, Some};
 ghost use Rattle.asset_counts.specs.Pass.{IsOf};
 ghost use Rattle.asset_bodies.specs.Working.{Working, Worked};
 
-use crate::bodies::{gives_up, writes};
+use crate::bodies::{answers_for, gives_up, writes};
 use crate::gates::Open;
 use crate::running::{Closing, Setting, Wanted, initiated, open_manager, run_and_close};
 use asset_manager::{Manager, Session};
@@ -167,6 +167,58 @@ fn child_gives_up(rt: HostRuntime) -> Result<(), Fail> {
         (true, (11, 1, 1), Ok(()))
     );
     assert_eq!(rt; notes.shown(), (2, 200));
+    Ok(())
+}
+
+#[test]
+fn child_that_answers_for_another_is_a_stranger(rt: HostRuntime) -> Result<(), Fail> {
+    let alloc = rt.alloc();
+    let notes = Arc::new(alloc, Notes::none())?;
+    let theirs = Arc::try_clone(&notes)?;
+    let seven: Body = Box::new(
+        alloc,
+        move |tx: Tx| -> Finished
+            ensures { result.of ≡ Some tx.manager }
+        {
+            let body: Body = match Box::new(alloc, move |tx: Tx| answers_for(&rt, tx, 9)) {
+                Ok(body) => body,
+                Err(_) => return tx.done(&rt),
+            };
+            runs_a_child(&rt, tx, Txn(8), body, &theirs)
+        },
+    )?;
+    let Setting {
+        manager,
+        shared,
+        session,
+        other,
+    } = open_manager(alloc)?;
+    let mut plan = Plan::new(alloc, shared, session, Some(1_000));
+    let refused = initiated(&rt, &mut plan, 7, seven);
+    let wanted = Wanted {
+        ends: &[(7, JobEnd::Committed)],
+        left: &[],
+        history: "\
+            initiate 7: ok\nbegin 7: ok\nwrite 7 1 50: ok\ninitiate 8 7: ok\npermit 7 8 rw all: ok\nbegin 8: ok\n\
+            complete 8: ok\ncomplete 9: refused unknown 9\nread 7 2: 200\ncomplete 7: ok\ncommit 7: committed\n",
+    };
+    let left = run_and_close(
+        &rt,
+        alloc,
+        manager,
+        plan,
+        other,
+        1,
+        &Open,
+        Closing::All,
+        &wanted,
+    )?;
+    assert_eq!(rt; (refused, left.cause, left.wrong), (None, None, None));
+    assert_eq!(rt;
+        (left.as_wanted, left.counts, left.audit),
+        (true, (11, 1, 0), Ok(()))
+    );
+    assert_eq!(rt; notes.shown(), (5, 200));
     Ok(())
 }
 

@@ -1,15 +1,15 @@
-//! Bodies that do nothing, ignore an answer to wait, wait for one another, and jobs that somebody else aborts.
+//! Bodies that do nothing, ignore an answer to wait, wait or answer for one another, and jobs that somebody else aborts.
 
 ghost use Rattle.std.specs.Prelude.{◌≡◌, Some};
 ghost use Rattle.asset_counts.specs.Pass.{IsOf};
 ghost use Rattle.asset_bodies.specs.Working.{Working, Worked};
 
-use crate::bodies::{does_nothing, gives_up, writes};
+use crate::bodies::{answers_for, does_nothing, gives_up, writes};
 use crate::gates::Open;
 use crate::running::{Closing, Setting, Wanted, initiated, open_manager, run_and_close};
 use asset_manager::{AuditFault, Manager, Session};
 use asset_names::{Kind, Ob, Outcome, Step, Txn};
-use asset_runner::{Body, Finished, JobEnd, Plan, Tx};
+use asset_runner::{Body, Finished, JobEnd, Plan, RunCause, Tx};
 use asset_test_tools::{abort, begin, initiate, write};
 use std::sync::Wait;
 use std::test::Fail;
@@ -377,5 +377,51 @@ fn session_of_the_aborter_is_missed(rt: HostRuntime) -> Result<(), Fail> {
         (1, None, None, None)
     );
     assert_eq!(rt; left.audit, Err(AuditFault::Missing { told: 2, kept: 3 }));
+    Ok(())
+}
+
+#[test]
+fn bodies_that_answer_for_each_other_are_strangers(rt: HostRuntime) -> Result<(), Fail> {
+    let alloc = rt.alloc();
+    let seven: Body = Box::new(alloc, move |tx: Tx| answers_for(&rt, tx, 8))?;
+    let eight: Body = Box::new(alloc, move |tx: Tx| answers_for(&rt, tx, 7))?;
+    let Setting {
+        manager,
+        shared,
+        session,
+        other,
+    } = open_manager(alloc)?;
+    let mut plan = Plan::new(alloc, shared, session, Some(3));
+    let refused = (
+        initiated(&rt, &mut plan, 7, seven),
+        initiated(&rt, &mut plan, 8, eight),
+    );
+    let wanted = Wanted {
+        ends: &[(7, JobEnd::Committed), (8, JobEnd::Committed)],
+        left: &[],
+        history: "\
+            initiate 7: ok\ninitiate 8: ok\nbegin 7: ok\ncomplete 7: ok\ncomplete 8: refused not running 8\n\
+            begin 8: ok\ncomplete 8: ok\ncomplete 7: refused not running 7\ncommit 7: committed\ncommit 8: committed\n",
+    };
+    let left = run_and_close(
+        &rt,
+        alloc,
+        manager,
+        plan,
+        other,
+        1,
+        &Open,
+        Closing::All,
+        &wanted,
+    )?;
+    assert_eq!(rt; refused, (None, None));
+    assert_eq!(rt;
+        (left.cause, left.wrong),
+        (Some(RunCause::Stranger(Txn(7))), None)
+    );
+    assert_eq!(rt;
+        (left.as_wanted, left.counts, left.audit),
+        (true, (10, 2, 0), Ok(()))
+    );
     Ok(())
 }

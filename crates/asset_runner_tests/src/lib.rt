@@ -5,7 +5,7 @@ mod bodies;
 mod gates;
 mod running;
 
-pub use bodies::{does_nothing, gives_up, writes};
+pub use bodies::{answers_for, does_nothing, gives_up, writes};
 pub use gates::{Holding, Open};
 pub use running::{
     Closing, MUCH_ROOM, Ran, Setting, Wanted, initiated, open_manager, run_and_close,
