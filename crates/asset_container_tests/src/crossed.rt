@@ -17,7 +17,6 @@ type Joined = (usize, usize, u64);
 
 /// Returns whether the row or column has the keys and items of its list, in both directions.
 fn has_line(table: &Crossed<u64>, side: Side, line: usize, joined: &[Joined]) -> bool {
-    let mut count = 0;
     let mut at = table.first(side, line);
     for (_, key, item) in joined.iter().filter(|one| one.0 == line) {
         if at != Some(*key)
@@ -27,7 +26,6 @@ fn has_line(table: &Crossed<u64>, side: Side, line: usize, joined: &[Joined]) ->
             return false;
         }
         at = table.next(side, *key);
-        count += 1;
     }
     let mut back = table.last(side, line);
     for (_, key, _) in joined.iter().rev().filter(|one| one.0 == line) {
@@ -36,6 +34,7 @@ fn has_line(table: &Crossed<u64>, side: Side, line: usize, joined: &[Joined]) ->
         }
         back = table.previous(side, *key);
     }
+    let count = joined.iter().filter(|one| one.0 == line).count();
     at == None && back == None && table.len(side, line) == count
 }
 
@@ -112,17 +111,27 @@ fn shift(
     Ok(())
 }
 
+/// Writes another item at the key in a list.
+fn rewrite(joined: &mut Vec<Joined>, key: usize, item: u64) {
+    for one in joined.iter_mut() {
+        if one.1 == key {
+            one.2 = item;
+        }
+    }
+}
+
 /// Puts another item in the place of the one at the key, if there is one.
-fn replace(table: &mut Crossed<u64>, lists: [&mut Vec<Joined>; 2], key: usize, item: u64) {
+fn replace(
+    table: &mut Crossed<u64>,
+    rows: &mut Vec<Joined>,
+    columns: &mut Vec<Joined>,
+    key: usize,
+    item: u64,
+) {
     if table.get(key).is_some() {
         table.replace(key, item);
-        for list in lists {
-            for one in list.iter_mut() {
-                if one.1 == key {
-                    one.2 = item;
-                }
-            }
-        }
+        rewrite(rows, key, item);
+        rewrite(columns, key, item);
     }
 }
 
@@ -141,7 +150,7 @@ fn call(
             insert(table, rows, columns, (line, column, number))?;
         }
         31..=40 => shift(table, rows, key, line)?,
-        41..=46 => replace(table, [rows, columns], key, number),
+        41..=46 => replace(table, rows, columns, key, number),
         47 => {
             table.clear(Side::Column, line);
             rows.retain(|one| !columns.iter().any(|gone| gone.0 == line && gone.1 == one.1));
