@@ -32,7 +32,7 @@ module _ {T : Type 0} where
   abbrev pub crossed : Slab (Slot T) → List Head → List Head → Crossed T
   crossed slots rows columns = record { items = values_of slots; rows = seen (links_of Row slots) rows; columns = seen (links_of Column slots) columns }
 
-  -- on this side the links and heads are those of the chains that are seen, and each item is in a chain
+  -- on this side the links and heads are those of the chains that are seen, and the numbers of chains fit
   pub record IsLined (side : Side) (slots : Slab (Slot T)) (heads : List Head) : Type 0 where
     pub stored : Stores (links_of side slots) heads (seen (links_of side slots) heads)
     pub few : length heads < 2 ^ 32
