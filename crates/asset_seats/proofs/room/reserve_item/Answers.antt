@@ -6,3 +6,6 @@ returns-in-Ok-clause-grown g c = grown_same c.args.items.now c.reserve.new.self 
 
 pub returns-in-Err-clause-grown : goal.returns-in-Err-clause-grown
 returns-in-Err-clause-grown g c = grown_same c.args.items.now c.reserve.new.self c.in-Err.ensures.slots c.in-Err.ensures.rows c.in-Err.ensures.columns
+
+pub returns-in-Err-clause-room : goal.returns-in-Err-clause-room
+returns-in-Err-clause-room g c = tt
