@@ -18,3 +18,6 @@ lines-preserved g c = record {
   grown = grown_then c.args.items.now c.lines.items c.add.new.self c.lines.invariant.grown (grown_more c.args.side c.lines.items c.add.new.self c.in-Ok.ensures.added c.in-Ok.ensures.others c.in-Ok.ensures.items);
   same = c.in-Ok.ensures.items ∙ c.lines.invariant.same;
 }
+
+pub returns-clause-there : goal.returns-clause-there
+returns-clause-there g c = omega (arith, c.lines-test.false, c.count.ensures)
