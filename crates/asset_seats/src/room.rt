@@ -1,17 +1,18 @@
 //! Room for one more key or chain.
 
-ghost use Rattle.std.specs.Prelude.{◌≡◌, ℕ, ◌<◌, ◌≤◌, length, true, IsOk, OnOk};
+ghost use Rattle.std.specs.Prelude.{◌≡◌, ℕ, ◌+◌, ◌<◌, ◌≤◌, max, length, true, IsOk, OnOk};
 ghost use Rattle.asset_chains.specs.Chained.{chain_of, home_of};
-ghost use Rattle.asset_chains.specs.Crossed.{lines, has_room, IsGrown};
+ghost use Rattle.asset_chains.specs.Crossed.{lines, other_side, has_room, IsGrown};
 
 use asset_chains::{Chains, Crossed, Side};
 use asset_names::NoMemory;
 
-/// Adds keys, in no chain, until the key is there. If memory runs out, some may have been added.
+/// Adds keys, in no chain, until the key is there, and no more. If memory runs out, some may have been added.
 pub fn add_keys(chains: &mut Chains, key: usize) -> Result<(), NoMemory>
     ensures there { OnOk result (key < length chains.new.homes) }
     ensures standing { key < length chains.old.homes → IsOk result }
     ensures more { length chains.old.homes ≤ length chains.new.homes }
+    ensures no_more { length chains.new.homes ≤ max (length chains.old.homes) (key + 1) }
     ensures chains { chains.new.chains ≡ chains.old.chains }
     ensures homes { (k : ℕ) → home_of chains.new k ≡ home_of chains.old k }
 {
@@ -24,11 +25,12 @@ pub fn add_keys(chains: &mut Chains, key: usize) -> Result<(), NoMemory>
     Ok(())
 }
 
-/// Adds chains, without keys, until the chain is there. If memory runs out, some may have been added.
+/// Adds chains, without keys, until the chain is there, and no more. If memory runs out, some may have been added.
 pub fn add_chains(chains: &mut Chains, chain: usize) -> Result<(), NoMemory>
     ensures there { OnOk result (chain < length chains.new.chains) }
     ensures standing { chain < length chains.old.chains → IsOk result }
     ensures more { length chains.old.chains ≤ length chains.new.chains }
+    ensures no_more { length chains.new.chains ≤ max (length chains.old.chains) (chain + 1) }
     ensures chains { (c : ℕ) → chain_of chains.new c ≡ chain_of chains.old c }
     ensures homes { chains.new.homes ≡ chains.old.homes }
 {
@@ -45,6 +47,8 @@ pub fn add_chains(chains: &mut Chains, chain: usize) -> Result<(), NoMemory>
 pub fn reserve_item<T>(items: &mut Crossed<T>) -> Result<(), NoMemory>
     ensures room { OnOk result (has_room items.new ≡ true) }
     ensures standing { has_room items.old ≡ true → IsOk result }
+    ensures rows { items.new.rows ≡ items.old.rows }
+    ensures columns { items.new.columns ≡ items.old.columns }
     ensures grown { IsGrown items.old items.new }
 {
     match items.reserve() {
@@ -53,11 +57,13 @@ pub fn reserve_item<T>(items: &mut Crossed<T>) -> Result<(), NoMemory>
     }
 }
 
-/// Adds rows or columns, without items, until the one of this number is there. If memory runs out, some may have been
-/// added.
+/// Adds rows or columns, without items, until the one of this number is there, and no more. If memory runs out, some may
+/// have been added.
 pub fn add_lines<T>(items: &mut Crossed<T>, side: Side, line: usize) -> Result<(), NoMemory>
     ensures there { OnOk result (line < length (lines side items.new).chains) }
     ensures standing { line < length (lines side items.old).chains → IsOk result }
+    ensures no_more { length (lines side items.new).chains ≤ max (length (lines side items.old).chains) (line + 1) }
+    ensures others { lines (other_side side) items.new ≡ lines (other_side side) items.old }
     ensures items { items.new.items ≡ items.old.items }
     ensures grown { IsGrown items.old items.new }
 {
