@@ -27,7 +27,7 @@ impl Model for Marks {
 }
 
 impl Marks {
-    ghost use Rattle.std.specs.Prelude.{◌≡◌, ℕ, ◌+◌, ◌<◌, ◌≤◌, ◌==◌, ◌&&◌, not, nat_eq, true, false, cond, [], ◌∷◌, ◌++◌, length, slice_index, IfSome, IfNone, IsOk, OnOk, OnErr};
+    ghost use Rattle.std.specs.Prelude.{◌≡◌, ℕ, ◌+◌, ◌<◌, ◌≤◌, ◌==◌, ◌&&◌, not, max, nat_eq, true, false, cond, [], ◌∷◌, ◌++◌, length, slice_index, IfSome, IfNone, IsOk, OnOk, OnErr};
     ghost use Rattle.std.specs.List.{IsDistinct};
     ghost use Rattle.asset_names.specs.Arrows.{lists};
 
@@ -58,11 +58,12 @@ impl Marks {
         Ok(())
     }
 
-    /// Adds nodes, which are not met, until the node is there. If memory runs out, some may have been added.
+    /// Adds nodes, which are not met, until the node is there, and no more. If memory runs out, some may have been added.
     pub fn add(&mut self, node: usize) -> Result<(), NoMemory>
         ensures there { OnOk result (node < self.new.size) }
         ensures standing { node < self.old.size → IsOk result }
         ensures more { self.old.size ≤ self.new.size }
+        ensures no_more { self.new.size ≤ max self.old.size (node + 1) }
         ensures nodes { self.new.nodes ≡ self.old.nodes }
     {
         'nodes: while self.size() <= node {

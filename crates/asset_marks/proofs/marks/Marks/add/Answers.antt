@@ -1,4 +1,4 @@
-use Rattle.std.proofs.Common.{rules}
+use Rattle.std.proofs.Common.{arith, rules}
 use Rattle.asset_marks.proofs.marks.Marks.add.Goals as goal
 
 pub returns-clause-there : goal.returns-clause-there
@@ -9,6 +9,9 @@ returns-clause-standing c = search rules
 
 pub returns-clause-more : goal.returns-clause-more
 returns-clause-more c = search rules
+
+pub returns-clause-no_more : goal.returns-clause-no_more
+returns-clause-no_more c = omega arith
 
 pub returns-clause-nodes : goal.returns-clause-nodes
 returns-clause-nodes c = search rules
@@ -21,6 +24,9 @@ returns-in_err-grow-clause-standing c = search rules
 
 pub returns-in_err-grow-clause-more : goal.returns-in_err-grow-clause-more
 returns-in_err-grow-clause-more c = search rules
+
+pub returns-in_err-grow-clause-no_more : goal.returns-in_err-grow-clause-no_more
+returns-in_err-grow-clause-no_more c = search rules
 
 pub returns-in_err-grow-clause-nodes : goal.returns-in_err-grow-clause-nodes
 returns-in_err-grow-clause-nodes c = search rules
