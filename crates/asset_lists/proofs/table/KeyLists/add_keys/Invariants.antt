@@ -1,4 +1,4 @@
-use Rattle.std.proofs.Common.{◌≡◌, ℕ, ◌≤◌, ◌+◌, ◌-◌, length}
+use Rattle.std.proofs.Common.{◌≡◌, ℕ, ◌≤◌, ◌+◌, ◌-◌, max, length}
 use Rattle.asset_lists.specs.Parted.{part_of}
 use Rattle.asset_lists.proofs.table.KeyLists.add_keys.Given as goal
 
@@ -8,6 +8,7 @@ invariant-keys l = record {
   lists : l.self.lists ≡ l.initial.self.lists;
   parts : (k : ℕ) → part_of l.self k ≡ part_of l.initial.self k;
   more : length l.initial.self.parts ≤ length l.self.parts;
+  no_more : length l.self.parts ≤ max (length l.initial.self.parts) (l.key + 1);
 }
 
 abbrev pub decreases-keys : goal.decreases-keys
