@@ -6,7 +6,7 @@ use Rattle.std.proofs.lemmas.Bool.{cases_eq, lt-ltb, le-ltb, ltb-true, ltb-false
 use Rattle.std.proofs.lemmas.List.{get_or_read}
 use Rattle.asset_lists.specs.declared.rows.Row.{Row}
 use Rattle.asset_lists.specs.declared.rows.Place.{Place}
-use Rattle.asset_lists.specs.Parted.{part_of, IsAt, IsChangedAt}
+use Rattle.asset_lists.specs.Parted.{Parted, part_of, IsAt, IsChangedAt}
 use Rattle.asset_lists.specs.Placed.{no_row, no_place, row_at, keys_of, place_at, seen, swapped, IsValid, IsSwapped}
 use Rattle.asset_lists.proofs.AtLemmas.{swapped_first, swapped_second, swapped_other, refilled}
 use Rattle.asset_lists.proofs.RowLemmas.{some_part, Stands, stands_at, at_within, at_position, row_set, valid_swapped, changed_swapped}
@@ -44,12 +44,10 @@ back_border p q f i first second apart = elim (cases_eq i q) [
   | inr other ↦ ap (λ n. nat_lt n f) (swapped_other p q i apart other)
 ]
 
-module _ (rows : List Row) (places : List Place) (valid : IsValid rows places) (key x : ℕ) (front : Bool) (is : part_of (seen rows places) key ≡ some_part x front) (place : Place) (read : place ≡ get_or places key place) where
+-- the key is in the list, as it is seen
+module _ {rows : List Row} {places : List Place} (valid : IsValid rows places) {table : Parted} (view : seen rows places ≡ table) (key : ℕ) {x : ℕ} {front : Bool} (is : part_of table key ≡ some_part x front) where
   stood : Stands rows places key x front
-  stood = stands_at rows places valid key x front is
-
-  place_read : place ≡ place_at places key
-  place_read = get_or_read places key place stood.key_in read no_place
+  stood = stands_at rows places valid key x front (ap (λ (t : Parted). part_of t key) view ∙ is)
 
   pub key_in : key < length places
   key_in = stood.key_in
@@ -57,19 +55,23 @@ module _ (rows : List Row) (places : List Place) (valid : IsValid rows places) (
   pub list_in : x < length rows
   list_in = stood.list_in
 
-  module _ (row : Row) (row_is : row ≡ get_or rows x row) where
+  -- ---- what is read of the key and of the list
+  module _ {place : Place} (read : place ≡ get_or places key place) {row : Row} (row_is : row ≡ get_or rows x row) where
+    place_read : place ≡ place_at places key
+    place_read = get_or_read places key place stood.key_in read no_place
+
     row_read : row ≡ row_at rows x
     row_read = get_or_read rows x row list_in row_is no_row
 
     pub side : nat_lt place.position row.front ≡ front
     side = (λ i. nat_lt (place_read i).position (row_read i).front) ∙ stood.side
 
-    pub border : row.front ≤ length row.keys.items
-    border = subst (λ (r : Row). r.front ≤ length r.keys.items) (sym row_read) (valid.fronts x)
-
-    module _ (keys : List ℕ) (keys_is : keys ≡ row.keys.items) where
-      pub keys_read : keys ≡ keys_of rows x
+    module _ {keys : List ℕ} (keys_is : keys ≡ row.keys.items) where
+      keys_read : keys ≡ keys_of rows x
       keys_read = keys_is ∙ ap (λ (r : Row). r.keys.items) row_read
+
+      pub border : row.front ≤ length keys
+      border = subst (λ (l : List ℕ). row.front ≤ length l) (sym keys_is) (subst (λ (r : Row). r.front ≤ length r.keys.items) (sym row_read) (valid.fronts x))
 
       pub at_key : IsAt keys place.position key
       at_key = subst (λ (l : List ℕ). IsAt l place.position key) (sym keys_read) (subst (λ (p : Place). IsAt (keys_of rows x) p.position key) (sym place_read) stood.at)
@@ -84,7 +86,7 @@ module _ (rows : List Row) (places : List Place) (valid : IsValid rows places) (
       positions i k at = at_position rows places valid x i k (subst (λ (l : List ℕ). IsAt l i k) keys_read at)
 
       -- ---- the list and the places after a swap
-      module _ (q border_now : ℕ) (new : List ℕ) (next : List Place) (size : length next ≡ length places) (swaps : IsSwapped place.position q keys new)
+      module _ {q : ℕ} (border_now : ℕ) {new : List ℕ} (next : List Place) (size : length next ≡ length places) (swaps : IsSwapped place.position q keys new)
           (moved : (i k : ℕ) → IsAt keys i k → place_at next k ≡ record (place_at places k) { position = swapped place.position q i })
           (others : (k : ℕ) → ((i : ℕ) → IsAt keys i k → ⊥) → place_at next k ≡ place_at places k) where
         abbrev pub row_now : Row
@@ -107,11 +109,12 @@ module _ (rows : List Row) (places : List Place) (valid : IsValid rows places) (
             valid_swapped rows places valid x row_now (set rows x row_now) next (row_set rows x row_now list_in) size place.position q swaps_now moved_now others_now (subst (λ (l : List ℕ). border_now ≤ length l) keys_read within)
 
         pub changed_now : (front_now : Bool) → ((i : ℕ) → (i ≡ place.position → ⊥) → nat_lt (swapped place.position q i) border_now ≡ nat_lt i row.front) → nat_lt q border_now ≡ front_now
-            → IsChangedAt key (some_part x front_now) (seen rows places) (seen (set rows x row_now) next)
+            → IsChangedAt key (some_part x front_now) table (seen (set rows x row_now) next)
         changed_now front_now borders here =
-            changed_swapped rows places valid x row_now (set rows x row_now) next (row_set rows x row_now list_in) size place.position q swaps_now moved_now others_now key front_now
+            subst (λ (t : Parted). IsChangedAt key (some_part x front_now) t (seen (set rows x row_now) next)) view
+            (changed_swapped rows places valid x row_now (set rows x row_now) next (row_set rows x row_now list_in) size place.position q swaps_now moved_now others_now key front_now
             (subst (λ (l : List ℕ). IsAt l place.position key) keys_read at_key)
-            (λ i inside apart. borders i apart ∙ ap (λ (r : Row). nat_lt i r.front) row_read) here
+            (λ i inside apart. borders i apart ∙ ap (λ (r : Row). nat_lt i r.front) row_read) here)
 
         -- the key stands at the other position
         pub at_now : IsAt row_now.keys.items q key

@@ -10,8 +10,8 @@ use std::marker::Model;
 /// Keys in lists. Keys and lists are numbers from 0 on, such as a slab gives, and each key is in one list at most, in its
 /// front part or in its back part. Contracts see the part of each key, and no order among the keys of a part.
 ///
-/// A key takes 8 bytes and 4 more while it is in a list, the first four of which lie in the list itself. Each call but
-/// `add_key`, `add_list` and `push` takes constant time and no memory.
+/// A key takes 8 bytes, and 4 more while it is in a list. A list stores up to four keys in itself, and more of them in
+/// memory of its own. Only `push` and the calls that add keys or lists take memory; each other call takes constant time.
 #[derive(Drop)]
 pub struct KeyLists {
     alloc: Global,

@@ -1,73 +1,44 @@
-use Rattle.std.proofs.Common.{◌+◌, true, false, length, set, ap, subst, ◌∙◌, arith}
-use Rattle.std.specs.List.{refill}
+use Rattle.std.proofs.Common.{◌+◌, true, arith}
 use Rattle.std.proofs.lemmas.Bool.{ltb-false, lt-ltb}
-use Rattle.asset_lists.specs.Parted.{Parted, part_of, IsChangedAt}
-use Rattle.asset_lists.specs.Placed.{seen}
-use Rattle.asset_lists.proofs.RowLemmas.{some_part, stands_at}
-use Rattle.asset_lists.proofs.SwapLemmas.{side, border, at_key, few, within, positions, valid_now, changed_now, raised_border}
+use Rattle.asset_lists.proofs.SwapLemmas.{key_in, list_in, side, border, at_key, few, within, positions, valid_now, changed_now, raised_border}
 use Rattle.asset_lists.proofs.table.KeyLists.raise.Goals as goal
 
 pub index-requires : goal.index-requires
-index-requires c =
-    let is = ap (λ (t : Parted). part_of t c.args.key) c.self.view_is ∙ c.requires in
-    omega (arith, (stands_at c.self.inside.rows.items c.self.inside.places.items c.self.invariant c.args.key c.args.list false is).key_in)
+index-requires c = omega (arith, key_in c.self.invariant c.self.view_is c.args.key c.requires)
 
 pub index_mut-row-requires : goal.index_mut-row-requires
-index_mut-row-requires c =
-    let is = ap (λ (t : Parted). part_of t c.args.key) c.self.view_is ∙ c.requires in
-    omega (arith, (stands_at c.self.inside.rows.items c.self.inside.places.items c.self.invariant c.args.key c.args.list false is).list_in)
+index_mut-row-requires c = omega (arith, list_in c.self.invariant c.self.view_is c.args.key c.requires)
 
 pub swap-requires-clause-first : goal.swap-requires-clause-first
-swap-requires-clause-first c =
-    let is = ap (λ (t : Parted). part_of t c.args.key) c.self.view_is ∙ c.requires in
-    (at_key c.self.inside.rows.items c.self.inside.places.items c.self.invariant c.args.key c.args.list false is c.index.result.now c.index.ensures c.index_mut-row.result.now c.index_mut-row.ensures.value c.as_mut_slice.result.now c.as_mut_slice.ensures.value).within
+swap-requires-clause-first c = (at_key c.self.invariant c.self.view_is c.args.key c.requires c.index.ensures c.index_mut-row.ensures.value c.as_mut_slice.ensures.value).within
 
 pub swap-requires-clause-second : goal.swap-requires-clause-second
 swap-requires-clause-second c =
-    let is = ap (λ (t : Parted). part_of t c.args.key) c.self.view_is ∙ c.requires in
-    let at = at_key c.self.inside.rows.items c.self.inside.places.items c.self.invariant c.args.key c.args.list false is c.index.result.now c.index.ensures c.index_mut-row.result.now c.index_mut-row.ensures.value c.as_mut_slice.result.now c.as_mut_slice.ensures.value in
-    let past = ltb-false c.index.result.now.position c.index_mut-row.result.now.front (side c.self.inside.rows.items c.self.inside.places.items c.self.invariant c.args.key c.args.list false is c.index.result.now c.index.ensures c.index_mut-row.result.now c.index_mut-row.ensures.value) in
-    omega (arith, at.within, past)
+    let past = ltb-false c.index.result.now.position c.index_mut-row.result.now.front (side c.self.invariant c.self.view_is c.args.key c.requires c.index.ensures c.index_mut-row.ensures.value) in
+    omega (arith, (at_key c.self.invariant c.self.view_is c.args.key c.requires c.index.ensures c.index_mut-row.ensures.value c.as_mut_slice.ensures.value).within, past)
 
 pub swap-requires-clause-few : goal.swap-requires-clause-few
-swap-requires-clause-few c =
-    let is = ap (λ (t : Parted). part_of t c.args.key) c.self.view_is ∙ c.requires in
-    few c.self.inside.rows.items c.self.inside.places.items c.self.invariant c.args.key c.args.list false is c.index.result.now c.index.ensures c.index_mut-row.result.now c.index_mut-row.ensures.value c.as_mut_slice.result.now c.as_mut_slice.ensures.value
+swap-requires-clause-few c = few c.self.invariant c.self.view_is c.args.key c.requires c.index.ensures c.index_mut-row.ensures.value c.as_mut_slice.ensures.value
 
 pub swap-requires-clause-within : goal.swap-requires-clause-within
-swap-requires-clause-within c =
-    let is = ap (λ (t : Parted). part_of t c.args.key) c.self.view_is ∙ c.requires in
-    within c.self.inside.rows.items c.self.inside.places.items c.self.invariant c.args.key c.args.list false is c.index.result.now c.index.ensures c.index_mut-row.result.now c.index_mut-row.ensures.value c.as_mut_slice.result.now c.as_mut_slice.ensures.value
+swap-requires-clause-within c = within c.self.invariant c.self.view_is c.args.key c.requires c.index.ensures c.index_mut-row.ensures.value c.as_mut_slice.ensures.value
 
 pub swap-requires-clause-positions : goal.swap-requires-clause-positions
-swap-requires-clause-positions c =
-    let is = ap (λ (t : Parted). part_of t c.args.key) c.self.view_is ∙ c.requires in
-    positions c.self.inside.rows.items c.self.inside.places.items c.self.invariant c.args.key c.args.list false is c.index.result.now c.index.ensures c.index_mut-row.result.now c.index_mut-row.ensures.value c.as_mut_slice.result.now c.as_mut_slice.ensures.value
+swap-requires-clause-positions c = positions c.self.invariant c.self.view_is c.args.key c.requires c.index.ensures c.index_mut-row.ensures.value c.as_mut_slice.ensures.value
 
 pub overflow_add-row : goal.overflow_add-row
-overflow_add-row c =
-    let is = ap (λ (t : Parted). part_of t c.args.key) c.self.view_is ∙ c.requires in
-    omega (
-      arith,
-      ap (λ l. length l) c.as_mut_slice.ensures.value,
-      border c.self.inside.rows.items c.self.inside.places.items c.self.invariant c.args.key c.args.list false is c.index.result.now c.index.ensures c.index_mut-row.result.now c.index_mut-row.ensures.value,
-      few c.self.inside.rows.items c.self.inside.places.items c.self.invariant c.args.key c.args.list false is c.index.result.now c.index.ensures c.index_mut-row.result.now c.index_mut-row.ensures.value c.as_mut_slice.result.now c.as_mut_slice.ensures.value,
-    )
+overflow_add-row c = omega (arith, border c.self.invariant c.self.view_is c.args.key c.requires c.index.ensures c.index_mut-row.ensures.value c.as_mut_slice.ensures.value, few c.self.invariant c.self.view_is c.args.key c.requires c.index.ensures c.index_mut-row.ensures.value c.as_mut_slice.ensures.value)
 
 pub invariant_of-self : goal.invariant_of-self
 invariant_of-self c =
-    let is = ap (λ (t : Parted). part_of t c.args.key) c.self.view_is ∙ c.requires in
-    let row = c.index_mut-row.result.now in
-    let at = at_key c.self.inside.rows.items c.self.inside.places.items c.self.invariant c.args.key c.args.list false is c.index.result.now c.index.ensures c.index_mut-row.result.now c.index_mut-row.ensures.value c.as_mut_slice.result.now c.as_mut_slice.ensures.value in
-    let past = ltb-false c.index.result.now.position row.front (side c.self.inside.rows.items c.self.inside.places.items c.self.invariant c.args.key c.args.list false is c.index.result.now c.index.ensures row c.index_mut-row.ensures.value) in
-    valid_now c.self.inside.rows.items c.self.inside.places.items c.self.invariant c.args.key c.args.list false is c.index.result.now c.index.ensures row c.index_mut-row.ensures.value c.as_mut_slice.result.now c.as_mut_slice.ensures.value
-    row.front (row.front + 1) c.swap.new.keys c.swap.new.places.items c.swap.ensures.size c.swap.ensures.swapped c.swap.ensures.moved c.swap.ensures.others (omega (arith, at.within, past))
+    let front = c.index_mut-row.result.now.front in
+    let past = ltb-false c.index.result.now.position front (side c.self.invariant c.self.view_is c.args.key c.requires c.index.ensures c.index_mut-row.ensures.value) in
+    valid_now c.self.invariant c.self.view_is c.args.key c.requires c.index.ensures c.index_mut-row.ensures.value c.as_mut_slice.ensures.value (front + 1) c.swap.new.places.items c.swap.ensures.size c.swap.ensures.swapped c.swap.ensures.moved c.swap.ensures.others (omega (arith, (at_key c.self.invariant c.self.view_is c.args.key c.requires c.index.ensures c.index_mut-row.ensures.value c.as_mut_slice.ensures.value).within, past))
 
 pub returns : goal.returns
 returns c =
-    let is = ap (λ (t : Parted). part_of t c.args.key) c.self.view_is ∙ c.requires in
-    let row = c.index_mut-row.result.now in
-    let past = ltb-false c.index.result.now.position row.front (side c.self.inside.rows.items c.self.inside.places.items c.self.invariant c.args.key c.args.list false is c.index.result.now c.index.ensures row c.index_mut-row.ensures.value) in
-    subst (λ (t : Parted). IsChangedAt c.args.key (some_part c.args.list true) t (seen (set c.self.inside.rows.items c.args.list (record { keys = record { items = refill (length row.keys.items) row.keys.items c.swap.new.keys; capacity = row.keys.capacity }; front = row.front + 1 })) c.swap.new.places.items)) c.self.view_is
-    (changed_now c.self.inside.rows.items c.self.inside.places.items c.self.invariant c.args.key c.args.list false is c.index.result.now c.index.ensures row c.index_mut-row.ensures.value c.as_mut_slice.result.now c.as_mut_slice.ensures.value
-    row.front (row.front + 1) c.swap.new.keys c.swap.new.places.items c.swap.ensures.size c.swap.ensures.swapped c.swap.ensures.moved c.swap.ensures.others true (λ i apart. raised_border c.index.result.now.position row.front i past apart) (lt-ltb row.front (row.front + 1) (omega arith)))
+    let position = c.index.result.now.position in
+    let front = c.index_mut-row.result.now.front in
+    let past = ltb-false position front (side c.self.invariant c.self.view_is c.args.key c.requires c.index.ensures c.index_mut-row.ensures.value) in
+    changed_now c.self.invariant c.self.view_is c.args.key c.requires c.index.ensures c.index_mut-row.ensures.value c.as_mut_slice.ensures.value (front + 1) c.swap.new.places.items c.swap.ensures.size c.swap.ensures.swapped c.swap.ensures.moved c.swap.ensures.others
+    true (λ i apart. raised_border position front i past apart) (lt-ltb front (front + 1) (omega arith))
