@@ -1,5 +1,5 @@
--- Dependencies in a slab, beside two partitions of its keys into chains: by source, and by dependent. A chain's number is
--- the seat of the transaction, and who has a seat is enrolled.
+-- Dependencies, each in the row of its source and in the column of its dependent. The number of a row or a column is the
+-- seat of the transaction, and who has a seat is enrolled.
 use Rattle.std.specs.Prelude.{◌≡◌, ℕ, ◌<◌, true, List, length, map, Option, Some, is_some, filter_map, unwrap_or, option_map}
 use Rattle.slab.specs.Slab.{Slab, get, values}
 use Rattle.asset_names.specs.declared.names.Txn.{Txn}
@@ -25,7 +25,7 @@ name_at seats c = unwrap_or (option_map (λ (t : Txn). t.0) (seat seats c)) 0
 unfoldable pub marked_of : Seated → List ℕ → List ℕ
 marked_of seats nodes = map (name_at seats) nodes
 
--- the dependencies with the chains along which a search or an end goes, those of the other sides, and the seats
+-- the dependencies by key, their rows, their columns, and the seats
 pub record Parts : Type 0 where
   pub links : Slab Dependency
   pub along : Chained

@@ -1,4 +1,4 @@
--- Arrows of items in a slab, each in a chain of either partition: which there are, and that they turn round.
+-- Arrows of items, each in a row and in a column: which there are, and that they turn round.
 use Rattle.std.proofs.Common.{◌≡◌, ℕ, zero, suc, ◌+◌, Bool, true, false, cond, eqb, ◌&&◌, ◌||◌, List, [], ◌∷◌, ◌++◌, map, get_or, Option, Some, None, refl, sym, ap, ◌∙◌, arith, inl, inr}
 use Rattle.std.proofs.lemmas.Bool.{or_cases, or_left, or_right, and_from, and_parts, eqb-true, eq-eqb, ne_eqb, eqb-false, false≢true}
 use Rattle.slab.specs.Slab.{Slab, get}

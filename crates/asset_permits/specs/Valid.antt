@@ -11,7 +11,7 @@ use Rattle.asset_permits.specs.Descriptors.{Descriptor}
 unfoldable pub descriptors_of : Slab Descriptor → List Descriptor
 descriptors_of permits = filter_map (λ (slot : Option Descriptor). slot) permits.slots
 
--- the permits with the chains along which a search or an end goes, those of the other sides, and the seats
+-- the permits by key, their rows, their columns, and the seats
 pub record Parts : Type 0 where
   pub permits : Slab Descriptor
   pub along : Chained
@@ -25,7 +25,7 @@ parts permits along across seats = record { permits = permits; along = along; ac
 abbrev pub parts_of : Crossed Descriptor → Seated → Parts
 parts_of permits seats = parts permits.items permits.rows permits.columns seats
 
--- whether a permit is in the chain of a seat, in either partition
+-- whether a permit is in the row or in the column of a seat
 unfoldable pub is_used : Chained → Chained → ℕ → Bool
 is_used along across c = is_some (first_of (chain_of along c)) || is_some (first_of (chain_of across c))
 
