@@ -24,3 +24,6 @@ returns-in-None-clause-given c = search rules
 
 pub returns-in-None-clause-many : goal.returns-in-None-clause-many
 returns-in-None-clause-many c = search rules
+
+pub sit-requires-clause-absent : goal.sit-requires-clause-absent
+sit-requires-clause-absent c = search rules
