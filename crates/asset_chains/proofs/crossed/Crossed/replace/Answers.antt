@@ -1,8 +1,12 @@
-use Rattle.std.proofs.Common.{ap, ◌∙◌}
+use Rattle.std.proofs.Common.{ap, ◌∙◌, rules}
 use Rattle.asset_chains.specs.declared.side.Side.TheVariants.{Row, Column}
 use Rattle.asset_chains.specs.Linked.{seen}
+use Rattle.asset_chains.proofs.SlotLemmas.{value_some}
 use Rattle.asset_chains.proofs.CrossedLemmas.{crossed_kept}
 use Rattle.asset_chains.proofs.crossed.Crossed.replace.Goals as goal
+
+pub replace_item-requires : goal.replace_item-requires
+replace_item-requires g c = search (rules, value_some)
 
 pub invariant_of-self : goal.invariant_of-self
 invariant_of-self g c =
