@@ -1,5 +1,5 @@
 -- Items with their links in slots: what is stored is what is seen, and what a change of a link leaves.
-use Rattle.std.proofs.Common.{◌≡◌, ℕ, ◌+◌, ◌-◌, ◌<◌, ◌^◌, true, List, [], length, get_or, set, map, Option, Some, None, is_some, option_map, refl, sym, ap, subst, ◌∙◌, arith, zero, suc, inl, inr}
+use Rattle.std.proofs.Common.{◌≡◌, ℕ, ◌+◌, ◌-◌, ◌<◌, ◌≤◌, ◌^◌, true, List, [], length, get_or, set, map, Option, Some, None, is_some, option_map, refl, sym, ap, subst, ◌∙◌, arith, zero, suc, inl, inr}
 use Rattle.std.proofs.lemmas.List.{map-set, length-map, get_or_past}
 use Rattle.std.proofs.lemmas.Bool.{cases_lt, cases_eq, false≢true}
 use Rattle.std.proofs.Math.Seq.{map-set_same}
@@ -239,6 +239,12 @@ module _ {T : Type 0} where
   pub few_lines : (slots : Slab (Slot T)) (rows columns : List Head) → AreCrossed slots rows columns → (side : Side) → length (lines side (crossed slots rows columns)).chains < 2 ^ 32
   few_lines slots rows columns are Row = omega (arith, are.by_row.few, are.by_row.stored.chains)
   few_lines slots rows columns are Column = omega (arith, are.by_column.few, are.by_column.stored.chains)
+
+  pub short_lines : (slots : Slab (Slot T)) (rows columns : List Head) → AreCrossed slots rows columns → (side : Side) (c : ℕ) → length (chain_of (lines side (crossed slots rows columns)) c) ≤ 2 ^ 32
+  short_lines slots rows columns are side c =
+      let all = is_crossed slots rows columns are in
+      length-le_from_distinct_below (chain_of (lines side (crossed slots rows columns)) c) (2 ^ 32) ((all.sound side).once c)
+      (λ k among. omega (arith, are.few k (sym (value_some slots k) ∙ sym (all.placed side k) ∙ ap (λ (o : Option ℕ). is_some o) ((all.sound side).at_home c k among))))
 
   pub are_nothing : (slots : Slab (Slot T)) → slots.slots ≡ [] → AreCrossed slots [] []
   are_nothing slots none =

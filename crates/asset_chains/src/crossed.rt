@@ -35,7 +35,7 @@ impl<T> Model for Crossed<T> {
 }
 
 impl<T> Crossed<T> {
-    ghost use Rattle.std.specs.Prelude.{◌≡◌, ℕ, ◌<◌, ◌^◌, [], length, None, Some, true, is_some, cond, ◌==◌, option_copied, IsOk, OnOk, OnErr};
+    ghost use Rattle.std.specs.Prelude.{◌≡◌, ℕ, ◌<◌, ◌≤◌, ◌^◌, [], length, None, Some, true, is_some, cond, ◌==◌, option_copied, IsOk, OnOk, OnErr};
     ghost use Rattle.slab.specs.Slab.{get, slab_len, Updates};
     ghost use Rattle.asset_chains.specs.Chained.{chain_of, home_of, first_of, last_of, behind, ahead, pushed, unlinked, one_chain_more};
     ghost use Rattle.asset_chains.specs.declared.side.Side.{Side as Side'};
@@ -64,6 +64,13 @@ impl<T> Crossed<T> {
             Some(slot) => Some(&slot.item),
             None => None,
         }
+    }
+
+    /// Returns how many items there are.
+    pub fn items(&self) -> usize
+        ensures { result ≡ slab_len self.now.items }
+    {
+        self.slots.len()
     }
 
     /// Returns how many rows or columns there are.
@@ -136,6 +143,7 @@ impl<T> Crossed<T> {
     pub fn laws(&self)
         ensures crossed { IsCrossed self.now }
         ensures few { (side : Side') → length (lines side self.now).chains < 2 ^ 32 }
+        ensures short { (side : Side') (c : ℕ) → length (chain_of (lines side self.now) c) ≤ 2 ^ 32 }
     {
         let _ = &self.slots;
     }
