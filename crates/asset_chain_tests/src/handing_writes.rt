@@ -194,3 +194,72 @@ fn reservation_outlives_hand_overs(rt: HostRuntime) -> Result<(), Fail> {
     assert!(rt; stands);
     Ok(())
 }
+
+/// Lets 7 write to the first object and 8 to both, `MANY` times each; hands the set of 7 over to 9. Returns the visits.
+fn visits_beside_others(objects: &mut Objects, set: &ObSet) -> Result<usize, NoMemory> {
+    write(objects, 7, 1, 50)?;
+    for _ in 0..MANY {
+        write(objects, 8, 1, 1)?;
+        write(objects, 8, 2, 2)?;
+    }
+    objects.hand_over(Txn(7), Txn(9), set);
+    Ok(objects.visits())
+}
+
+#[test]
+fn hand_over_visits_the_records_of_the_giver(rt: HostRuntime) -> Result<(), Fail> {
+    let first = ObSet::Listed(ObList::of(&[Ob(1)])?);
+    let mut objects = opened(rt.alloc(), &TWO)?;
+    let all = visits_beside_others(&mut objects, &ObSet::All);
+    drop(objects);
+    let mut objects = opened(rt.alloc(), &TWO)?;
+    let one = visits_beside_others(&mut objects, &first);
+    drop(objects);
+    assert_eq!(rt; all?, 1);
+    assert_eq!(rt; one?, 1);
+    Ok(())
+}
+
+/// Lets 7 write once to the first object and `MANY` times to the second; hands the first to 8 and back. Returns the visits
+/// of the two hand-overs.
+fn visits_to_and_fro(objects: &mut Objects, first: &ObSet) -> Result<(usize, usize), NoMemory> {
+    write(objects, 7, 1, 50)?;
+    for _ in 0..MANY {
+        write(objects, 7, 2, 2)?;
+    }
+    objects.hand_over(Txn(7), Txn(8), first);
+    let there = objects.visits();
+    objects.hand_over(Txn(8), Txn(7), first);
+    Ok((there, objects.visits()))
+}
+
+#[test]
+fn hand_over_visits_the_records_of_the_object_if_they_are_fewer(
+    rt: HostRuntime,
+) -> Result<(), Fail> {
+    let first = ObSet::Listed(ObList::of(&[Ob(1)])?);
+    let mut objects = opened(rt.alloc(), &TWO)?;
+    let visits = visits_to_and_fro(&mut objects, &first);
+    drop(objects);
+    assert_eq!(rt; visits?, (2, 2));
+    Ok(())
+}
+
+/// Hands all writes of 7 over to 8, which has one, and then nothing from 7. Returns the visits of both.
+fn visits_of_all(objects: &mut Objects) -> Result<(usize, usize), NoMemory> {
+    write_both(objects)?;
+    write(objects, 8, 1, 70)?;
+    objects.hand_over(Txn(7), Txn(8), &ObSet::All);
+    let all = objects.visits();
+    objects.hand_over(Txn(7), Txn(8), &ObSet::All);
+    Ok((all, objects.visits()))
+}
+
+#[test]
+fn hand_over_visits_what_stands_beside(rt: HostRuntime) -> Result<(), Fail> {
+    let mut objects = opened(rt.alloc(), &TWO)?;
+    let visits = visits_of_all(&mut objects);
+    drop(objects);
+    assert_eq!(rt; visits?, (5, 0));
+    Ok(())
+}

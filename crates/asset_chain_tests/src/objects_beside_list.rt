@@ -1,7 +1,7 @@
-//! Objects beside a plain list of writes that does the same by scanning, and how many records an end visits.
+//! Objects beside a plain list of writes that does the same by scanning, and how many records an end or a hand-over visits.
 
 use crate::objects::write_once;
-use asset_names::{NoMemory, Ob, Txn};
+use asset_names::{NoMemory, Ob, ObList, ObSet, Txn};
 use asset_objects::Objects;
 use asset_test_tools::next;
 use std::test::Fail;
@@ -91,6 +91,56 @@ fn within(visits: usize, gone: usize) -> bool {
     gone <= visits && visits / 4 <= gone && (gone > 0 || visits == 0)
 }
 
+/// Returns the set that a number stands for: all objects, one object, or that one and the next.
+fn set_of(number: u64, object: u64) -> Result<ObSet, Fail> {
+    match number % 3 {
+        0 => Ok(ObSet::All),
+        1 => Ok(ObSet::Listed(ObList::of(&[Ob(object)])?)),
+        _ => Ok(ObSet::Listed(ObList::of(&[Ob(object), Ob(object + 1)])?)),
+    }
+}
+
+/// Hands the giver's writes on the objects of the set over; returns how many the giver had, and how many went over.
+fn hand_over_plainly(
+    list: &mut PlainObjects,
+    giver: u64,
+    taker: u64,
+    objects: &ObSet,
+) -> (usize, usize) {
+    let mut owned: usize = 0;
+    let mut handed: usize = 0;
+    for one in list.writes.iter_mut() {
+        if one.owner == giver {
+            owned = owned.saturating_add(1);
+            if objects.has(Ob(one.object)) {
+                handed = handed.saturating_add(1);
+                one.owner = taker;
+            }
+        }
+    }
+    (owned, handed)
+}
+
+/// Returns whether a hand-over visited some record if one went over, and at most four for each that the giver had.
+fn within_handed(visits: usize, (owned, handed): (usize, usize)) -> bool {
+    visits / 4 <= owned && (visits > 0 || handed == 0)
+}
+
+/// Makes the hand-over that a number stands for, on objects and the list. Returns whether the visits are within bounds.
+fn hand_over(
+    objects: &mut Objects,
+    list: &mut PlainObjects,
+    number: u64,
+    giver: u64,
+    object: u64,
+) -> Result<bool, Fail> {
+    let taker = (number >> 20) % OWNERS;
+    let set = set_of(number, object)?;
+    objects.hand_over(Txn(giver), Txn(taker), &set);
+    let plainly = hand_over_plainly(list, giver, taker, &set);
+    Ok(giver == taker || within_handed(objects.visits(), plainly))
+}
+
 /// Makes the call that a number stands for, on objects and the list. Returns whether both show the same after it.
 fn call(objects: &mut Objects, list: &mut PlainObjects, number: u64) -> Result<bool, Fail> {
     let owner = (number >> 30) % OWNERS;
@@ -105,6 +155,7 @@ fn call(objects: &mut Objects, list: &mut PlainObjects, number: u64) -> Result<b
             objects.settle(Txn(owner));
             within(objects.visits(), settle_plainly(list, owner))
         }
+        2 => hand_over(objects, list, number, owner, object)?,
         _ => {
             write_once(objects, owner, object, value)?;
             list.writes.push(Plain {

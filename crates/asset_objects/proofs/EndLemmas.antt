@@ -7,7 +7,8 @@ use Rattle.std.proofs.lemmas.List.Sums.{sum_by-set}
 use Rattle.asset_records.specs.declared.records.Record.{Record}
 use Rattle.asset_records.specs.Listed.{on, handed, restored_if_last, ChangesOn, TakesBack, Settles, HasNone}
 use Rattle.asset_objects.specs.Cells.{undone, settled}
-use Rattle.asset_objects.specs.Placed.{value_at, cell_at, recorded_cell, records_by}
+use Rattle.asset_records.specs.Listed.{records_by}
+use Rattle.asset_objects.specs.Placed.{value_at, cell_at, recorded_cell}
 use Rattle.asset_objects.proofs.CellLemmas.{owned_by, undone_back, settled_back, undone_none, settled_none, count_back, count_rest}
 
 -- ---- the lists after one of them has changed

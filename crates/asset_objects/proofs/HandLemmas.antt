@@ -1,39 +1,27 @@
 -- Writes that become another transaction's.
-use Rattle.std.proofs.Common.{◌≡◌, ℕ, Bool, true, false, cond, eqb, ◌||◌, List, [], ◌∷◌, ◌++◌, map, length, get_or, Option, Some, None, refl, sym, ap, ◌∙◌}
+use Rattle.std.proofs.Common.{◌≡◌, ℕ, Bool, true, false, cond, eqb, ◌||◌, List, [], ◌∷◌, ◌++◌, map, get_or, Option, Some, None, refl, sym, ap, ◌∙◌}
 use Rattle.std.specs.Prelude.{ℤ}
 use Rattle.std.specs.Option.{option_map}
+use Rattle.std.specs.List.{list_any}
 use Rattle.std.proofs.lemmas.Bool.{eqb-true, eqb-false, eq-eqb, ne_eqb}
 use Rattle.std.proofs.lemmas.List.{map-append}
+use Rattle.std.proofs.lemmas.List.Folds.{list_any-append}
+use Rattle.std.proofs.lemmas.Option.{slice_get-get_or}
 use Rattle.asset_names.specs.declared.names.Ob.{Ob}
+use Rattle.asset_names.proofs.Common.{eqb-flip}
+use Rattle.asset_names.specs.declared.sets.ObSet.{ObSet}
+use Rattle.asset_names.specs.declared.sets.ObSet.TheVariants.{All, Listed}
+use Rattle.asset_names.specs.InSet.{in_set, only_in}
 use Rattle.asset_names.specs.Arrows.{lists}
 use Rattle.asset_names.specs.Sets.{numbers}
 use Rattle.asset_records.specs.declared.records.Record.{Record}
-use Rattle.asset_records.specs.Listed.{on, ChangesOn}
+use Rattle.asset_records.specs.Listed.{on, is_of}
 use Rattle.asset_records.specs.Handed.{renamed}
-use Rattle.asset_objects.specs.Cells.{Cell, cells, handed_write, handed_cell, change_where}
-use Rattle.asset_objects.specs.Placed.{base_of, write_of, writes_of, recorded_cell, value_at, cell_at, index_of, object_table}
+use Rattle.asset_objects.specs.Cells.{Written, Cell, ObjectTable, cells, has_written, handed_write, handed_cell, change_where}
+use Rattle.asset_objects.specs.Placed.{base_of, write_of, writes_of, recorded_cell, value_at, cell_at, index_of, is_in, is_among, object_table}
 use Rattle.asset_objects.proofs.PlacedLemmas.{index_reads, cells_placed}
 
 -- ---- one record
--- a record that is renamed is not renamed again
-renamed_twice : (giver taker : ℕ) (one : Record) → renamed giver taker (renamed giver taker one) ≡ renamed giver taker one
-unfolding renamed
-renamed_twice giver taker one = go (eqb one.owner.0 giver) refl where
-  moved : Record
-  moved = record one { owner = record { 0 = taker } }
-
-  same : (b : Bool) → cond b moved moved ≡ moved
-  same true = refl
-  same false = refl
-
-  go : (b : Bool) → eqb one.owner.0 giver ≡ b → renamed giver taker (cond b moved one) ≡ cond b moved one
-  go true e = same (eqb taker giver)
-  go false e = ap (λ (b : Bool). cond b moved one) e
-
-renamed_all_twice : (giver taker : ℕ) (records : List Record) → map (renamed giver taker) (map (renamed giver taker) records) ≡ map (renamed giver taker) records
-renamed_all_twice giver taker [] = refl
-renamed_all_twice giver taker (one ∷ records) = λ i. renamed_twice giver taker one i ∷ renamed_all_twice giver taker records i
-
 -- it keeps its before-image
 before_kept : (giver taker : ℕ) (one : Record) → (renamed giver taker one).before ≡ one.before
 unfolding renamed
@@ -66,25 +54,6 @@ pub cell_renamed : (giver taker : ℕ) (records : List Record) (value : ℤ) →
 unfolding recorded_cell handed_cell
 cell_renamed giver taker records value = λ i. record { base = base_renamed giver taker records value i; records = writes_renamed giver taker records value i }
 
--- ---- the listed objects, one by one
-pub lists_more : (listed : List Ob) (x : Ob) (y : ℕ) → lists (numbers (listed ++ x ∷ [])) y ≡ (lists (numbers listed) y || eqb x.0 y)
-unfolding lists numbers
-lists_more [] x y = either (eqb x.0 y) where
-  either : (b : Bool) → (b || false) ≡ b
-  either true = refl
-  either false = refl
-lists_more (z ∷ listed) x y = ap (λ (b : Bool). eqb z.0 y || b) (lists_more listed x y) ∙ regroup (eqb z.0 y) where
-  regroup : (b : Bool) → (b || (lists (numbers listed) y || eqb x.0 y)) ≡ ((b || lists (numbers listed) y) || eqb x.0 y)
-  regroup true = refl
-  regroup false = refl
-
-pub one_more : (giver taker : ℕ) (before here : Bool) (old now new : List Record) → now ≡ cond before (map (renamed giver taker) old) old → new ≡ cond here (map (renamed giver taker) now) now
-    → new ≡ cond (before || here) (map (renamed giver taker) old) old
-one_more giver taker true true old now new was is = is ∙ ap (map (renamed giver taker)) was ∙ renamed_all_twice giver taker old
-one_more giver taker true false old now new was is = is ∙ was
-one_more giver taker false true old now new was is = is ∙ ap (map (renamed giver taker)) was
-one_more giver taker false false old now new was is = is ∙ was
-
 -- ---- an object by its index
 same_index : (objects : List Ob) (x y j i : ℕ) → index_of objects x ≡ Some j → index_of objects y ≡ Some i → eqb j i ≡ eqb x y
 same_index objects x y j i at_x at_y = go (eqb x y) refl where
@@ -96,17 +65,9 @@ same_index objects x y j i at_x at_y = go (eqb x y) refl where
   go false e =
       ne_eqb j i (λ same. eqb-false x y e (sym ((index_reads objects x j at_x).1 (record { 0 = 0 })) ∙ ap (λ (n : ℕ). (get_or objects n (record { 0 = 0 })).0) same ∙ (index_reads objects y i at_y).1 (record { 0 = 0 })))
 
-pub one_handed : (giver taker : ℕ) (objects : List Ob) (x j : ℕ) (old new : List (List Record)) → index_of objects x ≡ Some j → ChangesOn j (map (renamed giver taker) (on old j)) old new
+pub one_handed : (giver taker : ℕ) (objects : List Ob) (x j : ℕ) (old new : List (List Record)) → index_of objects x ≡ Some j → ((i : ℕ) → on new i ≡ cond (eqb i j) (map (renamed giver taker) (on old i)) (on old i))
     → (y i : ℕ) → index_of objects y ≡ Some i → on new i ≡ cond (eqb x y) (map (renamed giver taker) (on old i)) (on old i)
-unfolding ChangesOn
-one_handed giver taker objects x j old new at changes y i there = changes.1 i ∙ go (eqb j i) refl ∙ ap (λ (b : Bool). cond b (map (renamed giver taker) (on old i)) (on old i)) (same_index objects x y j i at there) where
-  go : (b : Bool) → eqb j i ≡ b → cond (eqb j i) (map (renamed giver taker) (on old j)) (on old i) ≡ cond (eqb j i) (map (renamed giver taker) (on old i)) (on old i)
-  go true e = ap (λ (n : ℕ). cond (eqb j i) (map (renamed giver taker) (on old n)) (on old i)) (eqb-true j i e)
-  go false e = ap (λ (b : Bool). cond b (map (renamed giver taker) (on old j)) (on old i)) e ∙ sym (ap (λ (b : Bool). cond b (map (renamed giver taker) (on old i)) (on old i)) e)
-
-pub one_many : (j : ℕ) (records : List Record) (old new : List (List Record)) → ChangesOn j records old new → length new ≡ length old
-unfolding ChangesOn
-one_many j records old new changes = changes.0
+one_handed giver taker objects x j old new at changes y i there = changes i ∙ ap (λ (b : Bool). cond b (map (renamed giver taker) (on old i)) (on old i)) (eqb-flip i j ∙ same_index objects x y j i at there)
 
 -- an object that does not exist is none of those that do
 pub none_handed : (giver taker : ℕ) (objects : List Ob) (x : ℕ) (lists : List (List Record)) → index_of objects x ≡ None → (y i : ℕ) → index_of objects y ≡ Some i → on lists i ≡ cond (eqb x y) (map (renamed giver taker) (on lists i)) (on lists i)
@@ -115,16 +76,59 @@ none_handed giver taker objects x lists none y i there = go (eqb x y) refl where
   go true e = let wrong : None ≡ Some i = sym none ∙ ap (index_of objects) (eqb-true x y e) ∙ there in absurd (cc wrong)
   go false e = refl
 
-pub listed_nothing : (y : ℕ) → lists (numbers []) y ≡ false
-unfolding lists numbers
-listed_nothing y = refl
+-- the object with an index is in the set exactly if its name is
+pub among_is : (objects : List Ob) (set : ObSet) (y i : ℕ) → index_of objects y ≡ Some i → is_among objects set i ≡ in_set set y
+unfolding is_among is_in
+among_is objects set y i there =
+    let reads = index_reads objects y i there in
+    ap (is_in set) (slice_get-get_or objects i (record { 0 = 0 }) reads.0) ∙ ap (in_set set) (reads.1 (record { 0 = 0 }))
+
+-- a set that lists one object alone has that one
+pub only_is : (set : ObSet) (x : Ob) (y : ℕ) → only_in set ≡ Some x → in_set set y ≡ eqb x.0 y
+unfolding only_in in_set lists numbers
+only_is All x y only = cc only
+only_is (Listed []) x y only = cc only
+only_is (Listed (z ∷ [])) x y only = let same : z ≡ x = cc only in or_no (eqb z.0 y) ∙ ap (λ (o : Ob). eqb o.0 y) same where
+  or_no : (b : Bool) → (b || false) ≡ b
+  or_no true = refl
+  or_no false = refl
+only_is (Listed (z ∷ w ∷ more)) x y only = cc only
+
+-- ---- who wrote
+any_written : (t : ℕ) (records : List Record) (value : ℤ) → list_any (λ (write : Written). eqb write.owner t) (writes_of records value) ≡ list_any (is_of t) records
+unfolding writes_of write_of is_of
+any_written t [] value = refl
+any_written t (first ∷ later) value =
+    list_any-append (λ (write : Written). eqb write.owner t) (writes_of later value) (write_of first (base_of later value) ∷ [])
+    ∙ ap (λ (b : Bool). b || (eqb first.owner.0 t || false)) (any_written t later value)
+    ∙ turned (list_any (λ (one : Record). eqb one.owner.0 t) later) (eqb first.owner.0 t) where
+      turned : (a b : Bool) → (a || (b || false)) ≡ (b || a)
+      turned true true = refl
+      turned true false = refl
+      turned false true = refl
+      turned false false = refl
+
+-- an object whose cell has a write of the transaction's has a record of it
+pub written_on : (objects : List Ob) (values : List ℤ) (lists : List (List Record)) (reserved : Bool) (visits : ℕ) (table : ObjectTable) (t x : ℕ) (cell : Cell) → object_table objects values lists reserved visits ≡ table → cells table x ≡ Some cell
+    → has_written t cell ≡ true → (i : ℕ) × (index_of objects x ≡ Some i) × (list_any (is_of t) (on lists i) ≡ true)
+unfolding has_written cell_at recorded_cell
+written_on objects values lists reserved visits table t x cell view there wrote = go (index_of objects x) refl where
+  at : option_map (cell_at values lists) (index_of objects x) ≡ Some cell
+  at = sym (cells_placed objects values lists reserved visits x) ∙ ap (λ (table : ObjectTable). cells table x) view ∙ there
+
+  go : (o : Option ℕ) → index_of objects x ≡ o → (i : ℕ) × (index_of objects x ≡ Some i) × (list_any (is_of t) (on lists i) ≡ true)
+  go None e = let wrong : None ≡ Some cell = ap (option_map (cell_at values lists)) (sym e) ∙ at in absurd (cc wrong)
+  go (Some i) e =
+      let both : Some (cell_at values lists i) ≡ Some cell = ap (option_map (cell_at values lists)) (sym e) ∙ at in
+      let is : cell_at values lists i ≡ cell = cc both in
+      (i, e, sym (any_written t (on lists i) (value_at values i)) ∙ ap (λ (c : Cell). list_any (λ (write : Written). eqb write.owner t) c.records) is ∙ wrote)
 
 -- ---- what callers see
-pub where_handed : (test : ℕ → Bool) (giver taker : ℕ) (objects : List Ob) (values : List ℤ) (old new : List (List Record)) (reserved : Bool) (visits : ℕ)
+pub where_handed : (test : ℕ → Bool) (giver taker : ℕ) (objects : List Ob) (values : List ℤ) (old new : List (List Record)) (reserved : Bool) (visits after : ℕ)
     → ((y i : ℕ) → index_of objects y ≡ Some i → on new i ≡ cond (test y) (map (renamed giver taker) (on old i)) (on old i))
-    → cells (object_table objects values new reserved visits) ≡ change_where test (handed_cell giver taker) (cells (object_table objects values old reserved visits))
+    → cells (object_table objects values new reserved after) ≡ change_where test (handed_cell giver taker) (cells (object_table objects values old reserved visits))
 unfolding change_where cell_at
-where_handed test giver taker objects values old new reserved visits handed = λ k. λ y. each y k where
+where_handed test giver taker objects values old new reserved visits after handed = λ k. λ y. each y k where
   by_case : (b : Bool) (i : ℕ) → on new i ≡ cond b (map (renamed giver taker) (on old i)) (on old i)
       → Some (cell_at values new i) ≡ cond b (Some (handed_cell giver taker (cell_at values old i))) (Some (cell_at values old i))
   by_case true i is = ap Some (ap (λ (records : List Record). recorded_cell records (value_at values i)) is ∙ cell_renamed giver taker (on old i) (value_at values i))
@@ -138,9 +142,9 @@ where_handed test giver taker objects values old new reserved visits handed = λ
   go y None there = nothing (test y)
   go y (Some i) there = by_case (test y) i (handed y i there)
 
-  each : (y : ℕ) → cells (object_table objects values new reserved visits) y
+  each : (y : ℕ) → cells (object_table objects values new reserved after) y
       ≡ cond (test y) (option_map (handed_cell giver taker) (cells (object_table objects values old reserved visits) y)) (cells (object_table objects values old reserved visits) y)
   each y =
-      cells_placed objects values new reserved visits y
+      cells_placed objects values new reserved after y
       ∙ go y (index_of objects y) refl
       ∙ ap (λ (o : Option Cell). cond (test y) (option_map (handed_cell giver taker) o) o) (sym (cells_placed objects values old reserved visits y))

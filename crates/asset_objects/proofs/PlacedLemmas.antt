@@ -20,7 +20,8 @@ use Rattle.asset_records.specs.Listed.{on, ChangesOn}
 use Rattle.asset_records.proofs.ListedLemmas.{read_more}
 use Rattle.asset_objects.specs.Cells.{Written, Cell, ObjectTable, cells, fresh, opened, newest_or, shown, value_in, has_object, written, change_at, change_each, writes_by}
 use Rattle.asset_objects.specs.Faults.{objects_of}
-use Rattle.asset_objects.specs.Placed.{base_of, write_of, writes_of, recorded_cell, value_at, cell_at, index_of, rows_from, object_table, records_by, IsOpened}
+use Rattle.asset_records.specs.Listed.{records_by}
+use Rattle.asset_objects.specs.Placed.{base_of, write_of, writes_of, recorded_cell, value_at, cell_at, index_of, rows_from, object_table, IsOpened}
 use Rattle.asset_objects.proofs.CellLemmas.{owned_by, writes_count, cell_pushed}
 
 -- ---- a value in place

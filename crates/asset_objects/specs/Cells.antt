@@ -1,6 +1,6 @@
 -- The table of objects: of each object a base and the writes that stand over it.
 use Rattle.std.specs.Prelude.{ℕ, ℤ, Bool, true, cond, not, ◌==◌, List, [], ◌∷◌, filter, find, map, Option, option_map, is_some}
-use Rattle.std.specs.List.{count_by, sum_by}
+use Rattle.std.specs.List.{count_by, list_any, sum_by}
 use Rattle.asset_names.specs.Steps.{Opening}
 use Rattle.asset_names.specs.Operations.{opening_at}
 
@@ -18,7 +18,7 @@ pub record Cell : Type 0 where
 abbrev pub Cells : Type 0
 Cells = ℕ → Option Cell
 
--- the objects, each with its cell, whether one more write is reserved, and how many records the last end visited
+-- the objects, each with its cell, whether one more write is reserved, and how many records the last end or hand-over visited
 pub record ObjectTable : Type 0 where
   pub rows : List (ℕ × Cell)
   pub reserved : Bool
@@ -52,6 +52,10 @@ value_in cells x = option_map shown (cells x)
 -- whether the object exists
 unfoldable pub has_object : Cells → ℕ → Bool
 has_object cells x = is_some (cells x)
+
+-- whether a write of this owner stands
+unfoldable pub has_written : ℕ → Cell → Bool
+has_written owner cell = list_any (λ (write : Written). write.owner == owner) cell.records
 
 -- one more write
 unfoldable pub written : ℕ → ℤ → Cell → Cell

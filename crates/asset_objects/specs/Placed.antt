@@ -1,8 +1,9 @@
 -- How the table is stored: the objects in the order of the opening, and of each the value in place and the records of the
 -- writes that stand, oldest first. Each record has what its write found.
-use Rattle.std.specs.Prelude.{◌≡◌, ℕ, ℤ, pos, ◌+◌, suc, Bool, true, cond, ◌==◌, List, [], ◌∷◌, ◌++◌, length, map, slice_index_or, Option, Some, None, option_map}
-use Rattle.std.specs.List.{count_by, sum_by}
+use Rattle.std.specs.Prelude.{◌≡◌, ℕ, ℤ, pos, ◌+◌, suc, Bool, true, false, cond, ◌==◌, List, [], ◌∷◌, ◌++◌, length, map, slice_get, slice_index_or, Option, Some, None, option_map}
 use Rattle.asset_names.specs.declared.names.Ob.{Ob}
+use Rattle.asset_names.specs.declared.sets.ObSet.{ObSet}
+use Rattle.asset_names.specs.InSet.{in_set}
 use Rattle.asset_names.specs.Steps.{Opening}
 use Rattle.asset_records.specs.declared.records.Record.{Record}
 use Rattle.asset_records.specs.Listed.{Listed, on}
@@ -44,6 +45,11 @@ unfoldable pub rows_from : ℕ → List Ob → List ℤ → List (List Record) �
 rows_from i [] values lists = []
 rows_from i (x ∷ xs) values lists = (x.0, cell_at values lists i) ∷ rows_from (i + 1) xs values lists
 
+-- whether there is an object, and it is in the set
+unfoldable pub is_in : ObSet → Option Ob → Bool
+is_in set None = false
+is_in set (Some x) = in_set set x.0
+
 -- what callers see
 unfoldable pub object_table : List Ob → List ℤ → List (List Record) → Bool → ℕ → ObjectTable
 object_table objects values lists reserved visits = record { rows = rows_from 0 objects values lists; reserved = reserved; visits = visits }
@@ -61,6 +67,6 @@ pub record IsOpened (opening : Opening) (objects : List Ob) (values : List ℤ) 
   pub many : length lists ≡ length opening
   pub none : (i : ℕ) → on lists i ≡ []
 
--- how many records of those who pass the test stand
-unfoldable pub records_by : (ℕ → Bool) → List (List Record) → ℕ
-records_by test lists = sum_by (λ (records : List Record). count_by (λ (one : Record). test one.owner.0) records) lists
+-- whether the object with this index is in the set
+unfoldable pub is_among : List Ob → ObSet → ℕ → Bool
+is_among objects set i = is_in set (slice_get objects i)

@@ -2,7 +2,8 @@
 
 ghost use Rattle.std.specs.Prelude.{◌≡◌, ℕ, ◌==◌, ◌≤◌, ◌+◌, ◌*◌, ◌<◌, length, true, cond, unwrap_or};
 ghost use Rattle.asset_objects.specs.Cells.{undone, settled};
-ghost use Rattle.asset_objects.specs.Placed.{value_at, cell_at, records_by};
+ghost use Rattle.asset_records.specs.Listed.{records_by};
+ghost use Rattle.asset_objects.specs.Placed.{value_at, cell_at};
 
 use asset_names::Txn;
 use asset_records::Records;

@@ -41,11 +41,11 @@ pub enum ObjectsFault {
 }
 
 impl Objects {
-    ghost use Rattle.std.specs.Prelude.{◌≡◌, ℕ, ◌==◌, ◌≤◌, ◌+◌, ◌*◌, true, is_some, length, map, IfOk, IfErr, IsOk, OnOk, OnErr};
+    ghost use Rattle.std.specs.Prelude.{◌≡◌, ℕ, ◌==◌, ◌≤◌, ◌+◌, ◌*◌, true, false, Some, is_some, length, map, IfOk, IfErr, IsOk, OnOk, OnErr};
     ghost use Rattle.asset_names.specs.Steps.{Opening};
     ghost use Rattle.asset_names.specs.Sets.{HasNoDouble};
     ghost use Rattle.asset_names.specs.InSet.{in_set};
-    ghost use Rattle.asset_objects.specs.Cells.{cells, opened, value_in, has_object, written, undone, settled, handed_cell, change_at, change_each, change_where, writes_by, standing};
+    ghost use Rattle.asset_objects.specs.Cells.{Cell, cells, opened, value_in, has_object, has_written, written, undone, settled, handed_cell, change_at, change_each, change_where, writes_by, standing};
     ghost use Rattle.asset_objects.specs.Placed.{IsOpened};
     ghost use Rattle.asset_objects.specs.Faults.{objects_of, IsObjectsFault};
 
@@ -155,19 +155,21 @@ impl Objects {
     /// Makes the giver's writes on the objects of the set the taker's. No value changes, and nothing else does. Both may be
     /// one, which changes nothing.
     ///
-    /// It takes no memory. For a set of all objects it touches the records that change, and for each listed object those
-    /// on it.
+    /// It takes no memory. It looks at the giver's records, and at those beside the ones that change; for a set that lists
+    /// one object, at the records on it if they are fewer.
     pub fn hand_over(&mut self, giver: Txn, taker: Txn, objects: &ObSet)
         ensures cells { cells self.new ≡ change_where (in_set objects.now) (handed_cell giver.0 taker.0) (cells self.old) }
+        ensures counted { (taker.0 == giver.0) ≡ false → (x : ℕ) (cell : Cell) → cells self.old x ≡ Some cell → in_set objects.now x ≡ true → has_written giver.0 cell ≡ true → 1 ≤ self.new.visits }
+        ensures visits { self.new.visits ≤ 4 * writes_by (λ n. n == giver.0) self.old.rows }
         ensures reserved { self.old.reserved ≡ true → self.new.reserved ≡ true }
-        ensures visits { self.new.visits ≡ self.old.visits }
     {
         let placed = &mut self.placed;
-        handing::hand_over(&placed.objects, &mut placed.records, giver, taker, objects);
+        let records = &mut placed.records;
+        self.visits = handing::hand_over(&placed.objects, records, giver, taker, objects);
     }
 
-    /// Returns how many records the last `undo` or `settle` visited: each one that went, and each time those beside it
-    /// among the records of its object and of its owner. It is 0 before the first.
+    /// Returns how many records the last `undo`, `settle` or `hand_over` visited: each one that it looked at or that went,
+    /// and each time those beside it among the records of its object and of its owner. It is 0 before the first.
     pub fn visits(&self) -> usize
         ensures { result ≡ self.now.visits }
     {

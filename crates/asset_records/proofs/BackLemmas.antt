@@ -1,5 +1,5 @@
 -- The lists of records after one is taken back, or dropped with all before it.
-use Rattle.std.proofs.Common.{◌≡◌, ℕ, ◌+◌, ◌*◌, ◌≤◌, Bool, true, false, cond, eqb, ◌||◌, List, [], ◌∷◌, ◌++◌, map, Option, Some, None, is_some, length, refl, sym, ap, subst, ◌∙◌}
+use Rattle.std.proofs.Common.{◌≡◌, ℕ, ◌+◌, ◌*◌, ◌≤◌, Bool, true, false, cond, eqb, ◌||◌, List, [], ◌∷◌, ◌++◌, map, Option, Some, None, is_some, length, refl, sym, ap, subst, ◌∙◌, arith}
 use Rattle.std.specs.Prelude.{ℤ, unwrap_or}
 use Rattle.std.specs.Option.{option_map}
 use Rattle.std.specs.List.{IsDistinct}
@@ -7,13 +7,16 @@ use Rattle.std.proofs.lemmas.Bool.{eqb-true, eqb-false, eq-eqb, ne_eqb, true≢f
 use Rattle.std.proofs.lemmas.List.{length-map}
 use Rattle.slab.specs.Slab.{Slab, get, slab_len}
 use Rattle.asset_names.specs.declared.names.Txn.{Txn}
+use Rattle.asset_names.proofs.Common.{one_txn}
 use Rattle.asset_chains.specs.Chained.{Chained, chain_of, home_of, first_of, lists, without, ahead, behind, IsSound}
+use Rattle.asset_chains.specs.declared.side.Side.TheVariants.{Row, Column}
+use Rattle.asset_chains.specs.Crossed.{Crossed, IsCrossed}
 use Rattle.asset_chains.proofs.Laws.{chain_at_key, chain_without_key}
 use Rattle.asset_chains.proofs.SoundLemmas.{listed_once}
 use Rattle.asset_chains.proofs.KeyLemmas.{lists-append, distinct_head, distinct_tail, distinct_parts, listed_apart, without_unlisted}
 use Rattle.asset_records.specs.declared.records.Record.{Record}
 use Rattle.asset_seats.specs.Seated.{Seated, seat}
-use Rattle.asset_records.specs.Listed.{Listed, listed_of, on, no_record, record_at, at_keys, is_of, handed, restored_if_last, IsValid, ChangesOn, TakesBack, Settles, HasNone}
+use Rattle.asset_records.specs.Listed.{Listed, listed_of, on, no_record, record_at, at_keys, is_of, owner_at, total, handed, restored_if_last, IsValid, ChangesOn, TakesBack, Settles, HasNone}
 use Rattle.asset_records.specs.Dropped.{handed_at, restored_at}
 use Rattle.asset_records.proofs.ListedLemmas.{lists_are, on_chain, keys_append, keys_length, keys_same, any_key, has_record, home_of_owner}
 use Rattle.asset_records.proofs.DropLemmas.{read_some}
@@ -199,67 +202,53 @@ settles_through records fewer table less t k i visited gone sound sound_less hom
     go true e = ap (λ (n : ℕ). at_keys records (chain_of less n)) (sym (eqb-true i j e)) ∙ ap (at_keys records) rest
     go false e = ap (at_keys records) (others j (ne_eqb j i (λ same. eqb-false i j e (sym same)))) ∙ sym (on_chain records table j)
 
--- one without a seat, or whose chain is empty, has no record
-pub no_record_of : (records : Slab Record) (by_object by_owner : Chained) (owners : Seated) (t : Txn) → IsValid records by_object by_owner owners → IsSound by_object → IsSound by_owner
-    → ((c : ℕ) → seat owners c ≡ Some t → chain_of by_owner c ≡ []) → HasNone t.0 (map (at_keys records) by_object.chains)
+-- one without a seat, or whose column is empty, has no record
+pub no_record_of : (records : Crossed Record) (owners : Seated) (t : Txn) → IsValid records owners → IsCrossed records → ((c : ℕ) → seat owners c ≡ Some t → chain_of records.columns c ≡ []) → HasNone t.0 (map (at_keys records.items) records.rows.chains)
 unfolding HasNone is_of
-no_record_of records by_object by_owner owners t valid sound_object sound empty j = rw (on_chain records by_object j) (any_key records (λ one. eqb one.owner.0 t.0) (chain_of by_object j) none) where
-  none : (k : ℕ) → lists (chain_of by_object j) k ≡ true → eqb (record_at records k).owner.0 t.0 ≡ false
+no_record_of records owners t valid crossed empty j = rw (on_chain records.items records.rows j) (any_key records.items (λ one. eqb one.owner.0 t.0) (chain_of records.rows j) none) where
+  none : (k : ℕ) → lists (chain_of records.rows j) k ≡ true → eqb (record_at records.items k).owner.0 t.0 ≡ false
   none k among =
-      let held = has_record records by_object by_owner owners valid k j (sound_object.at_home j k among) in
-      let at = home_of_owner records by_object by_owner owners valid k held.0 held.1 in
-      ap (λ (one : Record). eqb one.owner.0 t.0) (read_some records k held.0 held.1)
-      ∙ ne_eqb held.0.owner.0 t.0 (λ same. listed_nowhere k at.0 at.1 (at.2 ∙ ap Some (one_name held.0.owner t same))) where
-        one_name : (a b : Txn) → a.0 ≡ b.0 → a ≡ b
-        one_name a b e = λ m. record { 0 = e m }
-
-        listed_nowhere : (k c : ℕ) → home_of by_owner k ≡ Some c → seat owners c ≡ Some t → ⊥
-        listed_nowhere k c home sat = true≢false (sym (sound.listed c k home) ∙ ap (λ (keys : List ℕ). lists keys k) (empty c sat))
+      let held = has_record records crossed k j ((crossed.sound Row).at_home j k among) in
+      let at = home_of_owner records owners valid k held.0 held.1 in
+      ap (λ (one : Record). eqb one.owner.0 t.0) (read_some records.items k held.0 held.1)
+      ∙ ne_eqb held.0.owner.0 t.0 (λ same. listed_nowhere k at.0 at.1 (at.2 ∙ ap Some (one_txn held.0.owner t same))) where
+        listed_nowhere : (k c : ℕ) → home_of records.columns k ≡ Some c → seat owners c ≡ Some t → ⊥
+        listed_nowhere k c home sat = true≢false (sym ((crossed.sound Column).listed c k home) ∙ ap (λ (keys : List ℕ). lists keys k) (empty c sat))
 
 -- ---- what callers see
-pub shown_none : (records : Slab Record) (by_object by_owner : Chained) (owners : Seated) (most : ℕ) (now : Listed) (t : ℕ) → listed_of records by_object by_owner owners most ≡ now → HasNone t (map (at_keys records) by_object.chains) → HasNone t now.lists
-shown_none records by_object by_owner owners most now t view none = subst (HasNone t) (sym (lists_are records by_object by_owner owners most now view)) none
+pub shown_none : (records : Crossed Record) (owners : Seated) (most : ℕ) (now : Listed) (t : ℕ) → listed_of records owners most ≡ now → HasNone t (map (at_keys records.items) records.rows.chains) → HasNone t now.lists
+shown_none records owners most now t view none = subst (HasNone t) (sym (lists_are records owners most now view)) none
 
-pub shown_back : (records fewer : Slab Record) (by_object less by_owner less_owner : Chained) (owners left : Seated) (most : ℕ) (now : Listed) (t i : ℕ) (restored : Option ℤ) → listed_of records by_object by_owner owners most ≡ now
-    → TakesBack t i restored (map (at_keys records) by_object.chains) (map (at_keys fewer) less.chains) → TakesBack t i restored now.lists (listed_of fewer less less_owner left most).lists
+pub shown_back : (records fewer : Crossed Record) (owners left : Seated) (most : ℕ) (now : Listed) (t i : ℕ) (restored : Option ℤ) → listed_of records owners most ≡ now
+    → TakesBack t i restored (map (at_keys records.items) records.rows.chains) (map (at_keys fewer.items) fewer.rows.chains) → TakesBack t i restored now.lists (listed_of fewer left most).lists
 unfolding listed_of
-shown_back records fewer by_object less by_owner less_owner owners left most now t i restored view back =
-    subst (λ (lists : List (List Record)). TakesBack t i restored lists (map (at_keys fewer) less.chains)) (ap (λ (l : Listed). l.lists) view) back
+shown_back records fewer owners left most now t i restored view back =
+    subst (λ (lists : List (List Record)). TakesBack t i restored lists (map (at_keys fewer.items) fewer.rows.chains)) (ap (λ (l : Listed). l.lists) view) back
 
-pub shown_settled : (records fewer : Slab Record) (by_object less by_owner less_owner : Chained) (owners left : Seated) (most : ℕ) (now : Listed) (t visited : ℕ) → listed_of records by_object by_owner owners most ≡ now
-    → Settles t visited (map (at_keys records) by_object.chains) (map (at_keys fewer) less.chains) → Settles t visited now.lists (listed_of fewer less less_owner left most).lists
+pub shown_settled : (records fewer : Crossed Record) (owners left : Seated) (most : ℕ) (now : Listed) (t visited : ℕ) → listed_of records owners most ≡ now
+    → Settles t visited (map (at_keys records.items) records.rows.chains) (map (at_keys fewer.items) fewer.rows.chains) → Settles t visited now.lists (listed_of fewer left most).lists
 unfolding listed_of
-shown_settled records fewer by_object less by_owner less_owner owners left most now t visited view went =
-    subst (λ (lists : List (List Record)). Settles t visited lists (map (at_keys fewer) less.chains)) (ap (λ (l : Listed). l.lists) view) went
+shown_settled records fewer owners left most now t visited view went =
+    subst (λ (lists : List (List Record)). Settles t visited lists (map (at_keys fewer.items) fewer.rows.chains)) (ap (λ (l : Listed). l.lists) view) went
 
 -- a before-image that is handed on moves no record, and changes no owner
-pub handed_valid : (records later : Slab Record) (by_object by_owner : Chained) (owners : Seated) (next : Option ℕ) (key : ℕ) → IsValid records by_object by_owner owners → ((k : ℕ) → get later k ≡ handed_at records next key k)
-    → slab_len later ≡ slab_len records → IsValid later by_object by_owner owners
+pub handed_valid : (records later : Crossed Record) (owners : Seated) (next : Option ℕ) (key : ℕ) → IsValid records owners → ((k : ℕ) → get later.items k ≡ handed_at records.items next key k) → later.rows ≡ records.rows → later.columns ≡ records.columns
+    → slab_len later.items ≡ slab_len records.items → IsValid later owners
 unfolding handed_at
-handed_valid records later by_object by_owner owners next key valid hands len = record {
-  placed = λ k. ap is_some (hands k) ∙ same_there next k ∙ valid.placed k;
-  owned = λ k. ap (option_map (λ (one : Record). one.owner)) (hands k) ∙ same_owner next k ∙ valid.owned k;
-  seated = valid.seated;
-  chained = valid.chained;
-  counted = valid.counted ∙ sym len;
+handed_valid records later owners next key valid hands rows columns len = record {
+  owned = λ k. ap (option_map (λ (one : Record). one.owner)) (hands k) ∙ same_owner next k ∙ valid.owned k ∙ sym (ap (λ (table : Chained). owner_at owners (home_of table k)) columns);
+  seated = λ c. valid.seated c ∙ sym (ap (λ (table : Chained). is_some (first_of (chain_of table c))) columns);
+  chained = omega (arith, valid.chained, ap (λ (table : Chained). length table.chains) columns);
+  counted = ap (λ (table : Chained). total table.chains) rows ∙ valid.counted ∙ sym len;
 } where
   over : Option Record → Option Record
-  over o = option_map (λ (one : Record). record one { before = (record_at records key).before }) o
-
-  there : (b : Bool) (o : Option Record) → is_some (cond b (over o) o) ≡ is_some o
-  there true None = refl
-  there true (Some one) = refl
-  there false o = refl
+  over o = option_map (λ (one : Record). record one { before = (record_at records.items key).before }) o
 
   whose : (b : Bool) (o : Option Record) → option_map (λ (one : Record). one.owner) (cond b (over o) o) ≡ option_map (λ (one : Record). one.owner) o
   whose true None = refl
   whose true (Some one) = refl
   whose false o = refl
 
-  same_there : (o : Option ℕ) (k : ℕ) → is_some (handed_at records o key k) ≡ is_some (get records k)
-  same_there None k = refl
-  same_there (Some n) k = there (eqb k n) (get records k)
-
-  same_owner : (o : Option ℕ) (k : ℕ) → option_map (λ (one : Record). one.owner) (handed_at records o key k) ≡ option_map (λ (one : Record). one.owner) (get records k)
+  same_owner : (o : Option ℕ) (k : ℕ) → option_map (λ (one : Record). one.owner) (handed_at records.items o key k) ≡ option_map (λ (one : Record). one.owner) (get records.items k)
   same_owner None k = refl
-  same_owner (Some n) k = whose (eqb k n) (get records k)
+  same_owner (Some n) k = whose (eqb k n) (get records.items k)

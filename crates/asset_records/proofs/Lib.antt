@@ -5,5 +5,8 @@ pub mod PushLemmas
 pub mod BackLemmas
 pub mod ThroughLemmas
 pub mod StretchLemmas
-pub mod ReserveLemmas
 pub mod HandLemmas
+pub mod WalkLemmas
+pub mod PassLemmas
+pub mod SeatLemmas
+pub mod CountLemmas

@@ -1,6 +1,6 @@
 -- Stretches of one owner's records: how changes of records change their number, and how many seats they take.
 use Rattle.std.proofs.Common.{◌≡◌, ℕ, zero, suc, ◌+◌, ◌<◌, ◌≤◌, ◌⊎◌, inl, inr, Bool, true, false, cond, eqb, ◌||◌, List, [], ◌∷◌, ◌++◌, map, Option, Some, None, is_some, length, refl, sym, ap, subst, ◌∙◌, arith}
-use Rattle.std.specs.Prelude.{ℤ, unwrap_or, slice_index_or}
+use Rattle.std.specs.Prelude.{ℤ}
 use Rattle.std.specs.Option.{option_map}
 use Rattle.std.specs.List.{list_any}
 use Rattle.std.proofs.lemmas.Bool.{eqb-true, eq-eqb, ne_eqb, true≢false, cases_eq}
@@ -9,11 +9,13 @@ use Rattle.std.proofs.lemmas.Map.Steps.{le-length_from_below}
 use Rattle.slab.specs.Slab.{Slab, get, slab_len}
 use Rattle.asset_names.specs.declared.names.Txn.{Txn}
 use Rattle.asset_names.proofs.Common.{some_of, one_txn}
-use Rattle.asset_chains.specs.Chained.{Chained, chain_of, home_of, first_of, last_of, ahead, lists, one_chain_more, IsSound}
+use Rattle.asset_chains.specs.Chained.{Chained, chain_of, home_of, first_of, last_of, ahead, lists, IsSound}
+use Rattle.asset_chains.specs.declared.side.Side.TheVariants.{Row, Column}
+use Rattle.asset_chains.specs.Crossed.{Crossed, IsCrossed}
 use Rattle.asset_chains.proofs.Laws.{chain_at_first, chain_at_last}
 use Rattle.asset_records.specs.declared.records.Record.{Record}
 use Rattle.asset_seats.specs.Seated.{Seated, seat}
-use Rattle.asset_records.specs.Listed.{on, at_keys, record_at, no_record, follows, stretches_after, stretches, is_of, handed, total, ChangesOn, TakesBack, Settles, IsValid, IsSpared}
+use Rattle.asset_records.specs.Listed.{on, at_keys, record_at, follows, stretches_after, stretches, is_of, handed, total, ChangesOn, TakesBack, Settles, IsValid, IsSpared}
 use Rattle.asset_records.specs.Dropped.{IsReadyFor}
 use Rattle.asset_records.specs.Handed.{renamed}
 use Rattle.asset_records.proofs.ListedLemmas.{on_chain, keys_length, has_owned, home_of_owner}
@@ -285,23 +287,23 @@ free_below owners (suc n) = elim (free_below owners n) [
     | inr differ ↦ full q (omega (arith, within, differ))
   ])
 
-module _ (records : Slab Record) (by_object by_owner : Chained) (owners : Seated) (valid : IsValid records by_object by_owner owners) (sound_object : IsSound by_object) (sound : IsSound by_owner)
+module _ (records : Crossed Record) (owners : Seated) (valid : IsValid records owners) (crossed : IsCrossed records)
     (one : (t : Txn) (c d : ℕ) → seat owners c ≡ Some t → seat owners d ≡ Some t → d ≡ c) where
   all : List (List Record)
-  all = map (at_keys records) by_object.chains
+  all = map (at_keys records.items) records.rows.chains
 
   -- who has a seat is the owner of a stretch
   seat_listed : (q : ℕ) (t : Txn) → seat owners q ≡ Some t → lists (owners_of all) t.0 ≡ true
   unfolding all is_of
   seat_listed q t there =
-      let first = some_of (first_of (chain_of by_owner q)) (sym (valid.seated q) ∙ ap is_some there) in
-      let home = (chain_at_first first.0 q by_owner sound first.1).0 in
-      let held = has_owned records by_object by_owner owners valid first.0 q t home there in
-      let place = some_of (home_of by_object first.0) (sym (valid.placed first.0) ∙ ap is_some held.1) in
-      all_listed t.0 place.0 (map (at_keys records) by_object.chains)
-      (ap (list_any (is_of t.0)) (on_chain records by_object place.0)
-      ∙ any_listed records (is_of t.0) (chain_of by_object place.0) first.0 (sound_object.listed place.0 first.0 place.1)
-      (ap (λ (r : Record). eqb r.owner.0 t.0) (read_some records first.0 held.0 held.1) ∙ eq-eqb held.0.owner.0 t.0 (ap (λ (u : Txn). u.0) held.2)))
+      let first = some_of (first_of (chain_of records.columns q)) (sym (valid.seated q) ∙ ap is_some there) in
+      let home = (chain_at_first first.0 q records.columns (crossed.sound Column) first.1).0 in
+      let held = has_owned records owners valid first.0 q t home there in
+      let place = some_of (home_of records.rows first.0) (crossed.placed Row first.0 ∙ ap is_some held.1) in
+      all_listed t.0 place.0 (map (at_keys records.items) records.rows.chains)
+      (ap (list_any (is_of t.0)) (on_chain records.items records.rows place.0)
+      ∙ any_listed records.items (is_of t.0) (chain_of records.rows place.0) first.0 ((crossed.sound Row).listed place.0 first.0 place.1)
+      (ap (λ (r : Record). eqb r.owner.0 t.0) (read_some records.items first.0 held.0 held.1) ∙ eq-eqb held.0.owner.0 t.0 (ap (λ (u : Txn). u.0) held.2)))
 
   all_seated : (n : ℕ) → ((q : ℕ) → q < n → is_some (seat owners q) ≡ true) → n ≤ stretches all
   all_seated n full =
@@ -314,7 +316,7 @@ module _ (records : Slab Record) (by_object by_owner : Chained) (owners : Seated
             (listed_mapped (seat_number owners n) (owners_of all) held.0.0 (seat_listed q held.0 held.1))
 
   -- so with fewer stretches than seats, a seat is free
-  pub seat_spare : (most : ℕ) → stretches (map (at_keys records) by_object.chains) ≤ most → most < length owners.slots
+  pub seat_spare : (most : ℕ) → stretches (map (at_keys records.items) records.rows.chains) ≤ most → most < length owners.slots
       → ((c : ℕ) → c < length owners.slots → seat owners c ≡ None → owners.has_room ≡ true) → owners.has_room ≡ true
   unfolding all
   seat_spare most bound spare law = elim (free_below owners (length owners.slots)) [
@@ -323,18 +325,18 @@ module _ (records : Slab Record) (by_object by_owner : Chained) (owners : Seated
   ]
 
   -- who has a record makes a stretch
-  some_stretch : (k : ℕ) → is_some (get records k) ≡ true → 0 < stretches all
+  some_stretch : (k : ℕ) → is_some (get records.items k) ≡ true → 0 < stretches all
   some_stretch k there =
-      let held = some_of (get records k) there in
-      let at = home_of_owner records by_object by_owner owners valid k held.0 held.1 in
+      let held = some_of (get records.items k) there in
+      let at = home_of_owner records owners valid k held.0 held.1 in
       omega (arith, not_empty (owners_of all) held.0.owner.0 (seat_listed at.0 held.0.owner at.2), all_many all) where
         not_empty : (xs : List ℕ) (t : ℕ) → lists xs t ≡ true → 0 < length xs
         not_empty [] t h = absurd (true≢false (sym h))
         not_empty (x ∷ xs) t h = omega arith
 
   -- so if there is a record, a seat is free for everybody
-  pub seat_ready : (most : ℕ) → IsSpared records by_object owners most → ((c : ℕ) → c < length owners.slots → seat owners c ≡ None → owners.has_room ≡ true)
-      → (k : ℕ) → is_some (get records k) ≡ true → (t : Txn) → IsReadyFor t owners
+  pub seat_ready : (most : ℕ) → IsSpared (map (at_keys records.items) records.rows.chains) owners most → ((c : ℕ) → c < length owners.slots → seat owners c ≡ None → owners.has_room ≡ true)
+      → (k : ℕ) → is_some (get records.items k) ≡ true → (t : Txn) → IsReadyFor t owners
   unfolding all
   seat_ready most spared law k there t = λ absent. seat_spare most spared.bound (spared.spare (omega (arith, some_stretch k there, spared.bound))) law
 
@@ -343,69 +345,55 @@ at_most : (most slots : ℕ) → (0 < most → most < slots) → most ≤ slots
 at_most zero slots spare = omega arith
 at_most (suc most) slots spare = omega (arith, spare (omega arith))
 
-pub spared_slots : (records : Slab Record) (by_object : Chained) (owners : Seated) (most : ℕ) → IsSpared records by_object owners most → most ≤ length owners.slots
-spared_slots records by_object owners most spared = at_most most (length owners.slots) spared.spare
+pub spared_slots : (shown : List (List Record)) (owners : Seated) (most : ℕ) → IsSpared shown owners most → most ≤ length owners.slots
+spared_slots shown owners most spared = at_most most (length owners.slots) spared.spare
 
--- no more stretches, and as many seats
-pub spared_less : (records more : Slab Record) (by_object longer : Chained) (owners left : Seated) (most : ℕ) → IsSpared records by_object owners most → length left.slots ≡ length owners.slots
-    → stretches (map (at_keys more) longer.chains) ≤ stretches (map (at_keys records) by_object.chains) → IsSpared more longer left most
-spared_less records more by_object longer owners left most spared slots less = record {
+-- no more stretches, and at least as many seats
+pub spared_less : (old new : List (List Record)) (owners left : Seated) (most : ℕ) → IsSpared old owners most → length owners.slots ≤ length left.slots → stretches new ≤ stretches old → IsSpared new left most
+spared_less old new owners left most spared slots less = record {
   bound = omega (arith, spared.bound, less);
   spare = λ some. omega (arith, spared.spare some, slots);
 }
 
--- room that was made
-pub spared_kept : (records more : Slab Record) (by_object longer : Chained) (owners seated_more : Seated) (most : ℕ) → IsSpared records by_object owners most → more.slots ≡ records.slots → longer.chains ≡ by_object.chains
-    → length owners.slots ≤ length seated_more.slots → IsSpared more longer seated_more most
-unfolding at_keys record_at
-spared_kept records more by_object longer owners seated_more most spared slots chains grown = record {
-  bound = omega (arith, spared.bound, ap stretches lists);
-  spare = λ some. omega (arith, spared.spare some, grown);
-} where
-  lists : map (λ (keys : List ℕ). map (λ (k : ℕ). unwrap_or (slice_index_or more.slots k None) no_record) keys) longer.chains
-      ≡ map (λ (keys : List ℕ). map (λ (k : ℕ). unwrap_or (slice_index_or records.slots k None) no_record) keys) by_object.chains
-  lists = λ i. map (λ (keys : List ℕ). map (λ (k : ℕ). unwrap_or (slice_index_or (slots i) k None) no_record) keys) (chains i)
-
 -- the lesser number of stretches and of records
-pub spared_lesser : (records : Slab Record) (by_object : Chained) (owners : Seated) (most least : ℕ) → IsSpared records by_object owners most → total by_object.chains ≡ slab_len records → least ≤ most → (least ≡ most) ⊎ (least ≡ slab_len records)
-    → IsSpared records by_object owners least
-spared_lesser records by_object owners most least spared counted le is = record {
+pub spared_lesser : (records : Slab Record) (table : Chained) (owners : Seated) (most least : ℕ) → IsSpared (map (at_keys records) table.chains) owners most → total table.chains ≡ slab_len records → least ≤ most → (least ≡ most) ⊎ (least ≡ slab_len records)
+    → IsSpared (map (at_keys records) table.chains) owners least
+spared_lesser records table owners most least spared counted le is = record {
   bound = elim is [
     | inl same ↦ omega (arith, spared.bound, same)
-    | inr len ↦ omega (arith, few_in_all records by_object.chains, counted, len)
+    | inr len ↦ omega (arith, few_in_all records table.chains, counted, len)
   ];
   spare = λ some. omega (arith, spared.spare (omega (arith, some, le)), le);
 }
 
 -- nothing, at first
-pub spared_nothing : (records : Slab Record) (by_object : Chained) (owners : Seated) → by_object.chains ≡ [] → IsSpared records by_object owners 0
-spared_nothing records by_object owners none = record {
-  bound = omega (arith, ap (λ (l : List (List ℕ)). stretches (map (at_keys records) l)) none);
+pub spared_nothing : (shown : List (List Record)) (owners : Seated) → shown ≡ [] → IsSpared shown owners 0
+spared_nothing shown owners none = record {
+  bound = omega (arith, ap stretches none);
   spare = λ some. absurd (omega (arith, some));
 }
 
 -- an object more
-pub spared_more : (records : Slab Record) (by_object longer : Chained) (owners : Seated) (most : ℕ) → IsSpared records by_object owners most → longer ≡ one_chain_more by_object → IsSpared records longer owners most
-unfolding one_chain_more at_keys
-spared_more records by_object longer owners most spared more = record {
-  bound = omega (arith, spared.bound, ap (λ (table : Chained). stretches (map (at_keys records) table.chains)) more, ap stretches (map-append (at_keys records) by_object.chains ([] ∷ [])), nothing_more (map (at_keys records) by_object.chains));
+pub spared_more : (old new : List (List Record)) (owners : Seated) (most : ℕ) → IsSpared old owners most → new ≡ old ++ [] ∷ [] → IsSpared new owners most
+spared_more old new owners most spared more = record {
+  bound = omega (arith, spared.bound, ap stretches more, nothing_more old);
   spare = spared.spare;
 } where
-  nothing_more : (all : List (List Record)) → stretches (all ++ [] ∷ []) ≡ stretches all
+  nothing_more : (shown : List (List Record)) → stretches (shown ++ [] ∷ []) ≡ stretches shown
   nothing_more [] = refl
-  nothing_more (records ∷ all) = omega (arith, nothing_more all)
+  nothing_more (records ∷ shown) = omega (arith, nothing_more shown)
 
 -- a record more
-pub spared_pushed : (records more : Slab Record) (by_object longer : Chained) (owners seated_more : Seated) (most next i : ℕ) (update : Record) → IsSpared records by_object owners most
-    → ChangesOn i (on (map (at_keys records) by_object.chains) i ++ update ∷ []) (map (at_keys records) by_object.chains) (map (at_keys more) longer.chains)
-    → stretches_after None (at_keys records (chain_of by_object i) ++ update ∷ []) + most ≤ stretches_after None (at_keys records (chain_of by_object i)) + next
-    → next ≤ most + 1 → most + 1 < length owners.slots → length seated_more.slots ≡ length owners.slots → IsSpared more longer seated_more next
-spared_pushed records more by_object longer owners seated_more most next i update spared changes counted bound room slots = record {
-  bound = omega (arith, spared.bound, more_on i most next (on (map (at_keys records) by_object.chains) i ++ update ∷ []) (map (at_keys records) by_object.chains) (map (at_keys more) longer.chains) changes here);
+pub spared_pushed : (records : Slab Record) (table : Chained) (new : List (List Record)) (owners seated_more : Seated) (most next i : ℕ) (update : Record) → IsSpared (map (at_keys records) table.chains) owners most
+    → ChangesOn i (on (map (at_keys records) table.chains) i ++ update ∷ []) (map (at_keys records) table.chains) new
+    → stretches_after None (at_keys records (chain_of table i) ++ update ∷ []) + most ≤ stretches_after None (at_keys records (chain_of table i)) + next
+    → next ≤ most + 1 → most + 1 < length owners.slots → length seated_more.slots ≡ length owners.slots → IsSpared new seated_more next
+spared_pushed records table new owners seated_more most next i update spared changes counted bound room slots = record {
+  bound = omega (arith, spared.bound, more_on i most next (on (map (at_keys records) table.chains) i ++ update ∷ []) (map (at_keys records) table.chains) new changes here);
   spare = λ some. omega (arith, bound, room, slots);
 } where
-  here : stretches_after None (on (map (at_keys records) by_object.chains) i ++ update ∷ []) + most ≤ stretches_after None (on (map (at_keys records) by_object.chains) i) + next
-  here = subst (λ (l : List Record). stretches_after None (l ++ update ∷ []) + most ≤ stretches_after None l + next) (sym (on_chain records by_object i)) counted
+  here : stretches_after None (on (map (at_keys records) table.chains) i ++ update ∷ []) + most ≤ stretches_after None (on (map (at_keys records) table.chains) i) + next
+  here = subst (λ (l : List Record). stretches_after None (l ++ update ∷ []) + most ≤ stretches_after None l + next) (sym (on_chain records table i)) counted
 
 -- the records of keys that end with this one
 end_is : (records : Slab Record) (keys older : List ℕ) (key : ℕ) (last : Record) → keys ≡ older ++ key ∷ [] → get records key ≡ Some last → at_keys records keys ≡ at_keys records older ++ last ∷ []
@@ -413,13 +401,13 @@ unfolding at_keys
 end_is records keys older key last cut there = ap (map (record_at records)) cut ∙ map-append (record_at records) older (key ∷ []) ∙ (λ m. map (record_at records) older ++ read_some records key last there m ∷ [])
 
 -- the stretches with a record that comes last on an object: no more of them if it comes after one of its owner
-pub counted_last : (records : Slab Record) (by_object : Chained) (i key many : ℕ) (last update : Record) → IsSound by_object → last_of (chain_of by_object i) ≡ Some key → get records key ≡ Some last → update.owner.0 ≡ last.owner.0
-    → stretches_after None (at_keys records (chain_of by_object i) ++ update ∷ []) + many ≤ stretches_after None (at_keys records (chain_of by_object i)) + many
-counted_last records by_object i key many last update sound is there same =
-    let older : List ℕ = ahead key (chain_of by_object i) in
-    let read : at_keys records (chain_of by_object i) ≡ at_keys records older ++ last ∷ [] = end_is records (chain_of by_object i) older key last (chain_at_last key i by_object sound is).2 there in
+pub counted_last : (records : Slab Record) (table : Chained) (i key many : ℕ) (last update : Record) → IsSound table → last_of (chain_of table i) ≡ Some key → get records key ≡ Some last → update.owner.0 ≡ last.owner.0
+    → stretches_after None (at_keys records (chain_of table i) ++ update ∷ []) + many ≤ stretches_after None (at_keys records (chain_of table i)) + many
+counted_last records table i key many last update sound is there same =
+    let older : List ℕ = ahead key (chain_of table i) in
+    let read : at_keys records (chain_of table i) ≡ at_keys records older ++ last ∷ [] = end_is records (chain_of table i) older key last (chain_at_last key i table sound is).2 there in
     subst (λ (l : List Record). stretches_after None (l ++ update ∷ []) + many ≤ stretches_after None l + many) (sym read) (omega (arith, none_more None (at_keys records older) last update same))
 
-pub counted_more : (records : Slab Record) (by_object : Chained) (i many : ℕ) (update : Record)
-    → stretches_after None (at_keys records (chain_of by_object i) ++ update ∷ []) + many ≤ stretches_after None (at_keys records (chain_of by_object i)) + (many + 1)
-counted_more records by_object i many update = omega (arith, one_more None (at_keys records (chain_of by_object i)) update)
+pub counted_more : (records : Slab Record) (table : Chained) (i many : ℕ) (update : Record)
+    → stretches_after None (at_keys records (chain_of table i) ++ update ∷ []) + many ≤ stretches_after None (at_keys records (chain_of table i)) + (many + 1)
+counted_more records table i many update = omega (arith, one_more None (at_keys records (chain_of table i)) update)

@@ -1,10 +1,9 @@
 -- The first record of an object is dropped.
-use Rattle.std.proofs.Common.{◌≡◌, ℕ, ◌+◌, ◌<◌, ◌≤◌, suc, Bool, true, false, cond, eqb, List, [], ◌∷◌, ◌++◌, Some, None, is_some, length, refl, sym, ap, ◌∙◌, arith, if◌then◌else◌}
-use Rattle.std.specs.Prelude.{◌^◌}
+use Rattle.std.proofs.Common.{◌≡◌, ℕ, ◌+◌, ◌≤◌, suc, Bool, true, false, cond, eqb, List, [], ◌∷◌, ◌++◌, Some, None, is_some, length, refl, sym, ap, ◌∙◌, arith, if◌then◌else◌}
 use Rattle.std.proofs.lemmas.Bool.{eqb-false, true≢false, false≢true}
 use Rattle.slab.specs.Slab.{Slab, get}
 use Rattle.asset_chains.specs.Chained.{Chained, chain_of, home_of, first_of, without, ahead, behind, lists, IsSound}
-use Rattle.asset_chains.proofs.Laws.{chain_at_first, chain_without_key, chain_bound}
+use Rattle.asset_chains.proofs.Laws.{chain_at_first, chain_without_key}
 use Rattle.asset_chains.proofs.SoundLemmas.{listed_once}
 use Rattle.asset_chains.proofs.KeyLemmas.{without_unlisted}
 use Rattle.asset_records.specs.declared.records.Record.{Record}
@@ -55,16 +54,13 @@ kept_after initial now new key drops kept k there = go (eqb k key) refl where
 pub home_after : (table less : Chained) (key last i : ℕ) → ((k : ℕ) → home_of less k ≡ cond (eqb k key) None (home_of table k)) → eqb last key ≡ false → home_of table last ≡ Some i → home_of less last ≡ Some i
 home_after table less key last i homes apart home = homes last ∙ ap (λ (b : Bool). cond b None (home_of table last)) apart ∙ home
 
--- the keys ahead of one are no more than the keys, which are fewer than 2^32
-ahead_le : (k : ℕ) (keys : List ℕ) → length (ahead k keys) ≤ length keys
+-- the keys ahead of one are no more than the keys
+pub ahead_le : (k : ℕ) (keys : List ℕ) → length (ahead k keys) ≤ length keys
 ahead_le k [] = omega arith
 ahead_le k (x ∷ keys) = go (eqb k x) (ahead_le k keys) where
   go : (b : Bool) → length (ahead k keys) ≤ length keys → length (if b then [] else x ∷ ahead k keys) ≤ suc (length keys)
   go true le = omega arith
   go false le = omega (arith, le)
-
-pub few_ahead : (table : Chained) (c k : ℕ) → IsSound table → length table.homes < 2 ^ 32 → length (ahead k (chain_of table c)) < 2 ^ 32
-few_ahead table c k sound few = omega (arith, few, chain_bound c table sound, ahead_le k (chain_of table c))
 
 -- a chain that lists a key has a first one
 pub first_there : (keys : List ℕ) (k : ℕ) → first_of keys ≡ None → lists keys k ≡ true → ⊥

@@ -1,9 +1,10 @@
--- The records of each object, in a slab that stands beside two partitions of its keys into chains: by object, and by
--- owner.
+-- The records of each object, each in the row of its object and in the column of its owner. The number of a column is the
+-- owner's seat.
 use Rattle.std.specs.Prelude.{◌≡◌, ℕ, ℤ, pos, ◌+◌, ◌*◌, ◌≤◌, ◌<◌, Bool, false, cond, ◌==◌, ◌&&◌, nat_lt, List, [], ◌∷◌, ◌++◌, length, map, Option, Some, None, option_map, is_some, unwrap_or, slice_index_or}
-use Rattle.std.specs.List.{list_any}
+use Rattle.std.specs.List.{list_any, count_by, sum_by}
 use Rattle.slab.specs.Slab.{Slab, get, slab_len}
-use Rattle.asset_chains.specs.Chained.{Chained, chain_of, home_of, first_of}
+use Rattle.asset_chains.specs.Chained.{chain_of, home_of, first_of}
+use Rattle.asset_chains.specs.Crossed.{Crossed, has_room as has_slot}
 use Rattle.asset_names.specs.declared.names.Txn.{Txn}
 use Rattle.asset_records.specs.declared.records.Record.{Record}
 use Rattle.asset_seats.specs.Seated.{Seated, seat}
@@ -54,37 +55,31 @@ abbrev pub stretches : List (List Record) → ℕ
 stretches [] = 0
 stretches (records ∷ lists) = stretches_after None records + stretches lists
 
--- whether one more record finds a slot, a key in each partition, and a seat that no owner needs
-unfoldable pub has_room : Slab Record → Chained → Chained → Seated → ℕ → Bool
-has_room records by_object by_owner owners most =
-    nat_lt (slab_len records) records.capacity
-    && nat_lt records.vacant_key (length by_object.homes)
-    && nat_lt records.vacant_key (length by_owner.homes)
-    && nat_lt (most + 1) (length owners.slots)
+-- whether one more record finds a slot, and a seat that no owner needs
+unfoldable pub has_room : Crossed Record → Seated → ℕ → Bool
+has_room records owners most = has_slot records && nat_lt (most + 1) (length owners.slots)
 
--- the records of each object, by its chain
-unfoldable pub listed_of : Slab Record → Chained → Chained → Seated → ℕ → Listed
-listed_of records by_object by_owner owners most = record { lists = map (at_keys records) by_object.chains; reserved = has_room records by_object by_owner owners most }
+-- the records of each object, by its row
+unfoldable pub listed_of : Crossed Record → Seated → ℕ → Listed
+listed_of records owners most = record { lists = map (at_keys records.items) records.rows.chains; reserved = has_room records owners most }
 
--- each record is in the chain of an object and in that of its owner, and nothing else is in a chain; and exactly those
--- who have a record have a seat, with its chain
-pub record IsValid (records : Slab Record) (by_object by_owner : Chained) (owners : Seated) : Type 0 where
-  pub placed : (k : ℕ) → is_some (get records k) ≡ is_some (home_of by_object k)
-  pub owned : (k : ℕ) → option_map (λ (one : Record). one.owner) (get records k) ≡ owner_at owners (home_of by_owner k)
-  pub seated : (c : ℕ) → is_some (seat owners c) ≡ is_some (first_of (chain_of by_owner c))
-  pub chained : length owners.slots ≤ length by_owner.chains
-  pub counted : total by_object.chains ≡ slab_len records
+-- each record is in the column of its owner's seat; and exactly those who have a record have a seat, with its column
+pub record IsValid (records : Crossed Record) (owners : Seated) : Type 0 where
+  pub owned : (k : ℕ) → option_map (λ (one : Record). one.owner) (get records.items k) ≡ owner_at owners (home_of records.columns k)
+  pub seated : (c : ℕ) → is_some (seat owners c) ≡ is_some (first_of (chain_of records.columns c))
+  pub chained : length owners.slots ≤ length records.columns.chains
+  pub counted : total records.rows.chains ≡ slab_len records.items
 
 -- there are at most so many stretches of one owner's records, and more seats than that, so that a change of owners, which
 -- makes no more stretches, takes no memory
-pub record IsSpared (records : Slab Record) (by_object : Chained) (owners : Seated) (most : ℕ) : Type 0 where
-  pub bound : stretches (map (at_keys records) by_object.chains) ≤ most
+pub record IsSpared (lists : List (List Record)) (owners : Seated) (most : ℕ) : Type 0 where
+  pub bound : stretches lists ≤ most
   pub spare : 0 < most → most < length owners.slots
 
--- the records, in their chains, with the seats that they need
-pub record IsWhole (records : Slab Record) (by_object by_owner : Chained) (owners : Seated) (most : ℕ) : Type 0 where
-  pub valid : IsValid records by_object by_owner owners
-  pub spared : IsSpared records by_object owners most
+-- the records, each in its row and its column, with the seats that they need
+pub record IsWhole (records : Crossed Record) (owners : Seated) (most : ℕ) : Type 0 where
+  pub valid : IsValid records owners
+  pub spared : IsSpared (map (at_keys records.items) records.rows.chains) owners most
 
 -- whether the record is the transaction's
 unfoldable pub is_of : ℕ → Record → Bool
@@ -129,3 +124,7 @@ pub record Settles (t : ℕ) (visited : ℕ) (old new : List (List Record)) : Ty
 -- the transaction has no record
 unfoldable pub HasNone : ℕ → List (List Record) → Type 0
 HasNone t lists = (j : ℕ) → list_any (is_of t) (on lists j) ≡ false
+
+-- how many records of those who pass the test stand
+unfoldable pub records_by : (ℕ → Bool) → List (List Record) → ℕ
+records_by test lists = sum_by (λ (records : List Record). count_by (λ (one : Record). test one.owner.0) records) lists

@@ -1,148 +1,236 @@
 //! Records that become another transaction's. This takes no memory, because there is a seat for each stretch of
 //! one owner's records on an object, and one more: these stretches go over whole.
 
-ghost use Rattle.std.specs.Prelude.{◌≡◌, ◌≢◌, ℕ, ◌==◌, cond, true, false, length, is_some, IfSome, IfNone, Some, option_map};
+ghost use Rattle.std.specs.Prelude.{◌≡◌, ◌≢◌, ℕ, ◌==◌, ◌≤◌, ◌*◌, ◌<◌, true, false, length, is_some, Some, IfSome};
 ghost use Rattle.slab.specs.Slab.{get};
 ghost use Rattle.asset_names.specs.declared.names.Txn.{Txn};
-ghost use Rattle.asset_chains.specs.Chained.{chain_of, home_of, without};
+ghost use Rattle.asset_chains.specs.Chained.{chain_of, home_of};
 ghost use Rattle.asset_seats.specs.Seated.{seat};
 ghost use Rattle.asset_records.specs.Listed.{IsValid, has_room};
 ghost use Rattle.asset_records.specs.Dropped.{IsReadyFor};
-ghost use Rattle.asset_records.specs.Handed.{renamed, owned_by, handed_to};
+ghost use Rattle.asset_records.specs.Handed.{is_picked, is_at, goes, picked_at, stands_in, HandedOne, IsHanded, HandsOver};
 
-use crate::dropping::leave_owner;
+use crate::dropping::{counted, leave_if_empty};
 use crate::owning::seat_for;
 use crate::records::Record;
-use asset_chains::Chains;
+use asset_chains::{Crossed, Side};
 use asset_names::Txn;
 use asset_seats::Seats;
-use slab::Slab;
 
-/// Makes the record at the key the taker's.
-fn rename(records: &mut Slab<Record>, key: usize, taker: Txn)
-    requires { is_some (get records.old key) ≡ true }
-    ensures { records.new ≡ handed_to taker key records.old }
-{
-    if let Some(record) = records.get_mut(key) {
-        record.owner = taker;
+/// The objects whose records a hand-over takes, by their indexes.
+pub trait Picks {
+    ghost use Rattle.std.specs.Prelude.{◌≡◌, ◌==◌, ℕ, Bool, IfSome};
+
+    ghost picks: { Self → ℕ → Bool };
+
+    /// Returns whether the records of the object at this index are taken.
+    fn picks(&self, object: usize) -> bool
+        ensures { result ≡ picks self.now object };
+
+    /// Returns the index of an object if its records alone are taken, and `None` if others may be taken too.
+    fn only(&self) -> Option<usize>
+        ensures { IfSome result (λ i. (j : ℕ) → picks self.now j ≡ (j == i)) };
+}
+
+/// One object alone.
+#[derive(Clone, Copy)]
+pub(crate) struct One {
+    pub object: usize,
+}
+
+impl Picks for One {
+    ghost use Rattle.std.specs.Prelude.{◌==◌};
+
+    ghost picks = { λ one j. j == one.object };
+
+    fn picks(&self, object: usize) -> bool {
+        object == self.object
+    }
+
+    fn only(&self) -> Option<usize> {
+        Some(self.object)
     }
 }
 
-/// Makes the record at the key the taker's, in the slab and in the chains of owners. An owner who has no other record
-/// leaves its seat.
-fn move_at(
-    records: &mut Slab<Record>,
-    by_object: &Chains,
-    by_owner: &mut Chains,
-    owners: &mut Seats,
-    key: usize,
-    taker: Txn,
-)
-    requires valid { IsValid records.old by_object.now by_owner.old owners.old }
-    requires there { is_some (get records.old key) ≡ true }
-    requires ready { IsReadyFor taker owners.old }
-    ensures valid { IsValid records.new by_object.now by_owner.new owners.new }
-    ensures records { records.new ≡ handed_to taker key records.old }
-    ensures ready { IsReadyFor taker owners.new }
-    ensures slots { length owners.new.slots ≡ length owners.old.slots }
-    ensures room { (most : ℕ) → has_room records.new by_object.now by_owner.new owners.new most ≡ has_room records.old by_object.now by_owner.old owners.old most }
-{
-    by_object.laws();
-    by_owner.laws();
-    leave_owner(by_owner, owners, key);
-    let seat = seat_for(owners, taker);
-    by_owner.push(seat, key);
-    rename(records, key, taker);
+/// Where records go: the taker, and its seat.
+#[derive(Clone, Copy)]
+pub(crate) struct Destination {
+    pub taker: Txn,
+    pub seat: usize,
 }
 
-/// Returns whether the record at the key is the transaction's.
-fn is_of(records: &Slab<Record>, key: usize, t: Txn) -> bool
-    ensures { result ≡ owned_by t.0 (get records.now key) }
+/// Moves the record at the key to the column of the taker, whose it is then. Returns how many records were visited beside
+/// it: its neighbours, and the one that was the taker's last.
+fn move_at(records: &mut Crossed<Record>, key: usize, to: Destination) -> usize
+    requires there { is_some (get records.old.items key) ≡ true }
+    requires seat { to.seat < length records.old.columns.chains }
+    ensures one { HandedOne key to.taker to.seat records.old records.new }
+    ensures few { result ≤ 3 }
 {
-    match records.get(key) {
-        Some(record) => record.owner.0 == t.0,
+    records.laws();
+    let beside = counted(records.previous(Side::Column, key));
+    let after = counted(records.next(Side::Column, key));
+    let last = counted(records.last(Side::Column, to.seat));
+    records.move_to(Side::Column, key, to.seat);
+    let Some(record) = records.get(key).copied() else {
+        unreachable!();
+    };
+    let owner = to.taker;
+    records.replace(key, Record { owner, ..record });
+    beside + after + last
+}
+
+/// Returns whether there is a record at the key, and its object is picked.
+fn is_picked<P: Picks>(records: &Crossed<Record>, picks: &P, key: usize) -> bool
+    ensures { result ≡ is_picked (P.picks picks.now) (home_of records.now.rows key) }
+{
+    match records.home(Side::Row, key) {
+        Some(object) => picks.picks(object),
         None => false,
     }
 }
 
-/// Makes the record at the key the taker's if it is the giver's.
-fn pass_on(
-    records: &mut Slab<Record>,
-    by_object: &Chains,
-    by_owner: &mut Chains,
-    owners: &mut Seats,
-    key: usize,
-    giver: Txn,
-    taker: Txn,
-)
-    requires valid { IsValid records.old by_object.now by_owner.old owners.old }
-    requires ready { is_some (get records.old key) ≡ true → IsReadyFor taker owners.old }
-    ensures valid { IsValid records.new by_object.now by_owner.new owners.new }
-    ensures records { (k : ℕ) → get records.new k ≡ cond (k == key) (option_map (renamed giver.0 taker.0) (get records.old k)) (get records.old k) }
-    ensures ready { IsReadyFor taker owners.old → IsReadyFor taker owners.new }
-    ensures slots { length owners.new.slots ≡ length owners.old.slots }
-    ensures room { (most : ℕ) → has_room records.new by_object.now by_owner.new owners.new most ≡ has_room records.old by_object.now by_owner.old owners.old most }
+/// Moves the record at the key to the taker if its object is picked. Returns how many records were visited.
+fn pass_on<P: Picks>(records: &mut Crossed<Record>, key: usize, to: Destination, picks: &P) -> usize
+    requires there { is_some (get records.old.items key) ≡ true }
+    requires seat { to.seat < length records.old.columns.chains }
+    ensures picked { is_picked (P.picks picks.now) (home_of records.old.rows key) ≡ true → HandedOne key to.taker to.seat records.old records.new }
+    ensures other { is_picked (P.picks picks.now) (home_of records.old.rows key) ≡ false → records.new ≡ records.old }
+    ensures counted { 1 ≤ result }
+    ensures few { result ≤ 4 }
 {
-    if is_of(records, key, giver) {
-        move_at(records, by_object, by_owner, owners, key, taker);
+    if is_picked(records, picks, key) {
+        1 + move_at(records, key, to)
+    } else {
+        1
     }
 }
 
-/// Makes the giver's records on the object the taker's, along the chain of the object.
-pub(crate) fn hand_over_along(
-    records: &mut Slab<Record>,
-    by_object: &Chains,
-    by_owner: &mut Chains,
-    owners: &mut Seats,
-    giver: Txn,
-    taker: Txn,
-    object: usize,
-)
-    requires valid { IsValid records.old by_object.now by_owner.old owners.old }
-    requires another { (taker.0 == giver.0) ≡ false }
-    requires ready { (k : ℕ) → is_some (get records.old k) ≡ true → IsReadyFor taker owners.old }
-    ensures valid { IsValid records.new by_object.now by_owner.new owners.new }
-    ensures handed { (k : ℕ) → home_of by_object.now k ≡ Some object → get records.new k ≡ option_map (renamed giver.0 taker.0) (get records.old k) }
-    ensures others { (k : ℕ) → home_of by_object.now k ≢ Some object → get records.new k ≡ get records.old k }
-    ensures slots { length owners.new.slots ≡ length owners.old.slots }
-    ensures room { (most : ℕ) → has_room records.new by_object.now by_owner.new owners.new most ≡ has_room records.old by_object.now by_owner.old owners.old most }
+/// Moves the records in the column whose objects are picked to the taker, oldest first. Returns how many records were
+/// visited.
+fn hand_over_along<P: Picks>(
+    records: &mut Crossed<Record>,
+    from: usize,
+    to: Destination,
+    picks: &P,
+) -> usize
+    requires another { (from == to.seat) ≡ false }
+    requires seat { to.seat < length records.old.columns.chains }
+    ensures handed { IsHanded (chain_of records.old.columns from) (picked_at (P.picks picks.now) records.old) from to.seat to.taker records.old records.new }
+    ensures counted { length (chain_of records.old.columns from) ≤ result }
+    ensures visits { result ≤ 4 * length (chain_of records.old.columns from) }
 {
-    by_object.laws();
-    let mut next = by_object.first(object);
+    records.laws();
+    let mut visits: usize = 0;
+    let mut next = records.first(Side::Column, from);
     'keys: while let Some(key) = next {
-        pass_on(records, by_object, by_owner, owners, key, giver, taker);
-        next = by_object.next(key);
+        next = records.next(Side::Column, key);
+        visits += pass_on(records, key, to, picks);
+        records.laws();
+    }
+    visits
+}
+
+/// Moves the record at the key to the taker if it is in the column. Returns how many records were visited.
+fn pass_from(records: &mut Crossed<Record>, key: usize, from: usize, to: Destination) -> usize
+    requires there { is_some (get records.old.items key) ≡ true }
+    requires seat { to.seat < length records.old.columns.chains }
+    ensures picked { is_at from (home_of records.old.columns key) ≡ true → HandedOne key to.taker to.seat records.old records.new }
+    ensures other { is_at from (home_of records.old.columns key) ≡ false → records.new ≡ records.old }
+    ensures counted { 1 ≤ result }
+    ensures few { result ≤ 4 }
+{
+    match records.home(Side::Column, key) {
+        Some(column) if column == from => 1 + move_at(records, key, to),
+        _ => 1,
     }
 }
 
-/// Returns the first record of the transaction, if it has one.
-fn record_of(by_owner: &Chains, owners: &Seats, t: Txn) -> Option<usize>
-    ensures found { IfSome result (λ k. (c : ℕ) × ((home_of by_owner.now k ≡ Some c) × (seat owners.now c ≡ Some t))) }
-    ensures none { IfNone result ((k c : ℕ) → home_of by_owner.now k ≡ Some c → seat owners.now c ≢ Some t) }
+/// Moves the records on the object that are in the column to the taker, oldest first. Returns how many records were
+/// visited.
+fn hand_over_row(
+    records: &mut Crossed<Record>,
+    object: usize,
+    from: usize,
+    to: Destination,
+) -> usize
+    requires another { (from == to.seat) ≡ false }
+    requires seat { to.seat < length records.old.columns.chains }
+    ensures handed { IsHanded (chain_of records.old.rows object) (stands_in from records.old) from to.seat to.taker records.old records.new }
+    ensures counted { length (chain_of records.old.rows object) ≤ result }
+    ensures visits { result ≤ 4 * length (chain_of records.old.rows object) }
 {
-    by_owner.laws();
-    let chain = owners.seat_of(t)?;
-    by_owner.first(chain)
+    records.laws();
+    let mut visits: usize = 0;
+    let mut next = records.first(Side::Row, object);
+    'keys: while let Some(key) = next {
+        next = records.next(Side::Row, key);
+        visits += pass_from(records, key, from, to);
+        records.laws();
+    }
+    visits
 }
 
-/// Makes each of the giver's records the taker's.
-pub(crate) fn hand_over_each(
-    records: &mut Slab<Record>,
-    by_object: &Chains,
-    by_owner: &mut Chains,
+/// Returns the object whose records are to be looked at in place of those in the column: it alone is picked, and it has no
+/// more records.
+fn row_to_walk<P: Picks>(records: &Crossed<Record>, from: usize, picks: &P) -> Option<usize>
+    ensures only { IfSome result (λ i. (j : ℕ) → P.picks picks.now j ≡ (j == i)) }
+    ensures fewer { IfSome result (λ i. length (chain_of records.now.rows i) ≤ length (chain_of records.now.columns from)) }
+{
+    let object = picks.only()?;
+    if records.len(Side::Row, object) <= records.len(Side::Column, from) {
+        Some(object)
+    } else {
+        None
+    }
+}
+
+/// Moves the records in the column whose objects are picked to the taker. It looks at the records in the column, or at
+/// those on the one object that is picked if they are no more. Returns how many records were visited.
+fn hand_over_picked<P: Picks>(
+    records: &mut Crossed<Record>,
+    from: usize,
+    to: Destination,
+    picks: &P,
+) -> usize
+    requires another { (from == to.seat) ≡ false }
+    requires seat { to.seat < length records.old.columns.chains }
+    ensures handed { IsHanded (chain_of records.old.columns from) (picked_at (P.picks picks.now) records.old) from to.seat to.taker records.old records.new }
+    ensures counted { (k : ℕ) → goes (chain_of records.old.columns from) (picked_at (P.picks picks.now) records.old) k ≡ true → 1 ≤ result }
+    ensures visits { result ≤ 4 * length (chain_of records.old.columns from) }
+{
+    records.laws();
+    match row_to_walk(records, from, picks) {
+        Some(object) => hand_over_row(records, object, from, to),
+        None => hand_over_along(records, from, to, picks),
+    }
+}
+
+/// Makes the records of the one who has the seat `from` the taker's if their objects are picked. Who has no record then
+/// leaves its seat. Returns how many records were visited.
+pub(crate) fn hand_over_from<P: Picks>(
+    records: &mut Crossed<Record>,
     owners: &mut Seats,
-    giver: Txn,
+    from: usize,
     taker: Txn,
-)
-    requires valid { IsValid records.old by_object.now by_owner.old owners.old }
-    requires another { (taker.0 == giver.0) ≡ false }
-    requires ready { (k : ℕ) → is_some (get records.old k) ≡ true → IsReadyFor taker owners.old }
-    ensures valid { IsValid records.new by_object.now by_owner.new owners.new }
-    ensures handed { (k : ℕ) → get records.new k ≡ option_map (renamed giver.0 taker.0) (get records.old k) }
+    picks: &P,
+) -> usize
+    requires valid { IsValid records.old owners.old }
+    requires giver { is_some (seat owners.old from) ≡ true }
+    requires another { seat owners.old from ≢ Some taker }
+    requires ready { IsReadyFor taker owners.old }
+    ensures valid { IsValid records.new owners.new }
+    ensures handed { HandsOver (P.picks picks.now) from taker records.old records.new }
+    ensures counted { (k : ℕ) → goes (chain_of records.old.columns from) (picked_at (P.picks picks.now) records.old) k ≡ true → 1 ≤ result }
+    ensures visits { result ≤ 4 * length (chain_of records.old.columns from) }
     ensures slots { length owners.new.slots ≡ length owners.old.slots }
-    ensures room { (most : ℕ) → has_room records.new by_object.now by_owner.new owners.new most ≡ has_room records.old by_object.now by_owner.old owners.old most }
+    ensures room { (most : ℕ) → has_room records.new owners.new most ≡ has_room records.old owners.old most }
 {
-    'records: while let Some(key) = record_of(by_owner, owners, giver) {
-        move_at(records, by_object, by_owner, owners, key, taker);
-    }
+    records.laws();
+    let seat = seat_for(owners, taker);
+    let visits = hand_over_picked(records, from, Destination { taker, seat }, picks);
+    records.laws();
+    leave_if_empty(records, owners, from);
+    leave_if_empty(records, owners, seat);
+    visits
 }

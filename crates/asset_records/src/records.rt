@@ -1,12 +1,11 @@
-//! The update records of the writes that stand, each in the chain of its object and in that of its owner.
+//! The update records of the writes that stand, each in the row of its object and in the column of its owner.
 
 use crate::dropping::{counted, drop_at, drop_through, hand_on};
-use crate::handing::{hand_over_along, hand_over_each};
+use crate::handing::{One, Picks, hand_over_from};
 use crate::owning::{add_owners, seat_for, with_record};
-use asset_chains::Chains;
+use asset_chains::{Crossed, Side};
 use asset_names::{NoMemory, Txn};
-use asset_seats::{Seats, add_keys};
-use slab::Slab;
+use asset_seats::{Seats, reserve_item};
 use std::alloc::Global;
 use std::marker::Model;
 
@@ -33,9 +32,7 @@ pub struct Undone {
 /// There are at most `most` stretches of one owner's records, and a seat for each, so that owners can change.
 #[derive(Drop)]
 pub struct Records {
-    records: Slab<Record>,
-    by_object: Chains,
-    by_owner: Chains,
+    records: Crossed<Record>,
     owners: Seats,
     most: usize,
 }
@@ -45,14 +42,15 @@ impl Model for Records {
 
     ghost Value = { Listed };
 
-    ghost view = { λ r. listed_of r.records r.by_object r.by_owner r.owners r.most };
+    ghost view = { λ r. listed_of r.records r.owners r.most };
 
-    ghost invariant = { λ r. IsWhole r.records r.by_object r.by_owner r.owners r.most };
+    ghost invariant = { λ r. IsWhole r.records r.owners r.most };
 }
 
 impl Records {
-    ghost use Rattle.std.specs.Prelude.{◌≡◌, ℕ, ◌<◌, ◌≤◌, true, [], ◌∷◌, ◌++◌, length, map, IfSome, IfNone, OnOk, OnErr, IsOk};
-    ghost use Rattle.asset_records.specs.Listed.{on, ChangesOn, TakesBack, Settles, HasNone};
+    ghost use Rattle.std.specs.Prelude.{◌≡◌, ℕ, ◌<◌, ◌≤◌, ◌*◌, ◌==◌, cond, true, false, [], ◌∷◌, ◌++◌, length, map, IfSome, IfNone, OnOk, OnErr, IsOk};
+    ghost use Rattle.asset_records.specs.Listed.{on, is_of, records_by, ChangesOn, TakesBack, Settles, HasNone};
+    ghost use Rattle.std.specs.List.{list_any};
     ghost use Rattle.asset_records.specs.Handed.{renamed};
 
     /// Returns no objects and no records. It does not allocate.
@@ -60,9 +58,7 @@ impl Records {
         ensures { result.lists ≡ [] }
     {
         Records {
-            records: Slab::new(alloc),
-            by_object: Chains::new(alloc),
-            by_owner: Chains::new(alloc),
+            records: Crossed::new(alloc),
             owners: Seats::new(alloc),
             most: 0,
         }
@@ -74,7 +70,7 @@ impl Records {
         ensures added { OnOk result (self.new.lists ≡ self.old.lists ++ [] ∷ []) }
         ensures unchanged { OnErr result (self.new ≡ self.old) }
     {
-        match self.by_object.add_chain() {
+        match self.records.add(Side::Row) {
             Ok(()) => Ok(()),
             Err(_) => Err(NoMemory),
         }
@@ -84,7 +80,7 @@ impl Records {
     pub fn objects(&self) -> usize
         ensures { result ≡ length self.now.lists }
     {
-        self.by_object.chains()
+        self.records.count(Side::Row)
     }
 
     /// Reserves the memory for one more record, which stands until that record. If memory runs out, no record changes.
@@ -93,15 +89,9 @@ impl Records {
         ensures standing { self.old.reserved ≡ true → IsOk result }
         ensures lists { self.new.lists ≡ self.old.lists }
     {
-        match self.records.reserve(1) {
-            Ok(()) => {}
-            Err(_) => return Err(NoMemory),
-        }
-        let key = self.records.vacant_key();
-        add_keys(&mut self.by_object, key)?;
-        add_keys(&mut self.by_owner, key)?;
-        self.most = lesser(self.most, self.records.len());
-        add_owners(&mut self.by_owner, &mut self.owners, self.most)
+        reserve_item(&mut self.records)?;
+        self.most = lesser(self.most, self.records.items());
+        add_owners(&mut self.records, &mut self.owners, self.most)
     }
 
     /// Appends a record to those of its object. It uses the memory that `reserve` reserved.
@@ -110,14 +100,11 @@ impl Records {
         requires reserved { self.old.reserved ≡ true }
         ensures { ChangesOn object (on self.old.lists object ++ update ∷ []) self.old.lists self.new.lists }
     {
-        self.by_object.laws();
-        self.by_owner.laws();
+        self.records.laws();
         self.owners.laws();
-        self.most = with_record(&self.records, &self.by_object, object, update, self.most);
-        let chain = seat_for(&mut self.owners, update.owner);
-        let key = self.records.insert_reserved(update);
-        self.by_object.push(object, key);
-        self.by_owner.push(chain, key);
+        self.most = with_record(&self.records, object, update, self.most);
+        let seat = seat_for(&mut self.owners, update.owner);
+        self.records.insert(object, seat, update);
     }
 
     /// Takes back the newest record of the transaction, and returns what is left to do; `None` if it has none. That it is
@@ -127,22 +114,15 @@ impl Records {
         ensures none { IfNone result (HasNone t.0 self.old.lists × (self.new ≡ self.old)) }
         ensures reserved { self.old.reserved ≡ true → self.new.reserved ≡ true }
     {
-        self.by_object.laws();
-        self.by_owner.laws();
-        let chain = self.owners.seat_of(t)?;
-        let key = self.by_owner.last(chain)?;
-        let object = self.by_object.home(key)?;
-        let next = self.by_object.next(key);
-        let beside = counted(self.by_object.previous(key)) + counted(next);
-        let visited = 1 + beside + counted(self.by_owner.previous(key));
+        self.records.laws();
+        let seat = self.owners.seat_of(t)?;
+        let key = self.records.last(Side::Column, seat)?;
+        let object = self.records.home(Side::Row, key)?;
+        let next = self.records.next(Side::Row, key);
+        let beside = counted(self.records.previous(Side::Row, key)) + counted(next);
+        let visited = 1 + beside + counted(self.records.previous(Side::Column, key));
         let restored = hand_on(&mut self.records, next, key);
-        drop_at(
-            &mut self.records,
-            &mut self.by_object,
-            &mut self.by_owner,
-            &mut self.owners,
-            key,
-        );
+        drop_at(&mut self.records, &mut self.owners, key);
         Some(Undone {
             object,
             restored,
@@ -157,70 +137,49 @@ impl Records {
         ensures none { IfNone result (HasNone t.0 self.old.lists × (self.new ≡ self.old)) }
         ensures reserved { self.old.reserved ≡ true → self.new.reserved ≡ true }
     {
-        self.by_object.laws();
-        self.by_owner.laws();
-        let chain = self.owners.seat_of(t)?;
-        let newest = self.by_owner.last(chain)?;
-        let object = self.by_object.home(newest)?;
-        let visited = drop_through(
-            &mut self.records,
-            &mut self.by_object,
-            &mut self.by_owner,
-            &mut self.owners,
-            object,
-            newest,
-        );
-        self.by_object.laws();
+        self.records.laws();
+        let seat = self.owners.seat_of(t)?;
+        let newest = self.records.last(Side::Column, seat)?;
+        let object = self.records.home(Side::Row, newest)?;
+        let visited = drop_through(&mut self.records, &mut self.owners, object, newest);
+        self.records.laws();
         Some(visited)
     }
 
-    /// Makes the records of the giver on the object the taker's, and changes nothing else. An index past the last object
-    /// has no records, and both may be one, which changes nothing.
+    /// Makes the giver's records on the objects that are picked the taker's, and changes nothing else. Both may be one,
+    /// which changes nothing. Returns how many records were visited: each that was looked at, and for each that goes over
+    /// its neighbours among those of the giver, and the one that was the taker's last.
     ///
-    /// It takes no memory. The cost is that of the records of the object.
-    pub fn hand_over_on(&mut self, giver: Txn, taker: Txn, object: usize)
-        ensures lists { ChangesOn object (map (renamed giver.0 taker.0) (on self.old.lists object)) self.old.lists self.new.lists }
+    /// It takes no memory. It looks at the giver's records; if one object alone is picked, at those or at the records on
+    /// the object, whichever are fewer.
+    pub fn hand_over<P: Picks>(&mut self, giver: Txn, taker: Txn, picks: &P) -> usize
+        ensures many { length self.new.lists ≡ length self.old.lists }
+        ensures lists { (j : ℕ) → on self.new.lists j ≡ cond (P.picks picks.now j) (map (renamed giver.0 taker.0) (on self.old.lists j)) (on self.old.lists j) }
+        ensures counted { (taker.0 == giver.0) ≡ false → (j : ℕ) → P.picks picks.now j ≡ true → list_any (is_of giver.0) (on self.old.lists j) ≡ true → 1 ≤ result }
+        ensures visits { result ≤ 4 * records_by (λ n. n == giver.0) self.old.lists }
         ensures reserved { self.old.reserved ≡ true → self.new.reserved ≡ true }
     {
         if taker.0 == giver.0 {
-            return;
+            return 0;
         }
-        self.by_object.laws();
-        self.by_owner.laws();
+        self.records.laws();
         self.owners.laws();
-        hand_over_along(
-            &mut self.records,
-            &self.by_object,
-            &mut self.by_owner,
-            &mut self.owners,
-            giver,
-            taker,
-            object,
-        );
+        let Some(from) = self.owners.seat_of(giver) else {
+            return 0;
+        };
+        hand_over_from(&mut self.records, &mut self.owners, from, taker, picks)
     }
 
-    /// Makes each record of the giver the taker's, and changes nothing else. Both may be one, which changes nothing.
-    ///
-    /// It takes no memory. The cost is that of the records that change.
-    pub fn hand_over_all(&mut self, giver: Txn, taker: Txn)
+    /// Makes the giver's records on the object the taker's, as `hand_over` does. An index past the last object has no
+    /// records.
+    pub fn hand_over_on(&mut self, giver: Txn, taker: Txn, object: usize) -> usize
         ensures many { length self.new.lists ≡ length self.old.lists }
-        ensures lists { (j : ℕ) → on self.new.lists j ≡ map (renamed giver.0 taker.0) (on self.old.lists j) }
+        ensures lists { (j : ℕ) → on self.new.lists j ≡ cond (j == object) (map (renamed giver.0 taker.0) (on self.old.lists j)) (on self.old.lists j) }
+        ensures counted { (taker.0 == giver.0) ≡ false → list_any (is_of giver.0) (on self.old.lists object) ≡ true → 1 ≤ result }
+        ensures visits { result ≤ 4 * records_by (λ n. n == giver.0) self.old.lists }
         ensures reserved { self.old.reserved ≡ true → self.new.reserved ≡ true }
     {
-        if taker.0 == giver.0 {
-            return;
-        }
-        self.by_object.laws();
-        self.by_owner.laws();
-        self.owners.laws();
-        hand_over_each(
-            &mut self.records,
-            &self.by_object,
-            &mut self.by_owner,
-            &mut self.owners,
-            giver,
-            taker,
-        );
+        self.hand_over(giver, taker, &One { object })
     }
 }
 

@@ -1,6 +1,7 @@
 use Rattle.std.proofs.Common.{◌≡◌, ℕ, ◌+◌, ◌*◌, ◌≤◌, true, eqb, length}
 use Rattle.asset_objects.specs.Cells.{settled}
-use Rattle.asset_objects.specs.Placed.{cell_at, records_by}
+use Rattle.asset_records.specs.Listed.{records_by}
+use Rattle.asset_objects.specs.Placed.{cell_at}
 use Rattle.asset_objects.proofs.ending.settle.Given as goal
 
 -- some records of the transaction are dropped with all before them, and each cell is the same once it has settled

@@ -1,6 +1,7 @@
 use Rattle.std.proofs.Common.{◌≡◌, ℕ, ◌+◌, ◌*◌, ◌≤◌, true, eqb, length}
 use Rattle.asset_objects.specs.Cells.{undone}
-use Rattle.asset_objects.specs.Placed.{cell_at, records_by}
+use Rattle.asset_records.specs.Listed.{records_by}
+use Rattle.asset_objects.specs.Placed.{cell_at}
 use Rattle.asset_objects.proofs.ending.undo.Given as goal
 
 -- some writes of the transaction are taken back, and each cell is the same without them

@@ -1,21 +1,25 @@
-use Rattle.std.proofs.Common.{List, cond, map, sym, ap, ◌∙◌}
-use Rattle.asset_names.specs.declared.names.Ob.{Ob}
-use Rattle.asset_names.specs.declared.sets.ObSet.{ObSet}
-use Rattle.asset_names.specs.Arrows.{lists}
-use Rattle.asset_names.specs.InSet.{in_set}
-use Rattle.asset_names.specs.Sets.{numbers}
+use Rattle.std.proofs.Common.{Bool, cond, map, sym, ap, ◌∙◌}
+use Rattle.std.proofs.lemmas.Bool.{eqb-true}
 use Rattle.asset_records.specs.Listed.{on}
 use Rattle.asset_records.specs.Handed.{renamed}
+use Rattle.asset_objects.specs.Placed.{index_of}
+use Rattle.asset_objects.proofs.HandLemmas.{among_is, only_is}
 use Rattle.asset_objects.proofs.handing.hand_over.Goals as goal
 
-pub returns-in-All-clause-lists : goal.returns-in-All-clause-lists
-unfolding in_set
-returns-in-All-clause-lists c = λ y i at.
-    c.hand_over_all.ensures.lists i ∙ sym (ap (λ (set : ObSet). cond (in_set set y) (map (renamed c.args.giver.0 c.args.taker.0) (on c.args.records.now.lists i)) (on c.args.records.now.lists i)) c.in-All.is)
+pub returns-in-Some-clause-lists : goal.returns-in-Some-clause-lists
+returns-in-Some-clause-lists c = λ y i at.
+    c.hand_over_one.ensures.lists y i at
+    ∙ sym (ap (λ (b : Bool). cond b (map (renamed c.args.giver.0 c.args.taker.0) (on c.args.records.now.lists i)) (on c.args.records.now.lists i)) (only_is c.args.set.now c.in-Some.x y (sym c.in-Some.ensures)))
 
-pub returns-in-Listed-clause-lists : goal.returns-in-Listed-clause-lists
-unfolding in_set
-returns-in-Listed-clause-lists c = λ y i at.
-    c.hand_over_listed.ensures.lists y i at
-    ∙ ap (λ (list : List Ob). cond (lists (numbers list) y) (map (renamed c.args.giver.0 c.args.taker.0) (on c.args.records.now.lists i)) (on c.args.records.now.lists i)) c.objects.ensures.listed
-    ∙ sym (ap (λ (set : ObSet). cond (in_set set y) (map (renamed c.args.giver.0 c.args.taker.0) (on c.args.records.now.lists i)) (on c.args.records.now.lists i)) c.in-Listed.is)
+pub returns-in-Some-clause-counted : goal.returns-in-Some-clause-counted
+returns-in-Some-clause-counted c = λ apart y i at among wrote.
+    let same = eqb-true c.in-Some.x.0 y (sym (only_is c.args.set.now c.in-Some.x y (sym c.in-Some.ensures)) ∙ among) in
+    c.hand_over_one.ensures.counted apart i (ap (index_of c.args.objects.now.keys) same ∙ at) wrote
+
+pub returns-in-None-clause-lists : goal.returns-in-None-clause-lists
+returns-in-None-clause-lists c = λ y i at.
+    c.hand_over.ensures.lists i
+    ∙ ap (λ (b : Bool). cond b (map (renamed c.args.giver.0 c.args.taker.0) (on c.args.records.now.lists i)) (on c.args.records.now.lists i)) (among_is c.args.objects.now.keys c.args.set.now y i at)
+
+pub returns-in-None-clause-counted : goal.returns-in-None-clause-counted
+returns-in-None-clause-counted c = λ apart y i at among wrote. c.hand_over.ensures.counted apart i (among_is c.args.objects.now.keys c.args.set.now y i at ∙ among) wrote

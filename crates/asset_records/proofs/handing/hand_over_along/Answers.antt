@@ -1,60 +1,68 @@
-use Rattle.std.proofs.Common.{◌≡◌, ◌⊎◌, ℕ, true, false, length, Option, List, refl, sym, ap, subst, ◌∙◌, inl, inr, arith}
-use Rattle.slab.specs.Slab.{get}
-use Rattle.asset_chains.specs.Chained.{chain_of, lists, home_of}
-use Rattle.asset_chains.proofs.Laws.{chain_at_first}
-use Rattle.asset_chains.proofs.Walks.{from_key, from_first, next_home, walk_more, walk_ends, walk_less}
-use Rattle.asset_records.specs.Handed.{owned_by}
-use Rattle.asset_records.proofs.HandLemmas.{passed_there, passed_told, passed_here, passed_before, passed_other, renamed_all}
+use Rattle.std.proofs.Common.{ℕ, Option, length, ap, subst, arith}
+use Rattle.asset_chains.specs.Chained.{chain_of}
+use Rattle.asset_chains.specs.declared.side.Side.TheVariants.{Column}
+use Rattle.asset_chains.proofs.Walks.{from_key}
+use Rattle.asset_records.specs.Handed.{picked_at}
+use Rattle.asset_records.proofs.WalkLemmas.{walk_ends, walk_least, walk_visits}
+use Rattle.asset_records.proofs.PassLemmas.{IsHanding, handing_starts, handing_home, handing_there, handing_smaller, handing_steps, handing_within}
 use Rattle.asset_records.proofs.handing.hand_over_along.Goals as goal
 
 pub keys-init : goal.keys-init
-keys-init c = record {
-  valid = c.requires.valid;
-  at = λ k is. (chain_at_first k c.args.object c.args.by_object.now c.laws.ensures.sound (sym c.first-next.ensures ∙ is)).0;
-  passed = λ k there. inl (ap (λ (o : Option ℕ). lists (from_key o (chain_of c.args.by_object.now c.args.object)) k) c.first-next.ensures ∙ ap (λ (l : List ℕ). lists l k) (from_first (chain_of c.args.by_object.now c.args.object)) ∙ there);
-  told = λ k. refl;
-  others = λ k other. refl;
-  ready = c.requires.ready;
-  slots = refl;
-  room = λ most. refl;
+keys-init g c = record {
+  crossed = c.laws.ensures.crossed;
+  handing = handing_starts (g.P.Picks.picks c.args.picks.now) c.args.from c.args.to.seat c.args.to.taker c.args.records.now c.first-next.result c.first-next.ensures;
 }
 
+pub pass_on-visits-requires-clause-there : goal.pass_on-visits-requires-clause-there
+pass_on-visits-requires-clause-there g c =
+    let picks = g.P.Picks.picks c.args.picks.now in
+    let is = subst (λ (o : Option ℕ). IsHanding picks c.args.from c.args.to.seat c.args.to.taker c.args.records.now c.keys.records o c.keys.visits) c.in-Some.is c.keys.invariant.handing in
+    handing_there picks c.args.from c.args.to.seat c.args.to.taker c.args.records.now c.keys.records c.in-Some.key c.keys.visits is c.laws.ensures.crossed c.keys.invariant.crossed
+
+pub pass_on-visits-requires-clause-seat : goal.pass_on-visits-requires-clause-seat
+pass_on-visits-requires-clause-seat g c = omega (arith, c.requires.seat, c.keys.invariant.handing.walk.hands.many)
+
 pub keys-smaller : goal.keys-smaller
-keys-smaller c =
-    let home = c.keys.invariant.at c.in-Some.key c.in-Some.is in
-    let listed = c.laws.ensures.sound.listed c.args.object c.in-Some.key home in
-    let less = walk_less c.in-Some.key (chain_of c.args.by_object.now c.args.object) (c.laws.ensures.sound.once c.args.object) listed in
-    let here = ap (λ (o : Option ℕ). length (from_key o (chain_of c.args.by_object.now c.args.object))) c.in-Some.is in
-    let next = ap (λ (o : Option ℕ). length (from_key o (chain_of c.args.by_object.now c.args.object))) (c.next-next.ensures.next c.args.object home) in
-    omega (arith, less, here, next)
+keys-smaller g c =
+    let picks = g.P.Picks.picks c.args.picks.now in
+    let is = subst (λ (o : Option ℕ). IsHanding picks c.args.from c.args.to.seat c.args.to.taker c.args.records.now c.keys.records o c.keys.visits) c.in-Some.is c.keys.invariant.handing in
+    let home = handing_home picks c.args.from c.args.to.seat c.args.to.taker c.args.records.now c.keys.records c.in-Some.key c.keys.visits is c.laws.ensures.crossed c.keys.invariant.crossed in
+    let less = handing_smaller picks c.args.from c.args.to.seat c.args.to.taker c.args.records.now c.keys.records c.in-Some.key c.keys.visits is c.laws.ensures.crossed c.keys.invariant.crossed c.next-next.result (c.next-next.ensures.next c.args.from home) in
+    omega (arith, less, ap (λ (o : Option ℕ). length (from_key o (chain_of c.args.records.now.columns c.args.from))) c.in-Some.is)
 
 pub keys-preserved : goal.keys-preserved
-keys-preserved c =
-    let home = c.keys.invariant.at c.in-Some.key c.in-Some.is in
-    let listed = c.laws.ensures.sound.listed c.args.object c.in-Some.key home in
-    let next = c.next-next.ensures.next c.args.object home in
-    let passes = c.pass_on.ensures.records in
+keys-preserved g c =
+    let picks = g.P.Picks.picks c.args.picks.now in
+    let is = subst (λ (o : Option ℕ). IsHanding picks c.args.from c.args.to.seat c.args.to.taker c.args.records.now c.keys.records o c.keys.visits) c.in-Some.is c.keys.invariant.handing in
+    let home = handing_home picks c.args.from c.args.to.seat c.args.to.taker c.args.records.now c.keys.records c.in-Some.key c.keys.visits is c.laws.ensures.crossed c.keys.invariant.crossed in
     record {
-      valid = c.pass_on.ensures.valid;
-      at = λ k is. next_home c.args.by_object.now c.in-Some.key k c.args.object c.laws.ensures.sound home (sym next ∙ is);
-      passed = λ k there.
-          subst (λ (o : Option ℕ). (lists (from_key o (chain_of c.args.by_object.now c.args.object)) k ≡ true) ⊎ (owned_by c.args.giver.0 (get c.pass_on.new.records k) ≡ false)) (sym next)
-          (walk_more (λ j. owned_by c.args.giver.0 (get c.pass_on.new.records j) ≡ false) c.in-Some.key (chain_of c.args.by_object.now c.args.object) (c.laws.ensures.sound.once c.args.object) listed
-          (λ j among. elim (subst (λ (o : Option ℕ). (lists (from_key o (chain_of c.args.by_object.now c.args.object)) j ≡ true) ⊎ (owned_by c.args.giver.0 (get c.keys.records j) ≡ false)) c.in-Some.is (c.keys.invariant.passed j among)) [
-            | inl left ↦ inl left
-            | inr before ↦ inr (passed_before c.keys.records c.pass_on.new.records c.in-Some.key c.args.giver c.args.taker c.requires.another passes j before)
-          ])
-          (passed_here c.keys.records c.pass_on.new.records c.in-Some.key c.args.giver c.args.taker c.requires.another passes) k there);
-      told = λ k. passed_told c.keys.records c.pass_on.new.records c.in-Some.key c.args.giver c.args.taker c.requires.another passes k ∙ c.keys.invariant.told k;
-      others = λ k other. passed_other c.keys.records c.pass_on.new.records c.in-Some.key c.args.giver c.args.taker c.requires.another passes k (λ same. other (ap (home_of c.args.by_object.now) same ∙ home)) ∙ c.keys.invariant.others k other;
-      ready = λ k there. c.pass_on.ensures.ready (c.keys.invariant.ready k (passed_there c.keys.records c.pass_on.new.records c.in-Some.key c.args.giver c.args.taker c.requires.another passes k there));
-      slots = c.pass_on.ensures.slots ∙ c.keys.invariant.slots;
-      room = λ most. c.pass_on.ensures.room most ∙ c.keys.invariant.room most;
+      crossed = c.laws-in-Some.ensures.crossed;
+      handing = handing_steps picks c.args.from c.args.to.seat c.args.to.taker c.args.records.now c.keys.records c.in-Some.key c.keys.visits is c.laws.ensures.crossed c.keys.invariant.crossed
+          c.pass_on-visits.new.records c.next-next.result _ (c.next-next.ensures.next c.args.from home) (omega (arith, c.pass_on-visits.ensures.counted)) (omega (arith, c.pass_on-visits.ensures.few))
+          c.requires.another c.pass_on-visits.ensures.picked c.pass_on-visits.ensures.other;
     }
 
 pub returns-clause-handed : goal.returns-clause-handed
-returns-clause-handed c = λ k home.
-    renamed_all c.args.giver.0 c.args.taker.0 (get c.args.records.now k) (get c.keys.records k) (c.keys.invariant.told k)
-    (walk_ends (λ j. owned_by c.args.giver.0 (get c.keys.records j) ≡ false) (chain_of c.args.by_object.now c.args.object)
-    (λ j among. subst (λ (o : Option ℕ). (lists (from_key o (chain_of c.args.by_object.now c.args.object)) j ≡ true) ⊎ (owned_by c.args.giver.0 (get c.keys.records j) ≡ false)) c.in_default.is (c.keys.invariant.passed j among))
-    k (c.laws.ensures.sound.listed c.args.object k home))
+returns-clause-handed g c =
+    let picks = g.P.Picks.picks c.args.picks.now in
+    let is = subst (λ (o : Option ℕ). IsHanding picks c.args.from c.args.to.seat c.args.to.taker c.args.records.now c.keys.records o c.keys.visits) c.in_default.is c.keys.invariant.handing in
+    walk_ends (chain_of c.args.records.now.columns c.args.from) (picked_at picks c.args.records.now) c.args.from c.args.to.seat c.args.to.taker c.args.records.now c.keys.records c.keys.visits is.walk
+
+pub returns-clause-counted : goal.returns-clause-counted
+returns-clause-counted g c =
+    let picks = g.P.Picks.picks c.args.picks.now in
+    let is = subst (λ (o : Option ℕ). IsHanding picks c.args.from c.args.to.seat c.args.to.taker c.args.records.now c.keys.records o c.keys.visits) c.in_default.is c.keys.invariant.handing in
+    walk_least (chain_of c.args.records.now.columns c.args.from) (picked_at picks c.args.records.now) c.args.from c.args.to.seat c.args.to.taker c.args.records.now c.keys.records c.keys.visits is.walk
+
+pub overflow_add-visits : goal.overflow_add-visits
+overflow_add-visits g c =
+    let picks = g.P.Picks.picks c.args.picks.now in
+    let is = subst (λ (o : Option ℕ). IsHanding picks c.args.from c.args.to.seat c.args.to.taker c.args.records.now c.keys.records o c.keys.visits) c.in-Some.is c.keys.invariant.handing in
+    let within = handing_within picks c.args.from c.args.to.seat c.args.to.taker c.args.records.now c.keys.records c.in-Some.key c.keys.visits is c.laws.ensures.crossed c.keys.invariant.crossed in
+    omega (arith, is.walk.few, within, c.laws.ensures.short Column c.args.from, c.pass_on-visits.ensures.few)
+
+pub returns-clause-visits : goal.returns-clause-visits
+returns-clause-visits g c =
+    let picks = g.P.Picks.picks c.args.picks.now in
+    let is = subst (λ (o : Option ℕ). IsHanding picks c.args.from c.args.to.seat c.args.to.taker c.args.records.now c.keys.records o c.keys.visits) c.in_default.is c.keys.invariant.handing in
+    walk_visits (chain_of c.args.records.now.columns c.args.from) (picked_at picks c.args.records.now) c.args.from c.args.to.seat c.args.to.taker c.args.records.now c.keys.records c.keys.visits is.walk

@@ -7,4 +7,4 @@ use Rattle.asset_records.proofs.records.Records.objects.Goals as goal
 pub returns : goal.returns
 returns c =
     let inside = c.self.inside in
-    c.chains.ensures ∙ sym (ap length (lists_are inside.records inside.by_object inside.by_owner inside.owners inside.most c.args.self.now c.self.view_is) ∙ length-map inside.by_object.chains (at_keys inside.records))
+    c.count.ensures ∙ sym (ap length (lists_are inside.records inside.owners inside.most c.args.self.now c.self.view_is) ∙ length-map inside.records.rows.chains (at_keys inside.records.items))
