@@ -8,6 +8,9 @@ seats_more : {A B : Type 0} (P Q R S : Type 0) (r : Result A B) (old new : ℕ) 
 seats_more P Q R S (Ok a) old new added unchanged = (omega (arith, added.0), omega (arith, added.0))
 seats_more P Q R S (Err b) old new added unchanged = (omega (arith, unchanged.0), omega (arith, unchanged.0))
 
+pub returns-then-many-seats-clause-room : goal.returns-then-many-seats-clause-room
+returns-then-many-seats-clause-room c = omega (arith, c.if-many-seats.true, c.seats-seats.ensures)
+
 pub returns-then-many-seats-clause-more : goal.returns-then-many-seats-clause-more
 returns-then-many-seats-clause-more c = record { chained = c.requires.chained; slots = omega arith; seats = λ d. refl; rows = refl; items = refl; chains = λ d. refl; homes = λ k. refl }
 
