@@ -36,6 +36,13 @@ module _ (store : Stored) (stored : IsStored store) (x number : ℕ) (numbered :
       let at = in_list store stored x number numbered k c home (on_to x _ on) in
       both_ways (is_others c (Some c)) (others_own c) (ap (is_others c) (sym home) ∙ none k _ at))
 
+  -- a lock that only reads is among the readers
+  pub absent_reader : (k c : ℕ) → ((k : ℕ) → home_of store.by_owner k ≡ Some c → is_on x (lock_at store.locks k) ≡ true → (lock_at store.locks k).ops.write ≡ false) → ((k : ℕ) → part_of store.by_object k ≡ Some (part_for number false) → is_others c (home_of store.by_owner k) ≡ true)
+      → home_of store.by_owner k ≡ Some c → is_on x (lock_at store.locks k) ≡ false
+  absent_reader k c reads none home = false_from_ne_true _ (λ on.
+      let at = in_list store stored x number numbered k c home (on_to x _ on) in
+      both_ways (is_others c (Some c)) (others_own c) (ap (is_others c) (sym home) ∙ none k (at ∙ ap (λ (w : Bool). Some (part_for number w)) (reads k home on))))
+
 pub absent_unnumbered : (store : Stored) → IsStored store → (x : ℕ) → number_in store.objects x ≡ None → (k c : ℕ) → home_of store.by_owner k ≡ Some c → is_on x (lock_at store.locks k) ≡ false
 absent_unnumbered store stored x none k c home = false_from_ne_true _ (λ on.
     let placed = stored.placed k c home in no_number placed.number (sym placed.numbered ∙ ap (number_in store.objects) (on_to x _ on) ∙ none)) where
@@ -54,7 +61,7 @@ read_conflict ops = go ops.read ops.write where
   go false false = refl
 
 -- so a lock that conflicts is in a part that is looked at
-looked_at : (ops : OpSet) (op : Op) → one_conflicts ops op ≡ true → (ops.write || has_op (only_op op) Op'.Write) ≡ true
+pub looked_at : (ops : OpSet) (op : Op) → one_conflicts ops op ≡ true → (ops.write || has_op (only_op op) Op'.Write) ≡ true
 unfolding only_op
 looked_at ops Op'.Read conflicts = or_left _ _ (sym (read_conflict ops) ∙ conflicts)
 looked_at ops Op'.Write conflicts = or_right ops.write true refl

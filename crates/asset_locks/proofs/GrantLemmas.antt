@@ -16,12 +16,12 @@ use Rattle.asset_chains.proofs.Walks.{map_same, any_none, any_from, find_key, fi
 use Rattle.asset_chains.proofs.KeyLemmas.{without_unlisted}
 use Rattle.asset_lists.specs.Parted.{part_of, IsChangedAt}
 use Rattle.asset_locks.specs.declared.lock.Lock.{Lock}
-use Rattle.asset_locks.specs.LockTable.{is_on, both_conflict, suspended, taken, granted_own, new_lock, ops_with}
+use Rattle.asset_locks.specs.LockTable.{is_on, one_conflicts, both_conflict, conflicts_on, suspended, taken, granted_own, new_lock, ops_with}
 use Rattle.asset_locks.specs.Valid.{is_some_op}
 use Rattle.asset_locks.specs.Stored.{Stored, lock_at, locks_at, number_in, part_for, IsPlaced, IsStored, IsSuspended, IsAdded, IsDropped, IsGrown}
 use Rattle.asset_locks.proofs.StoreLemmas.{stored_changed, same_lock}
-use Rattle.asset_locks.proofs.OpsLemmas.{some_with, with_same, with_only, conflict_swapped}
-use Rattle.asset_locks.proofs.LockLemmas.{on_to, off_from}
+use Rattle.asset_locks.proofs.OpsLemmas.{some_with, with_same, with_only, conflict_swapped, conflict_before, conflict_only}
+use Rattle.asset_locks.proofs.LockLemmas.{on_to, on_from, off_from}
 
 -- the lock with op, granted
 abbrev pub with_grant : Op → Lock → Lock
@@ -138,6 +138,9 @@ suspended_asleep x ops lock asleep = go (is_on x lock && both_conflict lock.ops 
   go true e = ap (λ (g : Bool). record lock { granted = g }) (sym (asleep e))
   go false e = refl
 
+asleep_beside : {mine : Bool} (other : Bool) → (other && mine) ≡ false → mine ≡ true → other ≡ false
+asleep_beside other none mine = sym (and_true other) ∙ ap (λ (b : Bool). other && b) (sym mine) ∙ none
+
 suspended_object : (x : ℕ) (ops : OpSet) (lock : Lock) → (suspended x ops lock).object.0 ≡ lock.object.0
 unfolding suspended
 suspended_object x ops lock = go (is_on x lock && both_conflict lock.ops ops) where
@@ -174,9 +177,22 @@ module _ (store : Stored) (stored : IsStored store) (sound : IsSound store.by_ow
       let parts = and_parts (lock_at store.locks key).granted (has_op (lock_at store.locks key).ops op) has in
       mapped (suspended (lock_at store.locks key).object.0 (with_op op (lock_at store.locks key).ops)) store store d refl sound (λ k at. sym (suspended_asleep _ _ (lock_at store.locks k) (λ h.
       let both = and_parts _ _ h in
-      asleep k (stored.apart k key d c at home differ (on_to _ _ both.0) (ap (both_conflict (lock_at store.locks k).ops) (sym (with_same op _ parts.1)) ∙ both.1)) parts.0))) where
-        asleep : (k : ℕ) → ((lock_at store.locks k).granted && (lock_at store.locks key).granted) ≡ false → (lock_at store.locks key).granted ≡ true → (lock_at store.locks k).granted ≡ false
-        asleep k none mine = sym (and_true _) ∙ ap (λ (b : Bool). (lock_at store.locks k).granted && b) (sym mine) ∙ none
+      asleep_beside (lock_at store.locks k).granted (stored.apart k key d c at home differ (on_to _ _ both.0) (ap (both_conflict (lock_at store.locks k).ops) (sym (with_same op _ parts.1)) ∙ both.1)) parts.0)))
+
+  -- no lock is suspended if the lock is granted, and no lock of another conflicts with op
+  pub suspended_already : (lock_at store.locks key).granted ≡ true → ((k d : ℕ) → home_of store.by_owner k ≡ Some d → (d ≡ c → ⊥) → conflicts_on (lock_at store.locks key).object.0 op (lock_at store.locks k) ≡ false)
+      → IsSuspended (lock_at store.locks key).object.0 c (with_op op (lock_at store.locks key).ops) store store
+  unfolding conflicts_on
+  suspended_already mine alone = record {
+    own = λ k at. refl;
+    others = λ k d at differ. sym (suspended_asleep _ _ (lock_at store.locks k) (λ h.
+        let both = and_parts _ _ h in
+        let before = conflict_before op (lock_at store.locks k).ops (lock_at store.locks key).ops both.1
+        (sym (ap (λ (b : Bool). b && one_conflicts (lock_at store.locks k).ops op) both.0) ∙ alone k d at differ) in
+        asleep_beside (lock_at store.locks k).granted (stored.apart k key d c at home differ (on_to _ _ both.0) before) mine));
+    by_owner = refl;
+    objects = refl;
+  }
 
   module _ (paused new : Stored) (pauses : IsSuspended (lock_at store.locks key).object.0 c (with_op op (lock_at store.locks key).ops) store paused)
       (locks : (k : ℕ) → lock_at new.locks k ≡ cond (eqb k key) (with_grant op (lock_at paused.locks key)) (lock_at paused.locks k)) (of_owner : new.by_owner ≡ paused.by_owner) where
@@ -215,6 +231,14 @@ module _ (store : Stored) (stored : IsStored store) (sound : IsSound store.by_ow
         seat_is : (a : ℕ) → Some a ≡ Some c → a ≡ c
         seat_is a e = cc
 
+-- a new lock is granted if no lock of another conflicts with op
+pub apart_new : (store : Stored) (c : ℕ) (x : Ob) (op : Op) (ops : OpSet) → ops ≡ only_op op → ((k d : ℕ) → home_of store.by_owner k ≡ Some d → (d ≡ c → ⊥) → conflicts_on x.0 op (lock_at store.locks k) ≡ false)
+    → (k d : ℕ) → home_of store.by_owner k ≡ Some d → (d ≡ c → ⊥) → (lock_at store.locks k).object.0 ≡ x.0 → both_conflict (lock_at store.locks k).ops ops ≡ false
+unfolding conflicts_on
+apart_new store c x op ops only alone k d home differ same =
+    ap (both_conflict (lock_at store.locks k).ops) only ∙ conflict_only op (lock_at store.locks k).ops
+    ∙ sym (ap (λ (b : Bool). b && one_conflicts (lock_at store.locks k).ops op) (on_from x.0 (lock_at store.locks k) same)) ∙ alone k d home differ
+
 -- what is suspended, by the lock that was read
 pub pauses_as : (old new : Stored) (key c : ℕ) (op : Op) (lock : Lock) (ops : OpSet) → lock ≡ lock_at old.locks key → ops ≡ with_op op lock.ops → IsSuspended lock.object.0 c ops old new
     → IsSuspended (lock_at old.locks key).object.0 c (with_op op (lock_at old.locks key).ops) old new
@@ -226,14 +250,19 @@ pauses_as old new key c op lock ops read with pauses =
 pub seat_one : (c d : ℕ) → Some c ≡ Some d → c ≡ d
 seat_one c d e = cc
 
-taken_fresh : (x : Ob) (op : Op) → taken x.0 op (record (new_lock x op) { granted = false }) ≡ new_lock x op
+taken_fresh : (x : Ob) (op : Op) (granted : Bool) → taken x.0 op (record (new_lock x op) { granted = granted }) ≡ new_lock x op
 unfolding taken new_lock is_on
-taken_fresh x op = ap (λ (b : Bool). cond b (with_grant op (record (new_lock x op) { granted = false })) (record (new_lock x op) { granted = false })) (eq-eqb x.0 x.0 refl) ∙ ap (λ (o : OpSet). record (new_lock x op) { ops = o }) (with_only op)
+taken_fresh x op granted = ap (λ (b : Bool). cond b (with_grant op (record (new_lock x op) { granted = granted })) (record (new_lock x op) { granted = granted })) (eq-eqb x.0 x.0 refl) ∙ ap (λ (o : OpSet). record (new_lock x op) { ops = o }) (with_only op)
 
 -- more room leaves the locks of each seat
 pub grown_same : (old new : Stored) → IsGrown old new → (c : ℕ) → locks_at new c ≡ locks_at old c
 unfolding locks_at
 grown_same old new grown c = ap (map (lock_at new.locks)) (grown.chains c) ∙ map_same (lock_at new.locks) (lock_at old.locks) (chain_of old.by_owner c) (λ k there. same_lock new.locks old.locks k (grown.locks k))
+
+-- and which of them conflict
+pub alone_grown : (old new : Stored) (c x : ℕ) (op : Op) → IsGrown old new → ((k d : ℕ) → home_of old.by_owner k ≡ Some d → (d ≡ c → ⊥) → conflicts_on x op (lock_at old.locks k) ≡ false)
+    → (k d : ℕ) → home_of new.by_owner k ≡ Some d → (d ≡ c → ⊥) → conflicts_on x op (lock_at new.locks k) ≡ false
+alone_grown old new c x op grown alone k d home differ = ap (conflicts_on x op) (same_lock new.locks old.locks k (grown.locks k)) ∙ alone k d (sym (grown.homes k) ∙ home) differ
 
 pub grown_twice : (old more most : Stored) → IsGrown old more → IsGrown more most → IsGrown old most
 grown_twice old more most first second = record {
@@ -291,7 +320,7 @@ module _ (store : Stored) (stored : IsStored store) (sound : IsSound store.by_ow
         ∙ sym (ap (λ (o : Option Lock). map (suspended x.0 (ops_with op o)) (locks_at store d)) (found_here key home on).1)
 
     -- or it has none, and gets one
-    module _ (key : ℕ) (more : Stored) (none : (k : ℕ) → home_of store.by_owner k ≡ Some c → is_on x.0 (lock_at store.locks k) ≡ false) (added : IsAdded key c (record (new_lock x op) { granted = false }) store more) where
+    module _ (key : ℕ) (more : Stored) (granted : Bool) (none : (k : ℕ) → home_of store.by_owner k ≡ Some c → is_on x.0 (lock_at store.locks k) ≡ false) (added : IsAdded key c (record (new_lock x op) { granted = granted }) store more) where
       mine : (lock_at more.locks key).object.0 ≡ x.0
       unfolding new_lock
       mine = ap (λ (l : Lock). l.object.0) added.added
@@ -300,7 +329,7 @@ module _ (store : Stored) (stored : IsStored store) (sound : IsSound store.by_ow
       unfolding new_lock
       carried = ap (λ (l : Lock). with_op op l.ops) added.added ∙ with_only op
 
-      one_more_lock : locks_at more c ≡ locks_at store c ++ record (new_lock x op) { granted = false } ∷ []
+      one_more_lock : locks_at more c ≡ locks_at store c ++ record (new_lock x op) { granted = granted } ∷ []
       unfolding locks_at
       one_more_lock =
           ap (map (lock_at more.locks)) added.chain
@@ -321,8 +350,8 @@ module _ (store : Stored) (stored : IsStored store) (sound : IsSound store.by_ow
               go [] h = refl
               go (l ∷ ls) h = let parts = or_parts (is_on x.0 l) (list_any (is_on x.0) ls) h in λ i. taken_other x.0 op l parts.0 i ∷ go ls parts.1 i
 
-            taken_new : taken x.0 op (record (new_lock x op) { granted = false }) ≡ new_lock x op
-            taken_new = taken_fresh x op
+            taken_new : taken x.0 op (record (new_lock x op) { granted = granted }) ≡ new_lock x op
+            taken_new = taken_fresh x op granted
 
       seat_kept : (more : Stored) (d : ℕ) → (d ≡ c → ⊥) → ((d : ℕ) → (d ≡ c → ⊥) → chain_of more.by_owner d ≡ chain_of store.by_owner d) → ((k : ℕ) → (k ≡ key → ⊥) → lock_at more.locks k ≡ lock_at store.locks k)
           → locks_at more d ≡ locks_at store d
@@ -338,6 +367,13 @@ module _ (store : Stored) (stored : IsStored store) (sound : IsSound store.by_ow
           ∙ sym (ap (λ (o : Option Lock). map (suspended x.0 (ops_with op o)) (locks_at store d)) (none_here none).1) where
             kept : locks_at more d ≡ locks_at store d
             kept = seat_kept more d apart added.chains added.locks
+
+      -- and the others' locks are as they were
+      pub alone_first : ((k d : ℕ) → home_of store.by_owner k ≡ Some d → (d ≡ c → ⊥) → conflicts_on x.0 op (lock_at store.locks k) ≡ false)
+          → (k d : ℕ) → home_of more.by_owner k ≡ Some d → (d ≡ c → ⊥) → conflicts_on (lock_at more.locks key).object.0 op (lock_at more.locks k) ≡ false
+      alone_first alone k d home differ =
+          let apart : k ≡ key → ⊥ = λ is. differ (seat_one d c (sym home ∙ ap (home_of more.by_owner) is ∙ added.home)) in
+          (λ i. conflicts_on (mine i) op (added.locks k apart i)) ∙ alone k d (sym (added.homes k apart) ∙ home) differ
 
       pub holders_first : (k d : ℕ) → home_of more.by_owner k ≡ Some d → (home_of store.by_owner k ≡ Some d) ⊎ (d ≡ c)
       holders_first k d home = elim (cases_Bool (eqb k key)) [

@@ -10,6 +10,7 @@ pub mod HandLemmas
 pub mod PassLemmas
 pub mod OneLemmas
 pub mod BlockLemmas
+pub mod LookLemmas
 pub mod TableLemmas
 pub mod HandedRows
 pub mod HandLaws

@@ -5,6 +5,7 @@ use Rattle.asset_names.specs.declared.operations.Op.{Op}
 use Rattle.asset_names.specs.declared.operations.Op.TheVariants as Op'
 use Rattle.asset_names.specs.Operations.{conflict}
 use Rattle.asset_names.specs.OpSets.{has_op, OpSet, only_op, with_op}
+use Rattle.asset_names.proofs.Common.{or_false}
 use Rattle.asset_locks.specs.LockTable.{one_conflicts, both_conflict}
 use Rattle.asset_locks.specs.Valid.{is_some_op}
 
@@ -97,3 +98,25 @@ write_with_read ops = refl
 pub write_with_write : (ops : OpSet) → (with_op Op'.Write ops).write ≡ true
 unfolding with_op
 write_with_write ops = refl
+
+-- what conflicts with a set with one more operation, but not with that operation, conflicts with the set
+more_first : (x a read : Bool) → (true && x || a) ≡ true → x ≡ false → (read && x || a) ≡ true
+more_first true a read h none = absurd (true≢false none)
+more_first false a true h none = h
+more_first false a false h none = h
+
+more_second : (y a write : Bool) → (a || true && y) ≡ true → y ≡ false → (a || write && y) ≡ true
+more_second true a write h none = absurd (true≢false none)
+more_second false a true h none = h
+more_second false a false h none = h
+
+pub conflict_before : (op : Op) (a b : OpSet) → both_conflict a (with_op op b) ≡ true → one_conflicts a op ≡ false → both_conflict a b ≡ true
+unfolding both_conflict with_op
+conflict_before Op'.Read a b h none = more_first (one_conflicts a Op'.Read) (b.write && one_conflicts a Op'.Write) b.read h none
+conflict_before Op'.Write a b h none = more_second (one_conflicts a Op'.Write) (b.read && one_conflicts a Op'.Read) b.write h none
+
+-- a set of one operation
+pub conflict_only : (op : Op) (a : OpSet) → both_conflict a (only_op op) ≡ one_conflicts a op
+unfolding both_conflict only_op
+conflict_only Op'.Read a = or_false (one_conflicts a Op'.Read)
+conflict_only Op'.Write a = refl

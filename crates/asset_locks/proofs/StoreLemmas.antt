@@ -6,13 +6,14 @@ use Rattle.std.proofs.lemmas.List.Quantifiers.{position-Some}
 use Rattle.std.proofs.lemmas.List.Folds.{position_or_len_push}
 use Rattle.std.proofs.lemmas.List.Sums.{prefix_len-le-length}
 use Rattle.std.proofs.lemmas.List.{length-append}
+use Rattle.std.proofs.Math.Bool.{and_comm}
 use Rattle.std.proofs.lemmas.Bool.{eqb-true, eqb-false, eq-eqb, ne_eqb, cases_Bool, both_ways, ltb-true, ltb-false, lt-ltb}
 use Rattle.slab.specs.Slab.{Slab, get, with_value, Updates, ContainsKey}
 use Rattle.slab.proofs.SlabLemmas.{Updates-with_value}
 use Rattle.asset_names.specs.declared.names.Ob.{Ob}
 use Rattle.asset_names.specs.declared.operations.Op.{Op}
 use Rattle.asset_names.specs.OpSets.{with_op}
-use Rattle.asset_names.proofs.Common.{some_is_not_none, and_false}
+use Rattle.asset_names.proofs.Common.{some_is_not_none}
 use Rattle.asset_chains.specs.Chained.{Chained, home_of}
 use Rattle.asset_chains.proofs.Laws.{IsPushed}
 use Rattle.asset_lists.specs.declared.part.Part.{Part}
@@ -23,6 +24,7 @@ use Rattle.asset_locks.specs.declared.lock.Lock.{Lock}
 use Rattle.asset_locks.specs.LockTable.{is_on, both_conflict}
 use Rattle.asset_locks.specs.Valid.{is_some_op}
 use Rattle.asset_locks.specs.Stored.{Stored, no_lock, lock_at, number_in, part_for, IsPlaced, IsStored}
+use Rattle.asset_locks.proofs.OpsLemmas.{conflict_swapped}
 
 -- ---- reads and writes of the slab
 pub read_lock : (locks : Slab Lock) (k : ℕ) (lock : Lock) → get locks k ≡ Some lock → lock_at locks k ≡ lock
@@ -161,12 +163,13 @@ stored_dropped old new key stored gone of_object of_owner objects = record {
   object : (k : ℕ) → (k ≡ key → ⊥) → (lock_at new.locks k).object.0 ≡ (lock_at old.locks k).object.0
   object k apart = ap (λ (l : Lock). l.object.0) (same k apart)
 
--- one more lock, which is suspended, is in the slab, in its object's list and in its owner's chain
+-- one more lock is in the slab, in its object's list and in its owner's chain
 pub stored_added : (old new : Stored) (key c number : ℕ) (lock : Lock) → IsStored old → get old.locks key ≡ None → Updates old.locks new.locks key (Some lock)
     → IsChangedAt key (Some (part_for number lock.ops.write)) old.by_object new.by_object → IsPushed c key old.by_owner new.by_owner → new.objects ≡ old.objects → number_in old.objects lock.object.0 ≡ Some number
-    → ((k : ℕ) → home_of old.by_owner k ≡ Some c → is_on lock.object.0 (lock_at old.locks k) ≡ false) → lock.granted ≡ false → is_some_op lock.ops ≡ true → IsStored new
+    → ((k : ℕ) → home_of old.by_owner k ≡ Some c → is_on lock.object.0 (lock_at old.locks k) ≡ false)
+    → (lock.granted ≡ true → (k d : ℕ) → home_of old.by_owner k ≡ Some d → (d ≡ c → ⊥) → (lock_at old.locks k).object.0 ≡ lock.object.0 → both_conflict (lock_at old.locks k).ops lock.ops ≡ false) → is_some_op lock.ops ≡ true → IsStored new
 unfolding is_on
-stored_added old new key c number lock stored vacant added of_object of_owner objects numbered none asleep some = record {
+stored_added old new key c number lock stored vacant added of_object of_owner objects numbered none alone some = record {
   held = λ k. elim (cases_Bool (eqb k key)) [
     | inl here ↦ ap is_some (ap (home_of new.by_owner) (eqb-true k key here) ∙ of_owner.home) ∙ sym (ap is_some (ap (get new.locks) (eqb-true k key here) ∙ added.changed))
     | inr apart ↦ ap is_some (of_owner.homes k (eqb-false k key apart)) ∙ stored.held k ∙ sym (ap is_some (added.others k (eqb-false k key apart)))
@@ -206,9 +209,18 @@ stored_added old new key c number lock stored vacant added of_object of_owner ob
         ap (λ (l : Lock). is_some_op l.ops) (same k differ) ∙ stored.carry k d (sym (of_owner.homes k differ) ∙ home)
   ];
   apart = λ j k d e one other differ same_object conflict. elim (cases_Bool (eqb j key)) [
-    | inl first ↦ ap (λ (b : Bool). b && (lock_at new.locks k).granted) (new_asleep j first)
+    | inl first ↦
+        let is = ap (lock_at new.locks) (eqb-true j key first) ∙ at_key in
+        ap (λ (l : Lock). l.granted && (lock_at new.locks k).granted) is
+        ∙ new_apart k d e differ (sym (ap (home_of new.by_owner) (eqb-true j key first)) ∙ one) other (sym same_object ∙ ap (λ (l : Lock). l.object.0) is)
+        (conflict_swapped (lock_at new.locks k).ops lock.ops ∙ ap (λ (l : Lock). both_conflict l.ops (lock_at new.locks k).ops) (sym is) ∙ conflict)
     | inr apart_j ↦ elim (cases_Bool (eqb k key)) [
-      | inl second ↦ ap (λ (b : Bool). (lock_at new.locks j).granted && b) (new_asleep k second) ∙ and_false (lock_at new.locks j).granted
+      | inl second ↦
+          let is = ap (lock_at new.locks) (eqb-true k key second) ∙ at_key in
+          and_comm (lock_at new.locks j).granted (lock_at new.locks k).granted
+          ∙ ap (λ (l : Lock). l.granted && (lock_at new.locks j).granted) is
+          ∙ new_apart j e d (λ same. differ (sym same)) (sym (ap (home_of new.by_owner) (eqb-true k key second)) ∙ other) one (same_object ∙ ap (λ (l : Lock). l.object.0) is)
+          (ap (λ (l : Lock). both_conflict (lock_at new.locks j).ops l.ops) (sym is) ∙ conflict)
       | inr apart_k ↦
           let first = eqb-false j key apart_j in
           let second = eqb-false k key apart_k in
@@ -227,8 +239,21 @@ stored_added old new key c number lock stored vacant added of_object of_owner ob
   object : (k : ℕ) → (k ≡ key → ⊥) → (lock_at new.locks k).object.0 ≡ (lock_at old.locks k).object.0
   object k apart = ap (λ (l : Lock). l.object.0) (same k apart)
 
-  new_asleep : (k : ℕ) → eqb k key ≡ true → (lock_at new.locks k).granted ≡ false
-  new_asleep k here = ap (λ (n : ℕ). (lock_at new.locks n).granted) (eqb-true k key here) ∙ ap (λ (l : Lock). l.granted) at_key ∙ asleep
+  one_seat : (d e : ℕ) → Some d ≡ Some e → d ≡ e
+  one_seat d e same = cc
+
+  -- a lock of another that conflicts is not granted if the new one is
+  new_apart : (k d e : ℕ) → (d ≡ e → ⊥) → home_of new.by_owner key ≡ Some d → home_of new.by_owner k ≡ Some e → (lock_at new.locks k).object.0 ≡ lock.object.0 → both_conflict (lock_at new.locks k).ops lock.ops ≡ true
+      → (lock.granted && (lock_at new.locks k).granted) ≡ false
+  new_apart k d e apart mine home same_object conflict = go lock.granted refl where
+    differ : k ≡ key → ⊥
+    differ is = apart (one_seat d e (sym mine ∙ ap (home_of new.by_owner) (sym is) ∙ home))
+
+    go : (b : Bool) → lock.granted ≡ b → (b && (lock_at new.locks k).granted) ≡ false
+    go false g = refl
+    go true g = absurd (both_ways (both_conflict (lock_at old.locks k).ops lock.ops)
+        (alone g k e (sym (of_owner.homes k differ) ∙ home) (λ is. apart (one_seat d c (sym mine ∙ of_owner.home) ∙ sym is)) (sym (object k differ) ∙ same_object))
+        (ap (λ (l : Lock). both_conflict l.ops lock.ops) (sym (same k differ)) ∙ conflict))
 
   -- the seat has no other lock on the object
   new_alone : (k d : ℕ) → (k ≡ key → ⊥) → Some d ≡ home_of new.by_owner key → home_of new.by_owner k ≡ Some d → (lock_at new.locks key).object.0 ≡ (lock_at new.locks k).object.0 → ⊥

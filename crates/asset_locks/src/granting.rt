@@ -6,6 +6,7 @@ ghost use Rattle.asset_names.specs.OpSets.{with_op};
 ghost use Rattle.asset_locks.specs.Stored.{lock_at};
 
 use crate::lock::Lock;
+use crate::looking::Look;
 use crate::store::{LockStore, part_of};
 use asset_names::{NoMemory, Ob, Op, Ops};
 use asset_seats::add_keys;
@@ -28,20 +29,23 @@ impl LockStore {
     ghost use Rattle.std.specs.List.{list_any};
     ghost use Rattle.asset_names.specs.OpSets.{with_op, only_op};
     ghost use Rattle.asset_chains.specs.Chained.{chain_of, home_of};
-    ghost use Rattle.asset_locks.specs.LockTable.{is_on, taken, suspended, granted_own, ops_with, new_lock, both_conflict};
+    ghost use Rattle.asset_locks.specs.LockTable.{is_on, conflicts_on, taken, suspended, granted_own, ops_with, new_lock, both_conflict};
     ghost use Rattle.asset_locks.specs.Valid.{is_some_op};
-    ghost use Rattle.asset_locks.specs.Stored.{lock_at, locks_at, number_in, IsGrown, IsAdded, HasKey};
+    ghost use Rattle.asset_locks.specs.Stored.{lock_at, locks_at, number_in, IsGrown, IsSuspended, IsAdded, HasKey};
+    ghost use Rattle.asset_locks.specs.Looked.{IsNoted};
 
-    /// Grants `op` on `x`, whose number is given, to the seat, and suspends each conflicting lock of another. If the seat
-    /// has a lock on `x`, this takes no memory. If memory runs out, no lock changes.
+    /// Grants `op` on `x`, whose number is given, to the seat, after a look for `op`, and suspends each conflicting lock of
+    /// another. If the seat has a lock on `x`, this takes no memory. If memory runs out, no lock changes.
     pub(crate) fn grant(
         &mut self,
+        look: Look,
         number: Option<usize>,
         c: usize,
         x: Ob,
         op: Op,
     ) -> Result<(), NoMemory>
         requires number { number ≡ number_in self.old.objects x.0 }
+        requires noted { IsNoted self.old c x.0 op look }
         requires seat { c < length self.old.by_owner.chains }
         ensures own { OnOk result (locks_at self.new c ≡ granted_own x op (locks_at self.old c)) }
         ensures others { OnOk result ((d : ℕ) → (d ≡ c → ⊥) → locks_at self.new d ≡ map (suspended x.0 (ops_with op (find (is_on x.0) (locks_at self.old c)))) (locks_at self.old d)) }
@@ -51,14 +55,14 @@ impl LockStore {
         ensures holders { (k d : ℕ) → home_of self.new.by_owner k ≡ Some d → (home_of self.old.by_owner k ≡ Some d) ⊎ (d ≡ c) }
     {
         self.laws();
-        match self.key_on(number, c, x) {
+        match self.own_key(look, number, c, x, op) {
             Some(key) => {
-                self.take(key, c, op);
+                self.take(key, c, op, look.conflicts);
                 Ok(())
             }
             None => {
-                let key = self.add_lock(number, c, x, op)?;
-                self.take(key, c, op);
+                let key = self.add_lock(number, c, x, op, !look.conflicts)?;
+                self.take(key, c, op, look.conflicts);
                 Ok(())
             }
         }
@@ -66,20 +70,35 @@ impl LockStore {
 
     /// Grants `op` to the lock at the key, which is the seat's, and suspends each conflicting lock of another. If the lock
     /// is granted and carries `op`, they are suspended already.
-    fn take(&mut self, key: usize, c: usize, op: Op)
-        requires { home_of self.old.by_owner key ≡ Some c }
+    fn take(&mut self, key: usize, c: usize, op: Op, conflicts: bool)
+        requires home { home_of self.old.by_owner key ≡ Some c }
+        requires alone { conflicts ≡ false → (k d : ℕ) → home_of self.old.by_owner k ≡ Some d → (d ≡ c → ⊥) → conflicts_on (lock_at self.old.locks key).object.0 op (lock_at self.old.locks k) ≡ false }
         ensures own { locks_at self.new c ≡ map (taken (lock_at self.old.locks key).object.0 op) (locks_at self.old c) }
         ensures others { (d : ℕ) → (d ≡ c → ⊥) → locks_at self.new d ≡ map (suspended (lock_at self.old.locks key).object.0 (with_op op (lock_at self.old.locks key).ops)) (locks_at self.old d) }
         ensures by_owner { self.new.by_owner ≡ self.old.by_owner }
     {
         self.laws();
+        if self.lock(key).has(op) {
+            return;
+        }
+        self.suspend_for(key, c, op, conflicts);
+        self.grant_at(key, op);
+    }
+
+    /// Suspends each lock of another that conflicts with what the lock at the key, which is the seat's, carries once `op`
+    /// is granted to it. If it is granted, and no lock of another conflicts with `op`, they are suspended already.
+    fn suspend_for(&mut self, key: usize, c: usize, op: Op, conflicts: bool)
+        requires home { home_of self.old.by_owner key ≡ Some c }
+        requires alone { conflicts ≡ false → (k d : ℕ) → home_of self.old.by_owner k ≡ Some d → (d ≡ c → ⊥) → conflicts_on (lock_at self.old.locks key).object.0 op (lock_at self.old.locks k) ≡ false }
+        ensures { IsSuspended (lock_at self.old.locks key).object.0 c (with_op op (lock_at self.old.locks key).ops) self.old self.new }
+    {
+        self.laws();
         let lock = self.lock(key);
-        if lock.has(op) {
+        if lock.granted && !conflicts {
             return;
         }
         let number = self.number_at(key);
         self.suspend_others(number, lock.object, c, lock.ops.with(op));
-        self.grant_at(key, op);
     }
 
     /// Returns the number of the object that the lock at the key is on.
@@ -109,19 +128,21 @@ impl LockStore {
         }
     }
 
-    /// Adds a lock on `x`, whose number is given, which is suspended, to those of the seat, which has none on `x`. Returns
-    /// its key. If memory runs out, no lock changes.
+    /// Adds a lock on `x`, whose number is given, to those of the seat, which has none on `x`. Returns its key. If it is
+    /// granted, no lock of another conflicts with it. If memory runs out, no lock changes.
     fn add_lock(
         &mut self,
         number: Option<usize>,
         c: usize,
         x: Ob,
         op: Op,
+        granted: bool,
     ) -> Result<usize, NoMemory>
         requires number { number ≡ number_in self.old.objects x.0 }
         requires seat { c < length self.old.by_owner.chains }
         requires none { (k : ℕ) → home_of self.old.by_owner k ≡ Some c → is_on x.0 (lock_at self.old.locks k) ≡ false }
-        ensures added { IfOk result (λ key. IsAdded key c (record (new_lock x op) { granted = false }) self.old self.new) }
+        requires alone { granted ≡ true → (k d : ℕ) → home_of self.old.by_owner k ≡ Some d → (d ≡ c → ⊥) → conflicts_on x.0 op (lock_at self.old.locks k) ≡ false }
+        ensures added { IfOk result (λ key. IsAdded key c (record (new_lock x op) { granted = granted }) self.old self.new) }
         ensures unchanged { OnErr result (IsGrown self.old self.new) }
     {
         let number = self.number_for(number, x)?;
@@ -133,7 +154,7 @@ impl LockStore {
             Lock {
                 object: x,
                 ops: Ops::only(op),
-                granted: false,
+                granted,
             },
         )?;
         Ok(key)
@@ -189,13 +210,13 @@ impl LockStore {
     }
 
     /// Puts a lock at the key, for which there is room, into the chain of the seat and the list of the object of this
-    /// number. If memory runs out, no lock changes.
+    /// number. If it is granted, no lock of another conflicts with it. If memory runs out, no lock changes.
     fn insert(&mut self, key: usize, number: usize, c: usize, lock: Lock) -> Result<(), NoMemory>
         requires room { HasKey self.old key }
         requires number { number_in self.old.objects lock.object.0 ≡ Some number }
         requires seat { c < length self.old.by_owner.chains }
         requires none { (k : ℕ) → home_of self.old.by_owner k ≡ Some c → is_on lock.object.0 (lock_at self.old.locks k) ≡ false }
-        requires suspended { lock.granted ≡ false }
+        requires apart { lock.granted ≡ true → (k d : ℕ) → home_of self.old.by_owner k ≡ Some d → (d ≡ c → ⊥) → (lock_at self.old.locks k).object.0 ≡ lock.object.0 → both_conflict (lock_at self.old.locks k).ops lock.ops ≡ false }
         requires ops { is_some_op lock.ops ≡ true }
         ensures added { OnOk result (IsAdded key c lock self.old self.new) }
         ensures unchanged { OnErr result (IsGrown self.old self.new) }

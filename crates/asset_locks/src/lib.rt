@@ -8,6 +8,7 @@
 mod granting;
 mod handing;
 mod lock;
+mod looking;
 mod release;
 mod room;
 mod searching;

@@ -1,16 +1,14 @@
-//! Walks over the locks of an object or of a seat, which change nothing.
+//! Searches for the locks of a seat, which change nothing.
 
 ghost use Rattle.std.specs.Prelude.{◌≡◌};
 ghost use Rattle.asset_chains.specs.Chained.{home_of};
 ghost use Rattle.asset_locks.specs.Stored.{is_others};
 
-use crate::lock::{Request, one_conflicts};
+use crate::looking::Look;
 use crate::store::{LockStore, readers_of, writers_of};
 use asset_chains::Chains;
 use asset_lists::Part;
-use asset_names::{NoMemory, Ob, ObSet, Op, Txn};
-use asset_permits::Permits;
-use asset_seats::Seats;
+use asset_names::{NoMemory, Ob, ObSet, Op};
 use std::alloc::Global;
 
 /// Returns whether the lock at the key is another's than the seat's.
@@ -25,111 +23,15 @@ pub(crate) fn is_others(by_owner: &Chains, key: usize, c: usize) -> bool
 }
 
 impl LockStore {
-    ghost use Rattle.std.specs.Prelude.{◌≡◌, ℕ, ◌||◌, Bool, true, false, Some, map, filter, slice_get, ◌++◌, IfOk, OnOk, IfSome, IfNone};
-    ghost use Rattle.std.specs.List.{list_any};
+    ghost use Rattle.std.specs.Prelude.{◌≡◌, ℕ, Bool, true, false, Some, map, filter, slice_get, ◌++◌, IfOk, OnOk, IfSome, IfNone};
     ghost use Rattle.asset_names.specs.declared.sets.ObSet.{ObSet as ObjectSet};
     ghost use Rattle.asset_names.specs.InSet.{in_set, only_in};
-    ghost use Rattle.asset_names.specs.OpSets.{has_op, only_op};
-    ghost use Rattle.asset_names.specs.declared.operations.Op.TheVariants as Op';
     ghost use Rattle.asset_chains.specs.Chained.{home_of};
     ghost use Rattle.asset_lists.specs.Parted.{part_of};
-    ghost use Rattle.asset_permits.specs.Descriptors.{allows_by};
-    ghost use Rattle.asset_seats.specs.Seated.{seat};
     ghost use Rattle.asset_locks.specs.declared.lock.Lock.{Lock as Held};
-    ghost use Rattle.asset_locks.specs.LockTable.{is_on, blocks};
-    ghost use Rattle.asset_locks.specs.Stored.{name_of, key_blocks, lock_at, locks_at, number_in, part_for, is_others};
-
-    /// Returns who has the lock at the key, if anybody has it.
-    #[tactic(auto, unfolding(crate::specs::Stored::name_of))]
-    fn owner(&self, key: usize, seats: &Seats) -> Option<Txn>
-        ensures { result ≡ name_of seats.now (home_of self.now.by_owner key) }
-    {
-        match self.by_owner.home(key) {
-            Some(c) => seats.name_at(c),
-            None => None,
-        }
-    }
-
-    /// Returns whether the lock at the key, which is on the object that is asked for, blocks the request.
-    fn key_blocks(&self, key: usize, request: Request, seats: &Seats, permits: &mut Permits) -> bool
-        ensures answer { result ≡ key_blocks self.now seats.now (λ u. allows_by permits.old u request.t.0 request.x.0 request.op) request.t.0 request.op key }
-        ensures permits { permits.new ≡ permits.old }
-    {
-        let Some(owner) = self.owner(key, seats) else {
-            return false;
-        };
-        if owner == request.t {
-            return false;
-        }
-        if one_conflicts(self.lock(key).ops, request.op) {
-            !permits.allows(owner, request.t, request.x, request.op)
-        } else {
-            false
-        }
-    }
-
-    /// Returns whether a lock of the part, which is one of the object that is asked for, blocks the request.
-    fn part_blocks(
-        &self,
-        part: Part,
-        request: Request,
-        seats: &Seats,
-        permits: &mut Permits,
-    ) -> bool
-        ensures blocked { result ≡ true → (k : ℕ) × (part_of self.now.by_object k ≡ Some part) × (key_blocks self.now seats.now (λ u. allows_by permits.old u request.t.0 request.x.0 request.op) request.t.0 request.op k ≡ true) }
-        ensures free { result ≡ false → (k : ℕ) → part_of self.now.by_object k ≡ Some part → key_blocks self.now seats.now (λ u. allows_by permits.old u request.t.0 request.x.0 request.op) request.t.0 request.op k ≡ false }
-        ensures permits { permits.new ≡ permits.old }
-    {
-        let keys = self.by_object.keys(part);
-        'keys: for key in keys {
-            if self.key_blocks(*key as usize, request, seats, permits) {
-                return true;
-            }
-        }
-        false
-    }
-
-    /// Returns whether a lock on the object of this number, which is the one that is asked for, blocks the request. For a
-    /// read it looks at the locks that write.
-    fn object_blocks(
-        &self,
-        number: usize,
-        request: Request,
-        seats: &Seats,
-        permits: &mut Permits,
-    ) -> bool
-        ensures blocked { result ≡ true → (k : ℕ) × (w : Bool) × (part_of self.now.by_object k ≡ Some (part_for number w)) × (key_blocks self.now seats.now (λ u. allows_by permits.old u request.t.0 request.x.0 request.op) request.t.0 request.op k ≡ true) }
-        ensures free { result ≡ false → (k : ℕ) (w : Bool) → part_of self.now.by_object k ≡ Some (part_for number w) → (w || has_op (only_op request.op) Op'.Write) ≡ true → key_blocks self.now seats.now (λ u. allows_by permits.old u request.t.0 request.x.0 request.op) request.t.0 request.op k ≡ false }
-        ensures permits { permits.new ≡ permits.old }
-    {
-        if self.part_blocks(writers_of(number), request, seats, permits) {
-            return true;
-        }
-        match request.op {
-            Op::Read => false,
-            Op::Write => self.part_blocks(readers_of(number), request, seats, permits),
-        }
-    }
-
-    /// Returns whether somebody blocks the request, the number of whose object is given.
-    pub(crate) fn is_blocked(
-        &self,
-        number: Option<usize>,
-        request: Request,
-        seats: &Seats,
-        permits: &mut Permits,
-    ) -> bool
-        requires { number ≡ number_in self.now.objects request.x.0 }
-        ensures blocked { result ≡ true → (c : ℕ) × (u : Txn) × (seat seats.now c ≡ Some u) × (blocks (λ u. allows_by permits.old u request.t.0 request.x.0 request.op) request.t.0 request.x.0 request.op u.0 (locks_at self.now c) ≡ true) }
-        ensures free { result ≡ false → (c : ℕ) (u : Txn) → seat seats.now c ≡ Some u → blocks (λ u. allows_by permits.old u request.t.0 request.x.0 request.op) request.t.0 request.x.0 request.op u.0 (locks_at self.now c) ≡ false }
-        ensures permits { permits.new ≡ permits.old }
-    {
-        self.laws();
-        match number {
-            Some(number) => self.object_blocks(number, request, seats, permits),
-            None => false,
-        }
-    }
+    ghost use Rattle.asset_locks.specs.LockTable.{is_on};
+    ghost use Rattle.asset_locks.specs.Stored.{lock_at, locks_at, number_in, part_for, is_others};
+    ghost use Rattle.asset_locks.specs.Looked.{IsNoted};
 
     /// Returns the key of a lock of the part that is the seat's, if there is one.
     fn find_in(&self, part: Part, c: usize) -> Option<usize>
@@ -192,6 +94,52 @@ impl LockStore {
                 }
             }
             None => None,
+        }
+    }
+
+    /// Returns the key of the lock of the seat on `x`, whose number is given, if it has one, which only reads. It looks at
+    /// the locks of the seat or at those on the object that only read, whichever are fewer.
+    fn reader_on(&self, number: Option<usize>, c: usize, x: Ob) -> Option<usize>
+        requires number { number ≡ number_in self.now.objects x.0 }
+        requires reads { (k : ℕ) → home_of self.now.by_owner k ≡ Some c → is_on x.0 (lock_at self.now.locks k) ≡ true → (lock_at self.now.locks k).ops.write ≡ false }
+        ensures found { IfSome result (λ k. home_of self.now.by_owner k ≡ Some c × is_on x.0 (lock_at self.now.locks k) ≡ true) }
+        ensures none { IfNone result ((k : ℕ) → home_of self.now.by_owner k ≡ Some c → is_on x.0 (lock_at self.now.locks k) ≡ false) }
+    {
+        self.laws();
+        match number {
+            Some(number) => {
+                let readers = readers_of(number);
+                if self.by_owner.len(c) <= self.by_object.keys(readers).len() {
+                    self.find_by_owner(c, x)
+                } else {
+                    self.find_in(readers, c)
+                }
+            }
+            None => None,
+        }
+    }
+
+    /// Returns the key of the lock of the seat on `x`, whose number is given, if it has one, after a look for `op`. It
+    /// searches only after a look for a read, which was at no lock that only reads.
+    pub(crate) fn own_key(
+        &self,
+        look: Look,
+        number: Option<usize>,
+        c: usize,
+        x: Ob,
+        op: Op,
+    ) -> Option<usize>
+        requires number { number ≡ number_in self.now.objects x.0 }
+        requires noted { IsNoted self.now c x.0 op look }
+        ensures found { IfSome result (λ k. home_of self.now.by_owner k ≡ Some c × is_on x.0 (lock_at self.now.locks k) ≡ true) }
+        ensures none { IfNone result ((k : ℕ) → home_of self.now.by_owner k ≡ Some c → is_on x.0 (lock_at self.now.locks k) ≡ false) }
+    {
+        match look.own {
+            Some(key) => Some(key),
+            None => match op {
+                Op::Read => self.reader_on(number, c, x),
+                Op::Write => None,
+            },
         }
     }
 

@@ -102,7 +102,10 @@ impl Locks {
         self.order.laws();
         let request = Request { t, x, op };
         let number = self.store.number(x);
-        !self.store.is_blocked(number, request, &self.seats, permits)
+        !self
+            .store
+            .look(number, request, &self.seats, permits)
+            .blocked
     }
 
     /// Asks for `op` on `x` for `t`, which is enrolled. If `x` is free for it, `t` is granted a lock that carries `op`
@@ -110,7 +113,8 @@ impl Locks {
     /// the request becomes the pending request of `t`.
     ///
     /// Only the first grant to `t` on `x` can answer `NoMemory`, and then nothing changes. It looks at the locks at which
-    /// `is_free` looks, and for the lock of `t` at its own locks or those on `x`, whichever are fewer.
+    /// `is_free` looks, and again only to suspend some. If a read meets no lock of `t` among them, it searches for one
+    /// among those of `t` or those on `x` that only read, whichever are fewer.
     pub fn ask(&mut self, t: Txn, x: Ob, op: Op, permits: &mut Permits) -> Result<Asked, NoMemory>
         requires enrolled { is_some (enrolled_in self.old t.0) ≡ true }
         ensures answer { IfOk result (λ asked. asked ≡ answer_where (is_free_in self.old (λ u. allows_by permits.old u t.0 x.0 op) t.0 x.0 op)) }
@@ -128,11 +132,12 @@ impl Locks {
         };
         let request = Request { t, x, op };
         let number = self.store.number(x);
-        if self.store.is_blocked(number, request, &self.seats, permits) {
+        let look = self.store.look(number, request, &self.seats, permits);
+        if look.blocked {
             self.pending[c] = Some((x, op));
             return Ok(Asked::Pending);
         }
-        self.store.grant(number, c, x, op)?;
+        self.store.grant(look, number, c, x, op)?;
         self.pending[c] = None;
         Ok(Asked::Granted)
     }

@@ -1,4 +1,4 @@
-use Rattle.std.proofs.Common.{List, false, sym, ap, subst, ◌∙◌, arith}
+use Rattle.std.proofs.Common.{List, sym, ap, subst, ◌∙◌, arith}
 use Rattle.asset_names.specs.declared.names.Ob.{Ob}
 use Rattle.asset_names.specs.OpSets.{OpSet}
 use Rattle.asset_names.proofs.Common.{always_err}
@@ -8,7 +8,7 @@ use Rattle.asset_locks.specs.Valid.{is_some_op}
 use Rattle.asset_locks.specs.Stored.{number_in, IsAdded}
 use Rattle.asset_locks.proofs.StoreLemmas.{same_lock}
 use Rattle.asset_locks.proofs.OpsLemmas.{some_only}
-use Rattle.asset_locks.proofs.GrantLemmas.{grown_twice, added_later}
+use Rattle.asset_locks.proofs.GrantLemmas.{apart_new, alone_grown, grown_twice, added_later}
 use Rattle.asset_locks.proofs.store.LockStore.add_lock.Goals as goal
 
 pub returns-in_err-number-clause-unchanged : goal.returns-in_err-number-clause-unchanged
@@ -31,6 +31,11 @@ insert-requires-clause-none c = λ k home.
     let grown = (grown_twice c.args.self.now c.number_for.new.self c.reserve_key.new.self c.number_for.ensures.grown c.reserve_key.ensures.grown) in
     ap (λ (l : Lock). is_on c.args.x.0 l) (same_lock c.reserve_key.new.self.locks c.args.self.now.locks k (grown.locks k)) ∙ c.requires.none k (sym (grown.homes k) ∙ home)
 
+pub insert-requires-clause-apart : goal.insert-requires-clause-apart
+insert-requires-clause-apart c = λ granted.
+    let grown = (grown_twice c.args.self.now c.number_for.new.self c.reserve_key.new.self c.number_for.ensures.grown c.reserve_key.ensures.grown) in
+    apart_new c.reserve_key.new.self c.args.c c.args.x c.args.op c.only.result c.only.ensures (alone_grown c.args.self.now c.reserve_key.new.self c.args.c c.args.x.0 c.args.op grown (c.requires.alone granted))
+
 pub insert-requires-clause-ops : goal.insert-requires-clause-ops
 insert-requires-clause-ops c = ap is_some_op c.only.ensures ∙ some_only c.args.op
 
@@ -38,7 +43,7 @@ pub returns-clause-added : goal.returns-clause-added
 unfolding new_lock
 returns-clause-added c =
     added_later c.args.self.now c.reserve_key.new.self c.insert.new.self c.in_ok-key.key c.args.c _ (grown_twice c.args.self.now c.number_for.new.self c.reserve_key.new.self c.number_for.ensures.grown c.reserve_key.ensures.grown)
-    (subst (λ (o : OpSet). IsAdded c.in_ok-key.key c.args.c (record { object = c.args.x; ops = o; granted = false }) c.reserve_key.new.self c.insert.new.self) c.only.ensures c.in_ok-insert.ensures.added)
+    (subst (λ (o : OpSet). IsAdded c.in_ok-key.key c.args.c (record { object = c.args.x; ops = o; granted = c.args.granted }) c.reserve_key.new.self c.insert.new.self) c.only.ensures c.in_ok-insert.ensures.added)
 
 pub returns-in_err-insert-clause-unchanged : goal.returns-in_err-insert-clause-unchanged
 returns-in_err-insert-clause-unchanged c =

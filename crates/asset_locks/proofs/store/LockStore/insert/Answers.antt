@@ -1,11 +1,11 @@
-use Rattle.std.proofs.Common.{◌≡◌, ℕ, ◌<◌, length, false, Some, is_some, refl, sym, ap, subst, ◌∙◌, arith}
+use Rattle.std.proofs.Common.{◌≡◌, ℕ, ◌<◌, length, true, false, Some, is_some, refl, sym, ap, subst, ◌∙◌, arith}
 use Rattle.asset_names.proofs.Common.{none_of}
 use Rattle.slab.specs.Slab.{get, Updates}
 use Rattle.asset_chains.specs.Chained.{home_of}
 use Rattle.asset_chains.proofs.Laws.{pushes}
 use Rattle.asset_lists.specs.declared.part.Part.{Part}
 use Rattle.asset_lists.specs.Parted.{Parted, IsChangedAt}
-use Rattle.asset_locks.specs.LockTable.{is_on}
+use Rattle.asset_locks.specs.LockTable.{is_on, both_conflict}
 use Rattle.asset_locks.specs.Stored.{Stored, lock_at, number_in, IsStored, IsAdded}
 use Rattle.asset_locks.proofs.StoreLemmas.{same_lock, read_lock, list_of, list_there, stored_added}
 use Rattle.asset_locks.proofs.store.LockStore.insert.Goals as goal
@@ -33,7 +33,8 @@ invariant_of-self-2 c =
     (pushes c.args.c c.args.key c.self.inside.by_owner c.push-2.new.self (subst (λ (s : Stored). c.args.c < length s.by_owner.chains) (sym c.self.view_is) c.requires.seat) (subst (λ (s : Stored). c.args.key < length s.by_owner.homes) (sym c.self.view_is) c.requires.room.of_owner) c.push-2.ensures)
     refl (ap (λ (s : Stored). number_in s.objects c.args.lock.object.0) c.self.view_is ∙ c.requires.number)
     (subst (λ (s : Stored). (k : ℕ) → home_of s.by_owner k ≡ Some c.args.c → is_on c.args.lock.object.0 (lock_at s.locks k) ≡ false) (sym c.self.view_is) c.requires.none)
-    c.requires.suspended c.requires.ops
+    (subst (λ (s : Stored). c.args.lock.granted ≡ true → (k d : ℕ) → home_of s.by_owner k ≡ Some d → (d ≡ c.args.c → ⊥) → (lock_at s.locks k).object.0 ≡ c.args.lock.object.0 → both_conflict (lock_at s.locks k).ops c.args.lock.ops ≡ false) (sym c.self.view_is) c.requires.apart)
+    c.requires.ops
 
 pub returns-clause-added : goal.returns-clause-added
 returns-clause-added c =

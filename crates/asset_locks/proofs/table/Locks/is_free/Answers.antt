@@ -6,6 +6,6 @@ use Rattle.asset_locks.proofs.table.Locks.is_free.Goals as goal
 
 pub returns-clause-free : goal.returns-clause-free
 returns-clause-free c =
-    not_blocked c.is_blocked.result _
-    (λ is. let by = c.is_blocked.ensures.blocked is in ap (λ (table : LockTable). is_free_in table (λ u. allows_by c.args.permits.now u c.args.t.0 c.args.x.0 c.args.op) c.args.t.0 c.args.x.0 c.args.op) (sym c.self.view_is) ∙ is_blocked_by c.self.inside.seats c.self.inside.pending.items c.self.inside.order c.self.inside.store c.self.invariant c.laws-2.ensures.sound (λ u. allows_by c.args.permits.now u c.args.t.0 c.args.x.0 c.args.op) c.args.t.0 c.args.x.0 c.args.op by.0 by.1 by.2 by.3)
-    (λ is. ap (λ (table : LockTable). is_free_in table (λ u. allows_by c.args.permits.now u c.args.t.0 c.args.x.0 c.args.op) c.args.t.0 c.args.x.0 c.args.op) (sym c.self.view_is) ∙ is_free_by c.self.inside.seats c.self.inside.pending.items c.self.inside.order c.self.inside.store c.self.invariant c.laws-2.ensures.sound (λ u. allows_by c.args.permits.now u c.args.t.0 c.args.x.0 c.args.op) c.args.t.0 c.args.x.0 c.args.op (c.is_blocked.ensures.free is))
+    not_blocked c.look.result.blocked _
+    (λ is. let by = c.look.ensures.blocked is in ap (λ (table : LockTable). is_free_in table (λ u. allows_by c.args.permits.now u c.args.t.0 c.args.x.0 c.args.op) c.args.t.0 c.args.x.0 c.args.op) (sym c.self.view_is) ∙ is_blocked_by c.self.inside.seats c.self.inside.pending.items c.self.inside.order c.self.inside.store c.self.invariant c.laws-2.ensures.sound (λ u. allows_by c.args.permits.now u c.args.t.0 c.args.x.0 c.args.op) c.args.t.0 c.args.x.0 c.args.op by.0 by.1 by.2 by.3)
+    (λ is. ap (λ (table : LockTable). is_free_in table (λ u. allows_by c.args.permits.now u c.args.t.0 c.args.x.0 c.args.op) c.args.t.0 c.args.x.0 c.args.op) (sym c.self.view_is) ∙ is_free_by c.self.inside.seats c.self.inside.pending.items c.self.inside.order c.self.inside.store c.self.invariant c.laws-2.ensures.sound (λ u. allows_by c.args.permits.now u c.args.t.0 c.args.x.0 c.args.op) c.args.t.0 c.args.x.0 c.args.op (c.look.ensures.free is))

@@ -1,0 +1,146 @@
+//! A look at the locks on an object, for a request: who blocks it, and what a grant of it has to know.
+
+ghost use Rattle.std.specs.Prelude.{◌≡◌};
+ghost use Rattle.asset_locks.specs.Looked.{look_with};
+
+use crate::lock::{Request, one_conflicts};
+use crate::store::{LockStore, readers_of, writers_of};
+use asset_lists::Part;
+use asset_names::{Op, Txn};
+use asset_permits::Permits;
+use asset_seats::Seats;
+
+/// What a look at locks on the object that is asked for finds. It ends at the first lock that blocks the request.
+#[derive(Clone, Copy)]
+pub(crate) struct Look {
+    /// Whether a lock blocks the request.
+    pub blocked: bool,
+    /// The key of the asker's own lock, if the look met it.
+    pub own: Option<usize>,
+    /// Whether the look met a lock of another that conflicts with the request.
+    pub conflicts: bool,
+}
+
+impl Look {
+    /// What is found where no lock is.
+    pub(crate) const NOTHING: Look = Look {
+        blocked: false,
+        own: None,
+        conflicts: false,
+    };
+
+    /// Returns what the two looks find.
+    #[tactic(auto, unfolding(crate::specs::Looked::look_with))]
+    fn with(self, more: Look) -> Look
+        ensures { result ≡ look_with self more }
+    {
+        Look {
+            blocked: self.blocked || more.blocked,
+            own: self.own.or(more.own),
+            conflicts: self.conflicts || more.conflicts,
+        }
+    }
+}
+
+impl LockStore {
+    ghost use Rattle.std.specs.Prelude.{◌≡◌, ℕ, ◌||◌, Bool, true, false, Some};
+    ghost use Rattle.asset_names.specs.OpSets.{has_op, only_op};
+    ghost use Rattle.asset_names.specs.declared.operations.Op.TheVariants as Op';
+    ghost use Rattle.asset_chains.specs.Chained.{home_of};
+    ghost use Rattle.asset_lists.specs.Parted.{part_of};
+    ghost use Rattle.asset_permits.specs.Descriptors.{allows_by};
+    ghost use Rattle.asset_seats.specs.Seated.{seat};
+    ghost use Rattle.asset_locks.specs.LockTable.{blocks};
+    ghost use Rattle.asset_locks.specs.Stored.{name_of, locks_at, number_in, part_for};
+    ghost use Rattle.asset_locks.specs.Looked.{IsLook, IsLookedAt};
+
+    /// Returns who has the lock at the key, if anybody has it.
+    #[tactic(auto, unfolding(crate::specs::Stored::name_of))]
+    fn owner(&self, key: usize, seats: &Seats) -> Option<Txn>
+        ensures { result ≡ name_of seats.now (home_of self.now.by_owner key) }
+    {
+        match self.by_owner.home(key) {
+            Some(c) => seats.name_at(c),
+            None => None,
+        }
+    }
+
+    /// Looks at the lock at the key, which is on the object that is asked for.
+    fn look_at(&self, key: usize, request: Request, seats: &Seats, permits: &mut Permits) -> Look
+        ensures look { IsLook self.now seats.now (λ u. allows_by permits.old u request.t.0 request.x.0 request.op) request.t.0 request.op (λ (k : ℕ). k ≡ key) result }
+        ensures permits { permits.new ≡ permits.old }
+    {
+        let Some(owner) = self.owner(key, seats) else {
+            return Look::NOTHING;
+        };
+        if owner == request.t {
+            return Look {
+                blocked: false,
+                own: Some(key),
+                conflicts: false,
+            };
+        }
+        if one_conflicts(self.lock(key).ops, request.op) {
+            Look {
+                blocked: !permits.allows(owner, request.t, request.x, request.op),
+                own: None,
+                conflicts: true,
+            }
+        } else {
+            Look::NOTHING
+        }
+    }
+
+    /// Looks at the locks of the part, which is one of the object that is asked for.
+    fn look_in(&self, part: Part, request: Request, seats: &Seats, permits: &mut Permits) -> Look
+        ensures look { IsLook self.now seats.now (λ u. allows_by permits.old u request.t.0 request.x.0 request.op) request.t.0 request.op (λ (k : ℕ). part_of self.now.by_object k ≡ Some part) result }
+        ensures permits { permits.new ≡ permits.old }
+    {
+        let keys = self.by_object.keys(part);
+        let mut look = Look::NOTHING;
+        'keys: for key in keys {
+            look = look.with(self.look_at(*key as usize, request, seats, permits));
+            if look.blocked {
+                return look;
+            }
+        }
+        look
+    }
+
+    /// Looks at the locks on the object of this number, which is the one that is asked for: for a read at those that
+    /// write, and for a write at all.
+    fn look_on(&self, number: usize, request: Request, seats: &Seats, permits: &mut Permits) -> Look
+        ensures look { IsLook self.now seats.now (λ u. allows_by permits.old u request.t.0 request.x.0 request.op) request.t.0 request.op (λ (k : ℕ). (w : Bool) × (part_of self.now.by_object k ≡ Some (part_for number w)) × ((w || has_op (only_op request.op) Op'.Write) ≡ true)) result }
+        ensures permits { permits.new ≡ permits.old }
+    {
+        let writers = self.look_in(writers_of(number), request, seats, permits);
+        if writers.blocked {
+            return writers;
+        }
+        match request.op {
+            Op::Read => writers,
+            Op::Write => writers.with(self.look_in(readers_of(number), request, seats, permits)),
+        }
+    }
+
+    /// Looks at the locks on the object that is asked for, whose number is given, as `look_on` does.
+    pub(crate) fn look(
+        &self,
+        number: Option<usize>,
+        request: Request,
+        seats: &Seats,
+        permits: &mut Permits,
+    ) -> Look
+        requires { number ≡ number_in self.now.objects request.x.0 }
+        ensures blocked { result.blocked ≡ true → (c : ℕ) × (u : Txn) × (seat seats.now c ≡ Some u) × (blocks (λ u. allows_by permits.old u request.t.0 request.x.0 request.op) request.t.0 request.x.0 request.op u.0 (locks_at self.now c) ≡ true) }
+        ensures free { result.blocked ≡ false → (c : ℕ) (u : Txn) → seat seats.now c ≡ Some u → blocks (λ u. allows_by permits.old u request.t.0 request.x.0 request.op) request.t.0 request.x.0 request.op u.0 (locks_at self.now c) ≡ false }
+        ensures look { IsLook self.now seats.now (λ u. allows_by permits.old u request.t.0 request.x.0 request.op) request.t.0 request.op (IsLookedAt self.now request.x.0 request.op) result }
+        ensures permits { permits.new ≡ permits.old }
+    {
+        self.laws();
+        match number {
+            Some(number) => self.look_on(number, request, seats, permits),
+            None => Look::NOTHING,
+        }
+    }
+}
