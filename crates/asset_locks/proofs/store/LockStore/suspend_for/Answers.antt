@@ -1,4 +1,4 @@
-use Rattle.std.proofs.Common.{sym, ap, ◌∙◌}
+use Rattle.std.proofs.Common.{ap, ◌∙◌, rules}
 use Rattle.asset_locks.specs.declared.lock.Lock.{Lock}
 use Rattle.asset_locks.specs.Valid.{is_some_op}
 use Rattle.asset_locks.specs.Stored.{number_in}
@@ -7,7 +7,7 @@ use Rattle.asset_locks.proofs.GrantLemmas.{suspended_already, pauses_as}
 use Rattle.asset_locks.proofs.store.LockStore.suspend_for.Goals as goal
 
 pub returns-then-not-conflicts : goal.returns-then-not-conflicts
-returns-then-not-conflicts c = suspended_already c.args.self.now c.laws.ensures.stored c.laws.ensures.owners c.args.key c.args.c c.args.op c.requires.home (ap (λ (l : Lock). l.granted) (sym c.lock-lock.ensures) ∙ c.if-lock.true) (c.requires.alone c.if-not-conflicts.true)
+returns-then-not-conflicts c = suspended_already c.args.self.now c.laws.ensures.stored c.laws.ensures.owners c.args.key c.args.c c.args.op c.requires.home (search rules) (c.requires.alone c.if-not-conflicts.true)
 
 pub suspend_others-requires-clause-number : goal.suspend_others-requires-clause-number
 suspend_others-requires-clause-number c = ap (λ (l : Lock). number_in c.args.self.now.objects l.object.0) c.lock-lock.ensures ∙ c.number_at-number.ensures
