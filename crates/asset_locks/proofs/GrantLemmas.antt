@@ -1,5 +1,5 @@
 -- A lock that is granted, and the locks of its seat.
-use Rattle.std.proofs.Common.{◌≡◌, ℕ, ◌<◌, ◌≤◌, Bool, true, false, eqb, cond, ◌&&◌, List, [], ◌∷◌, ◌++◌, map, length, Option, Some, None, is_some, ◌⊎◌, refl, sym, ap, subst, ◌∙◌, inl, inr, arith}
+use Rattle.std.proofs.Common.{◌≡◌, ℕ, ◌<◌, ◌≤◌, Bool, true, false, eqb, cond, ◌&&◌, List, [], ◌∷◌, ◌++◌, map, length, Option, Some, None, is_some, refl, sym, ap, subst, ◌∙◌, inl, inr, arith}
 use Rattle.std.specs.Prelude.{find}
 use Rattle.std.specs.List.{list_any}
 use Rattle.std.proofs.lemmas.Bool.{eqb-true, eqb-false, eq-eqb, ne_eqb, cases_Bool, both_ways, and_parts, or_parts}
@@ -374,12 +374,6 @@ module _ (store : Stored) (stored : IsStored store) (sound : IsSound store.by_ow
       alone_first alone k d home differ =
           let apart : k ≡ key → ⊥ = λ is. differ (seat_one d c (sym home ∙ ap (home_of more.by_owner) is ∙ added.home)) in
           (λ i. conflicts_on (mine i) op (added.locks k apart i)) ∙ alone k d (sym (added.homes k apart) ∙ home) differ
-
-      pub holders_first : (k d : ℕ) → home_of more.by_owner k ≡ Some d → (home_of store.by_owner k ≡ Some d) ⊎ (d ≡ c)
-      holders_first k d home = elim (cases_Bool (eqb k key)) [
-        | inl here ↦ inr (seat_one d c (sym home ∙ ap (home_of more.by_owner) (eqb-true k key here) ∙ added.home))
-        | inr apart ↦ inl (sym (added.homes k (eqb-false k key apart)) ∙ home)
-      ]
 
 -- ---- one lock of a seat is dropped
 module _ (old new : Stored) (key c : ℕ) (sound : IsSound old.by_owner) (dropped : IsDropped key old new) (home : home_of old.by_owner key ≡ Some c) where

@@ -1,6 +1,6 @@
 -- Walks over the keys of a part.
-use Rattle.std.proofs.Common.{◌≡◌, ℕ, ◌+◌, ◌<◌, Bool, true, false, eqb, ◌&&◌, ◌||◌, List, [], ◌∷◌, length, get_or, ◌≤◌, subst, Option, Some, None, refl, sym, ap, ◌∙◌, zero, suc, arith, inl, inr}
-use Rattle.std.proofs.lemmas.Bool.{eqb-true, eq-eqb, cases_Bool, cases_eq, and_parts, or_left, or_right, true≢false, both_ways, false_from_ne_true}
+use Rattle.std.proofs.Common.{◌≡◌, ℕ, Bool, true, false, eqb, ◌&&◌, ◌||◌, List, [], ◌∷◌, Option, Some, None, refl, sym, ap, ◌∙◌, zero, suc, arith, inl, inr}
+use Rattle.std.proofs.lemmas.Bool.{eqb-true, eq-eqb, cases_Bool, and_parts, or_left, or_right, true≢false, both_ways, false_from_ne_true}
 use Rattle.asset_chains.specs.Chained.{lists}
 use Rattle.asset_lists.specs.declared.part.Part.{Part}
 use Rattle.asset_lists.specs.Parted.{Parted, part_of, IsAt, AreKeys}
@@ -49,20 +49,6 @@ lists_in table part keys are k = elim (cases_Bool (lists keys k)) [
   | inl there ↦ let at = lists_at keys k there in there ∙ sym (ap (is_in part) (are.there at.0 k at.1) ∙ in_own part)
   | inr absent ↦ absent ∙ sym (false_from_ne_true _ (λ h. let at = are.all k (in_one part (part_of table k) h) in both_ways (lists keys k) absent (at_lists keys at.0 k at.1)))
 ]
-
--- ---- what holds of each key of a part
--- one more key is passed
-pub key_more : (P : ℕ → Type 0) (keys : List ℕ) (i key : ℕ) → IsAt keys i key → ((q k : ℕ) → q < i → IsAt keys q k → P k) → P key → (q k : ℕ) → q < i + 1 → IsAt keys q k → P k
-key_more P keys i key at before holds q k within there = elim (cases_eq q i) [
-  | inl same ↦ subst P (sym at.reads ∙ sym (ap (λ (n : ℕ). get_or keys n 0) same) ∙ there.reads) holds
-  | inr apart ↦ before q k (omega (arith, within, apart)) there
-]
-
--- all are passed
-pub keys_all : (P : ℕ → Type 0) (table : Parted) (part : Part) (keys : List ℕ) (i : ℕ) → AreKeys table part keys → length keys ≤ i → ((q k : ℕ) → q < i → IsAt keys q k → P k) → (k : ℕ) → part_of table k ≡ Some part → P k
-keys_all P table part keys i are past before k here =
-    let at = are.all k here in
-    before at.0 k (omega (arith, at.1.within, past)) at.1
 
 -- ---- locks that are suspended
 pub twice_passed : (a b : Bool) (lock : Lock) → passed_lock b (passed_lock a lock) ≡ passed_lock (a || b) lock

@@ -63,9 +63,6 @@ all_fail test (lock ∷ locks) none = go (test lock) refl (all_fail test locks) 
 abbrev pub IsPassed : ObSet → Stored → ℕ → Option ℕ → Type 0
 IsPassed set store from next = (front : List ℕ) × (back : List ℕ) × (chain_of store.by_owner from ≡ front ++ back) × (next ≡ first_of back) × (filter (moved set) (map (lock_at store.locks) front) ≡ [])
 
-pub none_passed : (set : ObSet) (store : Stored) (from : ℕ) (next : Option ℕ) → next ≡ first_of (chain_of store.by_owner from) → IsPassed set store from next
-none_passed set store from next is = ([], chain_of store.by_owner from, refl, is, refl)
-
 module _ (set : ObSet) (store : Stored) (from key : ℕ) (at : Option ℕ) (sound : IsSound store.by_owner) (passed : IsPassed set store from at) (here : at ≡ Some key) where
   abbrev pub rest : List ℕ
   rest = behind key (chain_of store.by_owner from)

@@ -53,18 +53,6 @@ written locks key old new there k = updated locks (with_value locks key new) key
   contains : get locks key ≡ Some old → ContainsKey locks key
   contains there = search there
 
--- and as many keys have one
-pub written_keys : (locks : Slab Lock) (key : ℕ) (old new : Lock) → get locks key ≡ Some old → (k : ℕ) → is_some (get (with_value locks key new) k) ≡ is_some (get locks k)
-written_keys locks key old new there k = go (Updates-with_value locks key new (contains there)) where
-  contains : get locks key ≡ Some old → ContainsKey locks key
-  contains there = search there
-
-  go : Updates locks (with_value locks key new) key (Some new) → is_some (get (with_value locks key new) k) ≡ is_some (get locks k)
-  go change = elim (cases_Bool (eqb k key)) [
-    | inl here ↦ let same = eqb-true k key here in ap is_some (ap (get (with_value locks key new)) same ∙ change.changed) ∙ sym (ap is_some (ap (get locks) same ∙ there))
-    | inr apart ↦ ap is_some (change.others k (eqb-false k key apart))
-  ]
-
 -- the lock at a key is suspended
 pub suspended_some : (locks : Slab Lock) (key : ℕ) (lock : Lock) → get locks key ≡ Some lock → (k : ℕ)
     → lock_at (with_value locks key (record lock { granted = false })) k ≡ cond (eqb k key) (record (lock_at locks k) { granted = false }) (lock_at locks k)

@@ -1,7 +1,7 @@
 -- Walks along the locks of a seat, and what is asked of each lock.
 use Rattle.std.proofs.Common.{zero, suc, ◌-◌, map, [], arith, ◌≡◌, ℕ, ◌<◌, ◌⊎◌, length, subst, Bool, true, false, eqb, cond, not, ◌&&◌, ◌||◌, List, ◌∷◌, Option, Some, None, refl, sym, ap, ◌∙◌, inl}
 use Rattle.std.specs.Prelude.{slice_get}
-use Rattle.std.proofs.lemmas.Bool.{eqb-true, eqb-false, eq-eqb, ne_eqb, true≢false, not-true, not-false}
+use Rattle.std.proofs.lemmas.Bool.{eqb-true, eq-eqb, ne_eqb, true≢false, not-false}
 use Rattle.asset_chains.specs.Chained.{Chained, IsSound, chain_of, home_of, first_of, behind, lists}
 use Rattle.asset_chains.proofs.Laws.{chain_at_first}
 use Rattle.asset_chains.proofs.Walks.{from_key, from_first, from_next, next_home, walk_more, walk_ends, walk_less}
@@ -93,10 +93,6 @@ pub others_not : (c : ℕ) (o : Option ℕ) → is_others c o ≡ false → o �
 unfolding is_others
 others_not c None h = absurd (true≢false h)
 others_not c (Some d) h = ap Some (eqb-true d c (not-false _ h))
-
-pub others_are : (c d : ℕ) → is_others c (Some d) ≡ true → d ≡ c → ⊥
-unfolding is_others
-others_are c d h same = eqb-false d c (not-true _ h) same
 
 pub others_from : (c d : ℕ) → (d ≡ c → ⊥) → is_others c (Some d) ≡ true
 unfolding is_others
