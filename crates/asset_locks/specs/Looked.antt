@@ -34,13 +34,13 @@ key_named store seats t k = is_named t (name_of seats (home_of store.by_owner k)
 unfoldable pub key_conflicts : Stored → Seated → ℕ → Op → ℕ → Bool
 key_conflicts store seats t op k = name_conflicts t op (lock_at store.locks k) (name_of seats (home_of store.by_owner k))
 
--- a look that met no lock that blocks says of the lock at a key if it is t's, and if it conflicts
+-- of the lock at a key, a look that nobody blocked notes whether it is t's, and whether it is another's that conflicts
 pub record IsSeen (store : Stored) (seats : Seated) (allows : ℕ → Bool) (t : ℕ) (op : Op) (look : Look) (k : ℕ) : Type 0 where
   pub free : key_blocks store seats allows t op k ≡ false
   pub own : look.own ≡ None → key_named store seats t k ≡ false
   pub alone : look.conflicts ≡ false → key_conflicts store seats t op k ≡ false
 
--- this is what a look at these locks finds
+-- this is what a look at these locks finds: an own lock, whether one of them blocks, and else what it noted of each
 pub record IsLook (store : Stored) (seats : Seated) (allows : ℕ → Bool) (t : ℕ) (op : Op) (looked : ℕ → Type 0) (look : Look) : Type 0 where
   pub own : IfSome look.own (λ k. looked k × (key_named store seats t k ≡ true))
   pub blocked : look.blocked ≡ true → (k : ℕ) × looked k × (key_blocks store seats allows t op k ≡ true)

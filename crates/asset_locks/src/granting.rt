@@ -69,7 +69,7 @@ impl LockStore {
     }
 
     /// Grants `op` to the lock at the key, which is the seat's, and suspends each conflicting lock of another. If the lock
-    /// is granted and carries `op`, they are suspended already.
+    /// is granted and carries `op`, they are suspended already. Unless `conflicts`, no lock of another conflicts with `op`.
     fn take(&mut self, key: usize, c: usize, op: Op, conflicts: bool)
         requires home { home_of self.old.by_owner key ≡ Some c }
         requires alone { conflicts ≡ false → (k d : ℕ) → home_of self.old.by_owner k ≡ Some d → (d ≡ c → ⊥) → conflicts_on (lock_at self.old.locks key).object.0 op (lock_at self.old.locks k) ≡ false }
@@ -86,7 +86,8 @@ impl LockStore {
     }
 
     /// Suspends each lock of another that conflicts with what the lock at the key, which is the seat's, carries once `op`
-    /// is granted to it. If it is granted, and no lock of another conflicts with `op`, they are suspended already.
+    /// is granted to it. Unless `conflicts`, no lock of another conflicts with `op`, and if the lock is granted, those that
+    /// conflict with what it carries are suspended already.
     fn suspend_for(&mut self, key: usize, c: usize, op: Op, conflicts: bool)
         requires home { home_of self.old.by_owner key ≡ Some c }
         requires alone { conflicts ≡ false → (k d : ℕ) → home_of self.old.by_owner k ≡ Some d → (d ≡ c → ⊥) → conflicts_on (lock_at self.old.locks key).object.0 op (lock_at self.old.locks k) ≡ false }

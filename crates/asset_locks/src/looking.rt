@@ -22,7 +22,7 @@ pub(crate) struct Look {
 }
 
 impl Look {
-    /// What is found where no lock is.
+    /// What a look at no lock finds.
     pub(crate) const NOTHING: Look = Look {
         blocked: false,
         own: None,

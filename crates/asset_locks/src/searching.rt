@@ -97,8 +97,8 @@ impl LockStore {
         }
     }
 
-    /// Returns the key of the lock of the seat on `x`, whose number is given, if it has one, which only reads. It looks at
-    /// the locks of the seat or at those on the object that only read, whichever are fewer.
+    /// Returns the key of the lock of the seat on `x`, whose number is given, if it has one. That lock does not write. It
+    /// looks at the locks of the seat or at those on the object that only read, whichever are fewer.
     fn reader_on(&self, number: Option<usize>, c: usize, x: Ob) -> Option<usize>
         requires number { number ≡ number_in self.now.objects x.0 }
         requires reads { (k : ℕ) → home_of self.now.by_owner k ≡ Some c → is_on x.0 (lock_at self.now.locks k) ≡ true → (lock_at self.now.locks k).ops.write ≡ false }
@@ -119,8 +119,8 @@ impl LockStore {
         }
     }
 
-    /// Returns the key of the lock of the seat on `x`, whose number is given, if it has one, after a look for `op`. It
-    /// searches only after a look for a read, which was at no lock that only reads.
+    /// Returns the key of the lock of the seat on `x`, whose number is given, if it has one, after a look for `op`. If the
+    /// look met none, there is none after a look for a write, and at most one that does not write after one for a read.
     pub(crate) fn own_key(
         &self,
         look: Look,
