@@ -17,5 +17,6 @@ mod store;
 mod suspending;
 mod table;
 
+pub use searching::HeldObjects;
 pub use state::{Asked, LockState};
 pub use table::Locks;

@@ -9,7 +9,11 @@ use crate::store::{LockStore, readers_of, writers_of};
 use asset_chains::Chains;
 use asset_lists::Part;
 use asset_names::{NoMemory, Ob, ObSet, Op};
+use smallvec::SmallVec;
 use std::alloc::Global;
+
+/// Objects on which a transaction has locks. Up to eight of them take no memory.
+pub type HeldObjects = SmallVec<Ob, 8>;
 
 /// Returns whether the lock at the key is another's than the seat's.
 #[tactic(auto, unfolding(crate::specs::Stored::is_others))]
@@ -168,10 +172,10 @@ impl LockStore {
         alloc: Global,
         c: usize,
         objects: &ObSet,
-    ) -> Result<Vec<Ob>, NoMemory>
+    ) -> Result<HeldObjects, NoMemory>
         ensures { IfOk result (λ held. held.items ≡ filter (λ (x : Ob). in_set objects.now x.0) (map (λ (lock : Held). lock.object) (locks_at self.now c))) }
     {
-        let mut held = Vec::new(alloc);
+        let mut held = SmallVec::new(alloc);
         let added = match objects.only() {
             Some(x) => self.add_one(c, x, &mut held),
             None => self.add_held(c, objects, &mut held),
@@ -183,7 +187,7 @@ impl LockStore {
     }
 
     /// Adds the object if the seat has a lock on it, unless memory runs out.
-    fn add_one(&self, c: usize, x: Ob, held: &mut Vec<Ob>) -> Result<(), NoMemory>
+    fn add_one(&self, c: usize, x: Ob, held: &mut HeldObjects) -> Result<(), NoMemory>
         ensures { OnOk result ((set : ObjectSet) → only_in set ≡ Some x → held.new.items ≡ held.old.items ++ filter (λ (y : Ob). in_set set y.0) (map (λ (lock : Held). lock.object) (locks_at self.now c))) }
     {
         self.laws();
@@ -197,7 +201,7 @@ impl LockStore {
     }
 
     /// Adds the objects of the set on which the seat has a lock, in order of first grant, unless memory runs out.
-    fn add_held(&self, c: usize, objects: &ObSet, held: &mut Vec<Ob>) -> Result<(), NoMemory>
+    fn add_held(&self, c: usize, objects: &ObSet, held: &mut HeldObjects) -> Result<(), NoMemory>
         ensures { OnOk result (held.new.items ≡ held.old.items ++ filter (λ (x : Ob). in_set objects.now x.0) (map (λ (lock : Held). lock.object) (locks_at self.now c))) }
     {
         self.by_owner.laws();

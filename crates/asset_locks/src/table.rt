@@ -9,12 +9,14 @@ ghost use Rattle.asset_locks.specs.Stored.{pending_at, name_or_zero};
 
 use crate::lock::Request;
 use crate::room::reserve_seat;
+use crate::searching::HeldObjects;
 use crate::state::{Asked, LockState};
 use crate::store::LockStore;
 use asset_chains::Chains;
 use asset_names::{NoMemory, Ob, ObSet, Op, Txn};
 use asset_permits::Permits;
 use asset_seats::Seats;
+use smallvec::SmallVec;
 use std::alloc::Global;
 use std::marker::Model;
 
@@ -171,8 +173,13 @@ impl Locks {
     /// Returns the objects of the set on which `t` has a lock, in the order of `held_by`. It looks at the locks of `t`
     /// once.
     ///
-    /// If memory runs out, the answer is `NoMemory`.
-    pub fn held_among(&self, alloc: Global, t: Txn, objects: &ObSet) -> Result<Vec<Ob>, NoMemory>
+    /// If memory runs out, the answer is `NoMemory`. Up to eight objects take no memory.
+    pub fn held_among(
+        &self,
+        alloc: Global,
+        t: Txn,
+        objects: &ObSet,
+    ) -> Result<HeldObjects, NoMemory>
         ensures held { IfOk result (λ held. held.items ≡ filter (λ (x : Ob). in_set objects.now x.0) (held_in self.now t.0)) }
         ensures valid { IsValid self.now }
     {
@@ -180,7 +187,7 @@ impl Locks {
         self.order.laws();
         match self.seats.seat_of(t) {
             Some(c) => self.store.held_among(alloc, c, objects),
-            None => Ok(Vec::new(alloc)),
+            None => Ok(SmallVec::new(alloc)),
         }
     }
 

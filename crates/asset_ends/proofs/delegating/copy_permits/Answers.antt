@@ -13,4 +13,4 @@ returns-then-not-gives-clause-covers c =
     λ u t x op. nothing_more _ _ _ (gives_nothing c.args.permits.now c.args.giver.0 t x op (sym c.gives.ensures ∙ c.if-not-gives.true))
 
 pub returns-clause-covers : goal.returns-clause-covers
-returns-clause-covers c = rw (c.deref.ensures.value, c.in_ok-moved.ensures.held) at c.copy_for.ensures.covers
+returns-clause-covers c = rw (c.deref.ensures, c.in_ok-moved.ensures.held) at c.copy_for.ensures.covers

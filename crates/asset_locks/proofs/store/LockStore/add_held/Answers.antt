@@ -1,4 +1,4 @@
-use Rattle.std.proofs.Common.{◌≡◌, ℕ, Bool, true, false, cond, List, [], ◌∷◌, ◌++◌, map, filter, Option, Vec, Global, sym, ap, ◌∙◌, append_assoc}
+use Rattle.std.proofs.Common.{◌≡◌, ℕ, Bool, true, false, cond, List, [], ◌∷◌, ◌++◌, map, filter, Option, sym, ap, ◌∙◌, append_assoc}
 use Rattle.std.proofs.lemmas.List.{append-nil}
 use Rattle.asset_names.specs.InSet.{in_set}
 use Rattle.asset_names.specs.declared.names.Ob.{Ob}
@@ -36,8 +36,8 @@ keys-preserved c =
       home = stays c.self.inside.by_owner c.args.self.now.by_owner (ap (λ (s : Stored). s.by_owner) c.self.view_is) c.laws.ensures.sound c.args.c c.in-Some.key c.next-next.result c.keys.next home c.next-next.ensures.next c.in-Some.is;
       added =
           elim c.if-has.branch [
-            | then-has+in-Ok w ↦ one_added (λ (x : Ob). in_set c.args.objects.now x.0) c.keys.held.items c.if-has.held.items c.lock.result.object rest (sym c.has.ensures ∙ w.if-has.true) (ap (λ (v : Vec Ob Global). v.items) w.held-is ∙ w.in-Ok.ensures.items)
-            | else-has w ↦ none_added (λ (x : Ob). in_set c.args.objects.now x.0) c.keys.held.items c.if-has.held.items c.lock.result.object rest (sym c.has.ensures ∙ w.if-has.false) (ap (λ (v : Vec Ob Global). v.items) w.held-is)
+            | then-has+in-Ok w ↦ one_added (λ (x : Ob). in_set c.args.objects.now x.0) c.keys.held.items c.if-has.held.items c.lock.result.object rest (sym c.has.ensures ∙ w.if-has.true) (ap (λ v. v.items) w.held-is ∙ w.in-Ok.ensures.ok)
+            | else-has w ↦ none_added (λ (x : Ob). in_set c.args.objects.now x.0) c.keys.held.items c.if-has.held.items c.lock.result.object rest (sym c.has.ensures ∙ w.if-has.false) (ap (λ v. v.items) w.held-is)
           ]
           ∙ ap (λ (l : Lock). c.keys.held.items ++ filter (λ (x : Ob). in_set c.args.objects.now x.0) (l.object ∷ rest)) c.lock.ensures
           ∙ sym (ap (λ (l : List ℕ). c.keys.held.items ++ filter (λ (x : Ob). in_set c.args.objects.now x.0) (map (λ (k : ℕ). (lock_at c.args.self.now.locks k).object) l))

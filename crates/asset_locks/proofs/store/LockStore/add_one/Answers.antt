@@ -10,5 +10,5 @@ returns-in_default c = λ set only.
 pub returns-in-Ok : goal.returns-in-Ok
 returns-in-Ok c = λ set only.
     let found = c.in-Some.ensures.found in
-    c.in-Ok.ensures.items
+    c.in-Ok.ensures.ok
     ∙ ap (λ l. c.args.held.now.items ++ l) (one_held set c.args.x only c.args.self.now c.args.c c.in-Some._key c.laws.ensures.owners c.laws.ensures.stored found.0 found.1)
