@@ -8,6 +8,9 @@ use std::test::Fail;
 /// How often one write is handed over, and how many writes are handed over at once.
 const MANY: u64 = 300;
 
+/// How often another writes to each object.
+const OTHERS: u64 = 2_000;
+
 /// Lets 7 write 50 to the first object and 60 to the second.
 fn write_both(objects: &mut Objects) -> Result<(), NoMemory> {
     write(objects, 7, 1, 50)?;
@@ -195,10 +198,10 @@ fn reservation_outlives_hand_overs(rt: HostRuntime) -> Result<(), Fail> {
     Ok(())
 }
 
-/// Lets 7 write to the first object and 8 to both, `MANY` times each; hands the set of 7 over to 9. Returns the visits.
+/// Lets 7 write to the first object and 8 to both, `OTHERS` times each; hands the set of 7 over to 9. Returns the visits.
 fn visits_beside_others(objects: &mut Objects, set: &ObSet) -> Result<usize, NoMemory> {
     write(objects, 7, 1, 50)?;
-    for _ in 0..MANY {
+    for _ in 0..OTHERS {
         write(objects, 8, 1, 1)?;
         write(objects, 8, 2, 2)?;
     }
