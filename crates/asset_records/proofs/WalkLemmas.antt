@@ -120,10 +120,6 @@ goes_never keys test key left = ap (λ (b : Bool). lists keys key && b) left ∙
   and_no true = refl
   and_no false = refl
 
-goes_none : (test : ℕ → Bool) (k : ℕ) → goes [] test k ≡ false
-unfolding goes
-goes_none test k = refl
-
 -- what is handed with one key more: what was handed, and the record at the key
 more_handed : {A : Type 0} (keys : List ℕ) (test : ℕ → Bool) (key : ℕ) (was now new over : ℕ → A) → lists keys key ≡ false → test key ≡ true
     → ((k : ℕ) → now k ≡ cond (goes keys test k) (over k) (was k)) → ((k : ℕ) → (k ≡ key → ⊥) → new k ≡ now k) → (now key ≡ was key → new key ≡ over key)
