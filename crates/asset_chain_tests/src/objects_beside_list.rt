@@ -96,7 +96,7 @@ fn set_of(number: u64, object: u64) -> Result<ObSet, Fail> {
     match number % 3 {
         0 => Ok(ObSet::All),
         1 => Ok(ObSet::Listed(ObList::of(&[Ob(object)])?)),
-        _ => Ok(ObSet::Listed(ObList::of(&[Ob(object), Ob(object + 1)])?)),
+        _ => Ok(ObSet::Listed(ObList::of(&[Ob(object), Ob(object.saturating_add(1))])?)),
     }
 }
 
