@@ -130,9 +130,9 @@ impl History {
         self.append_lent(&step, reply);
     }
 
-    /// Appends the step with its reply, as `append` does.
+    /// Appends a lent step with its reply, as `append` does. What the entry keeps of the step is copied, and no more.
     #[inline(always)]
-    fn append_lent(&mut self, step: &Step, reply: Reply)
+    pub fn append_lent(&mut self, step: &Step, reply: Reply)
         requires answer { answer_to self.old step.now ≡ Answer reply }
         requires room { length self.old.entries < self.old.capacity }
         ensures { self.new ≡ with_entry self.old step.now reply }
