@@ -150,10 +150,19 @@ impl Core {
     pub fn step(&mut self, step: Step) -> Result<Outcome, Fault>
         ensures { IsStep self.old step result self.new }
     {
-        if is_operation(&step) && self.has_place() {
-            self.operate(&step)
+        self.step_lent(&step)
+    }
+
+    /// Asks for one step that is lent, as `step` does. A step has room for 16 objects, and is not copied here: its entry
+    /// keeps what it says.
+    #[inline(always)]
+    pub fn step_lent(&mut self, step: &Step) -> Result<Outcome, Fault>
+        ensures { IsStep self.old step.now result self.new }
+    {
+        if is_operation(step) && self.has_place() {
+            self.operate(step)
         } else {
-            self.ask(&step)
+            self.ask(step)
         }
     }
 
@@ -175,7 +184,7 @@ impl Core {
     {
         match self.tables.operate(step) {
             Ok(Outcome::Answer(answer)) => {
-                self.history.append(*step, answer);
+                self.history.append_lent(step, answer);
                 Ok(Outcome::Answer(answer))
             }
             Ok(Outcome::Wait) => Ok(Outcome::Wait),
@@ -290,7 +299,7 @@ impl Core {
         }
         match self.tables.apply(step, reply) {
             Ok(()) => {
-                self.history.append(*step, reply);
+                self.history.append_lent(step, reply);
                 Ok(Outcome::Answer(reply))
             }
             Err(_) => Err(Fault::NoMemory),

@@ -13,9 +13,9 @@ use Rattle.asset_core.proofs.OperateLemmas.{operation_quiet, operation_room}
 use Rattle.asset_core.proofs.StepLemmas.{answered_step, waiting_step, lacking_step}
 use Rattle.asset_core.proofs.facility.Core.operate.Goals as goal
 
-pub append-requires-clause-answer : goal.append-requires-clause-answer
+pub append_lent-requires-clause-answer : goal.append_lent-requires-clause-answer
 unfolding answer_to
-append-requires-clause-answer c =
+append_lent-requires-clause-answer c =
     let operated = rw c.in-Ok-Answer.field-0-is at c.in-Ok-Answer.ensures.operated in
     sym (operated.answered _ _ c.self.invariant.stand)
 
@@ -27,7 +27,7 @@ invariant_of-self c =
     let orderly = valid_orderly history c.self.inside.tables c.self.invariant in
     let room = rw (← c.self.view_is) at c.requires.room in
     let roomy = operation_room history c.args.step.now c.in-Ok-Answer.answer orderly c.requires.operation room in
-    rw c.append.ensures (record {
+    rw c.append_lent.ensures (record {
       stand = operated.stands history.opening history.entries c.self.invariant.stand orderly;
       legal = (sym (operated.answered _ _ c.self.invariant.stand), c.self.invariant.legal);
       fitting = omega (arith, leb-true _ _ roomy);
@@ -54,7 +54,7 @@ returns-in-Ok-Answer c =
     let room = rw (← c.self.view_is) at c.requires.room in
     let roomy = operation_room history c.args.step.now c.in-Ok-Answer.answer orderly c.requires.operation room in
     let answer = sym (operated.answered history.opening (applied history.entries) c.self.invariant.stand) in
-    rw (← c.self.view_is) (answered_step _ _ c.args.step.now c.in-Ok-Answer.answer answer roomy c.append.ensures
+    rw (← c.self.view_is) (answered_step _ _ c.args.step.now c.in-Ok-Answer.answer answer roomy c.append_lent.ensures
     (ap pending_requests operated.locks ∙ askers_followed history.opening history.entries c.self.inside.tables c.args.step.now c.in-Ok-Answer.answer c.self.invariant.stand answer))
 
 pub returns-in-Ok-Wait : goal.returns-in-Ok-Wait

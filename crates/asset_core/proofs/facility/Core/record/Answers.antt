@@ -20,7 +20,7 @@ unfolding with_entry answer_to IsLegal has_room fits
 invariant_of-self c =
     let history = c.self.inside.history in
     let roomy = rw (← c.self.view_is) at (sym c.has_room.ensures.room ∙ c.if-not-has_room.false) in
-    rw c.append.ensures (record {
+    rw c.append_lent.ensures (record {
       stand = c.in-Ok.ensures.stand history.opening history.entries c.self.invariant.stand (valid_orderly history c.self.inside.tables c.self.invariant);
       legal = (rw (← c.self.view_is) at c.requires.answer, c.self.invariant.legal);
       fitting = omega (arith, leb-true _ _ roomy);
@@ -36,7 +36,7 @@ unfolding pending_in pending_after after answer_to with_entry has_room
 returns-in-Ok c =
     let history = c.self.inside.history in
     let answer = rw (← c.self.view_is) at c.requires.answer in
-    rw (← c.self.view_is) (answered_step _ _ c.args.step.now c.args.reply answer (rw (← c.self.view_is) at (sym c.has_room.ensures.room ∙ c.if-not-has_room.false)) c.append.ensures
+    rw (← c.self.view_is) (answered_step _ _ c.args.step.now c.args.reply answer (rw (← c.self.view_is) at (sym c.has_room.ensures.room ∙ c.if-not-has_room.false)) c.append_lent.ensures
     (ap pending_requests c.in-Ok.ensures.locks ∙ askers_followed history.opening history.entries c.self.inside.tables c.args.step.now c.args.reply c.self.invariant.stand answer))
 
 pub returns-in-Err : goal.returns-in-Err
