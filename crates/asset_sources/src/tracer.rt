@@ -1,6 +1,6 @@
 //! A facility that keeps the sources of what is read.
 
-use crate::renumbering::{writing, zeroed};
+use crate::renumbering::{ask_numbered, zeroed};
 use crate::trace::Trace;
 use crate::valuing::{reply_restored, value_in};
 use asset_core::Core;
@@ -91,11 +91,19 @@ impl Tracer {
     pub fn step(&mut self, step: Step) -> Result<Outcome, Fault>
         ensures { IsAnswered self.old step result self.new }
     {
+        self.step_lent(&step)
+    }
+
+    /// Asks for one step that is lent, as `step` does. The step is not copied.
+    #[inline(always)]
+    pub fn step_lent(&mut self, step: &Step) -> Result<Outcome, Fault>
+        ensures { IsAnswered self.old step.now result self.new }
+    {
         let number = self.core.history().len();
-        match self.core.step(writing(number, &step)) {
+        match ask_numbered(&mut self.core, number, step) {
             Ok(Outcome::Answer(numbered)) => {
-                let reply = reply_restored(&self.values, &self.opened, &step, numbered);
-                self.values.push(value_in(&step, reply)).unwrap();
+                let reply = reply_restored(&self.values, &self.opened, step, numbered);
+                self.values.push(value_in(step, reply)).unwrap();
                 Ok(Outcome::Answer(reply))
             }
             Ok(Outcome::Wait) => Ok(Outcome::Wait),
