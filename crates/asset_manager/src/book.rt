@@ -156,12 +156,8 @@ impl Book {
         self.serve_lent(session, &step)
     }
 
-    /// Asks for one step, as `serve` does.
-    pub(crate) fn serve_lent(
-        &mut self,
-        session: &mut Session,
-        step: &Step,
-    ) -> Result<Outcome, Fault>
+    /// Asks for one step that is lent, as `serve` does. The list keeps a copy of it, and it is copied nowhere else.
+    pub fn serve_lent(&mut self, session: &mut Session, step: &Step) -> Result<Outcome, Fault>
         ensures served { Serves self.old.facility session.old step.now result self.new.facility session.new }
         ensures valid { IsValid self.old × IsValid self.new }
         ensures word { self.new.published.of ≡ self.old.published.of }
@@ -183,7 +179,7 @@ impl Book {
         ensures word { self.new.published.of ≡ self.old.published.of }
     {
         let number = self.core.history().len();
-        match self.core.step(*step) {
+        match self.core.step_lent(step) {
             Ok(Outcome::Answer(reply)) => {
                 list.add(number, step, reply);
                 let counts = self.core.counts();

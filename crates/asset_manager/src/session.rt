@@ -240,8 +240,9 @@ impl Session {
         self.call_lent(rt, manager, &step)
     }
 
-    /// Asks the manager for one step, as `call` does.
-    fn call_lent<R: Wait>(
+    /// Asks the manager for one step that is lent, as `call` does. The list keeps a copy of it, and it is copied nowhere
+    /// else.
+    pub fn call_lent<R: Wait>(
         &mut self,
         rt: &R,
         manager: &Manager,
@@ -249,10 +250,13 @@ impl Session {
     ) -> Result<Outcome, Fault>
         requires { IsOf self.old.of manager.now }
         ensures asked { Asks self.old step.now result self.new }
+        ensures answer { IfOk result (IsAnswer step.now) }
+        ensures listed { IsListed self.old.list.calls step.now result self.new.list.calls }
         ensures of { IsOf self.new.of manager.now }
         ensures linked { OnOk result (self.new.of ≡ Some manager.now) }
         ensures keeps { self.old.of ≡ Some manager.now → self.new.of ≡ Some manager.now }
         ensures room { self.old.list.room ≤ self.new.list.room }
+        ensures memory { length self.old.list.calls < self.old.list.room → IsSome self.old.of → result ≡ Err LacksMemory → takes_memory step.now ≡ true }
         ensures later { IsBelow self.old.seen self.new.seen }
     {
         match self.link_to(manager) {
@@ -307,8 +311,8 @@ impl Session {
         self.call_turns_lent(rt, manager, &step, turns)
     }
 
-    /// Asks the manager for one step, as `call_turns` does.
-    fn call_turns_lent<R: Wait>(
+    /// Asks the manager for one step that is lent, as `call_turns` does.
+    pub fn call_turns_lent<R: Wait>(
         &mut self,
         rt: &R,
         manager: &Manager,
@@ -317,10 +321,13 @@ impl Session {
     ) -> Result<Outcome, Fault>
         requires { IsOf self.old.of manager.now }
         ensures asked { Asks self.old step.now result self.new }
+        ensures answer { IfOk result (IsAnswer step.now) }
+        ensures listed { IsListed self.old.list.calls step.now result self.new.list.calls }
         ensures of { IsOf self.new.of manager.now }
         ensures linked { OnOk result (self.new.of ≡ Some manager.now) }
         ensures keeps { self.old.of ≡ Some manager.now → self.new.of ≡ Some manager.now }
         ensures room { self.old.list.room ≤ self.new.list.room }
+        ensures memory { length self.old.list.calls < self.old.list.room → IsSome self.old.of → result ≡ Err LacksMemory → takes_memory step.now ≡ true }
         ensures later { IsBelow self.old.seen self.new.seen }
     {
         let backoff = Backoff::new();
@@ -355,8 +362,8 @@ impl Session {
         self.call_wait_lent(rt, manager, &step)
     }
 
-    /// Asks the manager for one step, as `call_wait` does.
-    fn call_wait_lent<R: Wait>(
+    /// Asks the manager for one step that is lent, as `call_wait` does.
+    pub fn call_wait_lent<R: Wait>(
         &mut self,
         rt: &R,
         manager: &Manager,
@@ -364,10 +371,13 @@ impl Session {
     ) -> Result<Reply, Fault>
         requires { IsOf self.old.of manager.now }
         ensures asked { Asks self.old step.now (as_outcome result) self.new }
+        ensures answer { IfOk result (λ reply. IsAnswer step.now (Answer reply)) }
+        ensures listed { IsListed self.old.list.calls step.now (as_outcome result) self.new.list.calls }
         ensures of { IsOf self.new.of manager.now }
         ensures linked { OnOk result (self.new.of ≡ Some manager.now) }
         ensures keeps { self.old.of ≡ Some manager.now → self.new.of ≡ Some manager.now }
         ensures room { self.old.list.room ≤ self.new.list.room }
+        ensures memory { length self.old.list.calls < self.old.list.room → IsSome self.old.of → result ≡ Err LacksMemory → takes_memory step.now ≡ true }
         ensures later { IsBelow self.old.seen self.new.seen }
     {
         match self.link_to(manager) {
