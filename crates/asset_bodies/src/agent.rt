@@ -85,38 +85,43 @@ impl Agent {
 
     /// Asks one step: while the answer is to wait it asks again, at most `turns` times, or without such a bound until
     /// it is answered.
-    pub fn ask<R: Wait>(&mut self, rt: &R, turns: Option<u32>, step: Step) -> Result<Outcome, Fault>
+    pub fn ask<R: Wait>(
+        &mut self,
+        rt: &R,
+        turns: Option<u32>,
+        step: &Step,
+    ) -> Result<Outcome, Fault>
         ensures manager { self.new.manager ≡ self.old.manager }
-        ensures asked { IsListed self.old.list.calls step result self.new.list.calls }
+        ensures asked { IsListed self.old.list.calls step.now result self.new.list.calls }
         ensures room { self.old.list.room ≤ self.new.list.room }
     {
         match turns {
-            Some(turns) => self.session.call_turns(rt, &self.manager, step, turns),
+            Some(turns) => self.session.call_turns_lent(rt, &self.manager, step, turns),
             None => {
-                let reply = self.session.call_wait(rt, &self.manager, step)?;
+                let reply = self.session.call_wait_lent(rt, &self.manager, step)?;
                 Ok(Outcome::Answer(reply))
             }
         }
     }
 
     /// Asks one step once, if the list has room for its answer.
-    pub fn ask_once<R: Wait>(&mut self, rt: &R, step: Step) -> Option<Result<Outcome, Fault>>
+    pub fn ask_once<R: Wait>(&mut self, rt: &R, step: &Step) -> Option<Result<Outcome, Fault>>
         ensures manager { self.new.manager ≡ self.old.manager }
-        ensures asked { IsAsked self.old.list.calls step result self.new.list.calls }
+        ensures asked { IsAsked self.old.list.calls step.now result self.new.list.calls }
         ensures room { self.old.list.room ≤ self.new.list.room }
         ensures if_room { MatchOption result (self.old.list.room ≤ length self.old.list.calls) (λ _. length self.old.list.calls < self.old.list.room) }
-        ensures memory { length self.old.list.calls < self.old.list.room → (takes_memory step ≡ true → ⊥) → HasOutcome result }
+        ensures memory { length self.old.list.calls < self.old.list.room → (takes_memory step.now ≡ true → ⊥) → HasOutcome result }
     {
         if !self.session.has_room(1) {
             return None;
         }
-        Some(self.session.call(rt, &self.manager, step))
+        Some(self.session.call_lent(rt, &self.manager, step))
     }
 
     /// Asks one step once, if the list has room for its answer, and returns whether it was answered `Done`.
-    pub fn ask_done<R: Wait>(&mut self, rt: &R, step: Step) -> bool
+    pub fn ask_done<R: Wait>(&mut self, rt: &R, step: &Step) -> bool
         ensures manager { self.new.manager ≡ self.old.manager }
-        ensures asked { InTurn (step ∷ []) self.old.list.calls result self.new.list.calls }
+        ensures asked { InTurn (step.now ∷ []) self.old.list.calls result self.new.list.calls }
         ensures room { self.old.list.room ≤ self.new.list.room }
     {
         let met = self.ask_once(rt, step);

@@ -46,13 +46,13 @@ fn begin_child<R: Wait>(rt: &R, agent: &mut Agent, parent: Txn, child: Txn) -> b
         t: child,
         parent: Some(parent),
     };
-    if !agent.ask_done(rt, initiate) {
+    if !agent.ask_done(rt, &initiate) {
         return false;
     }
     if permit_and_begin(rt, agent, parent, child) {
         return true;
     }
-    agent.ask_once(rt, Step::Abort { t: child });
+    agent.ask_once(rt, &Step::Abort { t: child });
     false
 }
 
@@ -76,7 +76,7 @@ fn permit_and_begin<R: Wait>(rt: &R, agent: &mut Agent, parent: Txn, child: Txn)
         obs: ObSet::All,
         ops: all_operations(),
     };
-    agent.ask_done(rt, permit) && agent.ask_done(rt, Step::Begin { t: child })
+    agent.ask_done(rt, &permit) && agent.ask_done(rt, &Step::Begin { t: child })
 }
 
 /// Asks the steps after the body.
@@ -97,7 +97,7 @@ fn close_child<R: Wait>(
         return;
     }
     if !is_done(met) {
-        agent.ask_once(rt, Step::Abort { t: child });
+        agent.ask_once(rt, &Step::Abort { t: child });
         return;
     }
     let delegate = Step::Delegate {
@@ -105,12 +105,12 @@ fn close_child<R: Wait>(
         taker: parent,
         obs: ObSet::All,
     };
-    let last = if agent.ask_done(rt, delegate) {
+    let last = if agent.ask_done(rt, &delegate) {
         Step::Commit { t: child }
     } else {
         Step::Abort { t: child }
     };
-    agent.ask_once(rt, last);
+    agent.ask_once(rt, &last);
 }
 
 impl Tx {

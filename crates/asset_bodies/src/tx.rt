@@ -102,9 +102,9 @@ impl Tx {
     }
 
     /// Asks an operation, once it has made room for it.
-    fn ask<R: Wait>(&mut self, rt: &R, step: Step) -> Result<Outcome, Fault>
+    fn ask<R: Wait>(&mut self, rt: &R, step: &Step) -> Result<Outcome, Fault>
         ensures same { IsSame self.old self.new }
-        ensures asked { IsListed self.old.list.calls step result self.new.list.calls }
+        ensures asked { IsListed self.old.list.calls step.now result self.new.list.calls }
         ensures room { OnOk result (HasRoom self.new) }
         ensures kept { HasRoom self.old → HasRoom self.new }
     {
@@ -121,7 +121,7 @@ impl Tx {
         ensures room { OnOk result (HasRoom self.new) }
         ensures kept { HasRoom self.old → HasRoom self.new }
     {
-        self.ask(rt, Step::Read { t: self.name, x })
+        self.ask(rt, &Step::Read { t: self.name, x })
     }
 
     /// Writes an object. The faults are those of `read`.
@@ -131,7 +131,7 @@ impl Tx {
         ensures room { OnOk result (HasRoom self.new) }
         ensures kept { HasRoom self.old → HasRoom self.new }
     {
-        self.ask(rt, Step::Write { t: self.name, x, v })
+        self.ask(rt, &Step::Write { t: self.name, x, v })
     }
 
     /// Lets the taker do the operations on the objects although they conflict with its own. The faults are those of
@@ -151,7 +151,7 @@ impl Tx {
         let own = self.name;
         self.ask(
             rt,
-            Step::Permit {
+            &Step::Permit {
                 giver: own,
                 taker,
                 obs,
@@ -168,7 +168,7 @@ impl Tx {
         ensures kept { HasRoom self.old → HasRoom self.new }
     {
         let giver = self.name;
-        self.ask(rt, Step::Delegate { giver, taker, obs })
+        self.ask(rt, &Step::Delegate { giver, taker, obs })
     }
 
     /// Makes a dependency between two transactions, of which it need not be one. The faults are those of `read`.
@@ -178,16 +178,16 @@ impl Tx {
         ensures room { OnOk result (HasRoom self.new) }
         ensures kept { HasRoom self.old → HasRoom self.new }
     {
-        self.ask(rt, Step::Depend { kind, a, b })
+        self.ask(rt, &Step::Depend { kind, a, b })
     }
 
     /// Asks its last step once, if the list has room for its answer.
-    fn end<R: Wait>(self, rt: &R, done: bool, step: Step) -> Finished
+    fn end<R: Wait>(self, rt: &R, done: bool, step: &Step) -> Finished
         ensures own { (result.name ≡ self.name) × (result.done ≡ done) × (result.of ≡ Some self.manager) }
-        ensures asked { IsAsked self.list.calls step result.met result.list.calls }
+        ensures asked { IsAsked self.list.calls step.now result.met result.list.calls }
         ensures room { self.list.room ≤ result.list.room }
         ensures if_room { MatchOption result.met (self.list.room ≤ length self.list.calls) (λ _. length self.list.calls < self.list.room) }
-        ensures memory { length self.list.calls < self.list.room → (takes_memory step ≡ true → ⊥) → HasOutcome result.met }
+        ensures memory { length self.list.calls < self.list.room → (takes_memory step.now ≡ true → ⊥) → HasOutcome result.met }
     {
         let Tx {
             name,
@@ -216,7 +216,7 @@ impl Tx {
         ensures memory { length self.list.calls < self.list.room → HasOutcome result.met }
     {
         let step = Step::Complete { t: self.name };
-        self.end(rt, true, step)
+        self.end(rt, true, &step)
     }
 
     /// Gives the work up: asks once to abort. What it needs is as for `done`.
@@ -229,7 +229,7 @@ impl Tx {
         ensures memory { length self.list.calls < self.list.room → HasOutcome result.met }
     {
         let step = Step::Abort { t: self.name };
-        self.end(rt, false, step)
+        self.end(rt, false, &step)
     }
 }
 

@@ -59,7 +59,7 @@ fn commit<R: Wait>(rt: &R, session: &mut Session, manager: &Manager, t: Txn) -> 
     if !session.has_room(1) {
         return None;
     }
-    session.call(rt, manager, Step::Commit { t }).ok()
+    session.call_lent(rt, manager, &Step::Commit { t }).ok()
 }
 
 /// Returns whether the commit was asked and waits.

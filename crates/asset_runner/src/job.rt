@@ -102,7 +102,7 @@ impl Planned {
             lent,
             body,
         } = self;
-        match session.call(rt, &manager, Step::Begin { t: name }) {
+        match session.call_lent(rt, &manager, &Step::Begin { t: name }) {
             Ok(Outcome::Answer(Reply::Done)) => {
                 let finished = body(Tx::new(name, 2, turns, Agent::new(session, lent)));
                 Arrival::called(rt, place, name, manager, finished)

@@ -211,7 +211,7 @@ impl Plan {
         }
         let outcome = self
             .session
-            .call(rt, &self.manager, Step::Initiate { t, parent });
+            .call_lent(rt, &self.manager, &Step::Initiate { t, parent });
         match cause_of(outcome) {
             Some(cause) => {
                 self.session.join(session);

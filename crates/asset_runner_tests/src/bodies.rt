@@ -49,6 +49,6 @@ pub fn answers_for<R: Wait>(rt: &R, tx: Tx, other: u64) -> Finished
     let mut tx = tx;
     let _ = tx.make_room(2);
     let (name, owed, turns, mut agent) = tx.into_parts();
-    let _ = agent.ask_once(rt, Step::Complete { t: name });
+    let _ = agent.ask_once(rt, &Step::Complete { t: name });
     Tx::new(Txn(other), owed, turns, agent).done(rt)
 }

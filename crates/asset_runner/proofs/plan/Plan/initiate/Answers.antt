@@ -8,7 +8,7 @@ use Rattle.asset_runner.proofs.InitiatedLemmas.{is_initiation, initiated}
 use Rattle.asset_runner.proofs.plan.Plan.initiate.Goals as goal
 
 pub cause_of-requires : goal.cause_of-requires
-cause_of-requires g c = is_initiation c.args.t c.args.parent c.call-outcome.result c.call-outcome.ensures.answer
+cause_of-requires g c = is_initiation c.args.t c.args.parent c.call_lent-outcome.result c.call_lent-outcome.ensures.answer
 
 pub invariant_of-self-2-clause-tickets : goal.invariant_of-self-2-clause-tickets
 invariant_of-self-2-clause-tickets g c =
@@ -23,10 +23,10 @@ invariant_of-self-2-clause-tickets g c =
 pub returns-clause-asked : goal.returns-clause-asked
 returns-clause-asked g c =
     let same = ap (λ (asker : Asker). asker.list.calls) c.split-session.ensures.same in
-    subst (λ (calls : List Call). IsInitiated calls (Initiate c.args.t c.args.parent) c.call-outcome.new.self.list.calls) same
-    (initiated c.split-session.new.self.list.calls c.call-outcome.new.self.list.calls (Initiate c.args.t c.args.parent) c.call-outcome.result
-    (is_initiation c.args.t c.args.parent c.call-outcome.result c.call-outcome.ensures.answer)
-    (sym c.cause_of.ensures ∙ c.in-None.is) c.call-outcome.ensures.listed)
+    subst (λ (calls : List Call). IsInitiated calls (Initiate c.args.t c.args.parent) c.call_lent-outcome.new.self.list.calls) same
+    (initiated c.split-session.new.self.list.calls c.call_lent-outcome.new.self.list.calls (Initiate c.args.t c.args.parent) c.call_lent-outcome.result
+    (is_initiation c.args.t c.args.parent c.call_lent-outcome.result c.call_lent-outcome.ensures.answer)
+    (sym c.cause_of.ensures ∙ c.in-None.is) c.call_lent-outcome.ensures.listed)
 
 pub returns-clause-names : goal.returns-clause-names
 returns-clause-names g c = search rules
