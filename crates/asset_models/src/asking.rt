@@ -23,7 +23,7 @@ fn ask_once<A: Asset>(asset: &mut A, step: &Step) -> Result<Option<Reply>, Fault
     ensures answered { IfOk result (λ found. MatchOption found (A.calls asset.new ≡ A.calls asset.old) (λ reply. A.calls asset.new ≡ (step.now, reply) ∷ A.calls asset.old)) }
     ensures fault { OnErr result (A.calls asset.new ≡ A.calls asset.old) }
 {
-    match asset.step(*step) {
+    match asset.step_lent(step) {
         Ok(Outcome::Answer(reply)) => Ok(Some(reply)),
         Ok(Outcome::Wait) => Ok(None),
         Err(fault) => Err(fault),

@@ -14,6 +14,14 @@ pub trait Asset {
     /// Asks for one step. An answer is recorded with its step; a wait and a fault record nothing.
     fn step(&mut self, step: Step) -> Result<Outcome, Fault>
         ensures calls { calls self.new ≡ called (calls self.old) step result };
+
+    /// Asks for one step that is lent, as `step` does. Models ask by this call, so a facility that can do without a copy
+    /// of the step writes it.
+    fn step_lent(&mut self, step: &Step) -> Result<Outcome, Fault>
+        ensures calls { calls self.new ≡ called (calls self.old) step.now result }
+    {
+        self.step(*step)
+    }
 }
 
 impl Asset for Core {
@@ -29,5 +37,13 @@ impl Asset for Core {
         ensures asked { IsStep self.old step result self.new }
     {
         Core::step(self, step)
+    }
+
+    #[tactic(auto, unfolding(crate::specs::Calls::called, crate::specs::Calls::calls_of, asset_history::specs::Recorded::after, asset_history::specs::Recorded::with_entry))]
+    fn step_lent(&mut self, step: &Step) -> Result<Outcome, Fault>
+        ensures calls { calls_of self.new ≡ called (calls_of self.old) step.now result }
+        ensures asked { IsStep self.old step.now result self.new }
+    {
+        Core::step_lent(self, step)
     }
 }

@@ -43,4 +43,12 @@ impl<'a, R: Wait> Asset for Client<'a, R> {
     {
         self.session.call(self.rt, self.manager, step)
     }
+
+    fn step_lent(&mut self, step: &Step) -> Result<Outcome, Fault>
+        ensures calls { calls_by self.new ≡ called (calls_by self.old) step.now result }
+        ensures asked { Asks self.old.session step.now result self.new.session }
+        ensures manager { self.new.manager ≡ self.old.manager }
+    {
+        self.session.call_lent(self.rt, self.manager, step)
+    }
 }
