@@ -50,8 +50,8 @@ pub(crate) fn play_step(player: &mut Player, step: &Step) -> Result<Outcome, Fau
     ensures same { traces_in player.new ≡ traces_in player.old }
 {
     match player {
-        Player::Plain(core) => core.step(*step),
-        Player::Tracing(tracer) => tracer.step(*step),
+        Player::Plain(core) => core.step_lent(step),
+        Player::Tracing(tracer) => tracer.step_lent(step),
     }
 }
 
