@@ -3,3 +3,4 @@ pub mod Stored
 pub mod StoredSets
 pub mod Answered
 pub mod Committing
+pub mod Acting

@@ -3,7 +3,7 @@
 use crate::stored::Stored;
 use crate::stored_set::push_set;
 use crate::stored_sets::StoredSets;
-use asset_names::{NoMemory, Ob, Reply, Step};
+use asset_names::{NoMemory, Ob, Reply, Step, Txn};
 use std::alloc::{AllocError, Global};
 use std::marker::Model;
 
@@ -32,6 +32,8 @@ impl Model for History {
 
 impl History {
     ghost use Rattle.std.specs.Prelude.{◌≡◌, ◌<◌, ◌≤◌, ◌↔◌, ◌^◌, [], length, reverse, slice_get, IfOk, IsTrue};
+    ghost use Rattle.std.specs.Option.{option_map};
+    ghost use Rattle.asset_history.specs.Acting.{both_of};
     ghost use Rattle.asset_names.specs.Sets.{HasNoDouble};
     ghost use Rattle.asset_names.specs.Answers.{IsLegal};
     ghost use Rattle.asset_names.specs.declared.replies.Outcome.TheVariants.{Answer};
@@ -108,6 +110,18 @@ impl History {
     {
         match self.entries.get(index) {
             Some(stored) => Some(stored.entry(&self.sets)),
+            None => None,
+        }
+    }
+
+    /// Returns the two transactions that the step of the entry at the index acts on, oldest first from 0, and `None` past
+    /// the end. They are one if it acts on one. The step is not read back, so a set of objects costs nothing.
+    #[inline(always)]
+    pub fn acted_on(&self, index: usize) -> Option<(Txn, Txn)>
+        ensures { result ≡ option_map both_of (slice_get (reverse self.now.entries) index) }
+    {
+        match self.entries.as_slice().get(index) {
+            Some(stored) => Some(stored.both()),
             None => None,
         }
     }

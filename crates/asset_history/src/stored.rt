@@ -77,7 +77,9 @@ pub(crate) enum Stored {
 const _: () = prove!(size_of::<Stored>() == 32);
 
 impl Stored {
-    ghost use Rattle.std.specs.Prelude.{◌≡◌, true, length};
+    ghost use Rattle.std.specs.Prelude.{◌≡◌, List, true, length};
+    ghost use Rattle.asset_history.specs.Acting.{both_of};
+    ghost use Rattle.asset_history.specs.StoredSets.{StoredSet};
     ghost use Rattle.asset_history.specs.Stored.{stored_as, entry_of, permit_entry, delegate_entry, value_stored, has_set};
 
     /// Returns the entry as it is stored, if `count` sets are stored.
@@ -189,6 +191,27 @@ impl Stored {
             Stored::Commit { tag, t } => (Step::Commit { t }, tag.about_name(t)),
             Stored::Abort { tag, t } => (Step::Abort { t }, tag.about_name(t)),
             Stored::WaitFor { tag, t } => (Step::WaitFor { t }, tag.about_name(t)),
+        }
+    }
+
+    /// Returns the two transactions that the entry's step acts on, which are one if it acts on one.
+    #[inline(always)]
+    #[tactic(auto, unfolding(crate::specs::Stored::entry_of, crate::specs::Stored::permit_entry, crate::specs::Stored::delegate_entry, asset_names::specs::Groups::actor, asset_names::specs::Groups::partner))]
+    pub(crate) fn both(&self) -> (Txn, Txn)
+        ensures { (sets : List StoredSet) → result ≡ both_of (entry_of sets self.now) }
+    {
+        match *self {
+            Stored::Initiate { t, .. } => (t, t),
+            Stored::Begin { t, .. } => (t, t),
+            Stored::Read { t, .. } => (t, t),
+            Stored::Write { t, .. } => (t, t),
+            Stored::Complete { t, .. } => (t, t),
+            Stored::Permit { giver, taker, .. } => (giver, taker),
+            Stored::Delegate { giver, taker, .. } => (giver, taker),
+            Stored::Depend { a, b, .. } => (a, b),
+            Stored::Commit { t, .. } => (t, t),
+            Stored::Abort { t, .. } => (t, t),
+            Stored::WaitFor { t, .. } => (t, t),
         }
     }
 
