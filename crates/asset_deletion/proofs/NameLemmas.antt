@@ -14,7 +14,8 @@ use Rattle.asset_names.specs.Steps.{Entry}
 use Rattle.asset_names.specs.Groups.{actor, partner, same_group}
 use Rattle.asset_names.proofs.Common.{eqb-flip}
 use Rattle.asset_names.proofs.ListLemmas.{any_alike}
-use Rattle.asset_deletion.specs.Named.{both_of, with_name, names_of, joined}
+use Rattle.asset_history.specs.Acting.{both_of}
+use Rattle.asset_deletion.specs.Named.{with_name, names_of, joined}
 use Rattle.asset_deletion.proofs.MeansLemmas.{entry_joins}
 
 -- ---- one more name

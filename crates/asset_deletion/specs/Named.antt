@@ -1,13 +1,8 @@
 -- Names in order of first use, and labels that say which of them are of one group.
 use Rattle.std.specs.Prelude.{◌≡◌, ℕ, ◌<◌, ◌≤◌, Bool, false, cond, ◌&&◌, ◌||◌, nat_eq, List, [], ◌∷◌, ◌++◌, length, slice_index}
-use Rattle.asset_names.specs.declared.names.Txn.{Txn}
 use Rattle.asset_names.specs.Arrows.{lists}
 use Rattle.asset_names.specs.Steps.{Entry}
 use Rattle.asset_names.specs.Groups.{actor, partner}
-
--- the two transactions that the entry's step acts on
-abbrev pub both_of : Entry → Txn × Txn
-both_of entry = (actor entry.0, partner entry.0)
 
 -- the names with one more, unless it is listed
 unfoldable pub with_name : List ℕ → ℕ → List ℕ

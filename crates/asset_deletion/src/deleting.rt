@@ -14,7 +14,7 @@ use crate::going::{dead_groups, going_with};
 use crate::grouped::Groups;
 use crate::grouping::groups;
 use asset_history::History;
-use asset_names::{NoMemory, Txn, actor};
+use asset_names::{NoMemory, Txn};
 use std::alloc::Global;
 
 /// Returns the history without the entries of the dead groups that have a chosen transaction. What is left is in order,
@@ -74,8 +74,8 @@ fn stays_at(history: &History, index: usize, groups: &Groups, going: &Vec<bool>)
     requires { AreBelow groups.now (length going.now.items) }
     ensures { (entry : Entry) → slice_get (reverse history.now.entries) index ≡ Some entry → result ≡ keeps groups.now going.now.items (actor entry.0).0 }
 {
-    match history.entry(index) {
-        Some((step, _)) => stays(groups, going, actor(&step)),
+    match history.acted_on(index) {
+        Some((t, _)) => stays(groups, going, t),
         None => true,
     }
 }

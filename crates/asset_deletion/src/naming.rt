@@ -3,11 +3,12 @@
 ghost use Rattle.std.specs.Prelude.{◌≡◌, ℕ, ◌<◌, Bool, [], length, reverse, slice_get, slice_index, OnOk, IfOk};
 ghost use Rattle.std.specs.Option.{option_map};
 ghost use Rattle.asset_names.specs.Groups.{same_group};
-ghost use Rattle.asset_deletion.specs.Named.{both_of, with_name, names_of, joined, Means};
+ghost use Rattle.asset_history.specs.Acting.{both_of};
+ghost use Rattle.asset_deletion.specs.Named.{with_name, names_of, joined, Means};
 
 use asset_history::History;
 use asset_labels::Labels;
-use asset_names::{NoMemory, Txn, actor, partner};
+use asset_names::{NoMemory, Txn};
 use indexmap::IndexSet;
 
 /// Returns the two transactions that the step at the index acts on, and `None` past the end.
@@ -15,10 +16,7 @@ use indexmap::IndexSet;
 fn joined_at(history: &History, index: usize) -> Option<(Txn, Txn)>
     ensures { result ≡ option_map both_of (slice_get (reverse history.now.entries) index) }
 {
-    match history.entry(index) {
-        Some((step, _)) => Some((actor(&step), partner(&step))),
-        None => None,
-    }
+    history.acted_on(index)
 }
 
 /// Returns the index of the transaction's name, which is added if it is new, as a group by itself. If memory runs out,
