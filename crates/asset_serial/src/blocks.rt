@@ -8,7 +8,7 @@ ghost use Rattle.asset_serial.specs.Answered.{number_of, numbers_of, blocks_of};
 
 use asset_buckets::Buckets;
 use asset_history::History;
-use asset_names::{NoMemory, Txn, actor};
+use asset_names::{NoMemory, Txn};
 use indexmap::IndexSet;
 use std::alloc::{AllocError, Global};
 
@@ -26,8 +26,8 @@ fn index_of(names: &IndexSet<u64>, t: Txn) -> usize
 fn number_at(history: &History, index: usize, names: &IndexSet<u64>) -> usize
     ensures { (entry : Entry) → slice_get (reverse history.now.entries) index ≡ Some entry → result ≡ number_of names.now.keys entry }
 {
-    match history.entry(index) {
-        Some((step, _)) => index_of(names, actor(&step)),
+    match history.acted_on(index) {
+        Some((t, _)) => index_of(names, t),
         None => 0,
     }
 }

@@ -10,7 +10,7 @@ ghost use Rattle.asset_laws.specs.Serial.{is_apart, shares_nothing, CommittedSha
 
 use crate::committing::committed_names;
 use asset_history::History;
-use asset_names::{NoMemory, Txn, actor, partner};
+use asset_names::{NoMemory, Txn};
 use indexmap::IndexSet;
 use std::alloc::Global;
 
@@ -43,8 +43,8 @@ fn apart_at(history: &History, index: usize, names: &IndexSet<u64>) -> bool
     ensures { (entry : Entry) → slice_get (reverse history.now.entries) index ≡ Some entry →
         result ≡ is_apart (lists names.now.keys) ((actor entry.0).0, (partner entry.0).0) }
 {
-    match history.entry(index) {
-        Some((step, _)) => are_apart(names, actor(&step), partner(&step)),
+    match history.acted_on(index) {
+        Some((t, u)) => are_apart(names, t, u),
         None => true,
     }
 }
