@@ -136,6 +136,37 @@ fn entries_are_appended(rt: HostRuntime) -> Result<(), Fail> {
     Ok(())
 }
 
+/// Returns whom the step at the index acts on: a permit on its giver and its taker, and any other on its transaction.
+fn acted_on(index: u64) -> (Txn, Txn) {
+    let t = Txn(index / LIFE);
+    match index % LIFE {
+        3 => (t, Txn(STEPS)),
+        _ => (t, t),
+    }
+}
+
+/// Asks all steps, and returns the first index at which the entry says that it acts on others.
+fn first_other_pair(core: &mut Core, obs: &ObSet) -> Option<u64> {
+    'steps: for index in 0..STEPS {
+        let answered = asked(core, &step_at(index, obs)).is_ok();
+        if !answered || core.history().acted_on(index as usize) != Some(acted_on(index)) {
+            return Some(index);
+        }
+    }
+    None
+}
+
+#[test]
+fn entries_say_whom_they_act_on(rt: HostRuntime) -> Result<(), Fail> {
+    let obs = ObSet::Listed(ObList::of(&[Ob(1), Ob(2)])?);
+    let mut core = opened(rt.alloc(), &TWO, ROOM)?;
+    let other = first_other_pair(&mut core, &obs);
+    let past = core.history().acted_on(STEPS as usize);
+    drop(core);
+    assert_eq!(rt; (other, past), (None, None));
+    Ok(())
+}
+
 /// Returns whether an empty history like this one, of one entry, has its opening and room.
 fn is_emptied(history: &History) -> bool {
     match emptied(history) {
