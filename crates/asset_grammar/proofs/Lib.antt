@@ -1,5 +1,9 @@
 pub mod LineLemmas
 pub mod NumberLemmas
+pub mod WordLemmas
+pub mod SetWordLemmas
+pub mod TakenLemmas
+pub mod KeywordLemmas
 mod GrammarCases
 pub mod NumberLaws
 pub mod SetLemmas

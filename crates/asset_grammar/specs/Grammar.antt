@@ -14,6 +14,8 @@ use Rattle.asset_grammar.specs.declared.grammar.Command.{Command}
 use Rattle.asset_grammar.specs.declared.grammar.Command.TheVariants.{Object, Ask}
 use Rattle.asset_grammar.specs.declared.grammar.Line.{Line}
 use Rattle.asset_grammar.specs.declared.grammar.Line.TheVariants as Line'
+use Rattle.asset_grammar.specs.declared.grammar.Said.{Said}
+use Rattle.asset_grammar.specs.declared.grammar.Said.TheVariants as Said'
 use Rattle.asset_grammar.specs.DependOperands.{kind_and_txns}
 use Rattle.asset_grammar.specs.PermitOperands.{txns_ops_and_set, txns_and_set}
 use Rattle.asset_grammar.specs.Words.{words}
@@ -64,3 +66,10 @@ line_by (Some command) = Line'.Command command
 -- What a line is. One of more than 4,096 bytes is bad, whatever it begins with.
 unfoldable pub line_of : List ℕ → Line
 line_of line = cond (nat_lt 4096 (length line)) Line'.Bad (cond (is_blank line) Line'.Blank (line_by (command_of line)))
+
+-- the line that an answer tells of, with the step in the slot if it asks for one
+unfoldable pub said_as : Said → Step → Line
+said_as Said'.Blank step = Line'.Blank
+said_as (Said'.Object given) step = Line'.Command (Object given)
+said_as Said'.Ask step = Line'.Command (Ask step)
+said_as Said'.Bad step = Line'.Bad

@@ -1,5 +1,5 @@
 -- How numbers and values are written.
-use Rattle.std.specs.Prelude.{ℕ, ◌^◌, ◌==◌, ◌&&◌, ◌||◌, Bool, false, not, cond, nat_lt, nat_le, List, [], ◌∷◌, length, Option, None, Some, option_and_then, ℤ, pos, ◌-ℤ◌}
+use Rattle.std.specs.Prelude.{◌≡◌, ◌≤◌, ℕ, ◌^◌, ◌==◌, ◌&&◌, ◌||◌, Bool, false, not, cond, nat_lt, nat_le, List, [], ◌∷◌, length, take, get_or, Option, None, Some, option_and_then, ℤ, pos, ◌-ℤ◌}
 use Rattle.std.specs.Char.{is_ascii_digit}
 use Rattle.std.specs.List.{list_all}
 use Rattle.std.specs.Str.Parse.{digits_value}
@@ -31,3 +31,13 @@ unfoldable pub value_of : List ℕ → Option ℤ
 value_of [] = None
 value_of (first ∷ rest) =
     cond (first == 45) (option_and_then negative_value (number_of rest)) (option_and_then positive_value (number_of (first ∷ rest)))
+
+-- the first `size` bytes of a text write a number, and no digit follows them
+pub record IsNumberAt (text : List ℕ) (number size : ℕ) : Type 0 where
+  pub within : size ≤ length text
+  pub is : number_of (take size text) ≡ Some number
+  pub ends : is_ascii_digit (get_or text size 0) ≡ false
+
+-- no bytes at the start of a text write a number that ends where no digit follows
+unfoldable pub NoNumberAt : List ℕ → Type 0
+NoNumberAt text = (size : ℕ) → size ≤ length text → is_ascii_digit (get_or text size 0) ≡ false → number_of (take size text) ≡ None

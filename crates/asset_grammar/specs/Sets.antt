@@ -23,6 +23,14 @@ unfoldable pub gathered : List Ob → List (List ℕ) → Option (List Ob)
 gathered objects [] = Some objects
 gathered objects (part ∷ rest) = option_and_then (λ more. gathered more rest) (one_more_object objects (ob_of part))
 
+-- the objects whose numbers stand between the commas of a word, after these
+abbrev pub gathered_of : List Ob → List ℕ → Option (List Ob)
+gathered_of objects word = gathered objects (parts 44 word)
+
+-- the set of a word that is `all`
+unfoldable pub all_of : List ℕ → Option ObSet
+all_of word = cond (bytes_eq word (codes "all")) (Some All) None
+
 -- whether the objects make a list: 1 to 16 of them, none of which occurs twice
 unfoldable pub is_list : List Ob → Bool
 is_list objects = nat_lt 0 (length objects) && nat_le (length objects) 16 && not (list_any (λ (x : Ob). twice (numbers objects) x.0) objects)

@@ -2,7 +2,7 @@
 ghost use Rattle.std.specs.Prelude.{◌≡◌};
 ghost use Rattle.asset_grammar.specs.JobLines.{give_up};
 
-use crate::grammar::{LONGEST_LINE, Line, OBJECT};
+use crate::grammar::{LONGEST_LINE, OBJECT, is_blank};
 use crate::words::Words;
 use asset_names::{Ob, Txn};
 
@@ -109,7 +109,7 @@ impl JobLine {
         if line.len() > LONGEST_LINE {
             return JobLine::Bad;
         }
-        if Line::is_blank(line) {
+        if is_blank(line) {
             return JobLine::Blank;
         }
         JobLine::of(Words::new(line)).unwrap_or(JobLine::Bad)

@@ -13,7 +13,7 @@ mod sets;
 mod texts;
 mod words;
 
-pub use grammar::{Command, Line};
+pub use grammar::{Command, Line, Said, parse_line};
 pub use job_lines::{JobAct, JobLine};
 pub use laws::lines_say_what_is_in_range;
 pub use lines::split_line;

@@ -1,11 +1,10 @@
 //! The operands of a line: the words after its keyword, all of which are read.
-ghost use Rattle.std.specs.Prelude.{◌≡◌};
+ghost use Rattle.std.specs.Prelude.{◌≡◌, option_map};
+ghost use Rattle.asset_grammar.specs.Words.{Takes};
 ghost use Rattle.asset_grammar.specs.Operands.{ob_of, object_and_value, one_object, one_txn, txn_and_object, txn_and_parent, txn_object_and_value, txn_of};
 ghost use Rattle.asset_grammar.specs.PermitOperands.{txns_ops_and_set, txns_and_set};
 ghost use Rattle.asset_grammar.specs.DependOperands.{kind_of, kind_and_txns};
 
-use crate::numbers::{parse_number, parse_value};
-use crate::sets::{parse_ops, parse_set};
 use crate::words::Words;
 use asset_names::{Kind, Ob, ObSet, Ops, Txn};
 
@@ -34,143 +33,137 @@ fn parse_kind(word: &[u8]) -> Option<Kind>
     }
 }
 
-/// Returns the transaction that a word names.
-#[tactic(auto, unfolding(crate::specs::Operands::txn_of))]
-fn parse_txn(word: &[u8]) -> Option<Txn>
-    ensures { result ≡ txn_of word.now }
-{
-    parse_number(word).map(Txn)
-}
-
-/// Returns the object that a word names.
-#[tactic(auto, unfolding(crate::specs::Operands::ob_of))]
-pub(crate) fn parse_ob(word: &[u8]) -> Option<Ob>
-    ensures { result ≡ ob_of word.now }
-{
-    parse_number(word).map(Ob)
-}
-
 impl Words<'_> {
+    /// Reads the next word as a transaction.
+    #[inline(always)]
+    fn next_txn(&mut self) -> Option<Txn>
+        ensures { Takes txn_of self.old result self.new }
+    {
+        let number = self.next_number()?;
+        Some(Txn(number))
+    }
+
+    /// Reads the next word as an object.
+    #[inline(always)]
+    fn next_ob(&mut self) -> Option<Ob>
+        ensures { Takes ob_of self.old result self.new }
+    {
+        let number = self.next_number()?;
+        Some(Ob(number))
+    }
+
+    /// Reads the next word as a kind of dependency.
+    #[tactic(auto, unfolding(crate::specs::Words::taken))]
+    fn next_kind(&mut self) -> Option<Kind>
+        ensures { Takes kind_of self.old result self.new }
+    {
+        parse_kind(self.next()?)
+    }
+
     /// Reads one transaction.
-    #[tactic(auto, unfolding(crate::specs::Operands::one_txn))]
     pub(crate) fn one_txn(mut self) -> Option<Txn>
         ensures { result ≡ one_txn self.entry }
     {
-        let (Some(t), None) = (self.next(), self.next()) else {
-            return None;
-        };
-        parse_txn(t)
+        let t = self.next_txn()?;
+        if self.is_over() { Some(t) } else { None }
     }
 
     /// Reads one object.
-    #[tactic(auto, unfolding(crate::specs::Operands::one_object))]
     pub(crate) fn one_object(mut self) -> Option<Ob>
         ensures { result ≡ one_object self.entry }
     {
-        let (Some(x), None) = (self.next(), self.next()) else {
-            return None;
-        };
-        parse_ob(x)
+        let x = self.next_ob()?;
+        if self.is_over() { Some(x) } else { None }
     }
 
     /// Reads a transaction, and perhaps its parent.
-    #[tactic(auto, unfolding(crate::specs::Operands::both, crate::specs::Operands::txn_and_parent))]
     pub(crate) fn txn_and_parent(mut self) -> Option<(Txn, Option<Txn>)>
         ensures { result ≡ txn_and_parent self.entry }
     {
-        let (Some(t), parent, None) = (self.next(), self.next(), self.next()) else {
-            return None;
-        };
-        let t = parse_txn(t)?;
-        match parent {
-            None => Some((t, None)),
-            Some(parent) => Some((t, Some(parse_txn(parent)?))),
+        let t = self.next_txn()?;
+        if self.is_over() {
+            return Some((t, None));
+        }
+        let parent = self.next_txn()?;
+        if self.is_over() {
+            Some((t, Some(parent)))
+        } else {
+            None
         }
     }
 
     /// Reads a transaction and an object.
-    #[tactic(auto, unfolding(crate::specs::Operands::both, crate::specs::Operands::txn_and_object))]
     pub(crate) fn txn_and_object(mut self) -> Option<(Txn, Ob)>
         ensures { result ≡ txn_and_object self.entry }
     {
-        let (Some(t), Some(x), None) = (self.next(), self.next(), self.next()) else {
-            return None;
-        };
-        parse_txn(t).zip(parse_ob(x))
+        let t = self.next_txn()?;
+        let x = self.next_ob()?;
+        if self.is_over() { Some((t, x)) } else { None }
     }
 
     /// Reads an object and a value.
-    #[tactic(auto, unfolding(crate::specs::Operands::both, crate::specs::Operands::object_and_value))]
     pub(crate) fn object_and_value(mut self) -> Option<(Ob, i64)>
         ensures { result ≡ object_and_value self.entry }
     {
-        let (Some(x), Some(v), None) = (self.next(), self.next(), self.next()) else {
-            return None;
-        };
-        parse_ob(x).zip(parse_value(v))
+        let x = self.next_ob()?;
+        let v = self.next_value()?;
+        if self.is_over() { Some((x, v)) } else { None }
     }
 
     /// Reads a transaction, an object and a value.
-    #[tactic(auto, unfolding(crate::specs::Operands::all_three, crate::specs::Operands::txn_object_and_value))]
     pub(crate) fn txn_object_and_value(mut self) -> Option<(Txn, Ob, i64)>
         ensures { result ≡ txn_object_and_value self.entry }
     {
-        let (Some(t), Some(x), Some(v), None) = (self.next(), self.next(), self.next(), self.next())
-        else {
-            return None;
-        };
-        let ((t, x), v) = parse_txn(t).zip(parse_ob(x)).zip(parse_value(v))?;
-        Some((t, x, v))
+        let t = self.next_txn()?;
+        let x = self.next_ob()?;
+        let v = self.next_value()?;
+        if self.is_over() {
+            Some((t, x, v))
+        } else {
+            None
+        }
     }
 
     /// Reads two transactions, operations and a set of objects.
-    #[tactic(auto, unfolding(crate::specs::Operands::both, crate::specs::PermitOperands::txns_ops_and_set))]
     pub(crate) fn txns_ops_and_set(mut self) -> Option<((Txn, Txn), (Ops, ObSet))>
         ensures { result ≡ txns_ops_and_set self.entry }
     {
-        let (Some(giver), Some(taker), Some(ops), Some(obs), None) = (
-            self.next(),
-            self.next(),
-            self.next(),
-            self.next(),
-            self.next(),
-        ) else {
-            return None;
-        };
-        let names = parse_txn(giver).zip(parse_txn(taker));
-        names.zip(parse_ops(ops).zip(parse_set(obs)))
+        let giver = self.next_txn()?;
+        let taker = self.next_txn()?;
+        let ops = self.next_ops()?;
+        let obs = self.next_set()?;
+        if self.is_over() {
+            Some(((giver, taker), (ops, obs)))
+        } else {
+            None
+        }
     }
 
     /// Reads two transactions and a set of objects.
-    #[tactic(auto, unfolding(crate::specs::Operands::both, crate::specs::PermitOperands::txns_and_set))]
     pub(crate) fn txns_and_set(mut self) -> Option<((Txn, Txn), ObSet)>
         ensures { result ≡ txns_and_set self.entry }
     {
-        let (Some(giver), Some(taker), Some(obs), None) = (
-            self.next(),
-            self.next(),
-            self.next(),
-            self.next(),
-        ) else {
-            return None;
-        };
-        let names = parse_txn(giver).zip(parse_txn(taker));
-        names.zip(parse_set(obs))
+        let giver = self.next_txn()?;
+        let taker = self.next_txn()?;
+        let obs = self.next_set()?;
+        if self.is_over() {
+            Some(((giver, taker), obs))
+        } else {
+            None
+        }
     }
 
     /// Reads a kind of dependency and two transactions.
-    #[tactic(auto, unfolding(crate::specs::Operands::both, crate::specs::DependOperands::kind_and_txns))]
     pub(crate) fn kind_and_txns(mut self) -> Option<(Kind, (Txn, Txn))>
         ensures { result ≡ kind_and_txns self.entry }
     {
-        let (Some(kind), Some(a), Some(b), None) = (
-            self.next(),
-            self.next(),
-            self.next(),
-            self.next(),
-        ) else {
-            return None;
-        };
-        parse_kind(kind).zip(parse_txn(a).zip(parse_txn(b)))
+        let kind = self.next_kind()?;
+        let a = self.next_txn()?;
+        let b = self.next_txn()?;
+        if self.is_over() {
+            Some((kind, (a, b)))
+        } else {
+            None
+        }
     }
 }

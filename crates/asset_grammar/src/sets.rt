@@ -1,11 +1,10 @@
 //! Sets of operations and of objects, as operands write them.
-ghost use Rattle.std.specs.Prelude.{◌≡◌, cond, [], Some, None, option_map, option_and_then};
-ghost use Rattle.asset_grammar.specs.Operands.{ob_of};
-ghost use Rattle.asset_grammar.specs.Words.{parts};
-ghost use Rattle.asset_grammar.specs.Sets.{ops_of, set_of, gathered, one_more_object, listed};
+ghost use Rattle.std.specs.Prelude.{◌≡◌, cond, Some, None, MatchOption};
+ghost use Rattle.asset_grammar.specs.Words.{parts, taken, Takes};
+ghost use Rattle.asset_grammar.specs.Sets.{all_of, gathered_of, listed, one_more_object, ops_of, set_of};
 
-use crate::operands::parse_ob;
-use crate::words::Words;
+use crate::numbers::number_at;
+use crate::words::{Words, has_at, words_after};
 use arrayvec::ArrayVec;
 use asset_names::{MOST_OBJECTS, Ob, ObList, ObSet, Ops};
 
@@ -23,7 +22,7 @@ const ALL: &[u8] = b"all";
 
 /// Returns the operations that a word writes.
 #[tactic(auto, unfolding(crate::specs::Sets::ops_of))]
-pub(crate) fn parse_ops(word: &[u8]) -> Option<Ops>
+fn parse_ops(word: &[u8]) -> Option<Ops>
     ensures { result ≡ ops_of word.now }
 {
     if word == READ {
@@ -37,33 +36,36 @@ pub(crate) fn parse_ops(word: &[u8]) -> Option<Ops>
     }
 }
 
-/// Appends the object that a number names. Returns whether it did: the number names one, and there is
-/// room for it.
+/// Appends an object, if there is room for it. Returns whether there was.
+#[inline(always)]
 #[tactic(auto, unfolding(crate::specs::Sets::one_more_object))]
-fn add(objects: &mut ArrayVec<Ob, MOST_OBJECTS>, number: &[u8]) -> bool
-    ensures { one_more_object objects.old.items (ob_of number.now) ≡ cond result (Some objects.new.items) None }
+fn add(objects: &mut ArrayVec<Ob, MOST_OBJECTS>, x: Ob) -> bool
+    ensures { one_more_object objects.old.items (Some x) ≡ cond result (Some objects.new.items) None }
 {
-    match parse_ob(number) {
-        Some(x) => match objects.try_push(x) {
-            Ok(()) => true,
-            Err(_) => false,
-        },
-        None => false,
+    match objects.try_push(x) {
+        Ok(()) => true,
+        Err(_) => false,
     }
 }
 
-/// Returns the objects whose numbers stand between the commas of a word, if there are at most 16.
-fn objects_in(word: &[u8]) -> Option<ArrayVec<Ob, MOST_OBJECTS>>
-    ensures { option_map (λ objects. objects.items) result ≡ gathered [] (parts 44 word.now) }
+/// Reads the objects whose numbers stand between the commas of the first word of a text, and appends each. Returns the words
+/// after it; `None` if the word writes something else, or there is no room for its objects.
+fn objects_at<'a>(text: &'a [u8], objects: &mut ArrayVec<Ob, MOST_OBJECTS>) -> Option<Words<'a>>
+    ensures { MatchOption result (taken (gathered_of objects.old.items) (parts 32 text.now) ≡ None)
+        (λ after. taken (gathered_of objects.old.items) (parts 32 text.now) ≡ Some (objects.new.items, after)) }
 {
-    let mut objects: ArrayVec<Ob, MOST_OBJECTS> = ArrayVec::new();
-    let mut numbers = Words::between(word, b',');
-    'numbers: while let Some(number) = numbers.next() {
-        if !add(&mut objects, number) {
+    let mut rest = text;
+    'numbers: while let Some((number, size)) = number_at(rest) {
+        if !add(objects, Ob(number)) {
             return None;
         }
+        if !has_at(rest, size, b',') {
+            return words_after(rest, size);
+        }
+        let (_, more) = rest.split_at(size + 1);
+        rest = more;
     }
-    Some(objects)
+    None
 }
 
 /// Returns the set of these objects, if they make a list.
@@ -77,16 +79,40 @@ fn set_of_objects(objects: &[Ob]) -> Option<ObSet>
     }
 }
 
-/// Returns the set of objects that a word writes.
-#[tactic(auto, unfolding(crate::specs::Sets::set_of))]
-pub(crate) fn parse_set(word: &[u8]) -> Option<ObSet>
-    ensures { result ≡ set_of word.now }
-{
-    if word == ALL {
-        return Some(ObSet::All);
+impl Words<'_> {
+    /// Reads the next word as operations.
+    #[tactic(auto, unfolding(crate::specs::Words::taken))]
+    pub(crate) fn next_ops(&mut self) -> Option<Ops>
+        ensures { Takes ops_of self.old result self.new }
+    {
+        parse_ops(self.next()?)
     }
-    match objects_in(word) {
-        Some(objects) => set_of_objects(objects.as_slice()),
-        None => None,
+
+    /// Reads the next word as `all`.
+    #[tactic(auto, unfolding(crate::specs::Words::taken, crate::specs::Sets::all_of))]
+    fn next_all(&mut self) -> Option<ObSet>
+        ensures { Takes all_of self.old result self.new }
+    {
+        if self.next()? == ALL {
+            Some(ObSet::All)
+        } else {
+            None
+        }
+    }
+
+    /// Reads the next word as a set of objects.
+    #[tactic(auto, unfolding(crate::specs::Words::parts_left, crate::specs::Words::taken))]
+    pub(crate) fn next_set(&mut self) -> Option<ObSet>
+        ensures { Takes set_of self.old result self.new }
+    {
+        if self.ended {
+            return None;
+        }
+        if has_at(self.rest, 0, b'a') {
+            return self.next_all();
+        }
+        let mut objects: ArrayVec<Ob, MOST_OBJECTS> = ArrayVec::new();
+        *self = objects_at(self.rest, &mut objects)?;
+        set_of_objects(objects.as_slice())
     }
 }
