@@ -1,5 +1,5 @@
 -- What a line of a script says.
-use Rattle.std.specs.Prelude.{ℕ, ◌==◌, Bool, true, cond, nat_lt, List, [], ◌∷◌, length, Option, None, Some, option_and_then, option_map, ℤ, codes}
+use Rattle.std.specs.Prelude.{◌≡◌, ℕ, ◌==◌, Bool, true, cond, nat_lt, List, [], ◌∷◌, length, Option, None, Some, option_and_then, option_map, ℤ, codes}
 use Rattle.std.specs.Str.{bytes_eq}
 use Rattle.asset_names.specs.declared.names.Txn.{Txn}
 use Rattle.asset_names.specs.declared.names.Ob.{Ob}
@@ -73,3 +73,8 @@ said_as Said'.Blank step = Line'.Blank
 said_as (Said'.Object given) step = Line'.Command (Object given)
 said_as Said'.Ask step = Line'.Command (Ask step)
 said_as Said'.Bad step = Line'.Bad
+
+-- the first line was read, with the step in the slot if it asks for one; or no line is left
+unfoldable pub ReadsLine : List (List ℕ) → Option Said → Step → List (List ℕ) → Type 0
+ReadsLine old None step new = (old ≡ []) × (new ≡ [])
+ReadsLine old (Some said) step new = (line : List ℕ) × (old ≡ line ∷ new) × (line_of line ≡ said_as said step)
