@@ -23,11 +23,10 @@ use Rattle.asset_printing.specs.Printed.{object_text, step_text}
 use Rattle.asset_printing.proofs.PlainLemmas.{object_one_line, step_one_line}
 use Rattle.asset_printing.proofs.SaidLemmas.{object_said, step_said}
 use Rattle.asset_reports.specs.Reports.{opening_line, opening_text, steps_text, history_text}
-use Rattle.asset_cli.specs.Preamble.{Takes}
 use Rattle.asset_cli.specs.Transcript.{Transcript, finished, with_prefix, outcome_text, line_if, joined_by, step_line, steps_transcript, object_line, objects_transcript, transcript}
 use Rattle.asset_cli.specs.Again.{FitThroughout, RunsAgain, replayed, replies_text}
 use Rattle.asset_cli.proofs.OpeningLemmas.{exists_listed}
-use Rattle.asset_cli.proofs.PreambleLemmas.{takes_object}
+use Rattle.asset_cli.proofs.PreambleLemmas.{object_taken}
 use Rattle.asset_cli.proofs.WritableLemmas.{EntriesWritable, OpeningWritable}
 
 -- a line with its line feed is cut off
@@ -63,7 +62,7 @@ new_object before after given none = go (exists before given.0.0) refl where
 -- the object lines of an opening add its objects
 objects_again : (todo done : Opening) (rest : List ℕ) (n capacity : ℕ) → OpeningWritable todo → HasNoDouble (objects_of (done ++ todo))
     → objects_transcript true (lines (opening_text todo ++ rest)) n done capacity ≡ objects_transcript true (lines rest) (n + length todo) (done ++ todo) capacity
-unfolding opening_text opening_line Takes
+unfolding opening_text opening_line
 objects_again [] done rest n capacity writable none =
     let same : n + 0 ≡ n = omega arith in
     rw (same, append-nil done) refl
@@ -72,7 +71,7 @@ objects_again (given ∷ todo) done rest n capacity writable none =
     let text : opening_text (given ∷ todo) ++ rest ≡ line ++ 10 ∷ (opening_text todo ++ rest) =
     append_assoc (line ++ 10 ∷ []) (opening_text todo) rest ∙ append_assoc line (10 ∷ []) (opening_text todo ++ rest) in
     let cut = ap lines text ∙ line_cut line (opening_text todo ++ rest) (object_one_line given writable.0) in
-    let took = takes_object line done given (object_said given writable.0) (new_object done todo given none) in
+    let took = object_taken line done given (object_said given writable.0) (new_object done todo given none) in
     let same : (done ++ given ∷ []) ++ todo ≡ done ++ given ∷ todo = append_assoc done (given ∷ []) todo in
     let later = objects_again todo (done ++ given ∷ []) rest (n + 1) capacity writable.1 (rw same none) in
     let count : (n + 1) + length todo ≡ n + length (given ∷ todo) = omega arith in

@@ -1,23 +1,24 @@
 //! The object lines, which stand before the first step.
-ghost use Rattle.std.specs.Prelude.{◌≡◌, ℕ, Bool, ◌+◌, ◌^◌, ◌<◌, ◌≤◌, [], length, IfOk, OnOk, IfErr};
+ghost use Rattle.std.specs.Prelude.{◌≡◌, ℕ, List, Bool, ◌+◌, ◌^◌, ◌<◌, ◌≤◌, [], length, IfOk, OnOk, IfErr};
 ghost use Rattle.asset_names.specs.Sets.{HasNoDouble};
 ghost use Rattle.asset_core.specs.OpenFaults.{objects_of};
+ghost use Rattle.asset_grammar.specs.Grammar.{line_of, said_as};
 ghost use Rattle.asset_grammar.specs.Lines.{lines};
 ghost use Rattle.asset_cli.specs.Transcript.{objects_transcript};
 ghost use Rattle.asset_cli.specs.Preamble.{Takes, transcript_from};
 
 use crate::faults::ScriptFault;
 use crate::opening_objects::OpeningObjects;
-use asset_grammar::{Command, Line, split_line};
-use asset_names::Step;
+use asset_grammar::{Said, ScriptLines};
+use asset_names::{Step, Txn};
 
 /// What a line is before the first step.
 #[derive(Clone, Copy)]
 pub(crate) enum ObjectLine {
     /// It adds an object or says nothing, and further objects may follow.
     More,
-    /// It asks for the first step.
-    First(Step),
+    /// It asks for the first step, which is in the slot.
+    First,
     /// It is bad.
     Bad,
 }
@@ -30,26 +31,28 @@ pub(crate) struct Preamble<'a> {
     /// The number of that line.
     pub number: u64,
     /// The lines after it.
-    pub rest: &'a [u8],
+    pub rest: ScriptLines<'a>,
+    /// The slot for steps, with the first step if that line asks for it.
+    pub step: Step,
 }
 
 /// Takes one line before the first step into the opening.
-fn take_line(opening: &mut OpeningObjects, line: &[u8]) -> Result<ObjectLine, ScriptFault>
-    ensures takes { IfOk result (λ taken. Takes taken line.now opening.old opening.new) }
+fn take_line(opening: &mut OpeningObjects, said: Said) -> Result<ObjectLine, ScriptFault>
+    ensures takes { IfOk result (λ taken. (line : List ℕ) (step : Step) → line_of line ≡ said_as said step → Takes taken step line opening.old opening.new) }
     ensures different { OnOk result (HasNoDouble (objects_of opening.old) → HasNoDouble (objects_of opening.new)) }
     ensures memory { IfErr result (λ fault. fault ≡ ScriptFault.NoMemory) }
 {
-    match Line::parse(line) {
-        Line::Blank => Ok(ObjectLine::More),
-        Line::Command(Command::Object(object)) => {
+    match said {
+        Said::Blank => Ok(ObjectLine::More),
+        Said::Object(object) => {
             if opening.add(object)? {
                 Ok(ObjectLine::More)
             } else {
                 Ok(ObjectLine::Bad)
             }
         }
-        Line::Command(Command::Ask(step)) => Ok(ObjectLine::First(step)),
-        Line::Bad => Ok(ObjectLine::Bad),
+        Said::Ask => Ok(ObjectLine::First),
+        Said::Bad => Ok(ObjectLine::Bad),
     }
 }
 
@@ -61,33 +64,36 @@ pub(crate) fn take_objects<'a>(
     requires empty { opening.old ≡ [] }
     requires few { length (lines bytes.now) + 1 < 2 ^ 64 }
     ensures rendered { IfOk result (λ preamble. (prints : Bool) (capacity : ℕ) →
-        objects_transcript prints (lines bytes.now) 1 [] capacity ≡ transcript_from prints preamble.line (lines preamble.rest.now) preamble.number opening.new capacity) }
-    ensures few { IfOk result (λ preamble. preamble.number + length (lines preamble.rest.now) ≤ 1 + length (lines bytes.now)) }
+        objects_transcript prints (lines bytes.now) 1 [] capacity ≡ transcript_from prints preamble.line preamble.step preamble.rest preamble.number opening.new capacity) }
+    ensures few { IfOk result (λ preamble. preamble.number + length preamble.rest ≤ 1 + length (lines bytes.now)) }
     ensures different { OnOk result (HasNoDouble (objects_of opening.new)) }
     ensures memory { IfErr result (λ fault. fault ≡ ScriptFault.NoMemory) }
 {
-    let mut left = bytes;
+    let mut rest = ScriptLines::new(bytes);
+    let mut step = Step::Commit { t: Txn(0) };
     let mut number = 1;
-    'lines: while let Some((line, rest)) = split_line(left) {
-        match take_line(opening, line)? {
+    'lines: while let Some(said) = rest.next_line(&mut step) {
+        match take_line(opening, said)? {
             ObjectLine::More => {}
-            ObjectLine::First(step) => return Ok(Preamble {
-                line: ObjectLine::First(step),
+            ObjectLine::First => return Ok(Preamble {
+                line: ObjectLine::First,
                 number,
                 rest,
+                step,
             }),
             ObjectLine::Bad => return Ok(Preamble {
                 line: ObjectLine::Bad,
                 number,
                 rest,
+                step,
             }),
         }
-        left = rest;
         number += 1;
     }
     Ok(Preamble {
         line: ObjectLine::More,
         number,
-        rest: left,
+        rest,
+        step,
     })
 }

@@ -5,7 +5,7 @@ ghost use Rattle.asset_names.specs.Sets.{HasNoDouble};
 ghost use Rattle.asset_history.specs.Recorded.{answer_to};
 ghost use Rattle.asset_core.specs.OpenFaults.{objects_of};
 ghost use Rattle.asset_core.specs.OpenFaults.{IsCapacity};
-ghost use Rattle.asset_grammar.specs.Lines.{lines};
+ghost use Rattle.asset_grammar.specs.Grammar.{line_of, said_as};
 ghost use Rattle.asset_cli.specs.Transfers.{input_limit};
 ghost use Rattle.asset_cli.specs.Transcript.{outcome_text, line_if, joined_by, steps_from, steps_transcript, transcript};
 ghost use Rattle.asset_cli.specs.Rendering.{GoesOn, Ends, Plays, end_at, played_of};
@@ -17,7 +17,7 @@ use crate::opening_objects::OpeningObjects;
 use crate::player::{Left, Player, end_player, open_player, play_step};
 use crate::preamble::{ObjectLine, Preamble, take_objects};
 use crate::reporting::Work;
-use asset_grammar::{Command, Line, push_bad_line, push_full, push_outcome, split_line};
+use asset_grammar::{Said, ScriptLines, push_bad_line, push_full, push_outcome};
 use asset_history::History;
 use asset_names::{Fault, Ob, Step};
 use asset_sources::Trace;
@@ -74,61 +74,60 @@ fn ask(player: &mut Player, text: &mut String, step: &Step, prints: bool) -> Res
     }
 }
 
-/// Renders one line among the steps. Returns whether the run goes on.
+/// Renders one line among the steps, whose step is in the slot if it asks for one. Returns whether the run goes on.
 fn render_line(
     player: &mut Player,
     text: &mut String,
-    line: &[u8],
+    said: Said,
+    step: &Step,
     number: u64,
     prints: bool,
 ) -> Result<bool, ScriptFault>
-    ensures goes_on { IfOk result (λ goes_on. OnTrue goes_on ((more : List (List ℕ)) →
-        GoesOn (string_bytes text.old) (steps_transcript prints (line.now ∷ more) number (history_of player.old)) (string_bytes text.new) (steps_transcript prints more (number + 1) (history_of player.new)))) }
-    ensures stops { IfOk result (λ goes_on. OnFalse goes_on ((more : List (List ℕ)) →
-        Ends (string_bytes text.old) (steps_transcript prints (line.now ∷ more) number (history_of player.old)) (string_bytes text.new) (end_at (Some number)) (history_of player.new))) }
+    ensures goes_on { IfOk result (λ goes_on. OnTrue goes_on ((line : List ℕ) (more : List (List ℕ)) → line_of line ≡ said_as said step.now →
+        GoesOn (string_bytes text.old) (steps_transcript prints (line ∷ more) number (history_of player.old)) (string_bytes text.new) (steps_transcript prints more (number + 1) (history_of player.new)))) }
+    ensures stops { IfOk result (λ goes_on. OnFalse goes_on ((line : List ℕ) (more : List (List ℕ)) → line_of line ≡ said_as said step.now →
+        Ends (string_bytes text.old) (steps_transcript prints (line ∷ more) number (history_of player.old)) (string_bytes text.new) (end_at (Some number)) (history_of player.new))) }
     ensures same { traces_in player.new ≡ traces_in player.old }
     ensures memory { IfErr result (λ fault. fault ≡ ScriptFault.NoMemory) }
 {
-    match Line::parse(line) {
-        Line::Blank => Ok(true),
-        Line::Command(Command::Ask(step)) => {
-            ask(player, text, &step, prints)?;
+    match said {
+        Said::Blank => Ok(true),
+        Said::Ask => {
+            ask(player, text, step, prints)?;
             Ok(true)
         }
-        Line::Command(Command::Object(_)) => {
+        Said::Object(_) => {
             push_bad_line(text, number)?;
             Ok(false)
         }
-        Line::Bad => {
+        Said::Bad => {
             push_bad_line(text, number)?;
             Ok(false)
         }
     }
 }
 
-/// Renders the first step, which stands on the line `number`, and the lines after it. Returns the number of the bad line at
-/// which they end, if there is one.
+/// Renders the first step, which is in the slot and stands on the line `number`, and the lines after it. Returns the number of
+/// the bad line at which they end, if there is one.
 fn render_steps(
     player: &mut Player,
     text: &mut String,
-    first: Step,
+    step: &mut Step,
     number: u64,
-    rest: &[u8],
+    rest: &mut ScriptLines<'_>,
     prints: bool,
 ) -> Result<Option<u64>, ScriptFault>
-    requires { number + length (lines rest.now) + 1 < 2 ^ 64 }
-    ensures rendered { IfOk result (λ bad. Ends (string_bytes text.old) (steps_from prints first (lines rest.now) number (history_of player.old)) (string_bytes text.new) (end_at bad) (history_of player.new)) }
+    requires { number + length rest.old + 1 < 2 ^ 64 }
+    ensures rendered { IfOk result (λ bad. Ends (string_bytes text.old) (steps_from prints step.old rest.old number (history_of player.old)) (string_bytes text.new) (end_at bad) (history_of player.new)) }
     ensures same { traces_in player.new ≡ traces_in player.old }
     ensures memory { IfErr result (λ fault. fault ≡ ScriptFault.NoMemory) }
 {
-    ask(player, text, &first, prints)?;
-    let mut left = rest;
+    ask(player, text, step, prints)?;
     let mut line_number = number + 1;
-    'lines: while let Some((line, more)) = split_line(left) {
-        if !render_line(player, text, line, line_number, prints)? {
+    'lines: while let Some(said) = rest.next_line(step) {
+        if !render_line(player, text, said, step, line_number, prints)? {
             return Ok(Some(line_number));
         }
-        left = more;
         line_number += 1;
     }
     Ok(None)
@@ -138,21 +137,22 @@ fn render_steps(
 fn play_steps(
     player: Player,
     text: &mut String,
-    first: Step,
-    preamble: &Preamble<'_>,
+    preamble: Preamble<'_>,
     prints: bool,
 ) -> Result<Played, ScriptFault>
-    requires few { preamble.now.number + length (lines preamble.now.rest.now) + 1 < 2 ^ 64 }
-    ensures played { IfOk result (λ played. Plays (string_bytes text.old) (steps_from prints first (lines preamble.now.rest.now) preamble.now.number (history_of player)) (string_bytes text.new) (traces_in player) played) }
+    requires few { preamble.number + length preamble.rest + 1 < 2 ^ 64 }
+    ensures played { IfOk result (λ played. Plays (string_bytes text.old) (steps_from prints preamble.entry.step preamble.entry.rest preamble.entry.number (history_of player)) (string_bytes text.new) (traces_in player) played) }
     ensures memory { IfErr result (λ fault. fault ≡ ScriptFault.NoMemory) }
 {
     let mut player = player;
+    let mut step = preamble.step;
+    let mut rest = preamble.rest;
     let bad = render_steps(
         &mut player,
         text,
-        first,
+        &mut step,
         preamble.number,
-        preamble.rest,
+        &mut rest,
         prints,
     );
     // Drops the tables in that call, so that what is left alone is here.
@@ -168,14 +168,14 @@ fn play_from(
     alloc: Global,
     opening: &[(Ob, i64)],
     capacity: usize,
-    preamble: &Preamble<'_>,
+    preamble: Preamble<'_>,
     text: &mut String,
     work: Work,
 ) -> Result<Played, ScriptFault>
     requires capacity { IsCapacity capacity }
     requires different { HasNoDouble (objects_of opening.now) }
-    requires few { preamble.now.number + length (lines preamble.now.rest.now) + 1 < 2 ^ 64 }
-    ensures played { IfOk result (λ played. Plays (string_bytes text.old) (transcript_from (prints_for work) preamble.now.line (lines preamble.now.rest.now) preamble.now.number opening.now capacity) (string_bytes text.new) (traces_for work) played) }
+    requires few { preamble.number + length preamble.rest + 1 < 2 ^ 64 }
+    ensures played { IfOk result (λ played. Plays (string_bytes text.old) (transcript_from (prints_for work) preamble.entry.line preamble.entry.step preamble.entry.rest preamble.entry.number opening.now capacity) (string_bytes text.new) (traces_for work) played) }
     ensures memory { IfErr result (λ fault. fault ≡ ScriptFault.NoMemory) }
 {
     if let ObjectLine::Bad = preamble.line {
@@ -186,7 +186,7 @@ fn play_from(
         return Err(ScriptFault::NoMemory);
     };
     match preamble.line {
-        ObjectLine::First(step) => play_steps(player, text, step, preamble, work.prints()),
+        ObjectLine::First => play_steps(player, text, preamble, work.prints()),
         _ => Ok(end_play(end_player(player), None)),
     }
 }
@@ -207,14 +207,7 @@ pub(crate) fn play(
 {
     let mut opening = OpeningObjects::new(alloc);
     match take_objects(&mut opening, bytes) {
-        Ok(preamble) => play_from(
-            alloc,
-            &opening.into_pairs(),
-            capacity,
-            &preamble,
-            text,
-            work,
-        ),
+        Ok(preamble) => play_from(alloc, &opening.into_pairs(), capacity, preamble, text, work),
         Err(fault) => Err(fault),
     }
 }

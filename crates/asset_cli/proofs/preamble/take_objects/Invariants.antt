@@ -8,10 +8,10 @@ use Rattle.asset_cli.proofs.preamble.take_objects.Given as goal
 -- the lines left render, over the opening so far, what all of them do
 abbrev pub invariant-lines : goal.invariant-lines
 invariant-lines l = record {
-  rendered : (prints : Bool) (capacity : ℕ) → objects_transcript prints (lines l.bytes) 1 [] capacity ≡ objects_transcript prints (lines l.left) l.number l.opening capacity;
-  count : l.number + length (lines l.left) ≡ 1 + length (lines l.bytes);
+  rendered : (prints : Bool) (capacity : ℕ) → objects_transcript prints (lines l.bytes) 1 [] capacity ≡ objects_transcript prints l.rest l.number l.opening capacity;
+  count : l.number + length l.rest ≡ 1 + length (lines l.bytes);
   different : HasNoDouble (objects_of l.opening);
 }
 
 abbrev pub decreases-lines : goal.decreases-lines
-decreases-lines l = length (lines l.left)
+decreases-lines l = length l.rest

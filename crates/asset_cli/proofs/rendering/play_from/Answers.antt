@@ -1,5 +1,4 @@
 use Rattle.std.proofs.Common.{◌≡◌, refl}
-use Rattle.asset_names.specs.declared.steps.Step.{Step}
 use Rattle.asset_cli.specs.declared.preamble.ObjectLine.{ObjectLine}
 use Rattle.asset_cli.specs.declared.preamble.ObjectLine.TheVariants.{More, First, Bad}
 use Rattle.asset_cli.specs.Preamble.{transcript_from}
@@ -15,13 +14,13 @@ unfolding transcript_from
 returns-in-First c = rw (c.in-First.is, ← c.in-Ok.ensures.opened, ← c.traces.ensures, ← c.in-Ok.ensures.traces, ← c.prints.ensures) c.play_steps.ensures
 
 -- a line that is neither bad nor a step is the last one
-only_more : (line : ObjectLine) → ((step : Step) → line ≡ First step → ⊥) → (line ≡ Bad → ⊥) → line ≡ More
+only_more : (line : ObjectLine) → (line ≡ First → ⊥) → (line ≡ Bad → ⊥) → line ≡ More
 only_more More no_step not_bad = refl
-only_more (First step) no_step not_bad = absurd (no_step step refl)
+only_more First no_step not_bad = absurd (no_step refl)
 only_more Bad no_step not_bad = absurd (not_bad refl)
 
 pub returns-in_default-line : goal.returns-in_default-line
 unfolding transcript_from
 returns-in_default-line c =
-    rw (only_more c.args.preamble.now.line c.in_default-line.not-First c.in_default.not-Bad, c.end_play.ensures, c.end_player.ensures, ← c.traces.ensures, ← c.in-Ok.ensures.traces)
+    rw (only_more c.args.preamble.line c.in_default-line.not-First c.in_default.not-Bad, c.end_play.ensures, c.end_player.ensures, ← c.traces.ensures, ← c.in-Ok.ensures.traces)
     (record { played = finished_plays _ _ c.in-Ok.player c.in-Ok.ensures.opened; memory = tt })
