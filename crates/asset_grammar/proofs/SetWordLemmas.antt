@@ -1,9 +1,8 @@
 -- What the first word of a text says of objects.
 use Rattle.std.proofs.Common.{◌≡◌, ℕ, ◌+◌, ◌<◌, ◌≤◌, ◌==◌, ◌⊎◌, inl, inr, Bool, true, false, cond, List, [], ◌∷◌, ◌++◌, length, get_or, take, drop, Option, None, Some, refl, sym, ap, ◌∙◌, arith, add-one, drop-cons, take-append-drop}
-use Rattle.std.specs.Prelude.{nat_lt, option_map, option_and_then, codes, IfSome, IfNone, MatchOption}
+use Rattle.std.specs.Prelude.{nat_lt, option_map, option_and_then, IfSome, IfNone, MatchOption}
 use Rattle.std.specs.Char.{is_ascii_digit}
-use Rattle.std.specs.List.{All, list_all, slice_split, onto_first}
-use Rattle.std.specs.Str.{bytes_eq}
+use Rattle.std.specs.List.{list_all, onto_first}
 use Rattle.std.proofs.lemmas.Bool.{eqb-true, eq-eqb, true≢false}
 use Rattle.std.proofs.lemmas.List.{get_or-take, get_or_past, length-take, take-take}
 use Rattle.std.proofs.lemmas.List.Elements.{All-head, All-tail}
@@ -17,7 +16,7 @@ use Rattle.asset_grammar.specs.Sets.{all_of, gathered, gathered_of, listed, one_
 use Rattle.asset_grammar.specs.Words.{parts, taken}
 use Rattle.asset_grammar.proofs.LineLemmas.{parts_last}
 use Rattle.asset_grammar.proofs.NumberLemmas.{lt_or_le, not_number_past, digits_until, number_digits}
-use Rattle.asset_grammar.proofs.WordLemmas.{FirstPart, first_part, taken_first, ends_first, first_byte, digits_lack}
+use Rattle.asset_grammar.proofs.WordLemmas.{FirstPart, first_part, taken_first, first_byte, digits_lack}
 
 -- where the first number of a set can end
 abbrev Stops : List ℕ → ℕ → Type 0

@@ -2,12 +2,12 @@
 use Rattle.std.proofs.Common.{◌≡◌, ℕ, ◌+◌, ◌<◌, ◌≤◌, ◌==◌, ◌⊎◌, inl, inr, Bool, true, false, List, [], ◌∷◌, length, get_or, take, drop, Option, None, Some, refl, sym, ap, ◌∙◌, arith, add-one, drop-cons, take-append-drop, ◌++◌}
 use Rattle.std.specs.Prelude.{option_map, option_and_then, ℤ}
 use Rattle.std.specs.Char.{is_ascii_digit}
-use Rattle.std.specs.List.{All, list_all, position}
+use Rattle.std.specs.List.{list_all, position}
 use Rattle.std.proofs.lemmas.Bool.{eqb-true, true≢false}
-use Rattle.std.proofs.lemmas.List.{get_or-take, get_or_past, length-take, take-take, take_all}
+use Rattle.std.proofs.lemmas.List.{get_or-take, get_or_past, length-take, take_all}
 use Rattle.std.proofs.lemmas.List.Folds.{list_all_at}
 use Rattle.std.proofs.lemmas.List.Quantifiers.{position-Some}
-use Rattle.asset_grammar.specs.Lines.{IsCutAt, Lacks}
+use Rattle.asset_grammar.specs.Lines.{Lacks}
 use Rattle.asset_grammar.specs.Numbers.{is_numeral, number_of, positive_value, negative_value, value_of, IsNumberAt, NoNumberAt}
 use Rattle.asset_grammar.specs.Words.{parts, parts_left, none_left, taken, Takes}
 use Rattle.asset_grammar.proofs.LineLemmas.{cut_at_position, lacks_without_position, parts_cut, parts_last}

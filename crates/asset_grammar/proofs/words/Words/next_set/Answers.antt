@@ -1,6 +1,6 @@
-use Rattle.std.proofs.Common.{ℕ, List, sym, ap, ◌∙◌}
-use Rattle.asset_grammar.specs.Sets.{all_of, gathered_of, listed, set_of}
-use Rattle.asset_grammar.specs.Words.{parts, parts_left, taken}
+use Rattle.std.proofs.Common.{sym, ap, ◌∙◌}
+use Rattle.asset_grammar.specs.Sets.{all_of, set_of}
+use Rattle.asset_grammar.specs.Words.{parts_left}
 use Rattle.asset_grammar.proofs.SetWordLemmas.{all_read, listed_read, set_made}
 use Rattle.asset_grammar.proofs.WordLemmas.{takes_mapped, takes_same}
 use Rattle.asset_grammar.proofs.words.Words.next_set.Goals as goal
