@@ -1,0 +1,113 @@
+//! The operands of lines, all of which are read.
+
+use crate::plain::sets::{kind, ops, set};
+use crate::plain::words::{Words, number, value};
+use asset_names::{Ob, Step, Txn};
+
+/// Returns the next word as a transaction.
+fn txn(words: &mut Words<'_>) -> Option<Txn> {
+    let number = number(words.next_word()?)?;
+    Some(Txn(number))
+}
+
+/// Returns the next word as an object.
+fn ob(words: &mut Words<'_>) -> Option<Ob> {
+    let number = number(words.next_word()?)?;
+    Some(Ob(number))
+}
+
+/// Returns whether no word is left.
+fn is_over(words: &mut Words<'_>) -> bool {
+    words.next_word().is_none()
+}
+
+/// Returns one transaction.
+pub(crate) fn one_txn(mut words: Words<'_>) -> Option<Txn> {
+    let t = txn(&mut words)?;
+    if is_over(&mut words) { Some(t) } else { None }
+}
+
+/// Returns an object and its value.
+pub(crate) fn object(mut words: Words<'_>) -> Option<(Ob, i64)> {
+    let x = ob(&mut words)?;
+    let v = value(words.next_word()?)?;
+    if is_over(&mut words) {
+        Some((x, v))
+    } else {
+        None
+    }
+}
+
+/// Returns an initiation, perhaps with a parent.
+pub(crate) fn initiate(mut words: Words<'_>) -> Option<Step> {
+    let t = txn(&mut words)?;
+    let Some(word) = words.next_word() else {
+        return Some(Step::Initiate { t, parent: None });
+    };
+    let parent = number(word)?;
+    let parent = Some(Txn(parent));
+    if !is_over(&mut words) {
+        return None;
+    }
+    Some(Step::Initiate { t, parent })
+}
+
+/// Returns a read.
+pub(crate) fn read(mut words: Words<'_>) -> Option<Step> {
+    let t = txn(&mut words)?;
+    let x = ob(&mut words)?;
+    if !is_over(&mut words) {
+        return None;
+    }
+    Some(Step::Read { t, x })
+}
+
+/// Returns a write.
+pub(crate) fn write(mut words: Words<'_>) -> Option<Step> {
+    let t = txn(&mut words)?;
+    let x = ob(&mut words)?;
+    let v = value(words.next_word()?)?;
+    if !is_over(&mut words) {
+        return None;
+    }
+    Some(Step::Write { t, x, v })
+}
+
+/// Returns a permit.
+pub(crate) fn permit(mut words: Words<'_>) -> Option<Step> {
+    let giver = txn(&mut words)?;
+    let taker = txn(&mut words)?;
+    let ops = ops(words.next_word()?)?;
+    let obs = set(words.next_word()?)?;
+    if !is_over(&mut words) {
+        return None;
+    }
+    Some(Step::Permit {
+        giver,
+        taker,
+        obs,
+        ops,
+    })
+}
+
+/// Returns a delegation.
+pub(crate) fn delegate(mut words: Words<'_>) -> Option<Step> {
+    let giver = txn(&mut words)?;
+    let taker = txn(&mut words)?;
+    let obs = set(words.next_word()?)?;
+    if !is_over(&mut words) {
+        return None;
+    }
+    Some(Step::Delegate { giver, taker, obs })
+}
+
+/// Returns a dependency.
+pub(crate) fn depend(mut words: Words<'_>) -> Option<Step> {
+    let kind = kind(words.next_word()?)?;
+    let a = txn(&mut words)?;
+    let b = txn(&mut words)?;
+    if !is_over(&mut words) {
+        return None;
+    }
+    Some(Step::Depend { kind, a, b })
+}
