@@ -12,6 +12,8 @@ mod names;
 #[cfg(test)]
 mod permits;
 #[cfg(test)]
+mod seated_permits;
+#[cfg(test)]
 mod sizes;
 #[cfg(test)]
 mod trans;

@@ -1,5 +1,5 @@
 -- Copies of permits, and a permit that goes.
-use Rattle.std.proofs.Common.{◌≡◌, ℕ, Bool, true, false, eqb, not, ◌&&◌, ◌||◌, List, [], ◌∷◌, ◌++◌, map, filter, Some, None, refl, sym, ap, subst, ◌∙◌, ◌+◌, ◌<◌, take, length, get_or, inl, inr, Ok, Err, OnOk}
+use Rattle.std.proofs.Common.{◌≡◌, ℕ, Bool, true, false, eqb, not, ◌&&◌, ◌||◌, List, [], ◌∷◌, ◌++◌, map, filter, Some, None, refl, sym, ap, subst, ◌∙◌, ◌+◌, ◌<◌, take, length, get_or, zero, suc, inl, inr, Ok, Err, OnOk, OnErr, arith}
 use Rattle.std.specs.Prelude.{flat_map, Result}
 use Rattle.std.specs.List.{list_any}
 use Rattle.std.proofs.lemmas.Bool.{or_cases, or_left, or_right, and_parts, and_from, false≢true, false_from_ne_true, eqb-true}
@@ -18,13 +18,20 @@ use Rattle.asset_names.proofs.ListLemmas.{any_alike, any_map, any_filter, all_an
 use Rattle.asset_permits.specs.declared.copying.Cut.{Cut}
 use Rattle.asset_permits.specs.Descriptors.{Descriptor, same_descriptor, stands, lets, covers, one_covers}
 use Rattle.asset_permits.specs.Valid.{descriptors_of}
-use Rattle.asset_permits.specs.Copies.{cut_of, copy_of, gives_on, cuts_on, cuts_in, given_by, copies, AddsCuts}
+use Rattle.asset_permits.specs.Copies.{cut_of, copy_of, gives_on, cuts_on, cuts_in, given_by, copies, AddsCuts, TakersSit}
+use Rattle.asset_seats.specs.Seated.{Seated}
 use Rattle.asset_permits.proofs.DescriptorLemmas.{same_is, same_self}
 use Rattle.asset_permits.proofs.SlotLemmas.{key_of_standing, stands_at}
 
 -- the elements up to one, and that one
 pub take_item : {X : Type 0} (xs : List X) (i : ℕ) (x : X) → i < length xs → x ≡ get_or xs i x → take (i + 1) xs ≡ take i xs ++ x ∷ []
 take_item xs i x below is = take_more xs i x below ∙ ap (λ y. take i xs ++ y ∷ []) (sym is)
+
+-- what passes at an index passes in the list
+pub any_at : {X : Type 0} (test : X → Bool) (xs : List X) (i : ℕ) (x : X) → i < length xs → x ≡ get_or xs i x → test x ≡ true → list_any test xs ≡ true
+any_at test [] i x below is passes = absurd (omega (arith, below))
+any_at test (y ∷ xs) zero x below is passes = or_left _ _ (ap test (sym is) ∙ passes)
+any_at test (y ∷ xs) (suc i) x below is passes = or_right _ _ (any_at test xs i x (omega (arith, below)) is passes)
 
 -- ---- one permit goes
 pub removed : (permits fewer : Slab Descriptor) (key : ℕ) (d e : Descriptor) → ((j k : ℕ) (d : Descriptor) → get permits j ≡ Some d → get permits k ≡ Some d → j ≡ k) → get permits key ≡ Some d
@@ -71,6 +78,10 @@ given_more receiver cuts cut e =
 pub given_nothing : (receiver : ℕ) (e : Descriptor) → stands (given_by receiver []) e ≡ false
 unfolding stands given_by
 given_nothing receiver e = refl
+
+-- nothing is copied for anybody yet
+pub nobody_takes : (seats : Seated) → TakersSit seats []
+nobody_takes seats u h = absurd (false≢true h)
 
 -- nothing was added yet
 pub adds_nothing : (receiver : ℕ) (old : List Descriptor) → AddsCuts receiver [] old old
@@ -253,3 +264,9 @@ pub cuts_then : (giver : ℕ) (descriptors : List Descriptor) (moved : List Ob) 
     → ((test : Cut → Bool) → list_any test after ≡ (list_any test before || list_any test (cuts_on giver descriptors x))) → (test : Cut → Bool) → list_any test after ≡ list_any test (cuts_in giver descriptors (moved ++ x ∷ []))
 cuts_then giver descriptors moved x before after was more test =
     more test ∙ ap (λ b. b || list_any test (cuts_on giver descriptors x)) (was test) ∙ sym (any_cuts_more test giver descriptors moved x)
+
+-- what stood stands, whether a call added something or not
+pub standing_more : {T E : Type 0} (r : Result T E) (old new : List Descriptor) (more : Descriptor → Bool) → OnOk r ((e : Descriptor) → stands new e ≡ (stands old e || more e)) → OnErr r ((e : Descriptor) → stands new e ≡ stands old e)
+    → (e : Descriptor) → stands old e ≡ true → stands new e ≡ true
+standing_more (Ok done) old new more added same e there = added e ∙ or_left _ _ there
+standing_more (Err fault) old new more added same e there = same e ∙ there

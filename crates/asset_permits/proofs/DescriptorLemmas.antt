@@ -1,5 +1,6 @@
 -- Lists of descriptors: two that say the same are one; what stands after one more, and that none stands twice.
-use Rattle.std.proofs.Common.{◌≡◌, ℕ, Bool, true, false, eqb, ◌&&◌, List, [], ◌∷◌, refl, ap, ◌∙◌}
+use Rattle.std.proofs.Common.{◌≡◌, ℕ, Bool, true, false, eqb, ◌&&◌, List, [], ◌∷◌, ◌||◌, refl, ap, ◌∙◌, OnOk}
+use Rattle.std.specs.Prelude.{Result}
 use Rattle.std.specs.Bool.{beq}
 use Rattle.std.specs.Cmp.Lexicographic.{pointwise}
 use Rattle.std.proofs.lemmas.Bool.{and_from, and_parts, eqb-true, eq-eqb, false≢true}
@@ -9,8 +10,8 @@ use Rattle.asset_names.specs.declared.sets.ObSet.{ObSet}
 use Rattle.asset_names.specs.declared.sets.ObSet.TheVariants.{All, Listed}
 use Rattle.asset_names.specs.InSet.{in_set}
 use Rattle.asset_names.specs.OpSets.{has_op, OpSet}
-use Rattle.asset_names.proofs.Common.{eqb-flip}
-use Rattle.asset_permits.specs.Descriptors.{Descriptor, same_objects, same_ops, same_descriptor, covers, lets}
+use Rattle.asset_names.proofs.Common.{eqb-flip, on_ok}
+use Rattle.asset_permits.specs.Descriptors.{Descriptor, same_objects, same_ops, same_descriptor, covers, lets, one_covers}
 
 -- ---- two that say the same
 beq-true : (p q : Bool) → beq p q ≡ true → p ≡ q
@@ -84,3 +85,8 @@ unfolding lets covers
 lets_by u t x op d =
     (λ i. eqb-flip d.giver u i && eqb-flip d.taker t i && (in_set d.objects x && has_op d.ops op))
     ∙ regrouped (eqb u d.giver) (eqb t d.taker) (in_set d.objects x) (has_op d.ops op)
+
+-- what one more covers, said by its parts
+pub covers_by : {T E : Type 0} (r : Result T E) (old new : List Descriptor) (d : Descriptor) → OnOk r ((u t x : ℕ) (op : Op) → one_covers new u t x op ≡ (one_covers old u t x op || lets u t x op d))
+    → OnOk r ((u t x : ℕ) (op : Op) → one_covers new u t x op ≡ (one_covers old u t x op || (eqb u d.giver && eqb t d.taker && in_set d.objects x && has_op d.ops op)))
+covers_by r old new d = on_ok r (λ covers. λ u t x op. covers u t x op ∙ ap (λ b. one_covers old u t x op || b) (lets_by u t x op d))

@@ -7,3 +7,4 @@ pub mod SlotLemmas
 pub mod CopyLemmas
 pub mod TableLemmas
 pub mod GivingLemmas
+pub mod NameLemmas

@@ -1,6 +1,6 @@
 -- Who has a seat, and which chains are used.
 use Rattle.std.proofs.Common.{◌≡◌, ℕ, ◌<◌, ◌≤◌, Bool, true, false, cond, eqb, not, ◌&&◌, ◌||◌, length, Option, Some, None, is_some, refl, sym, ap, ◌∙◌, arith, ◌⊎◌, inl, inr}
-use Rattle.std.proofs.lemmas.Bool.{or_cases, or_left, eqb-true, eqb-false, eq-eqb, ne_eqb, true≢false}
+use Rattle.std.proofs.lemmas.Bool.{or_cases, or_left, eqb-true, eqb-false, eq-eqb, ne_eqb, true≢false, cases_eq}
 use Rattle.slab.specs.Slab.{get}
 use Rattle.asset_names.specs.declared.names.Txn.{Txn}
 use Rattle.asset_names.proofs.Common.{some_of}
@@ -50,20 +50,8 @@ pub home_at_end : (p : Parts) (k : ℕ) (d : Descriptor) → IsSeated p → get 
 home_at_end p k d seated there = some_of (home_of p.across k) (sym (seated.across k) ∙ ap is_some there)
 
 -- exactly the permits have homes
-pub seated_by : (permits : Crossed Descriptor) (seats : Seated) → IsCrossed permits → IsUsed permits seats → IsSeated (parts_of permits seats)
-seated_by permits seats crossed used = record { along = λ k. sym (crossed.placed Row k); across = λ k. sym (crossed.placed Column k); used = used }
-
-pub within_grown : (permits more : Crossed Descriptor) (seats new : Seated) (size most : ℕ) → IsWithin permits.rows permits.columns seats size → IsGrown permits more → ((c : ℕ) → seat new c ≡ seat seats c) → size ≤ most
-    → IsWithin more.rows more.columns new most
-within_grown permits more seats new size most within grown same bound c sat =
-    let old = within c (sym (ap is_some (same c)) ∙ sat) in
-    (omega (arith, old.0, grown.many Row), omega (arith, old.1, grown.many Column), omega (arith, old.2, bound))
-
-pub within_sits : (along across : Chained) (seats new : Seated) (size : ℕ) (t : Txn) (s : ℕ) → IsWithin along across seats size → Sits t s seats new → s < length along.chains → s < length across.chains → s < size → IsWithin along across new size
-within_sits along across seats new size t s within sits first second third c sat = go (eqb c s) refl where
-  go : (b : Bool) → eqb c s ≡ b → (c < length along.chains) × (c < length across.chains) × (c < size)
-  go true e = let here : c ≡ s = eqb-true c s e in rw here (first, second, third)
-  go false e = within c (sym (ap is_some (sits.seats c ∙ ap (λ (b : Bool). cond b (Some t) (seat seats c)) e)) ∙ sat)
+pub seated_by : (permits : Crossed Descriptor) (seats : Seated) → IsCrossed permits → IsSeated (parts_of permits seats)
+seated_by permits seats crossed = record { along = λ k. sym (crossed.placed Row k); across = λ k. sym (crossed.placed Column k) }
 
 -- ---- who sits down
 pub sits_here : (t : Txn) (s : ℕ) (old new : Seated) → Sits t s old new → seat new s ≡ Some t
@@ -72,15 +60,19 @@ sits_here t s old new sits = sits.seats s ∙ ap (λ (b : Bool). cond b (Some t)
 pub sits_apart : (t : Txn) (s : ℕ) (old new : Seated) → Sits t s old new → (c : ℕ) → (c ≡ s → ⊥) → seat new c ≡ seat old c
 sits_apart t s old new sits c apart = sits.seats c ∙ ap (λ (b : Bool). cond b (Some t) (seat old c)) (ne_eqb c s apart)
 
-pub sits_down : (t : Txn) (s : ℕ) (old new : Seated) → seat old s ≡ None → ((c : ℕ) → seat new c ≡ cond (eqb c s) (Some t) (seat old c)) → Sits t s old new
-sits_down t s old new free seats = record { seats = seats; same = λ some. absurd (true≢false (sym some ∙ ap is_some free)) }
+-- everybody else keeps its seat
+pub sits_keep : (t : Txn) (s : ℕ) (old new : Seated) → Sits t s old new → (c : ℕ) (u : Txn) → seat old c ≡ Some u → seat new c ≡ Some u
+sits_keep t s old new sits c u sat = elim (cases_eq c s) [
+  | inl here ↦ ap (seat new) here ∙ sits_here t s old new sits ∙ sym (sits.same (ap is_some (ap (seat old) (sym here) ∙ sat))) ∙ ap (seat old) (sym here) ∙ sat
+  | inr apart ↦ sits_apart t s old new sits c apart ∙ sat
+]
 
 -- one who has just sat down, and whose chains are not used, leaves again
 pub left_again : (giver : Txn) (from : ℕ) (permits more : Crossed Descriptor) (old mid same new : Seated) → IsUsed permits old → Sits giver from old mid → ((c : ℕ) → seat same c ≡ seat mid c)
-    → IsGrown permits more → ((c : ℕ) → seat new c ≡ cond (eqb c from && not (is_used more.rows more.columns c)) None (seat same c)) → (c : ℕ) → seat new c ≡ seat old c
-left_again giver from permits more old mid same new used sits same_is grown leaves c = leaves c ∙ go (eqb c from) refl where
+    → ((c : ℕ) → is_used more.rows more.columns c ≡ is_used permits.rows permits.columns c) → ((c : ℕ) → seat new c ≡ cond (eqb c from && not (is_used more.rows more.columns c)) None (seat same c)) → (c : ℕ) → seat new c ≡ seat old c
+left_again giver from permits more old mid same new used sits same_is alike leaves c = leaves c ∙ go (eqb c from) refl where
   still : is_used more.rows more.columns c ≡ is_some (seat old c)
-  still = used_same permits.rows permits.columns more.rows more.columns c (grown.chains Row c) (grown.chains Column c) ∙ sym (used c)
+  still = alike c ∙ sym (used c)
 
   at : (o : Option Txn) → seat old c ≡ o → c ≡ from → cond (not (is_used more.rows more.columns c)) None (seat same c) ≡ seat old c
   at None e here = ap (λ (b : Bool). cond (not b) None (seat same c)) (still ∙ ap is_some e) ∙ sym e

@@ -1,45 +1,40 @@
 -- What a call makes of the table of permits.
-use Rattle.std.proofs.Common.{◌≡◌, ℕ, ◌<◌, Bool, true, false, List, [], ◌||◌, ◌&&◌, eqb, ◌⊎◌, filter_map, Option, Some, None, IfSome, IfNone, is_some, refl, sym, ap, ◌∙◌, arith, inl, inr}
-use Rattle.std.specs.Prelude.{slice_index_or}
+use Rattle.std.proofs.Common.{◌≡◌, ℕ, ◌<◌, ◌≤◌, Bool, true, false, List, [], ◌∷◌, ◌||◌, ◌&&◌, eqb, ◌⊎◌, filter_map, Option, Some, None, IfSome, IfNone, is_some, refl, sym, ap, subst, ◌∙◌, arith, inl, inr}
+use Rattle.std.specs.Prelude.{slice_index_or, flat_map}
 use Rattle.std.proofs.lemmas.Bool.{eqb-false, eqb-true, eq-eqb, ne_eqb, true≢false, false_from_ne_true, cases_eq, and_from, and_parts, or_left, or_right, or_cases}
 use Rattle.slab.specs.Slab.{Slab, get, Updates}
 use Rattle.asset_names.specs.declared.names.Txn.{Txn}
 use Rattle.asset_chains.specs.Chained.{chain_of, home_of, first_of, IsSound}
 use Rattle.asset_chains.specs.declared.side.Side.TheVariants.{Row, Column}
-use Rattle.asset_chains.specs.Crossed.{Crossed, IsGrown, Joins, IsCrossed}
+use Rattle.asset_chains.specs.Crossed.{Crossed, IsGrown, Joins, Loses, IsCrossed}
 use Rattle.asset_chains.proofs.SoundLemmas.{no_chain_of}
-use Rattle.asset_chains.proofs.KeyLemmas.{first_pushed}
 use Rattle.asset_seats.specs.Seated.{Seated, seat}
-use Rattle.asset_permits.specs.Descriptors.{Descriptor, stands}
-use Rattle.asset_permits.specs.Valid.{Parts, parts_of, descriptors_of, is_used, IsUsed, IsNamed, IsWithin, IsValid}
-use Rattle.asset_permits.specs.Changes.{BothSit, Shrinks}
-use Rattle.asset_permits.proofs.SeatLemmas.{used_same, used_along, used_across, home_along, seated_by}
+use Rattle.asset_permits.specs.Descriptors.{Descriptor, same_descriptor, stands}
+use Rattle.asset_permits.specs.Valid.{Parts, parts_of, descriptors_of, is_used, IsNamed, IsValid, PermitTable, IsTied}
+use Rattle.asset_permits.specs.Changes.{Shrinks}
+use Rattle.asset_permits.proofs.SeatLemmas.{home_along, seated_by, used_same}
+use Rattle.asset_permits.proofs.DropLemmas.{cleared_shrinks, cleared_gone, cleared_kept}
 use Rattle.asset_permits.proofs.SearchLemmas.{has_across}
 use Rattle.asset_permits.proofs.SlotLemmas.{IsRidOf, key_of_standing, stands_at, any_has, key_of_any}
-use Rattle.asset_permits.proofs.CopyLemmas.{any_cut}
+use Rattle.asset_permits.proofs.CopyLemmas.{any_cut, no_cuts}
 use Rattle.asset_permits.specs.declared.copying.Cut.{Cut}
-use Rattle.asset_permits.specs.Copies.{cut_of, cuts_on, gives_on}
+use Rattle.asset_permits.specs.Copies.{cut_of, copy_of, cuts_on, cuts_in, gives_on, given_by, copies, TakersSit}
+use Rattle.std.proofs.lemmas.List.Folds.{list_any-append}
+use Rattle.asset_names.proofs.ListLemmas.{any_map}
 use Rattle.asset_names.specs.declared.names.Ob.{Ob}
 use Rattle.asset_names.specs.InSet.{in_set}
 use Rattle.asset_names.proofs.Common.{both_follow, some_of}
 use Rattle.std.specs.List.{list_any}
 
+-- the table, by its parts
+abbrev pub table_of : Crossed Descriptor → ℕ → PermitTable
+table_of permits size = record { permits = permits; size = size }
+
+pub tied_inside : (permits : Crossed Descriptor) (size : ℕ) (table : PermitTable) (seats : Seated) → table_of permits size ≡ table → IsTied table seats → IsValid (parts_of permits seats) size
+tied_inside permits size table seats is tied = subst (λ (v : PermitTable). IsTied v seats) (sym is) tied
+
 -- ---- whether a permit stands
 -- a permit stands at a key in the chain of its giver, and in that of its taker
-pub not_given : (p : Parts) (size : ℕ) → IsValid p size → (e : Descriptor) → ((c : ℕ) → seat p.seats c ≡ Some (record { 0 = e.giver }) → ⊥) → stands (descriptors_of p.permits) e ≡ false
-not_given p size valid e absent =
-    false_from_ne_true _ (λ there.
-    let found = key_of_standing p.permits e there in
-    let across = has_across p size valid found.0 e found.1 in
-    absent across.from across.giver)
-
-pub not_taken : (p : Parts) (size : ℕ) → IsValid p size → (e : Descriptor) → ((c : ℕ) → seat p.seats c ≡ Some (record { 0 = e.taker }) → ⊥) → stands (descriptors_of p.permits) e ≡ false
-not_taken p size valid e absent =
-    false_from_ne_true _ (λ there.
-    let found = key_of_standing p.permits e there in
-    let across = has_across p size valid found.0 e found.1 in
-    absent across.to across.taker)
-
 found_stands : (permits : Slab Descriptor) (e : Descriptor) (result : Option ℕ) → IfSome result (λ k. get permits k ≡ Some e) → (stands (descriptors_of permits) e ≡ true → IfNone result ⊥) → is_some result ≡ stands (descriptors_of permits) e
 found_stands permits e None found absent = sym (false_from_ne_true _ (λ there. absent there))
 found_stands permits e (Some k) found absent = sym (stands_at permits k e found)
@@ -65,18 +60,20 @@ found_taken p size valid e to alone result found absent =
     none at.0 (across.end ∙ ap Some (alone across.to across.taker)) at.1))
 
 -- a seat that is a home has its mark
-pub marked_end : (p : Parts) (size : ℕ) → IsValid p size → IsSound p.across → (k c : ℕ) → home_of p.across k ≡ Some c → c < size
-marked_end p size valid sound k c home = (valid.within c (valid.seated.used c ∙ used_across p.along p.across k c sound home)).2
+pub marked_end : (p : Parts) (size : ℕ) → IsValid p size → (k c : ℕ) → home_of p.across k ≡ Some c → c < size
+marked_end p size valid k c home =
+    let found = some_of (get p.permits k) (valid.seated.across k ∙ ap is_some home) in
+    (valid.within c (ap is_some (valid.taken k c found.0 found.1 home))).2
 
-pub marked_home : (p : Parts) (size : ℕ) → IsValid p size → IsSound p.along → (k c : ℕ) → home_of p.along k ≡ Some c → c < size
-marked_home p size valid sound k c home = (valid.within c (valid.seated.used c ∙ used_along p.along p.across k c sound home)).2
+pub marked_home : (p : Parts) (size : ℕ) → IsValid p size → (k c : ℕ) → home_of p.along k ≡ Some c → c < size
+marked_home p size valid k c home =
+    let found = some_of (get p.permits k) (valid.seated.along k ∙ ap is_some home) in
+    (valid.within c (ap is_some (valid.given k c found.0 found.1 home))).2
 
 -- ---- a new table
-pub valid_nothing : (permits : Crossed Descriptor) (seats : Seated) (size : ℕ) → permits.items.slots ≡ [] → permits.rows.chains ≡ [] → permits.columns.chains ≡ [] → IsCrossed permits → ((c : ℕ) → seat seats c ≡ None)
-    → IsValid (parts_of permits seats) size
-unfolding is_used
-valid_nothing permits seats size none rows columns crossed nobody = record {
-  seated = seated_by permits seats crossed (λ c. ap is_some (nobody c) ∙ sym (λ i. is_some (first_of (no_chain_of permits.rows rows c i)) || is_some (first_of (no_chain_of permits.columns columns c i))));
+pub valid_nothing : (permits : Crossed Descriptor) (seats : Seated) (size : ℕ) → permits.items.slots ≡ [] → IsCrossed permits → ((c : ℕ) → seat seats c ≡ None) → IsValid (parts_of permits seats) size
+valid_nothing permits seats size none crossed nobody = record {
+  seated = seated_by permits seats crossed;
   given = λ k c d there home. cc (sym there ∙ nothing k);
   taken = λ k c d there home. cc (sym there ∙ nothing k);
   single = λ j k d here there. cc (sym there ∙ nothing k);
@@ -84,6 +81,11 @@ valid_nothing permits seats size none rows columns crossed nobody = record {
 } where
   nothing : (k : ℕ) → get permits.items k ≡ None
   nothing k = ap (λ (l : List (Option Descriptor)). slice_index_or l k None) none
+
+-- no seat is used
+pub unused_nothing : (permits : Crossed Descriptor) → permits.rows.chains ≡ [] → permits.columns.chains ≡ [] → (c : ℕ) → is_used permits.rows permits.columns c ≡ false
+unfolding is_used
+unused_nothing permits rows columns c = λ i. is_some (first_of (no_chain_of permits.rows rows c i)) || is_some (first_of (no_chain_of permits.columns columns c i))
 
 pub nothing_stands : (permits : Slab Descriptor) → permits.slots ≡ [] → descriptors_of permits ≡ []
 unfolding descriptors_of
@@ -97,73 +99,54 @@ slots_stand permits more same = ap (λ (l : List (Option Descriptor)). filter_ma
 pub slot_same : (permits more : Slab Descriptor) → more.slots ≡ permits.slots → (k : ℕ) → get more k ≡ get permits k
 slot_same permits more same k = ap (λ (l : List (Option Descriptor)). slice_index_or l k None) same
 
-pub used_grown : (permits more : Crossed Descriptor) (seats new : Seated) → IsUsed permits seats → IsGrown permits more → ((c : ℕ) → seat new c ≡ seat seats c) → IsUsed more new
-used_grown permits more seats new used grown same c =
-    ap is_some (same c) ∙ used c ∙ sym (used_same permits.rows permits.columns more.rows more.columns c (grown.chains Row c) (grown.chains Column c))
+pub used_grown : (permits more : Crossed Descriptor) → IsGrown permits more → (c : ℕ) → is_used more.rows more.columns c ≡ is_used permits.rows permits.columns c
+used_grown permits more grown c = used_same permits.rows permits.columns more.rows more.columns c (grown.chains Row c) (grown.chains Column c)
 
-pub valid_grown : (permits more : Crossed Descriptor) (seats new : Seated) (size most : ℕ) → IsValid (parts_of permits seats) size → IsGrown permits more → ((c : ℕ) → seat new c ≡ seat seats c) → IsWithin more.rows more.columns new most
-    → IsValid (parts_of more new) most
-valid_grown permits more seats new size most valid grown same within = record {
+pub valid_grown : (permits more : Crossed Descriptor) (seats : Seated) (size most : ℕ) → IsValid (parts_of permits seats) size → IsGrown permits more → size ≤ most → IsValid (parts_of more seats) most
+valid_grown permits more seats size most valid grown bound = record {
   seated = record {
     along = λ k. ap is_some (slot_same permits.items more.items grown.items k) ∙ valid.seated.along k ∙ sym (ap is_some (grown.homes Row k));
     across = λ k. ap is_some (slot_same permits.items more.items grown.items k) ∙ valid.seated.across k ∙ sym (ap is_some (grown.homes Column k));
-    used = used_grown permits more seats new valid.seated.used grown same;
   };
-  given = λ k c d there home. same c ∙ valid.given k c d (sym (slot_same permits.items more.items grown.items k) ∙ there) (sym (grown.homes Row k) ∙ home);
-  taken = λ k c d there home. same c ∙ valid.taken k c d (sym (slot_same permits.items more.items grown.items k) ∙ there) (sym (grown.homes Column k) ∙ home);
+  given = λ k c d there home. valid.given k c d (sym (slot_same permits.items more.items grown.items k) ∙ there) (sym (grown.homes Row k) ∙ home);
+  taken = λ k c d there home. valid.taken k c d (sym (slot_same permits.items more.items grown.items k) ∙ there) (sym (grown.homes Column k) ∙ home);
   single = λ j k d here there. valid.single j k d (sym (slot_same permits.items more.items grown.items j) ∙ here) (sym (slot_same permits.items more.items grown.items k) ∙ there);
-  within = within;
+  within = λ c sat. let old = valid.within c sat in (omega (arith, old.0, grown.many Row), omega (arith, old.1, grown.many Column), omega (arith, old.2, bound));
 }
 
 -- ---- one more permit
-module _ (permits more : Crossed Descriptor) (seats new : Seated) (size most : ℕ) (d : Descriptor) (key from to : ℕ)
-    (valid : IsValid (parts_of permits seats) size) (sits : BothSit (record { 0 = d.giver }) (record { 0 = d.taker }) from to seats new)
+module _ (permits more : Crossed Descriptor) (seats : Seated) (size : ℕ) (d : Descriptor) (key from to : ℕ)
+    (valid : IsValid (parts_of permits seats) size) (giver_sits : seat seats from ≡ Some (record { 0 = d.giver })) (taker_sits : seat seats to ≡ Some (record { 0 = d.taker }))
     (put : Updates permits.items more.items key (Some d)) (none : stands (descriptors_of permits.items) d ≡ false)
     (change : Joins from key permits.rows more.rows) (change_across : Joins to key permits.columns more.columns) (crossed : IsCrossed more) where
-  used_more : IsUsed more new
-  unfolding is_used
-  used_more c = elim (cases_eq c from) [
-    | inl here ↦ ap is_some (ap (seat new) here ∙ sits.giver_sits) ∙ sym (left_used (is_some (first_of (chain_of more.columns c))) (ap (λ (keys : List ℕ). is_some (first_of keys)) (ap (chain_of more.rows) here ∙ change.chain) ∙ first_pushed (chain_of permits.rows from) key))
-    | inr apart ↦ elim (cases_eq c to) [
-      | inl here ↦ ap is_some (ap (seat new) here ∙ sits.taker_sits) ∙ sym (right_used (is_some (first_of (chain_of more.rows c))) (ap (λ (keys : List ℕ). is_some (first_of keys)) (ap (chain_of more.columns) here ∙ change_across.chain) ∙ first_pushed (chain_of permits.columns to) key))
-      | inr differ ↦ ap is_some (sits.others c apart differ) ∙ valid.seated.used c ∙ sym (λ i. is_some (first_of (change.chains c apart i)) || is_some (first_of (change_across.chains c differ i)))
-    ]
-  ] where
-    left_used : (q : Bool) → {p : Bool} → p ≡ true → (p || q) ≡ true
-    left_used q e = ap (λ (p : Bool). p || q) e
-
-    right_used : (p : Bool) → {q : Bool} → q ≡ true → (p || q) ≡ true
-    right_used true e = refl
-    right_used false e = e
-
-  pub valid_added : IsWithin permits.rows permits.columns new most → IsValid (parts_of more new) most
-  valid_added within = record {
-    seated = seated_by more new crossed used_more;
+  pub valid_added : IsValid (parts_of more seats) size
+  valid_added = record {
+    seated = seated_by more seats crossed;
     given = given;
     taken = taken;
     single = single;
-    within = λ c sat. let old = within c sat in (omega (arith, old.0, change.many), omega (arith, old.1, change_across.many), old.2);
+    within = λ c sat. let old = valid.within c sat in (omega (arith, old.0, change.many), omega (arith, old.1, change_across.many), old.2);
   } where
-    given : IsNamed (λ (d : Descriptor). d.giver) more.items more.rows new
+    given : IsNamed (λ (d : Descriptor). d.giver) more.items more.rows seats
     given k c e there home = elim (cases_eq k key) [
       | inl here ↦
           let same : Some e ≡ Some d = sym there ∙ ap (get more.items) here ∙ put.changed in
           let seat_is : Some c ≡ Some from = sym home ∙ ap (home_of more.rows) here ∙ change.home in
           let at : c ≡ from = cc seat_is in
           let is : e ≡ d = cc same in
-          ap (seat new) at ∙ sits.giver_sits ∙ (λ i. Some (record { 0 = (sym is i).giver }))
-      | inr other ↦ sits.kept c (record { 0 = e.giver }) (valid.given k c e (sym (put.others k other) ∙ there) (sym (change.homes k other) ∙ home))
+          ap (seat seats) at ∙ giver_sits ∙ (λ i. Some (record { 0 = (sym is i).giver }))
+      | inr other ↦ valid.given k c e (sym (put.others k other) ∙ there) (sym (change.homes k other) ∙ home)
     ]
 
-    taken : IsNamed (λ (d : Descriptor). d.taker) more.items more.columns new
+    taken : IsNamed (λ (d : Descriptor). d.taker) more.items more.columns seats
     taken k c e there home = elim (cases_eq k key) [
       | inl here ↦
           let same : Some e ≡ Some d = sym there ∙ ap (get more.items) here ∙ put.changed in
           let seat_is : Some c ≡ Some to = sym home ∙ ap (home_of more.columns) here ∙ change_across.home in
           let at : c ≡ to = cc seat_is in
           let is : e ≡ d = cc same in
-          ap (seat new) at ∙ sits.taker_sits ∙ (λ i. Some (record { 0 = (sym is i).taker }))
-      | inr other ↦ sits.kept c (record { 0 = e.taker }) (valid.taken k c e (sym (put.others k other) ∙ there) (sym (change_across.homes k other) ∙ home))
+          ap (seat seats) at ∙ taker_sits ∙ (λ i. Some (record { 0 = (sym is i).taker }))
+      | inr other ↦ valid.taken k c e (sym (put.others k other) ∙ there) (sym (change_across.homes k other) ∙ home)
     ]
 
     twice : (k : ℕ) (e : Descriptor) → (k ≡ key → ⊥) → get more.items k ≡ Some e → get more.items key ≡ Some e → ⊥
@@ -184,10 +167,10 @@ module _ (permits more : Crossed Descriptor) (seats new : Seated) (size most : �
     ]
 
 -- ---- the permits of one transaction are gone
-pub rid_of : (old mid new : Crossed Descriptor) (seats left rest : Seated) (size : ℕ) (t : Txn) (s : ℕ) → IsValid (parts_of old seats) size → seat seats s ≡ Some t → ((c : ℕ) → seat seats c ≡ Some t → c ≡ s)
-    → Shrinks old mid seats left → ((k : ℕ) → home_of mid.rows k ≡ Some s → ⊥) → ((k : ℕ) → (home_of old.rows k ≡ Some s → ⊥) → get mid.items k ≡ get old.items k)
-    → Shrinks mid new left rest → IsCrossed new → ((k : ℕ) → home_of new.columns k ≡ Some s → ⊥) → ((k : ℕ) → (home_of mid.columns k ≡ Some s → ⊥) → get new.items k ≡ get mid.items k) → IsRidOf t.0 old.items new.items
-rid_of old mid new seats left rest size t s valid sat alone first gone kept second crossed gone_across kept_across = record {
+pub rid_of : (old mid new : Crossed Descriptor) (seats : Seated) (size : ℕ) (t : Txn) (s : ℕ) → IsValid (parts_of old seats) size → seat seats s ≡ Some t → ((c : ℕ) → seat seats c ≡ Some t → c ≡ s)
+    → Shrinks old mid → ((k : ℕ) → home_of mid.rows k ≡ Some s → ⊥) → ((k : ℕ) → (home_of old.rows k ≡ Some s → ⊥) → get mid.items k ≡ get old.items k)
+    → Shrinks mid new → IsCrossed new → ((k : ℕ) → home_of new.columns k ≡ Some s → ⊥) → ((k : ℕ) → (home_of mid.columns k ≡ Some s → ⊥) → get new.items k ≡ get mid.items k) → IsRidOf t.0 old.items new.items
+rid_of old mid new seats size t s valid sat alone first gone kept second crossed gone_across kept_across = record {
   still = λ k d there. first.permits k d (second.permits k d there);
   begins = λ k d there.
       let home = some_of (home_of new.rows k) (crossed.placed Row k ∙ ap is_some there) in
@@ -209,6 +192,14 @@ rid_of old mid new seats left rest size t s valid sat alone first gone kept seco
 } where
   named : (t : Txn) (n : ℕ) → Some (record { 0 = n }) ≡ Some t → n ≡ t.0
   named t n same = let is : record { 0 = n } ≡ t = cc same in ap (λ (u : Txn). u.0) is
+
+-- as its row and its column are cleared
+pub cleared_rid : (old mid new : Crossed Descriptor) (seats : Seated) (size : ℕ) (t : Txn) (s : ℕ) → IsValid (parts_of old seats) size → seat seats s ≡ Some t → ((c : ℕ) → seat seats c ≡ Some t → c ≡ s) → IsCrossed old → IsCrossed mid → IsCrossed new
+    → Loses (chain_of old.rows s) old mid → Loses (chain_of mid.columns s) mid new → IsRidOf t.0 old.items new.items
+cleared_rid old mid new seats size t s valid sat alone crossed crossed_mid crossed_new first second =
+    rid_of old mid new seats size t s valid sat alone
+    (cleared_shrinks _ old mid first) (cleared_gone Row s old mid crossed first) (cleared_kept Row s old mid crossed first)
+    (cleared_shrinks _ mid new second) crossed_new (cleared_gone Column s mid new crossed_mid second) (cleared_kept Column s mid new crossed_mid second)
 
 pub rid_of_nobody : (p : Parts) (size : ℕ) (t : Txn) → IsValid p size → ((c : ℕ) → seat p.seats c ≡ Some t → ⊥) → IsRidOf t.0 p.permits p.permits
 rid_of_nobody p size t valid absent = record {
@@ -265,3 +256,28 @@ no_cuts_by p size valid giver absent test x =
     let parts = and_parts _ _ (and_parts _ _ found.3).0 in
     let home = home_along p found.0 found.1 valid.seated found.2 in
     absent home.0 (valid.given found.0 home.0 found.1 found.2 home.1 ∙ (λ i. Some (record { 0 = eqb-true found.1.giver giver.0 parts.0 i }))))
+
+-- of one who has no seat, nothing is copied
+pub no_copies : (p : Parts) (size : ℕ) → IsValid p size → (giver : Txn) (receiver : ℕ) (moved : List Ob) → ((c : ℕ) → seat p.seats c ≡ Some giver → ⊥) → (e : Descriptor) → stands (copies giver.0 receiver (descriptors_of p.permits) moved) e ≡ false
+unfolding stands copies given_by
+no_copies p size valid giver receiver moved absent e =
+    any_map (λ (d : Descriptor). same_descriptor d e) (copy_of receiver) (cuts_in giver.0 (descriptors_of p.permits) moved)
+    ∙ no_cuts (λ (cut : Cut). same_descriptor (copy_of receiver cut) e) giver.0 (descriptors_of p.permits) moved (no_cuts_by p size valid giver absent (λ (cut : Cut). same_descriptor (copy_of receiver cut) e))
+
+-- each for whom something is copied takes a permit
+taker_of_cut : (permits : Slab Descriptor) (u giver : ℕ) (moved : List Ob) → list_any (λ (cut : Cut). eqb cut.taker.0 u) (cuts_in giver (descriptors_of permits) moved) ≡ true → (k : ℕ) × (d : Descriptor) × (get permits k ≡ Some d) × (d.taker ≡ u)
+unfolding cuts_in cut_of
+taker_of_cut permits u giver [] h = absurd (true≢false (sym h))
+taker_of_cut permits u giver (x ∷ moved) h =
+    elim (or_cases _ _ (sym (list_any-append (λ (cut : Cut). eqb cut.taker.0 u) (cuts_on giver (descriptors_of permits) x) (flat_map (cuts_on giver (descriptors_of permits)) moved)) ∙ h)) [
+      | inl first ↦
+          let found = key_of_any (λ (d : Descriptor). gives_on giver x d && eqb d.taker u) permits (sym (any_cut (λ (cut : Cut). eqb cut.taker.0 u) giver (descriptors_of permits) x) ∙ first) in
+          (found.0, found.1, found.2, eqb-true found.1.taker u (and_parts _ _ found.3).1)
+      | inr more ↦ taker_of_cut permits u giver moved more
+    ]
+
+pub takers_sit : (p : Parts) (size : ℕ) → IsValid p size → (giver : ℕ) (moved : List Ob) (cuts : List Cut) → ((test : Cut → Bool) → list_any test cuts ≡ list_any test (cuts_in giver (descriptors_of p.permits) moved)) → TakersSit p.seats cuts
+takers_sit p size valid giver moved cuts same u h =
+    let found = taker_of_cut p.permits u.0 giver moved (sym (same (λ (cut : Cut). eqb cut.taker.0 u.0)) ∙ h) in
+    let across = has_across p size valid found.0 found.1 found.2 in
+    (across.to, across.taker ∙ (λ i. Some (record { 0 = found.3 i })))

@@ -20,9 +20,12 @@ pub record BothSit (giver taker : Txn) (from to : ℕ) (old new : Seated) : Type
   pub kept : (c : ℕ) (t : Txn) → seat old c ≡ Some t → seat new c ≡ Some t
   pub others : (c : ℕ) → c ≢ from → c ≢ to → seat new c ≡ seat old c
 
--- permits, homes and seats that are still there are as they were
-pub record Shrinks (old new : Crossed Descriptor) (were left : Seated) : Type 0 where
+-- permits and homes that are still there are as they were
+pub record Shrinks (old new : Crossed Descriptor) : Type 0 where
   pub permits : (k : ℕ) (d : Descriptor) → get new.items k ≡ Some d → get old.items k ≡ Some d
   pub homes : (side : Side) (k c : ℕ) → home_of (lines side new) k ≡ Some c → home_of (lines side old) k ≡ Some c
-  pub seats : (c : ℕ) (t : Txn) → seat left c ≡ Some t → seat were c ≡ Some t
   pub many : (side : Side) → length (lines side new).chains ≡ length (lines side old).chains
+
+-- who has a seat still has the one that it had
+abbrev pub AreLeft : Seated → Seated → Type 0
+AreLeft were left = (c : ℕ) (t : Txn) → seat left c ≡ Some t → seat were c ≡ Some t

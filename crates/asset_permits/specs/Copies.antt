@@ -1,8 +1,11 @@
 -- Copies of permits: a transaction gets those of another, each cut to one object.
-use Rattle.std.specs.Prelude.{◌≡◌, ℕ, Bool, true, false, ◌==◌, ◌&&◌, ◌||◌, List, [], ◌∷◌, map, filter, flat_map}
+use Rattle.std.specs.List.{list_any}
+use Rattle.std.specs.Prelude.{Some, ◌≡◌, ℕ, Bool, true, false, ◌==◌, ◌&&◌, ◌||◌, List, [], ◌∷◌, map, filter, flat_map}
 use Rattle.asset_names.specs.declared.names.Ob.{Ob}
+use Rattle.asset_names.specs.declared.names.Txn.{Txn}
 use Rattle.asset_names.specs.declared.sets.ObSet.TheVariants.{Listed}
 use Rattle.asset_names.specs.InSet.{in_set}
+use Rattle.asset_seats.specs.Seated.{Seated, seat}
 use Rattle.asset_permits.specs.declared.copying.Cut.{Cut}
 use Rattle.asset_permits.specs.Descriptors.{Descriptor, stands}
 
@@ -38,3 +41,7 @@ copies giver receiver descriptors moved = given_by receiver (cuts_in giver descr
 pub record AddsCuts (receiver : ℕ) (added : List Cut) (old new : List Descriptor) : Type 0 where
   pub standing : (e : Descriptor) → stands new e ≡ (stands old e || stands (given_by receiver added) e)
   pub fresh : (e : Descriptor) → stands (given_by receiver added) e ≡ true → stands old e ≡ false
+
+-- each for whom something is copied has a seat
+abbrev pub TakersSit : Seated → List Cut → Type 0
+TakersSit seats cuts = (u : Txn) → list_any (λ (cut : Cut). cut.taker.0 == u.0) cuts ≡ true → (c : ℕ) × (seat seats c ≡ Some u)

@@ -29,11 +29,10 @@ parts_of permits seats = parts permits.items permits.rows permits.columns seats
 unfoldable pub is_used : Chained → Chained → ℕ → Bool
 is_used along across c = is_some (first_of (chain_of along c)) || is_some (first_of (chain_of across c))
 
--- exactly the permits have homes, and exactly the seats that are taken have permits in their chains
+-- exactly the permits have homes
 pub record IsSeated (p : Parts) : Type 0 where
   pub along : (k : ℕ) → is_some (get p.permits k) ≡ is_some (home_of p.along k)
   pub across : (k : ℕ) → is_some (get p.permits k) ≡ is_some (home_of p.across k)
-  pub used : (c : ℕ) → is_some (seat p.seats c) ≡ is_used p.along p.across c
 
 -- exactly the seats that are taken have permits in their row or column
 abbrev pub IsUsed : Crossed Descriptor → Seated → Type 0
@@ -48,11 +47,32 @@ IsNamed name_of permits table seats =
 abbrev pub IsWithin : Chained → Chained → Seated → ℕ → Type 0
 IsWithin along across seats size = (c : ℕ) → is_some (seat seats c) ≡ true → (c < length along.chains) × (c < length across.chains) × (c < size)
 
--- a permit's homes are the seats of its giver and its taker, exactly those who give or take have a seat, and no permit
--- stands twice
+-- a permit's homes are the seats of its giver and its taker, and no permit stands twice
 pub record IsValid (p : Parts) (size : ℕ) : Type 0 where
   pub seated : IsSeated p
   pub given : IsNamed (λ (d : Descriptor). d.giver) p.permits p.along p.seats
   pub taken : IsNamed (λ (d : Descriptor). d.taker) p.permits p.across p.seats
   pub single : (j k : ℕ) (d : Descriptor) → get p.permits j ≡ Some d → get p.permits k ≡ Some d → j ≡ k
   pub within : IsWithin p.along p.across p.seats size
+
+-- ---- the table by seat
+-- the permits in rows and columns, and how many seats have a mark
+pub record PermitTable : Type 0 where
+  pub permits : Crossed Descriptor
+  pub size : ℕ
+
+-- the permits that stand
+abbrev pub permits_in : PermitTable → List Descriptor
+permits_in table = descriptors_of table.permits.items
+
+-- whether the seat is of one who gives or takes something
+abbrev pub used_in : PermitTable → ℕ → Bool
+used_in table c = is_used table.permits.rows table.permits.columns c
+
+-- who gives or takes something has the seat of its row and column, and each seat that is taken has room
+abbrev pub IsTied : PermitTable → Seated → Type 0
+IsTied table seats = IsValid (parts_of table.permits seats) table.size
+
+-- the seat has its row, its column and its mark
+abbrev pub HasRoom : PermitTable → ℕ → Type 0
+HasRoom table c = (c < length table.permits.rows.chains) × (c < length table.permits.columns.chains) × (c < table.size)

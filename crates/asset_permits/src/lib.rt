@@ -1,6 +1,6 @@
 //! The table of permits: who lets whom do what on which objects, and who allows whom by them. Each permit is in the
-//! row of its giver and in the column of its taker, so that an end costs its own permits alone. Only `add` can run out of
-//! memory.
+//! row of its giver and in the column of its taker, so that an end costs its own permits alone. `SeatedPermits` is asked by
+//! seat, and `Permits` by name.
 #![tactic(auto)]
 
 mod copying;
@@ -10,9 +10,11 @@ mod giving;
 mod laws;
 mod permit;
 mod permit_objects;
+mod permits;
 mod search;
 mod seating;
 mod table;
 
 pub use laws::allowed_is_chain;
-pub use table::Permits;
+pub use permits::Permits;
+pub use table::SeatedPermits;

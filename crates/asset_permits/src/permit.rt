@@ -3,6 +3,7 @@
 use crate::copying::Cut;
 use crate::permit_objects::PermitObjects;
 use asset_names::{NoMemory, Ob, ObSet, Op, Ops, Txn};
+use asset_seats::Sitter;
 use std::alloc::Global;
 use std::marker::Model;
 use std::mem::size_of;
@@ -40,8 +41,8 @@ impl Permit {
     {
         let objects = PermitObjects::of(&sought.objects, alloc)?;
         Ok(Permit {
-            giver: sought.giver,
-            taker: sought.taker,
+            giver: sought.giver.t,
+            taker: sought.taker.t,
             objects,
             ops: sought.ops,
         })
@@ -52,8 +53,8 @@ impl Permit {
     pub(crate) fn is_same(&self, sought: &Sought) -> bool
         ensures { result ≡ same_descriptor self.now (asked sought.now) }
     {
-        self.giver == sought.giver
-            && self.taker == sought.taker
+        self.giver == sought.giver.t
+            && self.taker == sought.taker.t
             && self.objects.is_same(&sought.objects)
             && same_ops(self.ops, sought.ops)
     }
@@ -86,8 +87,8 @@ impl Permit {
 /// A permit that is asked for.
 #[derive(Clone, Copy)]
 pub(crate) struct Sought {
-    pub giver: Txn,
-    pub taker: Txn,
+    pub giver: Sitter,
+    pub taker: Sitter,
     pub objects: ObSet,
     pub ops: Ops,
 }

@@ -1,16 +1,15 @@
-//! Seats for those who give and take, each with its row, its column and its mark.
+//! Seats for those who give and take, by name.
 
-ghost use Rattle.std.specs.Prelude.{◌≡◌, ℕ, ◌==◌, ◌&&◌, ◌<◌, ◌≤◌, not, cond, length, None, IfOk, OnOk, OnErr};
+ghost use Rattle.std.specs.Prelude.{◌≡◌, ℕ, ◌==◌, ◌&&◌, not, cond, None, Some, IfOk, IsOk, OnErr};
 ghost use Rattle.asset_seats.specs.Seated.{seat};
-ghost use Rattle.asset_chains.specs.Crossed.{IsGrown};
-ghost use Rattle.asset_permits.specs.Valid.{is_used, IsUsed, IsWithin};
+ghost use Rattle.asset_permits.specs.Valid.{permits_in, is_used, used_in, IsUsed, IsTied};
 ghost use Rattle.asset_permits.specs.Changes.{Sits, BothSit};
 
 use crate::permit::Permit;
+use crate::table::SeatedPermits;
 use asset_chains::{Crossed, Side};
-use asset_marks::Marks;
 use asset_names::{NoMemory, Txn};
-use asset_seats::{Seats, add_lines};
+use asset_seats::{Seats, Sitter};
 
 /// Returns whether a permit is in the row or in the column of the seat.
 #[tactic(auto, unfolding(crate::specs::Valid::is_used))]
@@ -29,63 +28,55 @@ pub(crate) fn leave_if_unused(permits: &Crossed<Permit>, seats: &mut Seats, c: u
     }
 }
 
-/// Adds rows, columns and marks until the seat has them. If memory runs out, some may have been added.
-fn make_room(permits: &mut Crossed<Permit>, marks: &mut Marks, c: usize) -> Result<(), NoMemory>
-    ensures grown { IsGrown permits.old permits.new }
-    ensures items { permits.new.items ≡ permits.old.items }
-    ensures marks { marks.old.size ≤ marks.new.size }
-    ensures room { OnOk result ((c < length permits.new.rows.chains) × (c < length permits.new.columns.chains) × (c < marks.new.size)) }
-{
-    add_lines(permits, Side::Row, c)?;
-    add_lines(permits, Side::Column, c)?;
-    marks.add(c)
-}
-
 /// Returns the seat of a transaction, which is given one if it has none. If memory runs out, nobody's seat changes.
-fn seat_for(
+pub(crate) fn seat_for(
     seats: &mut Seats,
-    permits: &mut Crossed<Permit>,
-    marks: &mut Marks,
+    table: &mut SeatedPermits,
     t: Txn,
-) -> Result<usize, NoMemory>
-    requires { IsWithin permits.old.rows permits.old.columns seats.old marks.old.size }
-    ensures within { IsWithin permits.new.rows permits.new.columns seats.new marks.new.size }
-    ensures grown { IsGrown permits.old permits.new }
-    ensures items { permits.new.items ≡ permits.old.items }
-    ensures sits { IfOk result (λ c. Sits t c seats.old seats.new) }
+) -> Result<Sitter, NoMemory>
+    requires { IsTied table.old seats.old }
+    ensures tied { IsTied table.new seats.new }
+    ensures permits { permits_in table.new ≡ permits_in table.old }
+    ensures used { (c : ℕ) → used_in table.new c ≡ used_in table.old c }
+    ensures name { IfOk result (λ s. s.t ≡ t) }
+    ensures sits { IfOk result (λ s. Sits t s.at seats.old seats.new) }
+    ensures standing { (c : ℕ) → seat seats.old c ≡ Some t → IsOk result }
     ensures unchanged { OnErr result ((c : ℕ) → seat seats.new c ≡ seat seats.old c) }
 {
-    if let Some(c) = seats.seat_of(t) {
-        return Ok(c);
+    if let Some(at) = seats.seat_of(t) {
+        return Ok(Sitter { t, at });
     }
     seats.reserve()?;
     let vacant = seats.vacant();
-    make_room(permits, marks, vacant)?;
-    Ok(seats.sit(t))
+    table.make_room(vacant)?;
+    let at = seats.sit(t);
+    Ok(Sitter { t, at })
 }
 
 /// Returns the seats of two transactions, each of which is given one if it has none. If memory runs out, nobody's seat
 /// changes.
 pub(crate) fn seat_both(
     seats: &mut Seats,
-    permits: &mut Crossed<Permit>,
-    marks: &mut Marks,
+    table: &mut SeatedPermits,
     giver: Txn,
     taker: Txn,
-) -> Result<(usize, usize), NoMemory>
-    requires within { IsWithin permits.old.rows permits.old.columns seats.old marks.old.size }
-    requires used { IsUsed permits.old seats.old }
-    ensures within { IsWithin permits.new.rows permits.new.columns seats.new marks.new.size }
-    ensures grown { IsGrown permits.old permits.new }
-    ensures items { permits.new.items ≡ permits.old.items }
-    ensures sit { IfOk result (λ both. BothSit giver taker both.0 both.1 seats.old seats.new) }
+) -> Result<(Sitter, Sitter), NoMemory>
+    requires tied { IsTied table.old seats.old }
+    requires used { IsUsed table.old.permits seats.old }
+    ensures tied { IsTied table.new seats.new }
+    ensures permits { permits_in table.new ≡ permits_in table.old }
+    ensures used { (c : ℕ) → used_in table.new c ≡ used_in table.old c }
+    ensures names { IfOk result (λ both. (both.0.t ≡ giver) × (both.1.t ≡ taker)) }
+    ensures sit { IfOk result (λ both. BothSit giver taker both.0.at both.1.at seats.old seats.new) }
+    ensures standing { (c d : ℕ) → seat seats.old c ≡ Some giver → seat seats.old d ≡ Some taker → IsOk result }
     ensures unchanged { OnErr result ((c : ℕ) → seat seats.new c ≡ seat seats.old c) }
 {
-    let from = seat_for(seats, permits, marks, giver)?;
-    match seat_for(seats, permits, marks, taker) {
+    let from = seat_for(seats, table, giver)?;
+    match seat_for(seats, table, taker) {
         Ok(to) => Ok((from, to)),
         Err(NoMemory) => {
-            leave_if_unused(permits, seats, from);
+            table.laws();
+            table.leave_if_unused(seats, from.at);
             Err(NoMemory)
         }
     }

@@ -1,99 +1,122 @@
-//! The table of permits and its calls.
+//! The table of permits by seat, and its calls.
 
 use crate::dropping::drop_along;
 use crate::finding::find;
 use crate::permit::{Permit, Sought};
 use crate::search::{Covered, Search};
-use crate::seating::seat_both;
+use crate::seating::leave_if_unused;
 use asset_chains::{Crossed, Side};
 use asset_marks::{Marks, is_linked};
-use asset_names::{NoMemory, Ob, ObSet, Op, Ops, Txn};
-use asset_seats::{Seats, reserve_item};
+use asset_names::{NoMemory, Ob, ObSet, Op, Ops};
+use asset_seats::{Seats, Sitter, add_lines, reserve_item};
 use std::alloc::Global;
 use std::marker::Model;
 
-/// The permits that stand. Contracts see them as descriptors, none of which stands twice; their order means
-/// nothing. Each permit is in the row of its giver and in the column of its taker, and exactly those who give or take
-/// something have a seat.
+/// The permits that stand, asked by seat. Each permit is in the row of its giver's seat and in the column of its taker's,
+/// and the seats are kept elsewhere: each call takes them, and requires that the table is tied to them. None stands twice;
+/// their order means nothing.
 #[derive(Drop)]
-pub struct Permits {
+pub struct SeatedPermits {
     pub(crate) permits: Crossed<Permit>,
-    pub(crate) seats: Seats,
     marks: Marks,
     pub(crate) alloc: Global,
 }
 
-impl Model for Permits {
-    ghost use Rattle.std.specs.Prelude.{List};
-    ghost use Rattle.asset_permits.specs.Descriptors.{Descriptor};
-    ghost use Rattle.asset_permits.specs.Valid.{parts_of, IsValid, descriptors_of};
+impl Model for SeatedPermits {
+    ghost use Rattle.asset_permits.specs.Valid.{PermitTable};
 
-    ghost Value = { List Descriptor };
+    ghost Value = { PermitTable };
 
-    ghost view = { λ p. descriptors_of p.permits.items };
-
-    ghost invariant = { λ p. IsValid (parts_of p.permits p.seats) p.marks.size };
+    ghost view = { λ p. record { permits = p.permits; size = p.marks.size } };
 }
 
-impl Permits {
-    ghost use Rattle.std.specs.Prelude.{◌≡◌, ℕ, ◌==◌, ◌&&◌, ◌||◌, not, [], OnOk, OnErr, IsOk, true, false};
+impl SeatedPermits {
+    ghost use Rattle.std.specs.Prelude.{◌≡◌, ℕ, ◌==◌, ◌&&◌, ◌||◌, not, cond, [], None, OnOk, OnErr, IsOk, true, false};
     ghost use Rattle.asset_names.specs.declared.operations.Op.{Op};
     ghost use Rattle.asset_names.specs.InSet.{in_set};
     ghost use Rattle.asset_names.specs.OpSets.{has_op};
-    ghost use Rattle.asset_permits.specs.Stored.{asked};
+    ghost use Rattle.asset_chains.specs.Crossed.{IsCrossed};
+    ghost use Rattle.asset_seats.specs.Seated.{Seated, seat, HasSeat};
+    ghost use Rattle.asset_permits.specs.Stored.{asked, HaveSeats};
+    ghost use Rattle.asset_permits.specs.Valid.{permits_in, used_in, IsTied, IsUsed, HasRoom};
     ghost use Rattle.asset_permits.specs.Descriptors.{Descriptor, same_descriptor, stands, lets, one_covers, allows_by, AreDifferent};
 
     /// Returns a table without permits. It does not allocate.
-    pub fn new(alloc: Global) -> Permits
-        ensures { result ≡ [] }
+    pub fn new(alloc: Global) -> SeatedPermits
+        ensures permits { permits_in result ≡ [] }
+        ensures used { (c : ℕ) → used_in result c ≡ false }
+        ensures tied { (seats : Seated) → ((c : ℕ) → seat seats c ≡ None) → IsTied result seats }
     {
-        Permits {
+        SeatedPermits {
             permits: Crossed::new(alloc),
-            seats: Seats::new(alloc),
             marks: Marks::new(alloc),
             alloc,
         }
+    }
+
+    /// Adds rows, columns and marks until the seat has them. If memory runs out, some may have been added, and no permit
+    /// has changed.
+    pub fn make_room(&mut self, c: usize) -> Result<(), NoMemory>
+        ensures room { OnOk result (HasRoom self.new c) }
+        ensures permits { permits_in self.new ≡ permits_in self.old }
+        ensures used { (d : ℕ) → used_in self.new d ≡ used_in self.old d }
+        ensures tied { (seats : Seated) → IsTied self.old seats → IsTied self.new seats }
+    {
+        add_lines(&mut self.permits, Side::Row, c)?;
+        add_lines(&mut self.permits, Side::Column, c)?;
+        self.marks.add(c)
     }
 
     /// Lets the taker do the operations on the objects, until one of the two is dropped by `drop_all`. A permit
     /// that stands already is not added again. It is looked for among the permits of the giver, or among those for
     /// the taker if there are fewer.
     ///
-    /// If memory runs out, nothing changes.
-    pub fn add(&mut self, giver: Txn, taker: Txn, objects: ObSet, ops: Ops) -> Result<(), NoMemory>
-        ensures stands { OnOk result ((e : Descriptor) → stands self.new e ≡ (stands self.old e || same_descriptor (record { giver = giver.0; taker = taker.0; objects = objects; ops = ops }) e)) }
-        ensures covers { OnOk result ((u t x : ℕ) (op : Op) → one_covers self.new u t x op ≡ (one_covers self.old u t x op || (u == giver.0 && t == taker.0 && in_set objects x && has_op ops op))) }
-        ensures unchanged { OnErr result (self.new ≡ self.old) }
-        ensures again { stands self.old (record { giver = giver.0; taker = taker.0; objects = objects; ops = ops }) ≡ true → IsOk result × (self.new ≡ self.old) }
+    /// If memory runs out, no permit changes.
+    pub fn add(
+        &mut self,
+        seats: &Seats,
+        giver: Sitter,
+        taker: Sitter,
+        objects: ObSet,
+        ops: Ops,
+    ) -> Result<(), NoMemory>
+        requires tied { IsTied self.old seats.now }
+        requires giver { HasSeat seats.now giver }
+        requires taker { HasSeat seats.now taker }
+        ensures tied { IsTied self.new seats.now }
+        ensures stands { OnOk result ((e : Descriptor) → stands (permits_in self.new) e ≡ (stands (permits_in self.old) e || same_descriptor (record { giver = giver.t.0; taker = taker.t.0; objects = objects; ops = ops }) e)) }
+        ensures covers { OnOk result ((u t x : ℕ) (op : Op) → one_covers (permits_in self.new) u t x op ≡ (one_covers (permits_in self.old) u t x op || (u == giver.t.0 && t == taker.t.0 && in_set objects x && has_op ops op))) }
+        ensures unchanged { OnErr result (permits_in self.new ≡ permits_in self.old) }
+        ensures again { stands (permits_in self.old) (record { giver = giver.t.0; taker = taker.t.0; objects = objects; ops = ops }) ≡ true → IsOk result × (permits_in self.new ≡ permits_in self.old) }
     {
-        self.add_permit(&Sought {
-            giver,
-            taker,
-            objects,
-            ops,
-        })
+        self.add_permit(
+            seats,
+            &Sought {
+                giver,
+                taker,
+                objects,
+                ops,
+            },
+        )
     }
 
-    /// Adds the permit, unless it stands already. If memory runs out, nothing changes.
-    pub(crate) fn add_permit(&mut self, sought: &Sought) -> Result<(), NoMemory>
-        ensures stands { OnOk result ((e : Descriptor) → stands self.new e ≡ (stands self.old e || same_descriptor (asked sought.now) e)) }
-        ensures covers { OnOk result ((u t x : ℕ) (op : Op) → one_covers self.new u t x op ≡ (one_covers self.old u t x op || lets u t x op (asked sought.now))) }
-        ensures unchanged { OnErr result (self.new ≡ self.old) }
-        ensures again { stands self.old (asked sought.now) ≡ true → IsOk result × (self.new ≡ self.old) }
+    /// Adds the permit, unless it stands already. If memory runs out, no permit changes.
+    pub(crate) fn add_permit(&mut self, seats: &Seats, sought: &Sought) -> Result<(), NoMemory>
+        requires tied { IsTied self.old seats.now }
+        requires sit { HaveSeats seats.now sought.now }
+        ensures tied { IsTied self.new seats.now }
+        ensures stands { OnOk result ((e : Descriptor) → stands (permits_in self.new) e ≡ (stands (permits_in self.old) e || same_descriptor (asked sought.now) e)) }
+        ensures covers { OnOk result ((u t x : ℕ) (op : Op) → one_covers (permits_in self.new) u t x op ≡ (one_covers (permits_in self.old) u t x op || lets u t x op (asked sought.now))) }
+        ensures unchanged { OnErr result (permits_in self.new ≡ permits_in self.old) }
+        ensures again { stands (permits_in self.old) (asked sought.now) ≡ true → IsOk result × (permits_in self.new ≡ permits_in self.old) }
     {
-        if self.has(sought) {
+        if self.has(seats, sought) {
             return Ok(());
         }
         reserve_item(&mut self.permits)?;
         let permit = Permit::of(sought, self.alloc)?;
-        let (from, to) = seat_both(
-            &mut self.seats,
-            &mut self.permits,
-            &mut self.marks,
-            sought.giver,
-            sought.taker,
-        )?;
-        self.permits.insert(from, to, permit);
+        self.permits
+            .insert(sought.giver.at, sought.taker.at, permit);
         self.permits.laws();
         Ok(())
     }
@@ -104,25 +127,26 @@ impl Permits {
     ///
     /// It searches from the giver, or from the taker if fewer permits are for the taker than the giver gives, and
     /// looks only at the permits of the transactions that it meets. It takes no memory.
-    pub fn allows(&mut self, giver: Txn, taker: Txn, x: Ob, op: Op) -> bool
-        ensures allowed { result ≡ allows_by self.old giver.0 taker.0 x.0 op }
-        ensures different { AreDifferent self.old }
+    pub fn allows(&mut self, seats: &Seats, giver: Sitter, taker: Sitter, x: Ob, op: Op) -> bool
+        requires tied { IsTied self.old seats.now }
+        requires giver { HasSeat seats.now giver }
+        requires taker { HasSeat seats.now taker }
+        ensures allowed { result ≡ allows_by (permits_in self.old) giver.t.0 taker.t.0 x.0 op }
+        ensures different { AreDifferent (permits_in self.old) }
         ensures same { self.new ≡ self.old }
     {
         let _ = &self.permits;
-        giver == taker || self.leads(giver, taker, x, op)
+        giver.t == taker.t || self.leads(seats, giver, taker, x, op)
     }
 
     /// Returns whether the permit stands.
-    pub(crate) fn has(&self, sought: &Sought) -> bool
-        ensures { result ≡ stands self.now (asked sought.now) }
+    pub(crate) fn has(&self, seats: &Seats, sought: &Sought) -> bool
+        requires tied { IsTied self.now seats.now }
+        requires sit { HaveSeats seats.now sought.now }
+        ensures { result ≡ stands (permits_in self.now) (asked sought.now) }
     {
-        let Some(from) = self.seats.seat_of(sought.giver) else {
-            return false;
-        };
-        let Some(to) = self.seats.seat_of(sought.taker) else {
-            return false;
-        };
+        seats.laws();
+        let (from, to) = (sought.giver.at, sought.taker.at);
         if self.permits.len(Side::Row, from) <= self.permits.len(Side::Column, to) {
             find(&self.permits, Side::Row, from, sought).is_some()
         } else {
@@ -132,20 +156,17 @@ impl Permits {
 
     /// Returns whether a chain of permits that cover `op` on `x` leads from the giver to the taker, which is another. No
     /// permit changes.
-    fn leads(&mut self, giver: Txn, taker: Txn, x: Ob, op: Op) -> bool
-        requires { (giver.0 == taker.0) ≡ false }
-        ensures leads { result ≡ allows_by self.old giver.0 taker.0 x.0 op }
-        ensures different { AreDifferent self.old }
+    fn leads(&mut self, seats: &Seats, giver: Sitter, taker: Sitter, x: Ob, op: Op) -> bool
+        requires tied { IsTied self.old seats.now }
+        requires giver { HasSeat seats.now giver }
+        requires taker { HasSeat seats.now taker }
+        requires another { (giver.t.0 == taker.t.0) ≡ false }
+        ensures leads { result ≡ allows_by (permits_in self.old) giver.t.0 taker.t.0 x.0 op }
         ensures same { self.new ≡ self.old }
     {
-        let Some(from) = self.seats.seat_of(giver) else {
-            return false;
-        };
-        let Some(to) = self.seats.seat_of(taker) else {
-            return false;
-        };
-        self.seats.laws();
+        seats.laws();
         self.permits.laws();
+        let (from, to) = (giver.at, taker.at);
         if self.permits.len(Side::Row, from) <= self.permits.len(Side::Column, to) {
             let search = Search {
                 permits: &self.permits,
@@ -164,15 +185,48 @@ impl Permits {
     }
 
     /// Drops the permits that `t` has given, and those that were given to it. It looks at no others.
-    pub fn drop_all(&mut self, t: Txn)
-        ensures stands { (e : Descriptor) → stands self.new e ≡ (stands self.old e && not (e.giver == t.0) && not (e.taker == t.0)) }
-        ensures covers { (u v x : ℕ) (op : Op) → one_covers self.new u v x op ≡ (one_covers self.old u v x op && not (u == t.0) && not (v == t.0)) }
+    pub fn drop_all(&mut self, seats: &Seats, t: Sitter)
+        requires tied { IsTied self.old seats.now }
+        requires sits { HasSeat seats.now t }
+        ensures tied { IsTied self.new seats.now }
+        ensures stands { (e : Descriptor) → stands (permits_in self.new) e ≡ (stands (permits_in self.old) e && not (e.giver == t.t.0) && not (e.taker == t.t.0)) }
+        ensures covers { (u v x : ℕ) (op : Op) → one_covers (permits_in self.new) u v x op ≡ (one_covers (permits_in self.old) u v x op && not (u == t.t.0) && not (v == t.t.0)) }
     {
-        let Some(seat) = self.seats.seat_of(t) else {
-            return;
-        };
-        drop_along(&mut self.permits, &mut self.seats, Side::Row, seat);
-        drop_along(&mut self.permits, &mut self.seats, Side::Column, seat);
+        seats.laws();
+        self.permits.laws();
+        self.permits.clear(Side::Row, t.at);
+        self.permits.laws();
+        self.permits.clear(Side::Column, t.at);
+        self.permits.laws();
+    }
+
+    /// Drops the permits that `drop_all` drops. Who has no other permit leaves its seat.
+    pub(crate) fn drop_and_leave(&mut self, seats: &mut Seats, t: Sitter)
+        requires tied { IsTied self.old seats.old }
+        requires used { IsUsed self.old.permits seats.old }
+        requires sits { HasSeat seats.old t }
+        ensures tied { IsTied self.new seats.new }
+        ensures used { IsUsed self.new.permits seats.new }
+        ensures stands { (e : Descriptor) → stands (permits_in self.new) e ≡ (stands (permits_in self.old) e && not (e.giver == t.t.0) && not (e.taker == t.t.0)) }
+        ensures covers { (u v x : ℕ) (op : Op) → one_covers (permits_in self.new) u v x op ≡ (one_covers (permits_in self.old) u v x op && not (u == t.t.0) && not (v == t.t.0)) }
+    {
+        seats.laws();
+        drop_along(&mut self.permits, seats, Side::Row, t.at);
+        drop_along(&mut self.permits, seats, Side::Column, t.at);
+        self.permits.laws();
+    }
+
+    /// Takes the seat from whoever has it, if no permit is in its row or column.
+    pub(crate) fn leave_if_unused(&self, seats: &mut Seats, c: usize)
+        ensures { (d : ℕ) → seat seats.new d ≡ cond (d == c && not (used_in self.now d)) None (seat seats.old d) }
+    {
+        leave_if_unused(&self.permits, seats, c);
+    }
+
+    /// Says what holds of all tables, for proofs. It does nothing.
+    pub(crate) fn laws(&self)
+        ensures { IsCrossed self.now.permits }
+    {
         self.permits.laws();
     }
 }

@@ -5,6 +5,8 @@
 mod buckets;
 mod room;
 mod seats;
+mod sitter;
 
 pub use room::{add_chains, add_keys, add_lines, reserve_item};
 pub use seats::Seats;
+pub use sitter::Sitter;

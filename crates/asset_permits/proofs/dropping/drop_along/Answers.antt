@@ -12,7 +12,8 @@ pub first-init : goal.first-init
 first-init c = record {
   used = c.requires;
   crossed = c.laws.ensures.crossed;
-  shrinks = record { permits = λ k d there. there; homes = λ side k c home. home; seats = λ c t sat. sat; many = λ side. refl };
+  shrinks = record { permits = λ k d there. there; homes = λ side k c home. home; many = λ side. refl };
+  left = λ k t sat. sat;
   kept = λ k apart. refl;
 }
 
@@ -27,7 +28,8 @@ first-preserved c =
     record {
       used = c.drop_at.ensures.used;
       crossed = c.laws-in-Some.ensures.crossed;
-      shrinks = shrinks_then c.args.permits.now c.first.permits c.drop_at.new.permits c.args.seats.now c.first.seats c.drop_at.new.seats c.first.invariant.shrinks c.drop_at.ensures.shrinks;
+      shrinks = shrinks_then c.args.permits.now c.first.permits c.drop_at.new.permits c.first.invariant.shrinks c.drop_at.ensures.shrinks;
+      left = λ k t sat. c.first.invariant.left k t (c.drop_at.ensures.left k t sat);
       kept = λ k apart.
           c.drop_at.ensures.others k (λ same. apart (ap (home_of (lines c.args.side c.args.permits.now)) same ∙ c.first.invariant.shrinks.homes c.args.side c.in-Some.key c.args.seat home)) ∙ c.first.invariant.kept k apart;
     }

@@ -8,21 +8,13 @@ use Rattle.asset_chains.specs.Crossed.{Crossed, lines, IsCrossed}
 use Rattle.asset_permits.specs.Descriptors.{Descriptor}
 use Rattle.asset_names.specs.declared.names.Txn.{Txn}
 use Rattle.asset_permits.specs.Valid.{is_used}
-use Rattle.asset_permits.proofs.DropLemmas.{dropped_used, dropped_shrinks}
+use Rattle.asset_permits.proofs.DropLemmas.{dropped_used}
 use Rattle.asset_permits.proofs.dropping.drop_at.Goals as goal
 
 pub returns-in-Some-home-clause-used : goal.returns-in-Some-home-clause-used
 returns-in-Some-home-clause-used c =
     let fewer = c.remove.new.self in
-    dropped_used c.args.permits.now fewer c.args.seats.now c.leave_if_unused-in-Some-home.new.seats c.args.key c.in-Some.from c.in-Some-home.to
-    c.requires.used c.laws.ensures.crossed c.laws-in-Some-home.ensures.crossed (sym c.in-Some.ensures) (sym c.in-Some-home.ensures) c.remove.ensures.items c.remove.ensures.lines
-    (λ d. c.leave_if_unused-in-Some-home.ensures d ∙ ap (λ (o : Option Txn). cond (eqb d c.in-Some-home.to && not (is_used fewer.rows fewer.columns d)) None o) (c.leave_if_unused.ensures d))
-
-pub returns-in-Some-home-clause-shrinks : goal.returns-in-Some-home-clause-shrinks
-returns-in-Some-home-clause-shrinks c =
-    let fewer = c.remove.new.self in
-    dropped_shrinks c.args.permits.now fewer c.args.seats.now c.leave_if_unused-in-Some-home.new.seats c.args.key c.in-Some.from c.in-Some-home.to
-    c.requires.used c.laws.ensures.crossed c.laws-in-Some-home.ensures.crossed (sym c.in-Some.ensures) (sym c.in-Some-home.ensures) c.remove.ensures.items c.remove.ensures.lines
+    dropped_used c.args.permits.now fewer c.args.seats.now c.leave_if_unused-in-Some-home.new.seats c.args.key c.in-Some.from c.in-Some-home.to c.requires.used c.laws.ensures.crossed c.laws-in-Some-home.ensures.crossed (sym c.in-Some.ensures) (sym c.in-Some-home.ensures) c.remove.ensures.items c.remove.ensures.lines
     (λ d. c.leave_if_unused-in-Some-home.ensures d ∙ ap (λ (o : Option Txn). cond (eqb d c.in-Some-home.to && not (is_used fewer.rows fewer.columns d)) None o) (c.leave_if_unused.ensures d))
 
 -- a permit has both homes

@@ -1,0 +1,268 @@
+//! Permits by seat: worked values, and hundreds of permits of one giver and for one taker.
+
+ghost use Rattle.std.specs.Prelude.{IfSome};
+ghost use Rattle.asset_seats.specs.Seated.{HasSeat};
+ghost use Rattle.asset_permits.specs.Valid.{IsTied};
+
+use asset_names::{NoMemory, Ob, ObSet, Op, Ops, Txn};
+use asset_permits::SeatedPermits;
+use asset_seats::{Seats, Sitter};
+use asset_test_tools::{END, FIRST, ONE, Side, listed, pair};
+use std::alloc::Global;
+use std::marker::Model;
+
+/// One of them, in the middle.
+const MIDDLE: u64 = 1_100;
+
+/// Returns the seat of a transaction, which is given one, with room for its permits, if it has none. If memory runs out,
+/// the calls are made again.
+fn enter(seats: &mut Seats, permits: &mut SeatedPermits, t: Txn) -> Result<(), NoMemory>
+    requires { IsTied permits.old seats.old }
+    ensures { IsTied permits.new seats.new }
+{
+    if seats.seat_of(t).is_some() {
+        return Ok(());
+    }
+    seats.reserve()?;
+    let vacant = seats.vacant();
+    permits.make_room(vacant)?;
+    seats.sit(t);
+    Ok(())
+}
+
+/// Returns a transaction with its seat, if it has one.
+fn sitter(seats: &Seats, t: u64) -> Option<Sitter>
+    ensures { IfSome result (λ s. HasSeat seats.now s) }
+{
+    let at = seats.seat_of(Txn(t))?;
+    Some(Sitter { t: Txn(t), at })
+}
+
+/// Permits by seat, beside the seats to which they are tied.
+#[derive(Drop)]
+struct Table {
+    seats: Seats,
+    permits: SeatedPermits,
+}
+
+impl Model for Table {
+    ghost use Rattle.asset_permits.specs.Valid.{PermitTable, IsTied};
+
+    ghost Value = { PermitTable };
+
+    ghost view = { λ t. t.permits };
+
+    ghost invariant = { λ t. IsTied t.permits t.seats };
+}
+
+impl Table {
+    /// Returns no permits, and no seats.
+    fn new(alloc: Global) -> Table {
+        Table {
+            seats: Seats::new(alloc),
+            permits: SeatedPermits::new(alloc),
+        }
+    }
+
+    /// Gives a transaction a seat, with room for its permits. If memory runs out, the same is done again.
+    fn enter(&mut self, t: u64) -> Result<(), NoMemory> {
+        match enter(&mut self.seats, &mut self.permits, Txn(t)) {
+            Ok(()) => Ok(()),
+            Err(NoMemory) => enter(&mut self.seats, &mut self.permits, Txn(t)),
+        }
+    }
+
+    /// Adds a permit of two that have seats.
+    fn add_once(&mut self, giver: u64, taker: u64, x: u64, ops: Ops) -> Result<(), NoMemory> {
+        let (Some(from), Some(to)) = (sitter(&self.seats, giver), sitter(&self.seats, taker)) else {
+            return Err(NoMemory);
+        };
+        self.permits
+            .add(&self.seats, from, to, listed(&[Ob(x)]), ops)
+    }
+
+    /// Adds a permit, and returns whether it could. If memory runs out, nothing has changed and the same call is made
+    /// again.
+    fn add(&mut self, giver: u64, taker: u64, x: u64, ops: Ops) -> bool {
+        if self.enter(giver).is_err() || self.enter(taker).is_err() {
+            return false;
+        }
+        let before = (self.allows(giver, taker, x, Op::Write), self.gives(giver));
+        match self.add_once(giver, taker, x, ops) {
+            Ok(()) => true,
+            Err(NoMemory) => {
+                (self.allows(giver, taker, x, Op::Write), self.gives(giver)) == before
+                    && self.add_once(giver, taker, x, ops) == Ok(())
+            }
+        }
+    }
+
+    /// Returns whether two that have seats are allowed something.
+    fn allows(&mut self, giver: u64, taker: u64, x: u64, op: Op) -> bool {
+        match (sitter(&self.seats, giver), sitter(&self.seats, taker)) {
+            (Some(from), Some(to)) => self.permits.allows(&self.seats, from, to, Ob(x), op),
+            _ => false,
+        }
+    }
+
+    /// Returns whether one that has a seat gives a permit.
+    fn gives(&self, giver: u64) -> bool {
+        match sitter(&self.seats, giver) {
+            Some(from) => self.permits.gives(&self.seats, from),
+            None => false,
+        }
+    }
+
+    /// Copies permits between two that have seats.
+    fn copy_once(&mut self, giver: u64, receiver: u64, moved: &[Ob]) -> Result<(), NoMemory> {
+        let (Some(from), Some(to)) = (sitter(&self.seats, giver), sitter(&self.seats, receiver))
+        else {
+            return Err(NoMemory);
+        };
+        self.permits.copy_for(&self.seats, from, to, moved)
+    }
+
+    /// Copies permits, and returns whether it could. If memory runs out, the receiver gives nothing yet, and the same call
+    /// is made again.
+    fn copy(&mut self, giver: u64, receiver: u64, moved: &[Ob]) -> bool {
+        match self.copy_once(giver, receiver, moved) {
+            Ok(()) => true,
+            Err(NoMemory) => {
+                !self.gives(receiver) && self.copy_once(giver, receiver, moved) == Ok(())
+            }
+        }
+    }
+
+    /// Drops the permits of one that has a seat.
+    fn drop_all(&mut self, t: u64) {
+        if let Some(one) = sitter(&self.seats, t) {
+            self.permits.drop_all(&self.seats, one);
+        }
+    }
+}
+
+/// Returns the operations of a permit to read and to write.
+fn both() -> Ops {
+    Ops::only(Op::Read).with(Op::Write)
+}
+
+/// Returns whether 7 allows 9 what both permits of a chain have, until 8 ends.
+fn chain_allows(table: &mut Table) -> bool {
+    table.add(7, 8, 1, both())
+        && table.add(8, 9, 1, Ops::only(Op::Read))
+        && table.add(7, 8, 1, both())
+        && table.allows(7, 9, 1, Op::Read)
+        && !table.allows(7, 9, 1, Op::Write)
+        && !table.allows(7, 9, 2, Op::Read)
+        && !table.allows(9, 7, 1, Op::Read)
+        && table.allows(9, 9, 1, Op::Write)
+}
+
+/// Returns whether nothing is left of the chain once its middle is dropped.
+fn chain_ends(table: &mut Table) -> bool {
+    table.drop_all(8);
+    !table.allows(7, 9, 1, Op::Read)
+        && !table.allows(7, 8, 1, Op::Read)
+        && !table.allows(8, 9, 1, Op::Read)
+        && !table.gives(7)
+        && !table.gives(8)
+}
+
+#[test]
+fn chain_by_seat(rt: HostRuntime) {
+    let mut table = Table::new(rt.alloc());
+    let allowed = chain_allows(&mut table) && chain_ends(&mut table);
+    drop(table);
+    assert!(rt; allowed);
+}
+
+/// Returns whether 8 gets copies of the permits of 7 on the moved objects, which stay when 7 is dropped.
+fn copied(table: &mut Table) -> bool {
+    table.add(7, 9, 1, both())
+        && table.add(7, 9, 2, Ops::only(Op::Write))
+        && table.enter(8) == Ok(())
+        && !table.gives(8)
+        && table.copy(7, 8, &[Ob(2), Ob(3)])
+        && table.gives(8)
+        && table.allows(8, 9, 2, Op::Write)
+        && !table.allows(8, 9, 1, Op::Write)
+        && table.allows(7, 9, 2, Op::Write)
+}
+
+/// Returns whether the copies of 8 stay when 7 is dropped.
+fn copies_stay(table: &mut Table) -> bool {
+    table.drop_all(7);
+    table.gives(8) && table.allows(8, 9, 2, Op::Write) && !table.allows(7, 9, 2, Op::Write)
+}
+
+#[test]
+fn copies_by_seat(rt: HostRuntime) {
+    let mut table = Table::new(rt.alloc());
+    let stand = copied(&mut table) && copies_stay(&mut table);
+    drop(table);
+    assert!(rt; stand);
+}
+
+/// Adds a permit for each of the others, on the object of the same number. Returns the first that is not added.
+fn first_not_added(table: &mut Table, side: Side) -> Option<u64> {
+    for t in FIRST..END {
+        let (giver, taker) = pair(side, t);
+        if !table.add(giver, taker, t, both()) {
+            return Some(t);
+        }
+    }
+    None
+}
+
+/// Returns the first of the others, but `dropped`, whose permit does not allow just what it says, or `dropped` if
+/// its permit still does.
+fn first_wrong(table: &mut Table, side: Side, dropped: u64) -> Option<u64> {
+    for t in FIRST..END {
+        let (giver, taker) = pair(side, t);
+        let allowed = table.allows(giver, taker, t, Op::Write);
+        let elsewhere = table.allows(giver, taker, t + 1, Op::Write);
+        let back = table.allows(taker, giver, t, Op::Read);
+        if allowed == (t == dropped) || elsewhere || back {
+            return Some(t);
+        }
+    }
+    None
+}
+
+/// Returns the first of the others whose permit still allows something.
+fn first_left(table: &mut Table, side: Side) -> Option<u64> {
+    for t in FIRST..END {
+        let (giver, taker) = pair(side, t);
+        if table.allows(giver, taker, t, Op::Read) || table.gives(giver) {
+            return Some(t);
+        }
+    }
+    None
+}
+
+/// Returns the first transaction that is wrong after the permits were added, and then after one of the others and
+/// 7 are dropped.
+fn wrong_ones(table: &mut Table, side: Side) -> [Option<u64>; 4] {
+    let not_added = first_not_added(table, side);
+    let not_allowed = first_wrong(table, side, END);
+    table.drop_all(MIDDLE);
+    let after_one = first_wrong(table, side, MIDDLE);
+    table.drop_all(ONE);
+    [not_added, not_allowed, after_one, first_left(table, side)]
+}
+
+#[test]
+fn one_giver_permits_two_hundred_by_seat(rt: HostRuntime) {
+    let mut table = Table::new(rt.alloc());
+    let wrong = wrong_ones(&mut table, Side::Giver);
+    drop(table);
+    assert_eq!(rt; wrong, [None; 4]);
+}
+
+#[test]
+fn two_hundred_permit_one_taker_by_seat(rt: HostRuntime) {
+    let mut table = Table::new(rt.alloc());
+    let wrong = wrong_ones(&mut table, Side::Taker);
+    drop(table);
+    assert_eq!(rt; wrong, [None; 4]);
+}
