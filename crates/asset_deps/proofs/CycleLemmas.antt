@@ -1,5 +1,13 @@
 -- Whether a dependency would close a cycle, by what a search for each way has answered.
-use Rattle.std.proofs.Common.{◌≡◌, ℕ, Bool, true, false, not, ◌&&◌, ◌||◌, List, refl, sym, ap, ◌∙◌}
+use Rattle.std.proofs.Common.{◌≡◌, ℕ, Bool, true, false, eqb, not, ◌&&◌, ◌||◌, List, Some, refl, sym, ap, ◌∙◌}
+use Rattle.asset_names.specs.declared.names.Txn.{Txn}
+use Rattle.asset_names.proofs.Common.{eqb-flip}
+use Rattle.asset_seats.specs.Seated.{seat}
+use Rattle.asset_marks.specs.Marked.{Met}
+use Rattle.asset_deps.specs.declared.kinds.Kinds.TheVariants.{Class, All}
+use Rattle.asset_deps.specs.Valid.{Parts, dependencies_of, IsValid}
+use Rattle.asset_deps.proofs.KindLemmas.{class_linked, path_linked}
+use Rattle.asset_deps.proofs.NamedLemmas.{leads_to_nobody, itself_leads}
 use Rattle.asset_names.specs.declared.steps.Kind.{Kind}
 use Rattle.asset_names.specs.declared.steps.Kind.TheVariants.{Cd, Ad, Gc}
 use Rattle.asset_names.specs.Paths.{leads, closes_cycle}
@@ -35,3 +43,24 @@ commit_back ds kind a b is = sym (ap (λ k. would_cycle_in ds k a b) is ∙ comm
 
 pub abort_back : (ds : List Dependency) (kind : Kind) (a b : ℕ) → kind ≡ Ad → path ds b a ≡ would_cycle_in ds kind a b
 abort_back ds kind a b is = sym (ap (λ k. would_cycle_in ds k a b) is ∙ abort_is ds a b)
+
+-- ---- of two of whom one is not enrolled
+loop_is : (ds : List Dependency) (kind : Kind) (a b : ℕ) → class_in ds a b ≡ eqb a b → path ds a b ≡ eqb a b → path ds b a ≡ eqb a b → (result : Bool) → (kind ≡ Gc → result ≡ false) → ((kind ≡ Gc → ⊥) → result ≡ eqb a b) → result ≡ would_cycle_in ds kind a b
+loop_is ds Gc a b same there back result group order = group refl ∙ sym (group_is ds a b ∙ (λ i. not (same i) && (there i || back i)) ∙ never (eqb a b)) where
+  never : (e : Bool) → (not e && (e || e)) ≡ false
+  never true = refl
+  never false = refl
+loop_is ds Cd a b same there back result group order = order (λ is. cc is) ∙ sym (commit_is ds a b ∙ back)
+loop_is ds Ad a b same there back result group order = order (λ is. cc is) ∙ sym (abort_is ds a b ∙ back)
+
+module _ (p : Parts) (size : ℕ) (marked : Met) (valid : IsValid p size marked) (kind : Kind) (a b : Txn) (result : Bool) (group : kind ≡ Gc → result ≡ false) (order : (kind ≡ Gc → ⊥) → result ≡ eqb a.0 b.0) where
+  abbrev ds : List Dependency
+  ds = dependencies_of p.links
+
+  pub first_apart : ((c : ℕ) → seat p.seats c ≡ Some a → ⊥) → result ≡ would_cycle_in ds kind a.0 b.0
+  first_apart absent = loop_is ds kind a.0 b.0 (sym (class_linked ds a.0 b.0) ∙ leads_to_nobody p size marked valid Class a b.0 absent) (sym (path_linked ds a.0 b.0) ∙ leads_to_nobody p size marked valid All a b.0 absent)
+      (sym (path_linked ds b.0 a.0) ∙ itself_leads p size marked valid All a b.0 absent ∙ eqb-flip b.0 a.0) result group order
+
+  pub second_apart : ((c : ℕ) → seat p.seats c ≡ Some b → ⊥) → result ≡ would_cycle_in ds kind a.0 b.0
+  second_apart absent = loop_is ds kind a.0 b.0 (sym (class_linked ds a.0 b.0) ∙ itself_leads p size marked valid Class b a.0 absent) (sym (path_linked ds a.0 b.0) ∙ itself_leads p size marked valid All b a.0 absent)
+      (sym (path_linked ds b.0 a.0) ∙ leads_to_nobody p size marked valid All b a.0 absent ∙ eqb-flip b.0 a.0) result group order

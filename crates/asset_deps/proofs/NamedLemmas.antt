@@ -163,6 +163,13 @@ module _ (p : Parts) (size : ℕ) (marked : Met) (valid : IsValid p size marked)
         absent found.second (found.to ∙ (λ i. Some (record { 0 = is i })))) n t.0 way apart refl)
     go false way = refl
 
+  -- only itself leads to one who is not enrolled
+  pub itself_leads : (kinds : Kinds) (t : Txn) (n : ℕ) → ((c : ℕ) → seat p.seats c ≡ Some t → ⊥) → linked (ways_in kinds (dependencies_of p.links)) n t.0 ≡ eqb n t.0
+  itself_leads kinds t n absent = go (eqb n t.0) refl where
+    go : (b : Bool) → eqb n t.0 ≡ b → linked (ways_in kinds (dependencies_of p.links)) n t.0 ≡ b
+    go true is = ap (linked (ways_in kinds (dependencies_of p.links)) n) (sym (eqb-true n t.0 is)) ∙ linked_refl (ways_in kinds (dependencies_of p.links)) n
+    go false is = nobody_leads kinds t n absent is
+
   -- ---- transactions are linked as their seats are
   module _ (one : (t : Txn) (c d : ℕ) → seat p.seats c ≡ Some t → seat p.seats d ≡ Some t → d ≡ c) where
     -- a seat that is reached is that of a name that is reached

@@ -206,30 +206,30 @@ some_unless None absent refuted = absurd (refuted absent)
 some_unless (Some x) absent refuted = refl
 
 -- ---- the marked by their number
-node_at : (f : ℕ → ℕ) (nodes : List ℕ) (i : ℕ) → i < length nodes → slice_get (map f nodes) i ≡ Some (f (get_or nodes i 0))
-node_at f [] i below = absurd (omega (arith, below))
-node_at f (c ∷ nodes) zero below = refl
-node_at f (c ∷ nodes) (suc i) below = node_at f nodes i (omega (arith, below))
+node_at : (f : ℕ → ℕ) (nodes : List ℕ) (i : ℕ) → slice_get (map f nodes) i ≡ option_map f (slice_get nodes i)
+node_at f [] i = refl
+node_at f (c ∷ nodes) zero = refl
+node_at f (c ∷ nodes) (suc i) = node_at f nodes i
 
-node_past : (f : ℕ → ℕ) (nodes : List ℕ) (i : ℕ) → length nodes ≤ i → slice_get (map f nodes) i ≡ None
-node_past f [] i past = refl
-node_past f (c ∷ nodes) zero past = absurd (omega (arith, past))
-node_past f (c ∷ nodes) (suc i) past = node_past f nodes i (omega (arith, past))
+listed_node : (nodes : List ℕ) (i c : ℕ) → slice_get nodes i ≡ Some c → lists nodes c ≡ true
+unfolding lists
+listed_node [] i c at = cc at
+listed_node (d ∷ nodes) zero c at = let is : d ≡ c = cc at in or_left (eqb d c) _ (eq-eqb d c is)
+listed_node (d ∷ nodes) (suc i) c at = or_right (eqb d c) _ (listed_node nodes i c at)
 
-pub marked_at : (seats : Seated) (nodes : List ℕ) (i c : ℕ) (o : Option Txn) → AreTaken seats nodes → i < length nodes → c ≡ get_or nodes i 0 → o ≡ seat seats c → option_map (λ (t : Txn). t.0) o ≡ slice_get (marked_of seats nodes) i
+pub marked_at : (seats : Seated) (nodes : List ℕ) (i c : ℕ) (o : Option Txn) → AreTaken seats nodes → slice_get nodes i ≡ Some c → o ≡ seat seats c → option_map (λ (t : Txn). t.0) o ≡ slice_get (marked_of seats nodes) i
 unfolding marked_of name_at
-marked_at seats nodes i c o taken below at is =
+marked_at seats nodes i c o taken at is =
     ap (option_map (λ (t : Txn). t.0)) is
-    ∙ named (seat seats c) (taken c (lists_at nodes c i below (sym at)))
-    ∙ (λ j. Some (unwrap_or (option_map (λ (t : Txn). t.0) (seat seats (at j))) 0))
-    ∙ sym (node_at (λ c. unwrap_or (option_map (λ (t : Txn). t.0) (seat seats c)) 0) nodes i below) where
+    ∙ named (seat seats c) (taken c (listed_node nodes i c at))
+    ∙ sym (node_at (λ c. unwrap_or (option_map (λ (t : Txn). t.0) (seat seats c)) 0) nodes i ∙ ap (option_map (λ c. unwrap_or (option_map (λ (t : Txn). t.0) (seat seats c)) 0)) at) where
       named : (o : Option Txn) → is_some o ≡ true → option_map (λ (t : Txn). t.0) o ≡ Some (unwrap_or (option_map (λ (t : Txn). t.0) o) 0)
       named None some = absurd (false≢true some)
       named (Some t) some = refl
 
-pub marked_past : (seats : Seated) (nodes : List ℕ) (i : ℕ) → length nodes ≤ i → None ≡ slice_get (marked_of seats nodes) i
+pub marked_past : (seats : Seated) (nodes : List ℕ) (i : ℕ) → slice_get nodes i ≡ None → None ≡ slice_get (marked_of seats nodes) i
 unfolding marked_of
-marked_past seats nodes i past = sym (node_past (name_at seats) nodes i past)
+marked_past seats nodes i past = sym (node_at (name_at seats) nodes i ∙ ap (option_map (name_at seats)) past)
 
 -- ---- whether there is a seat
 pub named_if_sat : (seats : Seated) (t : Txn) (o : Option ℕ) → IfSome o (λ c. (seat seats c ≡ Some t) × ((d : ℕ) → seat seats d ≡ Some t → d ≡ c)) → IfNone o ((c : ℕ) → seat seats c ≡ Some t → ⊥) → is_some o ≡ lists (names_of seats) t.0

@@ -1,6 +1,6 @@
 -- What a call makes of the table of dependencies.
-use Rattle.std.proofs.Common.{◌≡◌, ℕ, ◌<◌, ◌≤◌, Bool, true, false, cond, eqb, not, ◌&&◌, ◌||◌, List, [], length, filter_map, Option, Some, None, is_some, refl, sym, ap, ◌∙◌, arith, inl, inr}
-use Rattle.std.specs.Prelude.{slice_index_or, option_map}
+use Rattle.std.proofs.Common.{◌≡◌, ℕ, ◌<◌, ◌≤◌, Bool, true, false, cond, eqb, not, ◌&&◌, ◌||◌, List, [], ◌∷◌, ◌++◌, length, filter_map, Option, Some, None, is_some, refl, sym, ap, subst, ◌∙◌, arith, inl, inr}
+use Rattle.std.specs.Prelude.{slice_index_or, option_map, IfSome, IfNone}
 use Rattle.std.proofs.lemmas.Bool.{or_left, and_from, and_parts, eqb-true, eqb-false, eq-eqb, ne_eqb, true≢false, false≢true, cases_eq}
 use Rattle.slab.specs.Slab.{Slab, get, values, Updates}
 use Rattle.asset_names.specs.declared.names.Txn.{Txn}
@@ -16,15 +16,22 @@ use Rattle.asset_seats.specs.Seated.{Seated, seat}
 use Rattle.asset_marks.specs.Marked.{Met}
 use Rattle.asset_marks.proofs.SlotLemmas.{any_has, key_of_any, any_added, any_dropped, IsRid}
 use Rattle.asset_deps.specs.Dependencies.{Dependency, DepTable, arrows_of}
-use Rattle.asset_deps.specs.Valid.{Parts, parts, dependencies_of, names_of, marked_of, IsPlaced, IsNamed, IsWithin, IsValid}
+use Rattle.asset_deps.specs.Valid.{Parts, parts, dependencies_of, names_of, marked_of, IsPlaced, IsNamed, IsWithin, IsValid, LinkTable, dependencies_in, marked_in, IsTied, HasRoom}
 use Rattle.asset_deps.proofs.KindLemmas.{joins, arrow_of}
 use Rattle.asset_deps.proofs.LinkLemmas.{kind_is, kind_self}
 use Rattle.asset_deps.proofs.NamedLemmas.{has_across, joins_parts, joins_from, joins_source, joins_dependent}
-use Rattle.asset_deps.proofs.SeatLemmas.{named_seat, marked_seat, seat_marked, marked_same, nobody_marked, nothing_marked, names_same}
+use Rattle.asset_deps.proofs.SeatLemmas.{named_seat, marked_seat, seat_marked, marked_same, nobody_marked, nothing_marked, names_same, taken_before}
 
 -- the parts of a table
 abbrev pub parts_of : Crossed Dependency → Seated → Parts
 parts_of links seats = parts links.items links.rows links.columns seats
+
+-- the table, by its parts
+abbrev pub link_table : Crossed Dependency → ℕ → Met → LinkTable
+link_table links size marked = record { links = links; size = size; marked = marked }
+
+pub tied_inside : (links : Crossed Dependency) (size : ℕ) (marked : Met) (table : LinkTable) (seats : Seated) → link_table links size marked ≡ table → IsTied table seats → IsValid (parts_of links seats) size marked
+tied_inside links size marked table seats is tied = subst (λ (v : LinkTable). IsTied v seats) (sym is) tied
 
 -- exactly the dependencies have homes
 placed_by : (links : Crossed Dependency) → IsCrossed links → IsPlaced links.items links.rows links.columns
@@ -65,12 +72,6 @@ no_arrow links kind u v absent = go (has_arrow (arrows_of kind (dependencies_of 
 module _ (p : Parts) (size : ℕ) (marked : Met) (valid : IsValid p size marked) (kind : Kind) (a b : Txn) where
   abbrev sought : Dependency
   sought = record { kind = kind; source = a.0; dependent = b.0 }
-
-  pub no_source : ((c : ℕ) → seat p.seats c ≡ Some a → ⊥) → false ≡ has_arrow (arrows_of kind (dependencies_of p.links)) a.0 b.0
-  no_source absent = sym (no_arrow p.links kind a.0 b.0 (λ k there. let across = has_across p size marked valid k sought there in absent across.from across.source))
-
-  pub no_dependent : ((c : ℕ) → seat p.seats c ≡ Some b → ⊥) → false ≡ has_arrow (arrows_of kind (dependencies_of p.links)) a.0 b.0
-  no_dependent absent = sym (no_arrow p.links kind a.0 b.0 (λ k there. let across = has_across p size marked valid k sought there in absent across.to across.dependent))
 
   -- what a walk along a chain has found
   pub found_source : (from : ℕ) → ((c : ℕ) → seat p.seats c ≡ Some a → c ≡ from) → (d : Dependency) → d ≡ sought → (result : Bool) → (result ≡ true → (k : ℕ) × (get p.links k ≡ Some d)) → (result ≡ false → (k : ℕ) → home_of p.along k ≡ Some from → get p.links k ≡ Some d → ⊥)
@@ -138,15 +139,10 @@ module _ (links more : Crossed Dependency) (seats new : Seated) (size most : ℕ
       let old = valid.within c (were c sat) in
       (omega (arith, old.0, grows.many Row), omega (arith, old.1, grows.many Column), omega (arith, old.2, bound), omega (arith, old.3, marks))
 
-  -- and so has the seat on which somebody sits down
-  pub within_sits : (s : ℕ) (t : Txn) → ((c : ℕ) → seat new c ≡ cond (eqb c s) (Some t) (seat seats c)) → size ≤ most → marked.size ≤ grown.size → s < length more.rows.chains → s < length more.columns.chains → s < most → s < grown.size
-      → IsWithin more.rows more.columns new most grown.size
-  within_sits s t sits bound marks first second third fourth c sat = go (eqb c s) refl where
-    go : (b : Bool) → eqb c s ≡ b → (c < length more.rows.chains) × (c < length more.columns.chains) × (c < most) × (c < grown.size)
-    go true at = let here : c ≡ s = eqb-true c s at in rw here (first, second, third, fourth)
-    go false at =
-        let old = valid.within c (sym (ap is_some (sits c ∙ ap (λ b. cond b (Some t) (seat seats c)) at)) ∙ sat) in
-        (omega (arith, old.0, grows.many Row), omega (arith, old.1, grows.many Column), omega (arith, old.2, bound), omega (arith, old.3, marks))
+-- there is more room, and nobody sat down
+pub valid_roomier : (links more : Crossed Dependency) (seats : Seated) (size most : ℕ) (marked grown : Met) → IsValid (parts_of links seats) size marked → IsGrown links more → grown.nodes ≡ marked.nodes → size ≤ most → marked.size ≤ grown.size → IsValid (parts_of more seats) most grown
+valid_roomier links more seats size most marked grown valid grows nodes bound marks =
+    valid_grown links more seats seats size most marked grown valid grows nodes (λ c t sat. sat) (within_grown links more seats seats size most marked grown valid grows nodes (λ c some. some) bound marks)
 
 -- who sat before sits still
 pub sits_still : (s : ℕ) (t : Txn) (old new : Seated) → seat old s ≡ None → ((c : ℕ) → seat new c ≡ cond (eqb c s) (Some t) (seat old c)) → (c : ℕ) (u : Txn) → seat old c ≡ Some u → seat new c ≡ Some u
@@ -225,36 +221,44 @@ arrow_again ds kind a b there k u v = go (same_kind k kind) refl (eqb u a) refl 
   go false is q first r second = or_none (has_arrow (arrows_of k ds) u v)
 
 -- ---- a transaction ends
-module _ (links mid new : Crossed Dependency) (seats left : Seated) (size : ℕ) (marked fewer : Met) (t : Txn) (s : ℕ) (valid : IsValid (parts_of links seats) size marked)
+module _ (links mid new : Crossed Dependency) (seats : Seated) (size : ℕ) (marked fewer : Met) (t : Txn) (s : ℕ) (valid : IsValid (parts_of links seats) size marked)
     (sat : seat seats s ≡ Some t) (alone : (c : ℕ) → seat seats c ≡ Some t → c ≡ s) (first : IsCleared Row s links mid) (second : IsCleared Column s mid new) (crossed : IsCrossed new)
-    (leaves : (c : ℕ) → seat left c ≡ cond (eqb c s) None (seat seats c)) (forgets : (n : ℕ) → lists fewer.nodes n ≡ (lists marked.nodes n && not (eqb n s))) (same_size : fewer.size ≡ marked.size) where
+    (forgets : (n : ℕ) → lists fewer.nodes n ≡ (lists marked.nodes n && not (eqb n s))) (same_size : fewer.size ≡ marked.size) where
   named : (n : ℕ) → Some (record { 0 = n }) ≡ Some t → n ≡ t.0
   named n same = let is : record { 0 = n } ≡ t = cc same in ap (λ (u : Txn). u.0) is
 
-  -- who has another seat keeps it
-  sits : (c : ℕ) → (c ≡ s → ⊥) → seat left c ≡ seat seats c
-  sits c apart = leaves c ∙ ap (λ b. cond b None (seat seats c)) (ne_eqb c s apart)
-
-  still_taken : (c : ℕ) → is_some (seat left c) ≡ true → (c ≡ s → ⊥) × (is_some (seat seats c) ≡ true)
-  still_taken c some = go (eqb c s) refl where
-    go : (b : Bool) → eqb c s ≡ b → (c ≡ s → ⊥) × (is_some (seat seats c) ≡ true)
-    go true at = absurd (true≢false (sym some ∙ ap is_some (leaves c ∙ ap (λ b. cond b None (seat seats c)) at)))
-    go false at = (eqb-false c s at, sym (ap is_some (leaves c ∙ ap (λ b. cond b None (seat seats c)) at)) ∙ some)
-
-  pub valid_ended : IsValid (parts_of new left) size fewer
+  pub valid_ended : IsValid (parts_of new seats) size fewer
   valid_ended = record {
     placed = placed_by new crossed;
-    sources = λ k c d there home.
-        sits c (λ is. first.gone k (second.homes Row k s (home ∙ ap Some is))) ∙ valid.sources k c d (first.items k d (second.items k d there)) (first.homes Row k c (second.homes Row k c home));
-    dependents = λ k c d there home. sits c (λ is. second.gone k (home ∙ ap Some is)) ∙ valid.dependents k c d (first.items k d (second.items k d there)) (first.homes Column k c (second.homes Column k c home));
+    sources = λ k c d there home. valid.sources k c d (first.items k d (second.items k d there)) (first.homes Row k c (second.homes Row k c home));
+    dependents = λ k c d there home. valid.dependents k c d (first.items k d (second.items k d there)) (first.homes Column k c (second.homes Column k c home));
     within = λ c some.
-        let old = valid.within c (still_taken c some).1 in
+        let old = valid.within c some in
         (omega (arith, old.0, first.many Row, second.many Row), omega (arith, old.1, first.many Column, second.many Column), old.2, omega (arith, old.3, same_size));
+    taken = λ c listed. valid.taken c (and_parts (lists marked.nodes c) (not (eqb c s)) (sym (forgets c) ∙ listed)).0;
+    single = λ j k d here there. valid.single j k d (first.items j d (second.items j d here)) (first.items k d (second.items k d there));
+  }
+
+  -- and the transaction leaves its seat
+  pub valid_left : (left : Seated) → ((c : ℕ) → seat left c ≡ cond (eqb c s) None (seat seats c)) → IsValid (parts_of new left) size fewer
+  valid_left left leaves = record {
+    placed = placed_by new crossed;
+    sources = λ k c d there home. sits c (λ is. first.gone k (second.homes Row k s (home ∙ ap Some is))) ∙ valid_ended.sources k c d there home;
+    dependents = λ k c d there home. sits c (λ is. second.gone k (home ∙ ap Some is)) ∙ valid_ended.dependents k c d there home;
+    within = λ c some. valid_ended.within c (still_taken c some);
     taken = λ c listed.
         let both = and_parts (lists marked.nodes c) (not (eqb c s)) (sym (forgets c) ∙ listed) in
         ap is_some (sits c (λ is. false≢true (ap not (sym (eq-eqb c s is)) ∙ both.1))) ∙ valid.taken c both.0;
-    single = λ j k d here there. valid.single j k d (first.items j d (second.items j d here)) (first.items k d (second.items k d there));
-  }
+    single = valid_ended.single;
+  } where
+    sits : (c : ℕ) → (c ≡ s → ⊥) → seat left c ≡ seat seats c
+    sits c apart = leaves c ∙ ap (λ b. cond b None (seat seats c)) (ne_eqb c s apart)
+
+    still_taken : (c : ℕ) → is_some (seat left c) ≡ true → is_some (seat seats c) ≡ true
+    still_taken c some = go (eqb c s) refl where
+      go : (b : Bool) → eqb c s ≡ b → is_some (seat seats c) ≡ true
+      go true at = absurd (true≢false (sym some ∙ ap is_some (leaves c ∙ ap (λ b. cond b None (seat seats c)) at)))
+      go false at = sym (ap is_some (leaves c ∙ ap (λ b. cond b None (seat seats c)) at)) ∙ some
 
   rid : IsRid (λ (d : Dependency). d.source) (λ (d : Dependency). d.dependent) t.0 links.items new.items
   rid = record {
@@ -283,31 +287,33 @@ module _ (links mid new : Crossed Dependency) (seats left : Seated) (size : ℕ)
       ∙ any_dropped (λ (d : Dependency). d.source) (λ (d : Dependency). d.dependent) (joins (of_kind k) u v) t.0 u v links.items new.items (joins_source (of_kind k) u v) (joins_dependent (of_kind k) u v) rid
       ∙ ap (λ b. b && not (eqb u t.0) && not (eqb v t.0)) (sym (arrow_of k (values links.items) u v))
 
-  pub marked_ended : (n : ℕ) → lists (marked_of left fewer.nodes) n ≡ (lists (marked_of seats marked.nodes) n && not (eqb n t.0))
+  pub marked_ended : (n : ℕ) → lists (marked_of seats fewer.nodes) n ≡ (lists (marked_of seats marked.nodes) n && not (eqb n t.0))
   marked_ended n = both_follow _ _ to back' where
-    to : lists (marked_of left fewer.nodes) n ≡ true → (lists (marked_of seats marked.nodes) n && not (eqb n t.0)) ≡ true
+    to : lists (marked_of seats fewer.nodes) n ≡ true → (lists (marked_of seats marked.nodes) n && not (eqb n t.0)) ≡ true
     to h =
-        let found = marked_seat left fewer.nodes n valid_ended.taken h in
+        let found = marked_seat seats fewer.nodes n valid_ended.taken h in
         let both = and_parts (lists marked.nodes found.0) (not (eqb found.0 s)) (sym (forgets found.0) ∙ found.1) in
         let apart : found.0 ≡ s → ⊥ = λ is. false≢true (ap not (sym (eq-eqb found.0 s is)) ∙ both.1) in
-        let was : seat seats found.0 ≡ Some (record { 0 = n }) = sym (sits found.0 apart) ∙ found.2 in
-        and_from _ _ (seat_marked seats marked.nodes found.0 (record { 0 = n }) was both.0) (ap not (ne_eqb n t.0 (λ is. apart (alone found.0 (was ∙ (λ i. Some (record { 0 = is i })))))))
+        and_from _ _ (seat_marked seats marked.nodes found.0 (record { 0 = n }) found.2 both.0) (ap not (ne_eqb n t.0 (λ is. apart (alone found.0 (found.2 ∙ (λ i. Some (record { 0 = is i })))))))
 
-    back' : (lists (marked_of seats marked.nodes) n && not (eqb n t.0)) ≡ true → lists (marked_of left fewer.nodes) n ≡ true
+    back' : (lists (marked_of seats marked.nodes) n && not (eqb n t.0)) ≡ true → lists (marked_of seats fewer.nodes) n ≡ true
     back' h =
         let both = and_parts (lists (marked_of seats marked.nodes) n) (not (eqb n t.0)) h in
         let found = marked_seat seats marked.nodes n valid.taken both.0 in
         let apart : found.0 ≡ s → ⊥ = λ is. false≢true (ap not (sym (eq-eqb n t.0 (named n (sym found.2 ∙ ap (seat seats) is ∙ sat)))) ∙ both.1) in
-        seat_marked left fewer.nodes found.0 (record { 0 = n }) (sits found.0 apart ∙ found.2) (forgets found.0 ∙ and_from _ _ found.1 (ap not (ne_eqb found.0 s apart)))
+        seat_marked seats fewer.nodes found.0 (record { 0 = n }) found.2 (forgets found.0 ∙ and_from _ _ found.1 (ap not (ne_eqb found.0 s apart)))
 
-  pub unmarked_ended : (lists marked.nodes s ≡ false → fewer ≡ marked) → lists (marked_of seats marked.nodes) t.0 ≡ false → marked_of left fewer.nodes ≡ marked_of seats marked.nodes
-  unmarked_ended unchanged absent =
-      let apart = go (lists marked.nodes s) refl in
-      ap (λ (m : Met). marked_of left m.nodes) (unchanged apart)
-      ∙ marked_same seats left marked.nodes (λ c listed. sits c (λ is. true≢false (sym listed ∙ ap (lists marked.nodes) is ∙ apart))) where
-        go : (b : Bool) → lists marked.nodes s ≡ b → b ≡ false
-        go true is = absurd (true≢false (sym (seat_marked seats marked.nodes s t sat is) ∙ absent))
-        go false is = refl
+  pub unmarked_ended : (lists marked.nodes s ≡ false → fewer ≡ marked) → lists (marked_of seats marked.nodes) t.0 ≡ false → fewer ≡ marked
+  unmarked_ended unchanged absent = unchanged (go (lists marked.nodes s) refl) where
+    go : (b : Bool) → lists marked.nodes s ≡ b → b ≡ false
+    go true is = absurd (true≢false (sym (seat_marked seats marked.nodes s t sat is) ∙ absent))
+    go false is = refl
+
+-- one who is not marked leaves its seat
+pub marked_left : (seats left : Seated) (nodes : List ℕ) (s : ℕ) (t : Txn) → seat seats s ≡ Some t → ((c : ℕ) → seat left c ≡ cond (eqb c s) None (seat seats c)) → lists (marked_of seats nodes) t.0 ≡ false → marked_of left nodes ≡ marked_of seats nodes
+marked_left seats left nodes s t sat leaves absent =
+    marked_same seats left nodes (λ c listed.
+    leaves c ∙ ap (λ b. cond b None (seat seats c)) (ne_eqb c s (λ is. true≢false (sym (seat_marked seats nodes s t sat (ap (lists nodes) (sym is) ∙ listed)) ∙ absent))))
 
 -- one who is not enrolled leaves nothing behind
 module _ (p : Parts) (size : ℕ) (marked : Met) (valid : IsValid p size marked) (t : Txn) (absent : (c : ℕ) → seat p.seats c ≡ Some t → ⊥) where
@@ -330,23 +336,70 @@ module _ (p : Parts) (size : ℕ) (marked : Met) (valid : IsValid p size marked)
     go false true is at = refl
     go false false is at = refl
 
--- what a table shows
-abbrev pub table_of : Slab Dependency → Seated → List ℕ → DepTable
-table_of links seats nodes = record { names = names_of seats; dependencies = dependencies_of links; marked = marked_of seats nodes }
+-- what a table shows by name
+abbrev pub shown : Seated → LinkTable → DepTable
+shown seats table = record { names = names_of seats; dependencies = dependencies_in table; marked = marked_in seats table }
 
-pub new_is : (links : Slab Dependency) (seats : Seated) (nodes : List ℕ) → links.slots ≡ [] → seats.slots ≡ [] → nodes ≡ []
-    → table_of links seats nodes ≡ record { names = []; dependencies = []; marked = [] }
+pub new_is : (seats : Seated) (table : LinkTable) → seats.slots ≡ [] → dependencies_in table ≡ [] → table.marked.nodes ≡ [] → shown seats table ≡ record { names = []; dependencies = []; marked = [] }
 unfolding names_of
-new_is links seats nodes none nobody unmarked = λ i. record {
+new_is seats table nobody none unmarked = λ i. record {
   names = ap (λ (l : List (Option Txn)). filter_map (λ (slot : Option Txn). option_map (λ (t : Txn). t.0) slot) l) nobody i;
-  dependencies = nothing_stands links none i;
-  marked = nothing_marked seats nodes unmarked i;
+  dependencies = none i;
+  marked = nothing_marked seats table.marked.nodes unmarked i;
 }
 
 -- the table shows the same while its room grows
-pub shows_same : (links more : Slab Dependency) (seats new : Seated) (nodes met : List ℕ) → more.slots ≡ links.slots → ((c : ℕ) → seat new c ≡ seat seats c) → met ≡ nodes → table_of more new met ≡ table_of links seats nodes
-shows_same links more seats new nodes met slots same is = λ i. record {
+pub shows_same : (seats new : Seated) (table more : LinkTable) → ((c : ℕ) → seat new c ≡ seat seats c) → dependencies_in more ≡ dependencies_in table → more.marked.nodes ≡ table.marked.nodes → shown new more ≡ shown seats table
+shows_same seats new table more same stand is = λ i. record {
   names = names_same seats new same i;
-  dependencies = slots_stand links more slots i;
-  marked = (ap (marked_of new) is ∙ marked_same seats new nodes (λ c listed. same c)) i;
+  dependencies = stand i;
+  marked = (ap (marked_of new) is ∙ marked_same seats new table.marked.nodes (λ c listed. same c)) i;
 }
+
+-- a table stays tied while the seats stay
+pub tied_same : (table : LinkTable) (seats new : Seated) → IsTied table seats → ((c : ℕ) → seat new c ≡ seat seats c) → IsTied table new
+tied_same table seats new tied same = record {
+  placed = tied.placed;
+  sources = λ k c d there home. same c ∙ tied.sources k c d there home;
+  dependents = λ k c d there home. same c ∙ tied.dependents k c d there home;
+  within = λ c some. tied.within c (sym (ap is_some (same c)) ∙ some);
+  taken = λ c listed. ap is_some (same c) ∙ tied.taken c listed;
+  single = tied.single;
+}
+
+-- and as somebody sits down for whom there is room
+pub tied_sits : (table : LinkTable) (seats new : Seated) (s : ℕ) (t : Txn) → IsTied table seats → seat seats s ≡ None → ((c : ℕ) → seat new c ≡ cond (eqb c s) (Some t) (seat seats c)) → HasRoom table s → IsTied table new
+tied_sits table seats new s t tied free sits room = record {
+  placed = tied.placed;
+  sources = λ k c d there home. still c (record { 0 = d.source }) (tied.sources k c d there home);
+  dependents = λ k c d there home. still c (record { 0 = d.dependent }) (tied.dependents k c d there home);
+  within = λ c some. go c (eqb c s) refl some;
+  taken = λ c listed. let u = some_of (seat seats c) (tied.taken c listed) in ap is_some (still c u.0 u.1);
+  single = tied.single;
+} where
+  still : (c : ℕ) (u : Txn) → seat seats c ≡ Some u → seat new c ≡ Some u
+  still c u sat = sits_still s t seats new free sits c u sat
+
+  go : (c : ℕ) (b : Bool) → eqb c s ≡ b → is_some (seat new c) ≡ true → HasRoom table c
+  go c true at some = let here : c ≡ s = eqb-true c s at in rw here room
+  go c false at some = tied.within c (sym (ap is_some (sits c ∙ ap (λ b. cond b (Some t) (seat seats c)) at)) ∙ some)
+
+-- the mark that was made last is taken away
+pub popped_valid : (p : Parts) (size : ℕ) (marked fewer : Met) (o : Option ℕ) → IfSome o (λ c. (c < marked.size) × (marked.nodes ≡ fewer.nodes ++ c ∷ []) × (lists fewer.nodes c ≡ false)) → IfNone o ((marked.nodes ≡ []) × (fewer ≡ marked)) → fewer.size ≡ marked.size → IsValid p size marked
+    → IsValid p size fewer
+popped_valid p size marked fewer None last none same valid = subst (λ (m : Met). IsValid p size m) (sym none.1) valid
+popped_valid p size marked fewer (Some c) last none same valid = record {
+  placed = valid.placed;
+  sources = valid.sources;
+  dependents = valid.dependents;
+  within = λ d there. let old = valid.within d there in (old.0, old.1, old.2, rw same old.3);
+  taken = taken_before p.seats marked.nodes fewer.nodes c valid.taken last.1;
+  single = valid.single;
+}
+
+-- who has ended is not marked
+pub marked_gone : (seats : Seated) (nodes fewer : List ℕ) (t : Txn) → ((n : ℕ) → lists (marked_of seats fewer) n ≡ (lists (marked_of seats nodes) n && not (eqb n t.0))) → lists (marked_of seats fewer) t.0 ≡ false
+marked_gone seats nodes fewer t gone = gone t.0 ∙ ap (λ b. lists (marked_of seats nodes) t.0 && not b) (eq-eqb t.0 t.0 refl) ∙ never (lists (marked_of seats nodes) t.0) where
+  never : (b : Bool) → (b && false) ≡ false
+  never true = refl
+  never false = refl

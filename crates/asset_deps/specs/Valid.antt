@@ -5,6 +5,7 @@ use Rattle.slab.specs.Slab.{Slab, get, values}
 use Rattle.asset_names.specs.declared.names.Txn.{Txn}
 use Rattle.asset_names.specs.Arrows.{lists}
 use Rattle.asset_chains.specs.Chained.{Chained, home_of}
+use Rattle.asset_chains.specs.Crossed.{Crossed}
 use Rattle.asset_seats.specs.Seated.{Seated, seat}
 use Rattle.asset_marks.specs.Marked.{Met}
 use Rattle.asset_deps.specs.Dependencies.{Dependency}
@@ -62,3 +63,27 @@ pub record IsValid (p : Parts) (size : ℕ) (marked : Met) : Type 0 where
   pub within : IsWithin p.along p.across p.seats size marked.size
   pub taken : AreTaken p.seats marked.nodes
   pub single : (j k : ℕ) (d : Dependency) → get p.links j ≡ Some d → get p.links k ≡ Some d → j ≡ k
+
+-- ---- the table by seat
+-- the dependencies in rows and columns, how many seats have a mark for searches, and the marks of those who end
+pub record LinkTable : Type 0 where
+  pub links : Crossed Dependency
+  pub size : ℕ
+  pub marked : Met
+
+-- the dependencies that stand
+abbrev pub dependencies_in : LinkTable → List Dependency
+dependencies_in table = dependencies_of table.links.items
+
+-- who is marked
+abbrev pub marked_in : Seated → LinkTable → List ℕ
+marked_in seats table = marked_of seats table.marked.nodes
+
+-- who depends or is depended on has the seat of its row and column, who is marked has a seat, and each seat that is taken
+-- has room
+abbrev pub IsTied : LinkTable → Seated → Type 0
+IsTied table seats = IsValid (parts table.links.items table.links.rows table.links.columns seats) table.size table.marked
+
+-- the seat has its row, its column and its marks
+abbrev pub HasRoom : LinkTable → ℕ → Type 0
+HasRoom table c = (c < length table.links.rows.chains) × (c < length table.links.columns.chains) × (c < table.size) × (c < table.marked.size)

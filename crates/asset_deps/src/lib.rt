@@ -1,10 +1,10 @@
 //! The table of dependencies: who depends on whom and how, the classes that group commits make, and whom an end takes with
 //! it. Each dependency is in the row of its source and in the column of its dependent, so that an end costs its own
-//! dependencies alone. Only `enrol` and `add` can run out of memory.
+//! dependencies alone. `SeatedDeps` is asked by seat, and `Deps` by name.
 #![tactic(auto)]
 
-mod adding;
 mod asking;
+mod deps;
 mod finding;
 mod kinds;
 mod link;
@@ -13,4 +13,5 @@ mod outside;
 mod search;
 mod table;
 
-pub use table::Deps;
+pub use deps::Deps;
+pub use table::SeatedDeps;

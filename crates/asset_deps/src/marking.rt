@@ -1,73 +1,75 @@
 //! Marks on the transactions that end together.
 
-use crate::finding::seat_in;
 use crate::kinds::Kinds;
 use crate::search::Search;
-use crate::table::Deps;
+use crate::table::SeatedDeps;
 use asset_chains::Side;
 use asset_marks::spread;
-use asset_names::Txn;
+use asset_seats::{Seats, Sitter};
 
-impl Deps {
-    ghost use Rattle.std.specs.Prelude.{◌≡◌, ℕ, true, false, [], ◌∷◌, ◌++◌, length, slice_get, option_map, IfSome, IfNone};
-    ghost use Rattle.asset_names.specs.declared.names.Txn.{Txn};
+impl SeatedDeps {
+    ghost use Rattle.std.specs.Prelude.{◌≡◌, ℕ, false, [], ◌∷◌, ◌++◌, length, slice_get, IfSome, IfNone};
     ghost use Rattle.asset_names.specs.Arrows.{lists, linked};
+    ghost use Rattle.asset_seats.specs.Seated.{Seated, HasSeat};
     ghost use Rattle.asset_deps.specs.Dependencies.{class_in, doomed_in};
     ghost use Rattle.asset_deps.specs.Reached.{ways_in};
+    ghost use Rattle.asset_deps.specs.Valid.{dependencies_in, marked_in, IsTied};
 
     /// Marks the transaction's class, and nobody else. A search forgets no mark.
-    pub fn mark_class(&mut self, t: Txn)
-        requires { lists self.old.names t.0 ≡ true }
-        ensures marked { (n : ℕ) → lists self.new.marked n ≡ class_in self.old.dependencies t.0 n }
-        ensures names { self.new.names ≡ self.old.names }
-        ensures dependencies { self.new.dependencies ≡ self.old.dependencies }
+    pub fn mark_class(&mut self, seats: &Seats, t: Sitter)
+        requires tied { IsTied self.old seats.now }
+        requires sits { HasSeat seats.now t }
+        ensures tied { IsTied self.new seats.now }
+        ensures marked { (n : ℕ) → lists (marked_in seats.now self.new) n ≡ class_in (dependencies_in self.old) t.t.0 n }
+        ensures dependencies { dependencies_in self.new ≡ dependencies_in self.old }
     {
-        self.mark(Kinds::Class, t);
+        self.mark(seats, Kinds::Class, t);
     }
 
     /// Marks whom an abort of the transaction aborts, and nobody else. A search forgets no mark.
-    pub fn mark_doomed(&mut self, t: Txn)
-        requires { lists self.old.names t.0 ≡ true }
-        ensures marked { (n : ℕ) → lists self.new.marked n ≡ doomed_in self.old.dependencies t.0 n }
-        ensures names { self.new.names ≡ self.old.names }
-        ensures dependencies { self.new.dependencies ≡ self.old.dependencies }
+    pub fn mark_doomed(&mut self, seats: &Seats, t: Sitter)
+        requires tied { IsTied self.old seats.now }
+        requires sits { HasSeat seats.now t }
+        ensures tied { IsTied self.new seats.now }
+        ensures marked { (n : ℕ) → lists (marked_in seats.now self.new) n ≡ doomed_in (dependencies_in self.old) t.t.0 n }
+        ensures dependencies { dependencies_in self.new ≡ dependencies_in self.old }
     {
-        self.mark(Kinds::Dooming, t);
+        self.mark(seats, Kinds::Dooming, t);
     }
 
     /// Marks those to whom dependencies of these kinds, and group commits to and fro, lead.
-    fn mark(&mut self, kinds: Kinds, t: Txn)
-        requires { lists self.old.names t.0 ≡ true }
-        ensures marked { (n : ℕ) → lists self.new.marked n ≡ linked (ways_in kinds self.old.dependencies) t.0 n }
-        ensures names { self.new.names ≡ self.old.names }
-        ensures dependencies { self.new.dependencies ≡ self.old.dependencies }
+    fn mark(&mut self, seats: &Seats, kinds: Kinds, t: Sitter)
+        requires tied { IsTied self.old seats.now }
+        requires sits { HasSeat seats.now t }
+        ensures tied { IsTied self.new seats.now }
+        ensures marked { (n : ℕ) → lists (marked_in seats.now self.new) n ≡ linked (ways_in kinds (dependencies_in self.old)) t.t.0 n }
+        ensures dependencies { dependencies_in self.new ≡ dependencies_in self.old }
     {
-        let seat = seat_in(&self.seats, t);
-        self.seats.laws();
+        seats.laws();
         let search = Search {
             links: &self.links,
             side: Side::Row,
             kinds,
         };
-        spread(&search, seat, &mut self.marked);
+        spread(&search, t.at, &mut self.marked);
     }
 
     /// Returns whether the transaction is marked.
-    pub fn is_doomed(&self, u: Txn) -> bool
-        ensures { result ≡ lists self.now.marked u.0 }
+    pub fn is_doomed(&self, seats: &Seats, u: Sitter) -> bool
+        requires tied { IsTied self.now seats.now }
+        requires sits { HasSeat seats.now u }
+        ensures { result ≡ lists (marked_in seats.now self.now) u.t.0 }
     {
-        let Some(seat) = self.seats.seat_of(u) else {
-            return false;
-        };
-        self.marked.has(seat)
+        seats.laws();
+        self.marked.has(u.at)
     }
 
-    /// Returns the marked transaction at the index, from 0. It returns `None` past the end.
-    pub fn marked(&self, index: usize) -> Option<Txn>
-        ensures { option_map (λ (t : Txn). t.0) result ≡ slice_get self.now.marked index }
+    /// Returns the seat that is marked at the index, from 0. It returns `None` past the end.
+    pub fn marked(&self, index: usize) -> Option<usize>
+        ensures { result ≡ slice_get self.now.marked.nodes index }
     {
         if index < self.marked.len() {
-            self.seats.name_at(self.marked.node(index))
+            Some(self.marked.node(index))
         } else {
             None
         }
@@ -75,21 +77,19 @@ impl Deps {
 
     /// Returns how many transactions are marked.
     pub fn marked_count(&self) -> usize
-        ensures { result ≡ length self.now.marked }
+        ensures { result ≡ length self.now.marked.nodes }
     {
         self.marked.len()
     }
 
-    /// Returns the transaction that is marked last, if one is marked, and takes its mark from it.
-    pub fn next_marked(&mut self) -> Option<Txn>
-        ensures last { IfSome result (λ u. (self.old.marked ≡ self.new.marked ++ u.0 ∷ []) × (lists self.new.marked u.0 ≡ false)) }
-        ensures none { IfNone result ((self.old.marked ≡ []) × (self.new ≡ self.old)) }
-        ensures names { self.new.names ≡ self.old.names }
-        ensures dependencies { self.new.dependencies ≡ self.old.dependencies }
+    /// Returns the seat that is marked last, if one is marked, and takes its mark from it.
+    pub fn next_marked(&mut self) -> Option<usize>
+        ensures last { IfSome result (λ c. (self.old.marked.nodes ≡ self.new.marked.nodes ++ c ∷ []) × (lists self.new.marked.nodes c ≡ false)) }
+        ensures none { IfNone result ((self.old.marked.nodes ≡ []) × (self.new ≡ self.old)) }
+        ensures tied { (seats : Seated) → IsTied self.old seats → IsTied self.new seats }
+        ensures dependencies { dependencies_in self.new ≡ dependencies_in self.old }
     {
-        self.seats.laws();
         self.marked.laws();
-        let seat = self.marked.pop()?;
-        self.seats.name_at(seat)
+        self.marked.pop()
     }
 }

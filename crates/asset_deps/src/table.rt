@@ -1,85 +1,67 @@
-//! The table of dependencies: who is enrolled, and what comes and goes.
+//! The table of dependencies by seat: what comes and goes.
 
-use crate::adding::make_room;
-use crate::finding::{is_there, seat_in};
+use crate::finding::is_there;
 use crate::link::Link;
 use asset_chains::{Crossed, Side};
 use asset_marks::Marks;
-use asset_names::{Kind, NoMemory, Txn};
-use asset_seats::{Seats, reserve_item};
+use asset_names::{Kind, NoMemory};
+use asset_seats::{Seats, Sitter, add_lines, reserve_item};
 use std::alloc::Global;
 use std::marker::Model;
 
-/// The dependencies that stand between enrolled transactions, and those of them that are marked. Each dependency is in the
-/// row of its source and in the column of its dependent, and exactly those who are enrolled have a seat.
-///
-/// A transaction that never depends on another nor is depended on needs no place here.
+/// The dependencies that stand, asked by seat, and the marks of those who end together. Each dependency is in the row of its
+/// source's seat and in the column of its dependent's. The seats are kept elsewhere: each call takes them, and requires
+/// that the table is tied to them.
 #[derive(Drop)]
-pub struct Deps {
+pub struct SeatedDeps {
     pub(crate) links: Crossed<Link>,
-    pub(crate) seats: Seats,
     pub(crate) marks: Marks,
     pub(crate) marked: Marks,
 }
 
-impl Model for Deps {
-    ghost use Rattle.asset_deps.specs.Dependencies.{DepTable};
-    ghost use Rattle.asset_deps.specs.Valid.{parts, IsValid, names_of, dependencies_of, marked_of};
+impl Model for SeatedDeps {
+    ghost use Rattle.asset_deps.specs.Valid.{LinkTable};
 
-    ghost Value = { DepTable };
+    ghost Value = { LinkTable };
 
-    ghost view = { λ p. record { names = names_of p.seats; dependencies = dependencies_of p.links.items; marked = marked_of p.seats p.marked.nodes } };
-
-    ghost invariant = { λ p. IsValid (parts p.links.items p.links.rows p.links.columns p.seats) p.marks.size p.marked };
+    ghost view = { λ p. record { links = p.links; size = p.marks.size; marked = p.marked } };
 }
 
-impl Deps {
-    ghost use Rattle.std.specs.Prelude.{◌≡◌, ℕ, ◌+◌, ◌==◌, ◌&&◌, ◌||◌, not, cond, length, nat_eq, [], true, false, IsOk, OnOk, OnErr};
+impl SeatedDeps {
+    ghost use Rattle.std.specs.Prelude.{◌≡◌, ℕ, ◌+◌, ◌==◌, ◌&&◌, ◌||◌, not, cond, length, nat_eq, [], true, false, None, IsOk, OnOk, OnErr};
     ghost use Rattle.std.specs.List.{IsDistinct};
     ghost use Rattle.asset_names.specs.declared.steps.Kind.{Kind};
     ghost use Rattle.asset_names.specs.Arrows.{lists, has_arrow};
     ghost use Rattle.asset_names.specs.Paths.{same_kind};
-    ghost use Rattle.asset_deps.specs.Dependencies.{same_dependency, arrows_of, class_in, doomed_in, would_cycle_in, outside_source_in};
+    ghost use Rattle.asset_seats.specs.Seated.{Seated, seat, HasSeat};
+    ghost use Rattle.asset_deps.specs.Dependencies.{arrows_of, would_cycle_in};
+    ghost use Rattle.asset_deps.specs.Valid.{dependencies_in, marked_in, IsTied, HasRoom};
 
-    /// Returns a table without transactions. It does not allocate.
-    pub fn new(alloc: Global) -> Deps
-        ensures { result ≡ record { names = []; dependencies = []; marked = [] } }
+    /// Returns a table without dependencies. It does not allocate.
+    pub fn new(alloc: Global) -> SeatedDeps
+        ensures dependencies { dependencies_in result ≡ [] }
+        ensures marked { result.marked.nodes ≡ [] }
+        ensures tied { (seats : Seated) → ((c : ℕ) → seat seats c ≡ None) → IsTied result seats }
     {
-        Deps {
+        SeatedDeps {
             links: Crossed::new(alloc),
-            seats: Seats::new(alloc),
             marks: Marks::new(alloc),
             marked: Marks::new(alloc),
         }
     }
 
-    /// Returns whether the transaction is enrolled. One that is not depends on nobody, and nobody on it.
-    pub fn is_enrolled(&self, t: Txn) -> bool
-        ensures enrolled { result ≡ lists self.now.names t.0 }
-        ensures alone { result ≡ false → (n : ℕ) → (class_in self.now.dependencies t.0 n ≡ (t.0 == n)) × (doomed_in self.now.dependencies t.0 n ≡ (t.0 == n)) }
-        ensures no_source { result ≡ false → outside_source_in self.now.dependencies t.0 ≡ false }
+    /// Adds rows, columns and marks until the seat has them. If memory runs out, some may have been added, and nothing else
+    /// has changed.
+    pub fn make_room(&mut self, c: usize) -> Result<(), NoMemory>
+        ensures room { OnOk result (HasRoom self.new c) }
+        ensures dependencies { dependencies_in self.new ≡ dependencies_in self.old }
+        ensures marked { self.new.marked.nodes ≡ self.old.marked.nodes }
+        ensures tied { (seats : Seated) → IsTied self.old seats → IsTied self.new seats }
     {
-        self.seats.seat_of(t).is_some()
-    }
-
-    /// Enrols a transaction. If it is enrolled already, nothing changes.
-    ///
-    /// If memory runs out, nothing changes.
-    pub fn enrol(&mut self, t: Txn) -> Result<(), NoMemory>
-        ensures names { OnOk result ((n : ℕ) → lists self.new.names n ≡ (lists self.old.names n || n == t.0)) }
-        ensures dependencies { self.new.dependencies ≡ self.old.dependencies }
-        ensures marked { self.new.marked ≡ self.old.marked }
-        ensures unchanged { OnErr result (self.new ≡ self.old) }
-        ensures again { lists self.old.names t.0 ≡ true → IsOk result × (self.new ≡ self.old) }
-    {
-        if self.is_enrolled(t) {
-            return Ok(());
-        }
-        self.seats.reserve()?;
-        let vacant = self.seats.vacant();
-        make_room(&mut self.links, &mut self.marks, &mut self.marked, vacant)?;
-        self.seats.sit(t);
-        Ok(())
+        add_lines(&mut self.links, Side::Row, c)?;
+        add_lines(&mut self.links, Side::Column, c)?;
+        self.marks.add(c)?;
+        self.marked.add(c)
     }
 
     /// Makes `b` depend on `a`, until one of the two is dropped by `end`. A dependency that stands already is not added
@@ -87,74 +69,67 @@ impl Deps {
     /// fewer.
     ///
     /// If memory runs out, nothing changes.
-    pub fn add(&mut self, kind: Kind, a: Txn, b: Txn) -> Result<(), NoMemory>
-        requires source { lists self.old.names a.0 ≡ true }
-        requires dependent { lists self.old.names b.0 ≡ true }
-        requires no_cycle { would_cycle_in self.old.dependencies kind a.0 b.0 ≡ false }
-        ensures added { OnOk result ((k : Kind) (u v : ℕ) → has_arrow (arrows_of k self.new.dependencies) u v ≡ (has_arrow (arrows_of k self.old.dependencies) u v || same_kind k kind && u == a.0 && v == b.0)) }
-        ensures once { OnOk result (length self.new.dependencies ≡ length self.old.dependencies + cond (has_arrow (arrows_of kind self.old.dependencies) a.0 b.0) 0 1) }
-        ensures names { self.new.names ≡ self.old.names }
+    pub fn add(&mut self, seats: &Seats, kind: Kind, a: Sitter, b: Sitter) -> Result<(), NoMemory>
+        requires tied { IsTied self.old seats.now }
+        requires source { HasSeat seats.now a }
+        requires dependent { HasSeat seats.now b }
+        requires no_cycle { would_cycle_in (dependencies_in self.old) kind a.t.0 b.t.0 ≡ false }
+        ensures tied { IsTied self.new seats.now }
+        ensures added { OnOk result ((k : Kind) (u v : ℕ) → has_arrow (arrows_of k (dependencies_in self.new)) u v ≡ (has_arrow (arrows_of k (dependencies_in self.old)) u v || same_kind k kind && u == a.t.0 && v == b.t.0)) }
+        ensures once { OnOk result (length (dependencies_in self.new) ≡ length (dependencies_in self.old) + cond (has_arrow (arrows_of kind (dependencies_in self.old)) a.t.0 b.t.0) 0 1) }
         ensures marked { self.new.marked ≡ self.old.marked }
-        ensures unchanged { OnErr result (self.new ≡ self.old) }
-        ensures again { has_arrow (arrows_of kind self.old.dependencies) a.0 b.0 ≡ true → IsOk result × (self.new ≡ self.old) }
+        ensures unchanged { OnErr result (dependencies_in self.new ≡ dependencies_in self.old) }
+        ensures again { has_arrow (arrows_of kind (dependencies_in self.old)) a.t.0 b.t.0 ≡ true → IsOk result × (dependencies_in self.new ≡ dependencies_in self.old) }
     {
-        if self.has(kind, a, b) {
+        if self.has(seats, kind, a, b) {
             return Ok(());
         }
         reserve_item(&mut self.links)?;
-        let from = seat_in(&self.seats, a);
-        let to = seat_in(&self.seats, b);
-        self.links.insert(from, to, Link::of(kind, a, b));
+        self.links.insert(a.at, b.at, Link::of(kind, a.t, b.t));
         self.links.laws();
         Ok(())
     }
 
     /// Returns whether the dependency stands.
-    fn has(&self, kind: Kind, a: Txn, b: Txn) -> bool
-        ensures { result ≡ has_arrow (arrows_of kind self.now.dependencies) a.0 b.0 }
+    fn has(&self, seats: &Seats, kind: Kind, a: Sitter, b: Sitter) -> bool
+        requires tied { IsTied self.now seats.now }
+        requires source { HasSeat seats.now a }
+        requires dependent { HasSeat seats.now b }
+        ensures { result ≡ has_arrow (arrows_of kind (dependencies_in self.now)) a.t.0 b.t.0 }
     {
-        let Some(from) = self.seats.seat_of(a) else {
-            return false;
-        };
-        let Some(to) = self.seats.seat_of(b) else {
-            return false;
-        };
-        let sought = Link::of(kind, a, b);
-        if self.links.len(Side::Row, from) <= self.links.len(Side::Column, to) {
-            is_there(&self.links, Side::Row, from, &sought)
+        seats.laws();
+        let sought = Link::of(kind, a.t, b.t);
+        if self.links.len(Side::Row, a.at) <= self.links.len(Side::Column, b.at) {
+            is_there(&self.links, Side::Row, a.at, &sought)
         } else {
-            is_there(&self.links, Side::Column, to, &sought)
+            is_there(&self.links, Side::Column, b.at, &sought)
         }
     }
 
-    /// Drops the dependencies of the transaction and those on it, and its mark. It is not enrolled from then on. If it
-    /// is not enrolled, nothing changes. It looks at no other dependencies.
-    pub fn end(&mut self, t: Txn)
-        ensures names { (n : ℕ) → lists self.new.names n ≡ (lists self.old.names n && not (n == t.0)) }
-        ensures dependencies { (k : Kind) (u v : ℕ) → has_arrow (arrows_of k self.new.dependencies) u v ≡ (has_arrow (arrows_of k self.old.dependencies) u v && not (u == t.0) && not (v == t.0)) }
-        ensures marked { (n : ℕ) → lists self.new.marked n ≡ (lists self.old.marked n && not (n == t.0)) }
-        ensures unmarked { lists self.old.marked t.0 ≡ false → self.new.marked ≡ self.old.marked }
+    /// Drops the dependencies of the transaction and those on it, and its mark, so that it may leave its seat. It looks at no
+    /// other dependencies.
+    pub fn end(&mut self, seats: &Seats, t: Sitter)
+        requires tied { IsTied self.old seats.now }
+        requires sits { HasSeat seats.now t }
+        ensures tied { IsTied self.new seats.now }
+        ensures leaves { (left : Seated) → ((c : ℕ) → seat left c ≡ cond (c == t.at) None (seat seats.now c)) → IsTied self.new left }
+        ensures dependencies { (k : Kind) (u v : ℕ) → has_arrow (arrows_of k (dependencies_in self.new)) u v ≡ (has_arrow (arrows_of k (dependencies_in self.old)) u v && not (u == t.t.0) && not (v == t.t.0)) }
+        ensures marked { (n : ℕ) → lists (marked_in seats.now self.new) n ≡ (lists (marked_in seats.now self.old) n && not (n == t.t.0)) }
+        ensures unmarked { lists (marked_in seats.now self.old) t.t.0 ≡ false → self.new.marked ≡ self.old.marked }
     {
-        let Some(seat) = self.seats.seat_of(t) else {
-            return;
-        };
+        seats.laws();
         self.links.laws();
-        self.links.clear(Side::Row, seat);
+        self.links.clear(Side::Row, t.at);
         self.links.laws();
-        self.links.clear(Side::Column, seat);
+        self.links.clear(Side::Column, t.at);
         self.links.laws();
-        self.marked.forget(seat);
-        self.seats.leave(seat);
+        self.marked.forget(t.at);
     }
 
-    /// Says what holds of all dependencies, for proofs. It does nothing.
+    /// Says what holds of the marks of all tables, for proofs. It does nothing.
     pub fn laws(&self)
-        ensures enrolled { (k : Kind) (u v : ℕ) → has_arrow (arrows_of k self.now.dependencies) u v ≡ true → (lists self.now.names u ≡ true) × (lists self.now.names v ≡ true) }
-        ensures marked { (n : ℕ) → lists self.now.marked n ≡ true → lists self.now.names n ≡ true }
-        ensures once { IsDistinct nat_eq self.now.marked }
-        ensures different { IsDistinct same_dependency self.now.dependencies }
+        ensures { IsDistinct nat_eq self.now.marked.nodes }
     {
-        self.seats.laws();
         self.marked.laws();
     }
 }
