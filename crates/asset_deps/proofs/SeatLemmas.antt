@@ -1,12 +1,11 @@
 -- Who is enrolled and who is marked, by the seats.
-use Rattle.std.proofs.Common.{◌≡◌, ℕ, zero, suc, ◌<◌, ◌≤◌, Bool, true, false, cond, eqb, not, ◌&&◌, ◌||◌, List, [], ◌∷◌, ◌++◌, map, length, get_or, filter_map, Option, Some, None, is_some, refl, sym, ap, subst, ◌∙◌, arith, inl, inr}
+use Rattle.std.proofs.Common.{◌≡◌, ℕ, zero, suc, Bool, true, false, cond, eqb, not, ◌&&◌, ◌||◌, List, [], ◌∷◌, ◌++◌, map, get_or, filter_map, Option, Some, None, is_some, refl, sym, ap, subst, ◌∙◌, inl, inr}
 use Rattle.std.specs.Prelude.{unwrap_or, option_map, slice_get, IfNone, IfSome, IsSome}
 use Rattle.std.specs.List.{IsDistinct}
 use Rattle.std.proofs.lemmas.Bool.{or_cases, or_left, or_right, and_from, and_parts, eqb-true, eqb-false, eq-eqb, ne_eqb, true≢false, false≢true}
 use Rattle.asset_names.specs.declared.names.Txn.{Txn}
 use Rattle.asset_names.specs.Arrows.{lists}
 use Rattle.asset_names.proofs.Common.{eqb-flip, some_of, one_txn, both_follow}
-use Rattle.asset_names.proofs.ListLemmas.{lists_at}
 use Rattle.asset_chains.specs.Chained.{lists as lists_key}
 use Rattle.asset_chains.proofs.Walks.{distinct_map}
 use Rattle.asset_seats.specs.Seated.{Seated, seat}

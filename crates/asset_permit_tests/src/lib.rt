@@ -12,7 +12,11 @@ mod names;
 #[cfg(test)]
 mod permits;
 #[cfg(test)]
+mod seated_deps;
+#[cfg(test)]
 mod seated_permits;
+#[cfg(test)]
+mod sitting;
 #[cfg(test)]
 mod sizes;
 #[cfg(test)]

@@ -1,12 +1,11 @@
 //! Permits by seat: worked values, and hundreds of permits of one giver and for one taker.
 
-ghost use Rattle.std.specs.Prelude.{IfSome};
-ghost use Rattle.asset_seats.specs.Seated.{HasSeat};
 ghost use Rattle.asset_permits.specs.Valid.{IsTied};
 
+use crate::sitting::sitter;
 use asset_names::{NoMemory, Ob, ObSet, Op, Ops, Txn};
 use asset_permits::SeatedPermits;
-use asset_seats::{Seats, Sitter};
+use asset_seats::Seats;
 use asset_test_tools::{END, FIRST, ONE, Side, listed, pair};
 use std::alloc::Global;
 use std::marker::Model;
@@ -14,8 +13,7 @@ use std::marker::Model;
 /// One of them, in the middle.
 const MIDDLE: u64 = 1_100;
 
-/// Returns the seat of a transaction, which is given one, with room for its permits, if it has none. If memory runs out,
-/// the calls are made again.
+/// Gives a transaction a seat, with room for its permits, if it has none. If memory runs out, nobody sits down.
 fn enter(seats: &mut Seats, permits: &mut SeatedPermits, t: Txn) -> Result<(), NoMemory>
     requires { IsTied permits.old seats.old }
     ensures { IsTied permits.new seats.new }
@@ -28,14 +26,6 @@ fn enter(seats: &mut Seats, permits: &mut SeatedPermits, t: Txn) -> Result<(), N
     permits.make_room(vacant)?;
     seats.sit(t);
     Ok(())
-}
-
-/// Returns a transaction with its seat, if it has one.
-fn sitter(seats: &Seats, t: u64) -> Option<Sitter>
-    ensures { IfSome result (λ s. HasSeat seats.now s) }
-{
-    let at = seats.seat_of(Txn(t))?;
-    Some(Sitter { t: Txn(t), at })
 }
 
 /// Permits by seat, beside the seats to which they are tied.

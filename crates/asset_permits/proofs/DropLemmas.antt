@@ -1,6 +1,6 @@
 -- Permits go, and perhaps the seats of their ends.
 use Rattle.std.proofs.Common.{◌≡◌, ℕ, Bool, true, false, cond, eqb, not, ◌&&◌, List, Option, Some, None, is_some, refl, sym, ap, ◌∙◌, arith, inl, inr}
-use Rattle.std.proofs.lemmas.Bool.{eqb-true, eqb-false, cases_eq, true≢false}
+use Rattle.std.proofs.lemmas.Bool.{eqb-true, eqb-false, ne_eqb, cases_eq, true≢false}
 use Rattle.slab.specs.Slab.{get, Updates}
 use Rattle.asset_names.specs.declared.names.Txn.{Txn}
 use Rattle.asset_names.proofs.Common.{some_of}
@@ -69,6 +69,28 @@ module _ (side : Side) (s : ℕ) (old new : Crossed Descriptor) (crossed : IsCro
     go : (b : Bool) → lists (chain_of (lines side old) s) k ≡ b → cond b None (get old.items k) ≡ get old.items k
     go true e = absurd (apart ((crossed.sound side).at_home s k e))
     go false e = refl
+
+-- as both are cleared
+pub cleared_both : (old mid new : Crossed Descriptor) (s : ℕ) → IsCrossed old → IsCrossed mid → Loses (chain_of old.rows s) old mid → Loses (chain_of mid.columns s) mid new → (side : Side) (k : ℕ) → home_of (lines side new) k ≡ Some s → ⊥
+cleared_both old mid new s crossed crossed_mid first second Row k home = cleared_gone Row s old mid crossed first k ((cleared_shrinks _ mid new second).homes Row k s home)
+cleared_both old mid new s crossed crossed_mid first second Column k home = cleared_gone Column s mid new crossed_mid second k home
+
+-- one whose row and column are empty leaves its seat
+pub valid_without : (permits : Crossed Descriptor) (seats left : Seated) (size s : ℕ) → IsValid (parts_of permits seats) size → ((side : Side) (k : ℕ) → home_of (lines side permits) k ≡ Some s → ⊥) → ((c : ℕ) → seat left c ≡ cond (eqb c s) None (seat seats c))
+    → IsValid (parts_of permits left) size
+valid_without permits seats left size s valid gone leaves = record {
+  seated = record { along = valid.seated.along; across = valid.seated.across };
+  given = λ k c d there home. sits c (λ is. gone Row k (home ∙ ap Some is)) ∙ valid.given k c d there home;
+  taken = λ k c d there home. sits c (λ is. gone Column k (home ∙ ap Some is)) ∙ valid.taken k c d there home;
+  single = valid.single;
+  within = λ c some. valid.within c (still (eqb c s) (seat seats c) (sym (ap is_some (leaves c)) ∙ some));
+} where
+  sits : (c : ℕ) → (c ≡ s → ⊥) → seat left c ≡ seat seats c
+  sits c apart = leaves c ∙ ap (λ (b : Bool). cond b None (seat seats c)) (ne_eqb c s apart)
+
+  still : (b : Bool) (o : Option Txn) → is_some (cond b None o) ≡ true → is_some o ≡ true
+  still true o h = absurd (true≢false (sym h))
+  still false o h = h
 
 -- ---- seats are left
 -- two leave their seats, each unless it is used

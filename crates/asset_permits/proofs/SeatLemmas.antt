@@ -1,6 +1,6 @@
 -- Who has a seat, and which chains are used.
-use Rattle.std.proofs.Common.{◌≡◌, ℕ, ◌<◌, ◌≤◌, Bool, true, false, cond, eqb, not, ◌&&◌, ◌||◌, length, Option, Some, None, is_some, refl, sym, ap, ◌∙◌, arith, ◌⊎◌, inl, inr}
-use Rattle.std.proofs.lemmas.Bool.{or_cases, or_left, eqb-true, eqb-false, eq-eqb, ne_eqb, true≢false, cases_eq}
+use Rattle.std.proofs.Common.{◌≡◌, ℕ, Bool, true, false, cond, eqb, not, ◌&&◌, ◌||◌, Option, Some, None, is_some, refl, sym, ap, ◌∙◌, ◌⊎◌, inl, inr}
+use Rattle.std.proofs.lemmas.Bool.{or_cases, or_left, eqb-true, eqb-false, eq-eqb, ne_eqb, cases_eq}
 use Rattle.slab.specs.Slab.{get}
 use Rattle.asset_names.specs.declared.names.Txn.{Txn}
 use Rattle.asset_names.proofs.Common.{some_of}
@@ -9,8 +9,8 @@ use Rattle.asset_chains.proofs.KeyLemmas.{first_listed as first_is_listed, first
 use Rattle.asset_seats.specs.Seated.{Seated, seat}
 use Rattle.asset_permits.specs.Descriptors.{Descriptor}
 use Rattle.asset_chains.specs.declared.side.Side.TheVariants.{Row, Column}
-use Rattle.asset_chains.specs.Crossed.{Crossed, IsGrown, IsCrossed}
-use Rattle.asset_permits.specs.Valid.{Parts, parts_of, is_used, IsUsed, IsSeated, IsWithin}
+use Rattle.asset_chains.specs.Crossed.{Crossed, IsCrossed}
+use Rattle.asset_permits.specs.Valid.{Parts, parts_of, is_used, IsUsed, IsSeated}
 use Rattle.asset_permits.specs.Changes.{Sits}
 
 -- ---- which chains are used

@@ -1,10 +1,10 @@
 -- What a call makes of the table of permits.
-use Rattle.std.proofs.Common.{◌≡◌, ℕ, ◌<◌, ◌≤◌, Bool, true, false, List, [], ◌∷◌, ◌||◌, ◌&&◌, eqb, ◌⊎◌, filter_map, Option, Some, None, IfSome, IfNone, is_some, refl, sym, ap, subst, ◌∙◌, arith, inl, inr}
+use Rattle.std.proofs.Common.{◌≡◌, ℕ, ◌<◌, ◌≤◌, Bool, true, false, List, [], ◌∷◌, ◌||◌, ◌&&◌, eqb, ◌⊎◌, filter_map, Option, Some, None, IfSome, IfNone, is_some, sym, ap, subst, ◌∙◌, arith, inl, inr}
 use Rattle.std.specs.Prelude.{slice_index_or, flat_map}
 use Rattle.std.proofs.lemmas.Bool.{eqb-false, eqb-true, eq-eqb, ne_eqb, true≢false, false_from_ne_true, cases_eq, and_from, and_parts, or_left, or_right, or_cases}
 use Rattle.slab.specs.Slab.{Slab, get, Updates}
 use Rattle.asset_names.specs.declared.names.Txn.{Txn}
-use Rattle.asset_chains.specs.Chained.{chain_of, home_of, first_of, IsSound}
+use Rattle.asset_chains.specs.Chained.{chain_of, home_of, first_of}
 use Rattle.asset_chains.specs.declared.side.Side.TheVariants.{Row, Column}
 use Rattle.asset_chains.specs.Crossed.{Crossed, IsGrown, Joins, Loses, IsCrossed}
 use Rattle.asset_chains.proofs.SoundLemmas.{no_chain_of}

@@ -184,11 +184,13 @@ impl SeatedPermits {
         }
     }
 
-    /// Drops the permits that `t` has given, and those that were given to it. It looks at no others.
+    /// Drops the permits that `t` has given, and those that were given to it, so that it may leave its seat. It looks at no
+    /// others.
     pub fn drop_all(&mut self, seats: &Seats, t: Sitter)
         requires tied { IsTied self.old seats.now }
         requires sits { HasSeat seats.now t }
         ensures tied { IsTied self.new seats.now }
+        ensures leaves { (left : Seated) → ((c : ℕ) → seat left c ≡ cond (c == t.at) None (seat seats.now c)) → IsTied self.new left }
         ensures stands { (e : Descriptor) → stands (permits_in self.new) e ≡ (stands (permits_in self.old) e && not (e.giver == t.t.0) && not (e.taker == t.t.0)) }
         ensures covers { (u v x : ℕ) (op : Op) → one_covers (permits_in self.new) u v x op ≡ (one_covers (permits_in self.old) u v x op && not (u == t.t.0) && not (v == t.t.0)) }
     {

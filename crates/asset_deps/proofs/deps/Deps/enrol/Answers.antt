@@ -1,4 +1,4 @@
-use Rattle.std.proofs.Common.{◌≡◌, ◌||◌, eqb, refl, sym, ap, ◌∙◌, arith}
+use Rattle.std.proofs.Common.{◌||◌, eqb, refl, sym, ap, ◌∙◌, arith}
 use Rattle.asset_names.specs.Arrows.{lists}
 use Rattle.asset_names.proofs.Common.{always_err}
 use Rattle.asset_deps.specs.Dependencies.{DepTable}

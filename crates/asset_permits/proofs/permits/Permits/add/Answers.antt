@@ -1,4 +1,4 @@
-use Rattle.std.proofs.Common.{◌≡◌, true, cond, eqb, not, ◌&&◌, Option, None, Ok, Err, IsOk, ap, ◌∙◌, rules}
+use Rattle.std.proofs.Common.{◌≡◌, cond, eqb, not, ◌&&◌, Option, None, Ok, Err, IsOk, ap, ◌∙◌, rules}
 use Rattle.std.specs.Prelude.{Result}
 use Rattle.std.proofs.lemmas.Bool.{false≢true}
 use Rattle.asset_names.specs.declared.names.Txn.{Txn}

@@ -1,4 +1,4 @@
-use Rattle.std.proofs.Common.{sym, ap, ◌∙◌, take, get_or, arith}
+use Rattle.std.proofs.Common.{ap, take, get_or, arith}
 use Rattle.std.proofs.lemmas.List.{take_more}
 use Rattle.asset_names.specs.declared.names.Ob.{Ob}
 use Rattle.std.specs.List.{list_any}
