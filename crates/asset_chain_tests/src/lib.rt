@@ -1,10 +1,14 @@
-//! The tests of what stands on chains alone: seats, records and objects. They call what is public.
+//! The tests of names and statuses, and of what stands on chains alone: seats, records and objects. They call what is public.
 #![tactic(auto)]
 
 #[cfg(test)]
 mod handing_writes;
 #[cfg(test)]
+mod many_live;
+#[cfg(test)]
 mod many_writes;
+#[cfg(test)]
+mod names;
 #[cfg(test)]
 mod objects;
 #[cfg(test)]
@@ -13,3 +17,5 @@ mod objects_beside_list;
 mod records;
 #[cfg(test)]
 mod seats;
+#[cfg(test)]
+mod trans;

@@ -1,4 +1,4 @@
-//! The tests of names, permits, dependencies and statuses, through their public calls.
+//! The tests of permits and dependencies, by name and by seat, through their public calls.
 #![tactic(auto)]
 
 #[cfg(test)]
@@ -7,8 +7,6 @@ mod copies;
 mod deps;
 #[cfg(test)]
 mod deps_beside_list;
-#[cfg(test)]
-mod names;
 #[cfg(test)]
 mod permits;
 #[cfg(test)]
@@ -19,5 +17,3 @@ mod seated_permits;
 mod sitting;
 #[cfg(test)]
 mod sizes;
-#[cfg(test)]
-mod trans;
