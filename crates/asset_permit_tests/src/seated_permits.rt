@@ -123,10 +123,11 @@ impl Table {
         }
     }
 
-    /// Drops the permits of one that has a seat.
+    /// Drops the permits of one that has a seat, which it leaves.
     fn drop_all(&mut self, t: u64) {
         if let Some(one) = sitter(&self.seats, t) {
             self.permits.drop_all(&self.seats, one);
+            self.seats.leave(one.at);
         }
     }
 }
