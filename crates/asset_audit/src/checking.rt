@@ -21,10 +21,7 @@ fn is_above(before: &[(usize, Step, Reply)], number: usize) -> bool
 fn is_entry(history: &History, call: &(usize, Step, Reply)) -> bool
     ensures { IsTrue result ↔ (slice_get (reverse history.now.entries) call.now.0 ≡ Some (call.now.1, call.now.2)) }
 {
-    match history.entry(call.0) {
-        Some((step, reply)) => step == call.1 && reply == call.2,
-        None => false,
-    }
+    history.records(call.0, &call.1, call.2)
 }
 
 /// Returns whether a call is good, after those before it in its list and the lists of the earlier sessions.

@@ -7,8 +7,24 @@ ghost use Rattle.asset_audit.specs.Apart.{IsSplit};
 use crate::calls::Calls;
 use asset_names::{Reply, Step};
 
-/// Returns how many calls have a lower number. They come first, and a binary search finds the last of them.
+/// Returns how many calls have a lower number. They come first. If the last call has a lower number, or the first has none,
+/// no other is looked at.
 pub(crate) fn count_below(calls: &[(usize, Step, Reply)], number: usize) -> usize
+    requires { Rises calls.now }
+    ensures { IsSplit calls.now number result }
+{
+    let count = calls.len();
+    if count == 0 || calls[count - 1].0 < number {
+        return count;
+    }
+    if number <= calls[0].0 {
+        return 0;
+    }
+    search_below(calls, number)
+}
+
+/// Returns how many calls have a lower number, by a binary search for the last of them.
+fn search_below(calls: &[(usize, Step, Reply)], number: usize) -> usize
     requires { Rises calls.now }
     ensures { IsSplit calls.now number result }
 {

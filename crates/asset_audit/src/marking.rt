@@ -8,11 +8,14 @@ use crate::calls::Calls;
 use crate::finding::count_below;
 use asset_names::{Reply, Step};
 
-/// How many numbers a window has, with a mark for each.
+/// How many numbers a window has, with a mark for each, if the history has no more entries.
 const WINDOW: usize = 65536;
 
+/// How many times as wide a window of a longer history is.
+const WIDTH: usize = 4;
+
 /// Returns how many of the first sessions have no number below `limit` in common. It does not allocate. It goes over the
-/// calls once, and makes a binary search in each session for each window.
+/// calls once, and looks where each window begins in each session.
 pub(crate) fn count_apart<C: Calls>(sessions: &[C], limit: usize) -> usize
     requires rise { AllRise (map C.listed sessions.now) }
     requires limit { limit < 2 ^ 63 }
@@ -20,25 +23,68 @@ pub(crate) fn count_apart<C: Calls>(sessions: &[C], limit: usize) -> usize
     ensures apart { AreApartBelow (map C.listed sessions.now) result limit }
     ensures next { result < length sessions.now → SharesEarlier (map C.listed sessions.now) result }
 {
+    if limit <= WINDOW {
+        count_apart_narrow(sessions, limit)
+    } else {
+        count_apart_wide(sessions, limit)
+    }
+}
+
+/// Does what `count_apart` does, by windows whose marks take 64 KiB of the stack.
+#[inline(never)]
+fn count_apart_narrow<C: Calls>(sessions: &[C], limit: usize) -> usize
+    requires rise { AllRise (map C.listed sessions.now) }
+    requires limit { limit < 2 ^ 63 }
+    ensures within { result ≤ length sessions.now }
+    ensures apart { AreApartBelow (map C.listed sessions.now) result limit }
+    ensures next { result < length sessions.now → SharesEarlier (map C.listed sessions.now) result }
+{
+    count_apart_by(sessions, limit, &mut [false; WINDOW])
+}
+
+/// Does what `count_apart` does, by wide windows, whose marks take 256 KiB of the stack.
+#[inline(never)]
+fn count_apart_wide<C: Calls>(sessions: &[C], limit: usize) -> usize
+    requires rise { AllRise (map C.listed sessions.now) }
+    requires limit { limit < 2 ^ 63 }
+    ensures within { result ≤ length sessions.now }
+    ensures apart { AreApartBelow (map C.listed sessions.now) result limit }
+    ensures next { result < length sessions.now → SharesEarlier (map C.listed sessions.now) result }
+{
+    let mut marks = [[false; WINDOW]; WIDTH];
+    count_apart_by(sessions, limit, marks.as_flattened_mut())
+}
+
+/// Does what `count_apart` does, by windows of as many numbers as there are marks.
+fn count_apart_by<C: Calls>(sessions: &[C], limit: usize, marks: &mut [bool]) -> usize
+    requires rise { AllRise (map C.listed sessions.now) }
+    requires limit { limit < 2 ^ 63 }
+    requires marks { 0 < length marks.old }
+    ensures within { result ≤ length sessions.now }
+    ensures apart { AreApartBelow (map C.listed sessions.now) result limit }
+    ensures next { result < length sessions.now → SharesEarlier (map C.listed sessions.now) result }
+{
     let mut apart = sessions.len();
     let mut first = 0;
     while first < limit {
-        apart = count_apart_from(&sessions[..apart], first);
-        first += WINDOW;
+        apart = count_apart_from(&sessions[..apart], first, marks);
+        first += marks.len();
     }
     apart
 }
 
-/// Returns how many of the first sessions have no number of the window from `first` on in common.
-fn count_apart_from<C: Calls>(sessions: &[C], first: usize) -> usize
+/// Returns how many of the first sessions have no number in common of the window from `first` on, which has as many numbers
+/// as there are marks.
+fn count_apart_from<C: Calls>(sessions: &[C], first: usize, marks: &mut [bool]) -> usize
     requires { AllRise (map C.listed sessions.now) }
     ensures within { result ≤ length sessions.now }
-    ensures apart { AreApartIn (map C.listed sessions.now) result first 65536 }
+    ensures marks { length marks.new ≡ length marks.old }
+    ensures apart { AreApartIn (map C.listed sessions.now) result first (length marks.old) }
     ensures next { result < length sessions.now → SharesEarlier (map C.listed sessions.now) result }
 {
-    let mut marks = [false; WINDOW];
+    marks.fill(false);
     for (place, session) in sessions.iter().enumerate() {
-        if !mark_calls(session.calls(), first, &mut marks) {
+        if !mark_calls(session.calls(), first, marks) {
             return place;
         }
     }

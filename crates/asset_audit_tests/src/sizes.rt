@@ -1,4 +1,4 @@
-//! The audit of histories that are longer than two windows of numbers, with ample memory. No call is made again, so one
+//! The audit of histories that are longer than a wide window of numbers, with ample memory. No call is made again, so one
 //! that runs out of memory fails its test.
 
 use crate::told::{Told, push_calls};
@@ -11,14 +11,14 @@ use std::alloc::{AllocError, Global};
 use std::test::Fail;
 
 /// How many entries there are, of which each session has as many.
-const ENTRIES: usize = 140_000;
+const ENTRIES: usize = 263_000;
 
 const SESSIONS: usize = 200;
 
 const EACH: usize = ENTRIES / SESSIONS;
 
 /// The first number of the second window.
-const SECOND: usize = 65_536;
+const SECOND: usize = 262_144;
 
 /// Returns a facility with a long history: each step begins another transaction that nobody initiated, and is refused.
 fn long(alloc: Global) -> Result<Core, OpenFault> {
@@ -95,22 +95,22 @@ fn many_sessions_agree(rt: HostRuntime) -> Result<(), Fail> {
     Ok(())
 }
 
-/// Session 136 was told the entry of session 135 before its own.
+/// Session 144 was told the entry of session 143 before its own.
 #[test]
 fn last_number_of_a_window_is_seen_twice(rt: HostRuntime) -> Result<(), Fail> {
     assert_eq!(rt;
         found_long(rt.alloc(), SECOND, SECOND - 1)?,
-        differs(136, SECOND - 1)
+        differs(144, SECOND - 1)
     );
     Ok(())
 }
 
-/// Session 135 was told the entry of session 136 after its own.
+/// Session 143 was told the entry of session 144 after its own.
 #[test]
 fn first_number_of_a_window_is_seen_twice(rt: HostRuntime) -> Result<(), Fail> {
     assert_eq!(rt;
         found_long(rt.alloc(), SECOND - 1, SECOND)?,
-        differs(136, SECOND)
+        differs(144, SECOND)
     );
     Ok(())
 }

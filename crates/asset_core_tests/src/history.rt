@@ -7,9 +7,9 @@ use crate::again::{ask, opened};
 use asset_core::Core;
 use asset_history::History;
 use asset_names::{
-    Fault, NoMemory, Ob, ObList, ObSet, Op, Ops, Outcome, Refusal, Reply, Step, Txn,
+    Fault, Kind, NoMemory, Ob, ObList, ObSet, Op, Ops, Outcome, Refusal, Reply, Step, Txn,
 };
-use asset_test_tools::{begin, commit, complete, initiate, write};
+use asset_test_tools::{abort, begin, commit, complete, initiate, read, wait, write};
 use std::test::Fail;
 
 /// Two objects.
@@ -164,6 +164,84 @@ fn entries_say_whom_they_act_on(rt: HostRuntime) -> Result<(), Fail> {
     let past = core.history().acted_on(STEPS as usize);
     drop(core);
     assert_eq!(rt; (other, past), (None, None));
+    Ok(())
+}
+
+/// Returns a step of each kind.
+fn each_kind(obs: &ObSet) -> [Step; 12] {
+    let (giver, taker) = (Txn(7), Txn(8));
+    [
+        initiate(7),
+        Step::Initiate {
+            t: taker,
+            parent: Some(giver),
+        },
+        begin(7),
+        read(7, 1),
+        write(7, 1, -1),
+        Step::Permit {
+            giver,
+            taker,
+            obs: *obs,
+            ops: Ops::only(Op::Write),
+        },
+        Step::Depend {
+            kind: Kind::Cd,
+            a: giver,
+            b: taker,
+        },
+        Step::Delegate {
+            giver,
+            taker,
+            obs: *obs,
+        },
+        complete(7),
+        commit(7),
+        wait(7),
+        abort(8),
+    ]
+}
+
+/// Returns the first of the steps of which the entry at the index, with this reply, says wrongly whether it records it.
+fn first_mistaken(
+    history: &History,
+    steps: &[Step],
+    index: usize,
+    reply: Reply,
+) -> Option<(usize, usize)> {
+    for (other, step) in steps.iter().enumerate() {
+        let cycle = Reply::Refused(Refusal::Cycle);
+        if history.records(index, step, reply) != (other == index)
+            || history.records(index, step, cycle)
+            || history.records(index.saturating_add(1), step, reply)
+        {
+            return Some((index, other));
+        }
+    }
+    None
+}
+
+/// Asks the steps, and returns the first entry that says wrongly which of them it records, with that step.
+fn first_mistaken_entry(core: &mut Core, steps: &[Step]) -> Option<(usize, usize)> {
+    for (index, step) in steps.iter().enumerate() {
+        let Ok(Outcome::Answer(reply)) = asked(core, step) else {
+            return Some((index, index));
+        };
+        let mistaken = first_mistaken(core.history(), steps, index, reply);
+        if mistaken != None {
+            return mistaken;
+        }
+    }
+    None
+}
+
+#[test]
+fn entries_record_their_steps_alone(rt: HostRuntime) -> Result<(), Fail> {
+    let obs = ObSet::Listed(ObList::of(&[Ob(1), Ob(2)])?);
+    let mut core = opened(rt.alloc(), &TWO, ROOM)?;
+    let mistaken = first_mistaken_entry(&mut core, &each_kind(&obs));
+    drop(core);
+    assert_eq!(rt; mistaken, None);
     Ok(())
 }
 

@@ -31,7 +31,7 @@ impl Model for History {
 }
 
 impl History {
-    ghost use Rattle.std.specs.Prelude.{◌≡◌, ◌<◌, ◌≤◌, ◌↔◌, ◌^◌, [], length, reverse, slice_get, IfOk, IsTrue};
+    ghost use Rattle.std.specs.Prelude.{◌≡◌, ◌<◌, ◌≤◌, ◌↔◌, ◌^◌, [], length, reverse, slice_get, IfOk, IsTrue, Some};
     ghost use Rattle.std.specs.Option.{option_map};
     ghost use Rattle.asset_history.specs.Acting.{both_of};
     ghost use Rattle.asset_names.specs.Sets.{HasNoDouble};
@@ -114,6 +114,18 @@ impl History {
         }
     }
 
+    /// Returns whether there is an entry at the index, oldest first from 0, and it is that of the step with the reply. An entry
+    /// of the same kind of step is not read back for that, if the step is of one transaction.
+    #[inline(always)]
+    pub fn records(&self, index: usize, step: &Step, reply: Reply) -> bool
+        ensures { IsTrue result ↔ (slice_get (reverse self.now.entries) index ≡ Some (step.now, reply)) }
+    {
+        match self.entries.as_slice().get(index) {
+            Some(stored) => stored.records(&self.sets, step, reply),
+            None => false,
+        }
+    }
+
     /// Returns the two transactions that the step of the entry at the index acts on, oldest first from 0, and `None` past
     /// the end. They are one if it acts on one. The step is not read back, so a set of objects costs nothing.
     #[inline(always)]
@@ -144,7 +156,7 @@ impl History {
         self.append_lent(&step, reply);
     }
 
-    /// Appends a lent step with its reply, as `append` does. What the entry keeps of the step is copied, and no more.
+    /// Appends a lent step with its reply, as `append` does. The step stays the caller's.
     #[inline(always)]
     pub fn append_lent(&mut self, step: &Step, reply: Reply)
         requires answer { answer_to self.old step.now ≡ Answer reply }

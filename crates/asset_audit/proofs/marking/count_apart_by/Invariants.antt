@@ -1,9 +1,10 @@
-use Rattle.std.proofs.Common.{◌-◌, ◌≤◌, ◌<◌, map, length}
+use Rattle.std.proofs.Common.{◌≡◌, ◌-◌, ◌≤◌, ◌<◌, map, length}
 use Rattle.asset_audit.specs.Apart.{AreApartBelow, SharesEarlier}
-use Rattle.asset_audit.proofs.marking.count_apart.Given as goal
+use Rattle.asset_audit.proofs.marking.count_apart_by.Given as goal
 
 abbrev pub invariant-loop-first : goal.invariant-loop-first
 invariant-loop-first g l = record {
+  width : length l.marks ≡ length l.fn.marks;
   within : l.apart ≤ length l.sessions;
   apart : AreApartBelow (map g.C.Calls.listed l.sessions) l.apart l.first;
   next : l.apart < length l.sessions → SharesEarlier (map g.C.Calls.listed l.sessions) l.apart;

@@ -1,6 +1,5 @@
 -- Equal entries are one.
-use Rattle.std.proofs.Common.{◌≡◌, Bool, true, rules, sym, ap, subst, eqb, List, [], ◌∷◌, length, take, replicate, ◌++◌, ◌-◌, ◌∙◌, refl, Some}
-use Rattle.std.specs.Prelude.{Option}
+use Rattle.std.proofs.Common.{◌≡◌, Bool, true, rules, sym, ap, subst, eqb, List, [], ◌∷◌, length, take, replicate, ◌++◌, ◌-◌, ◌∙◌, refl, None, Some}
 use Rattle.std.proofs.lemmas.Bool.{and_parts, eqb-true, false≢true}
 use Rattle.asset_names.specs.declared.names.Txn.{Txn}
 use Rattle.asset_names.specs.declared.names.Ob.{Ob}
@@ -44,13 +43,13 @@ same_list xs ys items count =
     sym (take_at xs (replicate (16 - length xs) no_object_name) (length xs) refl) ∙ ap (take (length xs)) (same_items ob.ghosts.eq same_object (filled xs) (filled ys) items)
     ∙ take_at ys (replicate (16 - length ys) no_object_name) (length xs) (sym (eqb-true _ _ count))
 
-pub same_set : (a b : ObSet) → obset.ghosts.eq a b ≡ true → a ≡ b
+same_set : (a b : ObSet) → obset.ghosts.eq a b ≡ true → a ≡ b
 unfolding filled
 same_set All b h = search rules
 same_set (Listed xs) All h = absurd (false≢true h)
 same_set (Listed xs) (Listed ys) h = let parts = and_parts (pointwise ob.ghosts.eq (filled xs) (filled ys)) (eqb (length xs) (length ys)) h in ap Listed (same_list xs ys parts.0 parts.1)
 
-pub same_refusal : (a b : Refusal) → refusal.ghosts.eq a b ≡ true → a ≡ b
+same_refusal : (a b : Refusal) → refusal.ghosts.eq a b ≡ true → a ≡ b
 same_refusal (Refusal'.Unknown t) b h = search rules
 same_refusal (Refusal'.Ended t) b h = search rules
 same_refusal (Refusal'.NotRunning t) b h = search rules
@@ -61,7 +60,7 @@ same_refusal Refusal'.Same b h = search rules
 same_refusal Refusal'.Cycle b h = search rules
 same_refusal (Refusal'.TooLate t) b h = search rules
 
-pub same_reply : (a b : Reply) → reply.ghosts.eq a b ≡ true → a ≡ b
+same_reply : (a b : Reply) → reply.ghosts.eq a b ≡ true → a ≡ b
 same_reply Reply'.Done b h = search rules
 same_reply (Reply'.Value v) b h = search rules
 same_reply Reply'.Committed b h = search rules
@@ -104,7 +103,7 @@ same_delegate giver taker obs (Commit t) h = absurd (false≢true h)
 same_delegate giver taker obs (Abort t) h = absurd (false≢true h)
 same_delegate giver taker obs (WaitFor t) h = absurd (false≢true h)
 
-pub same_step : (a b : Step) → step.ghosts.eq a b ≡ true → a ≡ b
+same_step : (a b : Step) → step.ghosts.eq a b ≡ true → a ≡ b
 same_step (Initiate t parent) b h = search rules
 same_step (Begin t) b h = search rules
 same_step (Read t x) b h = search rules
@@ -117,20 +116,23 @@ same_step (Commit t) b h = search rules
 same_step (Abort t) b h = search rules
 same_step (WaitFor t) b h = search rules
 
-pub step_itself : (a : Step) → step.ghosts.eq a a ≡ true
+step_itself : (a : Step) → step.ghosts.eq a a ≡ true
 step_itself a = step_laws.laws-law.refl a
 
-pub reply_itself : (a : Reply) → reply.ghosts.eq a a ≡ true
+reply_itself : (a : Reply) → reply.ghosts.eq a a ≡ true
 reply_itself a = reply_laws.laws-law.refl a
 
--- an entry that is found is a call's exactly if it is equal to it
-pub found_same : (found : Option (Step × Reply)) (s t : Step) (r q : Reply) → found ≡ Some (s, r) → step.ghosts.eq s t ≡ true → reply.ghosts.eq r q ≡ true → found ≡ Some (t, q)
-found_same found s t r q is steps replies = is ∙ (λ i. Some (same_step s t steps i, same_reply r q replies i))
+-- a step and a reply that are equal to others are those
+pub same_entry : (s t : Step) (r q : Reply) → step.ghosts.eq s t ≡ true → reply.ghosts.eq r q ≡ true → ◌≡◌ {A = Step × Reply} (s, r) (t, q)
+same_entry s t r q steps replies = λ i. (same_step s t steps i, same_reply r q replies i)
 
-some_inj : {X : Type 0} (a b : X) → Some a ≡ Some b → a ≡ b
-some_inj a b e = cc
+-- and a step and a reply that are others are equal to those
+pub equal_entry : (e : Step × Reply) (t : Step) (q : Reply) → e ≡ (t, q) → (step.ghosts.eq e.0 t ≡ true) × (reply.ghosts.eq e.1 q ≡ true)
+equal_entry e t q both =
+    (subst (λ (other : Step × Reply). step.ghosts.eq e.0 other.0 ≡ true) both (step_itself e.0), subst (λ (other : Step × Reply). reply.ghosts.eq e.1 other.1 ≡ true) both (reply_itself e.1))
 
-pub same_found : (found : Option (Step × Reply)) (s t : Step) (r q : Reply) → found ≡ Some (s, r) → found ≡ Some (t, q) → (step.ghosts.eq s t ≡ true) × (reply.ghosts.eq r q ≡ true)
-same_found found s t r q is other =
-    let both : (s, r) ≡ (t, q) = some_inj (s, r) (t, q) (sym is ∙ other) in
-    (subst (λ (e : Step × Reply). step.ghosts.eq s e.0 ≡ true) both (step_itself s), subst (λ (e : Step × Reply). reply.ghosts.eq r e.1 ≡ true) both (reply_itself r))
+pub some_is_one : (a b : Step × Reply) → Some a ≡ Some b → a ≡ b
+some_is_one a b both = cc
+
+pub none_is_no_entry : (a : Step × Reply) → ¬ (None ≡ Some a)
+none_is_no_entry a both = cc
