@@ -153,8 +153,7 @@ impl Core {
         self.step_lent(&step)
     }
 
-    /// Asks for one step that is lent, as `step` does. A step has room for 16 objects, and is not copied here: its entry
-    /// keeps what it says.
+    /// Asks for one step that is lent, as `step` does. The step stays the caller's, who may ask it again.
     #[inline(always)]
     pub fn step_lent(&mut self, step: &Step) -> Result<Outcome, Fault>
         ensures { IsStep self.old step.now result self.new }

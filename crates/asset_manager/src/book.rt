@@ -156,7 +156,7 @@ impl Book {
         self.serve_lent(session, &step)
     }
 
-    /// Asks for one step that is lent, as `serve` does. The list keeps a copy of it, and it is copied nowhere else.
+    /// Asks for one step that is lent, as `serve` does. The step stays the caller's, and the list keeps a copy of it.
     pub fn serve_lent(&mut self, session: &mut Session, step: &Step) -> Result<Outcome, Fault>
         ensures served { Serves self.old.facility session.old step.now result self.new.facility session.new }
         ensures valid { IsValid self.old × IsValid self.new }

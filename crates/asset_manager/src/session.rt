@@ -240,8 +240,8 @@ impl Session {
         self.call_lent(rt, manager, &step)
     }
 
-    /// Asks the manager for one step that is lent, as `call` does. The list keeps a copy of it, and it is copied nowhere
-    /// else.
+    /// Asks the manager for one step that is lent, as `call` does. The step stays the caller's, and the list keeps a copy
+    /// of it.
     pub fn call_lent<R: Wait>(
         &mut self,
         rt: &R,

@@ -31,6 +31,10 @@ use std::alloc::Global;
 use std::sync::{Arc, Wait};
 use std::thread::Threads;
 
+/// How many calls a job's session has room for when the job is initiated: its begin, its complete and its commit, and five
+/// operations.
+const FIRST_ROOM: usize = 8;
+
 /// Why a job was not initiated.
 #[derive(Clone, Copy, PartialEq, Eq, Debug)]
 pub enum Cause {
@@ -173,10 +177,10 @@ impl Plan {
         }
     }
 
-    /// Initiates a transaction for the body, with a session of its own that has room for its three entries. The body's
-    /// promise is that it may be called with any transaction of the plan's manager, and that the `Finished` that it then
-    /// answers is of that manager. If the transaction is refused, or the history has no room, or memory runs out, the
-    /// body comes back with the cause and the plan is as before.
+    /// Initiates a transaction for the body, with a session of its own that has room for the job's begin, complete and commit,
+    /// and for five operations. The body's promise is that it may be called with any transaction of the plan's manager, and that
+    /// the `Finished` that it then answers is of that manager. If the transaction is refused, or the history has no room, or memory
+    /// runs out, the body comes back with the cause and the plan is as before.
     pub fn initiate<R: Wait>(
         &mut self,
         rt: &R,
@@ -205,7 +209,7 @@ impl Plan {
             return Err(fault(body, Cause::NoMemory));
         }
         let mut session = self.session.split();
-        if session.reserve(3).is_err() {
+        if session.reserve(FIRST_ROOM).is_err() {
             self.session.join(session);
             return Err(fault(body, Cause::NoMemory));
         }

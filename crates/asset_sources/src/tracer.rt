@@ -94,7 +94,7 @@ impl Tracer {
         self.step_lent(&step)
     }
 
-    /// Asks for one step that is lent, as `step` does. The step is not copied.
+    /// Asks for one step that is lent, as `step` does. The step stays the caller's, who may ask it again.
     #[inline(always)]
     pub fn step_lent(&mut self, step: &Step) -> Result<Outcome, Fault>
         ensures { IsAnswered self.old step.now result self.new }
