@@ -5,3 +5,4 @@ pub mod LinkLemmas
 pub mod OutsideLemmas
 pub mod TableLemmas
 pub mod CycleLemmas
+pub mod AloneLemmas

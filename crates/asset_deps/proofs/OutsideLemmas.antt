@@ -10,7 +10,7 @@ use Rattle.asset_marks.specs.Marked.{Met}
 use Rattle.asset_marks.specs.Searched.{arrows_along}
 use Rattle.asset_deps.specs.declared.kinds.Kinds.TheVariants.{Class, Order}
 use Rattle.asset_deps.specs.Dependencies.{class_ways, order_ways, class_in, outside_source_in}
-use Rattle.asset_deps.specs.Reached.{of_kinds, seat_ways}
+use Rattle.asset_deps.specs.Reached.{of_kinds, depends_by, seat_ways}
 use Rattle.asset_deps.specs.Valid.{Parts, dependencies_of, IsValid}
 use Rattle.asset_deps.proofs.KindLemmas.{class_linked, by_order}
 use Rattle.asset_deps.proofs.NamedLemmas.{linked_named, leads_to_nobody, along_named, named_along, back_is}
@@ -41,18 +41,23 @@ module _ (p : Parts) (size : ℕ) (marked : Met) (valid : IsValid p size marked)
   unfolding outside_source_in has_outside
   enters_any = refl
 
-  -- ---- one who has no seat
-  pub no_outside : ((c : ℕ) → seat p.seats c ≡ Some t → ⊥) → outside_source_in (dependencies_of p.links) t.0 ≡ false
+  -- ---- one who is a class of its own, on no source
+  pub no_outside_alone : ((n : ℕ) → linked (class_ways (dependencies_of p.links)) t.0 n ≡ eqb t.0 n) → ((u v : ℕ) → depends_by Order (dependencies_of p.links) u v ≡ true → v ≡ t.0 → ⊥) → outside_source_in (dependencies_of p.links) t.0 ≡ false
   unfolding class_in
-  no_outside absent = go (outside_source_in (dependencies_of p.links) t.0) refl where
+  no_outside_alone alone none = go (outside_source_in (dependencies_of p.links) t.0) refl where
     go : (b : Bool) → outside_source_in (dependencies_of p.links) t.0 ≡ b → b ≡ false
     go true is =
         let found = arrow_of_any enters (order_ways (dependencies_of p.links)) (sym enters_any ∙ is) in
         let way = (and_parts (linked (class_ways (dependencies_of p.links)) t.0 found.1) (not (linked (class_ways (dependencies_of p.links)) t.0 found.0)) found.3).0 in
-        let same : eqb t.0 found.1 ≡ true = sym (leads_to_nobody p size marked valid Class t found.1 absent) ∙ class_linked (dependencies_of p.links) t.0 found.1 ∙ way in
-        let seats = named_along p size marked valid Order found.0 found.1 (by_order (dependencies_of p.links) found.0 found.1 ∙ found.2) in
-        absurd (absent seats.second (seats.to ∙ (λ i. Some (record { 0 = sym (eqb-true t.0 found.1 same) i }))))
+        let same : eqb t.0 found.1 ≡ true = sym (alone found.1) ∙ way in
+        absurd (none found.0 found.1 (by_order (dependencies_of p.links) found.0 found.1 ∙ found.2) (sym (eqb-true t.0 found.1 same)))
     go false is = refl
+
+  -- ---- one who has no seat
+  pub no_outside : ((c : ℕ) → seat p.seats c ≡ Some t → ⊥) → outside_source_in (dependencies_of p.links) t.0 ≡ false
+  unfolding class_in
+  no_outside absent = no_outside_alone (λ n. sym (class_linked (dependencies_of p.links) t.0 n) ∙ leads_to_nobody p size marked valid Class t n absent)
+      (λ u v on is. let seats = named_along p size marked valid Order u v on in absurd (absent seats.second (seats.to ∙ (λ i. Some (record { 0 = is i })))))
 
   -- ---- one who has a seat
   module _ (one : (u : Txn) (c d : ℕ) → seat p.seats c ≡ Some u → seat p.seats d ≡ Some u → d ≡ c) (s : ℕ) (sat : seat p.seats s ≡ Some t) (nodes : List ℕ)

@@ -1,6 +1,7 @@
 -- Dependencies between transactions, as callers see them: those that stand, the classes that group commits make of them,
 -- and whom an end takes with it.
-use Rattle.std.specs.Prelude.{ℕ, Bool, ◌==◌, ◌&&◌, List, ◌++◌, map, filter}
+use Rattle.std.specs.Prelude.{ℕ, Bool, ◌==◌, ◌&&◌, ◌||◌, List, ◌++◌, map, filter}
+use Rattle.std.specs.List.{list_any}
 use Rattle.asset_names.specs.declared.steps.Kind.{Kind}
 use Rattle.asset_names.specs.declared.steps.Kind.TheVariants.{Cd, Ad, Gc}
 use Rattle.asset_names.specs.Arrows.{Arrow, linked}
@@ -50,6 +51,10 @@ doomed_in dependencies a b = linked (doom_ways dependencies) a b
 -- whether a dependency of this kind of b on a would close a cycle of classes
 unfoldable pub would_cycle_in : List Dependency → Kind → ℕ → ℕ → Bool
 would_cycle_in dependencies kind a b = closes_cycle kind (class_ways dependencies) (order_ways dependencies) a b
+
+-- whether a dependency leads from t or to it
+unfoldable pub is_linked_in : List Dependency → ℕ → Bool
+is_linked_in dependencies t = list_any (λ (d : Dependency). d.source == t || d.dependent == t) dependencies
 
 -- whether a member of t's class depends on a source outside it, by a commit or an abort dependency
 unfoldable pub outside_source_in : List Dependency → ℕ → Bool

@@ -1,20 +1,21 @@
 //! What callers ask of the dependencies: classes, sources outside of them, and cycles.
 
+use crate::finding::is_loop;
 use crate::kinds::Kinds;
 use crate::outside::leads_outside;
 use crate::search::Search;
 use crate::table::SeatedDeps;
 use asset_chains::Side;
 use asset_marks::{Way, is_linked, spread};
-use asset_names::Kind;
+use asset_names::{Kind, Txn};
 use asset_seats::{Seats, Sitter};
 
 impl SeatedDeps {
-    ghost use Rattle.std.specs.Prelude.{◌≡◌, ◌==◌, false};
+    ghost use Rattle.std.specs.Prelude.{◌≡◌, ◌≢◌, ℕ, ◌==◌, ◌⊎◌, false, Some};
     ghost use Rattle.asset_names.specs.Arrows.{linked};
     ghost use Rattle.asset_names.specs.Paths.{leads};
-    ghost use Rattle.asset_seats.specs.Seated.{HasSeat};
-    ghost use Rattle.asset_deps.specs.Dependencies.{class_ways, order_ways, class_in, would_cycle_in, outside_source_in};
+    ghost use Rattle.asset_seats.specs.Seated.{seat, HasSeat};
+    ghost use Rattle.asset_deps.specs.Dependencies.{class_ways, order_ways, class_in, doomed_in, would_cycle_in, outside_source_in, is_linked_in};
     ghost use Rattle.asset_deps.specs.Reached.{ways_in};
     ghost use Rattle.asset_deps.specs.Valid.{dependencies_in, IsTied};
 
@@ -39,6 +40,32 @@ impl SeatedDeps {
             Kind::Cd => self.leads(seats, b, a),
             Kind::Ad => self.leads(seats, b, a),
         }
+    }
+
+    /// Returns what `would_cycle` says if one of the two has no seat: a dependency between them closes a cycle only if it is one of a
+    /// transaction on itself, by a commit or an abort. No dependency is looked at.
+    pub fn would_cycle_apart(&self, seats: &Seats, kind: Kind, a: Txn, b: Txn) -> bool
+        requires tied { IsTied self.now seats.now }
+        requires apart { ((c : ℕ) → seat seats.now c ≢ Some a) ⊎ ((c : ℕ) → seat seats.now c ≢ Some b) }
+        ensures { result ≡ would_cycle_in (dependencies_in self.now) kind a.0 b.0 }
+    {
+        is_loop(kind, a, b)
+    }
+
+    /// Returns whether a dependency leads from the transaction or to it. One that has none is a class of its own, and depends
+    /// on no source. Its row and its column are looked at, and no dependency.
+    pub fn is_linked(&self, seats: &Seats, t: Sitter) -> bool
+        requires tied { IsTied self.now seats.now }
+        requires sits { HasSeat seats.now t }
+        ensures linked { result ≡ is_linked_in (dependencies_in self.now) t.t.0 }
+        ensures alone { result ≡ false → (n : ℕ) → (class_in (dependencies_in self.now) t.t.0 n ≡ (t.t.0 == n)) × (doomed_in (dependencies_in self.now) t.t.0 n ≡ (t.t.0 == n)) }
+        ensures no_source { result ≡ false → outside_source_in (dependencies_in self.now) t.t.0 ≡ false }
+    {
+        seats.laws();
+        self.links.laws();
+        let row = self.links.first(Side::Row, t.at).is_some();
+        let column = self.links.first(Side::Column, t.at).is_some();
+        row | column
     }
 
     /// Returns whether the two are in one class. Nothing changes.

@@ -1,6 +1,6 @@
 //! The table of dependencies by name: who is enrolled, and its calls.
 
-use crate::finding::{is_loop, sitter_in};
+use crate::finding::sitter_in;
 use crate::table::SeatedDeps;
 use asset_names::{Kind, NoMemory, Txn};
 use asset_seats::{Seats, Sitter};
@@ -121,10 +121,10 @@ impl Deps {
         ensures same { self.new ≡ self.old }
     {
         let Some(from) = self.seats.seat_of(a) else {
-            return is_loop(kind, a, b);
+            return self.table.would_cycle_apart(&self.seats, kind, a, b);
         };
         let Some(to) = self.seats.seat_of(b) else {
-            return is_loop(kind, a, b);
+            return self.table.would_cycle_apart(&self.seats, kind, a, b);
         };
         let source = Sitter { t: a, at: from };
         let dependent = Sitter { t: b, at: to };
@@ -195,8 +195,7 @@ impl Deps {
     pub fn marked(&self, index: usize) -> Option<Txn>
         ensures { option_map (λ (t : Txn). t.0) result ≡ slice_get self.now.marked index }
     {
-        let seat = self.table.marked(index)?;
-        self.seats.name_at(seat)
+        self.table.marked_name(&self.seats, index)
     }
 
     /// Returns how many transactions are marked.
@@ -213,9 +212,8 @@ impl Deps {
         ensures names { self.new.names ≡ self.old.names }
         ensures dependencies { self.new.dependencies ≡ self.old.dependencies }
     {
-        self.seats.laws();
-        let seat = self.table.next_marked()?;
-        self.seats.name_at(seat)
+        let one = self.table.next_marked_sitter(&self.seats)?;
+        Some(one.t)
     }
 
     /// Says what holds of all dependencies, for proofs. It does nothing.

@@ -51,7 +51,7 @@ pub(crate) fn sitter_in(seats: &Seats, t: Txn) -> Sitter
     Sitter { t, at }
 }
 
-/// Returns whether a dependency between two of which one is not enrolled would close a cycle: it does so if it is one of a
+/// Returns whether a dependency between two of which one has no seat would close a cycle: it does so if it is one of a
 /// transaction on itself, by a commit or an abort.
 pub(crate) fn is_loop(kind: Kind, a: Txn, b: Txn) -> bool
     ensures group { kind ≡ Gc → result ≡ false }

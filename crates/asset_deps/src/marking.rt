@@ -5,10 +5,12 @@ use crate::search::Search;
 use crate::table::SeatedDeps;
 use asset_chains::Side;
 use asset_marks::spread;
+use asset_names::Txn;
 use asset_seats::{Seats, Sitter};
 
 impl SeatedDeps {
-    ghost use Rattle.std.specs.Prelude.{◌≡◌, ℕ, false, [], ◌∷◌, ◌++◌, length, slice_get, IfSome, IfNone};
+    ghost use Rattle.std.specs.Prelude.{◌≡◌, ℕ, false, [], ◌∷◌, ◌++◌, length, slice_get, option_map, IfSome, IfNone};
+    ghost use Rattle.asset_names.specs.declared.names.Txn.{Txn};
     ghost use Rattle.asset_names.specs.Arrows.{lists, linked};
     ghost use Rattle.asset_seats.specs.Seated.{Seated, HasSeat};
     ghost use Rattle.asset_deps.specs.Dependencies.{class_in, doomed_in};
@@ -80,6 +82,32 @@ impl SeatedDeps {
         ensures { result ≡ length self.now.marked.nodes }
     {
         self.marked.len()
+    }
+
+    /// Returns the marked transaction at the index, from 0. It returns `None` past the end.
+    pub fn marked_name(&self, seats: &Seats, index: usize) -> Option<Txn>
+        requires { IsTied self.now seats.now }
+        ensures { option_map (λ (t : Txn). t.0) result ≡ slice_get (marked_in seats.now self.now) index }
+    {
+        let seat = self.marked(index)?;
+        seats.name_at(seat)
+    }
+
+    /// Returns the transaction that is marked last, with its seat, if one is marked, and takes its mark from it.
+    pub fn next_marked_sitter(&mut self, seats: &Seats) -> Option<Sitter>
+        requires tied { IsTied self.old seats.now }
+        ensures tied { IsTied self.new seats.now }
+        ensures sits { IfSome result (λ one. HasSeat seats.now one) }
+        ensures last { IfSome result (λ one. (marked_in seats.now self.old ≡ marked_in seats.now self.new ++ one.t.0 ∷ []) × (lists (marked_in seats.now self.new) one.t.0 ≡ false)) }
+        ensures none { IfNone result ((marked_in seats.now self.old ≡ []) × (self.new ≡ self.old)) }
+        ensures dependencies { dependencies_in self.new ≡ dependencies_in self.old }
+    {
+        seats.laws();
+        let at = self.next_marked()?;
+        match seats.name_at(at) {
+            Some(t) => Some(Sitter { t, at }),
+            None => unreachable!(),
+        }
     }
 
     /// Returns the seat that is marked last, if one is marked, and takes its mark from it.
