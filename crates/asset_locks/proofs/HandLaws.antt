@@ -243,7 +243,7 @@ pub names_changed : (change : Enrolled → Enrolled) (table : LockTable) → ((w
 names_changed change [] keeps = refl
 names_changed change (who ∷ table) keeps = λ i. keeps who i ∷ names_changed change table keeps i
 
-found_changed : (change : Enrolled → Enrolled) (u : ℕ) (table : LockTable) → ((who : Enrolled) → (change who).name ≡ who.name)
+pub found_changed : (change : Enrolled → Enrolled) (u : ℕ) (table : LockTable) → ((who : Enrolled) → (change who).name ≡ who.name)
     → is_some (find (λ (who : Enrolled). eqb who.name u) (map change table)) ≡ is_some (find (λ (who : Enrolled). eqb who.name u) table)
 found_changed change u [] keeps = refl
 found_changed change u (who ∷ table) keeps = ap (λ (n : ℕ). is_some (cond (eqb n u) (Some (change who)) (find (λ (w : Enrolled). eqb w.name u) (map change table)))) (keeps who) ∙ go (eqb who.name u) (found_changed change u table keeps) where

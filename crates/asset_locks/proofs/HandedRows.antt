@@ -3,12 +3,12 @@ use Rattle.std.proofs.Common.{◌≡◌, ℕ, Bool, true, false, eqb, cond, List
 use Rattle.std.proofs.lemmas.Bool.{eqb-true, eqb-false, cases_Bool}
 use Rattle.asset_names.specs.declared.names.Txn.{Txn}
 use Rattle.asset_names.specs.declared.sets.ObSet.{ObSet}
-use Rattle.asset_chains.specs.Chained.{Chained, chain_of, lists, IsSound}
+use Rattle.asset_chains.specs.Chained.{Chained, chain_of, home_of, lists, IsSound}
 use Rattle.asset_seats.specs.Seated.{Seated, seat}
 use Rattle.asset_locks.specs.declared.lock.Lock.{Lock}
 use Rattle.asset_locks.specs.LockTable.{LockTable, PendingRequest, moved, left, with_moved, handed_row, hand_over_in, locks_of}
 use Rattle.asset_locks.specs.Stored.{Stored, locks_at, name_or_zero, pending_at, row_at, rows_of, AreSeated}
-use Rattle.asset_locks.proofs.TableLemmas.{locks_of_seat, other_name, own_name, rows_change}
+use Rattle.asset_locks.proofs.TableLemmas.{locks_of_enrolled, other_name, own_name, rows_change}
 
 -- nothing changes if both are one
 pub hands_to_itself : (giver taker : ℕ) (set : ObSet) (table : LockTable) → eqb giver taker ≡ true → table ≡ hand_over_in giver taker set table
@@ -23,7 +23,7 @@ two_seats seats c d t u here there apart same =
     eqb-false t.0 u.0 apart (ap (λ (n : Txn). n.0) is)
 
 module _ (seats : Seated) (pending : List PendingRequest) (order : Chained) (store new : Stored) (seated : AreSeated seats pending order store) (sound : IsSound order) (set : ObSet)
-    (from to : ℕ) (giver taker : Txn) (gives : seat seats from ≡ Some giver) (takes : seat seats to ≡ Some taker) (differ : eqb giver.0 taker.0 ≡ false)
+    (from to : ℕ) (giver taker : Txn) (gives : seat seats from ≡ Some giver) (home : home_of order from ≡ Some 0) (takes : seat seats to ≡ Some taker) (differ : eqb giver.0 taker.0 ≡ false)
     (kept : locks_at new from ≡ left set (locks_at store from)) (came : locks_at new to ≡ with_moved (filter (moved set) (locks_at store from)) (locks_at store to))
     (others : (d : ℕ) → (d ≡ from → ⊥) → (d ≡ to → ⊥) → locks_at new d ≡ locks_at store d) where
   handed_at : (d : ℕ) → lists (chain_of order 0) d ≡ true → row_at seats pending new d ≡ handed_row giver.0 taker.0 set (filter (moved set) (locks_at store from)) (row_at seats pending store d)
@@ -63,5 +63,5 @@ module _ (seats : Seated) (pending : List PendingRequest) (order : Chained) (sto
   unfolding hand_over_in
   hands_over =
       rows_change seats pending pending order store new (handed_row giver.0 taker.0 set (filter (moved set) (locks_at store from))) handed_at
-      ∙ ap (λ (l : List Lock). map (handed_row giver.0 taker.0 set (filter (moved set) l)) (rows_of seats pending order store)) (sym (locks_of_seat seats pending order store seated sound from giver gives))
+      ∙ ap (λ (l : List Lock). map (handed_row giver.0 taker.0 set (filter (moved set) l)) (rows_of seats pending order store)) (sym (locks_of_enrolled seats pending order store seated sound from giver gives home))
       ∙ sym (ap (λ (b : Bool). cond b (rows_of seats pending order store) (map (handed_row giver.0 taker.0 set (filter (moved set) (locks_of (rows_of seats pending order store) giver.0))) (rows_of seats pending order store))) differ)

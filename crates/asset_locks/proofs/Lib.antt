@@ -12,5 +12,7 @@ pub mod OneLemmas
 pub mod BlockLemmas
 pub mod LookLemmas
 pub mod TableLemmas
+pub mod SeatLemmas
 pub mod HandedRows
 pub mod HandLaws
+pub mod EnrolledLemmas

@@ -2,23 +2,24 @@
 use Rattle.std.proofs.Common.{◌≡◌, ℕ, ◌<◌, ◌-◌, ◌≤◌, Bool, true, false, eqb, not, cond, ◌&&◌, List, [], ◌∷◌, ◌++◌, map, filter, length, get_or, set, Option, Some, None, is_some, ◌⊎◌, refl, sym, ap, subst, ◌∙◌, inl, inr, arith}
 use Rattle.std.specs.Prelude.{find, flat_map, slice_get, Result, Ok, Err, OnOk}
 use Rattle.std.specs.List.{list_any, IsDistinct}
-use Rattle.std.proofs.lemmas.Bool.{eqb-true, eqb-false, eq-eqb, ne_eqb, true≢false, cases_Bool, or_left, or_right, or_parts}
+use Rattle.std.proofs.lemmas.Bool.{eqb-true, eqb-false, eq-eqb, ne_eqb, true≢false, cases_Bool, or_left, or_right, or_parts, false_from_ne_true}
 use Rattle.std.proofs.lemmas.List.{map-append, get_or-set_same, get_or-set_other, length-set}
 use Rattle.asset_names.specs.declared.names.Txn.{Txn}
 use Rattle.asset_names.specs.declared.names.Ob.{Ob}
 use Rattle.asset_names.specs.declared.operations.Op.{Op}
 use Rattle.asset_names.specs.OpSets.{OpSet}
-use Rattle.asset_names.proofs.Common.{one_txn, some_is_not_none}
-use Rattle.asset_chains.specs.Chained.{Chained, chain_of, home_of, lists, without, IsSound}
-use Rattle.asset_chains.proofs.Laws.{IsPushed, read_more}
+use Rattle.asset_names.proofs.Common.{one_txn, some_of, some_is_not_none}
+use Rattle.asset_chains.specs.Chained.{Chained, chain_of, home_of, lists, without, unlinked, IsSound}
+use Rattle.asset_chains.proofs.Laws.{IsPushed, read_more, unlinks, unlinks_nothing}
 use Rattle.asset_chains.proofs.SoundLemmas.{no_home_of, no_chain_of}
-use Rattle.asset_chains.proofs.KeyLemmas.{distinct_none}
-use Rattle.asset_chains.proofs.Walks.{map_same, find_key, find_none, find_found, any_from, any_none, distinct_map}
+use Rattle.asset_chains.proofs.KeyLemmas.{distinct_none, without_unlisted}
+use Rattle.asset_chains.proofs.Walks.{homes_without, map_same, find_key, find_none, find_found, any_from, any_none, distinct_map}
 use Rattle.asset_seats.specs.Seated.{Seated, seat}
 use Rattle.asset_locks.specs.declared.lock.Lock.{Lock}
 use Rattle.asset_locks.specs.LockTable.{Enrolled, LockTable, PendingRequest, is_on, names_in, enrolled_in, locks_or_none, locks_of, lock_in, held_in, both_conflict, blocks, is_free_in, enrol_in, release_in, waiting_row, wait_in, ops_with, granted_own, suspended, granted_row, grant_in, waiting_at, waiters_in}
 use Rattle.asset_locks.specs.Valid.{IsValid, is_some_op}
-use Rattle.asset_locks.specs.Stored.{Stored, lock_at, locks_at, name_or_zero, pending_at, row_at, rows_of, enrolled_chain, AreSeated, IsStored, IsGrown, IsRoomMade}
+use Rattle.asset_locks.specs.Stored.{Stored, lock_at, locks_at, name_or_zero, pending_at, row_at, rows_of, AreSeated, IsStored, IsGrown, IsRoomMade}
+use Rattle.asset_locks.specs.Tied.{LockParts, IsTied}
 use Rattle.asset_locks.proofs.GrantLemmas.{grown_same}
 use Rattle.asset_locks.proofs.WalkLemmas.{get_first, get_later}
 use Rattle.asset_locks.proofs.LockLemmas.{on_to}
@@ -74,18 +75,16 @@ module _ (seats : Seated) (pending : List PendingRequest) (order : Chained) (sto
   row : ℕ → Enrolled
   row = row_at seats pending store
 
-  -- who has a seat is in the chain of enrolment
-  pub listed_at : (c : ℕ) (t : Txn) → seat seats c ≡ Some t → lists (chain_of order 0) c ≡ true
-  unfolding enrolled_chain
-  listed_at c t sits = sound.listed 0 c (seated.ordered c ∙ ap enrolled_chain sits)
-
-  -- and nobody else
+  -- who is in the chain of enrolment has a seat
   pub sits_at : (c : ℕ) → lists (chain_of order 0) c ≡ true → (t : Txn) × (seat seats c ≡ Some t)
-  unfolding enrolled_chain
-  sits_at c there = go (seat seats c) refl where
-    go : (o : Option Txn) → seat seats c ≡ o → (t : Txn) × (seat seats c ≡ Some t)
-    go None e = absurd (some_is_not_none 0 (sym (sound.at_home 0 c there) ∙ seated.ordered c ∙ ap enrolled_chain e))
-    go (Some t) e = (t, e)
+  sits_at c there = some_of (seat seats c) (seated.enrolled c 0 (sound.at_home 0 c there)).1
+
+  -- a seat is in the chain of enrolment or in none
+  pub enrolled_or_not : (c : ℕ) → (home_of order c ≡ Some 0) ⊎ (home_of order c ≡ None)
+  enrolled_or_not c = go (home_of order c) refl where
+    go : (o : Option ℕ) → home_of order c ≡ o → (home_of order c ≡ Some 0) ⊎ (home_of order c ≡ None)
+    go None e = inr e
+    go (Some d) e = inl (e ∙ ap Some (seated.enrolled c d e).0)
 
   pub row_name : (c : ℕ) (t : Txn) → seat seats c ≡ Some t → (row_at seats pending store c).name ≡ t.0
   unfolding row_at name_or_zero
@@ -103,20 +102,31 @@ module _ (seats : Seated) (pending : List PendingRequest) (order : Chained) (sto
   pub own_name : (c : ℕ) (t : Txn) → seat seats c ≡ Some t → eqb (row_at seats pending store c).name t.0 ≡ true
   own_name c t sits = eq-eqb _ _ (row_name c t sits)
 
-  -- the row of one who has a seat
-  pub enrolled_at : (c : ℕ) (t : Txn) → seat seats c ≡ Some t → enrolled_in (rows_of seats pending order store) t.0 ≡ Some (row_at seats pending store c)
+  -- the row of one who is enrolled
+  pub enrolled_at : (c : ℕ) (t : Txn) → seat seats c ≡ Some t → home_of order c ≡ Some 0 → enrolled_in (rows_of seats pending order store) t.0 ≡ Some (row_at seats pending store c)
   unfolding enrolled_in rows_of
-  enrolled_at c t sits = find_key (λ (who : Enrolled). eqb who.name t.0) (row_at seats pending store) (chain_of order 0) c (listed_at c t sits) (own_name c t sits) (λ d there name. named_seat c d t sits there (eqb-true _ _ name))
+  enrolled_at c t sits home = find_key (λ (who : Enrolled). eqb who.name t.0) (row_at seats pending store) (chain_of order 0) c (sound.listed 0 c home) (own_name c t sits) (λ d there name. named_seat c d t sits there (eqb-true _ _ name))
 
-  -- one who has none is not enrolled
-  pub absent_name : (t : Txn) → ((c : ℕ) → seat seats c ≡ Some t → ⊥) → (d : ℕ) → lists (chain_of order 0) d ≡ true → eqb (row_at seats pending store d).name t.0 ≡ false
+  -- one who is in no seat of the chain is not enrolled
+  pub absent_name : (t : Txn) → ((c : ℕ) → home_of order c ≡ Some 0 → seat seats c ≡ Some t → ⊥) → (d : ℕ) → lists (chain_of order 0) d ≡ true → eqb (row_at seats pending store d).name t.0 ≡ false
   absent_name t absent d there =
       let other = sits_at d there in
-      ne_eqb _ _ (λ name. absent d (other.1 ∙ ap Some (one_txn other.0 t (sym (row_name d other.0 other.1) ∙ name))))
+      ne_eqb _ _ (λ name. absent d (sound.at_home 0 d there) (other.1 ∙ ap Some (one_txn other.0 t (sym (row_name d other.0 other.1) ∙ name))))
 
-  pub not_enrolled : (t : Txn) → ((c : ℕ) → seat seats c ≡ Some t → ⊥) → enrolled_in (rows_of seats pending order store) t.0 ≡ None
+  pub not_enrolled : (t : Txn) → ((c : ℕ) → home_of order c ≡ Some 0 → seat seats c ≡ Some t → ⊥) → enrolled_in (rows_of seats pending order store) t.0 ≡ None
   unfolding enrolled_in rows_of
   not_enrolled t absent = find_none (λ (who : Enrolled). eqb who.name t.0) (row_at seats pending store) (chain_of order 0) (absent_name t absent)
+
+  -- one whose seat is in no chain is in no seat of the chain
+  pub not_in_order : (c : ℕ) (t : Txn) → seat seats c ≡ Some t → home_of order c ≡ None → (d : ℕ) → home_of order d ≡ Some 0 → seat seats d ≡ Some t → ⊥
+  not_in_order c t sits out d home there = some_is_not_none 0 (sym home ∙ ap (home_of order) (seated.single d c t there sits) ∙ out)
+
+  -- whether the row of one who has a seat is there says whether the seat is in the chain
+  pub home_if_enrolled : (c : ℕ) (t : Txn) → seat seats c ≡ Some t → is_some (enrolled_in (rows_of seats pending order store) t.0) ≡ true → home_of order c ≡ Some 0
+  home_if_enrolled c t sits enrolled = elim (enrolled_or_not c) [
+    | inl home ↦ home
+    | inr out ↦ absurd (true≢false (sym enrolled ∙ ap is_some (not_enrolled t (not_in_order c t sits out))))
+  ]
 
   -- a row is somebody's who has a seat
   pub row_found : (n : ℕ) (who : Enrolled) → enrolled_in (rows_of seats pending order store) n ≡ Some who → (c : ℕ) × (t : Txn) × (seat seats c ≡ Some t) × (t.0 ≡ n) × (row_at seats pending store c ≡ who)
@@ -127,17 +137,29 @@ module _ (seats : Seated) (pending : List PendingRequest) (order : Chained) (sto
       (at.0, sits.0, sits.1, sym (row_name at.0 sits.0 sits.1) ∙ eqb-true _ _ at.2, at.3)
 
   -- its locks
-  pub locks_of_seat : (c : ℕ) (t : Txn) → seat seats c ≡ Some t → locks_of (rows_of seats pending order store) t.0 ≡ locks_at store c
+  pub locks_of_enrolled : (c : ℕ) (t : Txn) → seat seats c ≡ Some t → home_of order c ≡ Some 0 → locks_of (rows_of seats pending order store) t.0 ≡ locks_at store c
   unfolding locks_of locks_or_none row_at
-  locks_of_seat c t sits = ap locks_or_none (enrolled_at c t sits)
+  locks_of_enrolled c t sits home = ap locks_or_none (enrolled_at c t sits home)
 
-  pub no_locks_of : (t : Txn) → ((c : ℕ) → seat seats c ≡ Some t → ⊥) → locks_of (rows_of seats pending order store) t.0 ≡ []
+  pub no_locks_of : (t : Txn) → ((c : ℕ) → home_of order c ≡ Some 0 → seat seats c ≡ Some t → ⊥) → locks_of (rows_of seats pending order store) t.0 ≡ []
   unfolding locks_of locks_or_none
   no_locks_of t absent = ap locks_or_none (not_enrolled t absent)
 
-  pub lock_of_seat : (c : ℕ) (t : Txn) (x : ℕ) → seat seats c ≡ Some t → lock_in (rows_of seats pending order store) t.0 x ≡ find (is_on x) (locks_at store c)
+  -- a seat that is in no chain has no locks
+  pub nothing_held : IsSound store.by_owner → (c : ℕ) → home_of order c ≡ None → locks_at store c ≡ []
+  unfolding locks_at
+  nothing_held owners c out = ap (map (lock_at store.locks)) (none_listed (chain_of store.by_owner c) (λ k there. some_is_not_none 0 (sym (seated.holders c k (owners.at_home c k there)) ∙ out)))
+
+  -- the locks of one who has a seat
+  pub locks_of_seat : IsSound store.by_owner → (c : ℕ) (t : Txn) → seat seats c ≡ Some t → locks_of (rows_of seats pending order store) t.0 ≡ locks_at store c
+  locks_of_seat owners c t sits = elim (enrolled_or_not c) [
+    | inl home ↦ locks_of_enrolled c t sits home
+    | inr out ↦ no_locks_of t (not_in_order c t sits out) ∙ sym (nothing_held owners c out)
+  ]
+
+  pub lock_of_seat : IsSound store.by_owner → (c : ℕ) (t : Txn) (x : ℕ) → seat seats c ≡ Some t → lock_in (rows_of seats pending order store) t.0 x ≡ find (is_on x) (locks_at store c)
   unfolding lock_in
-  lock_of_seat c t x sits = ap (find (is_on x)) (locks_of_seat c t sits)
+  lock_of_seat owners c t x sits = ap (find (is_on x)) (locks_of_seat owners c t sits)
 
   -- ---- what holds of each table
   module _ (stored : IsStored store) (owners : IsSound store.by_owner) where
@@ -194,6 +216,52 @@ module _ (seats : Seated) (pending : List PendingRequest) (order : Chained) (sto
       name_same : (c d : ℕ) (t u : Txn) → c ≡ d → seat seats c ≡ Some t → seat seats d ≡ Some u → t.0 ≡ u.0
       name_same c d t u same here there = let e : Some t ≡ Some u = sym here ∙ ap (seat seats) same ∙ there in let is : t ≡ u = cc in ap (λ (n : Txn). n.0) is
 
+-- ---- whether a seat is in the chain
+pub home_if_some : (seats : Seated) (pending : List PendingRequest) (order : Chained) (store : Stored) → AreSeated seats pending order store → IsSound order → (c : ℕ) → is_some (home_of order c) ≡ true → home_of order c ≡ Some 0
+home_if_some seats pending order store seated sound c there = elim (enrolled_or_not seats pending order store seated sound c) [
+  | inl home ↦ home
+  | inr out ↦ absurd (true≢false (sym there ∙ ap is_some out))
+]
+
+pub out_if_none : (order : Chained) (c : ℕ) → is_some (home_of order c) ≡ false → home_of order c ≡ None
+out_if_none order c none = go (home_of order c) none where
+  go : (o : Option ℕ) → is_some o ≡ false → o ≡ None
+  go None e = refl
+  go (Some d) e = absurd (true≢false e)
+
+-- the parts of the table inside are tied as those that it shows
+pub tied_inside : (pending : List PendingRequest) (order : Chained) (store : Stored) (table : LockParts) (seats : Seated) → record { pending = pending; order = order; store = store } ≡ table → IsTied table seats → AreSeated seats pending order store
+tied_inside pending order store table seats is tied = subst (λ (v : LockParts). IsTied v seats) (sym is) tied
+
+-- ---- a seat goes out of the chain of enrolment
+pub record IsOut (c : ℕ) (old new : Chained) : Type 0 where
+  pub chain : chain_of new 0 ≡ without c (chain_of old 0)
+  pub homes : (d : ℕ) → home_of new d ≡ cond (eqb d c) None (home_of old d)
+  pub chains : length new.chains ≡ length old.chains
+  pub keys : length new.homes ≡ length old.homes
+
+pub goes_out : (order left : Chained) (c : ℕ) → IsSound order → (home_of order c ≡ Some 0) ⊎ (home_of order c ≡ None) → left ≡ unlinked c order → IsOut c order left
+goes_out order left c sound (inl home) is =
+    let less = unlinks 0 c order left home is in
+    record { chain = less.chain; homes = homes_without order left c 0 home is; chains = less.same_chains; keys = less.same_keys }
+goes_out order left c sound (inr out) is = record {
+  chain = ap (λ (o : Chained). chain_of o 0) same ∙ sym (without_unlisted c (chain_of order 0) (false_from_ne_true _ (λ there. some_is_not_none 0 (sym (sound.at_home 0 c there) ∙ out))));
+  homes = λ d. ap (λ (o : Chained). home_of o d) same ∙ stays d;
+  chains = ap (λ (o : Chained). length o.chains) same;
+  keys = ap (λ (o : Chained). length o.homes) same;
+} where
+  same : left ≡ order
+  same = is ∙ unlinks_nothing c order out
+
+  stays : (d : ℕ) → home_of order d ≡ cond (eqb d c) None (home_of order d)
+  stays d = elim (cases_Bool (eqb d c)) [
+    | inl here ↦ ap (home_of order) (eqb-true d c here) ∙ out ∙ sym (ap (λ (b : Bool). cond b None (home_of order d)) here)
+    | inr apart ↦ sym (ap (λ (b : Bool). cond b None (home_of order d)) apart)
+  ]
+
+pub gone_out : (order left : Chained) (c : ℕ) → IsOut c order left → home_of left c ≡ None
+gone_out order left c out = out.homes c ∙ ap (λ (b : Bool). cond b None (home_of order c)) (eq-eqb c c refl)
+
 -- ---- changes of the table
 -- the rows as they change with what is kept by seat
 pub rows_change : (seats : Seated) (pending later : List PendingRequest) (order : Chained) (store new : Stored) (change : Enrolled → Enrolled)
@@ -202,8 +270,8 @@ unfolding rows_of
 rows_change seats pending later order store new change each = remapped (row_at seats later new) (row_at seats pending store) change (chain_of order 0) each
 
 module _ (seats : Seated) (pending : List PendingRequest) (order : Chained) (store : Stored) (seated : AreSeated seats pending order store) (sound : IsSound order) (c : ℕ) (t : Txn) (sits : seat seats c ≡ Some t) where
-  pub request_place : c < length pending
-  request_place = seated.requests c t sits
+  request_place : c < length pending
+  request_place = (seated.places c t sits).request
 
   -- t's request waits
   pub waits : (x : Ob) (op : Op) → rows_of seats (set pending c (Some (x, op))) order store ≡ wait_in t.0 x op (rows_of seats pending order store)
@@ -219,11 +287,11 @@ module _ (seats : Seated) (pending : List PendingRequest) (order : Chained) (sto
   ])
 
   -- op on x is granted to t
-  pub grants : (new : Stored) (x : Ob) (op : Op) → locks_at new c ≡ granted_own x op (locks_at store c)
+  pub grants : IsSound store.by_owner → (new : Stored) (x : Ob) (op : Op) → locks_at new c ≡ granted_own x op (locks_at store c)
       → ((d : ℕ) → (d ≡ c → ⊥) → locks_at new d ≡ map (suspended x.0 (ops_with op (find (is_on x.0) (locks_at store c)))) (locks_at store d))
       → rows_of seats (set pending c None) order new ≡ grant_in t.0 x op (rows_of seats pending order store)
   unfolding grant_in granted_row row_at
-  grants new x op own others =
+  grants owners new x op own others =
       rows_change seats pending (set pending c None) order store new (granted_row t.0 x op ops) (λ d there. elim (cases_Bool (eqb d c)) [
         | inl here ↦
             let is = eqb-true d c here in
@@ -235,147 +303,136 @@ module _ (seats : Seated) (pending : List PendingRequest) (order : Chained) (sto
             ∙ sym (ap (λ (b : Bool). cond b (record (row_at seats pending store d) { pending = None; locks = granted_own x op (locks_at store d) }) (record (row_at seats pending store d) { locks = map (suspended x.0 ops) (locks_at store d) }))
             (other_name seats pending order store seated sound c d t sits there (eqb-false d c apart)))
       ])
-      ∙ ap (λ (o : Option Lock). map (granted_row t.0 x op (ops_with op o)) (rows_of seats pending order store)) (sym (lock_of_seat seats pending order store seated sound c t x.0 sits)) where
+      ∙ ap (λ (o : Option Lock). map (granted_row t.0 x op (ops_with op o)) (rows_of seats pending order store)) (sym (lock_of_seat seats pending order store seated sound owners c t x.0 sits)) where
         ops : OpSet
         ops = ops_with op (find (is_on x.0) (locks_at store c))
 
-  -- who sits is enrolled
-  pub seated_later : (later : List PendingRequest) (new : Stored) → length pending ≤ length later → length store.by_owner.chains ≤ length new.by_owner.chains
+  -- t, who is enrolled, has other locks
+  pub seated_later : home_of order c ≡ Some 0 → (later : List PendingRequest) (new : Stored) → length pending ≤ length later → length store.by_owner.chains ≤ length new.by_owner.chains
       → ((k d : ℕ) → home_of new.by_owner k ≡ Some d → (home_of store.by_owner k ≡ Some d) ⊎ (d ≡ c)) → AreSeated seats later order new
-  seated_later later new places chains holders = record {
-    ordered = seated.ordered;
+  seated_later home later new places chains holders = record {
+    enrolled = seated.enrolled;
     single = seated.single;
-    requests = λ d u here. omega (arith, seated.requests d u here, places);
-    chains = λ d u here. omega (arith, seated.chains d u here, chains);
-    holders = λ d k home. elim (holders k d home) [
+    places = λ d u here.
+        let was = seated.places d u here in
+        record { request = omega (arith, was.request, places); locks = omega (arith, was.locks, chains); chain = was.chain; key = was.key };
+    holders = λ d k held. elim (holders k d held) [
       | inl before ↦ seated.holders d k before
-      | inr same ↦ ap (λ (n : ℕ). is_some (seat seats n)) same ∙ ap is_some sits
+      | inr same ↦ ap (home_of order) same ∙ home
     ];
   }
 
   -- t is released
-  pub releases : (after : Seated) (left : Chained) (new : Stored) → ((d : ℕ) → seat after d ≡ cond (eqb d c) None (seat seats d)) → chain_of left 0 ≡ without c (chain_of order 0)
-      → ((d : ℕ) → (d ≡ c → ⊥) → locks_at new d ≡ locks_at store d) → rows_of after pending left new ≡ release_in (λ n. eqb n t.0) (rows_of seats pending order store)
+  pub releases : (left : Chained) (new : Stored) → chain_of left 0 ≡ without c (chain_of order 0) → ((d : ℕ) → (d ≡ c → ⊥) → locks_at new d ≡ locks_at store d)
+      → rows_of seats pending left new ≡ release_in (λ n. eqb n t.0) (rows_of seats pending order store)
   unfolding rows_of release_in row_at
-  releases after left new leaves chain others =
-      ap (map (row_at after pending new)) chain
-      ∙ filtered (row_at after pending new) (row_at seats pending store) (λ (who : Enrolled). not (eqb who.name t.0)) c (chain_of order 0) (ap not (own_name seats pending order store seated sound c t sits))
+  releases left new chain others =
+      ap (map (row_at seats pending new)) chain
+      ∙ filtered (row_at seats pending new) (row_at seats pending store) (λ (who : Enrolled). not (eqb who.name t.0)) c (chain_of order 0) (ap not (own_name seats pending order store seated sound c t sits))
       (λ d there apart. (
         ap not (other_name seats pending order store seated sound c d t sits there apart),
-        λ i. record { name = name_or_zero ((leaves d ∙ ap (λ (b : Bool). cond b None (seat seats d)) (ne_eqb d c apart)) i); pending = pending_at pending d; locks = others d apart i },
+        ap (λ (l : List Lock). record { name = name_or_zero (seat seats d); pending = pending_at pending d; locks = l }) (others d apart),
       ))
 
-  pub seated_less : (after : Seated) (left : Chained) (new : Stored) → ((d : ℕ) → seat after d ≡ cond (eqb d c) None (seat seats d)) → ((d : ℕ) → home_of left d ≡ cond (eqb d c) None (home_of order d))
-      → length new.by_owner.chains ≡ length store.by_owner.chains → ((k d : ℕ) → home_of new.by_owner k ≡ Some d → (home_of store.by_owner k ≡ Some d) × (d ≡ c → ⊥)) → AreSeated after pending left new
-  unfolding enrolled_chain
-  seated_less after left new leaves homes chains holders = record {
-    ordered = λ d. elim (cases_Bool (eqb d c)) [
-      | inl here ↦ homes d ∙ ap (λ (b : Bool). cond b None (home_of order d)) here ∙ sym (ap enrolled_chain (leaves d ∙ ap (λ (b : Bool). cond b None (seat seats d)) here))
-      | inr apart ↦ homes d ∙ ap (λ (b : Bool). cond b None (home_of order d)) apart ∙ seated.ordered d ∙ sym (ap enrolled_chain (leaves d ∙ ap (λ (b : Bool). cond b None (seat seats d)) apart))
+  pub seated_less : (left : Chained) (new : Stored) → ((d : ℕ) → home_of left d ≡ cond (eqb d c) None (home_of order d)) → length left.chains ≡ length order.chains → length left.homes ≡ length order.homes
+      → length new.by_owner.chains ≡ length store.by_owner.chains → ((k d : ℕ) → home_of new.by_owner k ≡ Some d → (home_of store.by_owner k ≡ Some d) × (d ≡ c → ⊥)) → AreSeated seats pending left new
+  seated_less left new homes chains keys owned holders = record {
+    enrolled = λ d e home. elim (cases_Bool (eqb d c)) [
+      | inl here ↦ absurd (some_is_not_none e (sym home ∙ homes d ∙ ap (λ (b : Bool). cond b None (home_of order d)) here))
+      | inr apart ↦ seated.enrolled d e (sym (homes d ∙ ap (λ (b : Bool). cond b None (home_of order d)) apart) ∙ home)
     ];
-    single = λ d e u here there. seated.single d e u (still d u here) (still e u there);
-    requests = λ d u here. seated.requests d u (still d u here);
-    chains = λ d u here. subst (λ n. d < n) (sym chains) (seated.chains d u (still d u here));
-    holders = λ d k home.
-        let was = holders k d home in
-        ap is_some (leaves d ∙ ap (λ (b : Bool). cond b None (seat seats d)) (ne_eqb d c was.1)) ∙ seated.holders d k was.0;
-  } where
-    still : (d : ℕ) (u : Txn) → seat after d ≡ Some u → seat seats d ≡ Some u
-    still d u here = elim (cases_Bool (eqb d c)) [
-      | inl is ↦ absurd (some_is_not_none u (sym here ∙ leaves d ∙ ap (λ (b : Bool). cond b None (seat seats d)) is))
-      | inr apart ↦ sym (leaves d ∙ ap (λ (b : Bool). cond b None (seat seats d)) apart) ∙ here
-    ]
+    single = seated.single;
+    places = λ d u here.
+        let was = seated.places d u here in
+        record { request = was.request; locks = omega (arith, was.locks, owned); chain = omega (arith, was.chain, chains); key = omega (arith, was.key, keys) };
+    holders = λ d k held.
+        let was = holders k d held in
+        homes d ∙ ap (λ (b : Bool). cond b None (home_of order d)) (ne_eqb d c was.1) ∙ seated.holders d k was.0;
+  }
 
 -- nobody of this name is released
 pub releases_nobody : (seats : Seated) (pending : List PendingRequest) (order : Chained) (store : Stored) → AreSeated seats pending order store → IsSound order → (t : Txn) → ((c : ℕ) → seat seats c ≡ Some t → ⊥)
     → rows_of seats pending order store ≡ release_in (λ n. eqb n t.0) (rows_of seats pending order store)
 unfolding rows_of release_in
 releases_nobody seats pending order store seated sound t absent =
-    all_pass (row_at seats pending store) (λ (who : Enrolled). not (eqb who.name t.0)) (chain_of order 0) (λ d there. ap not (absent_name seats pending order store seated sound t absent d there))
+    all_pass (row_at seats pending store) (λ (who : Enrolled). not (eqb who.name t.0)) (chain_of order 0) (λ d there. ap not (absent_name seats pending order store seated sound t (λ c _. absent c) d there))
 
 -- ---- one more is enrolled
-module _ (seats : Seated) (pending : List PendingRequest) (order : Chained) (store : Stored) (seated : AreSeated seats pending order store) (more : Seated) (longer : List PendingRequest) (grown : Chained) (roomy : Stored)
-    (made : IsRoomMade seats pending order more longer grown) (room : IsGrown store roomy) where
-  -- room changes nothing
-  pub seated_grown : AreSeated more longer grown roomy
-  seated_grown = record {
-    ordered = λ c. made.homes c ∙ seated.ordered c ∙ ap enrolled_chain (sym (made.names c));
-    single = λ c d t here there. seated.single c d t (sym (made.names c) ∙ here) (sym (made.names d) ∙ there);
-    requests = λ c t here. omega (arith, seated.requests c t (sym (made.names c) ∙ here), made.places);
-    chains = λ c t here. omega (arith, seated.chains c t (sym (made.names c) ∙ here), room.seats);
-    holders = λ c k home. ap is_some (made.names c) ∙ seated.holders c k (sym (room.homes k) ∙ home);
+-- what is kept already is kept
+pub grown_self : (store : Stored) → IsGrown store store
+grown_self store = record { locks = λ k. refl; chains = λ c. refl; homes = λ k. refl; seats = omega arith }
+
+-- room changes nothing
+module _ (seats : Seated) (pending : List PendingRequest) (order : Chained) (store : Stored) (longer : List PendingRequest) (grown : Chained) (roomy : Stored)
+    (made : IsRoomMade pending order longer grown) (room : IsGrown store roomy) where
+  pub seated_grown : AreSeated seats pending order store → AreSeated seats longer grown roomy
+  seated_grown seated = record {
+    enrolled = λ c d home. seated.enrolled c d (sym (made.homes c) ∙ home);
+    single = seated.single;
+    places = λ c t here.
+        let was = seated.places c t here in
+        record { request = omega (arith, was.request, made.places); locks = omega (arith, was.locks, room.seats); chain = omega (arith, was.chain, made.many); key = omega (arith, was.key, made.keys) };
+    holders = λ c k held. made.homes c ∙ seated.holders c k (sym (room.homes k) ∙ held);
   }
 
-  pub rows_grown : rows_of more longer grown roomy ≡ rows_of seats pending order store
+  pub rows_grown : rows_of seats longer grown roomy ≡ rows_of seats pending order store
   unfolding rows_of row_at
   rows_grown =
-      ap (map (row_at more longer roomy)) (made.chains 0)
-      ∙ map_same (row_at more longer roomy) (row_at seats pending store) (chain_of order 0)
-      (λ c there. λ i. record { name = name_or_zero (made.names c i); pending = made.requests c i; locks = grown_same store roomy room c i })
+      ap (map (row_at seats longer roomy)) (made.chains 0)
+      ∙ map_same (row_at seats longer roomy) (row_at seats pending store) (chain_of order 0)
+      (λ c there. λ i. record { name = name_or_zero (seat seats c); pending = made.requests c i; locks = grown_same store roomy room c i })
 
-module _ (seats : Seated) (pending : List PendingRequest) (order : Chained) (store : Stored) (seated : AreSeated seats pending order store) (sound : IsSound order) (owners : IsSound store.by_owner)
-    (after : Seated) (longer : Chained) (c : ℕ) (t : Txn) (free : seat seats c ≡ None) (absent : (d : ℕ) → seat seats d ≡ Some t → ⊥)
-    (sits : (d : ℕ) → seat after d ≡ cond (eqb d c) (Some t) (seat seats d)) (pushed : IsPushed 0 c order longer) (place : c < length pending) (chain : c < length store.by_owner.chains) where
-  sits_now : seat after c ≡ Some t
-  sits_now = sits c ∙ ap (λ (b : Bool). cond b (Some t) (seat seats c)) (eq-eqb c c refl)
-
-  kept : (d : ℕ) → (d ≡ c → ⊥) → seat after d ≡ seat seats d
-  kept d apart = sits d ∙ ap (λ (b : Bool). cond b (Some t) (seat seats d)) (ne_eqb d c apart)
-
-  pub seated_more : AreSeated after (set pending c None) longer store
-  unfolding enrolled_chain
+module _ (seats : Seated) (pending : List PendingRequest) (order : Chained) (store : Stored) (seated : AreSeated seats pending order store) (sound : IsSound order) (c : ℕ) (t : Txn) (sits : seat seats c ≡ Some t)
+    (out : home_of order c ≡ None) (longer : Chained) (pushed : IsPushed 0 c order longer) where
+  pub seated_more : AreSeated seats (set pending c None) longer store
   seated_more = record {
-    ordered = λ d. elim (cases_Bool (eqb d c)) [
-      | inl here ↦ let is = eqb-true d c here in ap (home_of longer) is ∙ pushed.home ∙ sym (ap enrolled_chain (ap (seat after) is ∙ sits_now))
-      | inr apart ↦ let differ = eqb-false d c apart in pushed.homes d differ ∙ seated.ordered d ∙ sym (ap enrolled_chain (kept d differ))
+    enrolled = λ d e home. elim (cases_Bool (eqb d c)) [
+      | inl here ↦
+          let is = eqb-true d c here in
+          (some_same (sym home ∙ ap (home_of longer) is ∙ pushed.home), ap (λ (n : ℕ). is_some (seat seats n)) is ∙ ap is_some sits)
+      | inr apart ↦ seated.enrolled d e (sym (pushed.homes d (eqb-false d c apart)) ∙ home)
     ];
-    single = λ d e u here there. elim (cases_Bool (eqb d c)) [
-      | inl first ↦ elim (cases_Bool (eqb e c)) [
-        | inl second ↦ eqb-true d c first ∙ sym (eqb-true e c second)
-        | inr apart ↦ absurd (absent e (sym (kept e (eqb-false e c apart)) ∙ there ∙ sym here ∙ ap (seat after) (eqb-true d c first) ∙ sits_now))
-      ]
-      | inr differ ↦ elim (cases_Bool (eqb e c)) [
-        | inl second ↦ absurd (absent d (sym (kept d (eqb-false d c differ)) ∙ here ∙ sym there ∙ ap (seat after) (eqb-true e c second) ∙ sits_now))
-        | inr apart ↦ seated.single d e u (sym (kept d (eqb-false d c differ)) ∙ here) (sym (kept e (eqb-false e c apart)) ∙ there)
-      ]
-    ];
-    requests = λ d u here. elim (cases_Bool (eqb d c)) [
-      | inl is ↦ omega (arith, place, length-set pending c None, eqb-true d c is)
-      | inr apart ↦ omega (arith, seated.requests d u (sym (kept d (eqb-false d c apart)) ∙ here), length-set pending c None)
-    ];
-    chains = λ d u here. elim (cases_Bool (eqb d c)) [
-      | inl is ↦ omega (arith, chain, eqb-true d c is)
-      | inr apart ↦ seated.chains d u (sym (kept d (eqb-false d c apart)) ∙ here)
-    ];
-    holders = λ d k home. elim (cases_Bool (eqb d c)) [
-      | inl is ↦ ap (λ (n : ℕ). is_some (seat after n)) (eqb-true d c is) ∙ ap is_some sits_now
-      | inr apart ↦ ap is_some (kept d (eqb-false d c apart)) ∙ seated.holders d k home
-    ];
-  }
+    single = seated.single;
+    places = λ d u here.
+        let was = seated.places d u here in
+        record { request = omega (arith, was.request, length-set pending c None); locks = was.locks; chain = omega (arith, was.chain, pushed.same_chains); key = omega (arith, was.key, pushed.same_keys) };
+    holders = λ d k held.
+        let was = seated.holders d k held in
+        pushed.homes d (λ same. some_is_not_none 0 (sym was ∙ ap (home_of order) same ∙ out)) ∙ was;
+  } where
+    some_same : {d e : ℕ} → Some d ≡ Some e → d ≡ e
+    some_same is = cc
 
-  nothing_held : locks_at store c ≡ []
-  unfolding locks_at
-  nothing_held = ap (map (lock_at store.locks)) (none_listed (chain_of store.by_owner c) (λ k there. true≢false (sym (seated.holders c k (owners.at_home c k there)) ∙ ap is_some free)))
-
-  pub enrols : rows_of after (set pending c None) longer store ≡ enrol_in t.0 (rows_of seats pending order store)
+  pub enrols : IsSound store.by_owner → rows_of seats (set pending c None) longer store ≡ enrol_in t.0 (rows_of seats pending order store)
   unfolding rows_of enrol_in row_at name_or_zero
-  enrols =
-      ap (map (row_at after (set pending c None) store)) pushed.chain
-      ∙ map-append (row_at after (set pending c None) store) (chain_of order 0) (c ∷ [])
-      ∙ (λ i. map_same (row_at after (set pending c None) store) (row_at seats pending store) (chain_of order 0) (λ d there.
-      let differ = apart_from d there in
-      λ j. record { name = name_or_zero (kept d differ j); pending = (pending_set pending c None place d ∙ ap (λ (b : Bool). cond b None (pending_at pending d)) (ne_eqb d c differ)) j; locks = locks_at store d }) i
-      ++ record { name = name_or_zero (sits_now i); pending = (pending_set pending c None place c ∙ ap (λ (b : Bool). cond b None (pending_at pending c)) (eq-eqb c c refl)) i; locks = nothing_held i } ∷ []) where
+  enrols owners =
+      ap (map (row_at seats (set pending c None) store)) pushed.chain
+      ∙ map-append (row_at seats (set pending c None) store) (chain_of order 0) (c ∷ [])
+      ∙ (λ i. map_same (row_at seats (set pending c None) store) (row_at seats pending store) (chain_of order 0) (λ d there.
+      ap (λ (p : PendingRequest). record { name = name_or_zero (seat seats d); pending = p; locks = locks_at store d }) (pending_set pending c None place d ∙ ap (λ (b : Bool). cond b None (pending_at pending d)) (ne_eqb d c (apart_from d there)))) i
+      ++ record { name = name_or_zero (sits i); pending = (pending_set pending c None place c ∙ ap (λ (b : Bool). cond b None (pending_at pending c)) (eq-eqb c c refl)) i; locks = nothing_held seats pending order store seated sound owners c out i } ∷ []) where
+        place : c < length pending
+        place = (seated.places c t sits).request
+
         apart_from : (d : ℕ) → lists (chain_of order 0) d ≡ true → d ≡ c → ⊥
-        apart_from d there is = let other = sits_at seats pending order store seated sound d there in some_is_not_none other.0 (sym other.1 ∙ ap (seat seats) is ∙ free)
+        apart_from d there is = some_is_not_none 0 (sym (sound.at_home 0 d there) ∙ ap (home_of order) is ∙ out)
 
 -- ---- who is free
 module _ (seats : Seated) (pending : List PendingRequest) (order : Chained) (store : Stored) (seated : AreSeated seats pending order store) (sound : IsSound order) (allows : ℕ → Bool) (t x : ℕ) (op : Op) where
-  pub is_blocked_by : (c : ℕ) (u : Txn) → seat seats c ≡ Some u → blocks allows t x op u.0 (locks_at store c) ≡ true → is_free_in (rows_of seats pending order store) allows t x op ≡ false
-  unfolding is_free_in rows_of row_at
-  is_blocked_by c u sits h =
-      ap not (any_from (λ (who : Enrolled). blocks allows t x op who.name who.locks) (row_at seats pending store) (chain_of order 0) c (listed_at seats pending order store seated sound c u sits)
-      (ap (λ (n : ℕ). blocks allows t x op n (locks_at store c)) (row_name seats pending order store seated sound c u sits) ∙ h))
+  pub is_blocked_by : IsSound store.by_owner → (c : ℕ) (u : Txn) → seat seats c ≡ Some u → blocks allows t x op u.0 (locks_at store c) ≡ true → is_free_in (rows_of seats pending order store) allows t x op ≡ false
+  unfolding is_free_in rows_of row_at blocks
+  is_blocked_by owners c u sits h = elim (enrolled_or_not seats pending order store seated sound c) [
+    | inl home ↦
+        ap not (any_from (λ (who : Enrolled). blocks allows t x op who.name who.locks) (row_at seats pending store) (chain_of order 0) c (sound.listed 0 c home)
+        (ap (λ (n : ℕ). blocks allows t x op n (locks_at store c)) (row_name seats pending order store seated sound c u sits) ∙ h))
+    | inr out ↦ absurd (nothing_blocks (ap (blocks allows t x op u.0) (sym (nothing_held seats pending order store seated sound owners c out)) ∙ h))
+  ] where
+    nothing_blocks : blocks allows t x op u.0 [] ≡ true → ⊥
+    nothing_blocks is = go (not (eqb u.0 t)) (not (allows u.0)) is where
+      go : (a b : Bool) → (a && b && false) ≡ true → ⊥
+      go true true e = true≢false (sym e)
+      go true false e = true≢false (sym e)
+      go false b e = true≢false (sym e)
 
   pub is_free_by : ((c : ℕ) (u : Txn) → seat seats c ≡ Some u → blocks allows t x op u.0 (locks_at store c) ≡ false) → is_free_in (rows_of seats pending order store) allows t x op ≡ true
   unfolding is_free_in rows_of row_at
@@ -417,16 +474,14 @@ find_absent test (l ∷ locks) none =
 
 pub nobody_seated : (seats : Seated) (pending : List PendingRequest) (order : Chained) (store : Stored) → AreSeated seats pending order store → IsSound order → (t : Txn) → ((c : ℕ) → seat seats c ≡ Some t → ⊥)
     → is_some (enrolled_in (rows_of seats pending order store) t.0) ≡ true → ⊥
-nobody_seated seats pending order store seated sound t absent enrolled = true≢false (sym enrolled ∙ ap is_some (not_enrolled seats pending order store seated sound t absent))
+nobody_seated seats pending order store seated sound t absent enrolled = true≢false (sym enrolled ∙ ap is_some (not_enrolled seats pending order store seated sound t (λ c _. absent c)))
 
 -- nobody is enrolled, at first
 pub seated_nothing : (seats : Seated) (pending : List PendingRequest) (order : Chained) (store : Stored) → ((c : ℕ) → seat seats c ≡ None) → order.homes ≡ [] → store.by_owner.homes ≡ [] → AreSeated seats pending order store
-unfolding enrolled_chain
 seated_nothing seats pending order store nobody homes owners = record {
-  ordered = λ c. no_home_of order homes c ∙ sym (ap enrolled_chain (nobody c));
+  enrolled = λ c d home. absurd (some_is_not_none d (sym home ∙ no_home_of order homes c));
   single = λ c d t here there. absurd (some_is_not_none t (sym here ∙ nobody c));
-  requests = λ c t here. absurd (some_is_not_none t (sym here ∙ nobody c));
-  chains = λ c t here. absurd (some_is_not_none t (sym here ∙ nobody c));
+  places = λ c t here. absurd (some_is_not_none t (sym here ∙ nobody c));
   holders = λ c k home. absurd (some_is_not_none c (sym home ∙ no_home_of store.by_owner owners k));
 }
 
@@ -445,11 +500,6 @@ pub no_waiter : (rest l : List (Txn × Op)) (before : ℕ) → l ≡ [] → slic
 no_waiter rest l before is = sym (ap (λ (w : List (Txn × Op)). slice_get (w ++ rest) before) is)
 
 -- ---- enrolment
--- one who is not enrolled has no seat
-pub no_seat : (seats : Seated) (pending : List PendingRequest) (order : Chained) (store : Stored) → AreSeated seats pending order store → IsSound order → (t : Txn) → enrolled_in (rows_of seats pending order store) t.0 ≡ None
-    → (c : ℕ) → seat seats c ≡ Some t → ⊥
-no_seat seats pending order store seated sound t none c sits = some_is_not_none _ (sym (enrolled_at seats pending order store seated sound c t sits) ∙ none)
-
 pub enrolled_now : (t : ℕ) (table : LockTable) → is_some (enrolled_in (enrol_in t table) t) ≡ true
 unfolding enrolled_in enrol_in
 enrolled_now t table = go table where

@@ -2,3 +2,4 @@ pub mod LockTable
 pub mod Valid
 pub mod Stored
 pub mod Looked
+pub mod Tied

@@ -103,26 +103,29 @@ name_or_zero (Some t) = t.0
 unfoldable pub pending_at : List PendingRequest → ℕ → PendingRequest
 pending_at pending c = slice_index_or pending c None
 
--- the row of one who has a seat
+-- the row of a seat
 unfoldable pub row_at : Seated → List PendingRequest → Stored → ℕ → Enrolled
 row_at seats pending store c = record { name = name_or_zero (seat seats c); pending = pending_at pending c; locks = locks_at store c }
 
--- the rows of those who have seats, in order of enrolment
+-- the rows of those who are enrolled, in order of enrolment
 unfoldable pub rows_of : Seated → List PendingRequest → Chained → Stored → LockTable
 rows_of seats pending order store = map (row_at seats pending store) (chain_of order 0)
 
--- the one chain of those who have seats
-unfoldable pub enrolled_chain : Option Txn → Option ℕ
-enrolled_chain None = None
-enrolled_chain (Some t) = Some 0
+-- the seat has its place for a request, its chain of locks and its key in the chain of enrolment
+pub record HasPlaces (pending : List PendingRequest) (order : Chained) (store : Stored) (c : ℕ) : Type 0 where
+  pub request : c < length pending
+  pub locks : c < length store.by_owner.chains
+  pub chain : 0 < length order.chains
+  pub key : c < length order.homes
 
--- those who have seats are in the chain of enrolment, each once; who has no seat has no locks
+-- who is enrolled has a seat, who has locks is enrolled, and each seat that is taken has its places
 pub record AreSeated (seats : Seated) (pending : List PendingRequest) (order : Chained) (store : Stored) : Type 0 where
-  pub ordered : (c : ℕ) → home_of order c ≡ enrolled_chain (seat seats c)
+  -- those who are enrolled are in one chain
+  pub enrolled : (c d : ℕ) → home_of order c ≡ Some d → (d ≡ 0) × (is_some (seat seats c) ≡ true)
+  -- nobody has two seats
   pub single : (c d : ℕ) (t : Txn) → seat seats c ≡ Some t → seat seats d ≡ Some t → c ≡ d
-  pub requests : (c : ℕ) (t : Txn) → seat seats c ≡ Some t → c < length pending
-  pub chains : (c : ℕ) (t : Txn) → seat seats c ≡ Some t → c < length store.by_owner.chains
-  pub holders : (c k : ℕ) → home_of store.by_owner k ≡ Some c → is_some (seat seats c) ≡ true
+  pub places : (c : ℕ) (t : Txn) → seat seats c ≡ Some t → HasPlaces pending order store c
+  pub holders : (c k : ℕ) → home_of store.by_owner k ≡ Some c → home_of order c ≡ Some 0
 
 -- ---- what a call of the store leaves
 -- more room, and each lock where it was
@@ -182,19 +185,11 @@ pub record IsAdded (key c : ℕ) (lock : Lock) (old new : Stored) : Type 0 where
   pub chains : (d : ℕ) → (d ≡ c → ⊥) → chain_of new.by_owner d ≡ chain_of old.by_owner d
   pub seats : length old.by_owner.chains ≤ length new.by_owner.chains
 
--- there is room for one more seat, which is the next to be given
-pub record HasSeat (c : ℕ) (seats : Seated) (pending : List PendingRequest) (order : Chained) (store : Stored) : Type 0 where
-  pub room : seats.has_room ≡ true
-  pub vacant : seats.vacant ≡ c
-  pub request : c < length pending
-  pub locks : c < length store.by_owner.chains
-  pub chain : 0 < length order.chains
-  pub key : c < length order.homes
-
--- more room, and each seat where it was
-pub record IsRoomMade (seats : Seated) (pending : List PendingRequest) (order : Chained) (more : Seated) (longer : List PendingRequest) (grown : Chained) : Type 0 where
-  pub names : (c : ℕ) → seat more c ≡ seat seats c
+-- more places, and each request and each enrolment where it was
+pub record IsRoomMade (pending : List PendingRequest) (order : Chained) (longer : List PendingRequest) (grown : Chained) : Type 0 where
   pub requests : (c : ℕ) → pending_at longer c ≡ pending_at pending c
   pub places : length pending ≤ length longer
   pub chains : (c : ℕ) → chain_of grown c ≡ chain_of order c
   pub homes : (k : ℕ) → home_of grown k ≡ home_of order k
+  pub many : length order.chains ≤ length grown.chains
+  pub keys : length order.homes ≤ length grown.homes

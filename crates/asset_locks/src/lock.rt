@@ -4,7 +4,8 @@ ghost use Rattle.std.specs.Prelude.{◌≡◌};
 ghost use Rattle.asset_locks.specs.LockTable.{one_conflicts};
 
 use crate::state::LockState;
-use asset_names::{Ob, Op, Ops, Txn};
+use asset_names::{Ob, Op, Ops};
+use asset_seats::Sitter;
 
 /// A lock: the object that it is on, the operations that it carries, and whether it is granted.
 #[derive(Clone, Copy)]
@@ -17,7 +18,7 @@ pub(crate) struct Lock {
 /// What a transaction asks for: an operation on an object.
 #[derive(Clone, Copy)]
 pub(crate) struct Request {
-    pub t: Txn,
+    pub asker: Sitter,
     pub x: Ob,
     pub op: Op,
 }

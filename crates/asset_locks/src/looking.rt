@@ -3,12 +3,12 @@
 ghost use Rattle.std.specs.Prelude.{◌≡◌};
 ghost use Rattle.asset_locks.specs.Looked.{look_with};
 
+use crate::allows::Allows;
 use crate::lock::{Request, one_conflicts};
 use crate::store::{LockStore, readers_of, writers_of};
 use asset_lists::Part;
-use asset_names::{Op, Txn};
-use asset_permits::Permits;
-use asset_seats::Seats;
+use asset_names::Op;
+use asset_seats::{Seats, Sitter};
 
 /// What a look at locks on the object that is asked for finds. It ends at the first lock that blocks the request.
 #[derive(Clone, Copy)]
@@ -43,37 +43,44 @@ impl Look {
 }
 
 impl LockStore {
-    ghost use Rattle.std.specs.Prelude.{◌≡◌, ℕ, ◌||◌, Bool, true, false, Some};
+    ghost use Rattle.std.specs.Prelude.{◌≡◌, ℕ, ◌||◌, Bool, true, false, Some, IfSome, IfNone, None};
     ghost use Rattle.asset_names.specs.OpSets.{has_op, only_op};
     ghost use Rattle.asset_names.specs.declared.operations.Op.TheVariants as Op';
+    ghost use Rattle.asset_names.specs.declared.names.Txn.{Txn};
     ghost use Rattle.asset_chains.specs.Chained.{home_of};
     ghost use Rattle.asset_lists.specs.Parted.{part_of};
-    ghost use Rattle.asset_permits.specs.Descriptors.{allows_by};
-    ghost use Rattle.asset_seats.specs.Seated.{seat};
+    ghost use Rattle.asset_seats.specs.Seated.{seat, HasSeat};
     ghost use Rattle.asset_locks.specs.LockTable.{blocks};
     ghost use Rattle.asset_locks.specs.Stored.{name_of, locks_at, number_in, part_for};
     ghost use Rattle.asset_locks.specs.Looked.{IsLook, IsLookedAt};
 
     /// Returns who has the lock at the key, if anybody has it.
     #[tactic(auto, unfolding(crate::specs::Stored::name_of))]
-    fn owner(&self, key: usize, seats: &Seats) -> Option<Txn>
-        ensures { result ≡ name_of seats.now (home_of self.now.by_owner key) }
+    fn owner(&self, key: usize, seats: &Seats) -> Option<Sitter>
+        ensures found { IfSome result (λ owner. HasSeat seats.now owner × (name_of seats.now (home_of self.now.by_owner key) ≡ Some owner.t)) }
+        ensures none { IfNone result (name_of seats.now (home_of self.now.by_owner key) ≡ None) }
     {
-        match self.by_owner.home(key) {
-            Some(c) => seats.name_at(c),
-            None => None,
-        }
+        let at = self.by_owner.home(key)?;
+        let t = seats.name_at(at)?;
+        Some(Sitter { t, at })
     }
 
     /// Looks at the lock at the key, which is on the object that is asked for.
-    fn look_at(&self, key: usize, request: Request, seats: &Seats, permits: &mut Permits) -> Look
-        ensures look { IsLook self.now seats.now (λ u. allows_by permits.old u request.t.0 request.x.0 request.op) request.t.0 request.op (λ (k : ℕ). k ≡ key) result }
+    fn look_at<A: Allows>(
+        &self,
+        key: usize,
+        request: Request,
+        seats: &Seats,
+        permits: &mut A,
+    ) -> Look
+        requires { A.can_ask permits.old seats.now request.asker }
+        ensures look { IsLook self.now seats.now (λ u. A.allows permits.old u request.asker.t.0 request.x.0 request.op) request.asker.t.0 request.op (λ (k : ℕ). k ≡ key) result }
         ensures permits { permits.new ≡ permits.old }
     {
         let Some(owner) = self.owner(key, seats) else {
             return Look::NOTHING;
         };
-        if owner == request.t {
+        if owner.t == request.asker.t {
             return Look {
                 blocked: false,
                 own: Some(key),
@@ -82,7 +89,7 @@ impl LockStore {
         }
         if one_conflicts(self.lock(key).ops, request.op) {
             Look {
-                blocked: !permits.allows(owner, request.t, request.x, request.op),
+                blocked: !permits.allows(seats, owner, request.asker, request.x, request.op),
                 own: None,
                 conflicts: true,
             }
@@ -92,8 +99,15 @@ impl LockStore {
     }
 
     /// Looks at the locks of the part, which is one of the object that is asked for.
-    fn look_in(&self, part: Part, request: Request, seats: &Seats, permits: &mut Permits) -> Look
-        ensures look { IsLook self.now seats.now (λ u. allows_by permits.old u request.t.0 request.x.0 request.op) request.t.0 request.op (λ (k : ℕ). part_of self.now.by_object k ≡ Some part) result }
+    fn look_in<A: Allows>(
+        &self,
+        part: Part,
+        request: Request,
+        seats: &Seats,
+        permits: &mut A,
+    ) -> Look
+        requires { A.can_ask permits.old seats.now request.asker }
+        ensures look { IsLook self.now seats.now (λ u. A.allows permits.old u request.asker.t.0 request.x.0 request.op) request.asker.t.0 request.op (λ (k : ℕ). part_of self.now.by_object k ≡ Some part) result }
         ensures permits { permits.new ≡ permits.old }
     {
         let keys = self.by_object.keys(part);
@@ -109,8 +123,15 @@ impl LockStore {
 
     /// Looks at the locks on the object of this number, which is the one that is asked for: for a read at those that
     /// write, and for a write at all.
-    fn look_on(&self, number: usize, request: Request, seats: &Seats, permits: &mut Permits) -> Look
-        ensures look { IsLook self.now seats.now (λ u. allows_by permits.old u request.t.0 request.x.0 request.op) request.t.0 request.op (λ (k : ℕ). (w : Bool) × (part_of self.now.by_object k ≡ Some (part_for number w)) × ((w || has_op (only_op request.op) Op'.Write) ≡ true)) result }
+    fn look_on<A: Allows>(
+        &self,
+        number: usize,
+        request: Request,
+        seats: &Seats,
+        permits: &mut A,
+    ) -> Look
+        requires { A.can_ask permits.old seats.now request.asker }
+        ensures look { IsLook self.now seats.now (λ u. A.allows permits.old u request.asker.t.0 request.x.0 request.op) request.asker.t.0 request.op (λ (k : ℕ). (w : Bool) × (part_of self.now.by_object k ≡ Some (part_for number w)) × ((w || has_op (only_op request.op) Op'.Write) ≡ true)) result }
         ensures permits { permits.new ≡ permits.old }
     {
         let writers = self.look_in(writers_of(number), request, seats, permits);
@@ -124,17 +145,18 @@ impl LockStore {
     }
 
     /// Looks at the locks on the object that is asked for, whose number is given, as `look_on` does.
-    pub(crate) fn look(
+    pub(crate) fn look<A: Allows>(
         &self,
         number: Option<usize>,
         request: Request,
         seats: &Seats,
-        permits: &mut Permits,
+        permits: &mut A,
     ) -> Look
-        requires { number ≡ number_in self.now.objects request.x.0 }
-        ensures blocked { result.blocked ≡ true → (c : ℕ) × (u : Txn) × (seat seats.now c ≡ Some u) × (blocks (λ u. allows_by permits.old u request.t.0 request.x.0 request.op) request.t.0 request.x.0 request.op u.0 (locks_at self.now c) ≡ true) }
-        ensures free { result.blocked ≡ false → (c : ℕ) (u : Txn) → seat seats.now c ≡ Some u → blocks (λ u. allows_by permits.old u request.t.0 request.x.0 request.op) request.t.0 request.x.0 request.op u.0 (locks_at self.now c) ≡ false }
-        ensures look { IsLook self.now seats.now (λ u. allows_by permits.old u request.t.0 request.x.0 request.op) request.t.0 request.op (IsLookedAt self.now request.x.0 request.op) result }
+        requires number { number ≡ number_in self.now.objects request.x.0 }
+        requires asker { A.can_ask permits.old seats.now request.asker }
+        ensures blocked { result.blocked ≡ true → (c : ℕ) × (u : Txn) × (seat seats.now c ≡ Some u) × (blocks (λ u. A.allows permits.old u request.asker.t.0 request.x.0 request.op) request.asker.t.0 request.x.0 request.op u.0 (locks_at self.now c) ≡ true) }
+        ensures free { result.blocked ≡ false → (c : ℕ) (u : Txn) → seat seats.now c ≡ Some u → blocks (λ u. A.allows permits.old u request.asker.t.0 request.x.0 request.op) request.asker.t.0 request.x.0 request.op u.0 (locks_at self.now c) ≡ false }
+        ensures look { IsLook self.now seats.now (λ u. A.allows permits.old u request.asker.t.0 request.x.0 request.op) request.asker.t.0 request.op (IsLookedAt self.now request.x.0 request.op) result }
         ensures permits { permits.new ≡ permits.old }
     {
         self.laws();

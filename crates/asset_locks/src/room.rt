@@ -1,18 +1,16 @@
-//! Room for one more seat.
+//! Places for one more seat.
 
-ghost use Rattle.std.specs.Prelude.{◌≡◌, ℕ, ◌<◌, ◌≤◌, length, OnOk, IfOk};
+ghost use Rattle.std.specs.Prelude.{◌≡◌, ℕ, ◌<◌, ◌≤◌, length, OnOk};
 ghost use Rattle.asset_chains.specs.Chained.{chain_of, home_of};
-ghost use Rattle.asset_seats.specs.Seated.{seat};
-ghost use Rattle.asset_locks.specs.Stored.{pending_at, IsGrown, IsRoomMade, HasSeat};
+ghost use Rattle.asset_locks.specs.Stored.{pending_at};
 
-use crate::store::LockStore;
 use asset_chains::Chains;
 use asset_names::{NoMemory, Ob, Op};
-use asset_seats::{Seats, add_chains, add_keys};
+use asset_seats::{add_chains, add_keys};
 
 /// Adds places for pending requests, with none in them, until the seat has one. If memory runs out, some may have been
 /// added.
-fn add_pending(pending: &mut Vec<Option<(Ob, Op)>>, c: usize) -> Result<(), NoMemory>
+pub(crate) fn add_pending(pending: &mut Vec<Option<(Ob, Op)>>, c: usize) -> Result<(), NoMemory>
     ensures there { OnOk result (c < length pending.new.items) }
     ensures more { length pending.old.items ≤ length pending.new.items }
     ensures same { (d : ℕ) → pending_at pending.new.items d ≡ pending_at pending.old.items d }
@@ -26,22 +24,16 @@ fn add_pending(pending: &mut Vec<Option<(Ob, Op)>>, c: usize) -> Result<(), NoMe
     Ok(())
 }
 
-/// Makes room for one more seat, and returns it. If memory runs out, nothing that is kept changes.
-pub(crate) fn reserve_seat(
-    seats: &mut Seats,
-    pending: &mut Vec<Option<(Ob, Op)>>,
-    order: &mut Chains,
-    store: &mut LockStore,
-) -> Result<usize, NoMemory>
-    ensures room { IfOk result (λ c. HasSeat c seats.new pending.new.items order.new store.new) }
-    ensures same { IsRoomMade seats.old pending.old.items order.old seats.new pending.new.items order.new }
-    ensures store { IsGrown store.old store.new }
+/// Adds chains and keys to the order of enrolment, until the seat has a key in it. If memory runs out, some may have been
+/// added.
+pub(crate) fn add_to_order(order: &mut Chains, c: usize) -> Result<(), NoMemory>
+    ensures chain { OnOk result (0 < length order.new.chains) }
+    ensures key { OnOk result (c < length order.new.homes) }
+    ensures chains { (d : ℕ) → chain_of order.new d ≡ chain_of order.old d }
+    ensures homes { (k : ℕ) → home_of order.new k ≡ home_of order.old k }
+    ensures many { length order.old.chains ≤ length order.new.chains }
+    ensures keys { length order.old.homes ≤ length order.new.homes }
 {
-    seats.reserve()?;
-    let c = seats.vacant();
-    add_pending(pending, c)?;
-    store.reserve_seat(c)?;
     add_chains(order, 0)?;
-    add_keys(order, c)?;
-    Ok(c)
+    add_keys(order, c)
 }

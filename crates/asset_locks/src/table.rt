@@ -1,4 +1,4 @@
-//! The table of locks and its calls.
+//! The table of locks by seat, and its calls.
 
 ghost use Rattle.std.specs.Prelude.{◌≡◌, Some};
 ghost use Rattle.std.specs.Option.{option_to_list};
@@ -7,38 +7,35 @@ ghost use Rattle.asset_seats.specs.Seated.{seat};
 ghost use Rattle.asset_locks.specs.LockTable.{waiting_at};
 ghost use Rattle.asset_locks.specs.Stored.{pending_at, name_or_zero};
 
+use crate::allows::Allows;
 use crate::lock::Request;
-use crate::room::reserve_seat;
+use crate::room::{add_pending, add_to_order};
 use crate::searching::HeldObjects;
 use crate::state::{Asked, LockState};
 use crate::store::LockStore;
 use asset_chains::Chains;
 use asset_names::{NoMemory, Ob, ObSet, Op, Txn};
-use asset_permits::Permits;
-use asset_seats::Seats;
-use smallvec::SmallVec;
+use asset_seats::{Seats, Sitter};
 use std::alloc::Global;
 use std::marker::Model;
 
-/// The locks on objects, and the enrolled transactions with what each holds and waits for. Contracts see a row for each
-/// enrolled transaction, in order of enrolment; nobody sees in which order locks were granted on an object.
+/// The locks on objects, and the enrolled transactions with what each holds and waits for, asked by seat. Contracts see a
+/// row for each enrolled transaction, in order of enrolment; nobody sees in which order locks were granted on an object.
+/// The seats are kept elsewhere: each call takes them, and requires that the table is tied to them. Who has a seat need
+/// not be enrolled.
 #[derive(Drop)]
-pub struct Locks {
-    seats: Seats,
+pub struct SeatedLocks {
     pending: Vec<Option<(Ob, Op)>>,
     order: Chains,
     store: LockStore,
 }
 
-impl Model for Locks {
-    ghost use Rattle.asset_locks.specs.LockTable.{LockTable};
-    ghost use Rattle.asset_locks.specs.Stored.{rows_of, AreSeated};
+impl Model for SeatedLocks {
+    ghost use Rattle.asset_locks.specs.Tied.{LockParts};
 
-    ghost Value = { LockTable };
+    ghost Value = { LockParts };
 
-    ghost view = { λ l. rows_of l.seats l.pending.items l.order l.store };
-
-    ghost invariant = { λ l. AreSeated l.seats l.pending.items l.order l.store };
+    ghost view = { λ l. record { pending = l.pending.items; order = l.order; store = l.store } };
 }
 
 /// Returns who has the seat, with the operation that is asked for, if its pending request is on `x`.
@@ -53,61 +50,83 @@ fn waiter_at(seats: &Seats, pending: &[Option<(Ob, Op)>], c: usize, x: Ob) -> Op
     }
 }
 
-impl Locks {
-    ghost use Rattle.std.specs.Prelude.{◌≡◌, ℕ, ◌==◌, true, false, [], None, Some, is_some, slice_get, filter, IfOk, IsOk, IsErr, OnOk, OnErr};
-    ghost use Rattle.std.specs.List.{list_any};
-    ghost use Rattle.asset_permits.specs.Descriptors.{allows_by};
+impl SeatedLocks {
+    ghost use Rattle.std.specs.Prelude.{◌≡◌, ℕ, ◌==◌, cond, true, false, [], None, Some, is_some, slice_get, filter, IfOk, IsErr, OnOk, OnErr};
     ghost use Rattle.asset_names.specs.InSet.{in_set};
+    ghost use Rattle.asset_chains.specs.Chained.{IsSound};
+    ghost use Rattle.asset_seats.specs.Seated.{Seated, seat, HasSeat};
     ghost use Rattle.asset_locks.specs.LockTable.{enrol_in, release_in, hand_over_in, enrolled_in, is_free_in, lock_in, status_in, held_in, waiters_in};
     ghost use Rattle.asset_locks.specs.Valid.{answer_where, after_ask, IsValid};
+    ghost use Rattle.asset_locks.specs.Tied.{rows_in, IsTied, HasRoom};
 
     /// Returns a table in which nobody is enrolled. It does not allocate.
-    pub fn new(alloc: Global) -> Locks
-        ensures { result ≡ [] }
+    pub fn new(alloc: Global) -> SeatedLocks
+        ensures rows { (seats : Seated) → rows_in seats result ≡ [] }
+        ensures tied { (seats : Seated) → ((c : ℕ) → seat seats c ≡ None) → IsTied result seats }
     {
-        Locks {
-            seats: Seats::new(alloc),
+        SeatedLocks {
             pending: Vec::new(alloc),
             order: Chains::new(alloc),
             store: LockStore::new(alloc),
         }
     }
 
-    /// Enrols `t`: it comes last, holds nothing and waits for nothing. If `t` is enrolled already, nothing changes and
-    /// the answer is Ok.
-    ///
-    /// If memory runs out, nothing changes. The cost is that of a push to a vector, whoever else is enrolled.
-    pub fn enrol(&mut self, t: Txn) -> Result<(), NoMemory>
-        ensures valid { IsValid self.old }
-        ensures done { OnOk result (enrolled_in self.old t.0 ≡ None → self.new ≡ enrol_in t.0 self.old) }
-        ensures again { is_some (enrolled_in self.old t.0) ≡ true → IsOk result × (self.new ≡ self.old) }
-        ensures enrolled { OnOk result (is_some (enrolled_in self.new t.0) ≡ true) }
-        ensures unchanged { OnErr result (self.new ≡ self.old) }
+    /// Adds places for requests, chains and keys until the seat has them. If memory runs out, some may have been added, and
+    /// no row has changed.
+    pub fn make_room(&mut self, c: usize) -> Result<(), NoMemory>
+        ensures room { OnOk result (HasRoom self.new c) }
+        ensures rows { (seats : Seated) → rows_in seats self.new ≡ rows_in seats self.old }
+        ensures tied { (seats : Seated) → IsTied self.old seats → IsTied self.new seats }
     {
-        self.laws();
+        add_pending(&mut self.pending, c)?;
+        self.store.reserve_seat(c)?;
+        add_to_order(&mut self.order, c)
+    }
+
+    /// Enrols `t`: it comes last, holds nothing and waits for nothing. If `t` is enrolled already, nothing changes. It
+    /// takes no memory, and the cost is constant.
+    pub fn enrol(&mut self, seats: &Seats, t: Sitter)
+        requires tied { IsTied self.old seats.now }
+        requires sits { HasSeat seats.now t }
+        ensures tied { IsTied self.new seats.now }
+        ensures valid { IsValid (rows_in seats.now self.old) }
+        ensures done { enrolled_in (rows_in seats.now self.old) t.t.0 ≡ None → rows_in seats.now self.new ≡ enrol_in t.t.0 (rows_in seats.now self.old) }
+        ensures again { is_some (enrolled_in (rows_in seats.now self.old) t.t.0) ≡ true → self.new ≡ self.old }
+        ensures enrolled { is_some (enrolled_in (rows_in seats.now self.new) t.t.0) ≡ true }
+    {
+        self.laws(seats);
         self.order.laws();
-        match self.seats.seat_of(t) {
-            Some(_) => Ok(()),
-            None => self.enrol_new(t),
+        self.store.laws();
+        if self.order.home(t.at).is_some() {
+            return;
         }
+        self.pending[t.at] = None;
+        self.order.push(0, t.at);
     }
 
     /// Returns whether `x` is free for `t` to do `op`: each lock on `x` that conflicts with `op`, granted or suspended,
     /// is its own or belongs to a transaction that allows it. For a read it looks at the locks on `x` that write, and
-    /// for a write at all locks on `x`.
-    pub fn is_free(&self, t: Txn, x: Ob, op: Op, permits: &mut Permits) -> bool
-        ensures free { result ≡ is_free_in self.now (λ u. allows_by permits.old u t.0 x.0 op) t.0 x.0 op }
-        ensures valid { IsValid self.now }
+    /// for a write at all locks on `x`. The seat of `t` matters only to the permits.
+    pub fn is_free<A: Allows>(
+        &self,
+        seats: &Seats,
+        t: Sitter,
+        x: Ob,
+        op: Op,
+        permits: &mut A,
+    ) -> bool
+        requires tied { IsTied self.now seats.now }
+        requires asker { A.can_ask permits.old seats.now t }
+        ensures free { result ≡ is_free_in (rows_in seats.now self.now) (λ u. A.allows permits.old u t.t.0 x.0 op) t.t.0 x.0 op }
+        ensures valid { IsValid (rows_in seats.now self.now) }
         ensures permits { permits.new ≡ permits.old }
     {
-        self.laws();
+        self.laws(seats);
         self.order.laws();
-        let request = Request { t, x, op };
+        self.store.laws();
+        let request = Request { asker: t, x, op };
         let number = self.store.number(x);
-        !self
-            .store
-            .look(number, request, &self.seats, permits)
-            .blocked
+        !self.store.look(number, request, seats, permits).blocked
     }
 
     /// Asks for `op` on `x` for `t`, which is enrolled. If `x` is free for it, `t` is granted a lock that carries `op`
@@ -117,57 +136,69 @@ impl Locks {
     /// Only the first grant to `t` on `x` can answer `NoMemory`, and then nothing changes. It looks at the locks at which
     /// `is_free` looks, and again only to suspend some. If a read meets no lock of `t` among them, it searches for one
     /// among those of `t` or those on `x` that only read, whichever are fewer.
-    pub fn ask(&mut self, t: Txn, x: Ob, op: Op, permits: &mut Permits) -> Result<Asked, NoMemory>
-        requires enrolled { is_some (enrolled_in self.old t.0) ≡ true }
-        ensures answer { IfOk result (λ asked. asked ≡ answer_where (is_free_in self.old (λ u. allows_by permits.old u t.0 x.0 op) t.0 x.0 op)) }
-        ensures done { OnOk result (self.new ≡ after_ask (is_free_in self.old (λ u. allows_by permits.old u t.0 x.0 op) t.0 x.0 op) t.0 x op self.old) }
-        ensures valid { IsValid self.old }
-        ensures memory { IsErr result → is_free_in self.old (λ u. allows_by permits.old u t.0 x.0 op) t.0 x.0 op ≡ true }
-        ensures first { IsErr result → lock_in self.old t.0 x.0 ≡ None }
-        ensures unchanged { OnErr result (self.new ≡ self.old) }
+    pub fn ask<A: Allows>(
+        &mut self,
+        seats: &Seats,
+        t: Sitter,
+        x: Ob,
+        op: Op,
+        permits: &mut A,
+    ) -> Result<Asked, NoMemory>
+        requires tied { IsTied self.old seats.now }
+        requires sits { HasSeat seats.now t }
+        requires enrolled { is_some (enrolled_in (rows_in seats.now self.old) t.t.0) ≡ true }
+        requires asker { A.can_ask permits.old seats.now t }
+        ensures tied { IsTied self.new seats.now }
+        ensures answer { IfOk result (λ asked. asked ≡ answer_where (is_free_in (rows_in seats.now self.old) (λ u. A.allows permits.old u t.t.0 x.0 op) t.t.0 x.0 op)) }
+        ensures done { OnOk result (rows_in seats.now self.new ≡ after_ask (is_free_in (rows_in seats.now self.old) (λ u. A.allows permits.old u t.t.0 x.0 op) t.t.0 x.0 op) t.t.0 x op (rows_in seats.now self.old)) }
+        ensures valid { IsValid (rows_in seats.now self.old) }
+        ensures memory { IsErr result → is_free_in (rows_in seats.now self.old) (λ u. A.allows permits.old u t.t.0 x.0 op) t.t.0 x.0 op ≡ true }
+        ensures first { IsErr result → lock_in (rows_in seats.now self.old) t.t.0 x.0 ≡ None }
+        ensures unchanged { OnErr result (rows_in seats.now self.new ≡ rows_in seats.now self.old) }
         ensures permits { permits.new ≡ permits.old }
     {
-        self.laws();
+        self.laws(seats);
         self.order.laws();
-        let Some(c) = self.seats.seat_of(t) else {
-            unreachable!();
-        };
-        let request = Request { t, x, op };
+        self.store.laws();
+        let request = Request { asker: t, x, op };
         let number = self.store.number(x);
-        let look = self.store.look(number, request, &self.seats, permits);
+        let look = self.store.look(number, request, seats, permits);
         if look.blocked {
-            self.pending[c] = Some((x, op));
+            self.pending[t.at] = Some((x, op));
             return Ok(Asked::Pending);
         }
-        self.store.grant(look, number, c, x, op)?;
-        self.pending[c] = None;
+        self.store.grant(look, number, t.at, x, op)?;
+        self.pending[t.at] = None;
         Ok(Asked::Granted)
     }
 
     /// Returns the state of the lock that `t` has on `x`, if it has one. It looks at the locks of `t` or at those on `x`,
     /// whichever are fewer.
-    pub fn status(&self, t: Txn, x: Ob) -> Option<LockState>
-        ensures status { result ≡ status_in self.now t.0 x.0 }
-        ensures valid { IsValid self.now }
+    pub fn status(&self, seats: &Seats, t: Sitter, x: Ob) -> Option<LockState>
+        requires tied { IsTied self.now seats.now }
+        requires sits { HasSeat seats.now t }
+        ensures status { result ≡ status_in (rows_in seats.now self.now) t.t.0 x.0 }
+        ensures valid { IsValid (rows_in seats.now self.now) }
     {
-        self.laws();
+        self.laws(seats);
         self.order.laws();
         self.store.laws();
-        let c = self.seats.seat_of(t)?;
-        let key = self.store.key_on(self.store.number(x), c, x)?;
+        let key = self.store.key_on(self.store.number(x), t.at, x)?;
         Some(self.store.lock(key).state())
     }
 
     /// Returns the object at the index among those on which `t` has a lock, in order of first grant from 0, and `None`
     /// past the end. It looks at the locks of `t` up to it.
-    pub fn held_by(&self, t: Txn, n: usize) -> Option<Ob>
-        ensures held { result ≡ slice_get (held_in self.now t.0) n }
-        ensures valid { IsValid self.now }
+    pub fn held_by(&self, seats: &Seats, t: Sitter, n: usize) -> Option<Ob>
+        requires tied { IsTied self.now seats.now }
+        requires sits { HasSeat seats.now t }
+        ensures held { result ≡ slice_get (held_in (rows_in seats.now self.now) t.t.0) n }
+        ensures valid { IsValid (rows_in seats.now self.now) }
     {
-        self.laws();
+        self.laws(seats);
         self.order.laws();
-        let c = self.seats.seat_of(t)?;
-        self.store.held_at(c, n)
+        self.store.laws();
+        self.store.held_at(t.at, n)
     }
 
     /// Returns the objects of the set on which `t` has a lock, in the order of `held_by`. It looks at the locks of `t`
@@ -177,30 +208,32 @@ impl Locks {
     pub fn held_among(
         &self,
         alloc: Global,
-        t: Txn,
+        seats: &Seats,
+        t: Sitter,
         objects: &ObSet,
     ) -> Result<HeldObjects, NoMemory>
-        ensures held { IfOk result (λ held. held.items ≡ filter (λ (x : Ob). in_set objects.now x.0) (held_in self.now t.0)) }
-        ensures valid { IsValid self.now }
+        requires tied { IsTied self.now seats.now }
+        requires sits { HasSeat seats.now t }
+        ensures held { IfOk result (λ held. held.items ≡ filter (λ (x : Ob). in_set objects.now x.0) (held_in (rows_in seats.now self.now) t.t.0)) }
+        ensures valid { IsValid (rows_in seats.now self.now) }
     {
-        self.laws();
+        self.laws(seats);
         self.order.laws();
-        match self.seats.seat_of(t) {
-            Some(c) => self.store.held_among(alloc, c, objects),
-            None => Ok(SmallVec::new(alloc)),
-        }
+        self.store.laws();
+        self.store.held_among(alloc, t.at, objects)
     }
 
     /// Returns the waiter at the index among those whose pending request is on `x`, in order of enrolment from 0, with
     /// the operation that it asked for, and `None` past the end. It looks at the transactions enrolled up to it.
-    pub fn waiters(&self, x: Ob, n: usize) -> Option<(Txn, Op)>
-        ensures { result ≡ slice_get (waiters_in self.now x.0) n }
+    pub fn waiters(&self, seats: &Seats, x: Ob, n: usize) -> Option<(Txn, Op)>
+        requires { IsTied self.now seats.now }
+        ensures { result ≡ slice_get (waiters_in (rows_in seats.now self.now) x.0) n }
     {
         self.order.laws();
         let mut before = n;
         let mut next = self.order.first(0);
         'enrolled: while let Some(c) = next {
-            if let Some(waiter) = waiter_at(&self.seats, &self.pending, c, x) {
+            if let Some(waiter) = waiter_at(seats, &self.pending, c, x) {
                 if before == 0 {
                     return Some(waiter);
                 }
@@ -211,18 +244,19 @@ impl Locks {
         None
     }
 
-    /// Ends the enrolment of `t`, with its locks and its pending request. The cost is that of its own locks.
-    pub fn release(&mut self, t: Txn)
-        ensures { self.new ≡ release_in (λ n. n == t.0) self.old }
+    /// Ends the enrolment of `t`, with its locks and its pending request, so that it may leave its seat. If it is not
+    /// enrolled, no row changes. The cost is that of its own locks.
+    pub fn release(&mut self, seats: &Seats, t: Sitter)
+        requires tied { IsTied self.old seats.now }
+        requires sits { HasSeat seats.now t }
+        ensures tied { IsTied self.new seats.now }
+        ensures leaves { (left : Seated) → ((c : ℕ) → seat left c ≡ cond (c == t.at) None (seat seats.now c)) → IsTied self.new left × (rows_in left self.new ≡ rows_in seats.now self.new) }
+        ensures released { rows_in seats.now self.new ≡ release_in (λ n. n == t.t.0) (rows_in seats.now self.old) }
     {
-        self.laws();
         self.order.laws();
-        let Some(c) = self.seats.seat_of(t) else {
-            return;
-        };
-        self.store.release(c);
-        self.order.unlink(c);
-        self.seats.leave(c);
+        self.store.release(t.at);
+        self.order.unlink(t.at);
+        self.order.laws();
     }
 
     /// Makes the locks of `giver` on objects of the set those of `taker`; both are enrolled. If `taker` has no lock on an
@@ -232,51 +266,32 @@ impl Locks {
     ///
     /// It takes no memory. It looks at each lock of `giver`, and for each that moves, for the lock of `taker`, at the
     /// locks of `taker` or those on the object, whichever are fewer.
-    pub fn hand_over(&mut self, giver: Txn, taker: Txn, objects: &ObSet)
-        requires giver { is_some (enrolled_in self.old giver.0) ≡ true }
-        requires taker { is_some (enrolled_in self.old taker.0) ≡ true }
-        ensures done { self.new ≡ hand_over_in giver.0 taker.0 objects.now self.old }
-        ensures valid { IsValid self.old }
+    pub fn hand_over(&mut self, seats: &Seats, giver: Sitter, taker: Sitter, objects: &ObSet)
+        requires tied { IsTied self.old seats.now }
+        requires giver_sits { HasSeat seats.now giver }
+        requires taker_sits { HasSeat seats.now taker }
+        requires giver { is_some (enrolled_in (rows_in seats.now self.old) giver.t.0) ≡ true }
+        requires taker { is_some (enrolled_in (rows_in seats.now self.old) taker.t.0) ≡ true }
+        ensures tied { IsTied self.new seats.now }
+        ensures done { rows_in seats.now self.new ≡ hand_over_in giver.t.0 taker.t.0 objects.now (rows_in seats.now self.old) }
+        ensures valid { IsValid (rows_in seats.now self.old) }
     {
-        self.laws();
+        self.laws(seats);
         self.order.laws();
-        if giver == taker {
+        if giver.t == taker.t {
             return;
         }
-        let Some(from) = self.seats.seat_of(giver) else {
-            unreachable!();
-        };
-        let Some(to) = self.seats.seat_of(taker) else {
-            unreachable!();
-        };
-        self.store.hand_over(from, to, objects);
+        self.store.hand_over(giver.at, taker.at, objects);
     }
 
-    /// Says what holds of each table, for proofs. It does nothing.
-    fn laws(&self)
-        ensures { IsValid self.now }
+    /// Says what holds of each table that is tied to the seats, for proofs. It does nothing.
+    pub fn laws(&self, seats: &Seats)
+        requires { IsTied self.now seats.now }
+        ensures valid { IsValid (rows_in seats.now self.now) }
+        ensures order { IsSound self.now.order }
     {
+        let _ = seats;
         self.order.laws();
         self.store.laws();
-    }
-
-    /// Enrols `t`, which is not enrolled. If memory runs out, nothing changes.
-    fn enrol_new(&mut self, t: Txn) -> Result<(), NoMemory>
-        requires { enrolled_in self.old t.0 ≡ None }
-        ensures done { OnOk result (self.new ≡ enrol_in t.0 self.old) }
-        ensures unchanged { OnErr result (self.new ≡ self.old) }
-    {
-        self.order.laws();
-        self.store.laws();
-        let c = reserve_seat(
-            &mut self.seats,
-            &mut self.pending,
-            &mut self.order,
-            &mut self.store,
-        )?;
-        self.seats.sit(t);
-        self.pending[c] = None;
-        self.order.push(0, c);
-        Ok(())
     }
 }
