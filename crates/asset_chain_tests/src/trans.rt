@@ -1,16 +1,21 @@
 //! Each public call on worked values, and what is left if memory runs out.
 
 use asset_names::{End, NoMemory, Status, Txn};
-use asset_trans::Trans;
+use asset_trans::{Trans, TransRow};
 
 /// How many transactions are initiated if memory runs out once.
 const COUNT: u64 = 20;
+
+/// Returns the seat that the tests give a transaction.
+fn seat_for(t: Txn) -> usize {
+    t.0 as usize % 100 + 3
+}
 
 /// Initiates a transaction if it is Unknown, and returns whether it was.
 pub(crate) fn initiate(trans: &mut Trans, t: Txn, parent: Option<Txn>) -> Result<bool, NoMemory> {
     match trans.status(t) {
         Status::Unknown => {
-            trans.initiate(t, parent)?;
+            trans.initiate_at(t, parent, seat_for(t))?;
             Ok(true)
         }
         _ => Ok(false),
@@ -107,6 +112,62 @@ fn parent_is_recorded(rt: HostRuntime) {
     let recorded = parent_stands(&mut trans);
     drop(trans);
     assert!(rt; recorded);
+}
+
+/// Returns whether the rows of 7, which has ended, and of 8, its child, hold the seats that they were given, and that of 9,
+/// which is unknown, none.
+fn seats_stand(trans: &mut Trans) -> bool {
+    let child = TransRow {
+        status: Status::Initiated,
+        parent: Some(Txn(7)),
+        seat: 11,
+    };
+    let ended = TransRow {
+        status: Status::Aborted,
+        parent: None,
+        seat: 10,
+    };
+    initiate_again(trans, Txn(7), None) == Ok(true)
+        && initiate_again(trans, Txn(8), Some(Txn(7))) == Ok(true)
+        && end(trans, Txn(7), End::Aborted)
+        && (trans.seat(Txn(7)), trans.seat(Txn(8)), trans.seat(Txn(9))) == (10, 11, 0)
+        && trans.find(Txn(7)) == Some(ended)
+        && trans.find(Txn(8)) == Some(child)
+        && trans.find(Txn(9)) == None
+}
+
+#[test]
+fn rows_hold_their_seats(rt: HostRuntime) {
+    let mut trans = Trans::new(rt.alloc());
+    let held = seats_stand(&mut trans);
+    drop(trans);
+    assert!(rt; held);
+}
+
+/// Initiates a transaction without a seat, and returns its row. If memory runs out, the same call is made again.
+fn row_without_a_seat(trans: &mut Trans, t: Txn, parent: Option<Txn>) -> Option<TransRow> {
+    'asked: for _ in 0..2 {
+        match trans.status(t) {
+            Status::Unknown => {
+                let _done = trans.initiate(t, parent);
+            }
+            _ => {}
+        }
+    }
+    trans.find(t)
+}
+
+#[test]
+fn row_without_a_seat_says_zero(rt: HostRuntime) {
+    let mut trans = Trans::new(rt.alloc());
+    let row = row_without_a_seat(&mut trans, Txn(7), Some(Txn(8)));
+    drop(trans);
+    let expected = TransRow {
+        status: Status::Initiated,
+        parent: Some(Txn(8)),
+        seat: 0,
+    };
+    assert_eq!(rt; row, Some(expected));
 }
 
 /// Returns whether `COUNT` transactions are initiated, one after another, and none twice.

@@ -1,16 +1,17 @@
 -- Those who are marked end one after another, and in the end all of them have; whether a class may commit.
-use Rattle.std.proofs.Common.{◌≡◌, ℕ, ◌+◌, take, Bool, true, false, cond, not, eqb, ◌&&◌, ◌||◌, List, [], ◌∷◌, ◌++◌, reverse, refl, sym, ◌∙◌, ap, subst}
-use Rattle.std.specs.Prelude.{Some, is_some, slice_get}
+use Rattle.std.proofs.Common.{◌≡◌, ℕ, ◌+◌, take, Bool, true, false, cond, not, eqb, ◌&&◌, ◌||◌, List, [], ◌∷◌, ◌++◌, reverse, length, refl, sym, ◌∙◌, ap, subst}
+use Rattle.std.specs.Prelude.{Option, Some, None, is_some, slice_get}
 use Rattle.std.specs.List.{list_all}
 use Rattle.std.proofs.lemmas.Option.{slice_get_within, get_or_from_slice_get}
+use Rattle.std.proofs.lemmas.List.{length-map}
 use Rattle.std.proofs.lemmas.List.Folds.{list_all_at, list_all_more}
-use Rattle.std.proofs.lemmas.Bool.{or_left, or_right, and_parts, and_from, eqb-true, eq-eqb, false≢true}
+use Rattle.std.proofs.lemmas.Bool.{or_left, or_right, and_from, eqb-true, eq-eqb, ne_eqb, false≢true}
 use Rattle.asset_names.specs.declared.names.Txn.{Txn}
 use Rattle.asset_names.specs.declared.statuses.End.{End}
 use Rattle.asset_names.specs.declared.statuses.End.TheVariants as End'
 use Rattle.asset_names.specs.declared.steps.Step.{Step}
 use Rattle.asset_names.specs.declared.steps.Step.TheVariants.{Commit, Abort}
-use Rattle.asset_names.specs.Arrows.{lists, among}
+use Rattle.asset_names.specs.Arrows.{lists}
 use Rattle.asset_names.specs.Steps.{Opening, initiated}
 use Rattle.asset_names.specs.Endings.{status, same_class, is_live_status}
 use Rattle.asset_names.specs.Answers.{is_completed, class_completed, may_commit}
@@ -19,19 +20,24 @@ use Rattle.asset_names.proofs.EndLemmas.{commits, aborts}
 use Rattle.asset_names.proofs.ListLemmas.{all_listed, listed_all, lists_pushed}
 use Rattle.asset_objects.specs.Cells.{cells}
 use Rattle.asset_locks.specs.LockTable as Locks
-use Rattle.asset_deps.specs.Dependencies.{DepTable, class_in, doomed_in, outside_source_in}
-use Rattle.asset_trans.specs.TransRows.{NamedTransRow, names_of, row_in, status_in, set_in, ended_as}
+use Rattle.asset_permits.specs.Valid.{permits_in}
+use Rattle.asset_seats.specs.Seated.{Seated, seat}
+use Rattle.asset_deps.specs.Dependencies.{class_in, doomed_in, outside_source_in}
+use Rattle.asset_deps.specs.Valid.{LinkTable, dependencies_in, marked_in, marked_of, name_at, IsTied}
+use Rattle.asset_deps.proofs.SeatLemmas.{marked_seat}
+use Rattle.asset_trans.specs.TransRows.{NamedTransRow, names_of, row_in, status_in, seat_in, set_in, ended_as}
 use Rattle.asset_ends.specs.Shows.{Shows, table_values}
-use Rattle.asset_ends.specs.Standing.{Standing, values_of, may_commit_in, AreEnrolled, DependAlive, IsValid}
+use Rattle.asset_ends.specs.Standing.{Standing, values_of, may_commit_in, AreEnrolled, LiveAreSeated}
+use Rattle.asset_ends.specs.Tied.{PartsAreTied, PartsAreValid}
 use Rattle.asset_ends.specs.declared.parts.Parts.{Parts}
-use Rattle.asset_ends.specs.Ended.{parts, AreEnded, ended_cell}
+use Rattle.asset_ends.specs.Ended.{parts, locks_of, marked_by, unless_gone, AreEnded, ended_cell}
 use Rattle.asset_ends.proofs.CellLemmas.{is_name}
-use Rattle.asset_ends.proofs.TransLaws.{status_set, row_named}
+use Rattle.asset_ends.proofs.TransLaws.{status_set, seat_set, row_named}
 use Rattle.asset_ends.proofs.LockLaws.{names_released}
 use Rattle.asset_ends.proofs.HistoryLemmas.{reverse-cons}
 use Rattle.asset_ends.proofs.DependLaws.{class_shown, commits_shown, aborts_shown, outside_shown}
 use Rattle.asset_ends.proofs.ShowsLemmas.{row_known, commit_shows, abort_shows, live_shown}
-use Rattle.asset_ends.proofs.EnrolledLemmas.{lists_filter, live_known, same_depends}
+use Rattle.asset_ends.proofs.EnrolledLemmas.{lists_filter, live_known}
 use Rattle.asset_ends.proofs.TwiceLemmas.{either, nobody, ended_twice, ended_none, ended_as_test}
 
 -- ---- one after another
@@ -76,27 +82,29 @@ one_gone start now next u is new within n = go (eqb u n) refl where
 
 -- where the loop stands: those whose mark is taken have ended, and the others are live
 pub record AreEnding (how : End) (start now : Parts) : Type 0 where
-  pub ended : AreEnded (gone start.deps.marked now.deps.marked) how start now
-  pub within : (n : ℕ) → lists now.deps.marked n ≡ true → lists start.deps.marked n ≡ true
-  pub live : (n : ℕ) → lists now.deps.marked n ≡ true → is_live_status (status_in now.trans n) ≡ true
+  pub ended : AreEnded (gone (marked_by start) (marked_by now)) how start now
+  pub within : (n : ℕ) → lists (marked_by now) n ≡ true → lists (marked_by start) n ≡ true
+  pub live : (n : ℕ) → lists (marked_by now) n ≡ true → is_live_status (status_in now.trans n) ≡ true
+  pub tied : PartsAreTied now
 
-pub none_ending : (how : End) (start : Parts) → ((n : ℕ) → lists start.deps.marked n ≡ true → is_live_status (status_in start.trans n) ≡ true) → AreEnding how start start
-none_ending how start alive = record {
-  ended = ended_as_test nobody (gone start.deps.marked start.deps.marked) how start start (none_gone start.deps.marked) (ended_none how start);
+pub none_ending : (how : End) (start : Parts) → ((n : ℕ) → lists (marked_by start) n ≡ true → is_live_status (status_in start.trans n) ≡ true) → PartsAreTied start → AreEnding how start start
+none_ending how start alive tied = record {
+  ended = ended_as_test nobody (gone (marked_by start) (marked_by start)) how start start (none_gone (marked_by start)) (ended_none how start);
   within = λ n listed. listed;
   live = alive;
+  tied = tied;
 }
 
--- marks and seats are of no account
-still_ended : (test : ℕ → Bool) (how : End) (before now : Parts) (after : DepTable) → after.dependencies ≡ now.deps.dependencies → after.names ≡ now.deps.names → AreEnded test how before now
-    → AreEnded test how before (parts now.trans now.objects now.locks now.permits after)
-still_ended test how before now after d n ended = record {
+-- marks are of no account
+still_ended : (test : ℕ → Bool) (how : End) (before now : Parts) (after : LinkTable) → dependencies_in after ≡ dependencies_in now.deps → AreEnded test how before now
+    → AreEnded test how before (parts now.seats now.trans now.objects now.locks now.permits after)
+still_ended test how before now after d ended = record {
   rows = ended.rows;
   objects = ended.objects;
   locks = ended.locks;
   permits = ended.permits;
   deps = λ k u v. rw d (ended.deps k u v);
-  names = λ m. rw n (ended.names m);
+  seats = ended.seats;
 }
 
 -- of the others the status stays
@@ -109,49 +117,50 @@ apart_from names u n new listed = go (eqb n u) refl where
   go false e = refl
   go true e = absurd (false≢true (sym new ∙ ap (lists names) (sym (eqb-true n u e)) ∙ listed))
 
-pub next_ending : (how : End) (start now : Parts) (after : DepTable) (later : Parts) (u : ℕ) → AreEnding how start now → now.deps.marked ≡ after.marked ++ u ∷ [] → lists after.marked u ≡ false
-    → after.dependencies ≡ now.deps.dependencies → after.names ≡ now.deps.names → AreEnded (is_name u) how (parts now.trans now.objects now.locks now.permits after) later → later.deps.marked ≡ after.marked
+pub next_ending : (how : End) (start now : Parts) (after : LinkTable) (later : Parts) (u : ℕ) → AreEnding how start now → marked_by now ≡ marked_in now.seats after ++ u ∷ [] → lists (marked_in now.seats after) u ≡ false
+    → dependencies_in after ≡ dependencies_in now.deps → AreEnded (is_name u) how (parts now.seats now.trans now.objects now.locks now.permits after) later → marked_by later ≡ marked_in now.seats after → PartsAreTied later
     → AreEnding how start later
-next_ending how start now after later u ending is new d names one marked = record {
-  ended = ended_as_test (either (gone start.deps.marked now.deps.marked) (is_name u)) (gone start.deps.marked later.deps.marked) how start later
-      (λ n. one_gone start.deps.marked now.deps.marked after.marked u is new ending.within n ∙ ap (λ marks. gone start.deps.marked marks n) (sym marked))
-      (ended_twice (gone start.deps.marked now.deps.marked) (is_name u) how start (parts now.trans now.objects now.locks now.permits after) later (still_ended _ how start now after d names ending.ended) one);
+next_ending how start now after later u ending is new d one marked tied = record {
+  ended = ended_as_test (either (gone (marked_by start) (marked_by now)) (is_name u)) (gone (marked_by start) (marked_by later)) how start later
+      (λ n. one_gone (marked_by start) (marked_by now) (marked_in now.seats after) u is new ending.within n ∙ ap (λ marks. gone (marked_by start) marks n) (sym marked))
+      (ended_twice (gone (marked_by start) (marked_by now)) (is_name u) how start (parts now.seats now.trans now.objects now.locks now.permits after) later (still_ended _ how start now after d ending.ended) one);
   within = λ n listed. ending.within n (among_now n listed);
-  live = λ n listed. rw (one.rows, others_live u how now.trans n (apart_from after.marked u n new (still_listed n listed))) (ending.live n (among_now n listed));
+  live = λ n listed. rw (one.rows, others_live u how now.trans n (apart_from (marked_in now.seats after) u n new (still_listed n listed))) (ending.live n (among_now n listed));
+  tied = tied;
 } where
-  still_listed : (n : ℕ) → lists later.deps.marked n ≡ true → lists after.marked n ≡ true
+  still_listed : (n : ℕ) → lists (marked_by later) n ≡ true → lists (marked_in now.seats after) n ≡ true
   still_listed n listed = ap (λ marks. lists marks n) (sym marked) ∙ listed
 
-  among_now : (n : ℕ) → lists later.deps.marked n ≡ true → lists now.deps.marked n ≡ true
-  among_now n listed = ap (λ marks. lists marks n) is ∙ lists_pushed after.marked u n ∙ or_left _ _ (still_listed n listed)
+  among_now : (n : ℕ) → lists (marked_by later) n ≡ true → lists (marked_by now) n ≡ true
+  among_now n listed = ap (λ marks. lists marks n) is ∙ lists_pushed (marked_in now.seats after) u n ∙ or_left _ _ (still_listed n listed)
 
-pub next_live : (how : End) (start now : Parts) (next : List ℕ) (u : ℕ) → AreEnding how start now → now.deps.marked ≡ next ++ u ∷ [] → is_live_status (status_in now.trans u) ≡ true
+pub next_live : (how : End) (start now : Parts) (next : List ℕ) (u : ℕ) → AreEnding how start now → marked_by now ≡ next ++ u ∷ [] → is_live_status (status_in now.trans u) ≡ true
 next_live how start now next u ending is = ending.live u (ap (λ marks. lists marks u) is ∙ lists_pushed next u u ∙ or_right (lists next u) _ (eq-eqb u u refl))
 
 -- when none is marked any more, all have ended
-pub all_ended : (how : End) (start now : Parts) → AreEnding how start now → now.deps.marked ≡ [] → AreEnded (lists start.deps.marked) how start now
+pub all_ended : (how : End) (start now : Parts) → AreEnding how start now → marked_by now ≡ [] → AreEnded (lists (marked_by start)) how start now
 all_ended how start now ending none =
-    ended_as_test (gone start.deps.marked now.deps.marked) (lists start.deps.marked) how start now (λ n. ap (λ marks. gone start.deps.marked marks n) none ∙ all_gone start.deps.marked n) ending.ended
+    ended_as_test (gone (marked_by start) (marked_by now)) (lists (marked_by start)) how start now (λ n. ap (λ marks. gone (marked_by start) marks n) none ∙ all_gone (marked_by start) n) ending.ended
 
 -- ---- what the tables show then
 
 pub commit_stands : (opening : Opening) (steps : List Step) (test : ℕ → Bool) (before later : Parts) (t : Txn) → AreEnded test End'.Committed before later
-    → ((n : ℕ) → test n ≡ class_in before.deps.dependencies t.0 n) → is_live_status (status_in before.trans t.0) ≡ true
-    → Shows opening steps (table_values before.trans (cells before.objects) before.locks before.permits before.deps.dependencies)
-    → Shows opening (Commit t ∷ steps) (table_values later.trans (cells later.objects) later.locks later.permits later.deps.dependencies)
+    → ((n : ℕ) → test n ≡ class_in (dependencies_in before.deps) t.0 n) → is_live_status (status_in before.trans t.0) ≡ true
+    → Shows opening steps (table_values before.trans (cells before.objects) (locks_of before) (permits_in before.permits) (dependencies_in before.deps))
+    → Shows opening (Commit t ∷ steps) (table_values later.trans (cells later.objects) (locks_of later) (permits_in later.permits) (dependencies_in later.deps))
 unfolding ended_cell ended_as
 commit_stands opening steps test before later t ended is alive stand =
-    let all = ended_as_test test (commits steps t.0) End'.Committed before later (λ n. is n ∙ commits_shown steps before.deps.dependencies stand.dependencies_stand t.0 (sym (live_shown opening steps _ _ _ _ _ t.0 stand) ∙ alive) n) ended in
-    rw (all.rows, all.objects, all.locks) (commit_shows opening steps before.trans (cells before.objects) before.locks before.permits before.deps.dependencies t stand later.permits all.permits later.deps.dependencies all.deps)
+    let all = ended_as_test test (commits steps t.0) End'.Committed before later (λ n. is n ∙ commits_shown steps (dependencies_in before.deps) stand.dependencies_stand t.0 (sym (live_shown opening steps _ _ _ _ _ t.0 stand) ∙ alive) n) ended in
+    rw (all.rows, all.objects, all.locks) (commit_shows opening steps before.trans (cells before.objects) (locks_of before) (permits_in before.permits) (dependencies_in before.deps) t stand (permits_in later.permits) all.permits (dependencies_in later.deps) all.deps)
 
 pub abort_stands : (opening : Opening) (steps : List Step) (test : ℕ → Bool) (before later : Parts) (t : Txn) → AreEnded test End'.Aborted before later
-    → ((n : ℕ) → test n ≡ doomed_in before.deps.dependencies t.0 n) → is_live_status (status_in before.trans t.0) ≡ true
-    → Shows opening steps (table_values before.trans (cells before.objects) before.locks before.permits before.deps.dependencies)
-    → Shows opening (Abort t ∷ steps) (table_values later.trans (cells later.objects) later.locks later.permits later.deps.dependencies)
+    → ((n : ℕ) → test n ≡ doomed_in (dependencies_in before.deps) t.0 n) → is_live_status (status_in before.trans t.0) ≡ true
+    → Shows opening steps (table_values before.trans (cells before.objects) (locks_of before) (permits_in before.permits) (dependencies_in before.deps))
+    → Shows opening (Abort t ∷ steps) (table_values later.trans (cells later.objects) (locks_of later) (permits_in later.permits) (dependencies_in later.deps))
 unfolding ended_cell ended_as
 abort_stands opening steps test before later t ended is alive stand =
-    let all = ended_as_test test (aborts steps t.0) End'.Aborted before later (λ n. is n ∙ aborts_shown steps before.deps.dependencies stand.dependencies_stand t.0 (sym (live_shown opening steps _ _ _ _ _ t.0 stand) ∙ alive) n) ended in
-    rw (all.rows, all.objects, all.locks) (abort_shows opening steps before.trans (cells before.objects) before.locks before.permits before.deps.dependencies t stand later.permits all.permits later.deps.dependencies all.deps)
+    let all = ended_as_test test (aborts steps t.0) End'.Aborted before later (λ n. is n ∙ aborts_shown steps (dependencies_in before.deps) stand.dependencies_stand t.0 (sym (live_shown opening steps _ _ _ _ _ t.0 stand) ∙ alive) n) ended in
+    rw (all.rows, all.objects, all.locks) (abort_shows opening steps before.trans (cells before.objects) (locks_of before) (permits_in before.permits) (dependencies_in before.deps) t stand (permits_in later.permits) all.permits (dependencies_in later.deps) all.deps)
 
 -- ---- who is enrolled then
 
@@ -168,35 +177,75 @@ set_ended test how rows alive n = status_set test (ended_as how) rows n ∙ go (
   go false e = refl
   go true e = rw (row_known rows n (live_known (status_in rows n) (alive n e))) refl
 
-pub ended_valid : (test : ℕ → Bool) (how : End) (before later : Parts) → AreEnded test how before later → ((n : ℕ) → test n ≡ true → is_live_status (status_in before.trans n) ≡ true)
-    → IsValid before.trans before.locks before.deps → IsValid later.trans later.locks later.deps
-unfolding AreEnrolled DependAlive
-ended_valid test how before later ended alive valid = record {
-  locks = λ n. rw (ended.locks, ended.rows, set_ended test how before.trans alive n) (ap (λ names. lists names n) (names_released test before.locks) ∙ lists_filter (λ m. not (test m)) (Locks.names_in before.locks) n ∙ enrolled n (test n) (valid.locks n));
-  deps = λ n listed. let parts = and_parts (lists before.deps.names n) _ (sym (ended.names n) ∙ listed) in rw (ended.rows, set_ended test how before.trans alive n) (goes_on n (test n) parts.1 (valid.deps n parts.0));
+-- and they have left their seats
+ended_seated : (test : ℕ → Bool) (how : End) (before later : Parts) → AreEnded test how before later → ((n : ℕ) → test n ≡ true → is_live_status (status_in before.trans n) ≡ true)
+    → LiveAreSeated before.trans before.seats → LiveAreSeated later.trans later.seats
+unfolding unless_gone
+ended_seated test how before later ended alive seated = record {
+  seated = λ t live. at_seat t ∙ stays t (test t.0) refl (ap is_live_status (sym (status_is t)) ∙ live);
+  live = λ c t sat. ap is_live_status (status_is t) ∙ lives c t (seat before.seats c) refl (sym (ended.seats c) ∙ sat);
 } where
-  enrolled : (n : ℕ) (ends : Bool) → lists (Locks.names_in before.locks) n ≡ is_live_status (status_in before.trans n) → (not ends && lists (Locks.names_in before.locks) n) ≡ is_live_status (cond ends (ended_as how) (status_in before.trans n))
+  status_is : (t : Txn) → status_in later.trans t.0 ≡ cond (test t.0) (ended_as how) (status_in before.trans t.0)
+  status_is t = rw ended.rows (set_ended test how before.trans alive t.0)
+
+  at_seat : (t : Txn) → seat later.seats (seat_in later.trans t.0) ≡ unless_gone test (seat before.seats (seat_in before.trans t.0))
+  at_seat t = rw ended.rows (ap (seat later.seats) (seat_set test (ended_as how) before.trans t.0) ∙ ended.seats (seat_in before.trans t.0))
+
+  stays : (t : Txn) (ends : Bool) → test t.0 ≡ ends → is_live_status (cond ends (ended_as how) (status_in before.trans t.0)) ≡ true → unless_gone test (seat before.seats (seat_in before.trans t.0)) ≡ Some t
+  stays t true e live = absurd (false≢true (sym (ended_not_live how) ∙ live))
+  stays t false e live = ap (unless_gone test) (seated.seated t live) ∙ ap (λ ends. cond ends None (Some t)) e
+
+  lives : (c : ℕ) (t : Txn) (who : Option Txn) → seat before.seats c ≡ who → unless_gone test who ≡ Some t → is_live_status (cond (test t.0) (ended_as how) (status_in before.trans t.0)) ≡ true
+  lives c t None at sat = cc sat
+  lives c t (Some u) at sat = go (test u.0) refl sat where
+    go : (ends : Bool) → test u.0 ≡ ends → cond ends None (Some u) ≡ Some t → is_live_status (cond (test t.0) (ended_as how) (status_in before.trans t.0)) ≡ true
+    go true e is = cc is
+    go false e is =
+        let same : u ≡ t = cc is in
+        let goes_on : test t.0 ≡ false = ap (λ (v : Txn). test v.0) (sym same) ∙ e in
+        rw goes_on (seated.live c t (at ∙ ap Some same))
+
+pub ended_valid : (test : ℕ → Bool) (how : End) (before later : Parts) → AreEnded test how before later → ((n : ℕ) → test n ≡ true → is_live_status (status_in before.trans n) ≡ true)
+    → PartsAreTied later → PartsAreValid before → PartsAreValid later
+unfolding AreEnrolled
+ended_valid test how before later ended alive tied valid = record {
+  locks = λ n. rw (ended.locks, ended.rows, set_ended test how before.trans alive n) (ap (λ names. lists names n) (names_released test (locks_of before)) ∙ lists_filter (λ m. not (test m)) (Locks.names_in (locks_of before)) n ∙ enrolled n (test n) (valid.locks n));
+  seats = ended_seated test how before later ended alive valid.seats;
+  tied = tied;
+} where
+  enrolled : (n : ℕ) (ends : Bool) → lists (Locks.names_in (locks_of before)) n ≡ is_live_status (status_in before.trans n) → (not ends && lists (Locks.names_in (locks_of before)) n) ≡ is_live_status (cond ends (ended_as how) (status_in before.trans n))
   enrolled n true same = sym (ended_not_live how)
   enrolled n false same = same
 
-  goes_on : (n : ℕ) (ends : Bool) → not ends ≡ true → is_live_status (status_in before.trans n) ≡ true → is_live_status (cond ends (ended_as how) (status_in before.trans n)) ≡ true
-  goes_on n true stays now = absurd (false≢true stays)
-  goes_on n false stays now = now
+-- those who are marked have seats, and so they are live
+pub marked_live : (rows : List NamedTransRow) (seats : Seated) (links : LinkTable) → LiveAreSeated rows seats → IsTied links seats → (n : ℕ) → lists (marked_in seats links) n ≡ true → is_live_status (status_in rows n) ≡ true
+marked_live rows seats links seated tied n listed =
+    let found = marked_seat seats links.marked.nodes n tied.taken listed in
+    seated.live found.0 (record { 0 = n }) found.2
 
--- those who are marked are enrolled, and so they are live
-pub marked_live : (rows : List NamedTransRow) (before now : DepTable) → DependAlive rows before → ((n : ℕ) → lists now.marked n ≡ true → lists now.names n ≡ true) → now.names ≡ before.names
-    → (n : ℕ) → lists now.marked n ≡ true → is_live_status (status_in rows n) ≡ true
-unfolding DependAlive
-marked_live rows before now alive among names n listed = alive n (ap (λ ns. lists ns n) (sym names) ∙ among n listed)
+-- the one that leaves its seat is the one that ends
+pub one_left : (seats left : Seated) (t : Txn) (s : ℕ) → seat seats s ≡ Some t → ((d : ℕ) → seat seats d ≡ Some t → d ≡ s) → ((c : ℕ) → seat left c ≡ cond (eqb c s) None (seat seats c)) → (c : ℕ) → seat left c ≡ unless_gone (λ n. eqb n t.0) (seat seats c)
+unfolding unless_gone
+one_left seats left t s sat one leaves c = leaves c ∙ go (eqb c s) refl (seat seats c) refl where
+  go : (here : Bool) → eqb c s ≡ here → (who : Option Txn) → seat seats c ≡ who → cond here None who ≡ unless_gone (λ n. eqb n t.0) who
+  go true e None at = refl
+  go true e (Some u) at =
+      let is : Some u ≡ Some t = sym at ∙ ap (seat seats) (eqb-true c s e) ∙ sat in
+      let same : u ≡ t = cc is in
+      sym (ap (λ gone. cond gone None (Some u)) (eq-eqb u.0 t.0 (ap (λ (v : Txn). v.0) same)))
+  go false e None at = refl
+  go false e (Some u) at = sym (ap (λ gone. cond gone None (Some u)) (ne_eqb u.0 t.0 (λ same. false≢true (sym e ∙ eq-eqb c s (one c (at ∙ (λ i. Some (record { 0 = same i }))))))))
 
+-- of those who are this one, each is live if it is
 pub one_live : (rows : List NamedTransRow) (t : ℕ) → is_live_status (status_in rows t) ≡ true → (n : ℕ) → eqb n t ≡ true → is_live_status (status_in rows n) ≡ true
 one_live rows t alive n here = subst (λ m. is_live_status (status_in rows m) ≡ true) (sym (eqb-true n t here)) alive
 
--- where the same are enrolled
-pub same_valid : (rows : List NamedTransRow) (table : Locks.LockTable) (before later : DepTable) → later.names ≡ before.names → IsValid rows table before → IsValid rows table later
-same_valid rows table before later names valid = record { locks = valid.locks; deps = same_depends rows before later names valid.deps }
-
 -- ---- whether a class may commit
+
+-- as many transactions are marked as seats
+pub marks_are_many : (seats : Seated) (nodes : List ℕ) → length (marked_of seats nodes) ≡ length nodes
+unfolding marked_of
+marks_are_many seats nodes = length-map nodes (name_at seats)
 
 -- the one at an index fails
 pub one_fails : (test : ℕ → Bool) (names : List ℕ) (i n : ℕ) → slice_get names i ≡ Some n → test n ≡ false → list_all test names ≡ false
@@ -250,7 +299,7 @@ may_commit_shown opening steps tables t stand = λ i. completed i && not (outsid
   completed : list_all (λ n. not (class_in tables.deps t n) || is_completed (status_in tables.trans n)) (names_of tables.trans) ≡ list_all (λ n. not (same_class steps t n) || is_completed (status steps n)) (initiated steps)
   completed = (λ i. list_all (λ n. not (class_shown steps tables.deps stand.dependencies_stand t n i) || is_completed (stand.statuses n i)) (stand.names i)) ∙ all_reverse _ (initiated steps)
 
--- the class of one that is enrolled for dependencies, by its marks
+-- the class of a live transaction, by its marks
 pub may_by_marks : (tables : Standing) (t : ℕ) (marked : List ℕ) (completed : Bool) → completed ≡ list_all (λ n. is_completed (status_in tables.trans n)) marked
     → ((n : ℕ) → lists marked n ≡ class_in tables.deps t n) → ((n : ℕ) → lists marked n ≡ true → is_live_status (status_in tables.trans n) ≡ true)
     → completed ≡ list_all (λ n. not (class_in tables.deps t n) || is_completed (status_in tables.trans n)) (names_of tables.trans)

@@ -1,7 +1,7 @@
--- Exactly those who are live are enrolled for locks, after each change of the tables.
-use Rattle.std.proofs.Common.{◌≡◌, ℕ, Bool, true, false, cond, eqb, ◌&&◌, ◌||◌, List, [], ◌∷◌, filter, map, refl, sym, ◌∙◌, ap, subst, arith, Some, None, inl, inr}
+-- Exactly those who are live are enrolled for locks and have seats, after each change of the tables.
+use Rattle.std.proofs.Common.{◌≡◌, ℕ, Bool, true, false, cond, eqb, ◌&&◌, ◌||◌, List, [], ◌∷◌, filter, map, refl, sym, ◌∙◌, ap, subst, arith, Some, None}
 use Rattle.std.specs.Prelude.{Option, find, is_some}
-use Rattle.std.proofs.lemmas.Bool.{or_cases, eqb-true, false≢true}
+use Rattle.std.proofs.lemmas.Bool.{eqb-true, eq-eqb, false≢true}
 use Rattle.asset_names.specs.declared.names.Txn.{Txn}
 use Rattle.asset_names.specs.declared.names.Ob.{Ob}
 use Rattle.asset_names.specs.declared.operations.Op.{Op}
@@ -12,14 +12,16 @@ use Rattle.asset_names.specs.Endings.{is_live_status}
 use Rattle.asset_names.specs.Answers.{is_unknown}
 use Rattle.asset_names.proofs.Common.{none_of}
 use Rattle.asset_names.proofs.ListLemmas.{lists_pushed}
-use Rattle.asset_deps.specs.Dependencies.{DepTable}
+use Rattle.asset_seats.specs.Seated.{Seated, seat}
+use Rattle.asset_deps.proofs.TableLemmas.{sits_still}
 use Rattle.asset_locks.specs.LockTable as Locks
 use Rattle.asset_locks.specs.Valid.{after_ask}
-use Rattle.asset_trans.specs.TransRows.{NamedTransRow, row_in, status_in, status_or_unknown, initiate_in, set_in}
-use Rattle.asset_ends.specs.Standing.{AreEnrolled, DependAlive}
+use Rattle.asset_trans.specs.TransRows.{NamedTransRow, row_in, status_in, status_or_unknown, seat_in, seat_or_zero, initiate_in, set_in}
+use Rattle.asset_trans.specs.declared.row.TransRow.{TransRow}
+use Rattle.asset_ends.specs.Standing.{AreEnrolled, LiveAreSeated}
 use Rattle.asset_ends.proofs.CellLemmas.{is_name}
 use Rattle.asset_ends.proofs.LockLaws.{names_enrolled, names_granted, names_waiting}
-use Rattle.asset_ends.proofs.TransLaws.{status_initiate_in}
+use Rattle.asset_ends.proofs.TransLaws.{status_initiate_in, seat_initiate_in, seat_set}
 use Rattle.asset_ends.proofs.ShowsLemmas.{set_alone}
 
 -- what is listed of the names that pass
@@ -65,10 +67,10 @@ unfolding AreEnrolled Locks.names_in status_in row_in status_or_unknown is_live_
 nobody_enrolled rows table r t = rw (r, t) (λ n. refl)
 
 -- after an initiate
-pub initiate_enrolled : (rows : List NamedTransRow) (table : Locks.LockTable) (t : Txn) (parent : Option Txn) → row_in rows t.0 ≡ None → AreEnrolled rows table → AreEnrolled (initiate_in rows t parent) (Locks.enrol_in t.0 table)
+pub initiate_enrolled : (rows : List NamedTransRow) (table : Locks.LockTable) (t : Txn) (parent : Option Txn) (s : ℕ) → row_in rows t.0 ≡ None → AreEnrolled rows table → AreEnrolled (initiate_in rows t parent s) (Locks.enrol_in t.0 table)
 unfolding AreEnrolled is_live_status
-initiate_enrolled rows table t parent none enrolled = λ n.
-    ap (λ names. lists names n) (names_enrolled t.0 table) ∙ lists_pushed (Locks.names_in table) t.0 n ∙ go n (eqb t.0 n) (enrolled n) ∙ ap is_live_status (sym (status_initiate_in rows t parent n none)) where
+initiate_enrolled rows table t parent s none enrolled = λ n.
+    ap (λ names. lists names n) (names_enrolled t.0 table) ∙ lists_pushed (Locks.names_in table) t.0 n ∙ go n (eqb t.0 n) (enrolled n) ∙ ap is_live_status (sym (status_initiate_in rows t parent s n none)) where
       go : (n : ℕ) (own : Bool) → lists (Locks.names_in table) n ≡ is_live_status (status_in rows n) → (lists (Locks.names_in table) n || own) ≡ is_live_status (cond own Status'.Initiated (status_in rows n))
       go n true same = grind arith
       go n false same = grind (arith, same)
@@ -97,37 +99,77 @@ live_known Status'.Completed h = refl
 live_known Status'.Committed h = refl
 live_known Status'.Aborted h = refl
 
--- ---- those who may have dependencies are live
+-- ---- exactly those who are live have seats
 
-pub nobody_depends : (rows : List NamedTransRow) (deps : DepTable) → deps.names ≡ [] → DependAlive rows deps
-unfolding DependAlive lists
-nobody_depends rows deps none = λ n listed. absurd (false≢true (sym (ap (λ names. lists names n) none) ∙ listed))
+pub nobody_seated : (rows : List NamedTransRow) (seats : Seated) → rows ≡ [] → ((c : ℕ) → seat seats c ≡ None) → LiveAreSeated rows seats
+unfolding status_in row_in status_or_unknown is_live_status
+nobody_seated rows seats none free = record {
+  seated = λ t live. absurd (false≢true (ap (λ (r : List NamedTransRow). is_live_status (status_in r t.0)) (sym none) ∙ live));
+  live = λ c t sat. cc (sym (free c) ∙ sat);
+}
 
--- after an initiate
-pub initiate_depends : (rows : List NamedTransRow) (deps : DepTable) (t : Txn) (parent : Option Txn) → row_in rows t.0 ≡ None → DependAlive rows deps → DependAlive (initiate_in rows t parent) deps
-unfolding DependAlive is_live_status
-initiate_depends rows deps t parent none alive = λ n listed. ap is_live_status (status_initiate_in rows t parent n none) ∙ go n (eqb t.0 n) (alive n listed) where
-  go : (n : ℕ) (own : Bool) → is_live_status (status_in rows n) ≡ true → is_live_status (cond own Status'.Initiated (status_in rows n)) ≡ true
-  go n true now = refl
-  go n false now = now
+-- after an initiate, whose transaction sits on a seat that was free
+pub initiate_seated : (rows : List NamedTransRow) (seats later : Seated) (t : Txn) (parent : Option Txn) (s : ℕ) → row_in rows t.0 ≡ None → seat seats s ≡ None → ((c : ℕ) → seat later c ≡ cond (eqb c s) (Some t) (seat seats c))
+    → LiveAreSeated rows seats → LiveAreSeated (initiate_in rows t parent s) later
+unfolding is_live_status
+initiate_seated rows seats later t parent s none free sits before = record {
+  seated = λ u live. ap (seat later) (seat_initiate_in rows t parent s u.0 none) ∙ sitting u (eqb t.0 u.0) refl (ap is_live_status (sym (status_initiate_in rows t parent s u.0 none)) ∙ live);
+  live = λ c u sat. ap is_live_status (status_initiate_in rows t parent s u.0 none) ∙ lives u (eqb t.0 u.0) refl (λ apart. there c u apart sat);
+} where
+  own : seat later s ≡ Some t
+  own = sits s ∙ ap (λ b. cond b (Some t) (seat seats s)) (eq-eqb s s refl)
+
+  sitting : (u : Txn) (same : Bool) → eqb t.0 u.0 ≡ same → is_live_status (cond same Status'.Initiated (status_in rows u.0)) ≡ true → seat later (cond same s (seat_in rows u.0)) ≡ Some u
+  sitting u true e live = own ∙ (λ i. Some (record { 0 = eqb-true t.0 u.0 e i }))
+  sitting u false e live = sits_still s t seats later free sits (seat_in rows u.0) u (before.seated u live)
+
+  there : (c : ℕ) (u : Txn) → eqb t.0 u.0 ≡ false → seat later c ≡ Some u → is_live_status (status_in rows u.0) ≡ true
+  there c u apart sat = go (eqb c s) refl where
+    go : (b : Bool) → eqb c s ≡ b → is_live_status (status_in rows u.0) ≡ true
+    go true e =
+        let is : Some t ≡ Some u = sym (sits c ∙ ap (λ b. cond b (Some t) (seat seats c)) e) ∙ sat in
+        let one : t ≡ u = cc is in
+        absurd (false≢true (sym apart ∙ eq-eqb t.0 u.0 (ap (λ (v : Txn). v.0) one)))
+    go false e = before.live c u (sym (sits c ∙ ap (λ b. cond b (Some t) (seat seats c)) e) ∙ sat)
+
+  lives : (u : Txn) (same : Bool) → eqb t.0 u.0 ≡ same → (eqb t.0 u.0 ≡ false → is_live_status (status_in rows u.0) ≡ true) → is_live_status (cond same Status'.Initiated (status_in rows u.0)) ≡ true
+  lives u true e there = refl
+  lives u false e there = there e
 
 -- after a change of status from one that is live to another
-pub changed_depends : (rows : List NamedTransRow) (deps : DepTable) (t : ℕ) (after : Status) → is_unknown (status_in rows t) ≡ false → is_live_status after ≡ true → DependAlive rows deps → DependAlive (set_in (is_name t) after rows) deps
-unfolding DependAlive
-changed_depends rows deps t after known now alive = λ n listed. ap is_live_status (set_alone rows t after known n) ∙ go n (eqb t n) (alive n listed) where
-  go : (n : ℕ) (own : Bool) → is_live_status (status_in rows n) ≡ true → is_live_status (cond own after (status_in rows n)) ≡ true
-  go n true before = now
-  go n false before = before
+pub changed_seated : (rows : List NamedTransRow) (seats : Seated) (t : ℕ) (after : Status) → is_live_status (status_in rows t) ≡ true → is_live_status after ≡ true → LiveAreSeated rows seats → LiveAreSeated (set_in (is_name t) after rows) seats
+changed_seated rows seats t after was now before = record {
+  seated = λ u live. ap (seat seats) (seat_set (is_name t) after rows u.0) ∙ before.seated u (back u.0 (eqb t u.0) refl (ap is_live_status (sym (set_alone rows t after known u.0)) ∙ live));
+  live = λ c u sat. ap is_live_status (set_alone rows t after known u.0) ∙ forth u.0 (eqb t u.0) (before.live c u sat);
+} where
+  known : is_unknown (status_in rows t) ≡ false
+  known = live_known (status_in rows t) was
 
--- after an enrolment of one that is live
-pub joined_depends : (rows : List NamedTransRow) (before later : DepTable) (t : ℕ) → is_live_status (status_in rows t) ≡ true → ((n : ℕ) → lists later.names n ≡ (lists before.names n || eqb n t)) → DependAlive rows before → DependAlive rows later
-unfolding DependAlive
-joined_depends rows before later t now names alive = λ n listed. elim (or_cases (lists before.names n) _ (sym (names n) ∙ listed)) [
-  | inl there ↦ alive n there
-  | inr own ↦ subst (λ m. is_live_status (status_in rows m) ≡ true) (sym (eqb-true n t own)) now
-]
+  back : (n : ℕ) (own : Bool) → eqb t n ≡ own → is_live_status (cond own after (status_in rows n)) ≡ true → is_live_status (status_in rows n) ≡ true
+  back n true e live = subst (λ m. is_live_status (status_in rows m) ≡ true) (eqb-true t n e) was
+  back n false e live = live
 
--- where the enrolled are the same
-pub same_depends : (rows : List NamedTransRow) (before later : DepTable) → later.names ≡ before.names → DependAlive rows before → DependAlive rows later
-unfolding DependAlive
-same_depends rows before later names alive = λ n listed. alive n (ap (λ ns. lists ns n) (sym names) ∙ listed)
+  forth : (n : ℕ) (own : Bool) → is_live_status (status_in rows n) ≡ true → is_live_status (cond own after (status_in rows n)) ≡ true
+  forth n true live = now
+  forth n false live = live
+
+-- where the seats stay
+pub same_seated : (rows : List NamedTransRow) (seats later : Seated) → ((c : ℕ) → seat later c ≡ seat seats c) → LiveAreSeated rows seats → LiveAreSeated rows later
+same_seated rows seats later same before = record { seated = λ t live. same (seat_in rows t.0) ∙ before.seated t live; live = λ c t sat. before.live c t (sym (same c) ∙ sat) }
+
+-- who is not live has no seat
+pub not_seated : (rows : List NamedTransRow) (seats : Seated) (t : Txn) → LiveAreSeated rows seats → is_live_status (status_in rows t.0) ≡ false → (c : ℕ) → seat seats c ≡ Some t → ⊥
+not_seated rows seats t seated ended c sat = false≢true (sym ended ∙ seated.live c t sat)
+
+pub new_not_seated : (rows : List NamedTransRow) (seats later : Seated) (t : Txn) → LiveAreSeated rows seats → ((c : ℕ) → seat later c ≡ seat seats c) → status_in rows t.0 ≡ Status'.Unknown → (c : ℕ) → seat later c ≡ Some t → ⊥
+unfolding is_live_status
+new_not_seated rows seats later t seated same unknown c sat = not_seated rows seats t seated (ap is_live_status unknown) c (sym (same c) ∙ sat)
+
+-- what a row says
+pub status_of_row : (rows : List NamedTransRow) (t : ℕ) (found : Option TransRow) → found ≡ row_in rows t → status_or_unknown found ≡ status_in rows t
+unfolding status_in
+status_of_row rows t found is = ap status_or_unknown is
+
+pub seat_of_row : (rows : List NamedTransRow) (t : ℕ) (found : Option TransRow) → found ≡ row_in rows t → seat_or_zero found ≡ seat_in rows t
+unfolding seat_in
+seat_of_row rows t found is = ap seat_or_zero is

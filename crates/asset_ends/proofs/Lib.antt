@@ -5,6 +5,7 @@ pub mod HistoryLemmas
 pub mod PermitLaws
 pub mod DependLaws
 pub mod ShowsLemmas
+pub mod TiedLemmas
 pub mod TwiceLemmas
 pub mod DelegateLaws
 pub mod EnrolledLemmas

@@ -78,13 +78,13 @@ unfolding change_each
 changed_each change one other x same = rw same
 
 -- an initiate
-pub initiate_shows : (opening : Opening) (steps : List Step) (rows : List NamedTransRow) (objects : Cells) (table : Locks.LockTable) (descriptors : List Descriptor) (deps : List Dependency) (t : Txn) (parent : Option Txn) → Shows opening steps (table_values rows objects table descriptors deps)
-    → IsOrderly steps → lists (initiated steps) t.0 ≡ false → Shows opening (Initiate t parent ∷ steps) (table_values (initiate_in rows t parent) objects (Locks.enrol_in t.0 table) descriptors deps)
+pub initiate_shows : (opening : Opening) (steps : List Step) (rows : List NamedTransRow) (objects : Cells) (table : Locks.LockTable) (descriptors : List Descriptor) (deps : List Dependency) (t : Txn) (parent : Option Txn) (seat : ℕ) → Shows opening steps (table_values rows objects table descriptors deps)
+    → IsOrderly steps → lists (initiated steps) t.0 ≡ false → Shows opening (Initiate t parent ∷ steps) (table_values (initiate_in rows t parent seat) objects (Locks.enrol_in t.0 table) descriptors deps)
 unfolding initiated initiated_by parent_of parent_by
-initiate_shows opening steps rows objects table descriptors deps t parent shows orderly new = record {
-  names = names_initiate rows t parent ∙ rw (shows.names, reverse-cons (initiated steps) t.0);
-  statuses = λ n. status_initiate_in rows t parent n absent ∙ changed_as rows steps t.0 Status'.Initiated n (shows.statuses n) ∙ sym (status_initiate t parent steps n orderly new);
-  parents = λ n. parent_initiate_in rows t parent n absent ∙ rw (shows.parents n);
+initiate_shows opening steps rows objects table descriptors deps t parent seat shows orderly new = record {
+  names = names_initiate rows t parent seat ∙ rw (shows.names, reverse-cons (initiated steps) t.0);
+  statuses = λ n. status_initiate_in rows t parent seat n absent ∙ changed_as rows steps t.0 Status'.Initiated n (shows.statuses n) ∙ sym (status_initiate t parent steps n orderly new);
+  parents = λ n. parent_initiate_in rows t parent seat n absent ∙ rw (shows.parents n);
   cells = λ x. shows.cells x ∙ sym (cell_initiate opening t parent steps x);
   enrolled = names_enrolled t.0 table ∙ rw shows.enrolled (enrolled_initiate t parent steps new);
   locks = λ n x op. carries_enrolled t.0 table n x op ∙ shows.locks n x op ∙ sym (holds_initiate t parent steps new orderly n x op);

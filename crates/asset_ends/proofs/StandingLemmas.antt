@@ -42,21 +42,6 @@ pub stand_as : (opening : Opening) (steps : List Step) (later : Standing) (rows 
     → later.permits ≡ descriptors → later.deps ≡ deps → Shows opening steps (table_values rows objects table descriptors deps) → Shows opening steps (values_of later)
 stand_as opening steps later rows objects table descriptors deps r o l p d shows = rw (r, o, l, p, d) shows
 
--- an enrolment that is given back leaves the table as it was
-none_named : (t : ℕ) (everyone : List Locks.Enrolled) → find (λ (who : Locks.Enrolled). eqb who.name t) everyone ≡ None
-    → filter (λ (who : Locks.Enrolled). not (eqb who.name t)) (everyone ++ record { name = t; pending = None; locks = [] } ∷ []) ≡ everyone
-none_named t [] none = rw (eq-eqb t t refl) refl
-none_named t (who ∷ everyone) none = go (eqb who.name t) none (none_named t everyone) where
-  go : (here : Bool) → cond here (Some who) (find (λ (h : Locks.Enrolled). eqb h.name t) everyone) ≡ None
-      → (find (λ (h : Locks.Enrolled). eqb h.name t) everyone ≡ None → filter (λ (h : Locks.Enrolled). not (eqb h.name t)) (everyone ++ record { name = t; pending = None; locks = [] } ∷ []) ≡ everyone)
-      → cond (not here) (who ∷ filter (λ (h : Locks.Enrolled). not (eqb h.name t)) (everyone ++ record { name = t; pending = None; locks = [] } ∷ [])) (filter (λ (h : Locks.Enrolled). not (eqb h.name t)) (everyone ++ record { name = t; pending = None; locks = [] } ∷ [])) ≡ who ∷ everyone
-  go true none rest = cc
-  go false none rest = ap (λ hs. who ∷ hs) (rest none)
-
-pub enrolment_given_back : (t : ℕ) (table : Locks.LockTable) → Locks.enrolled_in table t ≡ None → Locks.release_in (λ n. eqb n t) (Locks.enrol_in t table) ≡ table
-unfolding Locks.enrolled_in Locks.release_in Locks.enrol_in
-enrolment_given_back t table none = none_named t table none
-
 -- which objects exist, by the cells
 pub object_exists : (opening : Opening) (steps : List Step) (tables : Standing) (x : ℕ) → Shows opening steps (values_of tables) → has_object (cells tables.objects) x ≡ exists opening x
 unfolding has_object cell_of exists

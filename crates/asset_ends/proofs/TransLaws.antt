@@ -14,7 +14,7 @@ use Rattle.asset_names.specs.Arrows.{lists}
 use Rattle.asset_names.specs.Orderly.{Distinct}
 use Rattle.asset_names.proofs.Common.{eqb-flip, cond_same, option_or_none}
 use Rattle.asset_trans.specs.declared.row.TransRow.{TransRow}
-use Rattle.asset_trans.specs.TransRows.{NamedTransRow, names_of, row_in, status_or_unknown, parent_or_none, status_in, parent_in, initiate_in, set_entry, set_in}
+use Rattle.asset_trans.specs.TransRows.{NamedTransRow, names_of, row_in, status_or_unknown, parent_or_none, status_in, parent_in, seat_in, seat_or_zero, initiate_in, set_entry, set_in}
 
 -- setting statuses leaves the names
 pub names_set : (test : ℕ → Bool) (status : Status) (rows : List NamedTransRow) → names_of (set_in test status rows) ≡ names_of rows
@@ -62,10 +62,18 @@ parent_set test status rows n = rw (row_set test status rows n) (go (test n) (ro
   go true None = refl
   go false row = refl
 
+pub seat_set : (test : ℕ → Bool) (status : Status) (rows : List NamedTransRow) (n : ℕ) → seat_in (set_in test status rows) n ≡ seat_in rows n
+unfolding seat_in seat_or_zero set_row
+seat_set test status rows n = rw (row_set test status rows n) (go (test n) (row_in rows n)) where
+  go : (b : Bool) (row : Option TransRow) → seat_or_zero (cond b (set_row status row) row) ≡ seat_or_zero row
+  go true (Some row) = refl
+  go true None = refl
+  go false row = refl
+
 -- one more row
-pub names_initiate : (rows : List NamedTransRow) (t : Txn) (parent : Option Txn) → names_of (initiate_in rows t parent) ≡ names_of rows ++ t.0 ∷ []
+pub names_initiate : (rows : List NamedTransRow) (t : Txn) (parent : Option Txn) (seat : ℕ) → names_of (initiate_in rows t parent seat) ≡ names_of rows ++ t.0 ∷ []
 unfolding names_of initiate_in
-names_initiate rows t parent = map-append (λ (entry : NamedTransRow). entry.0.0) rows _
+names_initiate rows t parent seat = map-append (λ (entry : NamedTransRow). entry.0.0) rows _
 
 -- the row of a name, after one more row at the end
 row_pushed : (rows : List NamedTransRow) (t : Txn) (row : TransRow) (n : ℕ) → row_in (rows ++ (t, row) ∷ []) n ≡ option_or (row_in rows n) (cond (eqb n t.0) (Some row) None)
@@ -77,30 +85,38 @@ row_pushed (entry ∷ rows) t row n = go (eqb n entry.0.0) (row_pushed rows t ro
   go true ih = refl
   go false ih = ih
 
-pub row_initiate : (rows : List NamedTransRow) (t : Txn) (parent : Option Txn) (n : ℕ) → row_in rows t.0 ≡ None
-    → row_in (initiate_in rows t parent) n ≡ cond (eqb t.0 n) (Some (record { status = Status'.Initiated; parent = parent })) (row_in rows n)
+pub row_initiate : (rows : List NamedTransRow) (t : Txn) (parent : Option Txn) (seat : ℕ) (n : ℕ) → row_in rows t.0 ≡ None
+    → row_in (initiate_in rows t parent seat) n ≡ cond (eqb t.0 n) (Some (record { status = Status'.Initiated; parent = parent; seat = seat })) (row_in rows n)
 unfolding initiate_in
-row_initiate rows t parent n new = row_pushed rows t _ n ∙ rw (eqb-flip n t.0) (go (eqb t.0 n) refl) where
+row_initiate rows t parent seat n new = row_pushed rows t _ n ∙ rw (eqb-flip n t.0) (go (eqb t.0 n) refl) where
   new_row : TransRow
-  new_row = record { status = Status'.Initiated; parent = parent }
+  new_row = record { status = Status'.Initiated; parent = parent; seat = seat }
 
   go : (same : Bool) → eqb t.0 n ≡ same → option_or (row_in rows n) (cond same (Some new_row) None) ≡ cond same (Some new_row) (row_in rows n)
   go true e = rw (subst (λ m. row_in rows m ≡ None) (eqb-true t.0 n e) new) refl
   go false e = option_or_none (row_in rows n)
 
-pub status_initiate_in : (rows : List NamedTransRow) (t : Txn) (parent : Option Txn) (n : ℕ) → row_in rows t.0 ≡ None
-    → status_in (initiate_in rows t parent) n ≡ cond (eqb t.0 n) Status'.Initiated (status_in rows n)
+pub status_initiate_in : (rows : List NamedTransRow) (t : Txn) (parent : Option Txn) (seat : ℕ) (n : ℕ) → row_in rows t.0 ≡ None
+    → status_in (initiate_in rows t parent seat) n ≡ cond (eqb t.0 n) Status'.Initiated (status_in rows n)
 unfolding status_in status_or_unknown
-status_initiate_in rows t parent n new = rw (row_initiate rows t parent n new) (go (eqb t.0 n) (row_in rows n)) where
-  go : (same : Bool) (row : Option TransRow) → status_or_unknown (cond same (Some (record { status = Status'.Initiated; parent = parent })) row) ≡ cond same Status'.Initiated (status_or_unknown row)
+status_initiate_in rows t parent seat n new = rw (row_initiate rows t parent seat n new) (go (eqb t.0 n) (row_in rows n)) where
+  go : (same : Bool) (row : Option TransRow) → status_or_unknown (cond same (Some (record { status = Status'.Initiated; parent = parent; seat = seat })) row) ≡ cond same Status'.Initiated (status_or_unknown row)
   go true row = refl
   go false row = refl
 
-pub parent_initiate_in : (rows : List NamedTransRow) (t : Txn) (parent : Option Txn) (n : ℕ) → row_in rows t.0 ≡ None
-    → parent_in (initiate_in rows t parent) n ≡ cond (eqb t.0 n) parent (parent_in rows n)
+pub parent_initiate_in : (rows : List NamedTransRow) (t : Txn) (parent : Option Txn) (seat : ℕ) (n : ℕ) → row_in rows t.0 ≡ None
+    → parent_in (initiate_in rows t parent seat) n ≡ cond (eqb t.0 n) parent (parent_in rows n)
 unfolding parent_in parent_or_none
-parent_initiate_in rows t parent n new = rw (row_initiate rows t parent n new) (go (eqb t.0 n) (row_in rows n)) where
-  go : (same : Bool) (row : Option TransRow) → parent_or_none (cond same (Some (record { status = Status'.Initiated; parent = parent })) row) ≡ cond same parent (parent_or_none row)
+parent_initiate_in rows t parent seat n new = rw (row_initiate rows t parent seat n new) (go (eqb t.0 n) (row_in rows n)) where
+  go : (same : Bool) (row : Option TransRow) → parent_or_none (cond same (Some (record { status = Status'.Initiated; parent = parent; seat = seat })) row) ≡ cond same parent (parent_or_none row)
+  go true row = refl
+  go false row = refl
+
+pub seat_initiate_in : (rows : List NamedTransRow) (t : Txn) (parent : Option Txn) (seat : ℕ) (n : ℕ) → row_in rows t.0 ≡ None
+    → seat_in (initiate_in rows t parent seat) n ≡ cond (eqb t.0 n) seat (seat_in rows n)
+unfolding seat_in seat_or_zero
+seat_initiate_in rows t parent seat n new = rw (row_initiate rows t parent seat n new) (go (eqb t.0 n) (row_in rows n)) where
+  go : (same : Bool) (row : Option TransRow) → seat_or_zero (cond same (Some (record { status = Status'.Initiated; parent = parent; seat = seat })) row) ≡ cond same seat (seat_or_zero row)
   go true row = refl
   go false row = refl
 

@@ -1,14 +1,16 @@
 -- Some end, and then others: it is as if all had ended at once. So it does not matter in which order they end.
 use Rattle.std.proofs.Common.{◌≡◌, ℕ, Bool, true, false, cond, not, ◌&&◌, ◌||◌, List, [], ◌∷◌, filter, refl, sym, ◌∙◌, ap, subst, None, Some}
 use Rattle.std.specs.Prelude.{ℤ, Option, option_map}
+use Rattle.asset_names.specs.declared.names.Txn.{Txn}
 use Rattle.asset_names.specs.declared.statuses.End.{End}
 use Rattle.asset_names.specs.declared.statuses.End.TheVariants as End'
 use Rattle.asset_names.specs.declared.statuses.Status.{Status}
 use Rattle.asset_objects.specs.Cells.{Written, Cell, Cells, cells, undone, settled, settled_value, newer, change_each}
+use Rattle.asset_seats.specs.Seated.{seat}
 use Rattle.asset_locks.specs.LockTable as Locks
 use Rattle.asset_trans.specs.TransRows.{NamedTransRow, set_entry, set_in, ended_as}
 use Rattle.asset_ends.specs.declared.parts.Parts.{Parts}
-use Rattle.asset_ends.specs.Ended.{AreEnded, ended_cell}
+use Rattle.asset_ends.specs.Ended.{AreEnded, ended_cell, locks_of, unless_gone}
 
 -- who passes one of two tests
 unfoldable pub either : (ℕ → Bool) → (ℕ → Bool) → ℕ → Bool
@@ -128,14 +130,19 @@ both_gone true false true false qv = refl
 both_gone true false false true qv = refl
 both_gone true false false false qv = refl
 
-gone_either : (stood p q : Bool) → ((stood && not p) && not q) ≡ (stood && not (p || q))
-gone_either false p q = refl
-gone_either true true q = refl
-gone_either true false q = refl
+-- who has left one seat or another
+gone_twice : (p q : ℕ → Bool) (who : Option Txn) → unless_gone q (unless_gone p who) ≡ unless_gone (either p q) who
+unfolding unless_gone either
+gone_twice p q None = refl
+gone_twice p q (Some t) = go (p t.0) where
+  go : (first : Bool) → unless_gone q (cond first None (Some t)) ≡ cond (first || q t.0) None (Some t)
+  go true = refl
+  go false = refl
 
-kept_none : (stood : Bool) → stood ≡ (stood && not false)
-kept_none true = refl
-kept_none false = refl
+gone_none : (who : Option Txn) → who ≡ unless_gone nobody who
+unfolding unless_gone nobody
+gone_none None = refl
+gone_none (Some t) = refl
 
 both_kept : (stood : Bool) → stood ≡ (stood && not false && not false)
 both_kept true = refl
@@ -149,10 +156,10 @@ unfolding either
 ended_twice p q how before now later first second = record {
   rows = second.rows ∙ ap (set_in q (ended_as how)) first.rows ∙ rows_twice p q (ended_as how) before.trans;
   objects = second.objects ∙ ap (change_each (ended_cell how q)) first.objects ∙ objects_twice how p q (cells before.objects);
-  locks = second.locks ∙ ap (Locks.release_in q) first.locks ∙ locks_twice p q before.locks;
+  locks = second.locks ∙ ap (Locks.release_in q) first.locks ∙ locks_twice p q (locks_of before);
   permits = λ u n x op. second.permits u n x op ∙ rw (first.permits u n x op) (both_gone _ (p u) (q u) (p n) (q n));
   deps = λ k u v. second.deps k u v ∙ rw (first.deps k u v) (both_gone _ (p u) (q u) (p v) (q v));
-  names = λ n. second.names n ∙ rw (first.names n) (gone_either _ (p n) (q n));
+  seats = λ c. second.seats c ∙ ap (unless_gone q) (first.seats c) ∙ gone_twice p q (seat before.seats c);
 }
 
 -- nobody has ended
@@ -161,10 +168,10 @@ unfolding nobody
 ended_none how now = record {
   rows = sym (rows_none (ended_as how) now.trans);
   objects = sym (objects_none how (cells now.objects));
-  locks = sym (locks_none now.locks);
+  locks = sym (locks_none (locks_of now));
   permits = λ u n x op. both_kept _;
   deps = λ k u v. both_kept _;
-  names = λ n. kept_none _;
+  seats = λ c. gone_none (seat now.seats c);
 }
 
 -- the same have ended, said by another test

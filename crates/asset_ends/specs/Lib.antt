@@ -1,6 +1,7 @@
 pub mod Shows
 pub mod Ended
 pub mod Standing
+pub mod Tied
 pub mod Shown
 pub mod Ready
 pub mod Operated

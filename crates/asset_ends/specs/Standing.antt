@@ -1,6 +1,7 @@
 -- What the tables hold together, and what they show.
-use Rattle.std.specs.Prelude.{◌≡◌, ℕ, Bool, true, cond, not, ◌&&◌, ◌||◌, List, ◌∷◌}
+use Rattle.std.specs.Prelude.{◌≡◌, ℕ, Bool, true, cond, not, ◌&&◌, ◌||◌, List, ◌∷◌, Some}
 use Rattle.std.specs.List.{list_all}
+use Rattle.asset_names.specs.declared.names.Txn.{Txn}
 use Rattle.asset_names.specs.declared.operations.Op.{Op}
 use Rattle.asset_names.specs.declared.steps.Step.{Step}
 use Rattle.asset_names.specs.Arrows.{lists}
@@ -8,9 +9,10 @@ use Rattle.asset_names.specs.Endings.{is_live_status}
 use Rattle.asset_names.specs.Answers.{is_completed}
 use Rattle.asset_permits.specs.Descriptors.{Descriptor, one_covers, allows_by}
 use Rattle.asset_objects.specs.Cells.{ObjectTable, cells}
-use Rattle.asset_deps.specs.Dependencies.{Dependency, DepTable, class_in, outside_source_in}
+use Rattle.asset_seats.specs.Seated.{Seated, seat}
+use Rattle.asset_deps.specs.Dependencies.{Dependency, class_in, outside_source_in}
 use Rattle.asset_locks.specs.LockTable as Locks
-use Rattle.asset_trans.specs.TransRows.{NamedTransRow, names_of, status_in}
+use Rattle.asset_trans.specs.TransRows.{NamedTransRow, names_of, status_in, seat_in}
 use Rattle.asset_ends.specs.declared.ending.Tried.{Tried}
 use Rattle.asset_ends.specs.declared.ending.Tried.TheVariants as Tried'
 use Rattle.asset_ends.specs.Shows.{TableValues, table_values}
@@ -64,11 +66,7 @@ pub record ShowAlike (later before : Standing) : Type 0 where
 unfoldable pub AreEnrolled : List NamedTransRow → Locks.LockTable → Type 0
 AreEnrolled rows table = (t : ℕ) → lists (Locks.names_in table) t ≡ is_live_status (status_in rows t)
 
--- only transactions that are live by their status are enrolled for dependencies
-unfoldable pub DependAlive : List NamedTransRow → DepTable → Type 0
-DependAlive rows deps = (t : ℕ) → lists deps.names t ≡ true → is_live_status (status_in rows t) ≡ true
-
--- the live are enrolled for locks, and of them those who may have dependencies for these
-pub record IsValid (rows : List NamedTransRow) (table : Locks.LockTable) (dependencies : DepTable) : Type 0 where
-  pub locks : AreEnrolled rows table
-  pub deps : DependAlive rows dependencies
+-- exactly those who are live by their status have seats, and the row of each says its seat
+pub record LiveAreSeated (rows : List NamedTransRow) (seats : Seated) : Type 0 where
+  pub seated : (t : Txn) → is_live_status (status_in rows t.0) ≡ true → seat seats (seat_in rows t.0) ≡ Some t
+  pub live : (c : ℕ) (t : Txn) → seat seats c ≡ Some t → is_live_status (status_in rows t.0) ≡ true

@@ -7,32 +7,43 @@ ghost use Rattle.asset_names.specs.Arrows.{lists};
 ghost use Rattle.asset_names.specs.InSet.{in_set};
 ghost use Rattle.asset_names.specs.Sets.{numbers};
 ghost use Rattle.asset_locks.specs.LockTable.{held_in};
+ghost use Rattle.asset_locks.specs.Tied.{rows_in, IsTied};
 ghost use Rattle.asset_permits.specs.Descriptors.{one_covers};
+ghost use Rattle.asset_permits.specs.Valid.{permits_in, IsTied as ArePermitsTied};
+ghost use Rattle.asset_seats.specs.Seated.{HasSeat};
 
+use crate::seating::live_sitter;
 use crate::tables::Tables;
-use asset_locks::Locks;
+use asset_locks::SeatedLocks;
 use asset_names::{NoMemory, ObSet, Txn};
-use asset_permits::Permits;
+use asset_permits::SeatedPermits;
+use asset_seats::{Seats, Sitter};
 use std::alloc::Global;
 
 /// Gives the taker a copy of each of the giver's permits on each of the objects on which the giver has a lock. Nothing is
 /// listed if the giver permits nobody anything.
 fn copy_permits(
     alloc: Global,
-    locks: &Locks,
-    permits: &mut Permits,
-    giver: Txn,
-    taker: Txn,
+    seats: &Seats,
+    locks: &SeatedLocks,
+    permits: &mut SeatedPermits,
+    giver: Sitter,
+    taker: Sitter,
     obs: &ObSet,
 ) -> Result<(), NoMemory>
-    ensures covers { OnOk result ((u t x : ℕ) (op : Op) → one_covers permits.new u t x op ≡ (one_covers permits.old u t x op || (u == taker.0 && lists (numbers (filter (λ (x : Object). in_set obs.now x.0) (held_in locks.now giver.0))) x && one_covers permits.old giver.0 t x op))) }
-    ensures covered { OnErr result ((u t x : ℕ) (op : Op) → one_covers permits.new u t x op ≡ one_covers permits.old u t x op) }
+    requires locks { IsTied locks.now seats.now }
+    requires permits { ArePermitsTied permits.old seats.now }
+    requires giver { HasSeat seats.now giver }
+    requires taker { HasSeat seats.now taker }
+    ensures tied { ArePermitsTied permits.new seats.now }
+    ensures covers { OnOk result ((u t x : ℕ) (op : Op) → one_covers (permits_in permits.new) u t x op ≡ (one_covers (permits_in permits.old) u t x op || (u == taker.t.0 && lists (numbers (filter (λ (x : Object). in_set obs.now x.0) (held_in (rows_in seats.now locks.now) giver.t.0))) x && one_covers (permits_in permits.old) giver.t.0 t x op))) }
+    ensures covered { OnErr result ((u t x : ℕ) (op : Op) → one_covers (permits_in permits.new) u t x op ≡ one_covers (permits_in permits.old) u t x op) }
 {
-    if !permits.gives(giver) {
+    if !permits.gives(seats, giver) {
         return Ok(());
     }
-    let moved = locks.held_among(alloc, giver, obs)?;
-    permits.copy_for(giver, taker, &moved)
+    let moved = locks.held_among(alloc, seats, giver, obs)?;
+    permits.copy_for(seats, giver, taker, &moved)
 }
 
 impl Tables {
@@ -56,15 +67,18 @@ impl Tables {
         ensures locks { OnOk result (self.new.locks ≡ hand_over_in giver.0 taker.0 obs.now self.old.locks) }
         ensures unchanged { OnErr result (ShowAlike self.new self.old) }
     {
+        let from = live_sitter(&self.parts, giver);
+        let to = live_sitter(&self.parts, taker);
         copy_permits(
             self.alloc,
+            &self.parts.seats,
             &self.parts.locks,
             &mut self.parts.permits,
-            giver,
-            taker,
+            from,
+            to,
             obs,
         )?;
-        self.parts.locks.hand_over(giver, taker, obs);
+        self.parts.locks.hand_over(&self.parts.seats, from, to, obs);
         self.parts.objects.hand_over(giver, taker, obs);
         Ok(())
     }

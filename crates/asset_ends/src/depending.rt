@@ -1,5 +1,6 @@
 //! Dependencies between transactions.
 
+use crate::seating::{live_sitter, sitter_of};
 use crate::tables::Tables;
 use asset_names::{Kind, NoMemory, Txn};
 
@@ -20,7 +21,21 @@ impl Tables {
         ensures shown { ForShown self.old (λ opening steps. result ≡ would_cycle steps kind a.0 b.0) }
         ensures same { self.new ≡ self.old }
     {
-        self.parts.deps.would_cycle(kind, a, b)
+        let Some(source) = sitter_of(&self.parts.trans, &self.parts.seats, a) else {
+            return self
+                .parts
+                .deps
+                .would_cycle_apart(&self.parts.seats, kind, a, b);
+        };
+        let Some(dependent) = sitter_of(&self.parts.trans, &self.parts.seats, b) else {
+            return self
+                .parts
+                .deps
+                .would_cycle_apart(&self.parts.seats, kind, a, b);
+        };
+        self.parts
+            .deps
+            .would_cycle(&self.parts.seats, kind, source, dependent)
     }
 
     /// Makes `b` depend on `a`, both of which are live; a group commit joins their classes. It closes no cycle. If memory
@@ -33,8 +48,10 @@ impl Tables {
         ensures locks { self.new.locks ≡ self.old.locks }
         ensures unchanged { OnErr result (SameView self.new self.old) }
     {
-        self.parts.deps.enrol(a)?;
-        self.parts.deps.enrol(b)?;
-        self.parts.deps.add(kind, a, b)
+        let source = live_sitter(&self.parts, a);
+        let dependent = live_sitter(&self.parts, b);
+        self.parts
+            .deps
+            .add(&self.parts.seats, kind, source, dependent)
     }
 }

@@ -6,13 +6,18 @@ ghost use Rattle.asset_names.specs.Arrows.{lists};
 ghost use Rattle.asset_names.specs.Answers.{is_completed};
 ghost use Rattle.asset_names.specs.Endings.{is_live_status};
 ghost use Rattle.asset_objects.specs.Cells.{cells, change_each};
+ghost use Rattle.asset_seats.specs.Seated.{HasSeat};
+ghost use Rattle.asset_deps.specs.Valid.{IsTied};
 ghost use Rattle.asset_trans.specs.TransRows.{status_in};
-ghost use Rattle.asset_ends.specs.Ended.{ended_cell, AreEnded};
+ghost use Rattle.asset_ends.specs.Ended.{ended_cell, marked_by, AreEnded};
+ghost use Rattle.asset_ends.specs.Tied.{PartsAreTied};
 
 use crate::parts::Parts;
+use crate::seating::live_sitter;
 use crate::tables::Tables;
 use asset_names::{End, Txn};
 use asset_objects::Objects;
+use asset_seats::Sitter;
 
 /// What became of a commit.
 #[derive(Clone, Copy, Debug, PartialEq, Eq)]
@@ -33,35 +38,43 @@ fn end_writes(objects: &mut Objects, t: Txn, how: End)
     }
 }
 
-/// Ends a live transaction in each table.
-fn end_one(parts: &mut Parts, t: Txn, how: End)
-    requires live { is_live_status (status_in parts.old.trans t.0) ≡ true }
-    ensures ended { AreEnded (λ n. n == t.0) how parts.old parts.new }
-    ensures marked { lists parts.old.deps.marked t.0 ≡ false → parts.new.deps.marked ≡ parts.old.deps.marked }
+/// Ends a live transaction in each table, and takes its seat from it.
+fn end_one(parts: &mut Parts, one: Sitter, how: End)
+    requires live { is_live_status (status_in parts.old.trans one.t.0) ≡ true }
+    requires tied { PartsAreTied parts.old }
+    requires sits { HasSeat parts.old.seats one }
+    ensures tied { PartsAreTied parts.new }
+    ensures ended { AreEnded (λ n. n == one.t.0) how parts.old parts.new }
+    ensures marked { lists (marked_by parts.old) one.t.0 ≡ false → marked_by parts.new ≡ marked_by parts.old }
 {
-    end_writes(&mut parts.objects, t, how);
-    parts.locks.release(t);
-    parts.permits.drop_all(t);
-    parts.deps.end(t);
-    parts.trans.end(t, how);
+    end_writes(&mut parts.objects, one.t, how);
+    parts.locks.release(&parts.seats, one);
+    parts.permits.drop_all(&parts.seats, one);
+    parts.deps.end(&parts.seats, one);
+    parts.trans.end(one.t, how);
+    parts.seats.laws();
+    parts.seats.leave(one.at);
 }
 
 /// Ends those who are marked, all of whom are live. The order does not matter.
 fn end_marked(parts: &mut Parts, how: End)
-    requires live { (n : ℕ) → lists parts.old.deps.marked n ≡ true → is_live_status (status_in parts.old.trans n) ≡ true }
-    ensures ended { AreEnded (lists parts.old.deps.marked) how parts.old parts.new }
+    requires live { (n : ℕ) → lists (marked_by parts.old) n ≡ true → is_live_status (status_in parts.old.trans n) ≡ true }
+    requires tied { PartsAreTied parts.old }
+    ensures tied { PartsAreTied parts.new }
+    ensures ended { AreEnded (lists (marked_by parts.old)) how parts.old parts.new }
 {
-    'marked: while let Some(t) = parts.deps.next_marked() {
-        end_one(parts, t, how);
+    'marked: while let Some(one) = parts.deps.next_marked_sitter(&parts.seats) {
+        end_one(parts, one, how);
     }
 }
 
 /// Returns whether all who are marked have completed.
 fn all_completed(parts: &Parts) -> bool
-    ensures { result ≡ list_all (λ n. is_completed (status_in parts.now.trans n)) parts.now.deps.marked }
+    requires { IsTied parts.now.deps parts.now.seats }
+    ensures { result ≡ list_all (λ n. is_completed (status_in parts.now.trans n)) (marked_by parts.now) }
 {
     'marked: for index in 0..parts.deps.marked_count() {
-        if let Some(t) = parts.deps.marked(index) {
+        if let Some(t) = parts.deps.marked_name(&parts.seats, index) {
             if !parts.trans.status(t).is_completed() {
                 return false;
             }
@@ -90,12 +103,12 @@ impl Tables {
         ensures shown { ForShown self.old (λ opening steps. result ≡ may_commit steps t.0) }
         ensures same { self.new ≡ self.old }
     {
-        if !self.parts.deps.is_enrolled(t) {
+        let one = live_sitter(&self.parts, t);
+        if !self.parts.deps.is_linked(&self.parts.seats, one) {
             return self.parts.trans.status(t).is_completed();
         }
-        self.parts.deps.mark_class(t);
-        self.parts.deps.laws();
-        all_completed(&self.parts) && !self.parts.deps.has_outside_source(t)
+        self.parts.deps.mark_class(&self.parts.seats, one);
+        all_completed(&self.parts) && !self.parts.deps.has_outside_source(&self.parts.seats, one)
     }
 
     /// Commits a live transaction with its whole class, if the class may commit: their writes stand for good, and their
@@ -120,12 +133,12 @@ impl Tables {
         ensures stand { ShowsWith self.old (Step.Commit t) self.new }
         ensures locks { self.new.locks ≡ release_in (class_in self.old.deps t.0) self.old.locks }
     {
-        if self.parts.deps.is_enrolled(t) {
-            self.parts.deps.mark_class(t);
-            self.parts.deps.laws();
+        let one = live_sitter(&self.parts, t);
+        if self.parts.deps.is_linked(&self.parts.seats, one) {
+            self.parts.deps.mark_class(&self.parts.seats, one);
             end_marked(&mut self.parts, End::Committed);
         } else {
-            end_one(&mut self.parts, t, End::Committed);
+            end_one(&mut self.parts, one, End::Committed);
         }
     }
 
@@ -136,12 +149,12 @@ impl Tables {
         ensures stand { ShowsWith self.old (Step.Abort t) self.new }
         ensures locks { self.new.locks ≡ release_in (doomed_in self.old.deps t.0) self.old.locks }
     {
-        if self.parts.deps.is_enrolled(t) {
-            self.parts.deps.mark_doomed(t);
-            self.parts.deps.laws();
+        let one = live_sitter(&self.parts, t);
+        if self.parts.deps.is_linked(&self.parts.seats, one) {
+            self.parts.deps.mark_doomed(&self.parts.seats, one);
             end_marked(&mut self.parts, End::Aborted);
         } else {
-            end_one(&mut self.parts, t, End::Aborted);
+            end_one(&mut self.parts, one, End::Aborted);
         }
     }
 }

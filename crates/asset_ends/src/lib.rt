@@ -5,11 +5,13 @@
 
 mod answering;
 mod applying;
+mod asking;
 mod delegating;
 mod depending;
 mod ending;
 mod operating;
 mod parts;
+mod seating;
 mod tables;
 mod working;
 

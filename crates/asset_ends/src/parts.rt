@@ -1,17 +1,20 @@
-//! The five tables as one value.
+//! The five tables and the seats as one value.
 
-use asset_deps::Deps;
-use asset_locks::Locks;
+use asset_deps::SeatedDeps;
+use asset_locks::SeatedLocks;
 use asset_objects::Objects;
-use asset_permits::Permits;
+use asset_permits::SeatedPermits;
+use asset_seats::Seats;
 use asset_trans::Trans;
 
-/// The five tables. An ending changes all of them, and takes them in one borrow.
+/// The five tables, and the seats of the live transactions, by which locks, permits and dependencies are asked. An ending
+/// changes all of them, and takes them in one borrow.
 #[derive(Drop)]
 pub(crate) struct Parts {
+    pub(crate) seats: Seats,
     pub(crate) trans: Trans,
     pub(crate) objects: Objects,
-    pub(crate) locks: Locks,
-    pub(crate) permits: Permits,
-    pub(crate) deps: Deps,
+    pub(crate) locks: SeatedLocks,
+    pub(crate) permits: SeatedPermits,
+    pub(crate) deps: SeatedDeps,
 }

@@ -1,18 +1,20 @@
 //! The tables, and what they show.
 
+use crate::asking::is_free;
 use crate::parts::Parts;
-use asset_deps::Deps;
-use asset_locks::Locks;
+use asset_deps::SeatedDeps;
+use asset_locks::SeatedLocks;
 use asset_names::{End, NoMemory, Ob, Op, Status, Txn};
 use asset_objects::{Objects, ObjectsFault};
-use asset_permits::Permits;
+use asset_permits::SeatedPermits;
+use asset_seats::Seats;
 use asset_trans::Trans;
 use std::alloc::Global;
 use std::marker::Model;
 
 /// The tables of objects, locks, permits, transactions and dependencies. Contracts see what each holds; which history
-/// they show, `Shows` says. Exactly the live transactions are enrolled for locks, and of these the ones that may have
-/// dependencies for dependencies.
+/// they show, `Shows` says. Exactly the live transactions are enrolled for locks, and exactly they have seats, by which
+/// locks, permits and dependencies are asked.
 #[derive(Drop)]
 pub struct Tables {
     pub(crate) alloc: Global,
@@ -20,13 +22,17 @@ pub struct Tables {
 }
 
 impl Model for Tables {
-    ghost use Rattle.asset_ends.specs.Standing.{Standing, IsValid};
+    ghost use Rattle.asset_permits.specs.Valid.{permits_in};
+    ghost use Rattle.asset_deps.specs.Valid.{dependencies_in};
+    ghost use Rattle.asset_ends.specs.Standing.{Standing};
+    ghost use Rattle.asset_ends.specs.Ended.{locks_of};
+    ghost use Rattle.asset_ends.specs.Tied.{PartsAreValid};
 
     ghost Value = { Standing };
 
-    ghost view = { λ t. record { trans = t.parts.trans; objects = t.parts.objects; locks = t.parts.locks; permits = t.parts.permits; deps = t.parts.deps.dependencies } };
+    ghost view = { λ t. record { trans = t.parts.trans; objects = t.parts.objects; locks = locks_of t.parts; permits = permits_in t.parts.permits; deps = dependencies_in t.parts.deps } };
 
-    ghost invariant = { λ t. IsValid t.parts.trans t.parts.locks t.parts.deps };
+    ghost invariant = { λ t. PartsAreValid t.parts };
 }
 
 impl Tables {
@@ -76,11 +82,12 @@ impl Tables {
         ensures locks { result.locks ≡ [] }
     {
         let parts = Parts {
+            seats: Seats::new(alloc),
             objects,
-            locks: Locks::new(alloc),
-            permits: Permits::new(alloc),
+            locks: SeatedLocks::new(alloc),
+            permits: SeatedPermits::new(alloc),
             trans: Trans::new(alloc),
-            deps: Deps::new(alloc),
+            deps: SeatedDeps::new(alloc),
         };
         Tables { alloc, parts }
     }
@@ -122,7 +129,7 @@ impl Tables {
     pub fn waiters(&self, x: Ob, index: usize) -> Option<(Txn, Op)>
         ensures { result ≡ slice_get (waiters_in self.now.locks x.0) index }
     {
-        self.parts.locks.waiters(x, index)
+        self.parts.locks.waiters(&self.parts.seats, x, index)
     }
 
     /// Returns whether `x` is free for `t` to do `op`. Nothing changes: a search for permits marks what it met, and no
@@ -133,6 +140,14 @@ impl Tables {
         ensures allowed { ForShown self.old (λ opening steps. (u v y : ℕ) (o : Operation) → allows_by self.old.permits u v y o ≡ allows steps u v y o) }
         ensures same { self.new ≡ self.old }
     {
-        self.parts.locks.is_free(t, x, op, &mut self.parts.permits)
+        is_free(
+            &self.parts.trans,
+            &self.parts.seats,
+            &self.parts.locks,
+            &mut self.parts.permits,
+            t,
+            x,
+            op,
+        )
     }
 }

@@ -1,8 +1,11 @@
 //! The steps of transactions that go on.
 
+use crate::asking::is_free;
+use crate::seating::{live_sitter, make_room};
 use crate::tables::Tables;
 use asset_locks::Asked;
 use asset_names::{NoMemory, Ob, ObSet, Op, Ops, Txn};
+use asset_seats::Sitter;
 
 impl Tables {
     ghost use Rattle.std.specs.Prelude.{◌≡◌, cond, true, false, None, OnOk, OnErr, IfOk, IsErr};
@@ -17,21 +20,25 @@ impl Tables {
     ghost use Rattle.asset_ends.specs.Shown.{ShowsOrderly, ShowsWith, ShowsWithIf};
     ghost use Rattle.asset_ends.specs.Standing.{is_free_for, SameView};
 
-    /// Initiates a transaction that never was. If memory runs out, nothing that any call shows has changed.
+    /// Initiates a transaction that never was, which has a seat from then on until it ends. If memory runs out, nothing that
+    /// any call shows has changed.
     pub fn initiate(&mut self, t: Txn, parent: Option<Txn>) -> Result<(), NoMemory>
         requires new { status_in self.old.trans t.0 ≡ Status.Unknown }
         ensures stand { OnOk result (ShowsOrderly self.old (Step.Initiate t parent) self.new) }
         ensures locks { OnOk result (self.new.locks ≡ enrol_in t.0 self.old.locks) }
         ensures unchanged { OnErr result (SameView self.new self.old) }
     {
-        self.parts.locks.enrol(t)?;
-        match self.parts.trans.initiate(t, parent) {
-            Ok(()) => Ok(()),
-            Err(fault) => {
-                self.parts.locks.release(t);
-                Err(fault)
-            }
-        }
+        let seat = make_room(
+            &mut self.parts.seats,
+            &mut self.parts.locks,
+            &mut self.parts.permits,
+            &mut self.parts.deps,
+        )?;
+        self.parts.trans.initiate_at(t, parent, seat)?;
+        self.parts.locks.laws(&self.parts.seats);
+        let at = self.parts.seats.sit(t);
+        self.parts.locks.enrol(&self.parts.seats, Sitter { t, at });
+        Ok(())
     }
 
     /// Starts a transaction that was initiated and has not begun.
@@ -54,11 +61,8 @@ impl Tables {
         ensures memory { IsErr result → is_free_for self.old t.0 x.0 Operation.Read ≡ true }
         ensures unchanged { OnErr result (SameView self.new self.old) }
     {
-        match self
-            .parts
-            .locks
-            .ask(t, x, Op::Read, &mut self.parts.permits)?
-        {
+        let one = live_sitter(&self.parts, t);
+        match self.parts.locks.ask(&self.parts.seats, one, x, Op::Read, &mut self.parts.permits)? {
             Asked::Granted => Ok(self.parts.objects.value(x)),
             Asked::Pending => Ok(None),
         }
@@ -97,11 +101,14 @@ impl Tables {
         ensures memory { IsErr result → is_free_for self.old t.0 x.0 Operation.Write ≡ true }
         ensures unchanged { OnErr result (self.new ≡ self.old) }
     {
-        match self
-            .parts
-            .locks
-            .ask(t, x, Op::Write, &mut self.parts.permits)?
-        {
+        let one = live_sitter(&self.parts, t);
+        match self.parts.locks.ask(
+            &self.parts.seats,
+            one,
+            x,
+            Op::Write,
+            &mut self.parts.permits,
+        )? {
             Asked::Granted => {
                 self.parts.objects.write(t, x, v);
                 Ok(true)
@@ -124,16 +131,25 @@ impl Tables {
         ensures memory { IsErr result → is_free_for self.old t.0 x.0 Operation.Write ≡ true }
         ensures unchanged { OnErr result (self.new ≡ self.old) }
     {
-        if self
-            .parts
-            .locks
-            .is_free(t, x, Op::Write, &mut self.parts.permits)
-        {
+        if is_free(
+            &self.parts.trans,
+            &self.parts.seats,
+            &self.parts.locks,
+            &mut self.parts.permits,
+            t,
+            x,
+            Op::Write,
+        ) {
             return Err(fault);
         }
-        self.parts
-            .locks
-            .ask(t, x, Op::Write, &mut self.parts.permits)?;
+        let one = live_sitter(&self.parts, t);
+        self.parts.locks.ask(
+            &self.parts.seats,
+            one,
+            x,
+            Op::Write,
+            &mut self.parts.permits,
+        )?;
         Ok(false)
     }
 
@@ -155,6 +171,10 @@ impl Tables {
         ensures locks { self.new.locks ≡ self.old.locks }
         ensures unchanged { OnErr result (SameView self.new self.old) }
     {
-        self.parts.permits.add(giver, taker, obs, ops)
+        let from = live_sitter(&self.parts, giver);
+        let to = live_sitter(&self.parts, taker);
+        self.parts
+            .permits
+            .add(&self.parts.seats, from, to, obs, ops)
     }
 }

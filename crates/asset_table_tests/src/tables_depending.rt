@@ -227,10 +227,19 @@ fn abort_stays_where_nothing_leads_on_the_tables(rt: HostRuntime) -> Result<(), 
     Ok(())
 }
 
+/// Returns whether one that was never initiated would close a cycle with itself alone, and not by a group commit.
+fn stranger_closes_its_own_cycle(tables: &mut Tables) -> bool {
+    let (stranger, other) = (Txn(99), Txn(98));
+    tables.would_cycle(Kind::Cd, stranger, stranger)
+        && tables.would_cycle(Kind::Ad, stranger, stranger)
+        && !tables.would_cycle(Kind::Gc, stranger, stranger)
+        && !tables.would_cycle(Kind::Cd, stranger, other)
+}
+
 #[test]
 fn cycles_on_the_tables(rt: HostRuntime) -> Result<(), Fail> {
     let mut tables = open(rt.alloc())?;
-    let works = cycles_show(&mut tables);
+    let works = cycles_show(&mut tables) && stranger_closes_its_own_cycle(&mut tables);
     drop(tables);
     assert!(rt; works);
     Ok(())

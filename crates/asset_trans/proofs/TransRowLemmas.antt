@@ -78,11 +78,11 @@ sum_most f [] most = omega arith
 sum_most f (entry ∷ rows) most = omega (arith, sum_by-cons f entry.1 (values_of rows), sum_most f rows most, most entry.1)
 
 -- the rows after a new name comes
-pub initiated_counts : (t : Txn) (parent : Option Txn) (rows : List NamedTransRow)
-    → (live_count_in (initiate_in rows t parent) ≡ live_count_in rows + 1) × (owed_in (initiate_in rows t parent) ≡ owed_in rows + 2)
+pub initiated_counts : (t : Txn) (parent : Option Txn) (seat : ℕ) (rows : List NamedTransRow)
+    → (live_count_in (initiate_in rows t parent seat) ≡ live_count_in rows + 1) × (owed_in (initiate_in rows t parent seat) ≡ owed_in rows + 2)
 unfolding live_count_in owed_in initiate_in one_if_live is_live_status owed_to
-initiated_counts t parent rows =
-    let new : TransRow = record { status = Status'.Initiated; parent = parent } in
+initiated_counts t parent seat rows =
+    let new : TransRow = record { status = Status'.Initiated; parent = parent; seat = seat } in
     let values : values_of (rows ++ (t, new) ∷ []) ≡ values_of rows ++ new ∷ [] = map-append (λ (entry : NamedTransRow). entry.1) rows ((t, new) ∷ []) in
     (rw values (sum_by_push (λ (row : TransRow). one_if_live row.status) (values_of rows) new), rw values (sum_by_push (λ (row : TransRow). owed_to row.status) (values_of rows) new))
 
@@ -141,10 +141,10 @@ most_ended how rows = sum_most (λ row. one_if_ended how row.status) rows (λ ro
   go false = omega arith
 
 -- a new name has not ended
-pub initiated_ended : (how : End) (t : Txn) (parent : Option Txn) (rows : List NamedTransRow) → ended_in how (initiate_in rows t parent) ≡ ended_in how rows
+pub initiated_ended : (how : End) (t : Txn) (parent : Option Txn) (seat : ℕ) (rows : List NamedTransRow) → ended_in how (initiate_in rows t parent seat) ≡ ended_in how rows
 unfolding ended_in initiate_in one_if_ended is_live_status
-initiated_ended how t parent rows =
-    let new : TransRow = record { status = Status'.Initiated; parent = parent } in
+initiated_ended how t parent seat rows =
+    let new : TransRow = record { status = Status'.Initiated; parent = parent; seat = seat } in
     let values : values_of (rows ++ (t, new) ∷ []) ≡ values_of rows ++ new ∷ [] = map-append (λ (entry : NamedTransRow). entry.1) rows ((t, new) ∷ []) in
     rw values (omega (arith, sum_by_push (λ (row : TransRow). one_if_ended how row.status) (values_of rows) new, live_not_ended how Status'.Initiated refl))
 
@@ -185,6 +185,6 @@ known_set test status (entry ∷ rows) new known =
       go false old rest = rw (old, rest) refl
 
 -- nor where a new name comes
-pub known_initiate : (t : Txn) (parent : Option Txn) (rows : List NamedTransRow) → has_unknown rows ≡ false → has_unknown (initiate_in rows t parent) ≡ false
+pub known_initiate : (t : Txn) (parent : Option Txn) (seat : ℕ) (rows : List NamedTransRow) → has_unknown rows ≡ false → has_unknown (initiate_in rows t parent seat) ≡ false
 unfolding has_unknown initiate_in is_unknown
-known_initiate t parent rows known = list_any-append (λ (entry : NamedTransRow). is_unknown entry.1.status) rows _ ∙ rw known refl
+known_initiate t parent seat rows known = list_any-append (λ (entry : NamedTransRow). is_unknown entry.1.status) rows _ ∙ rw known refl

@@ -33,6 +33,10 @@ unfoldable pub parent_or_none : Option TransRow → Option Txn
 parent_or_none None = None
 parent_or_none (Some row) = row.parent
 
+unfoldable pub seat_or_zero : Option TransRow → ℕ
+seat_or_zero None = 0
+seat_or_zero (Some row) = row.seat
+
 -- the status of a transaction: one without a row is unknown
 unfoldable pub status_in : List NamedTransRow → ℕ → Status
 status_in rows t = status_or_unknown (row_in rows t)
@@ -41,9 +45,13 @@ status_in rows t = status_or_unknown (row_in rows t)
 unfoldable pub parent_in : List NamedTransRow → ℕ → Option Txn
 parent_in rows t = parent_or_none (row_in rows t)
 
--- a new transaction comes last, and is Initiated
-unfoldable pub initiate_in : List NamedTransRow → Txn → Option Txn → List NamedTransRow
-initiate_in rows t parent = rows ++ (t, record { status = Status'.Initiated; parent = parent }) ∷ []
+-- the seat that the transaction was given, which is its own while it is live; 0 for one without a row
+unfoldable pub seat_in : List NamedTransRow → ℕ → ℕ
+seat_in rows t = seat_or_zero (row_in rows t)
+
+-- a new transaction comes last, is Initiated, and has its seat
+unfoldable pub initiate_in : List NamedTransRow → Txn → Option Txn → ℕ → List NamedTransRow
+initiate_in rows t parent seat = rows ++ (t, record { status = Status'.Initiated; parent = parent; seat = seat }) ∷ []
 
 -- each transaction that passes the test gets the status
 unfoldable pub set_entry : (ℕ → Bool) → Status → NamedTransRow → NamedTransRow

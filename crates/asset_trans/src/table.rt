@@ -12,8 +12,8 @@ use indexmap::IndexMap;
 use std::alloc::Global;
 use std::marker::Model;
 
-/// The transactions that were initiated, in order of initiation, each with its status and parent. Contracts see
-/// this list.
+/// The transactions that were initiated, in order of initiation, each with its status, its parent and its seat. Contracts
+/// see this list. Who calls answers for the seats: they are kept as they are given.
 #[derive(Drop)]
 pub struct Trans {
     rows: IndexMap<Txn, TransRow>,
@@ -35,15 +35,21 @@ impl Model for Trans {
 }
 
 /// Adds a transaction that has no row, as Initiated.
-fn add_row(rows: &mut IndexMap<Txn, TransRow>, t: Txn, parent: Option<Txn>) -> Result<(), NoMemory>
+fn add_row(
+    rows: &mut IndexMap<Txn, TransRow>,
+    t: Txn,
+    parent: Option<Txn>,
+    seat: usize,
+) -> Result<(), NoMemory>
     requires absent { row_in rows.old.entries t.0 ≡ None }
-    ensures added { OnOk result (rows.new.entries ≡ initiate_in rows.old.entries t parent) }
+    ensures added { OnOk result (rows.new.entries ≡ initiate_in rows.old.entries t parent seat) }
     ensures small { length rows.new.entries < 2 ^ 63 }
     ensures unchanged { OnErr result (rows.new.entries ≡ rows.old.entries) }
 {
     let row = TransRow {
         status: Status::Initiated,
         parent,
+        seat,
     };
     let added = match rows.insert(t, row) {
         Ok(_) => Ok(()),
@@ -102,7 +108,7 @@ impl Trans {
     ghost use Rattle.std.specs.Prelude.{◌≡◌, ◌≤◌, true, false, [], None, OnOk, OnErr, ◌==◌, is_some};
     ghost use Rattle.asset_names.specs.declared.statuses.Status.{Status};
     ghost use Rattle.asset_names.specs.Room.{owed_to};
-    ghost use Rattle.asset_trans.specs.TransRows.{row_in, status_in, parent_in, initiate_in, set_in, ended_as, one_if_live, live_count_in, owed_in, ended_in};
+    ghost use Rattle.asset_trans.specs.TransRows.{row_in, status_in, parent_in, seat_in, initiate_in, set_in, ended_as, one_if_live, live_count_in, owed_in, ended_in};
     ghost use Rattle.asset_names.specs.Answers.{is_unknown};
     ghost use Rattle.asset_names.specs.Endings.{is_live_status};
 
@@ -119,19 +125,42 @@ impl Trans {
         }
     }
 
-    /// Registers `t`, which is Unknown, as Initiated.
+    /// Registers `t`, which is Unknown, as Initiated, without a seat of its own: its row says seat 0.
     ///
     /// If memory runs out, nothing changes.
     pub fn initiate(&mut self, t: Txn, parent: Option<Txn>) -> Result<(), NoMemory>
         requires new { status_in self.old t.0 ≡ Status.Unknown }
-        ensures done { OnOk result (self.new ≡ initiate_in self.old t parent) }
+        ensures done { OnOk result (self.new ≡ initiate_in self.old t parent 0) }
         ensures absent { row_in self.old t.0 ≡ None }
         ensures unchanged { OnErr result (self.new ≡ self.old) }
     {
-        add_row(&mut self.rows, t, parent)?;
+        self.initiate_at(t, parent, 0)
+    }
+
+    /// Registers `t`, which is Unknown, as Initiated, with its seat.
+    ///
+    /// If memory runs out, nothing changes.
+    pub fn initiate_at(&mut self, t: Txn, parent: Option<Txn>, seat: usize) -> Result<(), NoMemory>
+        requires new { status_in self.old t.0 ≡ Status.Unknown }
+        ensures done { OnOk result (self.new ≡ initiate_in self.old t parent seat) }
+        ensures absent { row_in self.old t.0 ≡ None }
+        ensures unchanged { OnErr result (self.new ≡ self.old) }
+    {
+        add_row(&mut self.rows, t, parent, seat)?;
         self.live += 1;
         self.owed += 2;
         Ok(())
+    }
+
+    /// Returns the row of a transaction: its status, its parent and its seat in one look. One that was never registered
+    /// has none.
+    pub fn find(&self, t: Txn) -> Option<TransRow>
+        ensures { result ≡ row_in self.now t.0 }
+    {
+        match self.rows.get(&t) {
+            Some(row) => Some(*row),
+            None => None,
+        }
     }
 
     /// Returns the status of a transaction. One that was never registered is Unknown.
@@ -151,6 +180,16 @@ impl Trans {
         match self.rows.get(&t) {
             Some(row) => row.parent,
             None => None,
+        }
+    }
+
+    /// Returns the seat that a transaction was given, and 0 for one that was never registered.
+    pub fn seat(&self, t: Txn) -> usize
+        ensures { result ≡ seat_in self.now t.0 }
+    {
+        match self.rows.get(&t) {
+            Some(row) => row.seat,
+            None => 0,
         }
     }
 

@@ -1,4 +1,5 @@
 use Rattle.std.proofs.Common.{◌≡◌, Bool, true, false, ◌&&◌, ◌||◌, refl, sym, ◌∙◌}
+use Rattle.asset_permits.specs.Valid.{permits_in}
 use Rattle.asset_permits.proofs.GivingLemmas.{gives_nothing}
 use Rattle.asset_ends.proofs.delegating.copy_permits.Goals as goal
 
@@ -10,7 +11,7 @@ nothing_more false false false h = refl
 
 pub returns-then-not-gives-clause-covers : goal.returns-then-not-gives-clause-covers
 returns-then-not-gives-clause-covers c =
-    λ u t x op. nothing_more _ _ _ (gives_nothing c.args.permits.now c.args.giver.0 t x op (sym c.gives.ensures ∙ c.if-not-gives.true))
+    λ u t x op. nothing_more _ _ _ (gives_nothing (permits_in c.args.permits.now) c.args.giver.t.0 t x op (sym c.gives.ensures ∙ c.if-not-gives.true))
 
 pub returns-clause-covers : goal.returns-clause-covers
 returns-clause-covers c = rw (c.deref.ensures, c.in_ok-moved.ensures.held) at c.copy_for.ensures.covers

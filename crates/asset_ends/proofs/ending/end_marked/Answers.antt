@@ -1,18 +1,19 @@
-use Rattle.std.proofs.Common.{◌∙◌, ap}
-use Rattle.asset_deps.specs.Dependencies.{DepTable}
 use Rattle.asset_ends.proofs.EndingLemmas.{none_ending, next_ending, next_live, all_ended}
 use Rattle.asset_ends.proofs.ending.end_marked.Goals as goal
 
 pub marked-init : goal.marked-init
-marked-init c = none_ending c.args.how _ c.requires.live
+marked-init c = none_ending c.args.how _ c.requires.live c.requires.tied
 
-pub end_one-requires : goal.end_one-requires
-end_one-requires c = record { live = next_live c.args.how _ _ _ c.in-Some.t.0 c.marked.invariant c.in-Some.ensures.last.0 }
+pub next_marked_sitter-requires : goal.next_marked_sitter-requires
+next_marked_sitter-requires c = record { tied = c.marked.invariant.tied.deps }
+
+pub end_one-requires-clause-live : goal.end_one-requires-clause-live
+end_one-requires-clause-live c = next_live c.args.how _ _ _ c.in-Some.one.t.0 c.marked.invariant c.in-Some.ensures.last.0
 
 pub marked-preserved : goal.marked-preserved
 marked-preserved c =
-    next_ending c.args.how _ _ _ _ c.in-Some.t.0 c.marked.invariant c.in-Some.ensures.last.0 c.in-Some.ensures.last.1 c.next_marked.ensures.dependencies c.next_marked.ensures.names c.end_one.ensures.ended
-    (c.end_one.ensures.marked c.in-Some.ensures.last.1)
+    next_ending c.args.how _ _ c.next_marked_sitter.new.self _ c.in-Some.one.t.0 c.marked.invariant c.in-Some.ensures.last.0 c.in-Some.ensures.last.1 c.next_marked_sitter.ensures.dependencies c.end_one.ensures.ended
+    (c.end_one.ensures.marked c.in-Some.ensures.last.1) c.end_one.ensures.tied
 
-pub returns : goal.returns
-returns c = record { ended = all_ended c.args.how _ _ (rw c.in_default.ensures.none.1 c.marked.invariant) (ap (λ (table : DepTable). table.marked) c.in_default.ensures.none.1 ∙ c.in_default.ensures.none.0) }
+pub returns-clause-ended : goal.returns-clause-ended
+returns-clause-ended c = rw c.in_default.ensures.none.1 (all_ended c.args.how _ _ c.marked.invariant c.in_default.ensures.none.0)

@@ -1,33 +1,54 @@
-use Rattle.std.proofs.Common.{◌∙◌, sym, ap, rules}
+use Rattle.std.proofs.Common.{◌∙◌, sym, ap}
 use Rattle.asset_names.specs.declared.statuses.End.TheVariants as End'
 use Rattle.asset_names.proofs.Common.{eqb-flip}
-use Rattle.asset_ends.specs.Ended.{parts}
+use Rattle.asset_locks.specs.LockTable as Locks
+use Rattle.asset_ends.specs.Ended.{parts, locks_of}
 use Rattle.asset_deps.specs.Dependencies.{doomed_in}
-use Rattle.asset_ends.proofs.EndingLemmas.{abort_stands, ended_valid, marked_live, one_live, same_valid}
+use Rattle.asset_deps.specs.Valid.{dependencies_in}
+use Rattle.asset_ends.proofs.EndingLemmas.{abort_stands, ended_valid, marked_live, one_live}
 use Rattle.asset_ends.proofs.tables.Tables.abort.Goals as goal
 
+pub live_sitter-one-requires : goal.live_sitter-one-requires
+live_sitter-one-requires c = record { seated = c.self.invariant.seats; live = rw (← c.self.view_is) at c.requires.live }
+
 pub end_marked-requires : goal.end_marked-requires
-end_marked-requires c = record { live = marked_live c.self.inside.parts.trans c.self.inside.parts.deps c.mark_doomed.new.self c.self.invariant.deps c.laws.ensures.marked c.mark_doomed.ensures.names }
+end_marked-requires c = record { live = marked_live c.self.inside.parts.trans c.self.inside.parts.seats c.mark_doomed.new.self c.self.invariant.seats c.mark_doomed.ensures.tied; tied = record { locks = c.self.invariant.tied.locks; permits = c.self.invariant.tied.permits; deps = c.mark_doomed.ensures.tied } }
 
 pub invariant_of-self : goal.invariant_of-self
-invariant_of-self c = ended_valid _ End'.Aborted _ _ c.end_marked.ensures.ended (marked_live c.self.inside.parts.trans c.self.inside.parts.deps c.mark_doomed.new.self c.self.invariant.deps c.laws.ensures.marked c.mark_doomed.ensures.names) (same_valid c.self.inside.parts.trans c.self.inside.parts.locks c.self.inside.parts.deps c.mark_doomed.new.self c.mark_doomed.ensures.names c.self.invariant)
+invariant_of-self c =
+    ended_valid _ End'.Aborted _ _ c.end_marked.ensures.ended (marked_live c.self.inside.parts.trans c.self.inside.parts.seats c.mark_doomed.new.self c.self.invariant.seats c.mark_doomed.ensures.tied) c.end_marked.ensures.tied
+    (record { locks = c.self.invariant.locks; seats = c.self.invariant.seats; tied = record { locks = c.self.invariant.tied.locks; permits = c.self.invariant.tied.permits; deps = c.mark_doomed.ensures.tied } })
 
-pub invariant_of-self-else-is_enrolled : goal.invariant_of-self-else-is_enrolled
-invariant_of-self-else-is_enrolled c = ended_valid _ End'.Aborted _ _ c.end_one.ensures.ended (one_live _ c.args.t.0 (rw (← c.self.view_is) at c.requires.live)) c.self.invariant
-
-pub returns-then-is_enrolled-clause-stand : goal.returns-then-is_enrolled-clause-stand
-returns-then-is_enrolled-clause-stand c =
+pub returns-then-is_linked-clause-stand : goal.returns-then-is_linked-clause-stand
+returns-then-is_linked-clause-stand c =
     let alive = rw (← c.self.view_is) at c.requires.live in
+    let before = c.self.inside.parts in
     rw (← c.self.view_is) (λ opening steps stand.
-    abort_stands opening steps _ (parts c.self.inside.parts.trans c.self.inside.parts.objects c.self.inside.parts.locks c.self.inside.parts.permits c.mark_doomed.new.self) _ c.args.t c.end_marked.ensures.ended
-    (λ n. c.mark_doomed.ensures.marked n ∙ ap (λ deps. doomed_in deps c.args.t.0 n) (sym c.mark_doomed.ensures.dependencies)) alive (rw c.mark_doomed.ensures.dependencies stand))
+    abort_stands opening steps _ (parts before.seats before.trans before.objects before.locks before.permits c.mark_doomed.new.self) _ c.args.t c.end_marked.ensures.ended
+    (λ n. c.mark_doomed.ensures.marked n ∙ (λ i. doomed_in (sym c.mark_doomed.ensures.dependencies i) (c.live_sitter-one.ensures.name i).0 n)) alive (rw c.mark_doomed.ensures.dependencies stand))
 
-pub returns-else-is_enrolled-clause-stand : goal.returns-else-is_enrolled-clause-stand
-returns-else-is_enrolled-clause-stand c =
+pub returns-then-is_linked-clause-locks : goal.returns-then-is_linked-clause-locks
+returns-then-is_linked-clause-locks c =
+    let deps = c.self.inside.parts.deps in
+    rw (← c.self.view_is) (c.end_marked.ensures.ended.locks ∙ ap (λ test. Locks.release_in test (locks_of c.self.inside.parts)) (λ i n. (c.mark_doomed.ensures.marked n ∙ (λ j. doomed_in (dependencies_in deps) (c.live_sitter-one.ensures.name j).0 n)) i))
+
+pub end_one-requires : goal.end_one-requires
+end_one-requires c = record { live = rw c.live_sitter-one.ensures.name (rw (← c.self.view_is) at c.requires.live); tied = c.self.invariant.tied; sits = c.live_sitter-one.ensures.sits }
+
+pub invariant_of-self-else-is_linked : goal.invariant_of-self-else-is_linked
+invariant_of-self-else-is_linked c =
+    ended_valid _ End'.Aborted _ _ c.end_one.ensures.ended (one_live _ c.live_sitter-one.result.t.0 (rw c.live_sitter-one.ensures.name (rw (← c.self.view_is) at c.requires.live))) c.end_one.ensures.tied c.self.invariant
+
+pub returns-else-is_linked-clause-stand : goal.returns-else-is_linked-clause-stand
+returns-else-is_linked-clause-stand c =
     let alive = rw (← c.self.view_is) at c.requires.live in
+    let deps = dependencies_in c.self.inside.parts.deps in
     rw (← c.self.view_is) (λ opening steps stand.
-    abort_stands opening steps _ (parts c.self.inside.parts.trans c.self.inside.parts.objects c.self.inside.parts.locks c.self.inside.parts.permits c.self.inside.parts.deps) _ c.args.t c.end_one.ensures.ended
-    (λ n. eqb-flip n c.args.t.0 ∙ sym ((c.is_enrolled.ensures.alone c.if-is_enrolled.false) n).1) alive stand)
+    abort_stands opening steps _ c.self.inside.parts _ c.args.t c.end_one.ensures.ended
+    (λ n. eqb-flip n c.live_sitter-one.result.t.0 ∙ sym ((c.is_linked.ensures.alone c.if-is_linked.false) n).1 ∙ (λ i. doomed_in deps (c.live_sitter-one.ensures.name i).0 n)) alive stand)
 
-pub returns-then-is_enrolled-clause-locks : goal.returns-then-is_enrolled-clause-locks
-returns-then-is_enrolled-clause-locks c = search rules
+pub returns-else-is_linked-clause-locks : goal.returns-else-is_linked-clause-locks
+returns-else-is_linked-clause-locks c =
+    let deps = dependencies_in c.self.inside.parts.deps in
+    rw (← c.self.view_is) (c.end_one.ensures.ended.locks
+    ∙ ap (λ test. Locks.release_in test (locks_of c.self.inside.parts)) (λ i n. (eqb-flip n c.live_sitter-one.result.t.0 ∙ sym ((c.is_linked.ensures.alone c.if-is_linked.false) n).1 ∙ (λ j. doomed_in deps (c.live_sitter-one.ensures.name j).0 n)) i))

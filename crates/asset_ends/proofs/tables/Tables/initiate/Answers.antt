@@ -1,42 +1,51 @@
-use Rattle.std.proofs.Common.{refl, ◌∙◌}
-use Rattle.asset_ends.proofs.EnrolledLemmas.{initiate_enrolled, initiate_depends, new_not_enrolled}
+use Rattle.std.proofs.Common.{◌≡◌, refl, ◌∙◌}
+use Rattle.asset_locks.proofs.SeatLemmas.{shows_sits}
+use Rattle.asset_ends.specs.Ended.{locks_of}
+use Rattle.asset_ends.proofs.EnrolledLemmas.{initiate_enrolled, initiate_seated, same_seated, new_not_enrolled, new_not_seated}
 use Rattle.asset_ends.proofs.ShowsLemmas.{initiate_shows, new_name}
-use Rattle.asset_ends.proofs.StandingLemmas.{stand_as, enrolment_given_back}
+use Rattle.asset_ends.proofs.StandingLemmas.{stand_as}
+use Rattle.asset_ends.proofs.TiedLemmas.{tied_sits, enrolled_last}
 use Rattle.asset_ends.proofs.tables.Tables.initiate.Goals as goal
 
-pub initiate-requires : goal.initiate-requires
-initiate-requires c = record { new = rw (← c.self.view_is) at c.requires.new }
+pub sit-at-requires-clause-absent : goal.sit-at-requires-clause-absent
+sit-at-requires-clause-absent c = new_not_seated _ _ c.make_room.new.seats c.args.t c.self.invariant.seats c.make_room.ensures.seats (rw (← c.self.view_is) at c.requires.new)
 
-pub invariant_of-self-in-Ok : goal.invariant_of-self-in-Ok
-invariant_of-self-in-Ok c =
-    let absent = new_not_enrolled _ _ c.args.t.0 c.self.invariant.locks (rw (← c.self.view_is) at c.requires.new) in
-    rw (c.in-Ok.ensures.done, c.in_ok-enrol.ensures.done absent) (record {
-      locks = initiate_enrolled _ _ c.args.t c.args.parent c.in-Ok.ensures.absent c.self.invariant.locks;
-      deps = initiate_depends _ _ c.args.t c.args.parent c.in-Ok.ensures.absent c.self.invariant.deps;
+pub enrol-requires-clause-tied : goal.enrol-requires-clause-tied
+enrol-requires-clause-tied c =
+    let room = c.in_ok-seat.ensures.room in
+    let given : c.sit-at.result ≡ c.in_ok-seat.seat = c.sit-at.ensures.given ∙ room.0 in
+    let absent = new_not_seated _ _ c.make_room.new.seats c.args.t c.self.invariant.seats c.make_room.ensures.seats (rw (← c.self.view_is) at c.requires.new) in
+    (tied_sits _ _ _ c.make_room.new.seats c.sit-at.new.self c.sit-at.result c.args.t absent c.make_room.ensures.tied c.sit-at.ensures.free c.sit-at.ensures.seats (rw (← given) at room.2)).locks
+
+pub invariant_of-self-2 : goal.invariant_of-self-2
+invariant_of-self-2 c =
+    let seats = c.make_room.new.seats in
+    let unknown = rw (← c.self.view_is) at c.requires.new in
+    let room = c.in_ok-seat.ensures.room in
+    let given : c.sit-at.result ≡ c.in_ok-seat.seat = c.sit-at.ensures.given ∙ room.0 in
+    let absent = new_not_seated _ _ seats c.args.t c.self.invariant.seats c.make_room.ensures.seats unknown in
+    let tied = tied_sits _ _ _ seats c.sit-at.new.self c.sit-at.result c.args.t absent c.make_room.ensures.tied c.sit-at.ensures.free c.sit-at.ensures.seats (rw (← given) at room.2) in
+    let enrolled = enrolled_last c.make_room.new.locks c.make_room.new.seats c.sit-at.new.self c.args.t (locks_of c.self.inside.parts) _
+    (shows_sits c.make_room.new.locks c.make_room.new.seats c.sit-at.new.self c.sit-at.result c.args.t c.sit-at.ensures.free c.sit-at.ensures.seats c.make_room.ensures.tied.locks c.laws.ensures.order) c.make_room.ensures.locks
+    (new_not_enrolled _ _ c.args.t.0 c.self.invariant.locks (rw (← c.self.view_is) at c.requires.new)) c.enrol.ensures.done in
+    rw (c.in_ok-initiate_at.ensures.done, ← given) (record {
+      locks = rw enrolled (initiate_enrolled _ _ c.args.t c.args.parent c.sit-at.result c.in_ok-initiate_at.ensures.absent c.self.invariant.locks);
+      seats = initiate_seated _ seats c.sit-at.new.self c.args.t c.args.parent c.sit-at.result c.in_ok-initiate_at.ensures.absent c.sit-at.ensures.free c.sit-at.ensures.seats (same_seated _ c.self.inside.parts.seats seats c.make_room.ensures.seats c.self.invariant.seats);
+      tied = record { locks = c.enrol.ensures.tied; permits = tied.permits; deps = tied.deps };
     })
 
-pub invariant_of-self-in-Err : goal.invariant_of-self-in-Err
-invariant_of-self-in-Err c =
-    let absent = new_not_enrolled _ _ c.args.t.0 c.self.invariant.locks (rw (← c.self.view_is) at c.requires.new) in
-    rw (c.in-Err.ensures.unchanged, c.release.ensures, c.in_ok-enrol.ensures.done absent, enrolment_given_back _ _ absent) c.self.invariant
-
-pub returns-in-Ok-clause-stand : goal.returns-in-Ok-clause-stand
-returns-in-Ok-clause-stand c =
-    let absent = new_not_enrolled _ _ c.args.t.0 c.self.invariant.locks (rw (← c.self.view_is) at c.requires.new) in
+pub returns-clause-stand : goal.returns-clause-stand
+returns-clause-stand c =
+    let seats = c.make_room.new.seats in
+    let unknown = rw (← c.self.view_is) at c.requires.new in
+    let enrolled = enrolled_last c.make_room.new.locks c.make_room.new.seats c.sit-at.new.self c.args.t (locks_of c.self.inside.parts) _
+    (shows_sits c.make_room.new.locks c.make_room.new.seats c.sit-at.new.self c.sit-at.result c.args.t c.sit-at.ensures.free c.sit-at.ensures.seats c.make_room.ensures.tied.locks c.laws.ensures.order) c.make_room.ensures.locks
+    (new_not_enrolled _ _ c.args.t.0 c.self.invariant.locks (rw (← c.self.view_is) at c.requires.new)) c.enrol.ensures.done in
     rw (← c.self.view_is) (λ opening steps stand orderly.
-    stand_as opening _ _ _ _ _ _ _ c.in-Ok.ensures.done refl (c.in_ok-enrol.ensures.done absent) refl refl
-    (initiate_shows opening steps _ _ _ _ _ c.args.t c.args.parent stand orderly (new_name opening steps _ _ _ _ _ c.args.t.0 stand c.in-Ok.ensures.absent)))
+    stand_as opening _ _ _ _ _ _ _ c.in_ok-initiate_at.ensures.done refl enrolled c.make_room.ensures.permits c.make_room.ensures.dependencies
+    (initiate_shows opening steps _ _ _ _ _ c.args.t c.args.parent c.in_ok-seat.seat stand orderly (new_name opening steps _ _ _ _ _ c.args.t.0 stand c.in_ok-initiate_at.ensures.absent)))
 
-pub returns-in-Ok-clause-locks : goal.returns-in-Ok-clause-locks
-returns-in-Ok-clause-locks c = rw (← c.self.view_is) (c.in_ok-enrol.ensures.done (new_not_enrolled _ _ c.args.t.0 c.self.invariant.locks (rw (← c.self.view_is) at c.requires.new)))
-
-pub returns-in-Err-clause-unchanged : goal.returns-in-Err-clause-unchanged
-returns-in-Err-clause-unchanged c =
-    let absent = new_not_enrolled _ _ c.args.t.0 c.self.invariant.locks (rw (← c.self.view_is) at c.requires.new) in
-    rw (← c.self.view_is) (record {
-      rows = c.in-Err.ensures.unchanged;
-      objects = refl;
-      locks = c.release.ensures ∙ rw (c.in_ok-enrol.ensures.done absent) (enrolment_given_back _ _ absent);
-      permits = refl;
-      deps = refl;
-    })
+pub returns-clause-locks : goal.returns-clause-locks
+returns-clause-locks c = rw (← c.self.view_is) (enrolled_last c.make_room.new.locks c.make_room.new.seats c.sit-at.new.self c.args.t (locks_of c.self.inside.parts) _
+    (shows_sits c.make_room.new.locks c.make_room.new.seats c.sit-at.new.self c.sit-at.result c.args.t c.sit-at.ensures.free c.sit-at.ensures.seats c.make_room.ensures.tied.locks c.laws.ensures.order) c.make_room.ensures.locks
+    (new_not_enrolled _ _ c.args.t.0 c.self.invariant.locks (rw (← c.self.view_is) at c.requires.new)) c.enrol.ensures.done)
