@@ -1,8 +1,7 @@
 //! The facility for one caller.
 
-ghost use Rattle.std.specs.Prelude.{◌≡◌};
+ghost use Rattle.std.specs.Prelude.{◌≡◌, ◌≤◌, cond};
 ghost use Rattle.asset_names.specs.Room.{initiates};
-ghost use Rattle.asset_names.specs.Sources.{is_operation};
 
 use crate::OpenFault;
 use asset_ends::Tables;
@@ -28,12 +27,12 @@ fn initiates(step: &Step) -> bool
     matches!(step, Step::Initiate { .. })
 }
 
-/// Returns whether the step is a read or a write.
-#[tactic(auto, unfolding(asset_names::specs::Sources::is_operation))]
-fn is_operation(step: &Step) -> bool
-    ensures { result ≡ is_operation step.now }
+/// Returns how many entries a step may be owed beside its own: two if it initiates a transaction.
+fn may_owe(step: &Step) -> usize
+    ensures owed { result ≡ cond (initiates step.now) 2 0 }
+    ensures most { result ≤ 2 }
 {
-    matches!(step, Step::Read { .. } | Step::Write { .. })
+    if initiates(step) { 2 } else { 0 }
 }
 
 /// A history, which grows by one answered step at a time, and the tables that show it. Contracts see the
@@ -56,7 +55,7 @@ impl Model for Core {
 }
 
 impl Core {
-    ghost use Rattle.std.specs.Prelude.{◌≡◌, ◌+◌, ◌<◌, ◌≤◌, [], ◌∷◌, true, false, map, filter, reverse, length, slice_get, IfOk, IfErr, OnOk, Err};
+    ghost use Rattle.std.specs.Prelude.{◌≡◌, ◌+◌, ◌<◌, ◌≤◌, [], ◌∷◌, true, false, cond, map, filter, reverse, length, slice_get, IfOk, IfErr, OnOk, Err};
     ghost use Rattle.asset_names.specs.Steps.{takes_effect, applied, initiated};
     ghost use Rattle.asset_names.specs.Endings.{live, status};
     ghost use Rattle.asset_names.specs.Operations.{value_if_any};
@@ -158,27 +157,27 @@ impl Core {
     pub fn step_lent(&mut self, step: &Step) -> Result<Outcome, Fault>
         ensures { IsStep self.old step.now result self.new }
     {
-        if is_operation(step) && self.has_place() {
+        if self.has_place(step) {
             self.operate(step)
         } else {
             self.ask(step)
         }
     }
 
-    /// Returns whether there is room for an entry after which nobody is owed more than before.
+    /// Returns whether there is room for the step's entry whatever it is answered: an initiate may be owed two entries more,
+    /// and no other step owes more than before.
     #[inline(always)]
-    fn has_place(&self) -> bool
-        ensures { result ≡ true → length self.now.history.entries + 1 + owed (applied self.now.history.entries) ≤ self.now.history.capacity }
+    fn has_place(&self, step: &Step) -> bool
+        ensures { result ≡ true → length self.now.history.entries + 1 + owed (applied self.now.history.entries) + cond (initiates step.now) 2 0 ≤ self.now.history.capacity }
     {
         let capacity = self.history.room();
-        self.history.len() + 1 + self.tables.owed() <= capacity
+        self.history.len() + 1 + self.tables.owed() + may_owe(step) <= capacity
     }
 
-    /// Asks for a read or a write, for whose entry there is room: the locks are looked at once.
+    /// Asks for a step, for whose entry there is room whatever it is answered: it is answered while it takes effect.
     #[inline(always)]
     fn operate(&mut self, step: &Step) -> Result<Outcome, Fault>
-        requires operation { is_operation step.now ≡ true }
-        requires room { length self.old.history.entries + 1 + owed (applied self.old.history.entries) ≤ self.old.history.capacity }
+        requires room { length self.old.history.entries + 1 + owed (applied self.old.history.entries) + cond (initiates step.now) 2 0 ≤ self.old.history.capacity }
         ensures { IsStep self.old step.now result self.new }
     {
         match self.tables.operate(step) {

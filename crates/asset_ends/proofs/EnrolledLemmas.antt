@@ -12,7 +12,8 @@ use Rattle.asset_names.specs.Endings.{is_live_status}
 use Rattle.asset_names.specs.Answers.{is_unknown}
 use Rattle.asset_names.proofs.Common.{none_of}
 use Rattle.asset_names.proofs.ListLemmas.{lists_pushed}
-use Rattle.asset_seats.specs.Seated.{Seated, seat}
+use Rattle.asset_seats.specs.declared.sitter.Sitter.{Sitter}
+use Rattle.asset_seats.specs.Seated.{Seated, seat, HasSeat}
 use Rattle.asset_deps.proofs.TableLemmas.{sits_still}
 use Rattle.asset_locks.specs.LockTable as Locks
 use Rattle.asset_locks.specs.Valid.{after_ask}
@@ -173,3 +174,7 @@ status_of_row rows t found is = ap status_or_unknown is
 pub seat_of_row : (rows : List NamedTransRow) (t : ℕ) (found : Option TransRow) → found ≡ row_in rows t → seat_or_zero found ≡ seat_in rows t
 unfolding seat_in
 seat_of_row rows t found is = ap seat_or_zero is
+
+-- who is live has the seat that its row says
+pub live_sits : (rows : List NamedTransRow) (seats : Seated) (one : Sitter) → LiveAreSeated rows seats → one.at ≡ seat_in rows one.t.0 → is_live_status (status_in rows one.t.0) ≡ true → HasSeat seats one
+live_sits rows seats one seated there live = ap (seat seats) there ∙ seated.seated one.t live

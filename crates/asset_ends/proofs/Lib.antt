@@ -15,3 +15,5 @@ pub mod StandingLemmas
 pub mod AnswerLemmas
 pub mod ReadyLemmas
 pub mod OperatedLemmas
+pub mod WorkLemmas
+pub mod ShareLemmas

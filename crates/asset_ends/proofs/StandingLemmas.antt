@@ -1,7 +1,6 @@
 -- What the tables' own calls say, put together.
-use Rattle.std.proofs.Common.{◌≡◌, ℕ, Bool, true, false, cond, not, eqb, List, [], ◌∷◌, ◌++◌, filter, refl, ◌∙◌, ap, Some, None, Ok, Err, OnErr}
-use Rattle.std.specs.Prelude.{Option, Result, find, is_some, option_map, ℤ}
-use Rattle.std.proofs.lemmas.Bool.{eq-eqb}
+use Rattle.std.proofs.Common.{◌≡◌, ℕ, List, refl, ◌∙◌, ap, Some, None, Ok, Err, OnErr}
+use Rattle.std.specs.Prelude.{Option, Result, is_some, option_map, ℤ}
 use Rattle.asset_names.specs.declared.steps.Step.{Step}
 use Rattle.asset_names.specs.Steps.{Opening}
 use Rattle.asset_names.specs.Endings.{end_of}

@@ -1,5 +1,5 @@
 -- What ties the tables to the seats.
-use Rattle.std.specs.Prelude.{◌≡◌, ℕ, List}
+use Rattle.std.specs.Prelude.{ℕ, List}
 use Rattle.asset_seats.specs.Seated.{Seated}
 use Rattle.asset_permits.specs.Valid as Permits
 use Rattle.asset_locks.specs.Tied as Locks

@@ -88,7 +88,7 @@ fn refusal_of_cycle(tables: &mut Tables, kind: Kind, a: Txn, b: Txn) -> Option<R
 }
 
 /// Returns the least object of the set that does not exist, if there is one.
-fn missing(tables: &Tables, obs: &ObSet) -> Option<Ob>
+pub(crate) fn missing(tables: &Tables, obs: &ObSet) -> Option<Ob>
     ensures { ForShown tables.now (λ opening steps. result ≡ missing_in opening obs.now) }
 {
     match obs {

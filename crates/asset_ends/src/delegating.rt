@@ -12,7 +12,6 @@ ghost use Rattle.asset_permits.specs.Descriptors.{one_covers};
 ghost use Rattle.asset_permits.specs.Valid.{permits_in, IsTied as ArePermitsTied};
 ghost use Rattle.asset_seats.specs.Seated.{HasSeat};
 
-use crate::seating::live_sitter;
 use crate::tables::Tables;
 use asset_locks::SeatedLocks;
 use asset_names::{NoMemory, ObSet, Txn};
@@ -51,7 +50,7 @@ impl Tables {
     ghost use Rattle.asset_names.specs.declared.steps.Step.{Step};
     ghost use Rattle.asset_names.specs.Endings.{is_live_status};
     ghost use Rattle.asset_locks.specs.LockTable.{hand_over_in};
-    ghost use Rattle.asset_trans.specs.TransRows.{status_in};
+    ghost use Rattle.asset_trans.specs.TransRows.{status_in, seat_in};
     ghost use Rattle.asset_ends.specs.Shown.{ShowsWith};
     ghost use Rattle.asset_ends.specs.Standing.{ShowAlike};
 
@@ -67,8 +66,27 @@ impl Tables {
         ensures locks { OnOk result (self.new.locks ≡ hand_over_in giver.0 taker.0 obs.now self.old.locks) }
         ensures unchanged { OnErr result (ShowAlike self.new self.old) }
     {
-        let from = live_sitter(&self.parts, giver);
-        let to = live_sitter(&self.parts, taker);
+        let (_, from) = self.find(giver);
+        let (_, to) = self.find(taker);
+        self.delegate_at(from, to, obs)
+    }
+
+    /// Does what `delegate` does, for transactions whose seats are found.
+    #[inline(always)]
+    pub(crate) fn delegate_at(
+        &mut self,
+        from: Sitter,
+        to: Sitter,
+        obs: &ObSet,
+    ) -> Result<(), NoMemory>
+        requires giver { is_live_status (status_in self.old.trans from.t.0) ≡ true }
+        requires taker { is_live_status (status_in self.old.trans to.t.0) ≡ true }
+        requires giver_seat { from.at ≡ seat_in self.old.trans from.t.0 }
+        requires taker_seat { to.at ≡ seat_in self.old.trans to.t.0 }
+        ensures stand { OnOk result (ShowsWith self.old (Step.Delegate from.t to.t obs.now) self.new) }
+        ensures locks { OnOk result (self.new.locks ≡ hand_over_in from.t.0 to.t.0 obs.now self.old.locks) }
+        ensures unchanged { OnErr result (ShowAlike self.new self.old) }
+    {
         copy_permits(
             self.alloc,
             &self.parts.seats,
@@ -79,7 +97,7 @@ impl Tables {
             obs,
         )?;
         self.parts.locks.hand_over(&self.parts.seats, from, to, obs);
-        self.parts.objects.hand_over(giver, taker, obs);
+        self.parts.objects.hand_over(from.t, to.t, obs);
         Ok(())
     }
 }

@@ -1,15 +1,16 @@
 //! Dependencies between transactions.
 
-use crate::seating::{live_sitter, sitter_of};
+use crate::seating::sitter_of;
 use crate::tables::Tables;
 use asset_names::{Kind, NoMemory, Txn};
+use asset_seats::Sitter;
 
 impl Tables {
     ghost use Rattle.std.specs.Prelude.{◌≡◌, true, false, OnOk, OnErr};
     ghost use Rattle.asset_names.specs.declared.steps.Step.{Step};
     ghost use Rattle.asset_names.specs.Endings.{is_live_status, would_cycle};
     ghost use Rattle.asset_deps.specs.Dependencies.{would_cycle_in};
-    ghost use Rattle.asset_trans.specs.TransRows.{status_in};
+    ghost use Rattle.asset_trans.specs.TransRows.{status_in, seat_in};
     ghost use Rattle.asset_ends.specs.Shown.{ForShown, ShowsWith};
     ghost use Rattle.asset_ends.specs.Standing.{SameView};
 
@@ -48,8 +49,28 @@ impl Tables {
         ensures locks { self.new.locks ≡ self.old.locks }
         ensures unchanged { OnErr result (SameView self.new self.old) }
     {
-        let source = live_sitter(&self.parts, a);
-        let dependent = live_sitter(&self.parts, b);
+        let (_, source) = self.find(a);
+        let (_, dependent) = self.find(b);
+        self.depend_at(kind, source, dependent)
+    }
+
+    /// Does what `depend` does, for transactions whose seats are found.
+    #[inline(always)]
+    pub(crate) fn depend_at(
+        &mut self,
+        kind: Kind,
+        source: Sitter,
+        dependent: Sitter,
+    ) -> Result<(), NoMemory>
+        requires source { is_live_status (status_in self.old.trans source.t.0) ≡ true }
+        requires dependent { is_live_status (status_in self.old.trans dependent.t.0) ≡ true }
+        requires source_seat { source.at ≡ seat_in self.old.trans source.t.0 }
+        requires dependent_seat { dependent.at ≡ seat_in self.old.trans dependent.t.0 }
+        requires open { would_cycle_in self.old.deps kind source.t.0 dependent.t.0 ≡ false }
+        ensures stand { OnOk result (ShowsWith self.old (Step.Depend kind source.t dependent.t) self.new) }
+        ensures locks { self.new.locks ≡ self.old.locks }
+        ensures unchanged { OnErr result (SameView self.new self.old) }
+    {
         self.parts
             .deps
             .add(&self.parts.seats, kind, source, dependent)

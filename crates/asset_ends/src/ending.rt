@@ -13,9 +13,8 @@ ghost use Rattle.asset_ends.specs.Ended.{ended_cell, marked_by, AreEnded};
 ghost use Rattle.asset_ends.specs.Tied.{PartsAreTied};
 
 use crate::parts::Parts;
-use crate::seating::live_sitter;
 use crate::tables::Tables;
-use asset_names::{End, Txn};
+use asset_names::{End, Status, Txn};
 use asset_objects::Objects;
 use asset_seats::Sitter;
 
@@ -90,7 +89,7 @@ impl Tables {
     ghost use Rattle.asset_names.specs.Endings.{is_live_status};
     ghost use Rattle.asset_deps.specs.Dependencies.{class_in, doomed_in};
     ghost use Rattle.asset_locks.specs.LockTable.{release_in};
-    ghost use Rattle.asset_trans.specs.TransRows.{status_in};
+    ghost use Rattle.asset_trans.specs.TransRows.{status_in, seat_in};
     ghost use Rattle.asset_ends.specs.Shown.{ForShown, ShowsWith, ShowsWithIf};
     ghost use Rattle.asset_ends.specs.Standing.{may_commit_in, tried};
 
@@ -103,9 +102,20 @@ impl Tables {
         ensures shown { ForShown self.old (λ opening steps. result ≡ may_commit steps t.0) }
         ensures same { self.new ≡ self.old }
     {
-        let one = live_sitter(&self.parts, t);
+        let (status, one) = self.find(t);
+        self.may_commit_at(one, status)
+    }
+
+    /// Does what `may_commit` does, for a transaction whose status and seat are found.
+    fn may_commit_at(&mut self, one: Sitter, status: Status) -> bool
+        requires live { is_live_status (status_in self.old.trans one.t.0) ≡ true }
+        requires status { status ≡ status_in self.old.trans one.t.0 }
+        requires seat { one.at ≡ seat_in self.old.trans one.t.0 }
+        ensures may { result ≡ may_commit_in self.old one.t.0 }
+        ensures same { self.new ≡ self.old }
+    {
         if !self.parts.deps.is_linked(&self.parts.seats, one) {
-            return self.parts.trans.status(t).is_completed();
+            return status.is_completed();
         }
         self.parts.deps.mark_class(&self.parts.seats, one);
         all_completed(&self.parts) && !self.parts.deps.has_outside_source(&self.parts.seats, one)
@@ -119,8 +129,21 @@ impl Tables {
         ensures stand { ShowsWithIf self.old (may_commit_in self.old t.0) (Step.Commit t) self.new }
         ensures locks { self.new.locks ≡ cond (may_commit_in self.old t.0) (release_in (class_in self.old.deps t.0) self.old.locks) self.old.locks }
     {
-        if self.may_commit(t) {
-            self.commit(t);
+        let (status, one) = self.find(t);
+        self.try_commit_at(one, status)
+    }
+
+    /// Does what `try_commit` does, for a transaction whose status and seat are found.
+    pub(crate) fn try_commit_at(&mut self, one: Sitter, status: Status) -> Tried
+        requires live { is_live_status (status_in self.old.trans one.t.0) ≡ true }
+        requires status { status ≡ status_in self.old.trans one.t.0 }
+        requires seat { one.at ≡ seat_in self.old.trans one.t.0 }
+        ensures tried { result ≡ tried (may_commit_in self.old one.t.0) }
+        ensures stand { ShowsWithIf self.old (may_commit_in self.old one.t.0) (Step.Commit one.t) self.new }
+        ensures locks { self.new.locks ≡ cond (may_commit_in self.old one.t.0) (release_in (class_in self.old.deps one.t.0) self.old.locks) self.old.locks }
+    {
+        if self.may_commit_at(one, status) {
+            self.commit_at(one);
             Tried::Committed
         } else {
             Tried::Wait
@@ -128,12 +151,12 @@ impl Tables {
     }
 
     /// Commits a live transaction with its whole class.
-    fn commit(&mut self, t: Txn)
-        requires live { is_live_status (status_in self.old.trans t.0) ≡ true }
-        ensures stand { ShowsWith self.old (Step.Commit t) self.new }
-        ensures locks { self.new.locks ≡ release_in (class_in self.old.deps t.0) self.old.locks }
+    fn commit_at(&mut self, one: Sitter)
+        requires live { is_live_status (status_in self.old.trans one.t.0) ≡ true }
+        requires seat { one.at ≡ seat_in self.old.trans one.t.0 }
+        ensures stand { ShowsWith self.old (Step.Commit one.t) self.new }
+        ensures locks { self.new.locks ≡ release_in (class_in self.old.deps one.t.0) self.old.locks }
     {
-        let one = live_sitter(&self.parts, t);
         if self.parts.deps.is_linked(&self.parts.seats, one) {
             self.parts.deps.mark_class(&self.parts.seats, one);
             end_marked(&mut self.parts, End::Committed);
@@ -149,7 +172,17 @@ impl Tables {
         ensures stand { ShowsWith self.old (Step.Abort t) self.new }
         ensures locks { self.new.locks ≡ release_in (doomed_in self.old.deps t.0) self.old.locks }
     {
-        let one = live_sitter(&self.parts, t);
+        let (_, one) = self.find(t);
+        self.abort_at(one)
+    }
+
+    /// Does what `abort` does, for a transaction whose seat is found.
+    pub(crate) fn abort_at(&mut self, one: Sitter)
+        requires live { is_live_status (status_in self.old.trans one.t.0) ≡ true }
+        requires seat { one.at ≡ seat_in self.old.trans one.t.0 }
+        ensures stand { ShowsWith self.old (Step.Abort one.t) self.new }
+        ensures locks { self.new.locks ≡ release_in (doomed_in self.old.deps one.t.0) self.old.locks }
+    {
         if self.parts.deps.is_linked(&self.parts.seats, one) {
             self.parts.deps.mark_doomed(&self.parts.seats, one);
             end_marked(&mut self.parts, End::Aborted);

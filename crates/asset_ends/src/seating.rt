@@ -1,16 +1,13 @@
 //! The seats of live transactions, which their rows say.
 
 ghost use Rattle.std.specs.Prelude.{◌≡◌, ◌≢◌, ℕ, true, Some, IfSome, IfNone, IfOk};
-ghost use Rattle.asset_names.specs.Endings.{is_live_status};
 ghost use Rattle.asset_seats.specs.Seated.{seat, HasSeat};
 ghost use Rattle.asset_permits.specs.Valid.{permits_in};
 ghost use Rattle.asset_deps.specs.Valid.{dependencies_in};
-ghost use Rattle.asset_trans.specs.TransRows.{status_in};
 ghost use Rattle.asset_ends.specs.Standing.{LiveAreSeated};
 ghost use Rattle.asset_locks.specs.Tied.{rows_in};
 ghost use Rattle.asset_ends.specs.Tied.{HasRoom, AreTied};
 
-use crate::parts::Parts;
 use asset_deps::SeatedDeps;
 use asset_locks::SeatedLocks;
 use asset_names::{NoMemory, Txn};
@@ -34,19 +31,6 @@ pub(crate) fn sitter_of(trans: &Trans, seats: &Seats, t: Txn) -> Option<Sitter>
             }
         }
         None => None,
-    }
-}
-
-/// Returns a live transaction with its seat. It looks at one row.
-pub(crate) fn live_sitter(parts: &Parts, t: Txn) -> Sitter
-    requires seated { LiveAreSeated parts.now.trans parts.now.seats }
-    requires live { is_live_status (status_in parts.now.trans t.0) ≡ true }
-    ensures sits { HasSeat parts.now.seats result }
-    ensures name { result.t ≡ t }
-{
-    Sitter {
-        t,
-        at: parts.trans.seat(t),
     }
 }
 

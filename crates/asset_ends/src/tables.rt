@@ -7,7 +7,7 @@ use asset_locks::SeatedLocks;
 use asset_names::{End, NoMemory, Ob, Op, Status, Txn};
 use asset_objects::{Objects, ObjectsFault};
 use asset_permits::SeatedPermits;
-use asset_seats::Seats;
+use asset_seats::{Seats, Sitter};
 use asset_trans::Trans;
 use std::alloc::Global;
 use std::marker::Model;
@@ -48,7 +48,7 @@ impl Tables {
     ghost use Rattle.asset_objects.specs.Cells.{cells, value_in, opened};
     ghost use Rattle.asset_locks.specs.LockTable.{waiters_in};
     ghost use Rattle.asset_permits.specs.Descriptors.{allows_by};
-    ghost use Rattle.asset_trans.specs.TransRows.{status_in, owed_in, ended_in};
+    ghost use Rattle.asset_trans.specs.TransRows.{status_in, seat_in, owed_in, ended_in};
     ghost use Rattle.asset_names.specs.Counted.{ended_count};
     ghost use Rattle.asset_ends.specs.Shown.{ForShown};
     ghost use Rattle.asset_ends.specs.Shows.{Shows};
@@ -98,6 +98,20 @@ impl Tables {
         ensures shown { ForShown self.now (λ opening steps. result ≡ status steps t.0) }
     {
         self.parts.trans.status(t)
+    }
+
+    /// Returns the status of a transaction, and it with the seat that its row says, in one look: Unknown, with seat 0, if it
+    /// was never initiated.
+    #[inline(always)]
+    pub(crate) fn find(&self, t: Txn) -> (Status, Sitter)
+        ensures status { result.0 ≡ status_in self.now.trans t.0 }
+        ensures name { result.1.t ≡ t }
+        ensures seat { result.1.at ≡ seat_in self.now.trans t.0 }
+    {
+        match self.parts.trans.find(t) {
+            Some(row) => (row.status, Sitter { t, at: row.seat }),
+            None => (Status::Unknown, Sitter { t, at: 0 }),
+        }
     }
 
     /// Returns how many entries all live transactions are owed.

@@ -1,22 +1,21 @@
 //! The steps of transactions that go on.
 
-use crate::asking::is_free;
-use crate::seating::{live_sitter, make_room};
+use crate::seating::make_room;
 use crate::tables::Tables;
 use asset_locks::Asked;
 use asset_names::{NoMemory, Ob, ObSet, Op, Ops, Txn};
 use asset_seats::Sitter;
 
 impl Tables {
-    ghost use Rattle.std.specs.Prelude.{◌≡◌, cond, true, false, None, OnOk, OnErr, IfOk, IsErr};
+    ghost use Rattle.std.specs.Prelude.{◌≡◌, cond, is_some, true, false, None, OnOk, OnErr, IfOk, IsErr};
     ghost use Rattle.asset_names.specs.declared.steps.Step.{Step};
     ghost use Rattle.asset_names.specs.declared.operations.Op.{Op as Operation};
     ghost use Rattle.asset_names.specs.declared.statuses.Status.{Status};
     ghost use Rattle.asset_names.specs.Endings.{is_live_status};
     ghost use Rattle.asset_objects.specs.Cells.{cells, value_in, has_object, change_at, written};
-    ghost use Rattle.asset_locks.specs.LockTable.{enrol_in};
+    ghost use Rattle.asset_locks.specs.LockTable.{enrol_in, enrolled_in};
     ghost use Rattle.asset_locks.specs.Valid.{after_ask};
-    ghost use Rattle.asset_trans.specs.TransRows.{status_in};
+    ghost use Rattle.asset_trans.specs.TransRows.{status_in, seat_in};
     ghost use Rattle.asset_ends.specs.Shown.{ShowsOrderly, ShowsWith, ShowsWithIf};
     ghost use Rattle.asset_ends.specs.Standing.{is_free_for, SameView};
 
@@ -50,6 +49,33 @@ impl Tables {
         self.parts.trans.begin(t);
     }
 
+    /// Asks the locks for an object for a transaction that runs and has this seat: returns whether it holds the object by the
+    /// operation from then on. If the object is not free, the request is pending, which takes no memory. If memory runs out
+    /// for the lock, nothing changes.
+    #[inline(always)]
+    fn hold(&mut self, one: Sitter, x: Ob, op: Op) -> Result<bool, NoMemory>
+        requires runs { status_in self.old.trans one.t.0 ≡ Status.Running }
+        requires seat { one.at ≡ seat_in self.old.trans one.t.0 }
+        ensures enrolled { is_some (enrolled_in self.old.locks one.t.0) ≡ true }
+        ensures granted { IfOk result (λ granted. granted ≡ is_free_for self.old one.t.0 x.0 op) }
+        ensures rows { self.new.trans ≡ self.old.trans }
+        ensures objects { self.new.objects ≡ self.old.objects }
+        ensures permits { self.new.permits ≡ self.old.permits }
+        ensures deps { self.new.deps ≡ self.old.deps }
+        ensures locks { OnOk result (self.new.locks ≡ after_ask (is_free_for self.old one.t.0 x.0 op) one.t.0 x op self.old.locks) }
+        ensures memory { IsErr result → is_free_for self.old one.t.0 x.0 op ≡ true }
+        ensures unchanged { OnErr result (self.new ≡ self.old) }
+    {
+        match self
+            .parts
+            .locks
+            .ask(&self.parts.seats, one, x, op, &mut self.parts.permits)?
+        {
+            Asked::Granted => Ok(true),
+            Asked::Pending => Ok(false),
+        }
+    }
+
     /// Reads an object for a transaction that runs, which holds it by a read from then on. If the object is not free, the
     /// answer is `None`, and the request is pending. That takes no memory; if memory runs out for the lock, nothing
     /// changes.
@@ -61,10 +87,32 @@ impl Tables {
         ensures memory { IsErr result → is_free_for self.old t.0 x.0 Operation.Read ≡ true }
         ensures unchanged { OnErr result (SameView self.new self.old) }
     {
-        let one = live_sitter(&self.parts, t);
-        match self.parts.locks.ask(&self.parts.seats, one, x, Op::Read, &mut self.parts.permits)? {
-            Asked::Granted => Ok(self.parts.objects.value(x)),
-            Asked::Pending => Ok(None),
+        let (_, one) = self.find(t);
+        let value = self.value(x);
+        self.read_at(one, x, value)
+    }
+
+    /// Does what `read` does, for a transaction whose seat is found and an object whose value is.
+    #[inline(always)]
+    pub(crate) fn read_at(
+        &mut self,
+        one: Sitter,
+        x: Ob,
+        value: Option<i64>,
+    ) -> Result<Option<i64>, NoMemory>
+        requires runs { status_in self.old.trans one.t.0 ≡ Status.Running }
+        requires seat { one.at ≡ seat_in self.old.trans one.t.0 }
+        requires value { value ≡ value_in (cells self.old.objects) x.0 }
+        ensures answer { IfOk result (λ read. read ≡ cond (is_free_for self.old one.t.0 x.0 Operation.Read) (value_in (cells self.old.objects) x.0) None) }
+        ensures stand { OnOk result (ShowsWithIf self.old (is_free_for self.old one.t.0 x.0 Operation.Read) (Step.Read one.t x) self.new) }
+        ensures locks { OnOk result (self.new.locks ≡ after_ask (is_free_for self.old one.t.0 x.0 Operation.Read) one.t.0 x Operation.Read self.old.locks) }
+        ensures memory { IsErr result → is_free_for self.old one.t.0 x.0 Operation.Read ≡ true }
+        ensures unchanged { OnErr result (SameView self.new self.old) }
+    {
+        if self.hold(one, x, Op::Read)? {
+            Ok(value)
+        } else {
+            Ok(None)
         }
     }
 
@@ -80,77 +128,71 @@ impl Tables {
         ensures memory { IsErr result → is_free_for self.old t.0 x.0 Operation.Write ≡ true }
         ensures unchanged { OnErr result (SameView self.new self.old) }
     {
+        let (_, one) = self.find(t);
+        self.write_at(one, x, v)
+    }
+
+    /// Does what `write` does, for a transaction whose seat is found.
+    #[inline(always)]
+    pub(crate) fn write_at(&mut self, one: Sitter, x: Ob, v: i64) -> Result<bool, NoMemory>
+        requires runs { status_in self.old.trans one.t.0 ≡ Status.Running }
+        requires seat { one.at ≡ seat_in self.old.trans one.t.0 }
+        requires exists { has_object (cells self.old.objects) x.0 ≡ true }
+        ensures answer { IfOk result (λ written. written ≡ is_free_for self.old one.t.0 x.0 Operation.Write) }
+        ensures stand { OnOk result (ShowsWithIf self.old (is_free_for self.old one.t.0 x.0 Operation.Write) (Step.Write one.t x v) self.new) }
+        ensures locks { OnOk result (self.new.locks ≡ after_ask (is_free_for self.old one.t.0 x.0 Operation.Write) one.t.0 x Operation.Write self.old.locks) }
+        ensures memory { IsErr result → is_free_for self.old one.t.0 x.0 Operation.Write ≡ true }
+        ensures unchanged { OnErr result (SameView self.new self.old) }
+    {
         match self.parts.objects.reserve_write() {
-            Ok(()) => self.write_reserved(t, x, v),
-            Err(fault) => self.wait_unless_free(t, x, fault),
+            Ok(()) => self.write_reserved(one, x, v),
+            Err(fault) => self.wait_unless_free(one, x, fault),
         }
     }
 
     /// Writes an object with the memory for its record, which is reserved. If the object is not free, the request is
     /// pending. If memory runs out for the lock, nothing changes.
-    fn write_reserved(&mut self, t: Txn, x: Ob, v: i64) -> Result<bool, NoMemory>
-        requires runs { status_in self.old.trans t.0 ≡ Status.Running }
+    fn write_reserved(&mut self, one: Sitter, x: Ob, v: i64) -> Result<bool, NoMemory>
+        requires runs { status_in self.old.trans one.t.0 ≡ Status.Running }
+        requires seat { one.at ≡ seat_in self.old.trans one.t.0 }
         requires exists { has_object (cells self.old.objects) x.0 ≡ true }
         requires reserved { self.old.objects.reserved ≡ true }
-        ensures answer { IfOk result (λ written. written ≡ is_free_for self.old t.0 x.0 Operation.Write) }
+        ensures answer { IfOk result (λ written. written ≡ is_free_for self.old one.t.0 x.0 Operation.Write) }
         ensures rows { self.new.trans ≡ self.old.trans }
         ensures permits { self.new.permits ≡ self.old.permits }
         ensures deps { self.new.deps ≡ self.old.deps }
-        ensures objects { OnOk result (cells self.new.objects ≡ cond (is_free_for self.old t.0 x.0 Operation.Write) (change_at x.0 (written t.0 v) (cells self.old.objects)) (cells self.old.objects)) }
-        ensures locks { OnOk result (self.new.locks ≡ after_ask (is_free_for self.old t.0 x.0 Operation.Write) t.0 x Operation.Write self.old.locks) }
-        ensures memory { IsErr result → is_free_for self.old t.0 x.0 Operation.Write ≡ true }
+        ensures objects { OnOk result (cells self.new.objects ≡ cond (is_free_for self.old one.t.0 x.0 Operation.Write) (change_at x.0 (written one.t.0 v) (cells self.old.objects)) (cells self.old.objects)) }
+        ensures locks { OnOk result (self.new.locks ≡ after_ask (is_free_for self.old one.t.0 x.0 Operation.Write) one.t.0 x Operation.Write self.old.locks) }
+        ensures memory { IsErr result → is_free_for self.old one.t.0 x.0 Operation.Write ≡ true }
         ensures unchanged { OnErr result (self.new ≡ self.old) }
     {
-        let one = live_sitter(&self.parts, t);
-        match self.parts.locks.ask(
-            &self.parts.seats,
-            one,
-            x,
-            Op::Write,
-            &mut self.parts.permits,
-        )? {
-            Asked::Granted => {
-                self.parts.objects.write(t, x, v);
-                Ok(true)
-            }
-            Asked::Pending => Ok(false),
+        if self.hold(one, x, Op::Write)? {
+            self.parts.objects.write(one.t, x, v);
+            Ok(true)
+        } else {
+            Ok(false)
         }
     }
 
     /// Makes a write pending if its object is not free, and answers the fault if it is, when there is no memory for its
     /// record.
-    fn wait_unless_free(&mut self, t: Txn, x: Ob, fault: NoMemory) -> Result<bool, NoMemory>
-        requires runs { status_in self.old.trans t.0 ≡ Status.Running }
-        ensures answer { IfOk result (λ written. written ≡ is_free_for self.old t.0 x.0 Operation.Write) }
-        ensures blocked { OnOk result (is_free_for self.old t.0 x.0 Operation.Write ≡ false) }
+    fn wait_unless_free(&mut self, one: Sitter, x: Ob, fault: NoMemory) -> Result<bool, NoMemory>
+        requires runs { status_in self.old.trans one.t.0 ≡ Status.Running }
+        requires seat { one.at ≡ seat_in self.old.trans one.t.0 }
+        ensures answer { IfOk result (λ written. written ≡ is_free_for self.old one.t.0 x.0 Operation.Write) }
+        ensures blocked { OnOk result (is_free_for self.old one.t.0 x.0 Operation.Write ≡ false) }
         ensures rows { self.new.trans ≡ self.old.trans }
         ensures permits { self.new.permits ≡ self.old.permits }
         ensures deps { self.new.deps ≡ self.old.deps }
         ensures objects { self.new.objects ≡ self.old.objects }
-        ensures locks { OnOk result (self.new.locks ≡ after_ask (is_free_for self.old t.0 x.0 Operation.Write) t.0 x Operation.Write self.old.locks) }
-        ensures memory { IsErr result → is_free_for self.old t.0 x.0 Operation.Write ≡ true }
+        ensures locks { OnOk result (self.new.locks ≡ after_ask (is_free_for self.old one.t.0 x.0 Operation.Write) one.t.0 x Operation.Write self.old.locks) }
+        ensures memory { IsErr result → is_free_for self.old one.t.0 x.0 Operation.Write ≡ true }
         ensures unchanged { OnErr result (self.new ≡ self.old) }
     {
-        if is_free(
-            &self.parts.trans,
-            &self.parts.seats,
-            &self.parts.locks,
-            &mut self.parts.permits,
-            t,
-            x,
-            Op::Write,
-        ) {
+        if self.is_free(one.t, x, Op::Write) {
             return Err(fault);
         }
-        let one = live_sitter(&self.parts, t);
-        self.parts.locks.ask(
-            &self.parts.seats,
-            one,
-            x,
-            Op::Write,
-            &mut self.parts.permits,
-        )?;
-        Ok(false)
+        self.hold(one, x, Op::Write)
     }
 
     /// Completes a transaction that runs.
@@ -171,8 +213,28 @@ impl Tables {
         ensures locks { self.new.locks ≡ self.old.locks }
         ensures unchanged { OnErr result (SameView self.new self.old) }
     {
-        let from = live_sitter(&self.parts, giver);
-        let to = live_sitter(&self.parts, taker);
+        let (_, from) = self.find(giver);
+        let (_, to) = self.find(taker);
+        self.permit_at(from, to, obs, ops)
+    }
+
+    /// Does what `permit` does, for transactions whose seats are found.
+    #[inline(always)]
+    pub(crate) fn permit_at(
+        &mut self,
+        from: Sitter,
+        to: Sitter,
+        obs: ObSet,
+        ops: Ops,
+    ) -> Result<(), NoMemory>
+        requires giver { is_live_status (status_in self.old.trans from.t.0) ≡ true }
+        requires taker { is_live_status (status_in self.old.trans to.t.0) ≡ true }
+        requires giver_seat { from.at ≡ seat_in self.old.trans from.t.0 }
+        requires taker_seat { to.at ≡ seat_in self.old.trans to.t.0 }
+        ensures stand { OnOk result (ShowsWith self.old (Step.Permit from.t to.t obs ops) self.new) }
+        ensures locks { self.new.locks ≡ self.old.locks }
+        ensures unchanged { OnErr result (SameView self.new self.old) }
+    {
         self.parts
             .permits
             .add(&self.parts.seats, from, to, obs, ops)

@@ -60,16 +60,23 @@ fn add_row(
     added
 }
 
-/// Changes the status of a transaction that has a row. A sum over the statuses changes by its part alone.
-fn set_status(rows: &mut IndexMap<Txn, TransRow>, t: Txn, status: Status)
+/// Changes the status of a transaction that has a row, and returns the one that it had. A sum over the statuses changes by
+/// its part alone.
+fn set_status(rows: &mut IndexMap<Txn, TransRow>, t: Txn, status: Status) -> Status
     requires there { is_some (row_in rows.old.entries t.0) ≡ true }
+    ensures before { result ≡ status_in rows.old.entries t.0 }
     ensures set { rows.new.entries ≡ set_in (λ n. n == t.0) status rows.old.entries }
     ensures counted { (f : Status → ℕ) →
         sum_by (λ row. f row.status) (values_of rows.new.entries) + f (status_in rows.old.entries t.0)
         ≡ sum_by (λ row. f row.status) (values_of rows.old.entries) + f status }
 {
-    if let Some(row) = rows.get_mut(&t) {
-        row.status = status;
+    match rows.get_mut(&t) {
+        Some(row) => {
+            let before = row.status;
+            row.status = status;
+            before
+        }
+        None => Status::Unknown,
     }
 }
 
@@ -202,8 +209,7 @@ impl Trans {
         requires live_less { one_if_live status ≤ one_if_live (status_in self.old t.0) }
         ensures { self.new ≡ set_in (λ n. n == t.0) status self.old }
     {
-        let before = self.status(t);
-        set_status(&mut self.rows, t, status);
+        let before = set_status(&mut self.rows, t, status);
         // The contract of `len` bounds the number of rows.
         let _len = self.rows.len();
         self.live -= one_if_live(before) - one_if_live(status);

@@ -1,41 +1,4 @@
-use Rattle.std.proofs.Common.{refl, sym, ◌∙◌, ap}
-use Rattle.asset_names.specs.Arrows.{lists}
-use Rattle.asset_ends.specs.Ended.{locks_of}
-use Rattle.asset_ends.specs.Standing.{AreEnrolled}
-use Rattle.asset_locks.proofs.HandLaws.{names_handed}
-use Rattle.asset_ends.proofs.EnrolledLemmas.{live_enrolled}
-use Rattle.asset_ends.proofs.ShowsLemmas.{live_shown}
-use Rattle.asset_ends.proofs.DelegateLaws.{delegate_shows}
-use Rattle.asset_ends.proofs.StandingLemmas.{stand_as}
 use Rattle.asset_ends.proofs.tables.Tables.delegate.Goals as goal
 
-pub live_sitter-from-requires : goal.live_sitter-from-requires
-live_sitter-from-requires c = record { seated = c.self.invariant.seats; live = rw (← c.self.view_is) at c.requires.giver }
-
-pub live_sitter-to-requires : goal.live_sitter-to-requires
-live_sitter-to-requires c = record { seated = c.self.invariant.seats; live = rw (← c.self.view_is) at c.requires.taker }
-
-pub hand_over-requires-clause-giver : goal.hand_over-requires-clause-giver
-hand_over-requires-clause-giver c = rw c.live_sitter-from.ensures.name (live_enrolled _ _ c.args.giver.0 c.self.invariant.locks (rw (← c.self.view_is) at c.requires.giver))
-
-pub hand_over-requires-clause-taker : goal.hand_over-requires-clause-taker
-hand_over-requires-clause-taker c = rw c.live_sitter-to.ensures.name (live_enrolled _ _ c.args.taker.0 c.self.invariant.locks (rw (← c.self.view_is) at c.requires.taker))
-
-pub invariant_of-self-2 : goal.invariant_of-self-2
-unfolding AreEnrolled
-invariant_of-self-2 c = record {
-  locks = rw (rw (c.live_sitter-from.ensures.name, c.live_sitter-to.ensures.name) at c.hand_over.ensures.done) (λ t. ap (λ names. lists names t) (names_handed c.args.giver.0 c.args.taker.0 c.args.obs.now (locks_of c.self.inside.parts)) ∙ c.self.invariant.locks t);
-  seats = c.self.invariant.seats;
-  tied = record { locks = c.hand_over.ensures.tied; permits = c.copy_permits.ensures.tied; deps = c.self.invariant.tied.deps };
-}
-
 pub returns-clause-stand : goal.returns-clause-stand
-returns-clause-stand c =
-    let gives = rw (← c.self.view_is) at c.requires.giver in
-    let takes = rw (← c.self.view_is) at c.requires.taker in
-    rw (← c.self.view_is) (λ opening steps stand.
-    stand_as opening _ _ _ _ _ _ _ refl c.hand_over-2.ensures.cells (rw (c.live_sitter-from.ensures.name, c.live_sitter-to.ensures.name) at c.hand_over.ensures.done) refl refl
-    (delegate_shows opening steps _ _ _ _ _ c.args.giver c.args.taker c.args.obs.now stand
-    (sym (live_shown opening steps _ _ _ _ _ c.args.giver.0 stand) ∙ gives) (sym (live_shown opening steps _ _ _ _ _ c.args.taker.0 stand) ∙ takes)
-    c.hand_over.ensures.valid (live_enrolled _ _ c.args.taker.0 c.self.invariant.locks takes) _
-    (rw (c.live_sitter-from.ensures.name, c.live_sitter-to.ensures.name) at c.in_ok-copy_permits.ensures.covers)))
+returns-clause-stand c = rw (c.find.ensures.name, c.find-2.ensures.name) at c.delegate_at.ensures.stand

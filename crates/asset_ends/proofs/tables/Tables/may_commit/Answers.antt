@@ -1,54 +1,9 @@
-use Rattle.std.proofs.Common.{true, false, not, refl, ap, ◌∙◌}
-use Rattle.asset_names.specs.Answers.{is_completed}
-use Rattle.asset_deps.specs.Dependencies.{class_in, outside_source_in}
-use Rattle.asset_deps.specs.Valid.{dependencies_in, marked_in}
-use Rattle.asset_permits.specs.Valid.{permits_in}
-use Rattle.asset_ends.specs.Ended.{locks_of}
-use Rattle.asset_ends.specs.Standing.{may_commit_in}
-use Rattle.asset_ends.proofs.EndingLemmas.{marked_live, may_by_marks, may_alone, may_commit_shown}
+use Rattle.std.proofs.Common.{◌∙◌}
+use Rattle.asset_ends.proofs.EndingLemmas.{may_commit_shown}
 use Rattle.asset_ends.proofs.tables.Tables.may_commit.Goals as goal
 
-pub live_sitter-one-requires : goal.live_sitter-one-requires
-live_sitter-one-requires c = record { seated = c.self.invariant.seats; live = rw (← c.self.view_is) at c.requires.live }
+pub returns-clause-may : goal.returns-clause-may
+returns-clause-may c = rw c.find-status.ensures.name at c.may_commit_at.ensures.may
 
-pub invariant_of-self : goal.invariant_of-self
-invariant_of-self c = rw c.has_outside_source.ensures.same (record { locks = c.self.invariant.locks; seats = c.self.invariant.seats; tied = record { locks = c.self.invariant.tied.locks; permits = c.self.invariant.tied.permits; deps = c.mark_class.ensures.tied } })
-
-pub invariant_of-self-else-all_completed : goal.invariant_of-self-else-all_completed
-invariant_of-self-else-all_completed c = record { locks = c.self.invariant.locks; seats = c.self.invariant.seats; tied = record { locks = c.self.invariant.tied.locks; permits = c.self.invariant.tied.permits; deps = c.mark_class.ensures.tied } }
-
-pub returns-then-all_completed-clause-may : goal.returns-then-all_completed-clause-may
-unfolding may_commit_in
-returns-then-all_completed-clause-may c =
-    let inside = c.self.inside.parts in
-    let stands = dependencies_in inside.deps in
-    let alive = marked_live inside.trans inside.seats c.mark_class.new.self c.self.invariant.seats c.mark_class.ensures.tied in
-    let all = may_by_marks (record { trans = inside.trans; objects = inside.objects; locks = locks_of inside; permits = permits_in inside.permits; deps = stands }) c.args.t.0 (marked_in inside.seats c.mark_class.new.self) true
-    c.if-all_completed.ensures (λ n. c.mark_class.ensures.marked n ∙ (λ i. class_in stands (c.live_sitter-one.ensures.name i).0 n)) alive in
-    rw (← c.self.view_is, ← all) (ap not (c.has_outside_source.ensures.outside ∙ (λ i. outside_source_in (c.mark_class.ensures.dependencies i) (c.live_sitter-one.ensures.name i).0)))
-
-pub returns-then-all_completed-clause-shown : goal.returns-then-all_completed-clause-shown
-returns-then-all_completed-clause-shown c = λ opening steps stand. returns-then-all_completed-clause-may c ∙ may_commit_shown opening steps _ c.args.t.0 stand
-
-pub returns-else-all_completed-clause-may : goal.returns-else-all_completed-clause-may
-unfolding may_commit_in
-returns-else-all_completed-clause-may c =
-    let inside = c.self.inside.parts in
-    let stands = dependencies_in inside.deps in
-    let alive = marked_live inside.trans inside.seats c.mark_class.new.self c.self.invariant.seats c.mark_class.ensures.tied in
-    let none = may_by_marks (record { trans = inside.trans; objects = inside.objects; locks = locks_of inside; permits = permits_in inside.permits; deps = stands }) c.args.t.0 (marked_in inside.seats c.mark_class.new.self) false
-    c.if-all_completed.ensures (λ n. c.mark_class.ensures.marked n ∙ (λ i. class_in stands (c.live_sitter-one.ensures.name i).0 n)) alive in
-    rw (← c.self.view_is, c.if-all_completed.false, ← none) refl
-
-pub returns-else-all_completed-clause-shown : goal.returns-else-all_completed-clause-shown
-returns-else-all_completed-clause-shown c = λ opening steps stand. returns-else-all_completed-clause-may c ∙ may_commit_shown opening steps _ c.args.t.0 stand
-
-pub returns-then-not-is_linked-clause-may : goal.returns-then-not-is_linked-clause-may
-returns-then-not-is_linked-clause-may c =
-    let alive = rw (← c.self.view_is) at c.requires.live in
-    let alone = rw c.live_sitter-one.ensures.name at c.is_linked.ensures.alone c.if-not-is_linked.true in
-    let none = rw c.live_sitter-one.ensures.name at c.is_linked.ensures.no_source c.if-not-is_linked.true in
-    rw (← c.self.view_is) (c.is_completed.ensures ∙ ap is_completed c.status.ensures ∙ may_alone _ c.args.t.0 alive (λ n. (alone n).0) none)
-
-pub returns-then-not-is_linked-clause-shown : goal.returns-then-not-is_linked-clause-shown
-returns-then-not-is_linked-clause-shown c = λ opening steps stand. returns-then-not-is_linked-clause-may c ∙ may_commit_shown opening steps _ c.args.t.0 stand
+pub returns-clause-shown : goal.returns-clause-shown
+returns-clause-shown c = λ opening steps stand. returns-clause-may c ∙ may_commit_shown opening steps _ c.args.t.0 stand
