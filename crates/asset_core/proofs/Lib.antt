@@ -1,4 +1,4 @@
 pub mod PendingLemmas
 pub mod ValidLemmas
 pub mod StepLemmas
-pub mod OperateLemmas
+pub mod PlaceLemmas

@@ -158,7 +158,7 @@ impl Core {
         ensures { IsStep self.old step.now result self.new }
     {
         if self.has_place(step) {
-            self.operate(step)
+            self.step_at_once(step)
         } else {
             self.ask(step)
         }
@@ -176,11 +176,11 @@ impl Core {
 
     /// Asks for a step, for whose entry there is room whatever it is answered: it is answered while it takes effect.
     #[inline(always)]
-    fn operate(&mut self, step: &Step) -> Result<Outcome, Fault>
+    fn step_at_once(&mut self, step: &Step) -> Result<Outcome, Fault>
         requires room { length self.old.history.entries + 1 + owed (applied self.old.history.entries) + cond (initiates step.now) 2 0 ≤ self.old.history.capacity }
         ensures { IsStep self.old step.now result self.new }
     {
-        match self.tables.operate(step) {
+        match self.tables.step_at_once(step) {
             Ok(Outcome::Answer(answer)) => {
                 self.history.append_lent(step, answer);
                 Ok(Outcome::Answer(answer))

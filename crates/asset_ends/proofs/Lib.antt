@@ -14,6 +14,6 @@ pub mod AskedLemmas
 pub mod StandingLemmas
 pub mod AnswerLemmas
 pub mod ReadyLemmas
-pub mod OperatedLemmas
+pub mod OperationLemmas
 pub mod WorkLemmas
 pub mod ShareLemmas

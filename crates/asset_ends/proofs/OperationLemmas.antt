@@ -25,7 +25,7 @@ use Rattle.asset_ends.specs.Shows.{Shows}
 use Rattle.asset_ends.specs.Shown.{ForShown, ShowsWithIf}
 use Rattle.asset_ends.specs.Standing.{Standing, values_of, is_free_for, step_if, SameView}
 use Rattle.asset_ends.specs.Ready.{value_or_zero, read_outcome, locks_after, locks_waiting}
-use Rattle.asset_ends.specs.Operated.{ShowsOutcome, locks_with, Operated, Lacked}
+use Rattle.asset_ends.specs.Stepped.{ShowsOutcome, locks_with, Stepped, Lacked}
 use Rattle.asset_ends.proofs.AnswerLemmas.{read_answered}
 use Rattle.asset_ends.proofs.ShowsLemmas.{free_shown}
 use Rattle.asset_ends.proofs.StandingLemmas.{object_exists, same_alike}
@@ -60,7 +60,7 @@ unfolding unknown ended not_running no_object
 refusal_shown opening steps tables t x stand = rw (stand.statuses t.0, object_exists opening steps tables x.0 stand) refl
 
 -- a step whose answer takes no effect
-pub silent : (tables : Standing) (step : Step) (reply : Reply) → ForShown tables (λ opening steps. answer opening steps step ≡ Answer reply) → takes_effect step reply ≡ false → Operated tables step (Answer reply) tables
+pub silent : (tables : Standing) (step : Step) (reply : Reply) → ForShown tables (λ opening steps. answer opening steps step ≡ Answer reply) → takes_effect step reply ≡ false → Stepped tables step (Answer reply) tables
 unfolding ShowsOutcome locks_with
 silent tables step reply is none = record {
   answered = λ opening steps stand. sym (is opening steps stand);
@@ -69,15 +69,15 @@ silent tables step reply is none = record {
 }
 
 -- a step that is refused
-refused : (tables : Standing) (step : Step) (refusal : Refusal) → ForShown tables (λ opening steps. first_refusal (rules_for opening steps step) ≡ Some refusal) → takes_effect step (Refused refusal) ≡ false → Operated tables step (Answer (Refused refusal)) tables
+refused : (tables : Standing) (step : Step) (refusal : Refusal) → ForShown tables (λ opening steps. first_refusal (rules_for opening steps step) ≡ Some refusal) → takes_effect step (Refused refusal) ≡ false → Stepped tables step (Answer (Refused refusal)) tables
 unfolding answer outcome_unless
 refused tables step refusal first none = silent tables step (Refused refusal) (λ opening steps stand. rw (first opening steps stand) refl) none
 
-pub read_refused : (tables : Standing) (t : Txn) (x : Ob) (refusal : Refusal) → refusal_by (status_in tables.trans t.0) (has_object (cells tables.objects) x.0) t x ≡ Some refusal → Operated tables (Read t x) (Answer (Refused refusal)) tables
+pub read_refused : (tables : Standing) (t : Txn) (x : Ob) (refusal : Refusal) → refusal_by (status_in tables.trans t.0) (has_object (cells tables.objects) x.0) t x ≡ Some refusal → Stepped tables (Read t x) (Answer (Refused refusal)) tables
 unfolding rules_for takes_effect
 read_refused tables t x refusal is = refused tables (Read t x) refusal (λ opening steps stand. sym (refusal_shown opening steps tables t x stand) ∙ is) refl
 
-pub write_refused : (tables : Standing) (t : Txn) (x : Ob) (v : ℤ) (refusal : Refusal) → refusal_by (status_in tables.trans t.0) (has_object (cells tables.objects) x.0) t x ≡ Some refusal → Operated tables (Write t x v) (Answer (Refused refusal)) tables
+pub write_refused : (tables : Standing) (t : Txn) (x : Ob) (v : ℤ) (refusal : Refusal) → refusal_by (status_in tables.trans t.0) (has_object (cells tables.objects) x.0) t x ≡ Some refusal → Stepped tables (Write t x v) (Answer (Refused refusal)) tables
 unfolding rules_for takes_effect
 write_refused tables t x v refusal is = refused tables (Write t x v) refusal (λ opening steps stand. sym (refusal_shown opening steps tables t x stand) ∙ is) refl
 
@@ -108,10 +108,10 @@ write_answer opening steps tables t x v runs there stand =
 
 pub read_granted : (before later : Standing) (t : Txn) (x : Ob) (v : ℤ) → status_in before.trans t.0 ≡ Status'.Running → has_object (cells before.objects) x.0 ≡ true
     → Some v ≡ cond (is_free_for before t.0 x.0 Op'.Read) (value_in (cells before.objects) x.0) None → ShowsWithIf before (is_free_for before t.0 x.0 Op'.Read) (Read t x) later
-    → later.locks ≡ after_ask (is_free_for before t.0 x.0 Op'.Read) t.0 x Op'.Read before.locks → Operated before (Read t x) (Answer (Value v)) later
+    → later.locks ≡ after_ask (is_free_for before t.0 x.0 Op'.Read) t.0 x Op'.Read before.locks → Stepped before (Read t x) (Answer (Value v)) later
 unfolding read_outcome value_or_zero ShowsOutcome locks_with takes_effect locks_after after_ask step_if
 read_granted before later t x v runs there is stands locks = go (is_free_for before t.0 x.0 Op'.Read) refl is stands locks where
-  go : (free : Bool) → is_free_for before t.0 x.0 Op'.Read ≡ free → Some v ≡ cond free (value_in (cells before.objects) x.0) None → ShowsWithIf before free (Read t x) later → later.locks ≡ after_ask free t.0 x Op'.Read before.locks → Operated before (Read t x) (Answer (Value v)) later
+  go : (free : Bool) → is_free_for before t.0 x.0 Op'.Read ≡ free → Some v ≡ cond free (value_in (cells before.objects) x.0) None → ShowsWithIf before free (Read t x) later → later.locks ≡ after_ask free t.0 x Op'.Read before.locks → Stepped before (Read t x) (Answer (Value v)) later
   go false free is stands locks = cc
   go true free is stands locks = record {
     answered = λ opening steps stand. sym (rw (free, ← is) refl) ∙ read_answer opening steps before t x runs there stand;
@@ -121,13 +121,13 @@ read_granted before later t x v runs there is stands locks = go (is_free_for bef
 
 pub read_waits : (before later : Standing) (t : Txn) (x : Ob) → status_in before.trans t.0 ≡ Status'.Running → has_object (cells before.objects) x.0 ≡ true
     → None ≡ cond (is_free_for before t.0 x.0 Op'.Read) (value_in (cells before.objects) x.0) None → ShowsWithIf before (is_free_for before t.0 x.0 Op'.Read) (Read t x) later
-    → later.locks ≡ after_ask (is_free_for before t.0 x.0 Op'.Read) t.0 x Op'.Read before.locks → Operated before (Read t x) Wait later
+    → later.locks ≡ after_ask (is_free_for before t.0 x.0 Op'.Read) t.0 x Op'.Read before.locks → Stepped before (Read t x) Wait later
 unfolding read_outcome ShowsOutcome locks_with locks_waiting after_ask step_if
 read_waits before later t x runs there is stands locks = go (is_free_for before t.0 x.0 Op'.Read) refl is stands locks where
   valued : None ≡ value_in (cells before.objects) x.0 → ⊥
   valued none = false≢true (ap is_some none ∙ valued_object (cells before.objects) x.0 ∙ there)
 
-  go : (free : Bool) → is_free_for before t.0 x.0 Op'.Read ≡ free → None ≡ cond free (value_in (cells before.objects) x.0) None → ShowsWithIf before free (Read t x) later → later.locks ≡ after_ask free t.0 x Op'.Read before.locks → Operated before (Read t x) Wait later
+  go : (free : Bool) → is_free_for before t.0 x.0 Op'.Read ≡ free → None ≡ cond free (value_in (cells before.objects) x.0) None → ShowsWithIf before free (Read t x) later → later.locks ≡ after_ask free t.0 x Op'.Read before.locks → Stepped before (Read t x) Wait later
   go true free is stands locks = absurd (valued is)
   go false free is stands locks = record {
     answered = λ opening steps stand. sym (rw free refl) ∙ read_answer opening steps before t x runs there stand;
@@ -148,7 +148,7 @@ read_lacks before later t x runs there free same = record {
 
 pub write_granted : (before later : Standing) (t : Txn) (x : Ob) (v : ℤ) → status_in before.trans t.0 ≡ Status'.Running → has_object (cells before.objects) x.0 ≡ true
     → true ≡ is_free_for before t.0 x.0 Op'.Write → ShowsWithIf before (is_free_for before t.0 x.0 Op'.Write) (Write t x v) later
-    → later.locks ≡ after_ask (is_free_for before t.0 x.0 Op'.Write) t.0 x Op'.Write before.locks → Operated before (Write t x v) (Answer Done) later
+    → later.locks ≡ after_ask (is_free_for before t.0 x.0 Op'.Write) t.0 x Op'.Write before.locks → Stepped before (Write t x v) (Answer Done) later
 unfolding ShowsOutcome locks_with takes_effect locks_after after_ask step_if
 write_granted before later t x v runs there free stands locks = record {
   answered = λ opening steps stand. sym (rw (← free) refl) ∙ write_answer opening steps before t x v runs there stand;
@@ -158,7 +158,7 @@ write_granted before later t x v runs there free stands locks = record {
 
 pub write_waits : (before later : Standing) (t : Txn) (x : Ob) (v : ℤ) → status_in before.trans t.0 ≡ Status'.Running → has_object (cells before.objects) x.0 ≡ true
     → false ≡ is_free_for before t.0 x.0 Op'.Write → ShowsWithIf before (is_free_for before t.0 x.0 Op'.Write) (Write t x v) later
-    → later.locks ≡ after_ask (is_free_for before t.0 x.0 Op'.Write) t.0 x Op'.Write before.locks → Operated before (Write t x v) Wait later
+    → later.locks ≡ after_ask (is_free_for before t.0 x.0 Op'.Write) t.0 x Op'.Write before.locks → Stepped before (Write t x v) Wait later
 unfolding ShowsOutcome locks_with locks_waiting after_ask step_if
 write_waits before later t x v runs there free stands locks = record {
   answered = λ opening steps stand. sym (rw (← free) refl) ∙ write_answer opening steps before t x v runs there stand;

@@ -24,7 +24,7 @@ use Rattle.asset_trans.specs.TransRows.{status_in}
 use Rattle.asset_ends.specs.Shown.{ForShown, ShowsWith}
 use Rattle.asset_ends.specs.Standing.{Standing, SameView, ShowAlike}
 use Rattle.asset_ends.specs.Ready.{locks_after}
-use Rattle.asset_ends.specs.Operated.{Operated, Lacked}
+use Rattle.asset_ends.specs.Stepped.{Stepped, Lacked}
 use Rattle.asset_ends.proofs.AnswerLemmas.{first_append}
 use Rattle.asset_ends.proofs.DependLaws.{would_cycle_shown}
 use Rattle.asset_ends.proofs.StandingLemmas.{same_alike}
@@ -71,11 +71,11 @@ decides_delegate : (tables : Standing) (giver taker : Txn) (obs : ObSet) (missin
 unfolding rules_for one_name unknown ended no_object_of
 decides_delegate tables giver taker obs missing is = λ opening steps stand. rw (is opening steps stand, stand.statuses giver.0, stand.statuses taker.0) refl
 
-pub permit_refused : (tables : Standing) (giver taker : Txn) (obs : ObSet) (ops : _) (missing : Option Ob) (refusal : Refusal) → IsMissing tables obs missing → first_refusal (share_rules tables giver taker missing) ≡ Some refusal → Operated tables (Permit giver taker obs ops) (Answer (Refused refusal)) tables
+pub permit_refused : (tables : Standing) (giver taker : Txn) (obs : ObSet) (ops : _) (missing : Option Ob) (refusal : Refusal) → IsMissing tables obs missing → first_refusal (share_rules tables giver taker missing) ≡ Some refusal → Stepped tables (Permit giver taker obs ops) (Answer (Refused refusal)) tables
 unfolding takes_effect
 permit_refused tables giver taker obs ops missing refusal lacks is = refused_by _ tables (Permit giver taker obs ops) refusal (decides_permit tables giver taker obs ops missing lacks) is refl
 
-pub delegate_refused : (tables : Standing) (giver taker : Txn) (obs : ObSet) (missing : Option Ob) (refusal : Refusal) → IsMissing tables obs missing → first_refusal (share_rules tables giver taker missing) ≡ Some refusal → Operated tables (Delegate giver taker obs) (Answer (Refused refusal)) tables
+pub delegate_refused : (tables : Standing) (giver taker : Txn) (obs : ObSet) (missing : Option Ob) (refusal : Refusal) → IsMissing tables obs missing → first_refusal (share_rules tables giver taker missing) ≡ Some refusal → Stepped tables (Delegate giver taker obs) (Answer (Refused refusal)) tables
 unfolding takes_effect
 delegate_refused tables giver taker obs missing refusal lacks is = refused_by _ tables (Delegate giver taker obs) refusal (decides_delegate tables giver taker obs missing lacks) is refl
 
@@ -87,11 +87,11 @@ delegate_given : (tables : Standing) (giver taker : Txn) (obs : ObSet) (missing 
 unfolding unrefused
 delegate_given tables giver taker obs missing lacks none = λ opening steps stand. given_by _ tables (Delegate giver taker obs) opening steps (Answer Done) stand (decides_delegate tables giver taker obs missing lacks) none refl
 
-pub permit_done : (before later : Standing) (giver taker : Txn) (obs : ObSet) (ops : _) (missing : Option Ob) → IsMissing before obs missing → first_refusal (share_rules before giver taker missing) ≡ None → ShowsWith before (Permit giver taker obs ops) later → later.locks ≡ before.locks → Operated before (Permit giver taker obs ops) (Answer Done) later
+pub permit_done : (before later : Standing) (giver taker : Txn) (obs : ObSet) (ops : _) (missing : Option Ob) → IsMissing before obs missing → first_refusal (share_rules before giver taker missing) ≡ None → ShowsWith before (Permit giver taker obs ops) later → later.locks ≡ before.locks → Stepped before (Permit giver taker obs ops) (Answer Done) later
 unfolding takes_effect locks_after
 permit_done before later giver taker obs ops missing lacks none stands locks = effective before later (Permit giver taker obs ops) Done (permit_given before giver taker obs ops missing lacks none) refl (λ opening steps stand orderly. stands opening steps stand) locks
 
-pub delegate_done : (before later : Standing) (giver taker : Txn) (obs : ObSet) (missing : Option Ob) → IsMissing before obs missing → first_refusal (share_rules before giver taker missing) ≡ None → ShowsWith before (Delegate giver taker obs) later → later.locks ≡ Locks.hand_over_in giver.0 taker.0 obs before.locks → Operated before (Delegate giver taker obs) (Answer Done) later
+pub delegate_done : (before later : Standing) (giver taker : Txn) (obs : ObSet) (missing : Option Ob) → IsMissing before obs missing → first_refusal (share_rules before giver taker missing) ≡ None → ShowsWith before (Delegate giver taker obs) later → later.locks ≡ Locks.hand_over_in giver.0 taker.0 obs before.locks → Stepped before (Delegate giver taker obs) (Answer Done) later
 unfolding takes_effect locks_after
 delegate_done before later giver taker obs missing lacks none stands locks = effective before later (Delegate giver taker obs) Done (delegate_given before giver taker obs missing lacks none) refl (λ opening steps stand orderly. stands opening steps stand) locks
 
@@ -114,7 +114,7 @@ unfolding rules_for one_name unknown ended cycle
 decides_depend tables kind a b = λ opening steps stand. rw (stand.statuses a.0, stand.statuses b.0, would_cycle_shown steps tables.deps stand.dependencies_stand kind a.0 b.0) refl
 
 -- what the others refuse is refused first
-pub depend_refused : (tables : Standing) (kind : Kind) (a b : Txn) (refusal : Refusal) → first_refusal (depend_rules tables a b []) ≡ Some refusal → Operated tables (Depend kind a b) (Answer (Refused refusal)) tables
+pub depend_refused : (tables : Standing) (kind : Kind) (a b : Txn) (refusal : Refusal) → first_refusal (depend_rules tables a b []) ≡ Some refusal → Stepped tables (Depend kind a b) (Answer (Refused refusal)) tables
 unfolding takes_effect
 depend_refused tables kind a b refusal is =
     let rules = (would_cycle_in tables.deps kind a.0 b.0, Cycle) ∷ [] in
@@ -128,7 +128,7 @@ last_says tables kind a b closes none is =
     let rules = (would_cycle_in tables.deps kind a.0 b.0, Cycle) ∷ [] in
     first_append (depend_rules tables a b []) rules ∙ ap (λ first. option_or first (first_refusal rules)) none ∙ rw is refl
 
-pub depend_cycle : (tables : Standing) (kind : Kind) (a b : Txn) → first_refusal (depend_rules tables a b []) ≡ None → would_cycle_in tables.deps kind a.0 b.0 ≡ true → Operated tables (Depend kind a b) (Answer (Refused Cycle)) tables
+pub depend_cycle : (tables : Standing) (kind : Kind) (a b : Txn) → first_refusal (depend_rules tables a b []) ≡ None → would_cycle_in tables.deps kind a.0 b.0 ≡ true → Stepped tables (Depend kind a b) (Answer (Refused Cycle)) tables
 unfolding takes_effect
 depend_cycle tables kind a b none closes = refused_by _ tables (Depend kind a b) Cycle (decides_depend tables kind a b) (last_says tables kind a b true none closes) refl
 
@@ -136,7 +136,7 @@ depend_given : (tables : Standing) (kind : Kind) (a b : Txn) → first_refusal (
 unfolding unrefused
 depend_given tables kind a b none open_ = λ opening steps stand. given_by _ tables (Depend kind a b) opening steps (Answer Done) stand (decides_depend tables kind a b) (last_says tables kind a b false none open_) refl
 
-pub depend_done : (before later : Standing) (kind : Kind) (a b : Txn) → first_refusal (depend_rules before a b []) ≡ None → would_cycle_in before.deps kind a.0 b.0 ≡ false → ShowsWith before (Depend kind a b) later → later.locks ≡ before.locks → Operated before (Depend kind a b) (Answer Done) later
+pub depend_done : (before later : Standing) (kind : Kind) (a b : Txn) → first_refusal (depend_rules before a b []) ≡ None → would_cycle_in before.deps kind a.0 b.0 ≡ false → ShowsWith before (Depend kind a b) later → later.locks ≡ before.locks → Stepped before (Depend kind a b) (Answer Done) later
 unfolding takes_effect locks_after
 depend_done before later kind a b none open_ stands locks = effective before later (Depend kind a b) Done (depend_given before kind a b none open_) refl (λ opening steps stand orderly. stands opening steps stand) locks
 

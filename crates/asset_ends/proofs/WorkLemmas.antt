@@ -26,14 +26,14 @@ use Rattle.asset_ends.specs.Shows.{Shows}
 use Rattle.asset_ends.specs.Shown.{ForShown, ShowsStill, ShowsWith, ShowsWithIf, ShowsOrderly}
 use Rattle.asset_ends.specs.Standing.{Standing, values_of, step_if, may_commit_in, tried, SameView, ShowAlike}
 use Rattle.asset_ends.specs.Ready.{locks_after, locks_waiting, released}
-use Rattle.asset_ends.specs.Operated.{ShowsOutcome, locks_with, Operated, Lacked}
+use Rattle.asset_ends.specs.Stepped.{ShowsOutcome, locks_with, Stepped, Lacked}
 use Rattle.asset_ends.proofs.EndingLemmas.{may_commit_shown}
-use Rattle.asset_ends.proofs.OperatedLemmas.{silent}
+use Rattle.asset_ends.proofs.OperationLemmas.{silent}
 use Rattle.asset_ends.proofs.ShowsLemmas.{abort_again_shows, commit_again_shows, live_shown}
 use Rattle.asset_ends.proofs.StandingLemmas.{same_alike}
 
 -- a step that takes effect
-pub effective : (before later : Standing) (step : Step) (reply : Reply) → ForShown before (λ opening steps. answer opening steps step ≡ Answer reply) → takes_effect step reply ≡ true → ShowsOrderly before step later → later.locks ≡ locks_after step before → Operated before step (Answer reply) later
+pub effective : (before later : Standing) (step : Step) (reply : Reply) → ForShown before (λ opening steps. answer opening steps step ≡ Answer reply) → takes_effect step reply ≡ true → ShowsOrderly before step later → later.locks ≡ locks_after step before → Stepped before step (Answer reply) later
 unfolding ShowsOutcome locks_with
 effective before later step reply is effect stands locks = record {
   answered = λ opening steps stand. sym (is opening steps stand);
@@ -42,7 +42,7 @@ effective before later step reply is effect stands locks = record {
 }
 
 -- a step that waits and changes nothing
-waiting : (before later : Standing) (step : Step) → ForShown before (λ opening steps. answer opening steps step ≡ Wait) → ShowsStill before later → later.locks ≡ locks_waiting step before → Operated before step Wait later
+waiting : (before later : Standing) (step : Step) → ForShown before (λ opening steps. answer opening steps step ≡ Wait) → ShowsStill before later → later.locks ≡ locks_waiting step before → Stepped before step Wait later
 unfolding ShowsOutcome locks_with
 waiting before later step is stands locks = record {
   answered = λ opening steps stand. sym (is opening steps stand);
@@ -59,7 +59,7 @@ abbrev pub Decides : List Rule → Standing → Step → Type 0
 Decides rules tables step = ForShown tables (λ opening steps. first_refusal (rules_for opening steps step) ≡ first_refusal rules)
 
 -- what they refuse is refused
-pub refused_by : (rules : List Rule) (tables : Standing) (step : Step) (refusal : Refusal) → Decides rules tables step → first_refusal rules ≡ Some refusal → takes_effect step (Refused refusal) ≡ false → Operated tables step (Answer (Refused refusal)) tables
+pub refused_by : (rules : List Rule) (tables : Standing) (step : Step) (refusal : Refusal) → Decides rules tables step → first_refusal rules ≡ Some refusal → takes_effect step (Refused refusal) ≡ false → Stepped tables step (Answer (Refused refusal)) tables
 unfolding answer outcome_unless
 refused_by rules tables step refusal decides is none = silent tables step (Refused refusal) (λ opening steps stand. rw (decides opening steps stand, is) refl) none
 
@@ -86,7 +86,7 @@ initiate_may Status'.Completed t none = cc
 initiate_may Status'.Committed t none = cc
 initiate_may Status'.Aborted t none = cc
 
-pub initiate_refused : (tables : Standing) (t : Txn) (parent : Option Txn) (refusal : Refusal) → first_refusal (initiate_rules (status_in tables.trans t.0) t) ≡ Some refusal → Operated tables (Initiate t parent) (Answer (Refused refusal)) tables
+pub initiate_refused : (tables : Standing) (t : Txn) (parent : Option Txn) (refusal : Refusal) → first_refusal (initiate_rules (status_in tables.trans t.0) t) ≡ Some refusal → Stepped tables (Initiate t parent) (Answer (Refused refusal)) tables
 unfolding takes_effect
 initiate_refused tables t parent refusal is = refused_by _ tables (Initiate t parent) refusal (decides_initiate tables t parent) is refl
 
@@ -94,7 +94,7 @@ initiate_given : (tables : Standing) (t : Txn) (parent : Option Txn) → first_r
 unfolding unrefused
 initiate_given tables t parent none = λ opening steps stand. given_by _ tables (Initiate t parent) opening steps (Answer Done) stand (decides_initiate tables t parent) none refl
 
-pub initiate_done : (before later : Standing) (t : Txn) (parent : Option Txn) → first_refusal (initiate_rules (status_in before.trans t.0) t) ≡ None → ShowsOrderly before (Initiate t parent) later → later.locks ≡ Locks.enrol_in t.0 before.locks → Operated before (Initiate t parent) (Answer Done) later
+pub initiate_done : (before later : Standing) (t : Txn) (parent : Option Txn) → first_refusal (initiate_rules (status_in before.trans t.0) t) ≡ None → ShowsOrderly before (Initiate t parent) later → later.locks ≡ Locks.enrol_in t.0 before.locks → Stepped before (Initiate t parent) (Answer Done) later
 unfolding takes_effect locks_after
 initiate_done before later t parent none stands locks = effective before later (Initiate t parent) Done (initiate_given before t parent none) refl stands locks
 
@@ -120,11 +120,11 @@ begin_may Status'.Completed t none = cc
 begin_may Status'.Committed t none = cc
 begin_may Status'.Aborted t none = cc
 
-pub begin_refused : (tables : Standing) (t : Txn) (refusal : Refusal) → first_refusal (begin_rules (status_in tables.trans t.0) t) ≡ Some refusal → Operated tables (Begin t) (Answer (Refused refusal)) tables
+pub begin_refused : (tables : Standing) (t : Txn) (refusal : Refusal) → first_refusal (begin_rules (status_in tables.trans t.0) t) ≡ Some refusal → Stepped tables (Begin t) (Answer (Refused refusal)) tables
 unfolding takes_effect
 begin_refused tables t refusal is = refused_by _ tables (Begin t) refusal (decides_begin tables t) is refl
 
-pub begin_done : (before later : Standing) (t : Txn) → first_refusal (begin_rules (status_in before.trans t.0) t) ≡ None → ShowsWith before (Begin t) later → later.locks ≡ before.locks → Operated before (Begin t) (Answer Done) later
+pub begin_done : (before later : Standing) (t : Txn) → first_refusal (begin_rules (status_in before.trans t.0) t) ≡ None → ShowsWith before (Begin t) later → later.locks ≡ before.locks → Stepped before (Begin t) (Answer Done) later
 unfolding takes_effect locks_after unrefused
 begin_done before later t none stands locks =
     effective before later (Begin t) Done (λ opening steps stand. given_by _ before (Begin t) opening steps (Answer Done) stand (decides_begin before t) none refl) refl (λ opening steps stand orderly. stands opening steps stand) locks
@@ -147,11 +147,11 @@ work_may Status'.Completed t none = cc
 work_may Status'.Committed t none = cc
 work_may Status'.Aborted t none = cc
 
-pub complete_refused : (tables : Standing) (t : Txn) (refusal : Refusal) → first_refusal (work_rules (status_in tables.trans t.0) t) ≡ Some refusal → Operated tables (Complete t) (Answer (Refused refusal)) tables
+pub complete_refused : (tables : Standing) (t : Txn) (refusal : Refusal) → first_refusal (work_rules (status_in tables.trans t.0) t) ≡ Some refusal → Stepped tables (Complete t) (Answer (Refused refusal)) tables
 unfolding takes_effect
 complete_refused tables t refusal is = refused_by _ tables (Complete t) refusal (decides_complete tables t) is refl
 
-pub complete_done : (before later : Standing) (t : Txn) → first_refusal (work_rules (status_in before.trans t.0) t) ≡ None → ShowsWith before (Complete t) later → later.locks ≡ before.locks → Operated before (Complete t) (Answer Done) later
+pub complete_done : (before later : Standing) (t : Txn) → first_refusal (work_rules (status_in before.trans t.0) t) ≡ None → ShowsWith before (Complete t) later → later.locks ≡ before.locks → Stepped before (Complete t) (Answer Done) later
 unfolding takes_effect locks_after unrefused
 complete_done before later t none stands locks =
     effective before later (Complete t) Done (λ opening steps stand. given_by _ before (Complete t) opening steps (Answer Done) stand (decides_complete before t) none refl) refl (λ opening steps stand orderly. stands opening steps stand) locks
@@ -169,11 +169,11 @@ decides_wait : (tables : Standing) (t : Txn) → Decides (find_rules (status_in 
 unfolding rules_for unknown
 decides_wait tables t = λ opening steps stand. rw (stand.statuses t.0) refl
 
-pub commit_refused : (tables : Standing) (t : Txn) (refusal : Refusal) → first_refusal (find_rules (status_in tables.trans t.0) t) ≡ Some refusal → Operated tables (Commit t) (Answer (Refused refusal)) tables
+pub commit_refused : (tables : Standing) (t : Txn) (refusal : Refusal) → first_refusal (find_rules (status_in tables.trans t.0) t) ≡ Some refusal → Stepped tables (Commit t) (Answer (Refused refusal)) tables
 unfolding takes_effect
 commit_refused tables t refusal is = refused_by _ tables (Commit t) refusal (decides_commit tables t) is refl
 
-pub wait_refused : (tables : Standing) (t : Txn) (refusal : Refusal) → first_refusal (find_rules (status_in tables.trans t.0) t) ≡ Some refusal → Operated tables (WaitFor t) (Answer (Refused refusal)) tables
+pub wait_refused : (tables : Standing) (t : Txn) (refusal : Refusal) → first_refusal (find_rules (status_in tables.trans t.0) t) ≡ Some refusal → Stepped tables (WaitFor t) (Answer (Refused refusal)) tables
 unfolding takes_effect
 wait_refused tables t refusal is = refused_by _ tables (WaitFor t) refusal (decides_wait tables t) is refl
 
@@ -204,23 +204,23 @@ commit_given tables t ready live may = λ opening steps stand.
     (ap (λ now. commit_outcome now (may_commit steps t.0)) (sym (stand.statuses t.0)) ∙ live_commit _ _ live ∙ ap (λ may. cond may (Answer Committed) Wait) (sym (may_commit_shown opening steps tables t.0 stand) ∙ may))
 
 pub commit_done : (before later : Standing) (t : Txn) → is_live_status (status_in before.trans t.0) ≡ true → Tried'.Committed ≡ tried (may_commit_in before t.0) → ShowsWithIf before (may_commit_in before t.0) (Commit t) later
-    → later.locks ≡ cond (may_commit_in before t.0) (Locks.release_in (class_in before.deps t.0) before.locks) before.locks → Operated before (Commit t) (Answer Committed) later
+    → later.locks ≡ cond (may_commit_in before t.0) (Locks.release_in (class_in before.deps t.0) before.locks) before.locks → Stepped before (Commit t) (Answer Committed) later
 unfolding takes_effect locks_after released tried step_if
 commit_done before later t live is stands locks = go (may_commit_in before t.0) refl is stands locks where
-  go : (may : Bool) → may_commit_in before t.0 ≡ may → Tried'.Committed ≡ tried may → ShowsWithIf before may (Commit t) later → later.locks ≡ cond may (Locks.release_in (class_in before.deps t.0) before.locks) before.locks → Operated before (Commit t) (Answer Committed) later
+  go : (may : Bool) → may_commit_in before t.0 ≡ may → Tried'.Committed ≡ tried may → ShowsWithIf before may (Commit t) later → later.locks ≡ cond may (Locks.release_in (class_in before.deps t.0) before.locks) before.locks → Stepped before (Commit t) (Answer Committed) later
   go false e is stands locks = cc
   go true e is stands locks = effective before later (Commit t) Committed (commit_given before t true live e) refl (λ opening steps stand orderly. stands opening steps stand) (rw live locks)
 
 pub commit_stays : (before later : Standing) (t : Txn) → is_live_status (status_in before.trans t.0) ≡ true → Tried'.Wait ≡ tried (may_commit_in before t.0) → ShowsWithIf before (may_commit_in before t.0) (Commit t) later
-    → later.locks ≡ cond (may_commit_in before t.0) (Locks.release_in (class_in before.deps t.0) before.locks) before.locks → Operated before (Commit t) Wait later
+    → later.locks ≡ cond (may_commit_in before t.0) (Locks.release_in (class_in before.deps t.0) before.locks) before.locks → Stepped before (Commit t) Wait later
 unfolding tried step_if locks_waiting
 commit_stays before later t live is stands locks = go (may_commit_in before t.0) refl is stands locks where
-  go : (may : Bool) → may_commit_in before t.0 ≡ may → Tried'.Wait ≡ tried may → ShowsWithIf before may (Commit t) later → later.locks ≡ cond may (Locks.release_in (class_in before.deps t.0) before.locks) before.locks → Operated before (Commit t) Wait later
+  go : (may : Bool) → may_commit_in before t.0 ≡ may → Tried'.Wait ≡ tried may → ShowsWithIf before may (Commit t) later → later.locks ≡ cond may (Locks.release_in (class_in before.deps t.0) before.locks) before.locks → Stepped before (Commit t) Wait later
   go true e is stands locks = cc
   go false e is stands locks = waiting before later (Commit t) (commit_given before t false live e) stands locks
 
 -- the commit of who has ended says how it ended, and changes nothing
-pub commit_ended : (tables : Standing) (t : Txn) → first_refusal (find_rules (status_in tables.trans t.0) t) ≡ None → is_live_status (status_in tables.trans t.0) ≡ false → Operated tables (Commit t) (commit_outcome (status_in tables.trans t.0) false) tables
+pub commit_ended : (tables : Standing) (t : Txn) → first_refusal (find_rules (status_in tables.trans t.0) t) ≡ None → is_live_status (status_in tables.trans t.0) ≡ false → Stepped tables (Commit t) (commit_outcome (status_in tables.trans t.0) false) tables
 unfolding takes_effect locks_after released unrefused first_refusal is_unknown is_live_status commit_outcome
 commit_ended tables t none dead = go (status_in tables.trans t.0) refl none dead where
   said : (now : Status) (outcome : Outcome) → status_in tables.trans t.0 ≡ now → ((ready : Bool) → commit_outcome now ready ≡ outcome) → ForShown tables (λ opening steps. answer opening steps (Commit t) ≡ outcome)
@@ -230,7 +230,7 @@ commit_ended tables t none dead = go (status_in tables.trans t.0) refl none dead
   again = λ opening steps stand orderly.
       commit_again_shows opening steps tables.trans (cells tables.objects) tables.locks tables.permits tables.deps t stand (sym (live_shown opening steps tables.trans (cells tables.objects) tables.locks tables.permits tables.deps t.0 stand) ∙ dead)
 
-  go : (now : Status) → status_in tables.trans t.0 ≡ now → first_refusal (find_rules now t) ≡ None → is_live_status now ≡ false → Operated tables (Commit t) (commit_outcome now false) tables
+  go : (now : Status) → status_in tables.trans t.0 ≡ now → first_refusal (find_rules now t) ≡ None → is_live_status now ≡ false → Stepped tables (Commit t) (commit_outcome now false) tables
   go Status'.Committed e none over = effective tables tables (Commit t) Committed (said Status'.Committed (Answer Committed) e (λ ready. refl)) refl again (rw dead refl)
   go Status'.Aborted e none over = silent tables (Commit t) Aborted (said Status'.Aborted (Answer Aborted) e (λ ready. refl)) refl
   go Status'.Unknown e none over = cc
@@ -239,13 +239,13 @@ commit_ended tables t none dead = go (status_in tables.trans t.0) refl none dead
   go Status'.Completed e none over = absurd (false≢true (sym over))
 
 -- a wait for an end says how the transaction stands, and changes nothing
-pub wait_done : (tables : Standing) (t : Txn) → first_refusal (find_rules (status_in tables.trans t.0) t) ≡ None → Operated tables (WaitFor t) (wait_outcome (status_in tables.trans t.0)) tables
+pub wait_done : (tables : Standing) (t : Txn) → first_refusal (find_rules (status_in tables.trans t.0) t) ≡ None → Stepped tables (WaitFor t) (wait_outcome (status_in tables.trans t.0)) tables
 unfolding takes_effect locks_waiting unrefused wait_outcome
 wait_done tables t none = go (status_in tables.trans t.0) refl where
   said : (now : Status) → status_in tables.trans t.0 ≡ now → ForShown tables (λ opening steps. answer opening steps (WaitFor t) ≡ wait_outcome now)
   said now e = λ opening steps stand. given_by (find_rules (status_in tables.trans t.0) t) tables (WaitFor t) opening steps (wait_outcome now) stand (decides_wait tables t) none (ap wait_outcome (sym (stand.statuses t.0) ∙ e))
 
-  go : (now : Status) → status_in tables.trans t.0 ≡ now → Operated tables (WaitFor t) (wait_outcome now) tables
+  go : (now : Status) → status_in tables.trans t.0 ≡ now → Stepped tables (WaitFor t) (wait_outcome now) tables
   go Status'.Completed e = silent tables (WaitFor t) Done (said Status'.Completed e) refl
   go Status'.Committed e = silent tables (WaitFor t) Committed (said Status'.Committed e) refl
   go Status'.Aborted e = silent tables (WaitFor t) Aborted (said Status'.Aborted e) refl
@@ -262,7 +262,7 @@ decides_abort : (tables : Standing) (t : Txn) → Decides (abort_rules (status_i
 unfolding rules_for unknown too_late
 decides_abort tables t = λ opening steps stand. rw (stand.statuses t.0) refl
 
-pub abort_refused : (tables : Standing) (t : Txn) (refusal : Refusal) → first_refusal (abort_rules (status_in tables.trans t.0) t) ≡ Some refusal → Operated tables (Abort t) (Answer (Refused refusal)) tables
+pub abort_refused : (tables : Standing) (t : Txn) (refusal : Refusal) → first_refusal (abort_rules (status_in tables.trans t.0) t) ≡ Some refusal → Stepped tables (Abort t) (Answer (Refused refusal)) tables
 unfolding takes_effect
 abort_refused tables t refusal is = refused_by _ tables (Abort t) refusal (decides_abort tables t) is refl
 
@@ -271,11 +271,11 @@ unfolding unrefused
 abort_given tables t none = λ opening steps stand. given_by _ tables (Abort t) opening steps (Answer Aborted) stand (decides_abort tables t) none refl
 
 pub abort_done : (before later : Standing) (t : Txn) → first_refusal (abort_rules (status_in before.trans t.0) t) ≡ None → is_live_status (status_in before.trans t.0) ≡ true → ShowsWith before (Abort t) later → later.locks ≡ Locks.release_in (doomed_in before.deps t.0) before.locks
-    → Operated before (Abort t) (Answer Aborted) later
+    → Stepped before (Abort t) (Answer Aborted) later
 unfolding takes_effect locks_after released
 abort_done before later t none live stands locks = effective before later (Abort t) Aborted (abort_given before t none) refl (λ opening steps stand orderly. stands opening steps stand) (rw live locks)
 
-pub abort_ended : (tables : Standing) (t : Txn) → first_refusal (abort_rules (status_in tables.trans t.0) t) ≡ None → is_live_status (status_in tables.trans t.0) ≡ false → Operated tables (Abort t) (Answer Aborted) tables
+pub abort_ended : (tables : Standing) (t : Txn) → first_refusal (abort_rules (status_in tables.trans t.0) t) ≡ None → is_live_status (status_in tables.trans t.0) ≡ false → Stepped tables (Abort t) (Answer Aborted) tables
 unfolding takes_effect locks_after released
 abort_ended tables t none dead =
     effective tables tables (Abort t) Aborted (abort_given tables t none) refl (λ opening steps stand orderly. abort_again_shows opening steps _ _ _ _ _ t stand (sym (live_shown opening steps _ _ _ _ _ t.0 stand) ∙ dead)) (rw dead refl)

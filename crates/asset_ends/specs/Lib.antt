@@ -4,4 +4,4 @@ pub mod Standing
 pub mod Tied
 pub mod Shown
 pub mod Ready
-pub mod Operated
+pub mod Stepped

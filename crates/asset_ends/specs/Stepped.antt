@@ -22,7 +22,7 @@ locks_with step (Answer reply) tables = cond (takes_effect step reply) (locks_af
 locks_with step Wait tables = locks_waiting step tables
 
 -- the outcome is the answer to the step, which has taken effect, or is pending, accordingly
-pub record Operated (before : Standing) (step : Step) (outcome : Outcome) (later : Standing) : Type 0 where
+pub record Stepped (before : Standing) (step : Step) (outcome : Outcome) (later : Standing) : Type 0 where
   pub answered : ForShown before (λ opening steps. outcome ≡ answer opening steps step)
   pub stands : ShowsOutcome before step outcome later
   pub locks : later.locks ≡ locks_with step outcome before

@@ -9,9 +9,9 @@ mod asking;
 mod delegating;
 mod depending;
 mod ending;
-mod operating;
 mod parts;
 mod seating;
+mod stepping;
 mod tables;
 mod working;
 

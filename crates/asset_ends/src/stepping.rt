@@ -6,7 +6,7 @@ ghost use Rattle.asset_names.specs.declared.statuses.Status.{Status};
 ghost use Rattle.asset_names.specs.Endings.{is_live_status};
 ghost use Rattle.asset_objects.specs.Cells.{cells, has_object, value_in};
 ghost use Rattle.asset_trans.specs.TransRows.{status_in, seat_in};
-ghost use Rattle.asset_ends.specs.Operated.{Lacked, Operated};
+ghost use Rattle.asset_ends.specs.Stepped.{Lacked, Stepped};
 
 use crate::answering::missing;
 use crate::ending::Tried;
@@ -21,7 +21,7 @@ use asset_seats::Sitter;
 /// Initiates a transaction, unless that is refused.
 #[inline(always)]
 fn initiate_if_any(tables: &mut Tables, t: Txn, parent: Option<Txn>) -> Result<Outcome, NoMemory>
-    ensures operated { IfOk result (λ outcome. Operated tables.old (Step.Initiate t parent) outcome tables.new) }
+    ensures stepped { IfOk result (λ outcome. Stepped tables.old (Step.Initiate t parent) outcome tables.new) }
     ensures lacked { OnErr result (Lacked tables.old (Step.Initiate t parent) tables.new) }
 {
     match refusal_to_initiate(t, tables.status(t)) {
@@ -36,7 +36,7 @@ fn initiate_if_any(tables: &mut Tables, t: Txn, parent: Option<Txn>) -> Result<O
 /// Starts a transaction, unless that is refused.
 #[inline(always)]
 fn begin_if_any(tables: &mut Tables, t: Txn) -> Outcome
-    ensures { Operated tables.old (Step.Begin t) result tables.new }
+    ensures { Stepped tables.old (Step.Begin t) result tables.new }
 {
     match refusal_to_begin(t, tables.status(t)) {
         Some(refusal) => Outcome::Answer(Reply::Refused(refusal)),
@@ -59,7 +59,7 @@ fn read_found(
     requires seat { one.at ≡ seat_in tables.old.trans one.t.0 }
     requires exists { has_object (cells tables.old.objects) x.0 ≡ true }
     requires value { value ≡ value_in (cells tables.old.objects) x.0 }
-    ensures operated { IfOk result (λ outcome. Operated tables.old (Step.Read one.t x) outcome tables.new) }
+    ensures stepped { IfOk result (λ outcome. Stepped tables.old (Step.Read one.t x) outcome tables.new) }
     ensures lacked { OnErr result (Lacked tables.old (Step.Read one.t x) tables.new) }
 {
     match tables.read_at(one, x, value) {
@@ -72,7 +72,7 @@ fn read_found(
 /// Reads an object, unless that is refused, or makes the read the pending request of `t`.
 #[inline(always)]
 fn read_if_any(tables: &mut Tables, t: Txn, x: Ob) -> Result<Outcome, NoMemory>
-    ensures operated { IfOk result (λ outcome. Operated tables.old (Step.Read t x) outcome tables.new) }
+    ensures stepped { IfOk result (λ outcome. Stepped tables.old (Step.Read t x) outcome tables.new) }
     ensures lacked { OnErr result (Lacked tables.old (Step.Read t x) tables.new) }
 {
     let value = tables.value(x);
@@ -89,7 +89,7 @@ fn write_found(tables: &mut Tables, one: Sitter, x: Ob, v: i64) -> Result<Outcom
     requires runs { status_in tables.old.trans one.t.0 ≡ Status.Running }
     requires seat { one.at ≡ seat_in tables.old.trans one.t.0 }
     requires exists { has_object (cells tables.old.objects) x.0 ≡ true }
-    ensures operated { IfOk result (λ outcome. Operated tables.old (Step.Write one.t x v) outcome tables.new) }
+    ensures stepped { IfOk result (λ outcome. Stepped tables.old (Step.Write one.t x v) outcome tables.new) }
     ensures lacked { OnErr result (Lacked tables.old (Step.Write one.t x v) tables.new) }
 {
     match tables.write_at(one, x, v) {
@@ -102,7 +102,7 @@ fn write_found(tables: &mut Tables, one: Sitter, x: Ob, v: i64) -> Result<Outcom
 /// Writes an object, unless that is refused, or makes the write the pending request of `t`.
 #[inline(always)]
 fn write_if_any(tables: &mut Tables, t: Txn, x: Ob, v: i64) -> Result<Outcome, NoMemory>
-    ensures operated { IfOk result (λ outcome. Operated tables.old (Step.Write t x v) outcome tables.new) }
+    ensures stepped { IfOk result (λ outcome. Stepped tables.old (Step.Write t x v) outcome tables.new) }
     ensures lacked { OnErr result (Lacked tables.old (Step.Write t x v) tables.new) }
 {
     let exists = tables.value(x).is_some();
@@ -116,7 +116,7 @@ fn write_if_any(tables: &mut Tables, t: Txn, x: Ob, v: i64) -> Result<Outcome, N
 /// Completes a transaction, unless that is refused.
 #[inline(always)]
 fn complete_if_any(tables: &mut Tables, t: Txn) -> Outcome
-    ensures { Operated tables.old (Step.Complete t) result tables.new }
+    ensures { Stepped tables.old (Step.Complete t) result tables.new }
 {
     match refusal_to_work(t, tables.status(t)) {
         Some(refusal) => Outcome::Answer(Reply::Refused(refusal)),
@@ -133,7 +133,7 @@ fn commit_found(tables: &mut Tables, one: Sitter, status: Status) -> Outcome
     requires live { is_live_status (status_in tables.old.trans one.t.0) ≡ true }
     requires status { status ≡ status_in tables.old.trans one.t.0 }
     requires seat { one.at ≡ seat_in tables.old.trans one.t.0 }
-    ensures { Operated tables.old (Step.Commit one.t) result tables.new }
+    ensures { Stepped tables.old (Step.Commit one.t) result tables.new }
 {
     match tables.try_commit_at(one, status) {
         Tried::Committed => Outcome::Answer(Reply::Committed),
@@ -144,7 +144,7 @@ fn commit_found(tables: &mut Tables, one: Sitter, status: Status) -> Outcome
 /// Commits a transaction, unless that is refused or waits. One that has ended stays as it is.
 #[inline(always)]
 fn commit_if_any(tables: &mut Tables, t: Txn) -> Outcome
-    ensures { Operated tables.old (Step.Commit t) result tables.new }
+    ensures { Stepped tables.old (Step.Commit t) result tables.new }
 {
     let (status, one) = tables.find(t);
     match refusal_to_find(t, status) {
@@ -157,7 +157,7 @@ fn commit_if_any(tables: &mut Tables, t: Txn) -> Outcome
 /// Aborts a transaction, unless that is refused. One that has aborted stays as it is.
 #[inline(always)]
 fn abort_if_any(tables: &mut Tables, t: Txn) -> Outcome
-    ensures { Operated tables.old (Step.Abort t) result tables.new }
+    ensures { Stepped tables.old (Step.Abort t) result tables.new }
 {
     let (status, one) = tables.find(t);
     match refusal_to_abort(t, status) {
@@ -174,7 +174,7 @@ fn abort_if_any(tables: &mut Tables, t: Txn) -> Outcome
 /// Says how a transaction stands that is waited for, unless that is refused.
 #[inline(always)]
 fn wait_if_any(tables: &mut Tables, t: Txn) -> Outcome
-    ensures { Operated tables.old (Step.WaitFor t) result tables.new }
+    ensures { Stepped tables.old (Step.WaitFor t) result tables.new }
 {
     let status = tables.status(t);
     match refusal_to_find(t, status) {
@@ -192,7 +192,7 @@ fn permit_if_any(
     obs: &ObSet,
     ops: Ops,
 ) -> Result<Outcome, NoMemory>
-    ensures operated { IfOk result (λ outcome. Operated tables.old (Step.Permit giver taker obs.now ops) outcome tables.new) }
+    ensures stepped { IfOk result (λ outcome. Stepped tables.old (Step.Permit giver taker obs.now ops) outcome tables.new) }
     ensures lacked { OnErr result (Lacked tables.old (Step.Permit giver taker obs.now ops) tables.new) }
 {
     let missing = missing(tables, obs);
@@ -215,7 +215,7 @@ fn delegate_if_any(
     taker: Txn,
     obs: &ObSet,
 ) -> Result<Outcome, NoMemory>
-    ensures operated { IfOk result (λ outcome. Operated tables.old (Step.Delegate giver taker obs.now) outcome tables.new) }
+    ensures stepped { IfOk result (λ outcome. Stepped tables.old (Step.Delegate giver taker obs.now) outcome tables.new) }
     ensures lacked { OnErr result (Lacked tables.old (Step.Delegate giver taker obs.now) tables.new) }
 {
     let missing = missing(tables, obs);
@@ -233,7 +233,7 @@ fn delegate_if_any(
 /// Makes a dependency, unless that is refused.
 #[inline(always)]
 fn depend_if_any(tables: &mut Tables, kind: Kind, a: Txn, b: Txn) -> Result<Outcome, NoMemory>
-    ensures operated { IfOk result (λ outcome. Operated tables.old (Step.Depend kind a b) outcome tables.new) }
+    ensures stepped { IfOk result (λ outcome. Stepped tables.old (Step.Depend kind a b) outcome tables.new) }
     ensures lacked { OnErr result (Lacked tables.old (Step.Depend kind a b) tables.new) }
 {
     let (first, source) = tables.find(a);
@@ -252,14 +252,14 @@ fn depend_if_any(tables: &mut Tables, kind: Kind, a: Txn, b: Txn) -> Result<Outc
 
 impl Tables {
     ghost use Rattle.std.specs.Prelude.{◌≡◌, true, IfOk, OnErr};
-    ghost use Rattle.asset_ends.specs.Operated.{Lacked, Operated};
+    ghost use Rattle.asset_ends.specs.Stepped.{Lacked, Stepped};
 
     /// Asks for a step: returns its answer, and makes it take effect if it does, or pending if it is a read or a write that
     /// waits. Each transaction is looked for once, and the locks on the object too. It answers `NoMemory` if the step would
     /// take effect and memory runs out, and the tables then show what they did before.
     #[inline(always)]
-    pub fn operate(&mut self, step: &Step) -> Result<Outcome, NoMemory>
-        ensures operated { IfOk result (λ outcome. Operated self.old step.now outcome self.new) }
+    pub fn step_at_once(&mut self, step: &Step) -> Result<Outcome, NoMemory>
+        ensures stepped { IfOk result (λ outcome. Stepped self.old step.now outcome self.new) }
         ensures lacked { OnErr result (Lacked self.old step.now self.new) }
     {
         match *step {

@@ -1,6 +1,6 @@
 use Rattle.std.proofs.Common.{sym, ◌∙◌}
 use Rattle.asset_ends.proofs.WorkLemmas.{abort_refused, abort_done, abort_ended}
-use Rattle.asset_ends.proofs.operating.abort_if_any.Goals as goal
+use Rattle.asset_ends.proofs.stepping.abort_if_any.Goals as goal
 
 pub returns-in-Some : goal.returns-in-Some
 returns-in-Some c = abort_refused _ c.args.t c.in-Some.refusal (rw c.find-status.ensures.status at (sym c.refusal_to_abort.ensures ∙ c.in-Some.is))

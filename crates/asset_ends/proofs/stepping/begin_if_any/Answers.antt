@@ -1,6 +1,6 @@
 use Rattle.std.proofs.Common.{sym, ◌∙◌}
 use Rattle.asset_ends.proofs.WorkLemmas.{begin_may, begin_refused, begin_done}
-use Rattle.asset_ends.proofs.operating.begin_if_any.Goals as goal
+use Rattle.asset_ends.proofs.stepping.begin_if_any.Goals as goal
 
 pub begin-requires : goal.begin-requires
 begin-requires c = record { initiated = begin_may _ c.args.t (rw c.status.ensures.row at (sym c.refusal_to_begin.ensures ∙ c.in-None.is)) }

@@ -1,6 +1,6 @@
 use Rattle.std.proofs.Common.{sym, ◌∙◌}
 use Rattle.asset_ends.proofs.WorkLemmas.{commit_refused, commit_ended}
-use Rattle.asset_ends.proofs.operating.commit_if_any.Goals as goal
+use Rattle.asset_ends.proofs.stepping.commit_if_any.Goals as goal
 
 pub returns-in-Some : goal.returns-in-Some
 returns-in-Some c = commit_refused _ c.args.t c.in-Some.refusal (rw c.find-status.ensures.status at (sym c.refusal_to_find.ensures ∙ c.in-Some.is))

@@ -1,6 +1,6 @@
 use Rattle.std.proofs.Common.{sym, ◌∙◌}
 use Rattle.asset_ends.proofs.WorkLemmas.{work_may, complete_refused, complete_done}
-use Rattle.asset_ends.proofs.operating.complete_if_any.Goals as goal
+use Rattle.asset_ends.proofs.stepping.complete_if_any.Goals as goal
 
 pub complete-requires : goal.complete-requires
 complete-requires c = record { runs = work_may _ c.args.t (rw c.status.ensures.row at (sym c.refusal_to_work.ensures ∙ c.in-None.is)) }

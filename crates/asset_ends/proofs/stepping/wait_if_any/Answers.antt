@@ -1,6 +1,6 @@
 use Rattle.std.proofs.Common.{sym, ◌∙◌}
 use Rattle.asset_ends.proofs.WorkLemmas.{wait_refused, wait_done}
-use Rattle.asset_ends.proofs.operating.wait_if_any.Goals as goal
+use Rattle.asset_ends.proofs.stepping.wait_if_any.Goals as goal
 
 pub returns-in-Some : goal.returns-in-Some
 returns-in-Some c = wait_refused _ c.args.t c.in-Some.refusal (rw c.status-status.ensures.row at (sym c.refusal_to_find.ensures ∙ c.in-Some.is))
