@@ -1,0 +1,26 @@
+//! The tests of what refuses: memory, readers, writers and broken scripts. Each of them is right too if any one request for
+//! memory is refused, which `tests/refused.py` tries with each request in turn.
+#![tactic(auto)]
+
+#[cfg(test)]
+mod alone;
+#[cfg(test)]
+mod broken;
+#[cfg(test)]
+mod devices;
+#[cfg(test)]
+mod facility;
+#[cfg(test)]
+mod jobs;
+#[cfg(test)]
+mod readers;
+#[cfg(test)]
+mod refused;
+#[cfg(test)]
+mod rows;
+#[cfg(test)]
+mod scripts;
+#[cfg(test)]
+mod sessions;
+#[cfg(test)]
+mod writers;
