@@ -12,7 +12,7 @@ use Rattle.asset_names.specs.declared.replies.Reply.{Reply}
 use Rattle.asset_history.specs.StoredSets.{StoredSet, set_or_all}
 use Rattle.asset_history.specs.declared.stored.Stored.{Stored}
 use Rattle.asset_history.specs.declared.stored.Stored.TheVariants as Stored'
-use Rattle.asset_history.specs.Stored.{tag_of_two, missing_at, stored_as, sets_after, permit_entry, delegate_entry, entry_of, entries_of, has_set, all_have_sets}
+use Rattle.asset_history.specs.Stored.{tag_of_two, missing_at, stored_as, sets_after, permit_entry, delegate_entry, entry_of, entries_of, has_set, all_have_sets, moved}
 use Rattle.asset_history.proofs.TagLemmas.{again, again_of_two}
 
 -- a stored set is found as before when one more comes
@@ -161,6 +161,63 @@ there_after step reply sets entries there =
 pub there_appended : (step : Step) (reply : Reply) (sets : List StoredSet) (entries : List Stored) (count : ℕ) → count ≡ length sets → all_have_sets (length sets) entries ≡ true
     → all_have_sets (length (sets_after step sets)) (entries ++ stored_as count step reply ∷ []) ≡ true
 there_appended step reply sets entries count is there = rw is (there_after step reply sets entries there)
+
+-- an entry that is copied with its set is the same entry
+entry_moved : (others sets : List StoredSet) (stored : Stored) → entry_of (sets_after (entry_of others stored).0 sets) (moved (length sets) stored) ≡ entry_of others stored
+unfolding entry_of sets_after moved set_or_all permit_entry delegate_entry
+entry_moved others sets (Stored'.Permit tag missing ops set giver taker) =
+    ap (λ found. permit_entry tag missing ops giver taker (set_or_all found)) (found_last sets (record { obs = set_or_all (slice_get others set) }))
+entry_moved others sets (Stored'.Delegate tag missing set giver taker) =
+    ap (λ found. delegate_entry tag missing giver taker (set_or_all found)) (found_last sets (record { obs = set_or_all (slice_get others set) }))
+entry_moved others sets (Stored'.Initiate tag t parent) = refl
+entry_moved others sets (Stored'.Begin tag t) = refl
+entry_moved others sets (Stored'.Read tag t x v) = refl
+entry_moved others sets (Stored'.Write tag t x v) = refl
+entry_moved others sets (Stored'.Complete tag t) = refl
+entry_moved others sets (Stored'.Depend tag kind a b) = refl
+entry_moved others sets (Stored'.Commit tag t) = refl
+entry_moved others sets (Stored'.Abort tag t) = refl
+entry_moved others sets (Stored'.WaitFor tag t) = refl
+
+-- and is the newest
+entries_copied : (others sets : List StoredSet) (stored : Stored) (entries : List Stored) → all_have_sets (length sets) entries ≡ true
+    → entries_of (sets_after (entry_of others stored).0 sets) (entries ++ moved (length sets) stored ∷ []) ≡ entry_of others stored ∷ entries_of sets entries
+unfolding entries_of
+entries_copied others sets stored entries there =
+    let after = sets_after (entry_of others stored).0 sets in
+    ap reverse (map-append (entry_of after) entries (moved (length sets) stored ∷ []))
+    ∙ rw (entries_after (entry_of others stored).0 sets entries there, entry_moved others sets stored) (reverse-append (map (entry_of sets) entries) (entry_of others stored ∷ []))
+
+pub entries_moved : (others sets : List StoredSet) (stored : Stored) (entries : List Stored) (count : ℕ) → count ≡ length sets → all_have_sets (length sets) entries ≡ true
+    → entries_of (sets_after (entry_of others stored).0 sets) (entries ++ moved count stored ∷ []) ≡ entry_of others stored ∷ entries_of sets entries
+entries_moved others sets stored entries count is there = rw is (entries_copied others sets stored entries there)
+
+-- its set is there
+copied_there : (others sets : List StoredSet) (stored : Stored) → has_set (length (sets_after (entry_of others stored).0 sets)) (moved (length sets) stored) ≡ true
+unfolding has_set entry_of sets_after moved permit_entry delegate_entry
+copied_there others sets (Stored'.Permit tag missing ops set giver taker) = lt-ltb _ _ (omega (arith, length-append sets (record { obs = set_or_all (slice_get others set) } ∷ [])))
+copied_there others sets (Stored'.Delegate tag missing set giver taker) = lt-ltb _ _ (omega (arith, length-append sets (record { obs = set_or_all (slice_get others set) } ∷ [])))
+copied_there others sets (Stored'.Initiate tag t parent) = refl
+copied_there others sets (Stored'.Begin tag t) = refl
+copied_there others sets (Stored'.Read tag t x v) = refl
+copied_there others sets (Stored'.Write tag t x v) = refl
+copied_there others sets (Stored'.Complete tag t) = refl
+copied_there others sets (Stored'.Depend tag kind a b) = refl
+copied_there others sets (Stored'.Commit tag t) = refl
+copied_there others sets (Stored'.Abort tag t) = refl
+copied_there others sets (Stored'.WaitFor tag t) = refl
+
+all_there_copied : (others sets : List StoredSet) (stored : Stored) (entries : List Stored) → all_have_sets (length sets) entries ≡ true
+    → all_have_sets (length (sets_after (entry_of others stored).0 sets)) (entries ++ moved (length sets) stored ∷ []) ≡ true
+unfolding all_have_sets
+all_there_copied others sets stored entries there =
+    let after = sets_after (entry_of others stored).0 sets in
+    list_all-append _ entries (moved (length sets) stored ∷ [])
+    ∙ rw (all_have_sets_more (length sets) (length after) entries (sets_more (entry_of others stored).0 sets).0 there, copied_there others sets stored) refl
+
+pub there_moved : (others sets : List StoredSet) (stored : Stored) (entries : List Stored) (count : ℕ) → count ≡ length sets → all_have_sets (length sets) entries ≡ true
+    → all_have_sets (length (sets_after (entry_of others stored).0 sets)) (entries ++ moved count stored ∷ []) ≡ true
+there_moved others sets stored entries count is there = rw is (all_there_copied others sets stored entries there)
 
 -- how many entries there are
 pub entries_length : (sets : List StoredSet) (entries : List Stored) → length (entries_of sets entries) ≡ length entries

@@ -119,16 +119,15 @@ room_left objects ss room now view below =
     omega (arith, below, ap (λ (s : Sets). length s.sets) view, ap (λ (s : Sets). s.room) view, length-map ss (λ (s : Stretch). stored_set (stretch_of objects s)))
 
 -- the set of a stretch that is there
-pub set_there : (objects : List Ob) (ss : List Stretch) (room index : ℕ) (now : Sets) (s : Stretch) (result : ObSet) → sets_of objects ss room ≡ now → index < length ss → s ≡ slice_index_or ss index s
-    → record { obs = result } ≡ stored_set (stretch_of objects s) → result ≡ set_or_all (slice_get now.sets index)
+pub set_there : (objects : List Ob) (ss : List Stretch) (room index : ℕ) (now : Sets) (s : Stretch) → sets_of objects ss room ≡ now → index < length ss → s ≡ slice_index_or ss index s
+    → stored_set (stretch_of objects s) ≡ record { obs = set_or_all (slice_get now.sets index) }
 unfolding sets_of set_or_all
-set_there objects ss room index now s result view below is set =
-    let found : slice_get now.sets index ≡ Some (record { obs = result }) =
+set_there objects ss room index now s view below is =
+    let found : slice_get now.sets index ≡ Some (stored_set (stretch_of objects s)) =
     sym (ap (λ (some : Sets). slice_get some.sets index) view)
     ∙ slice_get-map (λ (t : Stretch). stored_set (stretch_of objects t)) ss index
-    ∙ ap (option_map (λ (t : Stretch). stored_set (stretch_of objects t))) (slice_get-get_or ss index s below ∙ ap Some (sym is))
-    ∙ ap Some (sym set) in
-    sym (ap set_or_all found)
+    ∙ ap (option_map (λ (t : Stretch). stored_set (stretch_of objects t))) (slice_get-get_or ss index s below ∙ ap Some (sym is)) in
+    sym (λ i. record { obs = set_or_all (found i) })
 
 pub index_left : (objects : List Ob) (ss : List Stretch) (room index : ℕ) (now : Sets) → sets_of objects ss room ≡ now → index < length now.sets → index < length ss
 unfolding sets_of

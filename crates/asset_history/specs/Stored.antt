@@ -134,6 +134,12 @@ entry_of sets (Stored'.Commit tag t) = (Commit t, reply_of_name t tag)
 entry_of sets (Stored'.Abort tag t) = (Abort t, reply_of_name t tag)
 entry_of sets (Stored'.WaitFor tag t) = (WaitFor t, reply_of_name t tag)
 
+-- a stored entry with the set at this index in place of its own, if it has one
+unfoldable pub moved : ℕ → Stored → Stored
+moved count (Stored'.Permit tag missing ops set giver taker) = Stored'.Permit tag missing ops count giver taker
+moved count (Stored'.Delegate tag missing set giver taker) = Stored'.Delegate tag missing count giver taker
+moved count stored = stored
+
 -- the value that a stored entry reads or writes, and 0 for any other
 unfoldable pub value_stored : Stored → ℤ
 value_stored (Stored'.Read tag t x v) = v

@@ -1,7 +1,7 @@
 //! A history: the opening, and the entries in order.
 
 use crate::stored::Stored;
-use crate::stored_set::push_set;
+use crate::stored_set::{copy_set, push_set};
 use crate::stored_sets::StoredSets;
 use asset_names::{NoMemory, Ob, Reply, Step, Txn};
 use std::alloc::{AllocError, Global};
@@ -34,8 +34,10 @@ impl History {
     ghost use Rattle.std.specs.Prelude.{◌≡◌, ◌<◌, ◌≤◌, ◌↔◌, ◌^◌, [], length, reverse, slice_get, IfOk, IsTrue, Some};
     ghost use Rattle.std.specs.Option.{option_map};
     ghost use Rattle.asset_history.specs.Acting.{both_of};
+    ghost use Rattle.asset_history.specs.Committing.{commit_at};
     ghost use Rattle.asset_names.specs.Sets.{HasNoDouble};
     ghost use Rattle.asset_names.specs.Answers.{IsLegal};
+    ghost use Rattle.asset_names.specs.Steps.{Entry};
     ghost use Rattle.asset_names.specs.declared.replies.Outcome.TheVariants.{Answer};
     ghost use Rattle.asset_history.specs.Recorded.{objects_of, opened, answer_to, with_entry};
 
@@ -114,6 +116,19 @@ impl History {
         }
     }
 
+    /// Puts the step of the entry at the index, oldest first from 0, into the slot, and returns its reply; `None` past the end.
+    /// Only what the step names is written, so a slot that is lent for many entries saves the copies that `entry` makes.
+    #[inline(always)]
+    pub fn entry_into(&self, index: usize, step: &mut Step) -> Option<Reply>
+        ensures entry { option_map (λ reply. (step.new, reply)) result ≡ slice_get (reverse self.now.entries) index }
+        ensures legal { IsLegal self.now.opening self.now.entries }
+    {
+        match self.entries.as_slice().get(index) {
+            Some(stored) => Some(stored.put(&self.sets, step)),
+            None => None,
+        }
+    }
+
     /// Returns whether there is an entry at the index, oldest first from 0, and it is that of the step with the reply. An entry
     /// of the same kind of step is not read back for that, if the step is of one transaction.
     #[inline(always)]
@@ -134,6 +149,17 @@ impl History {
     {
         match self.entries.as_slice().get(index) {
             Some(stored) => Some(stored.both()),
+            None => None,
+        }
+    }
+
+    /// Returns the same as `committed_at`.
+    #[inline(always)]
+    pub(crate) fn commit_at(&self, index: usize) -> Option<Txn>
+        ensures { result ≡ commit_at (slice_get (reverse self.now.entries) index) }
+    {
+        match self.entries.as_slice().get(index) {
+            Some(stored) => stored.committed(),
             None => None,
         }
     }
@@ -166,5 +192,20 @@ impl History {
         let stored = Stored::of(step, reply, self.sets.len());
         push_set(&mut self.sets, step);
         self.entries.push(stored).unwrap();
+    }
+
+    /// Appends the entry at the index of another history, oldest first from 0, as it is stored there: its step is not read
+    /// back. Its reply is the one answer to it here. It does not allocate, as `append` does not.
+    #[inline(always)]
+    pub fn append_from(&mut self, other: &History, index: usize)
+        requires there { index < length other.now.entries }
+        requires answer { (entry : Entry) → slice_get (reverse other.now.entries) index ≡ Some entry → answer_to self.old entry.0 ≡ Answer entry.1 }
+        requires room { length self.old.entries < self.old.capacity }
+        ensures { (entry : Entry) → slice_get (reverse other.now.entries) index ≡ Some entry → self.new ≡ with_entry self.old entry.0 entry.1 }
+    {
+        let stored = other.entries[index];
+        let moved = stored.moved(self.sets.len());
+        copy_set(&mut self.sets, &other.sets, &stored);
+        self.entries.push(moved).unwrap();
     }
 }

@@ -80,7 +80,7 @@ impl Stored {
     ghost use Rattle.std.specs.Prelude.{◌≡◌, List, true, length};
     ghost use Rattle.asset_history.specs.Acting.{both_of};
     ghost use Rattle.asset_history.specs.StoredSets.{StoredSet};
-    ghost use Rattle.asset_history.specs.Stored.{stored_as, entry_of, permit_entry, delegate_entry, value_stored, has_set};
+    ghost use Rattle.asset_history.specs.Stored.{stored_as, entry_of, permit_entry, delegate_entry, value_stored, has_set, moved};
 
     /// Returns the entry as it is stored, if `count` sets are stored.
     #[inline(always)]
@@ -139,22 +139,44 @@ impl Stored {
 
     /// Returns the entry, whose set, if it has one, is among the stored sets.
     #[inline(always)]
-    #[tactic(auto, unfolding(crate::specs::Stored::entry_of, crate::specs::Stored::value_stored, crate::specs::Stored::permit_entry, crate::specs::Stored::delegate_entry, crate::specs::StoredSets::set_or_all, crate::specs::Stored::has_set))]
     pub(crate) fn entry(&self, sets: &StoredSets) -> (Step, Reply)
         requires there { has_set (length sets.now.sets) self.now ≡ true }
         ensures { result ≡ entry_of sets.now.sets self.now }
     {
+        let mut step = Step::Commit { t: Txn(0) };
+        let reply = self.put(sets, &mut step);
+        (step, reply)
+    }
+
+    /// Puts the step of the entry into the slot, and returns its reply. Its set, if it has one, is among the stored sets.
+    #[inline(always)]
+    #[tactic(auto, unfolding(crate::specs::Stored::entry_of, crate::specs::Stored::value_stored, crate::specs::Stored::permit_entry, crate::specs::Stored::delegate_entry, crate::specs::StoredSets::set_or_all, crate::specs::Stored::has_set))]
+    pub(crate) fn put(&self, sets: &StoredSets, step: &mut Step) -> Reply
+        requires there { has_set (length sets.now.sets) self.now ≡ true }
+        ensures { (step.new, result) ≡ entry_of sets.now.sets self.now }
+    {
         match *self {
             Stored::Initiate { tag, t, parent } => {
-                (Step::Initiate { t, parent }, tag.about_name(t))
+                *step = Step::Initiate { t, parent };
+                tag.about_name(t)
             }
-            Stored::Begin { tag, t } => (Step::Begin { t }, tag.about_name(t)),
-            Stored::Read { tag, t, x, .. } => (Step::Read { t, x }, tag.about(t, x, self.value())),
+            Stored::Begin { tag, t } => {
+                *step = Step::Begin { t };
+                tag.about_name(t)
+            }
+            Stored::Read { tag, t, x, .. } => {
+                *step = Step::Read { t, x };
+                tag.about(t, x, self.value())
+            }
             Stored::Write { tag, t, x, .. } => {
                 let v = self.value();
-                (Step::Write { t, x, v }, tag.about(t, x, 0))
+                *step = Step::Write { t, x, v };
+                tag.about(t, x, 0)
             }
-            Stored::Complete { tag, t } => (Step::Complete { t }, tag.about_name(t)),
+            Stored::Complete { tag, t } => {
+                *step = Step::Complete { t };
+                tag.about_name(t)
+            }
             Stored::Permit {
                 tag,
                 missing,
@@ -165,13 +187,13 @@ impl Stored {
             } => {
                 let obs = sets.set(set);
                 let reply = tag.about_two(giver, taker, object_at(&obs, missing));
-                let step = Step::Permit {
+                *step = Step::Permit {
                     giver,
                     taker,
                     obs,
                     ops,
                 };
-                (step, reply)
+                reply
             }
             Stored::Delegate {
                 tag,
@@ -182,15 +204,64 @@ impl Stored {
             } => {
                 let obs = sets.set(set);
                 let reply = tag.about_two(giver, taker, object_at(&obs, missing));
-                (Step::Delegate { giver, taker, obs }, reply)
+                *step = Step::Delegate { giver, taker, obs };
+                reply
             }
-            Stored::Depend { tag, kind, a, b } => (
-                Step::Depend { kind, a, b },
-                tag.about_two(a, b, Ob::default()),
-            ),
-            Stored::Commit { tag, t } => (Step::Commit { t }, tag.about_name(t)),
-            Stored::Abort { tag, t } => (Step::Abort { t }, tag.about_name(t)),
-            Stored::WaitFor { tag, t } => (Step::WaitFor { t }, tag.about_name(t)),
+            Stored::Depend { tag, kind, a, b } => {
+                *step = Step::Depend { kind, a, b };
+                tag.about_two(a, b, Ob::default())
+            }
+            Stored::Commit { tag, t } => {
+                *step = Step::Commit { t };
+                tag.about_name(t)
+            }
+            Stored::Abort { tag, t } => {
+                *step = Step::Abort { t };
+                tag.about_name(t)
+            }
+            Stored::WaitFor { tag, t } => {
+                *step = Step::WaitFor { t };
+                tag.about_name(t)
+            }
+        }
+    }
+
+    /// Returns the entry with the stored set at this index in place of its own, if it has one.
+    #[inline(always)]
+    #[tactic(auto, unfolding(crate::specs::Stored::moved))]
+    pub(crate) fn moved(self, count: usize) -> Stored
+        ensures { result ≡ moved count self }
+    {
+        match self {
+            Stored::Permit {
+                tag,
+                missing,
+                ops,
+                giver,
+                taker,
+                ..
+            } => Stored::Permit {
+                tag,
+                missing,
+                ops,
+                set: count,
+                giver,
+                taker,
+            },
+            Stored::Delegate {
+                tag,
+                missing,
+                giver,
+                taker,
+                ..
+            } => Stored::Delegate {
+                tag,
+                missing,
+                set: count,
+                giver,
+                taker,
+            },
+            _ => self,
         }
     }
 

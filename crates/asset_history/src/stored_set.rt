@@ -1,8 +1,9 @@
 //! The set of objects of an entry, and the object of it that a refusal is about.
 
-ghost use Rattle.std.specs.Prelude.{◌≡◌, ◌<◌, ◌≤◌, length};
-ghost use Rattle.asset_history.specs.Stored.{missing_at, object_at, position, sets_after};
+ghost use Rattle.std.specs.Prelude.{◌≡◌, ◌<◌, ◌≤◌, true, length};
+ghost use Rattle.asset_history.specs.Stored.{entry_of, has_set, missing_at, object_at, position, sets_after};
 
+use crate::stored::Stored;
 use crate::stored_sets::StoredSets;
 use asset_names::{Ob, ObSet, Refusal, Reply, Step};
 
@@ -58,6 +59,21 @@ pub(crate) fn push_set(sets: &mut StoredSets, step: &Step)
     match step {
         Step::Permit { obs, .. } => sets.push(obs),
         Step::Delegate { obs, .. } => sets.push(obs),
+        _ => {}
+    }
+}
+
+/// Appends the set of an entry, which is among other sets, to the sets, whose room is reserved. Any other entry has none.
+#[tactic(auto, unfolding(crate::specs::Stored::sets_after, crate::specs::Stored::entry_of, crate::specs::Stored::permit_entry, crate::specs::Stored::delegate_entry, crate::specs::Stored::has_set))]
+pub(crate) fn copy_set(sets: &mut StoredSets, others: &StoredSets, stored: &Stored)
+    requires there { has_set (length others.now.sets) stored.now ≡ true }
+    requires room { length sets.old.sets < sets.old.room }
+    ensures sets { sets.new.sets ≡ sets_after (entry_of others.now.sets stored.now).0 sets.old.sets }
+    ensures room { sets.new.room ≡ sets.old.room }
+{
+    match *stored {
+        Stored::Permit { set, .. } => sets.push_from(others, set),
+        Stored::Delegate { set, .. } => sets.push_from(others, set),
         _ => {}
     }
 }

@@ -36,7 +36,9 @@ const MOST_LISTED: usize = 16;
 
 impl StoredSets {
     ghost use Rattle.std.specs.Prelude.{◌≡◌, ◌<◌, ◌≤◌, [], ◌∷◌, ◌++◌, length, slice_get, IfOk};
-    ghost use Rattle.asset_history.specs.StoredSets.{StoredSet, set_or_all};
+    ghost use Rattle.std.specs.List.Sorted.{IsStrictlyIncreasing};
+    ghost use Rattle.asset_names.specs.Sets.{numbers};
+    ghost use Rattle.asset_history.specs.StoredSets.{StoredSet, set_or_all, stored_set};
 
     /// Returns no sets, with room for so many. It takes memory for as many lists of 16 objects, of which no more is used
     /// than the sets list.
@@ -61,17 +63,47 @@ impl StoredSets {
         self.stretches.len()
     }
 
+    /// Appends the set of these objects, for which there is room. It does not allocate.
+    fn push_objects(&mut self, listed: &[Ob])
+        requires few { length listed.now ≤ 16 }
+        requires rising { IsStrictlyIncreasing (numbers listed.now) }
+        requires room { length self.old.sets < self.old.room }
+        ensures sets { self.new.sets ≡ self.old.sets ++ stored_set listed.now ∷ [] }
+        ensures room { self.new.room ≡ self.old.room }
+    {
+        let start = self.objects.len();
+        self.objects.extend_from_slice(listed).unwrap();
+        let count = listed.len();
+        self.stretches.push(Stretch { start, count }).unwrap();
+    }
+
     /// Appends a set, for which there is room. It does not allocate.
     pub(crate) fn push(&mut self, set: &ObSet)
         requires { length self.old.sets < self.old.room }
         ensures sets { self.new.sets ≡ self.old.sets ++ record { obs = set.now } ∷ [] }
         ensures room { self.new.room ≡ self.old.room }
     {
-        let start = self.objects.len();
-        let listed = listed_objects(set);
-        self.objects.extend_from_slice(listed).unwrap();
-        let count = listed.len();
-        self.stretches.push(Stretch { start, count }).unwrap();
+        self.push_objects(listed_objects(set));
+    }
+
+    /// Appends the set at the index of other sets, which is there. There is room for it here, so it does not allocate.
+    pub(crate) fn push_from(&mut self, others: &StoredSets, index: usize)
+        requires there { index < length others.now.sets }
+        requires room { length self.old.sets < self.old.room }
+        ensures sets { self.new.sets ≡ self.old.sets ++ record { obs = set_or_all (slice_get others.now.sets index) } ∷ [] }
+        ensures room { self.new.room ≡ self.old.room }
+    {
+        self.push_objects(others.listed_at(index));
+    }
+
+    /// Returns the objects that the set at the index lists, which is there, and none if it is every object.
+    fn listed_at(&self, index: usize) -> &[Ob]
+        requires { index < length self.now.sets }
+        ensures few { length result.now ≤ 16 }
+        ensures rising { IsStrictlyIncreasing (numbers result.now) }
+        ensures set { stored_set result.now ≡ record { obs = set_or_all (slice_get self.now.sets index) } }
+    {
+        objects_of(&self.objects, self.stretches[index])
     }
 
     /// Returns the set at the index, which is there.
@@ -79,7 +111,7 @@ impl StoredSets {
         requires { index < length self.now.sets }
         ensures { result ≡ set_or_all (slice_get self.now.sets index) }
     {
-        set_of(objects_of(&self.objects, self.stretches[index]))
+        set_of(self.listed_at(index))
     }
 }
 

@@ -3,6 +3,8 @@
 #![tactic(auto)]
 
 #[cfg(test)]
+mod copied;
+#[cfg(test)]
 mod deletion;
 #[cfg(test)]
 mod drawn;

@@ -1,42 +1,6 @@
-use Rattle.std.proofs.Common.{◌≤◌, ◌+◌, List, length, sym, ap, subst, ◌∙◌, arith}
-use Rattle.std.specs.List.Sorted.{IsStrictlyIncreasing}
-use Rattle.asset_names.specs.declared.names.Ob.{Ob}
-use Rattle.asset_names.specs.Sets.{numbers}
-use Rattle.asset_history.specs.StoredSets.{stored_set, stretch_of}
-use Rattle.asset_history.proofs.StoredSetLemmas.{index_left, stretch_at, stretch_few, set_there}
+use Rattle.std.proofs.Common.{ap, ◌∙◌}
+use Rattle.asset_history.specs.StoredSets.{StoredSet}
 use Rattle.asset_history.proofs.stored_sets.StoredSets.set.Goals as goal
 
-pub index-requires : goal.index-requires
-index-requires c =
-    let inside = c.self.inside in
-    omega (arith, index_left inside.objects.items inside.stretches.items inside.room c.args.index c.args.self.now c.self.view_is c.requires)
-
-pub objects_of-requires : goal.objects_of-requires
-objects_of-requires c =
-    let inside = c.self.inside in
-    let s = c.index.result.now in
-    let is = stretch_at inside.objects.items inside.stretches.items inside.room c.args.index c.args.self.now s c.self.invariant.each c.self.view_is c.requires c.index.ensures in
-    subst (λ (objects : List Ob). s.start + s.count ≤ length objects) (sym c.deref.ensures.value) is.within
-
-pub set_of-requires-clause-few : goal.set_of-requires-clause-few
-set_of-requires-clause-few c =
-    let inside = c.self.inside in
-    let s = c.index.result.now in
-    let is = stretch_at inside.objects.items inside.stretches.items inside.room c.args.index c.args.self.now s c.self.invariant.each c.self.view_is c.requires c.index.ensures in
-    subst (λ (objects : List Ob). length objects ≤ 16) (sym (c.objects_of.ensures ∙ ap (λ (objects : List Ob). stretch_of objects s) c.deref.ensures.value)) (stretch_few inside.objects.items s is)
-
-pub set_of-requires-clause-rising : goal.set_of-requires-clause-rising
-set_of-requires-clause-rising c =
-    let inside = c.self.inside in
-    let s = c.index.result.now in
-    let is = stretch_at inside.objects.items inside.stretches.items inside.room c.args.index c.args.self.now s c.self.invariant.each c.self.view_is c.requires c.index.ensures in
-    subst (λ (objects : List Ob). IsStrictlyIncreasing (numbers objects)) (sym (c.objects_of.ensures ∙ ap (λ (objects : List Ob). stretch_of objects s) c.deref.ensures.value)) is.rising
-
 pub returns : goal.returns
-returns c =
-    let inside = c.self.inside in
-    let s = c.index.result.now in
-    set_there inside.objects.items inside.stretches.items inside.room c.args.index c.args.self.now s c.set_of.result c.self.view_is
-    (index_left inside.objects.items inside.stretches.items inside.room c.args.index c.args.self.now c.self.view_is c.requires)
-    c.index.ensures
-    (c.set_of.ensures ∙ ap stored_set (c.objects_of.ensures ∙ ap (λ (objects : List Ob). stretch_of objects s) c.deref.ensures.value))
+returns c = ap (λ (s : StoredSet). s.obs) (c.set_of.ensures ∙ c.listed_at.ensures.set)
