@@ -1,12 +1,11 @@
 //! A history without dead groups.
 
-ghost use Rattle.std.specs.Prelude.{◌≡◌, ◌<◌, ◌≤◌, ℕ, true, cond, length, map, reverse, slice_get, Some, IfOk};
+ghost use Rattle.std.specs.Prelude.{◌≡◌, ◌≤◌, ℕ, true, cond, length, map, reverse, slice_get, Some, IfOk};
 ghost use Rattle.asset_names.specs.declared.names.Txn.{Txn as Name};
-ghost use Rattle.asset_names.specs.declared.replies.Outcome.TheVariants.{Answer};
 ghost use Rattle.asset_names.specs.Steps.{Entry};
 ghost use Rattle.asset_names.specs.Groups.{actor, kept, without};
 ghost use Rattle.asset_names.specs.Answers.{IsLegal};
-ghost use Rattle.asset_history.specs.Recorded.{opened, answer_to, with_entry};
+ghost use Rattle.asset_history.specs.Recorded.{opened};
 ghost use Rattle.asset_deletion.specs.Named.{names_of};
 ghost use Rattle.asset_deletion.specs.Going.{keeps, AreBelow, SaysWhoStays};
 
@@ -64,7 +63,7 @@ fn copy_staying(history: &History, groups: &Groups, going: &Vec<bool>, left: &mu
 {
     'entries: for i in 0..history.len() {
         if stays_at(history, i, groups, going) {
-            copy_entry(history, i, left);
+            left.append_from(history, i);
         }
     }
 }
@@ -88,17 +87,5 @@ fn stays(groups: &Groups, going: &Vec<bool>, t: Txn) -> bool
     match groups.of(t) {
         Some(number) => !going[number],
         None => true,
-    }
-}
-
-/// Appends the entry at the index to a history after which it is answered alike.
-fn copy_entry(history: &History, index: usize, left: &mut History)
-    requires there { index < length history.now.entries }
-    requires answer { (entry : Entry) → slice_get (reverse history.now.entries) index ≡ Some entry → answer_to left.old entry.0 ≡ Answer entry.1 }
-    requires room { length left.old.entries < left.old.capacity }
-    ensures { (entry : Entry) → slice_get (reverse history.now.entries) index ≡ Some entry → left.new ≡ with_entry left.old entry.0 entry.1 }
-{
-    if let Some((step, reply)) = history.entry(index) {
-        left.append(step, reply);
     }
 }

@@ -13,14 +13,14 @@ pub entries-init : goal.entries-init
 unfolding opened kept
 entries-init c = c.requires.empty
 
-pub copy_entry-requires-clause-answer : goal.copy_entry-requires-clause-answer
+pub append_from-requires-clause-answer : goal.append_from-requires-clause-answer
 unfolding answer_to
-copy_entry-requires-clause-answer c = λ entry at.
+append_from-requires-clause-answer c = λ entry at.
     rw (c.entries.invariant)
     (answer_left c.args.history.now.opening c.args.history.now.entries c.args.groups.now c.args.going.now.items c.requires.says c.len-i-end.ensures.legal c.entries.i entry at (sym (c.stays_at.ensures entry at) ∙ c.if-stays_at.true))
 
-pub copy_entry-requires-clause-room : goal.copy_entry-requires-clause-room
-copy_entry-requires-clause-room c =
+pub append_from-requires-clause-room : goal.append_from-requires-clause-room
+append_from-requires-clause-room c =
     let entries = reverse c.args.history.now.entries in
     let few = kept_few (keeps c.args.groups.now c.args.going.now.items) (reverse (take c.entries.i entries)) in
     rw (c.entries.invariant)
@@ -41,7 +41,7 @@ entries-preserved c =
             | then-stays_at w ↦
                 let stays = sym (c.stays_at.ensures here.0 here.2) ∙ w.if-stays_at.true in
                 rw (w.left-is)
-                (w.copy_entry.ensures here.0 here.2 ∙ ap (λ (h : Recorded). with_entry h here.0.0 here.0.1) c.entries.invariant
+                (w.append_from.ensures here.0 here.2 ∙ ap (λ (h : Recorded). with_entry h here.0.0 here.0.1) c.entries.invariant
                 ∙ ap (λ (l : List Entry). record c.args.history.now { entries = l }) (sym (next ∙ ap (λ b. cond b (here.0 ∷ older) older) stays)))
             | else-stays_at w ↦
                 let goes = sym (c.stays_at.ensures here.0 here.2) ∙ w.if-stays_at.false in
