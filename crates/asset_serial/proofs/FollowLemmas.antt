@@ -1,8 +1,9 @@
 -- Entries that follow a history, some at a time.
-use Rattle.std.proofs.Common.{◌≡◌, ℕ, ◌+◌, ◌<◌, List, [], ◌∷◌, ◌++◌, length, get_or, take, drop, reverse, refl, sym, ◌∙◌, ap, subst, arith}
-use Rattle.std.specs.Prelude.{flat_map}
+use Rattle.std.proofs.Common.{◌≡◌, ℕ, ◌+◌, ◌<◌, List, [], ◌∷◌, ◌++◌, length, get_or, take, drop, reverse, refl, sym, ◌∙◌, ap, subst, arith, inl, inr, Some}
+use Rattle.std.specs.Prelude.{flat_map, slice_get}
 use Rattle.std.proofs.lemmas.List.{append-nil, append_assoc, length-append, length-reverse, reverse-append, take-append-drop, take_more}
 use Rattle.std.proofs.lemmas.List.Concat.{flat_map-append}
+use Rattle.std.proofs.lemmas.Option.{slice_get_cases}
 use Rattle.asset_names.specs.declared.replies.Outcome.TheVariants.{Answer}
 use Rattle.asset_names.specs.Steps.{Entry}
 use Rattle.asset_names.specs.Answers.{IsLegal}
@@ -23,6 +24,14 @@ followed_more : (history : Recorded) (first then : List Entry) → followed_by (
 unfolding followed_by
 followed_more history first then =
     ap (λ (l : List Entry). record history { entries = l }) (sym (append_assoc (reverse then) (reverse first) history.entries) ∙ ap (λ l. l ++ history.entries) (sym (reverse-append first then)))
+
+-- ---- the entry at an index
+pub entry_here : (entries : List Entry) (index : ℕ) → index < length entries → (entry : Entry) × (slice_get (reverse entries) index ≡ Some entry)
+entry_here entries index below =
+    elim (slice_get_cases (reverse entries) index).1 [
+      | inl here ↦ (here.0, here.2)
+      | inr past ↦ absurd (omega (arith, past.0, below, length-reverse entries))
+    ]
 
 -- ---- what may follow
 follows_first : (history : Recorded) (first then : List Entry) → Follows history (first ++ then) → Follows history first

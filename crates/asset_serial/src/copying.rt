@@ -11,8 +11,8 @@ fn copy_entry(history: &History, index: usize, left: &mut History)
     requires { Follows left.old (entry_at history.now.entries index) }
     ensures { left.new ≡ followed_by left.old (entry_at history.now.entries index) }
 {
-    if let Some((step, reply)) = history.entry(index) {
-        left.append(step, reply);
+    if index < history.len() {
+        left.append_from(history, index);
     }
 }
 
