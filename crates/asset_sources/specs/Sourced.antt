@@ -29,6 +29,11 @@ unfoldable pub source_at : List Entry → ℕ → Option Source
 source_at [] m = None
 source_at (entry ∷ older) m = cond (m == length older) (source_of older entry.0 entry.1) (source_at older m)
 
+-- a step with the value that it got and its source, if it got one
+unfoldable pub read_with : Step → Option (ℤ × Source) → Option (Step × ℤ × Source)
+read_with step None = None
+read_with step (Some found) = Some (step, found.0, found.1)
+
 -- a read that was answered by a value: the read, the value and its source
 unfoldable pub read_of : Step → Reply → Option Source → Option (Step × ℤ × Source)
 read_of step (Value v) (Some found) = Some (step, v, found)
