@@ -9,7 +9,7 @@ ghost use Rattle.asset_reports.specs.Reports.{opening_line, opening_text, steps_
 
 use asset_deletion::without_dead;
 use asset_history::History;
-use asset_names::{NoMemory, Ob};
+use asset_names::{NoMemory, Ob, Step, Txn};
 use asset_printing::{push_object, push_step};
 use std::alloc::{AllocError, Global};
 
@@ -32,14 +32,19 @@ fn push_opening(text: &mut String, opening: &[(Ob, i64)]) -> Result<(), AllocErr
     Ok(())
 }
 
-/// Appends the line of the step of the entry at the index, if there is one.
-fn push_step_at(text: &mut String, history: &History, index: usize) -> Result<(), AllocError>
+/// Appends the line of the step of the entry at the index, if there is one. The step is read into the slot.
+fn push_step_at(
+    text: &mut String,
+    history: &History,
+    index: usize,
+    step: &mut Step,
+) -> Result<(), AllocError>
     ensures { OnOk result ((entry : Entry) → slice_get (reverse history.now.entries) index ≡ Some entry →
         string_bytes text.new ≡ string_bytes text.old ++ (step_text entry.0 ++ 10 ∷ [])) }
 {
-    match history.entry(index) {
-        Some((step, _)) => {
-            push_step(text, &step)?;
+    match history.entry_into(index, step) {
+        Some(_) => {
+            push_step(text, step)?;
             text.push_str("\n")
         }
         None => Ok(()),
@@ -50,8 +55,9 @@ fn push_step_at(text: &mut String, history: &History, index: usize) -> Result<()
 fn push_steps(text: &mut String, history: &History) -> Result<(), AllocError>
     ensures { OnOk result (string_bytes text.new ≡ string_bytes text.old ++ steps_text history.now.entries) }
 {
+    let mut step = Step::Commit { t: Txn(0) };
     'entries: for i in 0..history.len() {
-        push_step_at(text, history, i)?;
+        push_step_at(text, history, i, &mut step)?;
     }
     Ok(())
 }

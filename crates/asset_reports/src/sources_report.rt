@@ -1,9 +1,11 @@
 //! The sources of what was read, a line each.
 
-ghost use Rattle.std.specs.Prelude.{◌≡◌, ◌++◌, OnOk, string_bytes};
-ghost use Rattle.asset_reports.specs.Sources.{source_word, read_text, read_line, sources_text};
+ghost use Rattle.std.specs.Prelude.{◌≡◌, ◌++◌, OnOk, Some, reverse, slice_get, string_bytes};
+ghost use Rattle.asset_names.specs.Steps.{Entry};
+ghost use Rattle.asset_sources.specs.Sourced.{source_at};
+ghost use Rattle.asset_reports.specs.Sources.{source_word, read_text, source_text, sources_text};
 
-use asset_names::{NoMemory, Step};
+use asset_names::{NoMemory, Step, Txn};
 use asset_printing::push_step;
 use asset_sources::{Source, Trace};
 use std::alloc::AllocError;
@@ -37,17 +39,19 @@ fn push_read(
     text.push_str("\n")
 }
 
-/// Appends the line of the entry at the index, if it is a read that was answered by a value.
+/// Appends the line of the entry at the index, if it is a read that was answered by a value. Its step is read into the slot.
 #[tactic(auto, unfolding(crate::specs::Sources::read_line))]
 fn push_line(
     text: &mut String,
-    number: usize,
-    read: Option<(Step, i64, Source)>,
+    trace: &Trace,
+    index: usize,
+    step: &mut Step,
 ) -> Result<(), AllocError>
-    ensures { OnOk result (string_bytes text.new ≡ string_bytes text.old ++ read_line number read) }
+    ensures { OnOk result ((entry : Entry) → slice_get (reverse trace.now.entries) index ≡ Some entry →
+        string_bytes text.new ≡ string_bytes text.old ++ source_text index entry.0 entry.1 (source_at trace.now.entries index)) }
 {
-    match read {
-        Some((step, v, source)) => push_read(text, number, &step, v, source),
+    match trace.read_into(index, step) {
+        Some((v, source)) => push_read(text, index, step, v, source),
         None => Ok(()),
     }
 }
@@ -56,8 +60,9 @@ fn push_line(
 fn push_all(text: &mut String, trace: &Trace) -> Result<(), AllocError>
     ensures { OnOk result (string_bytes text.new ≡ string_bytes text.old ++ sources_text trace.now.entries) }
 {
+    let mut step = Step::Commit { t: Txn(0) };
     'entries: for i in 0..trace.len() {
-        push_line(text, i, trace.read(i))?;
+        push_line(text, trace, i, &mut step)?;
     }
     Ok(())
 }

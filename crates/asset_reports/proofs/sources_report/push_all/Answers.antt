@@ -3,7 +3,7 @@ use Rattle.std.proofs.lemmas.List.{length-reverse, reverse-reverse, take_all}
 use Rattle.std.proofs.lemmas.Option.{slice_get_cases}
 use Rattle.asset_names.specs.Steps.{Entry}
 use Rattle.asset_sources.specs.Sourced.{source_at}
-use Rattle.asset_reports.specs.Sources.{read_line, source_text, sources_text}
+use Rattle.asset_reports.specs.Sources.{source_text, sources_text}
 use Rattle.asset_reports.proofs.ReportLemmas.{sources_more}
 use Rattle.asset_reports.proofs.sources_report.push_all.Goals as goal
 
@@ -12,7 +12,6 @@ unfolding sources_text
 entries-init c = sym (append-nil (string_bytes c.args.text.now))
 
 pub entries-preserved : goal.entries-preserved
-unfolding source_text
 entries-preserved c =
     let all = c.args.trace.now.entries in
     let entries = reverse all in
@@ -20,8 +19,7 @@ entries-preserved c =
     let below : i < length all = omega (arith, c.entries-test.true, c.len-i-end.ensures) in
     elim (slice_get_cases entries i).1 [
       | inl here ↦
-          c.in_ok-push_line.ensures
-          ∙ ap (λ read. string_bytes c.entries.text ++ read_line i read) (c.read.ensures.read here.0 here.2)
+          c.in_ok-push_line.ensures here.0 here.2
           ∙ ap (λ (l : List ℕ). l ++ source_text i here.0.0 here.0.1 (source_at all i)) c.entries.invariant
           ∙ append_assoc (string_bytes c.args.text.now) (sources_text (reverse (take i entries))) (source_text i here.0.0 here.0.1 (source_at all i))
           ∙ ap (λ (l : List ℕ). string_bytes c.args.text.now ++ l) (sym (sources_more all i here.0 here.2))
