@@ -267,7 +267,7 @@ def refused_requests(outside, folder):
     try:
         refuser = Refuser(folder)
     except (OSError, subprocess.SubprocessError):
-        print("each request refused: left out, for want of a C compiler")
+        print("each request refused: left out, since there is no C compiler")
         return
     for word in WORDS:
         before = outside.so_far()
