@@ -27,10 +27,10 @@ pub enum AuditFault {
 /// It answers `Differs` for the first session, by place in the list, and its first call that breaks one of the first
 /// three; otherwise `Missing` if there are not as many calls as entries.
 ///
-/// It does not allocate. It takes 64 KiB of the stack, and 256 KiB if there are more than 65,536 entries. It takes time nearly in
-/// proportion to the calls: it goes over them twice, and looks at each session again for each 262,144 entries, by a binary
-/// search if the session has calls on both sides of the first of them. If a call differs, it also looks up the numbers of that
-/// session in each earlier one.
+/// It does not allocate. It takes 64 KiB of the stack, and 256 KiB if there are more than 65,536 entries. It takes time
+/// nearly in proportion to the calls: it goes over them twice, and for each 262,144 entries it finds in each session the
+/// first call from there on, by a binary search unless that is the first call or past the last. If a call differs, it also
+/// looks up the numbers of that session in each earlier one.
 pub fn audit<C: Calls>(history: &History, sessions: &[C]) -> Result<(), AuditFault>
     ensures audit { IsAudit (reverse history.now.entries) (map C.listed sessions.now) result }
     ensures each { IsOk result → HasEach (reverse history.now.entries) (map C.listed sessions.now) }

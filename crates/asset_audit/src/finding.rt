@@ -7,8 +7,8 @@ ghost use Rattle.asset_audit.specs.Apart.{IsSplit};
 use crate::calls::Calls;
 use asset_names::{Reply, Step};
 
-/// Returns how many calls have a lower number. They come first. If the last call has a lower number, or the first has none,
-/// no other is looked at.
+/// Returns how many calls have a lower number. They come first. If all have a lower number or none has, only the last and
+/// the first call are looked at.
 pub(crate) fn count_below(calls: &[(usize, Step, Reply)], number: usize) -> usize
     requires { Rises calls.now }
     ensures { IsSplit calls.now number result }

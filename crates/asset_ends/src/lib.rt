@@ -1,6 +1,6 @@
-//! The tables together: objects, locks, permits, transactions and dependencies. Each call that does a step takes tables that show a
-//! history to tables that show it with that step, and one that waits leaves them showing it. Who calls answers for the
-//! refusals: a call asks that those of its step do not apply.
+//! The tables together: objects, locks, permits, transactions and dependencies. Each call that does a step takes tables that
+//! show a history to tables that show it with that step, and one that waits leaves them showing it. A call for one kind of
+//! step requires that no refusal of it applies; `answer` and `step_at_once` find the refusals themselves.
 #![tactic(auto)]
 
 mod answering;

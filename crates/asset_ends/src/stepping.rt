@@ -1,4 +1,4 @@
-//! Steps that take effect, or are pending, while they are answered: each transaction is looked for once, and so are the locks.
+//! Steps that take effect, or are pending, while they are answered, so that rows and locks are not looked for again.
 
 ghost use Rattle.std.specs.Prelude.{◌≡◌, true, IfOk, OnErr};
 ghost use Rattle.asset_names.specs.declared.steps.Step.{Step};
@@ -255,8 +255,9 @@ impl Tables {
     ghost use Rattle.asset_ends.specs.Stepped.{Lacked, Stepped};
 
     /// Asks for a step: returns its answer, and makes it take effect if it does, or pending if it is a read or a write that
-    /// waits. Each transaction is looked for once, and the locks on the object too. It answers `NoMemory` if the step would
-    /// take effect and memory runs out, and the tables then show what they did before.
+    /// waits. The row of a transaction is looked for once, and again if the step changes it or is a dependency; the locks on
+    /// an object are looked at once, unless memory runs out. It answers `NoMemory` if the step would take effect and memory
+    /// runs out, and the tables then show what they did before.
     #[inline(always)]
     pub fn step_at_once(&mut self, step: &Step) -> Result<Outcome, NoMemory>
         ensures stepped { IfOk result (λ outcome. Stepped self.old step.now outcome self.new) }

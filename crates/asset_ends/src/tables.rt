@@ -100,8 +100,8 @@ impl Tables {
         self.parts.trans.status(t)
     }
 
-    /// Returns the status of a transaction, and it with the seat that its row says, in one look: Unknown, with seat 0, if it
-    /// was never initiated.
+    /// Returns the status of a transaction, and the transaction with the seat that its row says. If it was never initiated,
+    /// these are Unknown and seat 0. It looks for the row once.
     #[inline(always)]
     pub(crate) fn find(&self, t: Txn) -> (Status, Sitter)
         ensures status { result.0 ≡ status_in self.now.trans t.0 }

@@ -1,5 +1,5 @@
-//! The tests of what refuses: memory, readers, writers and broken scripts. Each of them is right too if any one request for
-//! memory is refused, which `tests/refused.py` tries with each request in turn.
+//! The tests of faults: memory is refused, a reader or a writer fails, or the script is broken. Each of them is right too if
+//! any one request for memory is refused, which `tests/refused.py` tries with each request in turn.
 #![tactic(auto)]
 
 #[cfg(test)]

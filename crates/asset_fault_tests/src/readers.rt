@@ -8,7 +8,7 @@ use crate::scripts::{Left, WORDS, is_stopped, is_whole, run};
 use asset_cli::{Report, RunEnd, ScriptFault, Work};
 use std::alloc::Global;
 
-/// What nobody writes.
+/// A text that no run writes.
 const OTHER: &str = "something";
 
 /// Returns whether a run met a fault of its reader, and wrote nothing.

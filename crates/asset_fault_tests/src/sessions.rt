@@ -1,5 +1,5 @@
 //! Two sessions of one manager that ask in turn while a request for memory is refused: at every point the lists and the book
-//! agree, a refusal leaves both, and the step asked again is answered as it is with ample memory.
+//! agree, a fault leaves both, and the step asked again is answered as it is with ample memory.
 
 ghost use Rattle.asset_counts.specs.Pass.{IsOf};
 
@@ -71,8 +71,8 @@ fn plays_line<R: Wait>(
     }
 }
 
-/// Plays the lines of a script by two sessions in turn, of which the second asks by turns. Returns whether each line went right, with the lists and the book
-/// agreed after it.
+/// Plays the lines of a script by two sessions in turn, of which the second asks by turns. Returns whether each line went
+/// right, and the lists and the book agreed after it.
 fn plays_lines<R: Wait>(
     rt: &R,
     alloc: Global,

@@ -129,8 +129,8 @@ impl History {
         }
     }
 
-    /// Returns whether there is an entry at the index, oldest first from 0, and it is that of the step with the reply. An entry
-    /// of the same kind of step is not read back for that, if the step is of one transaction.
+    /// Returns whether there is an entry at the index, oldest first from 0, and it is that of the step with the reply. If
+    /// the entry and the step are of one kind and name one transaction, the step of the entry is not read back.
     #[inline(always)]
     pub fn records(&self, index: usize, step: &Step, reply: Reply) -> bool
         ensures { IsTrue result ↔ (slice_get (reverse self.now.entries) index ≡ Some (step.now, reply)) }
@@ -195,7 +195,8 @@ impl History {
     }
 
     /// Appends the entry at the index of another history, oldest first from 0, as it is stored there: its step is not read
-    /// back. Its reply is the one answer to it here. It does not allocate, as `append` does not.
+    /// back. It requires that the reply of the entry is the one answer to its step in this history, and that there is room.
+    /// It does not allocate, as `append` does not.
     #[inline(always)]
     pub fn append_from(&mut self, other: &History, index: usize)
         requires there { index < length other.now.entries }

@@ -1,4 +1,4 @@
-//! Places for one more seat.
+//! Room for one more seat.
 
 ghost use Rattle.std.specs.Prelude.{◌≡◌, ℕ, ◌<◌, ◌≤◌, length, OnOk};
 ghost use Rattle.asset_chains.specs.Chained.{chain_of, home_of};

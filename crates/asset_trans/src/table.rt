@@ -13,7 +13,7 @@ use std::alloc::Global;
 use std::marker::Model;
 
 /// The transactions that were initiated, in order of initiation, each with its status, its parent and its seat. Contracts
-/// see this list. Who calls answers for the seats: they are kept as they are given.
+/// see this list. The caller answers for the seats, which are kept as they are given.
 #[derive(Drop)]
 pub struct Trans {
     rows: IndexMap<Txn, TransRow>,
