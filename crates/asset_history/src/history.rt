@@ -116,8 +116,9 @@ impl History {
         }
     }
 
-    /// Puts the step of the entry at the index, oldest first from 0, into the slot, and returns its reply; `None` past the end.
-    /// Only what the step names is written, so a slot that is lent for many entries saves the copies that `entry` makes.
+    /// Puts the step of the entry at the index, oldest first from 0, into the slot, and returns its reply; `None` past the end,
+    /// and what the slot then has means nothing. Only what the step names is written, so a slot that is lent for many entries
+    /// saves the copies that `entry` makes.
     #[inline(always)]
     pub fn entry_into(&self, index: usize, step: &mut Step) -> Option<Reply>
         ensures entry { option_map (λ reply. (step.new, reply)) result ≡ slice_get (reverse self.now.entries) index }
