@@ -29,10 +29,6 @@ use Rattle.asset_cli.proofs.OpeningLemmas.{exists_listed}
 use Rattle.asset_cli.proofs.PreambleLemmas.{object_taken}
 use Rattle.asset_cli.proofs.WritableLemmas.{EntriesWritable, OpeningWritable}
 
--- a line with its line feed is cut off
-line_cut : (line rest : List ℕ) → Lacks 10 line → lines (line ++ 10 ∷ rest) ≡ line ∷ lines rest
-line_cut line rest one = lines_cut (line ++ 10 ∷ rest) line rest (record { whole = refl; first = one })
-
 -- an object that is listed is counted
 counted_if_listed : (opening : Opening) (x : ℕ) → list_any (λ (pair : Ob × ℤ). eqb pair.0.0 x) opening ≡ true → 0 < count_by (λ m. m == x) (objects_of opening)
 counted_if_listed [] x listed = absurd (false≢true listed)
@@ -70,7 +66,7 @@ objects_again (given ∷ todo) done rest n capacity writable none =
     let line = object_text given.0 given.1 in
     let text : opening_text (given ∷ todo) ++ rest ≡ line ++ 10 ∷ (opening_text todo ++ rest) =
     append_assoc (line ++ 10 ∷ []) (opening_text todo) rest ∙ append_assoc line (10 ∷ []) (opening_text todo ++ rest) in
-    let cut = ap lines text ∙ line_cut line (opening_text todo ++ rest) (object_one_line given writable.0) in
+    let cut = ap lines text ∙ lines_cut line (opening_text todo ++ rest) (object_one_line given writable.0) in
     let took = object_taken line done given (object_said given writable.0) (new_object done todo given none) in
     let same : (done ++ given ∷ []) ++ todo ≡ done ++ given ∷ todo = append_assoc done (given ∷ []) todo in
     let later = objects_again todo (done ++ given ∷ []) rest (n + 1) capacity writable.1 (rw same none) in
@@ -92,7 +88,7 @@ starts : (entries : List Entry) (rest : List ℕ) → EntriesWritable entries �
 unfolding steps_text
 starts [] rest writable h = h
 starts (entry ∷ older) rest writable h =
-    let cut = line_cut (step_text entry.0) rest (step_one_line entry.0 writable.0) in
+    let cut = lines_cut (step_text entry.0) rest (step_one_line entry.0 writable.0) in
     let first : StartsWithStep (lines (step_text entry.0 ++ 10 ∷ rest)) = rw cut (entry.0, step_said entry.0 writable.0) in
     rw (last_line older entry rest) (starts older (step_text entry.0 ++ 10 ∷ rest) writable.1 first)
 
@@ -124,7 +120,7 @@ module _ (opening : Opening) (capacity : ℕ) where
   steps_again (entry ∷ older) rest n legal writable fit =
       let line = step_text entry.0 in
       let h : Recorded = record { opening = opening; entries = older; capacity = capacity } in
-      let cut = line_cut line rest (step_one_line entry.0 writable.0) in
+      let cut = lines_cut line rest (step_one_line entry.0 writable.0) in
       let before = steps_again older (line ++ 10 ∷ rest) n legal.1 writable.1 fit.1 in
       let asked = asked_again line (lines rest) (n + length older) h entry (step_said entry.0 writable.0) legal.0 fit.0 in
       let count : (n + length older) + 1 ≡ n + length (entry ∷ older) = omega arith in

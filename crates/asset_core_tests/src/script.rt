@@ -2,15 +2,16 @@
 
 use crate::again::ask;
 use asset_core::Core;
-use asset_grammar::{Command, Line, push_full, push_outcome};
+use asset_grammar::{Said, ScriptLines, push_full, push_outcome};
 use asset_history::History;
-use asset_names::{Fault, Outcome, Step};
+use asset_names::{Fault, Outcome, Step, Txn};
 use std::alloc::{AllocError, Global};
 
 /// Returns the step that a line of a script asks for.
 pub(crate) fn step_of(line: &str) -> Option<Step> {
-    match Line::parse(line.as_bytes()) {
-        Line::Command(Command::Ask(step)) => Some(step),
+    let mut step = Step::Commit { t: Txn(0) };
+    match ScriptLines::new(line.as_bytes()).next_line(&mut step) {
+        Some(Said::Ask) => Some(step),
         _ => None,
     }
 }

@@ -1,8 +1,10 @@
 pub mod LineLemmas
 pub mod NumberLemmas
 pub mod WordLemmas
+pub mod FirstLineLemmas
 pub mod SetWordLemmas
 pub mod TakenLemmas
+pub mod JobLemmas
 pub mod KeywordLemmas
 mod GrammarCases
 pub mod NumberLaws

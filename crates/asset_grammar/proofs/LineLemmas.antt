@@ -7,38 +7,21 @@ use Rattle.std.proofs.lemmas.List.Sums.{fails_before_first}
 use Rattle.std.proofs.lemmas.List.Elements.{All-head, All-tail}
 use Rattle.std.proofs.lemmas.List.Quantifiers.{position-Some}
 use Rattle.std.proofs.lemmas.List.Splits.{slice_split_at, slice_split_none}
-use Rattle.asset_grammar.specs.Lines.{IsCutAt, Lacks, lines}
+use Rattle.asset_grammar.specs.Lines.{Lacks, lines}
 use Rattle.asset_grammar.specs.Words.{parts}
 
--- a byte that is no line feed goes onto the first line
-lines-cons : (b : ℕ) (bytes : List ℕ) → (b == 10) ≡ false → lines (b ∷ bytes) ≡ onto_first b (lines bytes)
-unfolding lines
-lines-cons b bytes e = ap (λ t. cond t ([] ∷ lines bytes) (onto_first b (lines bytes))) e
-
--- the first line ends at the first line feed
-lines_at : (before after : List ℕ) → All (λ b. (b == 10) ≡ false) before → lines (before ++ 10 ∷ after) ≡ before ∷ lines after
-unfolding lines
-lines_at [] after h = refl
-lines_at (b ∷ before) after h =
-    lines-cons b (before ++ 10 ∷ after) (All-head (λ x. (x == 10) ≡ false) b before h)
-    ∙ ap (onto_first b) (lines_at before after (All-tail (λ x. (x == 10) ≡ false) b before h))
-
-pub lines_cut : (bytes before after : List ℕ) → IsCutAt 10 bytes before after → lines bytes ≡ before ∷ lines after
-unfolding Lacks
-lines_cut bytes before after h = ap lines h.whole ∙ lines_at before after h.first
-
--- bytes without a line feed are one line
-lines_alone : (b : ℕ) (bytes : List ℕ) → All (λ x. (x == 10) ≡ false) (b ∷ bytes) → lines (b ∷ bytes) ≡ (b ∷ bytes) ∷ []
-unfolding lines
-lines_alone b [] h = lines-cons b [] (All-head (λ x. (x == 10) ≡ false) b [] h)
-lines_alone b (c ∷ bytes) h =
-    lines-cons b (c ∷ bytes) (All-head (λ x. (x == 10) ≡ false) b (c ∷ bytes) h)
-    ∙ ap (onto_first b) (lines_alone c bytes (All-tail (λ x. (x == 10) ≡ false) b (c ∷ bytes) h))
-
-pub lines_last : (bytes : List ℕ) → Lacks 10 bytes → 0 < length bytes → lines bytes ≡ bytes ∷ lines []
+-- a line with its line feed is cut off
+pub lines_cut : (line rest : List ℕ) → Lacks 10 line → lines (line ++ 10 ∷ rest) ≡ line ∷ lines rest
 unfolding Lacks lines
-lines_last [] h some = absurd (omega arith)
-lines_last (b ∷ bytes) h some = lines_alone b bytes h
+lines_cut [] rest lacks = refl
+lines_cut (b ∷ line) rest lacks =
+    let other : (b == 10) ≡ false = All-head (λ x. (x == 10) ≡ false) b line lacks in
+    rw (other, lines_cut line rest (All-tail (λ x. (x == 10) ≡ false) b line lacks)) refl
+
+-- bytes are cut at their first `byte` into what stands before it and what stands after it
+pub record IsCutAt (byte : ℕ) (bytes before after : List ℕ) : Type 0 where
+  pub whole : bytes ≡ before ++ byte ∷ after
+  pub first : Lacks byte before
 
 -- a position at which the byte stands cuts there
 pub cut_at_position : (byte : ℕ) (bytes : List ℕ) (i : ℕ) → position (λ b. b == byte) bytes ≡ Some i → IsCutAt byte bytes (take i bytes) (drop (i + 1) bytes)
@@ -58,12 +41,15 @@ none_when : (b : Bool) (i : ℕ) → cond b (Some i) None ≡ None → b ≡ fal
 none_when true i h = absurd (cc)
 none_when false i h = refl
 
--- without a position the byte is nowhere
+-- without a position no byte passes, so the byte is nowhere
+pub fails_without_position : (p : ℕ → Bool) (bytes : List ℕ) → position p bytes ≡ None → All (λ b. p b ≡ false) bytes
+fails_without_position p bytes h =
+    let at_end : length bytes ≤ position_or_len p bytes = ltb-false _ _ (none_when _ _ h) in
+    λ k d inside. fails_before_first p bytes k d (omega arith)
+
 pub lacks_without_position : (byte : ℕ) (bytes : List ℕ) → position (λ b. b == byte) bytes ≡ None → Lacks byte bytes
 unfolding Lacks
-lacks_without_position byte bytes h =
-    let at_end : length bytes ≤ position_or_len (λ b. b == byte) bytes = ltb-false _ _ (none_when _ _ h) in
-    λ k d inside. fails_before_first (λ b. b == byte) bytes k d (omega arith)
+lacks_without_position byte bytes h = fails_without_position (λ b. b == byte) bytes h
 
 pub parts_cut : (separator : ℕ) (text before after : List ℕ) → IsCutAt separator text before after → parts separator text ≡ before ∷ parts separator after
 unfolding parts Lacks

@@ -9,11 +9,12 @@ use Rattle.std.proofs.lemmas.List.Elements.{All-head, All-tail}
 use Rattle.std.proofs.lemmas.List.Splits.{slice_split-cons_no, slice_split_at}
 use Rattle.asset_names.specs.declared.names.Ob.{Ob}
 use Rattle.asset_names.specs.declared.sets.ObSet.{ObSet}
-use Rattle.asset_grammar.specs.Lines.{Lacks}
+use Rattle.asset_grammar.specs.Lines.{first_line, line_tail, Lacks}
 use Rattle.asset_grammar.specs.Numbers.{number_of, IsNumberAt, NoNumberAt}
 use Rattle.asset_grammar.specs.Operands.{ob, ob_of}
 use Rattle.asset_grammar.specs.Sets.{all_of, gathered, gathered_of, listed, one_more_object, set_of}
-use Rattle.asset_grammar.specs.Words.{parts, taken}
+use Rattle.asset_grammar.specs.Words.{parts, taken, Ends, GoesOn, LineLeft}
+use Rattle.asset_grammar.proofs.FirstLineLemmas.{drop_first, get_first, get_same, goes_on_before, number_inside, number_lacks_feed, number_on_first, tail_first}
 use Rattle.asset_grammar.proofs.LineLemmas.{parts_last}
 use Rattle.asset_grammar.proofs.NumberLemmas.{lt_or_le, not_number_past, digits_until, number_digits}
 use Rattle.asset_grammar.proofs.WordLemmas.{FirstPart, first_part, taken_first, first_byte, digits_lack}
@@ -80,7 +81,7 @@ unfolding NoNumberAt
 no_objects objects text none = none_gathered objects text (λ size within stops. none size within (stops_digit text size stops))
 
 -- a byte after digits that ends no number of a set
-pub other_byte : (objects : List Ob) (text : List ℕ) (size : ℕ) → size < length text → list_all is_ascii_digit (take size text) ≡ true → is_ascii_digit (get_or text size 0) ≡ false
+other_byte : (objects : List Ob) (text : List ℕ) (size : ℕ) → size < length text → list_all is_ascii_digit (take size text) ≡ true → is_ascii_digit (get_or text size 0) ≡ false
     → (get_or text size 0 ≡ 32 → ⊥) → (get_or text size 0 ≡ 44 → ⊥) → taken (gathered_of objects) (parts 32 text) ≡ None
 other_byte objects text size inside digits no_digit no_space no_comma = none_gathered objects text later where
   not_there : (k : ℕ) → k ≡ size → Stops text k → ⊥
@@ -128,7 +129,7 @@ unfolding parts Lacks
 comma_parts front word lacks = slice_split_at (λ b. b == 44) front 44 word lacks refl
 
 -- an object before a comma is gathered, and then those after it
-pub before_comma : (objects more : List Ob) (text : List ℕ) (number size : ℕ) → IsNumberAt text number size → get_or text size 0 ≡ 44 → size < length text → one_more_object objects (Some (ob number)) ≡ Some more
+before_comma : (objects more : List Ob) (text : List ℕ) (number size : ℕ) → IsNumberAt text number size → get_or text size 0 ≡ 44 → size < length text → one_more_object objects (Some (ob number)) ≡ Some more
     → taken (gathered_of objects) (parts 32 text) ≡ taken (gathered_of more) (parts 32 (drop (size + 1) text))
 unfolding gathered ob_of taken
 before_comma objects more text number size at comma inside added =
@@ -143,20 +144,34 @@ before_comma objects more text number size at comma inside added =
     rw (words, comma_parts (take size text) word (digits_lack 44 (take size text) refl digits), at.is, added, later.is) refl
 
 -- the last object is gathered
-pub last_object : (objects more : List Ob) (text : List ℕ) (number size : ℕ) (after : List (List ℕ)) → IsNumberAt text number size → (Lacks 32 (take size text) → parts 32 text ≡ take size text ∷ after)
+last_object : (objects more : List Ob) (text : List ℕ) (number size : ℕ) (after : List (List ℕ)) → IsNumberAt text number size → (Lacks 32 (take size text) → parts 32 text ≡ take size text ∷ after)
     → one_more_object objects (Some (ob number)) ≡ Some more → taken (gathered_of objects) (parts 32 text) ≡ Some (more, after)
 unfolding gathered ob_of taken
 last_object objects more text number size after at cuts added =
     let digits = number_digits (take size text) number at.is in
     rw (cuts (digits_lack 32 (take size text) refl digits), parts_last 44 (take size text) (digits_lack 44 (take size text) refl digits), at.is, added) refl
 
--- the word ends after an object, or goes on otherwise
-pub ends_set : (objects more : List Ob) (text : List ℕ) (number size : ℕ) (end : Option (List (List ℕ))) → IsNumberAt text number size → one_more_object objects (Some (ob number)) ≡ Some more → (get_or text size 0 == 44) ≡ false
-    → IfSome end (λ after. Lacks 32 (take size text) → parts 32 text ≡ take size text ∷ after) → IfNone end ((size < length text) × (get_or text size 0 ≡ 32 → ⊥))
-    → MatchOption end (taken (gathered_of objects) (parts 32 text) ≡ None) (λ after. taken (gathered_of objects) (parts 32 text) ≡ Some (more, after))
-ends_set objects more text number size (Some after) at added no_comma ends goes_on = last_object objects more text number size after at ends added
+-- on the first line of a text: an object before a comma, and the last one, after which the word ends or goes on otherwise
+pub before_comma_first : (objects more : List Ob) (text : List ℕ) (number size : ℕ) → IsNumberAt text number size → get_or text size 0 ≡ 44 → size < length text → one_more_object objects (Some (ob number)) ≡ Some more
+    → (taken (gathered_of objects) (parts 32 (first_line text)) ≡ taken (gathered_of more) (parts 32 (first_line (drop (size + 1) text)))) × (line_tail text ≡ line_tail (drop (size + 1) text))
+before_comma_first objects more text number size at comma inside added =
+    let before = goes_on_before text size (number_inside text number size at) inside (λ feed. absurd (cc (comma, feed))) in
+    let on_line = number_on_first text number size at in (
+      rw (drop_first text (size + 1) (omega (arith, before))) (before_comma objects more (first_line text) number size on_line (get_first text size before ∙ comma) before added),
+      sym (tail_first text (size + 1) (omega (arith, before))),
+    )
+
+pub ends_set : (objects more : List Ob) (text : List ℕ) (number size : ℕ) (end : Option LineLeft) → IsNumberAt text number size → one_more_object objects (Some (ob number)) ≡ Some more → (get_or text size 0 == 44) ≡ false
+    → IfSome end (λ after. Lacks 10 (take size text) → Ends text size after) → IfNone end (Lacks 10 (take size text) → GoesOn text size)
+    → MatchOption end (taken (gathered_of objects) (parts 32 (first_line text)) ≡ None) (λ after. (taken (gathered_of objects) (parts 32 (first_line text)) ≡ Some (more, after.words)) × (after.tail ≡ line_tail text))
+ends_set objects more text number size (Some after) at added no_comma ends goes_on =
+    let ended = ends (number_lacks_feed text number size at) in
+    (last_object objects more (first_line text) number size after.words (number_on_first text number size at) ended.words_are added, ended.tail_is)
 ends_set objects more text number size None at added no_comma ends goes_on =
-    other_byte objects text size goes_on.0 (number_digits (take size text) number at.is) at.ends goes_on.1 (λ comma. true≢false (sym (eq-eqb _ _ comma) ∙ no_comma))
+    let on = goes_on (number_lacks_feed text number size at) in
+    let on_line = number_on_first text number size at in
+    let other = get_same 44 text size (number_inside text number size at) refl refl ∙ no_comma in
+    other_byte objects (first_line text) size on.inside (number_digits (take size (first_line text)) number on_line.is) on_line.ends on.no_space (λ comma. true≢false (sym (eq-eqb _ _ comma) ∙ other))
 
 -- a word that begins with `a` is `all`, or no set
 starts_inside : (text : List ℕ) → get_or text 0 0 ≡ 97 → 0 < length text

@@ -7,9 +7,9 @@ use Rattle.std.proofs.lemmas.Bool.{eqb-true, true≢false}
 use Rattle.std.proofs.lemmas.List.{get_or-take, get_or_past, length-take, take_all}
 use Rattle.std.proofs.lemmas.List.Folds.{list_all_at}
 use Rattle.std.proofs.lemmas.List.Quantifiers.{position-Some}
-use Rattle.asset_grammar.specs.Lines.{Lacks}
+use Rattle.asset_grammar.specs.Lines.{first_line, Lacks}
 use Rattle.asset_grammar.specs.Numbers.{is_numeral, number_of, positive_value, negative_value, value_of, IsNumberAt, NoNumberAt}
-use Rattle.asset_grammar.specs.Words.{parts, parts_left, none_left, taken, Takes}
+use Rattle.asset_grammar.specs.Words.{parts, line_left, none_left, taken, LineLeft, Takes}
 use Rattle.asset_grammar.proofs.LineLemmas.{cut_at_position, lacks_without_position, parts_cut, parts_last}
 use Rattle.asset_grammar.proofs.NumberLemmas.{lt_or_le, not_number_past, digits_until, number_digits}
 
@@ -47,10 +47,15 @@ unfolding taken
 taken_first read separator text first = rw first.is refl
 
 -- nothing is left after the last word alone
-pub over_ended : (ended : Bool) (rest : List ℕ) → ended ≡ none_left (parts_left 32 ended rest)
-unfolding parts_left none_left
-over_ended true rest = refl
-over_ended false rest = let first = first_part 32 rest in rw first.is refl
+pub over_ended : (ended : Bool) (text : List ℕ) → ended ≡ none_left (line_left ended text).words
+unfolding line_left none_left
+over_ended true text = refl
+over_ended false text = let first = first_part 32 (first_line text) in rw first.is refl
+
+pub over_is_empty : (words : List (List ℕ)) (over : Bool) → over ≡ none_left words → over ≡ true → words ≡ []
+unfolding none_left
+over_is_empty [] over is h = refl
+over_is_empty (word ∷ words) over is h = absurd (true≢false (sym h ∙ is))
 
 -- the words after one that ends at a space, or at the end
 pub parts_after : (text : List ℕ) (size : ℕ) → size < length text → get_or text size 0 ≡ 32 → Lacks 32 (take size text) → parts 32 text ≡ take size text ∷ parts 32 (drop (size + 1) text)
@@ -70,13 +75,17 @@ ends_first separator text first no_digit = elim first.stops [
   | inr here ↦ rw here no_digit
 ]
 
--- digits lack every other byte
-pub digits_lack : (byte : ℕ) (word : List ℕ) → is_ascii_digit byte ≡ false → list_all is_ascii_digit word ≡ true → Lacks byte word
+-- bytes that pass a test lack each byte that does not
+pub passing_lack : (test : ℕ → Bool) (byte : ℕ) (word : List ℕ) → test byte ≡ false → list_all test word ≡ true → Lacks byte word
 unfolding Lacks
-digits_lack byte word other digits = λ k d inside. go k d inside (get_or word k d == byte) refl where
+passing_lack test byte word other passes = λ k d inside. go k d inside (get_or word k d == byte) refl where
   go : (k d : ℕ) → k < length word → (same : Bool) → (get_or word k d == byte) ≡ same → same ≡ false
   go k d inside false e = refl
-  go k d inside true e = absurd (true≢false (sym digits ∙ list_all_at is_ascii_digit word k d inside (rw (eqb-true _ _ e) other)))
+  go k d inside true e = absurd (true≢false (sym passes ∙ list_all_at test word k d inside (rw (eqb-true _ _ e) other)))
+
+-- digits lack every other byte
+pub digits_lack : (byte : ℕ) (word : List ℕ) → is_ascii_digit byte ≡ false → list_all is_ascii_digit word ≡ true → Lacks byte word
+digits_lack byte word other digits = passing_lack is_ascii_digit byte word other digits
 
 -- a word that goes on after a number, or has none, is no number
 pub no_number : (separator : ℕ) (text : List ℕ) → is_ascii_digit separator ≡ false → NoNumberAt text → taken number_of (parts separator text) ≡ None
@@ -153,10 +162,10 @@ pub signed_read : (text : List ℕ) → (get_or text 0 0 == 45) ≡ true → tak
 signed_read text sign = ap (λ (t : List ℕ). taken value_of (parts 32 t)) (signed_text text sign) ∙ signed_parts (drop 1 text)
 
 -- what is taken, as it is read
-pub takes_mapped : {A : Type 0} (read : List ℕ → Option A) (words after : List (List ℕ)) (o : Option A) → taken read words ≡ option_map (λ x. (x, after)) o → Takes read words o after
-takes_mapped read words after None e = e
-takes_mapped read words after (Some x) e = e
+pub takes_mapped : {A : Type 0} (read : List ℕ → Option A) (old new : LineLeft) (o : Option A) → new.tail ≡ old.tail → taken read old.words ≡ option_map (λ x. (x, new.words)) o → Takes read old o new
+takes_mapped read old new None same e = e
+takes_mapped read old new (Some x) same e = (e, same)
 
-pub takes_same : {A : Type 0} (read read' : List ℕ → Option A) (words after : List (List ℕ)) (o : Option A) → taken read words ≡ taken read' words → Takes read' words o after → Takes read words o after
-takes_same read read' words after None same takes = same ∙ takes
-takes_same read read' words after (Some x) same takes = same ∙ takes
+pub takes_same : {A : Type 0} (read read' : List ℕ → Option A) (old new : LineLeft) (o : Option A) → taken read old.words ≡ taken read' old.words → Takes read' old o new → Takes read old o new
+takes_same read read' old new None same takes = same ∙ takes
+takes_same read read' old new (Some x) same takes = (same ∙ takes.0, takes.1)

@@ -18,7 +18,7 @@ use Rattle.asset_grammar.specs.declared.grammar.Said.{Said}
 use Rattle.asset_grammar.specs.declared.grammar.Said.TheVariants as Said'
 use Rattle.asset_grammar.specs.DependOperands.{kind_and_txns}
 use Rattle.asset_grammar.specs.PermitOperands.{txns_ops_and_set, txns_and_set}
-use Rattle.asset_grammar.specs.Words.{words}
+use Rattle.asset_grammar.specs.Words.{words, LineLeft, AtEnd}
 use Rattle.asset_grammar.specs.Keywords.{keyword_of}
 use Rattle.asset_grammar.specs.Operands.{object_and_value, one_txn, txn_and_object, txn_and_parent, txn_object_and_value}
 
@@ -63,9 +63,13 @@ unfoldable pub line_by : Option Command → Line
 line_by None = Line'.Bad
 line_by (Some command) = Line'.Command command
 
+-- what a line is if it is short enough
+abbrev pub any_line_of : List ℕ → Line
+any_line_of line = cond (is_blank line) Line'.Blank (line_by (command_of line))
+
 -- What a line is. One of more than 4,096 bytes is bad, whatever it begins with.
 unfoldable pub line_of : List ℕ → Line
-line_of line = cond (nat_lt 4096 (length line)) Line'.Bad (cond (is_blank line) Line'.Blank (line_by (command_of line)))
+line_of line = cond (nat_lt 4096 (length line)) Line'.Bad (any_line_of line)
 
 -- the line that an answer tells of, with the step in the slot if it asks for one
 unfoldable pub said_as : Said → Step → Line
@@ -73,6 +77,11 @@ said_as Said'.Blank step = Line'.Blank
 said_as (Said'.Object given) step = Line'.Command (Object given)
 said_as Said'.Ask step = Line'.Command (Ask step)
 said_as Said'.Bad step = Line'.Bad
+
+-- the words were read to the end of their line, with the step in the slot if they ask for one; or they ask nothing
+abbrev pub ReadsWords : LineLeft → Option Said → Step → LineLeft → Type 0
+ReadsWords old None step new = command_from old.words ≡ None
+ReadsWords old (Some said) step new = (line_by (command_from old.words) ≡ said_as said step) × AtEnd old new
 
 -- the first line was read, with the step in the slot if it asks for one; or no line is left
 unfoldable pub ReadsLine : List (List ℕ) → Option Said → Step → List (List ℕ) → Type 0

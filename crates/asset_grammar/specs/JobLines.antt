@@ -1,5 +1,5 @@
 -- What a line of a job script says.
-use Rattle.std.specs.Prelude.{ℕ, cond, nat_lt, List, [], ◌∷◌, length, Option, None, Some, option_map, unwrap_or, ℤ, codes}
+use Rattle.std.specs.Prelude.{◌≡◌, ℕ, cond, nat_lt, List, [], ◌∷◌, length, Option, None, Some, option_map, unwrap_or, ℤ, codes}
 use Rattle.std.specs.Str.{bytes_eq}
 use Rattle.asset_names.specs.declared.names.Ob.{Ob}
 use Rattle.asset_grammar.specs.declared.job_lines.JobAct.{JobAct}
@@ -29,6 +29,15 @@ job_line_from (word ∷ operands) =
     cond (bytes_eq word (codes "object")) (option_map Object (object_and_value operands))
     (cond (bytes_eq word (codes "job")) (option_map Job (one_txn operands)) (option_map Act (act_by word operands)))
 
+-- what a line is if it is short enough
+abbrev pub any_job_line_of : List ℕ → JobLine
+any_job_line_of line = cond (is_blank line) Blank (unwrap_or (job_line_from (words line)) Bad)
+
 -- What a line is. One of more than 4,096 bytes is bad, whatever it begins with.
 unfoldable pub job_line_of : List ℕ → JobLine
-job_line_of line = cond (nat_lt 4096 (length line)) Bad (cond (is_blank line) Blank (unwrap_or (job_line_from (words line)) Bad))
+job_line_of line = cond (nat_lt 4096 (length line)) Bad (any_job_line_of line)
+
+-- the first line was read; or no line is left
+unfoldable pub ReadsJobLine : List (List ℕ) → Option JobLine → List (List ℕ) → Type 0
+ReadsJobLine old None new = (old ≡ []) × (new ≡ [])
+ReadsJobLine old (Some said) new = (line : List ℕ) × (old ≡ line ∷ new) × (job_line_of line ≡ said)

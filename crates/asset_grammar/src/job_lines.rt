@@ -1,8 +1,11 @@
 //! What the lines of a job script say.
 ghost use Rattle.std.specs.Prelude.{◌≡◌};
-ghost use Rattle.asset_grammar.specs.JobLines.{give_up};
+ghost use Rattle.asset_grammar.specs.JobLines.{any_job_line_of, give_up, job_line_of};
+ghost use Rattle.asset_grammar.specs.Lines.{first_line, line_tail};
+ghost use Rattle.asset_grammar.specs.Words.{Reads};
 
 use crate::grammar::{LONGEST_LINE, OBJECT, is_blank};
+use crate::lines::line_end;
 use crate::words::Words;
 use asset_names::{Ob, Txn};
 
@@ -34,13 +37,14 @@ pub enum JobAct {
 
 /// Returns the act that gives up, if the one operand is the word `up`.
 #[tactic(auto, unfolding(crate::specs::JobLines::give_up))]
-fn give_up(mut operands: Words<'_>) -> Option<JobAct>
-    ensures { result ≡ give_up operands.entry }
+fn give_up(operands: &mut Words<'_>) -> Option<JobAct>
+    ensures { Reads give_up operands.old result operands.new }
 {
-    let (Some(word), None) = (operands.next(), operands.next()) else {
+    let word = operands.next_word()?;
+    if word != UP {
         return None;
-    };
-    if word == UP {
+    }
+    if operands.is_over() {
         Some(JobAct::GiveUp)
     } else {
         None
@@ -52,11 +56,12 @@ impl JobAct {
 
     /// Returns the act that a first word and the operands say.
     #[tactic(auto, unfolding(crate::specs::JobLines::act_by))]
-    fn parse(word: &[u8], operands: Words<'_>) -> Option<JobAct>
-        ensures { result ≡ act_by word.now operands.entry }
+    fn read(word: &[u8], operands: &mut Words<'_>) -> Option<JobAct>
+        ensures { Reads (act_by word.now) operands.old result operands.new }
     {
         if word == READ {
-            operands.one_object().map(JobAct::Read)
+            let x = operands.one_object()?;
+            Some(JobAct::Read(x))
         } else if word == WRITE {
             let (x, v) = operands.object_and_value()?;
             Some(JobAct::Write(x, v))
@@ -84,34 +89,50 @@ pub enum JobLine {
 }
 
 impl JobLine {
-    ghost use Rattle.asset_grammar.specs.JobLines.{job_line_from, job_line_of};
+    ghost use Rattle.asset_grammar.specs.JobLines.{job_line_from};
 
-    /// Returns what the words of a line say.
+    /// Reads the words of a line to its end, and returns what they say.
     #[tactic(auto, unfolding(crate::specs::JobLines::job_line_from))]
-    fn of(mut words: Words<'_>) -> Option<JobLine>
-        ensures { result ≡ job_line_from words.entry }
+    fn of(words: &mut Words<'_>) -> Option<JobLine>
+        ensures { Reads job_line_from words.old result words.new }
     {
-        let first = words.next()?;
+        let first = words.next_word()?;
         if first == OBJECT {
-            words.object_and_value().map(JobLine::Object)
+            let object = words.object_and_value()?;
+            Some(JobLine::Object(object))
         } else if first == JOB {
-            words.one_txn().map(JobLine::Job)
+            let t = words.one_txn()?;
+            Some(JobLine::Job(t))
         } else {
-            JobAct::parse(first, words).map(JobLine::Act)
+            let act = JobAct::read(first, words)?;
+            Some(JobLine::Act(act))
         }
     }
+}
 
-    /// Returns what a line is. It is given without its line feed.
-    #[tactic(auto, unfolding(crate::specs::JobLines::job_line_of))]
-    pub fn parse(line: &[u8]) -> JobLine
-        ensures { result ≡ job_line_of line.now }
-    {
-        if line.len() > LONGEST_LINE {
-            return JobLine::Bad;
-        }
-        if is_blank(line) {
-            return JobLine::Blank;
-        }
-        JobLine::of(Words::new(line)).unwrap_or(JobLine::Bad)
+/// Reads the first line of a text as if it were short enough. Returns what it says, and the text from its end on.
+fn read_any_line(text: &[u8]) -> (JobLine, &[u8])
+    ensures says { any_job_line_of (first_line text.now) ≡ result.0 }
+    ensures tail { result.1.now ≡ line_tail text.now }
+{
+    if is_blank(text) {
+        return (JobLine::Blank, line_end(text));
     }
+    let mut words = Words::new(text);
+    match JobLine::of(&mut words) {
+        Some(line) => (line, words.tail()),
+        None => (JobLine::Bad, line_end(text)),
+    }
+}
+
+/// Reads the first line of a text. Returns what it says, and the text from its end on.
+pub(crate) fn read_job_line(text: &[u8]) -> (JobLine, &[u8])
+    ensures says { job_line_of (first_line text.now) ≡ result.0 }
+    ensures tail { result.1.now ≡ line_tail text.now }
+{
+    let (line, tail) = read_any_line(text);
+    if text.len() - tail.len() > LONGEST_LINE {
+        return (JobLine::Bad, tail);
+    }
+    (line, tail)
 }

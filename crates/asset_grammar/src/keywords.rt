@@ -1,10 +1,11 @@
 //! The first words of step lines.
-ghost use Rattle.std.specs.Prelude.{◌≡◌, ℕ, length, option_map, cond, Some, None};
+ghost use Rattle.std.specs.Prelude.{◌≡◌, option_map};
 ghost use Rattle.asset_grammar.specs.Grammar.{step_by};
-ghost use Rattle.asset_grammar.specs.Keywords.{only_keyword};
+ghost use Rattle.asset_grammar.specs.Keywords.{likely_keyword, TakesKeyword};
+ghost use Rattle.asset_grammar.specs.Words.{Reads};
 ghost use Rattle.asset_grammar.specs.declared.keywords.Keyword.TheVariants.{Initiate, Write, Permit, Delegate, Depend};
 
-use crate::words::Words;
+use crate::words::{Words, has_at, words_after};
 use asset_names::Step;
 
 /// The first word of a step line.
@@ -23,36 +24,36 @@ pub(crate) enum Keyword {
     Wait,
 }
 
-/// Returns the only keyword that begins with this byte and is that long, if there is one.
+/// Returns the only keyword that a text can begin with, by some of its first bytes.
 #[inline(always)]
-#[tactic(auto, unfolding(crate::specs::Keywords::only_keyword))]
-fn only_keyword(first: u8, size: usize) -> Option<Keyword>
-    ensures { result ≡ only_keyword first size }
+#[tactic(auto, unfolding(crate::specs::Keywords::likely_keyword))]
+fn likely_keyword(text: &[u8]) -> Option<Keyword>
+    ensures { result ≡ likely_keyword text.now }
 {
-    if first == b'r' {
+    if has_at(text, 0, b'r') {
         Some(Keyword::Read)
-    } else if first == b'w' {
-        Some(if size == 4 {
+    } else if has_at(text, 0, b'w') {
+        Some(if has_at(text, 1, b'a') {
             Keyword::Wait
         } else {
             Keyword::Write
         })
-    } else if first == b'c' {
-        Some(if size == 6 {
+    } else if has_at(text, 0, b'c') {
+        Some(if has_at(text, 3, b'm') {
             Keyword::Commit
         } else {
             Keyword::Complete
         })
-    } else if first == b'b' {
+    } else if has_at(text, 0, b'b') {
         Some(Keyword::Begin)
-    } else if first == b'i' {
+    } else if has_at(text, 0, b'i') {
         Some(Keyword::Initiate)
-    } else if first == b'a' {
+    } else if has_at(text, 0, b'a') {
         Some(Keyword::Abort)
-    } else if first == b'p' {
+    } else if has_at(text, 0, b'p') {
         Some(Keyword::Permit)
-    } else if first == b'd' {
-        Some(if size == 6 {
+    } else if has_at(text, 0, b'd') {
+        Some(if has_at(text, 2, b'p') {
             Keyword::Depend
         } else {
             Keyword::Delegate
@@ -62,10 +63,30 @@ fn only_keyword(first: u8, size: usize) -> Option<Keyword>
     }
 }
 
+impl Words<'_> {
+    /// Reads the next word as a keyword, where it stands. If it is none, returns `None` and leaves the words as they are.
+    #[inline(always)]
+    #[tactic(auto, unfolding(crate::specs::Words::line_left, crate::specs::Words::taken))]
+    pub(crate) fn next_keyword(&mut self) -> Option<Keyword>
+        ensures { TakesKeyword self.old result self.new }
+    {
+        if self.ended {
+            return None;
+        }
+        let keyword = likely_keyword(self.rest)?;
+        let text = keyword.text();
+        if !self.rest.starts_with(text) {
+            return None;
+        }
+        *self = words_after(self.rest, text.len())?;
+        Some(keyword)
+    }
+}
+
 /// Puts the initiation with these operands into the slot.
 #[tactic(auto, unfolding(crate::specs::Grammar::step_by))]
-fn initiate(operands: Words<'_>, step: &mut Step) -> Option<()>
-    ensures { option_map (λ done. step.new) result ≡ step_by Initiate operands.entry }
+fn initiate(operands: &mut Words<'_>, step: &mut Step) -> Option<()>
+    ensures { Reads (step_by Initiate) operands.old (option_map (λ done. step.new) result) operands.new }
 {
     let (t, parent) = operands.txn_and_parent()?;
     *step = Step::Initiate { t, parent };
@@ -74,8 +95,8 @@ fn initiate(operands: Words<'_>, step: &mut Step) -> Option<()>
 
 /// Puts the permit with these operands into the slot.
 #[tactic(auto, unfolding(crate::specs::Grammar::step_by))]
-fn permit(operands: Words<'_>, step: &mut Step) -> Option<()>
-    ensures { option_map (λ done. step.new) result ≡ step_by Permit operands.entry }
+fn permit(operands: &mut Words<'_>, step: &mut Step) -> Option<()>
+    ensures { Reads (step_by Permit) operands.old (option_map (λ done. step.new) result) operands.new }
 {
     let ((giver, taker), (ops, obs)) = operands.txns_ops_and_set()?;
     *step = Step::Permit {
@@ -89,8 +110,8 @@ fn permit(operands: Words<'_>, step: &mut Step) -> Option<()>
 
 /// Puts the delegation with these operands into the slot.
 #[tactic(auto, unfolding(crate::specs::Grammar::step_by))]
-fn delegate(operands: Words<'_>, step: &mut Step) -> Option<()>
-    ensures { option_map (λ done. step.new) result ≡ step_by Delegate operands.entry }
+fn delegate(operands: &mut Words<'_>, step: &mut Step) -> Option<()>
+    ensures { Reads (step_by Delegate) operands.old (option_map (λ done. step.new) result) operands.new }
 {
     let ((giver, taker), obs) = operands.txns_and_set()?;
     *step = Step::Delegate { giver, taker, obs };
@@ -99,8 +120,8 @@ fn delegate(operands: Words<'_>, step: &mut Step) -> Option<()>
 
 /// Puts the dependency with these operands into the slot.
 #[tactic(auto, unfolding(crate::specs::Grammar::step_by))]
-fn depend(operands: Words<'_>, step: &mut Step) -> Option<()>
-    ensures { option_map (λ done. step.new) result ≡ step_by Depend operands.entry }
+fn depend(operands: &mut Words<'_>, step: &mut Step) -> Option<()>
+    ensures { Reads (step_by Depend) operands.old (option_map (λ done. step.new) result) operands.new }
 {
     let (kind, (a, b)) = operands.kind_and_txns()?;
     *step = Step::Depend { kind, a, b };
@@ -109,7 +130,7 @@ fn depend(operands: Words<'_>, step: &mut Step) -> Option<()>
 
 impl Keyword {
     ghost use Rattle.asset_grammar.specs.Grammar.{step_by};
-    ghost use Rattle.asset_grammar.specs.Keywords.{keyword_of, keyword_text};
+    ghost use Rattle.asset_grammar.specs.Keywords.{keyword_text};
 
     /// Returns the word that writes the keyword.
     #[tactic(auto, unfolding(crate::specs::Keywords::keyword_text))]
@@ -131,24 +152,11 @@ impl Keyword {
         }
     }
 
-    /// Returns the keyword that a word writes.
-    #[tactic(auto, using(crate::proofs::KeywordLemmas::only_one))]
-    pub(crate) fn of(word: &[u8]) -> Option<Keyword>
-        ensures { result ≡ keyword_of word.now }
-    {
-        let keyword = only_keyword(*word.first()?, word.len())?;
-        if keyword.text() == word {
-            Some(keyword)
-        } else {
-            None
-        }
-    }
-
     /// Puts the step that the keyword asks for with these operands into the slot. Returns `None` if they are not its operands;
     /// the slot may have been written even then.
     #[tactic(auto, unfolding(crate::specs::Grammar::step_by))]
-    pub(crate) fn put_step(self, operands: Words<'_>, step: &mut Step) -> Option<()>
-        ensures { option_map (λ done. step.new) result ≡ step_by self operands.entry }
+    pub(crate) fn put_step(self, operands: &mut Words<'_>, step: &mut Step) -> Option<()>
+        ensures { Reads (step_by self) operands.old (option_map (λ done. step.new) result) operands.new }
     {
         match self {
             Keyword::Initiate => initiate(operands, step),

@@ -14,9 +14,8 @@ mod sets;
 mod texts;
 mod words;
 
-pub use grammar::{Command, Line, Said, parse_line};
+pub use grammar::{Command, Line, Said};
 pub use job_lines::{JobAct, JobLine};
 pub use laws::lines_say_what_is_in_range;
-pub use lines::split_line;
 pub use script::ScriptLines;
 pub use texts::{push_bad_line, push_full, push_outcome};

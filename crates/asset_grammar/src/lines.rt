@@ -1,41 +1,55 @@
-//! Cuts bytes at a byte, and a script into lines.
-ghost use Rattle.std.specs.Prelude.{◌≡◌, ◌==◌, ℕ, [], ◌∷◌, position, MatchOption};
-ghost use Rattle.asset_grammar.specs.Lines.{IsCutAt, Lacks, lines};
+//! Finds where the first line of a text ends.
+ghost use Rattle.std.specs.Prelude.{◌≡◌, ◌==◌, ◌||◌, drop, position, option_map};
+ghost use Rattle.asset_grammar.specs.Lines.{line_tail};
+ghost use Rattle.asset_grammar.specs.Words.{IsWordAt};
 
-/// Returns the position of the first `byte`.
-fn position_of(text: &[u8], byte: u8) -> Option<usize>
-    ensures { result ≡ position (λ b. b == byte) text.now }
+/// Returns the position of the first line feed.
+fn feed_position(text: &[u8]) -> Option<usize>
+    ensures { result ≡ position (λ b. b == 10) text.now }
 {
-    text.iter().position(|b| *b == byte)
+    text.iter().position(|b| *b == b'\n')
 }
 
-/// Returns what stands before the first `byte` and what stands after it. `None` if there is no such byte.
-#[tactic(auto, using(crate::proofs::LineLemmas::cut_at_position, crate::proofs::LineLemmas::lacks_without_position))]
-pub(crate) fn cut(text: &[u8], byte: u8) -> Option<(&[u8], &[u8])>
-    ensures { MatchOption result (Lacks byte text.now)
-        (λ parts. IsCutAt byte text.now parts.0.now parts.1.now) }
+/// Returns a text from the end of its first line on: from the first line feed, or nothing if there is none.
+#[tactic(auto, using(crate::proofs::FirstLineLemmas::tail_at_feed, crate::proofs::FirstLineLemmas::no_feed_no_tail))]
+pub(crate) fn line_end(text: &[u8]) -> &[u8]
+    ensures { result.now ≡ line_tail text.now }
 {
-    match position_of(text, byte) {
+    match feed_position(text) {
         Some(at) => {
-            let (before, _) = text.split_at(at);
-            let (_, after) = text.split_at(at + 1);
-            Some((before, after))
+            let (_, tail) = text.split_at(at);
+            tail
         }
-        None => None,
+        None => &[],
     }
 }
 
-/// Returns the first line, without its line feed, and what comes after it. `None` if nothing is left.
-#[tactic(auto, using(crate::proofs::LineLemmas::lines_cut, crate::proofs::LineLemmas::lines_last))]
-pub fn split_line(bytes: &[u8]) -> Option<(&[u8], &[u8])>
-    ensures { MatchOption result (bytes.now ≡ [])
-        (λ parts. lines bytes.now ≡ parts.0.now ∷ lines parts.1.now) }
+/// Returns the text after its first byte, which is the line feed of the line before. An empty text stays so.
+pub(crate) fn next_lines(tail: &[u8]) -> &[u8]
+    ensures { result.now ≡ drop 1 tail.now }
 {
-    if bytes.is_empty() {
-        return None;
+    match tail.split_first() {
+        Some((_, rest)) => rest,
+        None => tail,
     }
-    match cut(bytes, b'\n') {
-        Some((line, rest)) => Some((line, rest)),
-        None => Some((bytes, &[])),
+}
+
+/// Returns the position of the first space or line feed.
+#[inline(always)]
+fn stop_position(text: &[u8]) -> Option<usize>
+    ensures { result ≡ position (λ b. b == 32 || b == 10) text.now }
+{
+    text.iter().position(|b| *b == b' ' || *b == b'\n')
+}
+
+/// Returns the size of the word at the start of a text. It ends before the first space or line feed, or with the text.
+#[inline(always)]
+#[tactic(auto, using(crate::proofs::FirstLineLemmas::word_at_stop, crate::proofs::FirstLineLemmas::word_to_the_end))]
+pub(crate) fn word_size(text: &[u8]) -> usize
+    ensures { IsWordAt text.now result }
+{
+    match stop_position(text) {
+        Some(at) => at,
+        None => text.len(),
     }
 }

@@ -1,6 +1,6 @@
 //! The operands of a line: the words after its keyword, all of which are read.
 ghost use Rattle.std.specs.Prelude.{◌≡◌, option_map};
-ghost use Rattle.asset_grammar.specs.Words.{Takes};
+ghost use Rattle.asset_grammar.specs.Words.{Reads, Takes};
 ghost use Rattle.asset_grammar.specs.Operands.{ob_of, object_and_value, one_object, one_txn, txn_and_object, txn_and_parent, txn_object_and_value, txn_of};
 ghost use Rattle.asset_grammar.specs.PermitOperands.{txns_ops_and_set, txns_and_set};
 ghost use Rattle.asset_grammar.specs.DependOperands.{kind_of, kind_and_txns};
@@ -57,28 +57,28 @@ impl Words<'_> {
     fn next_kind(&mut self) -> Option<Kind>
         ensures { Takes kind_of self.old result self.new }
     {
-        parse_kind(self.next()?)
+        parse_kind(self.next_word()?)
     }
 
     /// Reads one transaction.
-    pub(crate) fn one_txn(mut self) -> Option<Txn>
-        ensures { result ≡ one_txn self.entry }
+    pub(crate) fn one_txn(&mut self) -> Option<Txn>
+        ensures { Reads one_txn self.old result self.new }
     {
         let t = self.next_txn()?;
         if self.is_over() { Some(t) } else { None }
     }
 
     /// Reads one object.
-    pub(crate) fn one_object(mut self) -> Option<Ob>
-        ensures { result ≡ one_object self.entry }
+    pub(crate) fn one_object(&mut self) -> Option<Ob>
+        ensures { Reads one_object self.old result self.new }
     {
         let x = self.next_ob()?;
         if self.is_over() { Some(x) } else { None }
     }
 
     /// Reads a transaction, and perhaps its parent.
-    pub(crate) fn txn_and_parent(mut self) -> Option<(Txn, Option<Txn>)>
-        ensures { result ≡ txn_and_parent self.entry }
+    pub(crate) fn txn_and_parent(&mut self) -> Option<(Txn, Option<Txn>)>
+        ensures { Reads txn_and_parent self.old result self.new }
     {
         let t = self.next_txn()?;
         if self.is_over() {
@@ -93,8 +93,8 @@ impl Words<'_> {
     }
 
     /// Reads a transaction and an object.
-    pub(crate) fn txn_and_object(mut self) -> Option<(Txn, Ob)>
-        ensures { result ≡ txn_and_object self.entry }
+    pub(crate) fn txn_and_object(&mut self) -> Option<(Txn, Ob)>
+        ensures { Reads txn_and_object self.old result self.new }
     {
         let t = self.next_txn()?;
         let x = self.next_ob()?;
@@ -102,8 +102,8 @@ impl Words<'_> {
     }
 
     /// Reads an object and a value.
-    pub(crate) fn object_and_value(mut self) -> Option<(Ob, i64)>
-        ensures { result ≡ object_and_value self.entry }
+    pub(crate) fn object_and_value(&mut self) -> Option<(Ob, i64)>
+        ensures { Reads object_and_value self.old result self.new }
     {
         let x = self.next_ob()?;
         let v = self.next_value()?;
@@ -111,8 +111,8 @@ impl Words<'_> {
     }
 
     /// Reads a transaction, an object and a value.
-    pub(crate) fn txn_object_and_value(mut self) -> Option<(Txn, Ob, i64)>
-        ensures { result ≡ txn_object_and_value self.entry }
+    pub(crate) fn txn_object_and_value(&mut self) -> Option<(Txn, Ob, i64)>
+        ensures { Reads txn_object_and_value self.old result self.new }
     {
         let t = self.next_txn()?;
         let x = self.next_ob()?;
@@ -125,8 +125,8 @@ impl Words<'_> {
     }
 
     /// Reads two transactions, operations and a set of objects.
-    pub(crate) fn txns_ops_and_set(mut self) -> Option<((Txn, Txn), (Ops, ObSet))>
-        ensures { result ≡ txns_ops_and_set self.entry }
+    pub(crate) fn txns_ops_and_set(&mut self) -> Option<((Txn, Txn), (Ops, ObSet))>
+        ensures { Reads txns_ops_and_set self.old result self.new }
     {
         let giver = self.next_txn()?;
         let taker = self.next_txn()?;
@@ -140,8 +140,8 @@ impl Words<'_> {
     }
 
     /// Reads two transactions and a set of objects.
-    pub(crate) fn txns_and_set(mut self) -> Option<((Txn, Txn), ObSet)>
-        ensures { result ≡ txns_and_set self.entry }
+    pub(crate) fn txns_and_set(&mut self) -> Option<((Txn, Txn), ObSet)>
+        ensures { Reads txns_and_set self.old result self.new }
     {
         let giver = self.next_txn()?;
         let taker = self.next_txn()?;
@@ -154,8 +154,8 @@ impl Words<'_> {
     }
 
     /// Reads a kind of dependency and two transactions.
-    pub(crate) fn kind_and_txns(mut self) -> Option<(Kind, (Txn, Txn))>
-        ensures { result ≡ kind_and_txns self.entry }
+    pub(crate) fn kind_and_txns(&mut self) -> Option<(Kind, (Txn, Txn))>
+        ensures { Reads kind_and_txns self.old result self.new }
     {
         let kind = self.next_kind()?;
         let a = self.next_txn()?;

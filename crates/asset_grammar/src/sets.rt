@@ -1,5 +1,6 @@
 //! Sets of operations and of objects, as operands write them.
 ghost use Rattle.std.specs.Prelude.{◌≡◌, cond, Some, None, MatchOption};
+ghost use Rattle.asset_grammar.specs.Lines.{first_line, line_tail};
 ghost use Rattle.asset_grammar.specs.Words.{parts, taken, Takes};
 ghost use Rattle.asset_grammar.specs.Sets.{all_of, gathered_of, listed, one_more_object, ops_of, set_of};
 
@@ -51,8 +52,8 @@ fn add(objects: &mut ArrayVec<Ob, MOST_OBJECTS>, x: Ob) -> bool
 /// Reads the objects whose numbers stand between the commas of the first word of a text, and appends each. Returns the words
 /// after it; `None` if the word writes something else, or there is no room for its objects.
 fn objects_at<'a>(text: &'a [u8], objects: &mut ArrayVec<Ob, MOST_OBJECTS>) -> Option<Words<'a>>
-    ensures { MatchOption result (taken (gathered_of objects.old.items) (parts 32 text.now) ≡ None)
-        (λ after. taken (gathered_of objects.old.items) (parts 32 text.now) ≡ Some (objects.new.items, after)) }
+    ensures { MatchOption result (taken (gathered_of objects.old.items) (parts 32 (first_line text.now)) ≡ None)
+        (λ after. (taken (gathered_of objects.old.items) (parts 32 (first_line text.now)) ≡ Some (objects.new.items, after.words)) × (after.tail ≡ line_tail text.now)) }
 {
     let mut rest = text;
     'numbers: while let Some((number, size)) = number_at(rest) {
@@ -85,7 +86,7 @@ impl Words<'_> {
     pub(crate) fn next_ops(&mut self) -> Option<Ops>
         ensures { Takes ops_of self.old result self.new }
     {
-        parse_ops(self.next()?)
+        parse_ops(self.next_word()?)
     }
 
     /// Reads the next word as `all`.
@@ -93,7 +94,7 @@ impl Words<'_> {
     fn next_all(&mut self) -> Option<ObSet>
         ensures { Takes all_of self.old result self.new }
     {
-        if self.next()? == ALL {
+        if self.next_word()? == ALL {
             Some(ObSet::All)
         } else {
             None
@@ -101,7 +102,7 @@ impl Words<'_> {
     }
 
     /// Reads the next word as a set of objects.
-    #[tactic(auto, unfolding(crate::specs::Words::parts_left, crate::specs::Words::taken))]
+    #[tactic(auto, unfolding(crate::specs::Words::line_left, crate::specs::Words::taken))]
     pub(crate) fn next_set(&mut self) -> Option<ObSet>
         ensures { Takes set_of self.old result self.new }
     {

@@ -1,31 +1,29 @@
-//! The words of a line, each of which is read where it stands.
-ghost use Rattle.std.specs.Prelude.{◌≡◌, ◌==◌, ◌<◌, ◌≤◌, ◌∷◌, ◌^◌, length, take, get_or, option_map, IfSome, IfNone};
+//! The words of the first line of a text, each of which is read where it stands.
+ghost use Rattle.std.specs.Prelude.{◌≡◌, ◌==◌, ◌<◌, ◌≤◌, ◌∷◌, ◌^◌, [], length, take, get_or, option_map, IfSome, IfNone, MatchOption};
 ghost use Rattle.std.specs.Bool.{OnTrue};
-ghost use Rattle.std.specs.Iterator.{YieldsFirstRef, item_count};
-ghost use Rattle.asset_grammar.specs.Lines.{Lacks};
+ghost use Rattle.asset_grammar.specs.Lines.{first_line, line_tail, Lacks};
 ghost use Rattle.asset_grammar.specs.Numbers.{number_of, value_of};
-ghost use Rattle.asset_grammar.specs.Words.{words, parts, none_left, Takes};
+ghost use Rattle.asset_grammar.specs.Words.{words, none_left, Ends, GoesOn, Takes};
 
-use crate::lines::cut;
+use crate::lines::word_size;
 use crate::numbers::{negative, number_at, positive};
 use std::marker::Model;
 
-/// The words of a line that are still to come.
+/// The first line of a text while it is read: its words that are still to come, and the text from its end on.
 #[derive(Drop)]
 pub(crate) struct Words<'a> {
-    /// What is left of the line.
+    /// What is left of the text.
     pub rest: &'a [u8],
-    /// Whether the last word is gone.
+    /// Whether the last word of the line is gone.
     pub ended: bool,
 }
 
 impl<'a> Model for Words<'a> {
-    ghost use Rattle.std.specs.Prelude.{ℕ, List};
-    ghost use Rattle.asset_grammar.specs.Words.{parts_left};
+    ghost use Rattle.asset_grammar.specs.Words.{LineLeft, line_left};
 
-    ghost Value = { List (List ℕ) };
+    ghost Value = { LineLeft };
 
-    ghost view = { λ w. parts_left 32 w.ended w.rest.now };
+    ghost view = { λ w. line_left w.ended w.rest.now };
 }
 
 /// Returns whether the byte stands at this place of a text.
@@ -41,11 +39,11 @@ pub(crate) fn has_at(text: &[u8], place: usize, byte: u8) -> bool
 
 /// Returns the words that stand after the first `size` bytes of a text, if a word ends there.
 #[inline(always)]
-#[tactic(auto, unfolding(crate::specs::Words::parts_left), using(crate::proofs::WordLemmas::parts_after, crate::proofs::WordLemmas::parts_all))]
+#[tactic(auto, unfolding(crate::specs::Words::line_left))]
 pub(crate) fn words_after(text: &[u8], size: usize) -> Option<Words<'_>>
     requires { size ≤ length text.now }
-    ensures ends { IfSome result (λ after. Lacks 32 (take size text.now) → parts 32 text.now ≡ take size text.now ∷ after) }
-    ensures goes_on { IfNone result ((size < length text.now) × (get_or text.now size 0 ≡ 32 → ⊥)) }
+    ensures ends { IfSome result (λ after. Lacks 10 (take size text.now) → Ends text.now size after) }
+    ensures goes_on { IfNone result (Lacks 10 (take size text.now) → GoesOn text.now size) }
 {
     if size == text.len() {
         return Some(Words {
@@ -53,38 +51,53 @@ pub(crate) fn words_after(text: &[u8], size: usize) -> Option<Words<'_>>
             ended: true,
         });
     }
-    if text[size] != b' ' {
-        return None;
+    if text[size] == b' ' {
+        let (_, rest) = text.split_at(size + 1);
+        return Some(Words { rest, ended: false });
     }
-    let (_, rest) = text.split_at(size + 1);
-    Some(Words { rest, ended: false })
+    if text[size] == b'\n' {
+        let (_, rest) = text.split_at(size);
+        return Some(Words { rest, ended: true });
+    }
+    None
 }
 
 impl<'a> Words<'a> {
-    /// Returns all the words of a line.
+    /// Returns all the words of the first line of a text.
     #[inline(always)]
-    #[tactic(auto, unfolding(crate::specs::Words::words, crate::specs::Words::parts_left))]
-    pub(crate) fn new(line: &'a [u8]) -> Self
-        ensures { result ≡ words line.now }
+    #[tactic(auto, unfolding(crate::specs::Words::words, crate::specs::Words::line_left))]
+    pub(crate) fn new(text: &'a [u8]) -> Self
+        ensures all { result.words ≡ words (first_line text.now) }
+        ensures tail { result.tail ≡ line_tail text.now }
     {
         Words {
-            rest: line,
+            rest: text,
             ended: false,
         }
     }
 
     /// Returns whether no word is left.
     #[inline(always)]
-    #[tactic(auto, unfolding(crate::specs::Words::parts_left, crate::specs::Words::none_left), using(crate::proofs::WordLemmas::over_ended))]
+    #[tactic(auto, unfolding(crate::specs::Words::line_left, crate::specs::Words::none_left), using(crate::proofs::WordLemmas::over_ended))]
     pub(crate) fn is_over(&self) -> bool
-        ensures { result ≡ none_left self.now }
+        ensures { result ≡ none_left self.now.words }
     {
         self.ended
     }
 
+    /// Returns the text from the end of the line on, once its last word is gone.
+    #[inline(always)]
+    #[tactic(auto, unfolding(crate::specs::Words::line_left))]
+    pub(crate) fn tail(&self) -> &'a [u8]
+        requires { self.now.words ≡ [] }
+        ensures { result.now ≡ self.now.tail }
+    {
+        self.rest
+    }
+
     /// Reads the next word as a number.
     #[inline(always)]
-    #[tactic(auto, unfolding(crate::specs::Words::parts_left, crate::specs::Words::taken))]
+    #[tactic(auto, unfolding(crate::specs::Words::line_left, crate::specs::Words::taken))]
     pub(crate) fn next_number(&mut self) -> Option<u64>
         ensures { Takes number_of self.old result self.new }
     {
@@ -98,7 +111,7 @@ impl<'a> Words<'a> {
 
     /// Reads the next word as a value, with a minus sign if it is negative.
     #[inline(always)]
-    #[tactic(auto, unfolding(crate::specs::Words::parts_left, crate::specs::Words::taken))]
+    #[tactic(auto, unfolding(crate::specs::Words::line_left, crate::specs::Words::taken))]
     pub(crate) fn next_value(&mut self) -> Option<i64>
         ensures { Takes value_of self.old result self.new }
     {
@@ -112,29 +125,19 @@ impl<'a> Words<'a> {
         self.rest = digits;
         negative(self.next_number()?)
     }
-}
 
-impl<'a> Iterator for Words<'a> {
-    type Item = &'a [u8];
-
-    ghost next_gives = { YieldsFirstRef (λ words. words) };
-
-    ghost remaining = { item_count (λ words. words) };
-
-    #[tactic(auto, unfolding(crate::specs::Words::parts_left), using(crate::proofs::LineLemmas::parts_cut, crate::proofs::LineLemmas::parts_last))]
-    fn next(&mut self) -> Option<&'a [u8]> {
+    /// Returns the next word. `None` if no word is left.
+    #[inline(always)]
+    #[tactic(auto, unfolding(crate::specs::Words::line_left))]
+    pub(crate) fn next_word(&mut self) -> Option<&'a [u8]>
+        ensures { MatchOption result (self.old.words ≡ []) (λ word. (self.old.words ≡ word.now ∷ self.new.words) × (self.new.tail ≡ self.old.tail)) }
+    {
         if self.ended {
             return None;
         }
-        match cut(self.rest, b' ') {
-            Some((part, rest)) => {
-                self.rest = rest;
-                Some(part)
-            }
-            None => {
-                self.ended = true;
-                Some(self.rest)
-            }
-        }
+        let size = word_size(self.rest);
+        let (word, _) = self.rest.split_at(size);
+        *self = words_after(self.rest, size)?;
+        Some(word)
     }
 }

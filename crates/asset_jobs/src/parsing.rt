@@ -2,7 +2,6 @@
 
 ghost use Rattle.std.specs.Prelude.{◌≡◌, ◌+◌, ◌^◌, ◌<◌, ◌≤◌, cond, None, Some, Ok, length, IfOk, IfErr};
 ghost use Rattle.asset_cli.specs.Transfers.{input_limit};
-ghost use Rattle.asset_grammar.specs.JobLines.{job_line_of};
 ghost use Rattle.asset_grammar.specs.Lines.{lines};
 ghost use Rattle.asset_jobs.specs.Jobs.{empty, jobs_of, said_from, with_line};
 ghost use Rattle.asset_jobs.specs.Reads.{FailsToSay};
@@ -12,7 +11,7 @@ use crate::drafts::Draft;
 use crate::faults::JobsFault;
 use crate::scripts::JobScript;
 use asset_cli::OpeningObjects;
-use asset_grammar::{JobLine, split_line};
+use asset_grammar::{JobLine, ScriptLines};
 use asset_names::{NoMemory, Ob};
 use std::alloc::Global;
 
@@ -38,11 +37,11 @@ fn take_line(
     alloc: Global,
     opening: &mut OpeningObjects,
     jobs: &mut Draft,
-    line: &[u8],
+    line: JobLine,
 ) -> Result<bool, NoMemory>
-    ensures { IfOk result (λ good. with_line (so_far opening.old jobs.old) (job_line_of line.now) ≡ cond good (Some (so_far opening.new jobs.new)) None) }
+    ensures { IfOk result (λ good. with_line (so_far opening.old jobs.old) line ≡ cond good (Some (so_far opening.new jobs.new)) None) }
 {
-    match JobLine::parse(line) {
+    match line {
         JobLine::Blank => Ok(true),
         JobLine::Object(object) => take_object(opening, jobs, object),
         JobLine::Job(t) => jobs.add(alloc, t),
@@ -62,13 +61,12 @@ fn take_lines(
     requires few { length (lines bytes.now) + 1 < 2 ^ 64 }
     ensures { IfOk result (λ bad. jobs_of bytes.now ≡ said_at bad (so_far opening.new jobs.new)) }
 {
-    let mut left = bytes;
+    let mut left = ScriptLines::new(bytes);
     let mut number = 1;
-    'lines: while let Some((line, rest)) = split_line(left) {
+    'lines: while let Some(line) = left.next_job_line() {
         if !take_line(alloc, opening, jobs, line)? {
             return Ok(Some(number));
         }
-        left = rest;
         number += 1;
     }
     Ok(None)

@@ -128,8 +128,6 @@ fn spaces_elsewhere(rt: HostRuntime) {
             b"initiate 7 ",
             b" #",
             b" object 1 2",
-            b"begin\n7",
-            b"begin 7\n",
             b"wait 7\x0b",
         ],
     );

@@ -1,6 +1,6 @@
 //! Lines that are drawn, each read by both parsers.
 
-use crate::same::{is_same, is_same_script};
+use crate::same::is_same;
 use arrayvec::ArrayVec;
 use asset_test_tools::next;
 
@@ -223,7 +223,7 @@ fn scripts_are_same() -> bool {
     let mut seed = 4;
     for _ in 0..LINES / 2 {
         draw_script(&mut seed, &mut line, &mut script);
-        if !is_same_script(script.as_slice()) {
+        if !is_same(script.as_slice()) {
             return false;
         }
     }

@@ -49,6 +49,21 @@ fn step(word: &[u8], words: Words<'_>) -> Option<Step> {
     }
 }
 
+/// Returns the first line of a text, and what comes after its line feed. `None` if the text is empty.
+pub(crate) fn split_line(text: &[u8]) -> Option<(&[u8], &[u8])> {
+    if text.is_empty() {
+        return None;
+    }
+    match text.iter().position(|b| *b == b'\n') {
+        Some(at) => {
+            let (line, _) = text.split_at(at);
+            let (_, rest) = text.split_at(at + 1);
+            Some((line, rest))
+        }
+        None => Some((text, &[])),
+    }
+}
+
 /// Returns what a line is. It is given without its line feed.
 pub(crate) fn parse(line: &[u8]) -> PlainLine {
     if line.len() > 4096 {

@@ -1,12 +1,19 @@
 //! What a line says, by both parsers.
 
-use crate::plain::{PlainLine, parse};
-use asset_grammar::{Said, ScriptLines, parse_line, split_line};
+use crate::plain::{PlainLine, parse, split_line};
+use asset_grammar::{Said, ScriptLines};
 use asset_names::{Ob, Step, Txn};
 
 /// Returns a step for a slot before the first line is read.
 pub(crate) fn no_step() -> Step {
     Step::Commit { t: Txn(0) }
+}
+
+/// Reads the first line of a text into the slot. A text that is empty says nothing.
+fn read_first(text: &[u8], step: &mut Step) -> Said {
+    ScriptLines::new(text)
+        .next_line(step)
+        .unwrap_or(Said::Blank)
 }
 
 /// Returns whether what was said, with the slot, is what the plain parser returns of the line.
@@ -20,15 +27,9 @@ fn agrees(said: Said, step: &Step, line: &[u8]) -> bool {
     }
 }
 
-/// Returns whether both parsers say the same of a line.
-pub(crate) fn is_same(line: &[u8]) -> bool {
-    let mut step = no_step();
-    let said = parse_line(line, &mut step);
-    agrees(said, &step, line)
-}
-
-/// Returns whether the cursor over a script says of each of its lines what the plain parser says, and then ends.
-pub(crate) fn is_same_script(script: &[u8]) -> bool {
+/// Returns whether the cursor over a script says of each of its lines what the plain parser says, and then ends. A line is a
+/// script, too.
+pub(crate) fn is_same(script: &[u8]) -> bool {
     let mut step = no_step();
     let mut lines = ScriptLines::new(script);
     let mut left = script;
@@ -52,25 +53,25 @@ pub(crate) fn is_same_script(script: &[u8]) -> bool {
 /// Returns whether both parsers say that a line is bad.
 pub(crate) fn is_bad(line: &[u8]) -> bool {
     let mut step = no_step();
-    matches!(parse_line(line, &mut step), Said::Bad) && is_same(line)
+    matches!(read_first(line, &mut step), Said::Bad) && is_same(line)
 }
 
 /// Returns whether both parsers say that a line says nothing.
 pub(crate) fn is_blank(line: &[u8]) -> bool {
     let mut step = no_step();
-    matches!(parse_line(line, &mut step), Said::Blank) && is_same(line)
+    matches!(read_first(line, &mut step), Said::Blank) && is_same(line)
 }
 
 /// Returns whether both parsers say that a line asks for the step.
 pub(crate) fn asks(line: &[u8], expected: &Step) -> bool {
     let mut step = no_step();
-    matches!(parse_line(line, &mut step), Said::Ask) && step == *expected && is_same(line)
+    matches!(read_first(line, &mut step), Said::Ask) && step == *expected && is_same(line)
 }
 
 /// Returns whether both parsers say that a line adds an object with this value.
 pub(crate) fn adds(line: &[u8], x: u64, v: i64) -> bool {
     let mut step = no_step();
-    match parse_line(line, &mut step) {
+    match read_first(line, &mut step) {
         Said::Object(given) => given == (Ob(x), v) && is_same(line),
         _ => false,
     }

@@ -1,28 +1,36 @@
-use Rattle.std.proofs.Common.{refl, ap, ◌∙◌, length, arith}
-use Rattle.asset_grammar.specs.Lines.{lines}
+use Rattle.std.proofs.Common.{refl, sym, ap, ◌∙◌, length, arith}
+use Rattle.asset_grammar.specs.JobLines.{ReadsJobLine}
 use Rattle.asset_jobs.specs.Jobs.{jobs_of, said_from, line_then}
 use Rattle.asset_jobs.specs.Scripts.{said_at}
 use Rattle.asset_jobs.proofs.parsing.take_lines.Goals as goal
 
 pub lines-init : goal.lines-init
 unfolding jobs_of
-lines-init c = record { says = rw c.requires.empty refl; count = refl }
+lines-init c = record { says = rw (c.new-left.ensures, c.requires.empty) refl; count = omega (arith, ap length c.new-left.ensures) }
+
+pub overflow_add-number : goal.overflow_add-number
+unfolding ReadsJobLine
+overflow_add-number c = omega (arith, c.lines.invariant.count, ap length c.in-Some.ensures.1, c.requires.few)
 
 pub returns-then-not-branch : goal.returns-then-not-branch
-unfolding said_from line_then said_at
+unfolding said_from line_then said_at ReadsJobLine
 returns-then-not-branch c =
     let taken = rw c.if-not-branch.true at c.in_ok-take_line.ensures in
-    c.lines.invariant.says ∙ rw (c.in-Some.ensures, taken) refl
+    c.lines.invariant.says ∙ rw (c.in-Some.ensures.1, c.in-Some.ensures.2, taken) refl
+
+pub lines-smaller : goal.lines-smaller
+unfolding ReadsJobLine
+lines-smaller c = omega (arith, ap length c.in-Some.ensures.1)
 
 pub lines-preserved : goal.lines-preserved
-unfolding said_from line_then
+unfolding said_from line_then ReadsJobLine
 lines-preserved c =
     let taken = rw c.if-not-branch.false at c.in_ok-take_line.ensures in
     record {
-      says = c.lines.invariant.says ∙ rw (c.in-Some.ensures, taken) refl;
-      count = omega (arith, c.lines.invariant.count, ap length c.in-Some.ensures);
+      says = c.lines.invariant.says ∙ rw (c.in-Some.ensures.1, c.in-Some.ensures.2, taken) refl;
+      count = omega (arith, c.lines.invariant.count, ap length c.in-Some.ensures.1);
     }
 
 pub returns : goal.returns
-unfolding said_from lines said_at
-returns c = c.lines.invariant.says ∙ rw c.in_default.ensures refl
+unfolding said_from said_at ReadsJobLine
+returns c = c.lines.invariant.says ∙ rw c.in_default.ensures.0 refl

@@ -9,4 +9,4 @@ returns-in_err-number c = rw c.from_residual.ensures (none_mapped txn number_of 
 
 pub returns : goal.returns
 unfolding txn_of
-returns c = taken_mapped txn number_of _ _ _ c.in_ok-number.ensures
+returns c = (taken_mapped txn number_of _ _ _ c.in_ok-number.ensures.0, c.in_ok-number.ensures.1)
