@@ -27,13 +27,15 @@ pub trait Work<J: Ticketed, E: Ticketed>: Sync {
         ensures { E.ticket result ≡ J.ticket job };
 }
 
-/// Takes jobs until none is left, or memory runs out.
+/// Takes jobs until none is left, or memory runs out. There is room from the start for so many answers as are expected, if
+/// there is memory.
 fn take_all<J: Ticketed, E: Ticketed, W: Work<J, E>, R: Wait>(
     rt: &R,
     alloc: Global,
     jobs: &Jobs<J>,
     work: &W,
     mut pass: Pass<J, Hand>,
+    expected: usize,
 ) -> (Pass<J, Hand>, Vec<E>)
     requires pass { IsPassOf jobs.now pass }
     requires hand { (view pass ≡ hand (view pass).parts [] []) × (0 < (view pass).parts) }
@@ -41,6 +43,7 @@ fn take_all<J: Ticketed, E: Ticketed, W: Work<J, E>, R: Wait>(
     ensures taken { view result.0 ≡ hand (view pass).parts [] (map E.ticket result.1.items) }
 {
     let mut ends = Vec::new(alloc);
+    let _ = ends.reserve(expected);
     for _ in rt.forever() {
         if ends.reserve(1).is_err() {
             break;
@@ -60,6 +63,7 @@ fn one<J: Ticketed, E: Ticketed + Drop, W: Work<J, E>, R: Wait>(
     jobs: &Jobs<J>,
     work: &W,
     pass: Pass<J, Hand>,
+    expected: usize,
 ) -> (Pass<J, Hand>, Vec<Vec<E>>)
     requires pass { IsPassOf jobs.now pass }
     requires hand { (view pass ≡ hand (view pass).parts [] []) × (0 < (view pass).parts) }
@@ -70,7 +74,7 @@ fn one<J: Ticketed, E: Ticketed + Drop, W: Work<J, E>, R: Wait>(
     let Ok(mut rows) = Vec::with_capacity(alloc, MOST_WORKERS) else {
         return (pass, Vec::new(alloc));
     };
-    let (pass, ends) = take_all(rt, alloc, jobs, work, pass);
+    let (pass, ends) = take_all(rt, alloc, jobs, work, pass, expected);
     rows.push_reserved(ends);
     (pass, rows)
 }
@@ -92,7 +96,8 @@ fn joined<E: Drop>(mut rows: Vec<Vec<E>>, mut more: Vec<Vec<E>>) -> Vec<Vec<E>>
     rows
 }
 
-/// Shares the jobs among so many workers, by halves: the one half of them works here, the other in another thread.
+/// Shares the jobs among so many workers, by halves: the one half of them works here, the other in another thread. Each is
+/// expected to do so many jobs.
 fn share<J: Ticketed + Send, E: Ticketed + Drop + Send, W: Work<J, E>, R: Threads + Wait + Sync>(
     rt: &R,
     alloc: Global,
@@ -100,6 +105,7 @@ fn share<J: Ticketed + Send, E: Ticketed + Drop + Send, W: Work<J, E>, R: Thread
     work: &W,
     mut pass: Pass<J, Hand>,
     workers: usize,
+    expected: usize,
 ) -> (Pass<J, Hand>, Vec<Vec<E>>)
     requires pass { IsPassOf jobs.now pass }
     requires hand { view pass ≡ hand (view pass).parts [] [] }
@@ -109,7 +115,7 @@ fn share<J: Ticketed + Send, E: Ticketed + Drop + Send, W: Work<J, E>, R: Thread
     ensures rows { HasRows workers result.1 }
 {
     if workers == 1 {
-        return one(rt, alloc, jobs, work, pass);
+        return one(rt, alloc, jobs, work, pass, expected);
     }
     let half = workers / 2;
     let rest = workers - half;
@@ -119,11 +125,11 @@ fn share<J: Ticketed + Send, E: Ticketed + Drop + Send, W: Work<J, E>, R: Thread
         move || -> (Pass<J, Hand>, Vec<Vec<E>>)
             requires { IsSync R.row × IsPassOf jobs.now pass × (view pass ≡ hand (view pass).parts [] []) × (0 < rest) × (rest ≤ (view pass).parts) × (rest ≤ MOST_WORKERS) }
             ensures { IsPassOf jobs.entry.now result.0 × (view result.0 ≡ hand (view pass).parts [] (tickets_of E.ticket result.1.items)) × HasRows rest result.1 }
-        { share(rt, alloc, jobs, work, pass, rest) },
+        { share(rt, alloc, jobs, work, pass, rest, expected) },
         move || -> (Pass<J, Hand>, Vec<Vec<E>>)
             requires { IsSync R.row × IsPassOf jobs.now other × (view other ≡ hand (view other).parts [] []) × (0 < half) × (half ≤ (view other).parts) × (half ≤ MOST_WORKERS) }
             ensures { IsPassOf jobs.entry.now result.0 × (view result.0 ≡ hand (view other).parts [] (tickets_of E.ticket result.1.items)) × HasRows half result.1 }
-        { share(rt, alloc, jobs, work, other, half) },
+        { share(rt, alloc, jobs, work, other, half, expected) },
     );
     jobs.absorb::<Halves>(&mut pass, other);
     (pass, joined(rows, more))
@@ -173,6 +179,44 @@ fn drain<J: Ticketed + Drop, R: Wait>(
     unreachable!()
 }
 
+/// Does the jobs one after another, in room that there is for what comes of them.
+fn do_all<J: Ticketed + Drop, E: Ticketed + Drop, W: Work<J, E>, R: Wait>(
+    rt: &R,
+    work: &W,
+    all: Vec<J>,
+    mut ends: Vec<E>,
+) -> Vec<E>
+    requires empty { ends.items ≡ [] }
+    requires room { vec_len all ≤ vec_capacity ends }
+    ensures { map E.ticket result.items ≡ map J.ticket all.items }
+{
+    for job in all {
+        ends.push_reserved(work.run(rt, job));
+    }
+    ends
+}
+
+/// Has the jobs done by one worker, which is this thread: no queue is needed for that. If memory runs out before it starts,
+/// all jobs come back as the error.
+fn run_alone<J: Ticketed + Drop, E: Ticketed + Drop, W: Work<J, E>, R: Wait>(
+    rt: &R,
+    alloc: Global,
+    work: &W,
+    all: Vec<J>,
+) -> Result<(Vec<Vec<E>>, Vec<J>), Vec<J>>
+    ensures once { IfOk result (λ r. SharedOut (map J.ticket all.items) (tickets_of E.ticket r.0.items) (map J.ticket r.1.items)) }
+    ensures err { IfErr result (λ back. back.items ≡ all.items) }
+{
+    let (Ok(mut rows), Ok(ends)) = (
+        Vec::with_capacity(alloc, 1),
+        Vec::with_capacity(alloc, all.len()),
+    ) else {
+        return Err(all);
+    };
+    rows.push_reserved(do_all(rt, work, all, ends));
+    Ok((rows, Vec::new(alloc)))
+}
+
 /// Has the jobs done by so many workers, each in a thread of its own, and returns what came of them, a row for each
 /// worker, and the jobs that nobody took: each job is once in one or the other. A job is left only if memory ran out. If
 /// it ran out before the workers started, all jobs come back as the error.
@@ -192,15 +236,19 @@ pub fn run<
     ensures once { IfOk result (λ r. SharedOut (map J.ticket all.items) (tickets_of E.ticket r.0.items) (map J.ticket r.1.items)) }
     ensures err { IfErr result (λ back. back.items ≡ all.items) }
 {
+    if workers == 1 {
+        return run_alone(rt, alloc, work, all);
+    }
     let Ok(left) = Vec::with_capacity(alloc, all.len()) else {
         return Err(all);
     };
     let Ok((queue, pass)) = Jobs::ruled(alloc, all.len().max(1)) else {
         return Err(all);
     };
+    let expected = all.len() / workers;
     let mut pass = put_all(rt, &queue, pass, all);
     let theirs = queue.another::<Halves>(&mut pass);
-    let (theirs, rows) = share(rt, alloc, &queue, work, theirs, workers);
+    let (theirs, rows) = share(rt, alloc, &queue, work, theirs, workers, expected);
     queue.absorb::<Halves>(&mut pass, theirs);
     let left = drain(rt, &queue, pass, left);
     Ok((rows, left))
