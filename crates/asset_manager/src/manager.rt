@@ -1,13 +1,14 @@
 //! The manager.
 
-ghost use Rattle.std.specs.Prelude.{◌≡◌, [], IfOk, IfErr, OnOk, IsOk, Some, map, reverse};
+ghost use Rattle.std.specs.Prelude.{◌≡◌, ◌≤◌, [], IfOk, IfErr, OnOk, IsOk, IsSome, Some, map, reverse};
 ghost use Rattle.std.specs.Arc.{arc_value};
 ghost use Rattle.asset_names.specs.Answers.{IsLegal};
+ghost use Rattle.asset_names.specs.Counted.{IsBelow};
 ghost use Rattle.asset_audit.specs.Audited.{IsAudit, HasEach};
 ghost use Rattle.asset_core.specs.OpenFaults.{MayOpen, IsOpenFault};
 ghost use Rattle.asset_counts.specs.Shown.{no_counts};
 ghost use Rattle.asset_manager.specs.Serves.{IsServed};
-ghost use Rattle.asset_manager.specs.Asks.{as_outcome};
+ghost use Rattle.asset_manager.specs.Asks.{Asks, as_outcome};
 
 use crate::book::{Book, Closed};
 use crate::session::Session;
@@ -15,8 +16,24 @@ use asset_core::{Core, OpenFault};
 use asset_counts::{Publisher, Watch, WatchPass};
 use asset_names::{Fault, NoMemory, Ob, Outcome, Reply, Step};
 use std::alloc::Global;
+use std::hint::spin_loop;
 use std::marker::Model;
-use std::sync::{Arc, Condvar, Mutex, Wait};
+use std::sync::atomic::{AtomicU64, Ordering};
+use std::sync::{Arc, Condvar, Mutex, MutexGuard, Wait};
+
+/// How often a thread tries to get the lock before it sleeps.
+const TRIES: u32 = 12;
+
+/// How often the time between two tries is doubled.
+const DOUBLINGS: u32 = 5;
+
+/// Lets some time pass after so many tries to get the lock: the longer, the more there were, up to 256 pauses of the
+/// processor, which are some 10 microseconds.
+fn pass_time(tried: u32) {
+    for _ in 0..8u32 << tried.min(DOUBLINGS) {
+        spin_loop();
+    }
+}
 
 /// Does nothing. A call of it fails to compile unless the type may go to another thread.
 fn needs_send<T: Send>() {}
@@ -78,6 +95,7 @@ fn make_word(alloc: Global) -> Result<Word, NoMemory>
 pub struct Manager {
     book: Mutex<Book>,
     turned: Condvar,
+    sleepers: AtomicU64,
     watch: Arc<Watch, Global>,
 }
 
@@ -141,6 +159,7 @@ impl Manager {
         let manager = Manager {
             book: Mutex::new(Book::new(core, for_book, by)),
             turned: Condvar::new(),
+            sleepers: AtomicU64::new(0),
             watch: for_manager,
         };
         (manager, Session::first(alloc, for_session, pass))
@@ -160,16 +179,40 @@ impl Manager {
         &self.watch
     }
 
-    /// Serves a step under the lock.
+    /// Takes the lock. While another thread has it, it is tried ever less often, so that who has it can serve several steps
+    /// in a row; then this thread sleeps until it gets it.
+    fn lock<R: Wait>(&self, rt: &R) -> MutexGuard<'_, Book> {
+        for tried in 0..TRIES {
+            if let Some(book) = self.book.try_lock() {
+                return book;
+            }
+            pass_time(tried);
+        }
+        self.book.lock(rt)
+    }
+
+    /// Serves a step under the lock. The session has seen the entry of an answer when the lock is given up.
     pub(crate) fn serve<R: Wait>(
         &self,
         rt: &R,
         session: &mut Session,
         step: &Step,
     ) -> Result<Outcome, Fault>
-        ensures { IsServed session.old step.now result session.new }
+        requires { IsSome session.old.of }
+        ensures asked { Asks session.old step.now result session.new }
+        ensures of { session.new.of ≡ session.old.of }
+        ensures room { session.old.list.room ≤ session.new.list.room }
+        ensures later { IsBelow session.old.seen session.new.seen }
     {
-        self.book.lock(rt).serve_lent(session, step)
+        let mut book = self.lock(rt);
+        match book.serve_lent(session, step) {
+            Ok(Outcome::Answer(reply)) => {
+                session.see_last(rt);
+                Ok(Outcome::Answer(reply))
+            }
+            Ok(Outcome::Wait) => Ok(Outcome::Wait),
+            Err(fault) => Err(fault),
+        }
     }
 
     /// Serves a step under the lock, and while the answer is to wait gives the lock up and sleeps until it is woken.
@@ -181,21 +224,26 @@ impl Manager {
     ) -> Result<Reply, Fault>
         ensures { IsServed session.old step.now (as_outcome result) session.new }
     {
-        let mut book = self.book.lock(rt);
+        let mut book = self.lock(rt);
         for _ in rt.forever() {
             match book.serve_lent(session, step) {
                 Ok(Outcome::Answer(reply)) => return Ok(reply),
                 Ok(Outcome::Wait) => {}
                 Err(fault) => return Err(fault),
             }
+            // It is counted under the lock, so whoever gets the lock after this knows of it.
+            self.sleepers.fetch_add(1, Ordering::SeqCst);
             book = self.turned.wait(rt, book);
+            self.sleepers.fetch_sub(1, Ordering::SeqCst);
         }
         unreachable!()
     }
 
-    /// Wakes all who sleep until somebody's step is answered.
+    /// Wakes all who sleep until somebody's step is answered, if there are any.
     pub(crate) fn notify(&self) {
-        self.turned.notify_all();
+        if self.sleepers.load(Ordering::SeqCst) != 0 {
+            self.turned.notify_all();
+        }
     }
 
     /// Closes the manager: returns the history, and the audit of the sessions against it, as `Book::close` does. It
@@ -208,6 +256,7 @@ impl Manager {
         let Manager {
             book,
             turned: _,
+            sleepers: _,
             watch: _,
         } = self;
         book.into_inner().close(sessions)

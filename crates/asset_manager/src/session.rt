@@ -22,6 +22,9 @@ use std::marker::Model;
 use std::sync::{Arc, Wait};
 use std::thread;
 
+/// How often the published counts are looked at before a step whose answer was to wait is asked again all the same.
+const LOOKS: u32 = 32;
+
 /// The word of a session's manager, with a pass of it.
 #[derive(Drop)]
 struct Link {
@@ -65,6 +68,25 @@ fn catch_up<R: Wait>(rt: &R, watch: &Watch, pass: &mut WatchPass, number: usize)
         thread::yield_now();
     }
     unreachable!()
+}
+
+/// Reads the word until it shows another number of ends than `known`, up to `LOOKS` times, ever less often. Returns the
+/// number that it shows.
+fn await_end(watch: &Watch, pass: &mut WatchPass, known: u64) -> u64
+    requires { pass.old.of ≡ Some watch.now }
+    ensures own { pass.new.of ≡ Some watch.now }
+    ensures later { IsBelow pass.old.last pass.new.last }
+{
+    let backoff = Backoff::new();
+    for _ in 0..LOOKS {
+        let counts = watch.read(pass);
+        let ended = counts.committed.wrapping_add(counts.aborted);
+        if ended != known {
+            return ended;
+        }
+        backoff.snooze();
+    }
+    known
 }
 
 impl Link {
@@ -204,7 +226,7 @@ impl Session {
     }
 
     /// Reads the word until it shows the entry of the last call.
-    fn see_last<R: Wait>(&mut self, rt: &R)
+    pub(crate) fn see_last<R: Wait>(&mut self, rt: &R)
         requires { IsSome self.old.of }
         ensures same { (self.new.of ≡ self.old.of) × (self.new.list ≡ self.old.list) }
         ensures later { IsBelow self.old.seen self.new.seen }
@@ -281,7 +303,6 @@ impl Session {
         match manager.serve(rt, self, step) {
             Ok(Outcome::Answer(reply)) => {
                 manager.notify();
-                self.see_last(rt);
                 Ok(Outcome::Answer(reply))
             }
             Ok(Outcome::Wait) => Ok(Outcome::Wait),
@@ -289,7 +310,20 @@ impl Session {
         }
     }
 
-    /// Asks the manager for one step, as `call` does, and, while the answer is to wait, at most `turns` times again.
+    /// Waits for a while until another number of transactions than `known` has ended, and returns how many have. It takes no
+    /// lock. Before the first ask that waited, `known` is 0.
+    fn await_another_end(&mut self, known: u64) -> u64
+        ensures same { (self.new.of ≡ self.old.of) × (self.new.list ≡ self.old.list) }
+        ensures later { IsBelow self.old.seen self.new.seen }
+    {
+        match &mut self.link {
+            Some(link) => await_end(&link.watch, &mut link.pass, known),
+            None => known,
+        }
+    }
+
+    /// Asks the manager for one step, as `call` does, and, while the answer is to wait, at most `turns` times again. Between
+    /// two asks it lets a while pass, which ends as soon as the published counts show that a transaction has ended.
     pub fn call_turns<R: Wait>(
         &mut self,
         rt: &R,
@@ -330,10 +364,10 @@ impl Session {
         ensures memory { length self.old.list.calls < self.old.list.room → IsSome self.old.of → result ≡ Err LacksMemory → takes_memory step.now ≡ true }
         ensures later { IsBelow self.old.seen self.new.seen }
     {
-        let backoff = Backoff::new();
+        let mut ended = 0;
         for _ in 0..turns {
             match self.call_lent(rt, manager, step) {
-                Ok(Outcome::Wait) => backoff.snooze(),
+                Ok(Outcome::Wait) => ended = self.await_another_end(ended),
                 answered => return answered,
             }
         }
