@@ -1,6 +1,8 @@
 -- What was shared out comes back in order.
-use Rattle.std.proofs.Common.{◌≡◌, ◌≢◌, ℕ, zero, suc, ◌+◌, ◌<◌, cond, eqb, List, [], ◌∷◌, ◌++◌, length, map, set, Option, Some, None, sym, refl, ap, ◌∙◌, subst, ⊎_elim, arith}
+use Rattle.std.proofs.Common.{◌≡◌, ◌≢◌, ℕ, zero, suc, ◌+◌, ◌<◌, true, cond, eqb, List, [], ◌∷◌, ◌++◌, length, map, set, Option, Some, None, sym, refl, ap, ◌∙◌, subst, ⊎_elim, append_assoc, arith}
 use Rattle.std.specs.Prelude.{slice_get}
+use Rattle.std.specs.Bool.{◌==◌}
+use Rattle.std.proofs.lemmas.List.{length-append, nil_from_length}
 use Rattle.std.proofs.lemmas.Bool.{cases_eq}
 use Rattle.std.proofs.lemmas.Bool.Decides.{nat_tests}
 use Rattle.asset_queue.specs.Once.{weigh}
@@ -125,3 +127,36 @@ comes_back {A} place name ts all shared = somes_names name (placed place (nones 
     let n = numbered_has 0 ts x (omega (arith, shared (is x), s.2)) in
     let e : n.0 ≡ i = omega (arith, n.1, s.3) in
     (s.0, s.1, subst (λ (j : ℕ). slice_get ts j ≡ Some (name s.0)) e n.2))
+
+module _ {A : Type 0} (place : A → ℕ) where
+  set_after : (pre xs : List (Option A)) (x y : Option A) → set (pre ++ x ∷ xs) (length pre) y ≡ pre ++ y ∷ xs
+  set_after [] xs x y = refl
+  set_after (z ∷ pre) xs x y = ap (λ l. z ∷ l) (set_after pre xs x y)
+
+  -- what stands in order from some place on fills the places from there on
+  fills : (pre : List (Option A)) (xs : List A) → ((i : ℕ) (a : A) → slice_get xs i ≡ Some a → place a ≡ length pre + i) → placed place (pre ++ nones (length xs)) xs ≡ pre ++ map Some xs
+  fills pre [] stand = refl
+  fills pre (x ∷ xs) stand =
+      let more : List (Option A) = pre ++ None ∷ [] in
+      let count : length more ≡ length pre + 1 = length-append pre (None ∷ []) in
+      let rest : placed place (more ++ nones (length xs)) xs ≡ more ++ map Some xs = fills more xs (λ i a e. let s = stand (suc i) a e in omega (arith, s, count)) in
+      let slots : pre ++ nones (length (x ∷ xs)) ≡ more ++ nones (length xs) = sym (append_assoc pre (None ∷ []) (nones (length xs))) in
+      let at_x : place x ≡ length pre = (let s = stand 0 x refl in omega (arith, s)) in
+      ap (λ l. set (placed place l xs) (place x) (Some x)) slots
+      ∙ (ap (λ l. set l (place x) (Some x)) (rest ∙ append_assoc pre (None ∷ []) (map Some xs))
+      ∙ (ap (λ n. set (pre ++ None ∷ map Some xs) n (Some x)) at_x
+      ∙ set_after pre (map Some xs) None (Some x)))
+
+  all_stand : (xs : List A) → somes (map Some xs) ≡ xs
+  all_stand [] = refl
+  all_stand (x ∷ xs) = ap (λ l. x ∷ l) (all_stand xs)
+
+  -- what stands in order comes back as it is
+  pub as_it_is : (xs : List A) → ((i : ℕ) (a : A) → slice_get xs i ≡ Some a → place a ≡ i) → somes (placed place (nones (length xs)) xs) ≡ xs
+  as_it_is xs stand = ap somes (fills [] xs (λ i a e. let s = stand i a e in omega (arith, s))) ∙ all_stand xs
+
+nat_is : (n : ℕ) → true ≡ (n == 0) → n ≡ 0
+nat_is n none = grind (arith, nat_tests)
+
+pub nothing_left : {X : Type 0} (xs : List X) (n : ℕ) → n ≡ length xs → true ≡ (n == 0) → xs ≡ []
+nothing_left xs n many none = nil_from_length xs (omega (arith, many, nat_is n none))

@@ -1,5 +1,5 @@
 -- What comes back from the workers.
-use Rattle.std.specs.Prelude.{ℕ, List, map, Option, None}
+use Rattle.std.specs.Prelude.{◌≡◌, ℕ, List, length, map, Option, None, Some, slice_get}
 use Rattle.asset_names.specs.declared.names.Txn.{Txn}
 use Rattle.asset_audit.specs.Audited.{Call}
 use Rattle.asset_queue.specs.Once.{Ticket}
@@ -25,3 +25,7 @@ numbered names = placing.numbered 0 (map (λ (t : Txn). t.0) names)
 -- each is put into its place, the last one first
 abbrev pub placed : List (Option Arrived) → List Arrived → List (Option Arrived)
 placed slots all = placing.placed (λ (a : Arrived). a.place) slots all
+
+-- there are so many, and each stands in its place
+abbrev pub StandInOrder : List Arrived → ℕ → Type 0
+StandInOrder row jobs = (length row ≡ jobs) × ((i : ℕ) (a : Arrived) → slice_get row i ≡ Some a → a.place ≡ i)

@@ -1,8 +1,8 @@
 //! What came of the jobs, put in order of initiation.
 
-ghost use Rattle.std.specs.Prelude.{◌≡◌, ◌≤◌, [], map, Some, slice_set, vec_len, vec_capacity};
+ghost use Rattle.std.specs.Prelude.{◌≡◌, ◌≤◌, [], map, Some, slice_set, vec_len, vec_capacity, IfOk, IfErr, IsTrue};
 ghost use Rattle.asset_runner.specs.Placing.{nones, somes};
-ghost use Rattle.asset_runner.specs.Arrived.{placed, left_at};
+ghost use Rattle.asset_runner.specs.Arrived.{placed, left_at, StandInOrder};
 ghost use Rattle.asset_runner.specs.Rows.{all_of, names_of};
 
 use crate::arrival::Arrival;
@@ -72,6 +72,56 @@ pub(crate) fn in_order(slots: Vec<Option<Arrival>>, mut order: Vec<Arrival>) -> 
         }
     }
     order
+}
+
+/// Returns what came of the jobs, in order of initiation, by way of their places.
+pub(crate) fn place_all(
+    jobs: usize,
+    slots: Vec<Option<Arrival>>,
+    order: Vec<Arrival>,
+    rows: Vec<Vec<Arrival>>,
+    left: Vec<Planned>,
+) -> Vec<Arrival>
+    requires empty { (slots.items ≡ []) × (order.items ≡ []) }
+    requires room { (jobs ≤ vec_capacity slots) × (jobs ≤ vec_capacity order) }
+    ensures { result.items ≡ somes (placed (placed (nones jobs) (map (λ j. left_at j.place j.name j.session.list.calls) left.items)) (all_of rows.items)) }
+{
+    let mut slots = empty_slots(slots, jobs);
+    put_left(&mut slots, left);
+    put_rows(&mut slots, rows);
+    in_order(slots, order)
+}
+
+/// Returns whether the row has as many jobs, and each stands in its place.
+fn is_in_order(row: &[Arrival], jobs: usize) -> bool
+    ensures { IsTrue result → StandInOrder row.now jobs }
+{
+    if row.len() != jobs {
+        return false;
+    }
+    'row: for (place, arrival) in row.iter().enumerate() {
+        if arrival.place() != place {
+            return false;
+        }
+    }
+    true
+}
+
+/// Returns the row if there is one alone and it has all jobs in order, as the row of one worker has, and otherwise the rows.
+pub(crate) fn row_in_order(
+    mut rows: Vec<Vec<Arrival>>,
+    jobs: usize,
+) -> Result<Vec<Arrival>, Vec<Vec<Arrival>>>
+    ensures row { IfOk result (λ row. (all_of rows.items ≡ row.items) × StandInOrder row.items jobs) }
+    ensures rows { IfErr result (λ back. back.items ≡ rows.items) }
+{
+    if rows.len() != 1 || !is_in_order(&rows[0], jobs) {
+        return Err(rows);
+    }
+    match rows.pop() {
+        Some(row) => Ok(row),
+        None => unreachable!(),
+    }
 }
 
 /// Asks each commit that waits once again, in order, and returns whether one was answered.

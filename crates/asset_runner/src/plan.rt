@@ -1,6 +1,6 @@
 //! A plan of jobs.
 
-ghost use Rattle.std.specs.Prelude.{◌≡◌, ◌≤◌, ◌<◌, ◌+◌, ◌++◌, ◌∷◌, ◌⊎◌, [], List, map, None, Some, vec_len, vec_capacity, OnOk, IfOk, IfErr, MatchOption, MatchResult};
+ghost use Rattle.std.specs.Prelude.{◌≡◌, ◌≤◌, ◌<◌, ◌+◌, ◌++◌, ◌∷◌, ◌⊎◌, [], List, length, map, None, Some, vec_len, vec_capacity, OnOk, IfOk, IfErr, MatchOption, MatchResult};
 ghost use Rattle.std.specs.Arc.{arc_value};
 ghost use base.Stored.{Coded-set, coded_list, coded×, coded_ℕ};
 ghost use Rattle.asset_names.specs.declared.steps.Step.TheVariants as Step;
@@ -20,20 +20,22 @@ use crate::arrival::Arrival;
 use crate::firsts::firsts_of;
 use crate::gate::Gate;
 use crate::job::{Crew, Planned};
-use crate::order::{empty_slots, in_order, put_left, put_rows, settle};
+use crate::order::{place_all, row_in_order, settle};
 use crate::report::{Report, RunCause, RunFault, ends_of, first_stranger, hand_out};
 use crate::rooms::Rooms;
 use asset_bodies::Body;
 use asset_manager::{Manager, Session};
-use asset_names::{Fault, Outcome, Refusal, Reply, Step, Txn};
+use asset_names::{Fault, NoMemory, Outcome, Refusal, Reply, Step, Txn};
 use asset_queue::{MOST_WORKERS, run};
 use std::alloc::Global;
 use std::sync::{Arc, Wait};
 use std::thread::Threads;
 
-/// How many calls a job's session has room for when the job is initiated: its begin, its complete and its commit, and five
-/// operations.
-const FIRST_ROOM: usize = 8;
+/// How many calls a job asks beside its operations: its begin, its complete and its commit.
+const OWN_CALLS: usize = 3;
+
+/// How many operations a job is expected to do if nobody says it.
+const EXPECTED: usize = 5;
 
 /// Why a job was not initiated.
 #[derive(Clone, Copy, PartialEq, Eq, Debug)]
@@ -132,10 +134,13 @@ fn arrange(
     requires room { (jobs ≤ vec_capacity slots) × (jobs ≤ vec_capacity order) }
     ensures { result.items ≡ somes (placed (placed (nones jobs) (map (λ j. left_at j.place j.name j.session.list.calls) left.items)) (all_of rows.items)) }
 {
-    let mut slots = empty_slots(slots, jobs);
-    put_left(&mut slots, left);
-    put_rows(&mut slots, rows);
-    in_order(slots, order)
+    if !left.is_empty() {
+        return place_all(jobs, slots, order, rows, left);
+    }
+    match row_in_order(rows, jobs) {
+        Ok(row) => row,
+        Err(rows) => place_all(jobs, slots, order, rows, left),
+    }
 }
 
 /// Returns why an initiation was not answered `Done`, and `None` if it was.
@@ -177,16 +182,60 @@ impl Plan {
         }
     }
 
-    /// Initiates a transaction for the body, with a session of its own that has room for the job's begin, complete and commit,
-    /// and for five operations. The body's promise is that it may be called with any transaction of the plan's manager, and that
-    /// the `Finished` that it then answers is of that manager. If the transaction is refused, or the history has no room, or memory
-    /// runs out, the body comes back with the cause and the plan is as before.
+    /// Makes room for so many jobs more, so that nothing is moved while they are initiated. It answers `NoMemory` if memory
+    /// runs out, and then the plan is as before but for room that it has.
+    pub fn reserve(&mut self, jobs: usize) -> Result<(), NoMemory>
+        ensures manager { arc_value self.new.manager ≡ arc_value self.old.manager }
+        ensures session { (self.new.session.of ≡ self.old.session.of) × (self.new.session.seen ≡ self.old.session.seen) × (self.new.session.list.calls ≡ self.old.session.list.calls) }
+        ensures turns { self.new.turns ≡ self.old.turns }
+        ensures names { self.new.names.items ≡ self.old.names.items }
+        ensures room { OnOk result ((vec_len self.old.names + jobs ≤ vec_capacity self.new.names) × (length self.old.session.list.calls + jobs ≤ self.new.session.list.room)) }
+    {
+        let count = self.names.len();
+        if self.names.reserve(jobs).is_err()
+            || self.jobs.reserve(jobs).is_err()
+            || self
+                .rooms
+                .reserve(self.alloc, count.saturating_add(jobs).saturating_add(1))
+                .is_err()
+        {
+            return Err(NoMemory);
+        }
+        self.session.reserve(jobs)
+    }
+
+    /// Initiates a transaction for the body, as `initiate_with_room` does, with room for five operations.
     pub fn initiate<R: Wait>(
         &mut self,
         rt: &R,
         t: Txn,
         parent: Option<Txn>,
         body: Body,
+    ) -> Result<(), InitFault>
+        requires ready { (tx : Working) → tx.manager ≡ arc_value self.old.manager → pre body tx }
+        requires same { (tx : Working) (f : Worked) → tx.manager ≡ arc_value self.old.manager → post body tx f → f.of ≡ Some tx.manager }
+        ensures manager { arc_value self.new.manager ≡ arc_value self.old.manager }
+        ensures of { IsOf self.new.session.of (arc_value self.new.manager) }
+        ensures turns { self.new.turns ≡ self.old.turns }
+        ensures back { IfErr result (λ fault. fault.body ≡ body) }
+        ensures names { MatchResult result (λ _. self.new.names.items ≡ self.old.names.items ++ t ∷ []) (λ _. self.new.names.items ≡ self.old.names.items) }
+        ensures asked { MatchResult result (λ _. IsInitiated self.old.session.list.calls (Step.Initiate t parent) self.new.session.list.calls) (λ fault. IsRefused self.old.session.list.calls (Step.Initiate t parent) fault.cause self.new.session.list.calls) }
+    {
+        self.initiate_with_room(rt, t, parent, body, EXPECTED)
+    }
+
+    /// Initiates a transaction for the body, with a session of its own that has room for the job's begin, complete and commit,
+    /// and for so many operations; if it does more, the session takes memory for them. The body's promise is that it may be
+    /// called with any transaction of the plan's manager, and that the `Finished` that it then answers is of that manager. If the
+    /// transaction is refused, or the history has no room, or memory runs out, the body comes back with the cause and the plan is
+    /// as before.
+    pub fn initiate_with_room<R: Wait>(
+        &mut self,
+        rt: &R,
+        t: Txn,
+        parent: Option<Txn>,
+        body: Body,
+        operations: usize,
     ) -> Result<(), InitFault>
         requires ready { (tx : Working) → tx.manager ≡ arc_value self.old.manager → pre body tx }
         requires same { (tx : Working) (f : Worked) → tx.manager ≡ arc_value self.old.manager → post body tx f → f.of ≡ Some tx.manager }
@@ -204,12 +253,15 @@ impl Plan {
         let place = self.names.len();
         if self.names.reserve(1).is_err()
             || self.jobs.reserve(1).is_err()
-            || self.rooms.reserve(place + 2).is_err()
+            || self.rooms.reserve(self.alloc, place + 2).is_err()
         {
             return Err(fault(body, Cause::NoMemory));
         }
         let mut session = self.session.split();
-        if session.reserve(FIRST_ROOM).is_err() {
+        if session
+            .reserve(operations.saturating_add(OWN_CALLS))
+            .is_err()
+        {
             self.session.join(session);
             return Err(fault(body, Cause::NoMemory));
         }
@@ -257,7 +309,7 @@ impl Plan {
             mut rooms,
         } = self;
         let count = names.len();
-        let Ok(()) = rooms.reserve(count + 1) else {
+        let Ok(()) = rooms.reserve(alloc, count + 1) else {
             return Err(no_room(alloc, workers));
         };
         let FromWorkers { rows, left, cause } = work(rt, alloc, jobs, workers, gate);

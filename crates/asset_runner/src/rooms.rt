@@ -1,6 +1,6 @@
 //! Room for what a run tells, taken as jobs are initiated.
 
-ghost use Rattle.std.specs.Prelude.{◌≡◌, ◌≤◌, ◌<◌, [], vec_capacity, OnOk, OnErr};
+ghost use Rattle.std.specs.Prelude.{◌≡◌, ◌≤◌, ◌<◌, [], vec_capacity, IfOk, OnOk, OnErr};
 ghost use Rattle.indexmap.specs.IndexMap.{spare, IsEmpty};
 
 use crate::arrival::Arrival;
@@ -41,8 +41,30 @@ impl Rooms {
         }
     }
 
-    /// Takes room for so many jobs. It fails if memory runs out.
-    pub fn reserve(&mut self, jobs: usize) -> Result<(), AllocError>
+    /// Returns collections with room for so many jobs.
+    fn with_room(alloc: Global, jobs: usize) -> Result<Rooms, AllocError>
+        ensures { IfOk result (λ rooms. rooms.jobs ≡ jobs) }
+    {
+        let slots = Vec::with_capacity(alloc, jobs)?;
+        let order = Vec::with_capacity(alloc, jobs)?;
+        let firsts = Firsts::with_capacity(alloc, jobs)?;
+        let ends = Vec::with_capacity(alloc, jobs)?;
+        let left = Vec::with_capacity(alloc, jobs)?;
+        let sessions = Vec::with_capacity(alloc, jobs)?;
+        Ok(Rooms {
+            jobs,
+            slots,
+            order,
+            firsts,
+            ends,
+            left,
+            sessions,
+        })
+    }
+
+    /// Takes room for so many jobs, and for twice as many as before if that is more. It fails if memory runs out. The
+    /// collections are empty, so new ones are made and nothing is copied.
+    pub fn reserve(&mut self, alloc: Global, jobs: usize) -> Result<(), AllocError>
         ensures ok { OnOk result (jobs ≤ self.new.jobs) }
         ensures kept { self.old.jobs ≤ self.new.jobs }
         ensures err { OnErr result (self.old.jobs < jobs) }
@@ -50,13 +72,8 @@ impl Rooms {
         if jobs <= self.jobs {
             return Ok(());
         }
-        self.slots.reserve(jobs)?;
-        self.order.reserve(jobs)?;
-        self.firsts.reserve(jobs)?;
-        self.ends.reserve(jobs)?;
-        self.left.reserve(jobs)?;
-        self.sessions.reserve(jobs)?;
-        self.jobs = jobs;
+        let twice = self.jobs.saturating_mul(2);
+        *self = Rooms::with_room(alloc, jobs.max(twice))?;
         Ok(())
     }
 }

@@ -1,0 +1,32 @@
+use Rattle.std.proofs.Common.{List, ◌++◌, ◌∷◌, [], sym, ap, ◌∙◌, subst, arith, rules}
+use Rattle.asset_names.specs.declared.steps.Step.TheVariants.{Initiate}
+use Rattle.asset_audit.specs.Audited.{Call}
+use Rattle.asset_manager.specs.Asker.{Asker}
+use Rattle.asset_runner.specs.Initiated.{IsInitiated}
+use Rattle.asset_runner.proofs.ArrivedLemmas.{tickets_more}
+use Rattle.asset_runner.proofs.InitiatedLemmas.{is_initiation, initiated}
+use Rattle.asset_runner.proofs.plan.Plan.initiate_with_room.Goals as goal
+
+pub cause_of-requires : goal.cause_of-requires
+cause_of-requires g c = is_initiation c.args.t c.args.parent c.call_lent-outcome.result c.call_lent-outcome.ensures.answer
+
+pub invariant_of-self-2-clause-tickets : goal.invariant_of-self-2-clause-tickets
+invariant_of-self-2-clause-tickets g c =
+    tickets_more (λ j. (j.place, j.name.0)) c.args.self.now.jobs.items c.push_reserved-2.new.self.items c.new-job.result
+    c.args.self.now.names.items c.push_reserved.new.self.items c.new-job.result.name c.len-place.result
+    (c.push_reserved-2.ensures.items ∙ ap (λ l. l ++ c.new-job.result ∷ []) c.reserve-else-is_err.ensures.items)
+    (c.push_reserved.ensures.items ∙ (λ i. c.reserve.ensures.items i ++ sym c.new-job.ensures.1 i ∷ []))
+    (λ i. (c.new-job.ensures.0 i, c.new-job.result.name.0))
+    (omega (arith, c.len-place.ensures, c.args.self.now.names.ok))
+    c.args.self.now.tickets
+
+pub returns-clause-asked : goal.returns-clause-asked
+returns-clause-asked g c =
+    let same = ap (λ (asker : Asker). asker.list.calls) c.split-session.ensures.same in
+    subst (λ (calls : List Call). IsInitiated calls (Initiate c.args.t c.args.parent) c.call_lent-outcome.new.self.list.calls) same
+    (initiated c.split-session.new.self.list.calls c.call_lent-outcome.new.self.list.calls (Initiate c.args.t c.args.parent) c.call_lent-outcome.result
+    (is_initiation c.args.t c.args.parent c.call_lent-outcome.result c.call_lent-outcome.ensures.answer)
+    (sym c.cause_of.ensures ∙ c.in-None.is) c.call_lent-outcome.ensures.listed)
+
+pub returns-clause-names : goal.returns-clause-names
+returns-clause-names g c = search rules
