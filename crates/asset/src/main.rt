@@ -43,9 +43,13 @@ fn main(rt: HostRuntime) -> ExitCode {
                 session,
             } = opened;
             let mut plan = Plan::new(alloc, theirs, session, Some(limits.turns));
-            let mut added = Ok(());
+            let mut added = match plan.reserve(names.len()) {
+                Ok(()) => Ok(()),
+                Err(_) => Err(JobsStop::NoMemory),
+            };
             'jobs: for (t, acts) in jobs {
                 if added.is_ok() {
+                    let operations = acts.len();
                     let body: Result<Body, JobsStop> = match Box::new(
                         alloc,
                         move |tx: Tx| do_acts(&rt, tx, acts.as_slice()),
@@ -54,7 +58,7 @@ fn main(rt: HostRuntime) -> ExitCode {
                         Err(_) => Err(JobsStop::NoMemory),
                     };
                     added = match body {
-                        Ok(body) => add_job(&rt, &mut plan, t, body),
+                        Ok(body) => add_job(&rt, &mut plan, t, operations, body),
                         Err(stop) => Err(stop),
                     };
                 }

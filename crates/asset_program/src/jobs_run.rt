@@ -138,9 +138,15 @@ pub fn begin_jobs<R: Read>(
     }
 }
 
-/// Puts a job into the plan, unless it is refused or the history has no room for it. It answers `NoMemory` if memory runs
-/// out.
-pub fn add_job<R: Wait>(rt: &R, plan: &mut Plan, t: Txn, body: Body) -> Result<(), JobsStop>
+/// Puts a job that is expected to do so many operations into the plan, unless it is refused or the history has no room for it.
+/// It answers `NoMemory` if memory runs out.
+pub fn add_job<R: Wait>(
+    rt: &R,
+    plan: &mut Plan,
+    t: Txn,
+    operations: usize,
+    body: Body,
+) -> Result<(), JobsStop>
     requires ready { (tx : Working) → pre body tx }
     requires same { (tx : Working) (f : Worked) → post body tx f → f.of ≡ Some tx.manager }
     ensures manager { arc_value plan.new.manager ≡ arc_value plan.old.manager }
@@ -148,7 +154,7 @@ pub fn add_job<R: Wait>(rt: &R, plan: &mut Plan, t: Txn, body: Body) -> Result<(
     ensures unchanged { OnErr result ((plan.new.names.items ≡ plan.old.names.items) × (plan.new.session.list.calls ≡ plan.old.session.list.calls)) }
     ensures stopped { IfErr result (λ stop. stop ≡ Stop.NoMemory) }
 {
-    match plan.initiate(rt, t, None, body) {
+    match plan.initiate_with_room(rt, t, None, body, operations) {
         Ok(()) => Ok(()),
         Err(InitFault { body: _, cause }) => match cause {
             Cause::NoMemory => Err(JobsStop::NoMemory),
