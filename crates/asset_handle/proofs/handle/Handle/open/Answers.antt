@@ -1,10 +1,10 @@
-use Rattle.std.proofs.Common.{sym, ◌∙◌, ap}
+use Rattle.std.proofs.Common.{rules, sym, ◌∙◌, ap}
 use Rattle.std.specs.Prelude.{Some}
 use Rattle.asset_handle.proofs.OpenedLemmas.{none_is_there, opens, opens_no_more, opens_nothing}
 use Rattle.asset_handle.proofs.handle.Handle.open.Goals as goal
 
 pub returns-then-self : goal.returns-then-self
-returns-then-self c = opens_no_more _ _ _ _ (sym c.args.self.now.tied ∙ c.if-self.true)
+returns-then-self c = search (rules, opens_no_more)
 
 pub open_core-requires : goal.open_core-requires
 open_core-requires c = tt
