@@ -5,9 +5,11 @@
 
 Each job has four acts, so with its initiate, begin, complete and commit it has eight entries. Apart each job has
 an object of its own. On shared objects each job writes and reads two of four objects, in rising
-order, so that no two wait for each other. All jobs commit, or the run is refused. The time is that of the whole process.
+order, so that no two wait for each other. All jobs commit, or the run is refused. The time is that of the whole process; the
+processor time, which a busy machine changes less, is that of all its threads and of the system for it.
 """
 import argparse
+import os
 import pathlib
 import subprocess
 import sys
@@ -40,15 +42,18 @@ def shared(jobs):
 
 
 def took(command, script, jobs):
-    """Returns the seconds of one run, in which all jobs are to commit."""
+    """Returns the seconds and the processor seconds of one run, in which all jobs are to commit."""
     with open(script) as text:
         start = time.perf_counter()
-        said = subprocess.run(command, stdin=text, capture_output=True, text=True)
+        run = subprocess.Popen(command, stdin=text, stdout=subprocess.PIPE, text=True)
+        said = run.stdout.read()
+        _, status, used = os.wait4(run.pid, 0)
         seconds = time.perf_counter() - start
-    last = said.stdout.splitlines()[-1] if said.stdout else ""
-    if said.returncode != 0 or last != f"audit ok entries {8 * jobs} committed {jobs} aborted 0":
-        sys.exit(f"jobs.py: {command[0]} ended with {said.returncode}: {last}")
-    return seconds
+    run.returncode = os.WEXITSTATUS(status) if os.WIFEXITED(status) else -1
+    last = said.splitlines()[-1] if said else ""
+    if run.returncode != 0 or last != f"audit ok entries {8 * jobs} committed {jobs} aborted 0":
+        sys.exit(f"jobs.py: {command[0]} ended with {run.returncode}: {last}")
+    return seconds, used.ru_utime + used.ru_stime
 
 
 def main():
@@ -67,10 +72,12 @@ def main():
                 theirs = [plain, str(workers), str(TURNS)]
                 # Runs alternate, so that what else the machine does counts for both.
                 runs = [(took(ours, script, given.jobs), took(theirs, script, given.jobs)) for _ in range(given.runs)]
-                best, other = min(run[0] for run in runs), min(run[1] for run in runs)
+                best, other = (min(run[which][0] for run in runs) for which in (0, 1))
+                used, theirs_used = (min(run[which][1] for run in runs) for which in (0, 1))
                 print(
                     f"{name}, {workers} workers: {given.jobs / best:,.0f} jobs a second, the yardstick "
-                    f"{given.jobs / other:,.0f}: {best / other:.2f} times its time",
+                    f"{given.jobs / other:,.0f}: {best / other:.2f} times its time, "
+                    f"{used / theirs_used:.2f} times its processor time",
                     flush=True,
                 )
 
