@@ -33,8 +33,9 @@ fn answer_step(core: &mut Core, step: &Step, answer: &mut PlainAnswer) -> Code
 pub(crate) fn ask(core: &mut Core, asked: &PlainStep, answer: &mut PlainAnswer) -> Code
     ensures { IsAsked core.old asked.now answer.old (number_of result) core.new answer.new }
 {
-    match step_of(asked) {
-        Some(step) => answer_step(core, &step, answer),
+    // The step is lent where it stands: to move it would copy its set of objects.
+    match &step_of(asked) {
+        Some(step) => answer_step(core, step, answer),
         None => Code::BadArgument,
     }
 }
