@@ -1,6 +1,6 @@
 //! The step that a plain step asks for.
 
-ghost use Rattle.std.specs.Prelude.{◌≡◌, ◌≤◌, length, take};
+ghost use Rattle.std.specs.Prelude.{◌≡◌, ◌≤◌, true, false, length, take, Some, None};
 ghost use Rattle.asset_handle.specs.Asked.{delegate_in, depend_in, initiate_in, kind_in, ops_in, permit_in, step_in};
 ghost use Rattle.asset_handle.specs.Listed.{objects_named, set_in, set_of_listed};
 
@@ -136,29 +136,67 @@ fn depend_of(asked: &PlainStep) -> Option<Step>
     })
 }
 
-/// Returns the step that is asked for, and `None` if the kind or the detail is unknown, or the objects make no list.
+/// Puts a step that may be there into the slot. Returns whether it was there.
+fn put_found(found: Option<Step>, slot: &mut Step) -> bool
+    ensures there { result ≡ true → found ≡ Some slot.new }
+    ensures none { result ≡ false → found ≡ None }
+{
+    match found {
+        Some(step) => {
+            *slot = step;
+            true
+        }
+        None => false,
+    }
+}
+
+/// Puts the step that is asked for into the slot. Returns whether there is one: not if the kind or the detail is unknown, or the
+/// objects make no list. Only what the step names is written, since to move a step copies its sixteen objects.
+#[inline(always)]
 #[tactic(auto, unfolding(crate::specs::Asked::step_in))]
-pub(crate) fn step_of(asked: &PlainStep) -> Option<Step>
-    ensures { result ≡ step_in asked.now }
+pub(crate) fn put_step(asked: &PlainStep, slot: &mut Step) -> bool
+    ensures there { result ≡ true → step_in asked.now ≡ Some slot.new }
+    ensures none { result ≡ false → step_in asked.now ≡ None }
 {
     let t = Txn(asked.first);
     let x = Ob(asked.second);
     match asked.kind {
-        1 => initiate_of(asked),
-        2 => Some(Step::Begin { t }),
-        3 => Some(Step::Read { t, x }),
-        4 => Some(Step::Write {
-            t,
-            x,
-            v: asked.value,
-        }),
-        5 => Some(Step::Complete { t }),
-        6 => permit_of(asked),
-        7 => delegate_of(asked),
-        8 => depend_of(asked),
-        9 => Some(Step::Commit { t }),
-        10 => Some(Step::Abort { t }),
-        11 => Some(Step::WaitFor { t }),
-        _ => None,
+        1 => put_found(initiate_of(asked), slot),
+        2 => {
+            *slot = Step::Begin { t };
+            true
+        }
+        3 => {
+            *slot = Step::Read { t, x };
+            true
+        }
+        4 => {
+            *slot = Step::Write {
+                t,
+                x,
+                v: asked.value,
+            };
+            true
+        }
+        5 => {
+            *slot = Step::Complete { t };
+            true
+        }
+        6 => put_found(permit_of(asked), slot),
+        7 => put_found(delegate_of(asked), slot),
+        8 => put_found(depend_of(asked), slot),
+        9 => {
+            *slot = Step::Commit { t };
+            true
+        }
+        10 => {
+            *slot = Step::Abort { t };
+            true
+        }
+        11 => {
+            *slot = Step::WaitFor { t };
+            true
+        }
+        _ => false,
     }
 }

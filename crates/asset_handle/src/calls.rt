@@ -4,7 +4,7 @@ ghost use Rattle.std.specs.Prelude.{◌≡◌, MatchOption};
 ghost use Rattle.asset_handle.specs.Codes.{number_of};
 ghost use Rattle.asset_handle.specs.Calls.{IsAnswered, IsAsked, IsEntry, IsGroup, IsLen, IsStatus, IsValue, IsWaiter};
 
-use crate::asked::step_of;
+use crate::asked::put_step;
 use crate::codes::Code;
 use crate::plain::{PlainAnswer, PlainStep, PlainWaiter};
 use crate::told::{op_number, plain_answer, plain_step, status_number};
@@ -33,10 +33,11 @@ fn answer_step(core: &mut Core, step: &Step, answer: &mut PlainAnswer) -> Code
 pub(crate) fn ask(core: &mut Core, asked: &PlainStep, answer: &mut PlainAnswer) -> Code
     ensures { IsAsked core.old asked.now answer.old (number_of result) core.new answer.new }
 {
-    // The step is lent where it stands: to move it would copy its set of objects.
-    match &step_of(asked) {
-        Some(step) => answer_step(core, step, answer),
-        None => Code::BadArgument,
+    let mut step = Step::Begin { t: Txn(0) };
+    if put_step(asked, &mut step) {
+        answer_step(core, &step, answer)
+    } else {
+        Code::BadArgument
     }
 }
 
