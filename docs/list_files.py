@@ -2,8 +2,8 @@
 """Writes the list of files at the end of ARCHITECTURE.md: each crate's files with their first lines.
 
     docs/list_files.py            writes the list
-    docs/list_files.py --check    exits with 1 if the list is not what it would write, or if an example of README is
-                                  not one that a test compiles
+    docs/list_files.py --check    exits with 1 if the list is not what it would write, or if the example of README is
+                                  not a part of the one that a test compiles
 """
 import pathlib
 import sys
@@ -11,7 +11,7 @@ import sys
 TOP = pathlib.Path(__file__).resolve().parent.parent
 PAGE = TOP / "docs" / "ARCHITECTURE.md"
 MARK = "<!-- The rest is written by docs/list_files.py. -->\n"
-TESTS = ["crates/asset_program_tests/src/readme.rt", "crates/asset_model_tests/src/examples.rt"]
+TEST = TOP / "crates" / "asset_program_tests" / "src" / "readme.rt"
 
 
 def crates():
@@ -64,10 +64,12 @@ def listed():
     return "".join(lines)
 
 
-def tested_example(test):
-    """Returns the example that a file of tests has."""
-    test = (TOP / test).read_text()
-    return test.split("// The example begins here.\n")[1].split("// The example ends here.\n")[0]
+def is_example_tested():
+    """Returns whether the lines of README's first example in Rattle stand in the tested one, in this order."""
+    tested = TEST.read_text().split("// The example begins here.\n")[1].split("// The example ends here.\n")[0]
+    left = iter(tested.splitlines())
+    example = (TOP / "README.md").read_text().split("```rust\n")[1].split("```\n")[0]
+    return all(line in left for line in example.splitlines())
 
 
 def main():
@@ -76,9 +78,8 @@ def main():
     if "--check" in sys.argv[1:]:
         if page != written:
             sys.exit("docs/ARCHITECTURE.md: the list of files is old; run docs/list_files.py")
-        for test in TESTS:
-            if f"```rust\n{tested_example(test)}```\n" not in (TOP / "README.md").read_text():
-                sys.exit(f"README.md: an example is not that of {test}")
+        if not is_example_tested():
+            sys.exit(f"README.md: the example is no part of that of {TEST.relative_to(TOP)}")
     else:
         PAGE.write_text(written)
 

@@ -1,4 +1,4 @@
-//! The example of README, word for word, and what it does.
+//! An example, whose first function README has word for word, and what it does.
 
 // The example begins here.
 ghost use Rattle.asset_counts.specs.Pass.{IsOf};
