@@ -100,7 +100,7 @@ pub(crate) fn begin(rt: &(impl Abort + AllocGlobal), handle: &mut Handle, names:
     }
 }
 
-/// Asserts that the history has so many entries, and closes the handle.
+/// Asserts how many entries the history has, and closes the handle.
 pub(crate) fn expect_closed(rt: &(impl Abort + AllocGlobal), handle: &mut Handle, entries: usize) {
     let mut len = 77;
     assert_eq!(rt; handle.len(rt.alloc(), &mut len), Code::Done);
