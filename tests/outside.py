@@ -68,6 +68,21 @@ TEXTS = {
     "groups": b"0 dead 7\n1 dead 8\n2 committed 9\n",
     "sources": b"8 read 9 3 300 opening\n11 read 9 1 100 opening\n",
     "serial": LEFT,
+    "steps": b"""4       0       initiate 7                      ok
+5       1       begin 7                         ok
+6       2       initiate 8                      ok
+7       3       begin 8                         ok
+8       4       initiate 9                      ok
+9       5       begin 9                         ok
+10      6       write 7 1 11                    ok
+11      7       write 8 2 22                    ok
+12      8       read 9 3                        300
+13      9       write 9 3 33                    ok
+14      10      abort 7                         aborted
+15      11      read 9 1                        100
+16      12      complete 9                      ok
+17      13      commit 9                        committed
+""",
     "jobs": b"job 7 committed\njob 8 committed\naudit ok entries 10 committed 2 aborted 0\n",
 }
 
@@ -96,6 +111,10 @@ def large(word, objects):
         "groups": b"0 committed 7\n",
         "sources": b"2 read 7 1 1 opening\n",
         "serial": opening + steps,
+        "steps": b"".join(
+            b"%-7d %-7d %-31s %s\n" % (objects + 1 + entry, entry, step, reply)
+            for entry, (step, reply) in enumerate(zip(steps.splitlines(), b"ok ok 1 ok ok committed".split()))
+        ),
     }
     return opening + steps, texts[word]
 

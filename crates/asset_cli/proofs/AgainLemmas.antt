@@ -16,18 +16,19 @@ use Rattle.asset_history.specs.Recorded.{Recorded, objects_of, opened, answer_to
 use Rattle.asset_grammar.specs.declared.grammar.Command.TheVariants.{Ask}
 use Rattle.asset_grammar.specs.declared.grammar.Line.TheVariants.{Command}
 use Rattle.asset_grammar.specs.Grammar.{line_of}
-use Rattle.asset_grammar.specs.Lines.{Lacks, lines}
+use Rattle.asset_grammar.specs.Lines.{lines}
 use Rattle.asset_grammar.specs.Texts.{outcome_line, reply_line}
 use Rattle.asset_grammar.proofs.LineLemmas.{lines_cut}
 use Rattle.asset_printing.specs.Printed.{object_text, step_text}
 use Rattle.asset_printing.proofs.PlainLemmas.{object_one_line, step_one_line}
 use Rattle.asset_printing.proofs.SaidLemmas.{object_said, step_said}
 use Rattle.asset_reports.specs.Reports.{opening_line, opening_text, steps_text, history_text}
-use Rattle.asset_cli.specs.Transcript.{Transcript, finished, with_prefix, outcome_text, line_if, joined_by, step_line, steps_transcript, object_line, objects_transcript, transcript}
+use Rattle.asset_cli.specs.Transcript.{Transcript, finished, with_prefix, answered_text, printed, joined_by, step_line, steps_transcript, object_line, objects_transcript, transcript}
 use Rattle.asset_cli.specs.Again.{FitThroughout, RunsAgain, replayed, replies_text}
 use Rattle.asset_cli.proofs.OpeningLemmas.{exists_listed}
 use Rattle.asset_cli.proofs.PreambleLemmas.{object_taken}
 use Rattle.asset_cli.proofs.WritableLemmas.{EntriesWritable, OpeningWritable}
+use Rattle.asset_cli.specs.declared.prints.Prints.TheVariants.{Replies}
 
 -- an object that is listed is counted
 counted_if_listed : (opening : Opening) (x : ℕ) → list_any (λ (pair : Ob × ℤ). eqb pair.0.0 x) opening ≡ true → 0 < count_by (λ m. m == x) (objects_of opening)
@@ -57,7 +58,7 @@ new_object before after given none = go (exists before given.0.0) refl where
 
 -- the object lines of an opening add its objects
 objects_again : (todo done : Opening) (rest : List ℕ) (n capacity : ℕ) → OpeningWritable todo → HasNoDouble (objects_of (done ++ todo))
-    → objects_transcript true (lines (opening_text todo ++ rest)) n done capacity ≡ objects_transcript true (lines rest) (n + length todo) (done ++ todo) capacity
+    → objects_transcript Replies (lines (opening_text todo ++ rest)) n done capacity ≡ objects_transcript Replies (lines rest) (n + length todo) (done ++ todo) capacity
 unfolding opening_text opening_line
 objects_again [] done rest n capacity writable none =
     let same : n + 0 ≡ n = omega arith in
@@ -71,7 +72,7 @@ objects_again (given ∷ todo) done rest n capacity writable none =
     let same : (done ++ given ∷ []) ++ todo ≡ done ++ given ∷ todo = append_assoc done (given ∷ []) todo in
     let later = objects_again todo (done ++ given ∷ []) rest (n + 1) capacity writable.1 (rw same none) in
     let count : (n + 1) + length todo ≡ n + length (given ∷ todo) = omega arith in
-    ap (λ (ls : List (List ℕ)). objects_transcript true ls n done capacity) cut ∙ took true (lines (opening_text todo ++ rest)) n capacity ∙ later ∙ rw (same, count) refl
+    ap (λ (ls : List (List ℕ)). objects_transcript Replies ls n done capacity) cut ∙ took Replies (lines (opening_text todo ++ rest)) n capacity ∙ later ∙ rw (same, count) refl
 
 -- the first line, if there is one, is that of a step
 abbrev StartsWithStep : List (List ℕ) → Type 0
@@ -93,15 +94,15 @@ starts (entry ∷ older) rest writable h =
     rw (last_line older entry rest) (starts older (step_text entry.0 ++ 10 ∷ rest) writable.1 first)
 
 -- the steps begin at the first line of a step
-steps_begin : (ls : List (List ℕ)) (n : ℕ) (opening : Opening) (capacity : ℕ) → StartsWithStep ls → objects_transcript true ls n opening capacity ≡ steps_transcript true ls n (opened opening capacity)
+steps_begin : (ls : List (List ℕ)) (n : ℕ) (opening : Opening) (capacity : ℕ) → StartsWithStep ls → objects_transcript Replies ls n opening capacity ≡ steps_transcript Replies ls n (opened opening capacity)
 unfolding objects_transcript steps_transcript object_line
 steps_begin [] n opening capacity h = refl
 steps_begin (line ∷ more) n opening capacity h = rw (h.1) refl
 
 -- a step that is answered again
 asked_again : (line : List ℕ) (more : List (List ℕ)) (n : ℕ) (h : Recorded) (entry : Entry) → line_of line ≡ Command (Ask entry.0) → answer_to h entry.0 ≡ Answer entry.1 → has_room h entry.0 (Answer entry.1) ≡ true
-    → steps_transcript true (line ∷ more) n h ≡ with_prefix (reply_line entry.1) (steps_transcript true more (n + 1) (with_entry h entry.0 entry.1))
-unfolding steps_transcript step_line line_if outcome_text joined_by after outcome_line
+    → steps_transcript Replies (line ∷ more) n h ≡ with_prefix (reply_line entry.1) (steps_transcript Replies more (n + 1) (with_entry h entry.0 entry.1))
+unfolding steps_transcript step_line printed answered_text joined_by after outcome_line
 asked_again line more n h entry said answered room = rw (said, answered, room) refl
 
 -- two texts before a transcript
@@ -112,7 +113,7 @@ prefix_twice first second later = ap (λ (text : List ℕ). record later { text 
 module _ (opening : Opening) (capacity : ℕ) where
   -- the step lines of a history print the replies that it has
   steps_again : (entries : List Entry) (rest : List ℕ) (n : ℕ) → IsLegal opening entries → EntriesWritable entries → FitThroughout entries capacity
-      → steps_transcript true (lines (steps_text entries ++ rest)) n (opened opening capacity) ≡ with_prefix (replies_text entries) (steps_transcript true (lines rest) (n + length entries) (record { opening = opening; entries = entries; capacity = capacity }))
+      → steps_transcript Replies (lines (steps_text entries ++ rest)) n (opened opening capacity) ≡ with_prefix (replies_text entries) (steps_transcript Replies (lines rest) (n + length entries) (record { opening = opening; entries = entries; capacity = capacity }))
   unfolding steps_text IsLegal FitThroughout replies_text with_prefix opened answer_to has_room with_entry
   steps_again [] rest n legal writable fit =
       let same : n + 0 ≡ n = omega arith in
@@ -124,11 +125,11 @@ module _ (opening : Opening) (capacity : ℕ) where
       let before = steps_again older (line ++ 10 ∷ rest) n legal.1 writable.1 fit.1 in
       let asked = asked_again line (lines rest) (n + length older) h entry (step_said entry.0 writable.0) legal.0 fit.0 in
       let count : (n + length older) + 1 ≡ n + length (entry ∷ older) = omega arith in
-      ap (λ (text : List ℕ). steps_transcript true (lines text) n (opened opening capacity)) (last_line older entry rest)
+      ap (λ (text : List ℕ). steps_transcript Replies (lines text) n (opened opening capacity)) (last_line older entry rest)
       ∙ before
-      ∙ ap (with_prefix (replies_text older)) (ap (λ (ls : List (List ℕ)). steps_transcript true ls (n + length older) h) cut ∙ asked)
+      ∙ ap (with_prefix (replies_text older)) (ap (λ (ls : List (List ℕ)). steps_transcript Replies ls (n + length older) h) cut ∙ asked)
       ∙ prefix_twice (replies_text older) (reply_line entry.1) _
-      ∙ ap (λ (m : ℕ). with_prefix (replies_text (entry ∷ older)) (steps_transcript true (lines rest) m (record { opening = opening; entries = entry ∷ older; capacity = capacity }))) count
+      ∙ ap (λ (m : ℕ). with_prefix (replies_text (entry ∷ older)) (steps_transcript Replies (lines rest) m (record { opening = opening; entries = entry ∷ older; capacity = capacity }))) count
 
 -- all of it
 pub history_again : (opening : Opening) (entries : List Entry) → OpeningWritable opening → HasNoDouble (objects_of opening) → EntriesWritable entries → IsLegal opening entries → RunsAgain (history_text opening entries) opening entries

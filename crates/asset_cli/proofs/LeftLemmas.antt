@@ -19,6 +19,7 @@ use Rattle.asset_cli.specs.Transcript.{finished, stopped, with_prefix, joined_by
 use Rattle.asset_cli.specs.Again.{FitThroughout}
 use Rattle.asset_cli.proofs.OpeningLemmas.{no_double_more}
 use Rattle.asset_cli.proofs.WritableLemmas.{EntriesWritable, OpeningWritable, opening_push}
+use Rattle.asset_cli.specs.declared.prints.Prints.{Prints}
 
 pub record IsSound (h : Recorded) : Type 0 where
   pub written : OpeningWritable h.opening
@@ -42,7 +43,7 @@ joined_sound h step sound says = go (answer_to h step) refl (has_room h step (an
     fit = (r, sound.fit);
   }
 
-steps_sound : (prints : Bool) (ls : List (List ℕ)) (n : ℕ) (h : Recorded) → IsSound h → IsSound (steps_transcript prints ls n h).history
+steps_sound : (prints : Prints) (ls : List (List ℕ)) (n : ℕ) (h : Recorded) → IsSound h → IsSound (steps_transcript prints ls n h).history
 unfolding steps_transcript finished step_line with_prefix stopped
 steps_sound prints [] n h sound = finished_sound where
   finished_sound : IsSound (finished h).history
@@ -59,7 +60,7 @@ opened_sound : (opening : Opening) (capacity : ℕ) → OpeningWritable opening 
 unfolding opened IsLegal FitThroughout
 opened_sound opening capacity written different = record { written = written; different = different; writable = tt; legal = tt; fit = tt }
 
-objects_sound : (prints : Bool) (ls : List (List ℕ)) (n : ℕ) (opening : Opening) (capacity : ℕ) → OpeningWritable opening → HasNoDouble (objects_of opening) → IsSound (objects_transcript prints ls n opening capacity).history
+objects_sound : (prints : Prints) (ls : List (List ℕ)) (n : ℕ) (opening : Opening) (capacity : ℕ) → OpeningWritable opening → HasNoDouble (objects_of opening) → IsSound (objects_transcript prints ls n opening capacity).history
 unfolding objects_transcript finished object_line stopped
 objects_sound prints [] n opening capacity written different = finished_sound where
   finished_sound : IsSound (finished (opened opening capacity)).history
@@ -81,6 +82,6 @@ objects_sound prints (line ∷ more) n opening capacity written different =
         choose false h = later (opening ++ given ∷ []) (opening_push opening given written (object_writable line given e)) (no_double_more opening given h different)
 
 -- the history that a script leaves is sound
-pub left_sound : (prints : Bool) (bytes : List ℕ) (capacity : ℕ) → IsSound (transcript prints bytes capacity).history
+pub left_sound : (prints : Prints) (bytes : List ℕ) (capacity : ℕ) → IsSound (transcript prints bytes capacity).history
 unfolding transcript HasNoDouble twice
 left_sound prints bytes capacity = objects_sound prints (lines bytes) 1 [] capacity tt (λ m. refl)

@@ -9,3 +9,4 @@ pub mod AgainLemmas
 pub mod LeftLemmas
 pub mod ReportAgainLemmas
 pub mod RoomLemmas
+pub mod ListingLemmas

@@ -1,5 +1,5 @@
 -- What one line does before the first step.
-use Rattle.std.proofs.Common.{◌≡◌, ℕ, ◌+◌, Bool, true, false, List, [], ◌∷◌, ◌++◌}
+use Rattle.std.proofs.Common.{◌≡◌, ℕ, ◌+◌, true, false, List, [], ◌∷◌, ◌++◌}
 use Rattle.std.specs.Prelude.{ℤ}
 use Rattle.asset_names.specs.declared.names.Ob.{Ob}
 use Rattle.asset_names.specs.declared.steps.Step.{Step}
@@ -12,6 +12,7 @@ use Rattle.asset_cli.specs.declared.preamble.ObjectLine.TheVariants.{More, First
 use Rattle.asset_grammar.specs.Grammar.{line_of}
 use Rattle.asset_cli.specs.Transcript.{objects_transcript, object_line, steps_from, steps_transcript}
 use Rattle.asset_cli.specs.Preamble.{Takes, transcript_from}
+use Rattle.asset_cli.specs.declared.prints.Prints.{Prints}
 
 pub takes_blank : (line : List ℕ) (step : Step) (opening : Opening) → line_of line ≡ Blank → Takes More step line opening opening
 unfolding Takes objects_transcript object_line
@@ -19,7 +20,7 @@ takes_blank line step opening e = λ prints more n capacity. rw e
 
 -- an object that no earlier line added is added
 pub object_taken : (line : List ℕ) (opening : Opening) (object : Ob × ℤ) → line_of line ≡ Command (Object object) → exists opening object.0.0 ≡ false
-    → (prints : Bool) (more : List (List ℕ)) (n capacity : ℕ) → objects_transcript prints (line ∷ more) n opening capacity ≡ objects_transcript prints more (n + 1) (opening ++ object ∷ []) capacity
+    → (prints : Prints) (more : List (List ℕ)) (n capacity : ℕ) → objects_transcript prints (line ∷ more) n opening capacity ≡ objects_transcript prints more (n + 1) (opening ++ object ∷ []) capacity
 unfolding objects_transcript object_line
 object_taken line opening object e new = λ prints more n capacity. rw (e, new)
 

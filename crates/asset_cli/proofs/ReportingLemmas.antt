@@ -7,22 +7,23 @@ use Rattle.asset_cli.specs.declared.rendering.Played.TheVariants as Played'
 use Rattle.asset_cli.specs.Transcript.{Transcript, transcript}
 use Rattle.asset_cli.specs.Rendering.{IsLeftBy, Plays, Renders}
 use Rattle.asset_cli.specs.Reporting.{Reported, with_report, reported}
+use Rattle.asset_cli.specs.declared.prints.Prints.TheVariants.{Nothing}
 
 -- every line was looked at, and the report follows
-report_renders : (before mid after : List ℕ) (report : Recorded → Reported) (bytes : List ℕ) (capacity : ℕ) (left : Recorded) (end : RunEnd) → mid ≡ before ++ (transcript false bytes capacity).text
-    → (transcript false bytes capacity).end ≡ RunEnd'.Finished → left ≡ (transcript false bytes capacity).history → after ≡ mid ++ (report left).text → end ≡ (report left).end → Renders before (reported report bytes capacity) after end
+report_renders : (before mid after : List ℕ) (report : Recorded → Reported) (bytes : List ℕ) (capacity : ℕ) (left : Recorded) (end : RunEnd) → mid ≡ before ++ (transcript Nothing bytes capacity).text
+    → (transcript Nothing bytes capacity).end ≡ RunEnd'.Finished → left ≡ (transcript Nothing bytes capacity).history → after ≡ mid ++ (report left).text → end ≡ (report left).end → Renders before (reported report bytes capacity) after end
 unfolding reported with_report
 report_renders before mid after report bytes capacity left end text finished same wrote ends =
     rw (wrote, ends, text, same, finished) (record { text = append_assoc before _ _; ends = refl })
 
 -- so after a history
-pub history_renders : (before mid after : List ℕ) (report : Recorded → Reported) (bytes : List ℕ) (capacity : ℕ) (left : Recorded) (end : RunEnd) → Plays before (transcript false bytes capacity) mid false (Played'.Finished left)
+pub history_renders : (before mid after : List ℕ) (report : Recorded → Reported) (bytes : List ℕ) (capacity : ℕ) (left : Recorded) (end : RunEnd) → Plays before (transcript Nothing bytes capacity) mid false (Played'.Finished left)
     → after ≡ mid ++ (report left).text → end ≡ (report left).end → Renders before (reported report bytes capacity) after end
 unfolding IsLeftBy
 history_renders before mid after report bytes capacity left end plays wrote ends = report_renders before mid after report bytes capacity left end plays.text plays.left.0 plays.left.1 wrote ends
 
 -- and after a history with sources
-pub trace_renders : (before mid after : List ℕ) (report : Recorded → Reported) (bytes : List ℕ) (capacity : ℕ) (left : Recorded) (end : RunEnd) → Plays before (transcript false bytes capacity) mid true (Played'.Traced left)
+pub trace_renders : (before mid after : List ℕ) (report : Recorded → Reported) (bytes : List ℕ) (capacity : ℕ) (left : Recorded) (end : RunEnd) → Plays before (transcript Nothing bytes capacity) mid true (Played'.Traced left)
     → after ≡ mid ++ (report left).text → end ≡ (report left).end → Renders before (reported report bytes capacity) after end
 unfolding IsLeftBy
 trace_renders before mid after report bytes capacity left end plays wrote ends = report_renders before mid after report bytes capacity left end plays.text plays.left.0 plays.left.1 wrote ends
@@ -34,10 +35,10 @@ bad_ends before after all true n plays = plays.left
 bad_ends before after all false n plays = plays.left
 
 -- a line was bad, and no report is made
-pub bad_line_renders : (before after : List ℕ) (report : Recorded → Reported) (bytes : List ℕ) (capacity n : ℕ) (traces : Bool) → Plays before (transcript false bytes capacity) after traces (Played'.BadLine n)
+pub bad_line_renders : (before after : List ℕ) (report : Recorded → Reported) (bytes : List ℕ) (capacity n : ℕ) (traces : Bool) → Plays before (transcript Nothing bytes capacity) after traces (Played'.BadLine n)
     → Renders before (reported report bytes capacity) after (RunEnd'.BadLine n)
 unfolding reported with_report
-bad_line_renders before after report bytes capacity n traces plays = rw (bad_ends before after (transcript false bytes capacity) traces n plays) (record { text = plays.text; ends = refl })
+bad_line_renders before after report bytes capacity n traces plays = rw (bad_ends before after (transcript Nothing bytes capacity) traces n plays) (record { text = plays.text; ends = refl })
 
 -- every line was looked at
 pub run_renders : (before after : List ℕ) (all : Transcript) (left : Recorded) → Plays before all after false (Played'.Finished left) → Renders before all after RunEnd'.Finished

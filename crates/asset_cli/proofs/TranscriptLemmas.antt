@@ -9,37 +9,58 @@ use Rattle.asset_grammar.specs.declared.grammar.Line.TheVariants.{Blank, Command
 use Rattle.asset_cli.specs.declared.ends.RunEnd.{RunEnd}
 use Rattle.asset_grammar.specs.Grammar.{line_of}
 use Rattle.asset_grammar.specs.Texts.{bad_line}
-use Rattle.asset_cli.specs.Transcript.{Transcript, outcome_text, joined_by, steps_from, steps_transcript, step_line, line_if, with_prefix, finished, stopped}
+use Rattle.asset_cli.specs.Transcript.{Transcript, answered_text, joined_by, steps_from, steps_transcript, step_line, printed, with_prefix, finished, stopped}
 use Rattle.asset_cli.specs.declared.player.Player.{Player}
 use Rattle.asset_cli.specs.declared.player.Player.TheVariants as Player'
 use Rattle.asset_cli.specs.declared.rendering.Played.TheVariants as Played'
-use Rattle.asset_cli.specs.Playing.{history_of, traces_in, left_of}
+use Rattle.asset_cli.specs.Playing.{history_of, traces_in, left_of, prints_for, traces_for}
+use Rattle.asset_cli.specs.declared.reporting.Work.{Work}
+use Rattle.asset_cli.specs.declared.reporting.Work.TheVariants as Work'
+use Rattle.asset_names.specs.declared.replies.Outcome.{Outcome}
 use Rattle.asset_cli.specs.Rendering.{GoesOn, Ends, IsLeftBy, Plays, end_at, played_of}
+use Rattle.asset_cli.specs.declared.prints.Prints.{Prints}
+use Rattle.asset_cli.specs.declared.prints.Prints.TheVariants.{Nothing, Replies, Listing}
 
-pub blank_goes_on : (prints : Bool) (before line : List ℕ) (more : List (List ℕ)) (n : ℕ) (h : Recorded) → line_of line ≡ Blank
+-- only a listing says which entry a step becomes
+pub answered_at : (prints : Prints) (n place next : ℕ) (step : Step) (outcome : Outcome) → (prints ≡ Listing → place ≡ next)
+    → answered_text prints n place step outcome ≡ answered_text prints n next step outcome
+unfolding answered_text
+answered_at Nothing n place next step outcome same = refl
+answered_at Replies n place next step outcome same = refl
+answered_at Listing n place next step outcome same = rw (same refl) refl
+
+-- no sources are kept for a listing
+pub listing_plain : (work : Work) → prints_for work ≡ Listing → traces_for work ≡ false
+unfolding prints_for traces_for
+listing_plain Work'.Run e = refl
+listing_plain Work'.Steps e = refl
+listing_plain Work'.Sources e = absurd (cc)
+listing_plain (Work'.Report report) e = refl
+
+pub blank_goes_on : (prints : Prints) (before line : List ℕ) (more : List (List ℕ)) (n : ℕ) (h : Recorded) → line_of line ≡ Blank
     → GoesOn before (steps_transcript prints (line ∷ more) n h) before (steps_transcript prints more (n + 1) h)
 unfolding steps_transcript step_line
 blank_goes_on prints before line more n h e = rw e (record { text = refl; end = refl; history = refl })
 
 -- a step prints its line or nothing, and the lines after it go on
-pub step_goes_on : (prints : Bool) (before after : List ℕ) (more : List (List ℕ)) (n : ℕ) (h h' : Recorded) (step : Step)
-    → after ≡ before ++ line_if prints (outcome_text h step (answer_to h step)) → h' ≡ joined_by h step (answer_to h step)
+pub step_goes_on : (prints : Prints) (before after : List ℕ) (more : List (List ℕ)) (n : ℕ) (h h' : Recorded) (step : Step)
+    → after ≡ before ++ printed prints n h step (answer_to h step) → h' ≡ joined_by h step (answer_to h step)
     → GoesOn before (steps_from prints step more n h) after (steps_transcript prints more (n + 1) h')
 unfolding steps_from step_line with_prefix
 step_goes_on prints before after more n h h' step wrote joined = rw (wrote, joined) (record { text = sym (append_assoc before _ _); end = refl; history = refl })
 
-pub ask_goes_on : (prints : Bool) (before after line : List ℕ) (more : List (List ℕ)) (n : ℕ) (h h' : Recorded) (step : Step) → line_of line ≡ Command (Ask step)
-    → after ≡ before ++ line_if prints (outcome_text h step (answer_to h step)) → h' ≡ joined_by h step (answer_to h step)
+pub ask_goes_on : (prints : Prints) (before after line : List ℕ) (more : List (List ℕ)) (n : ℕ) (h h' : Recorded) (step : Step) → line_of line ≡ Command (Ask step)
+    → after ≡ before ++ printed prints n h step (answer_to h step) → h' ≡ joined_by h step (answer_to h step)
     → GoesOn before (steps_transcript prints (line ∷ more) n h) after (steps_transcript prints more (n + 1) h')
 unfolding steps_transcript step_line with_prefix
 ask_goes_on prints before after line more n h h' step e wrote joined = rw (e, wrote, joined) (record { text = sym (append_assoc before _ _); end = refl; history = refl })
 
-pub object_ends : (prints : Bool) (before after line : List ℕ) (more : List (List ℕ)) (n : ℕ) (h : Recorded) (object : Ob × ℤ) → line_of line ≡ Command (Object object)
+pub object_ends : (prints : Prints) (before after line : List ℕ) (more : List (List ℕ)) (n : ℕ) (h : Recorded) (object : Ob × ℤ) → line_of line ≡ Command (Object object)
     → after ≡ before ++ bad_line n → Ends before (steps_transcript prints (line ∷ more) n h) after (end_at (Some n)) h
 unfolding steps_transcript step_line stopped end_at
 object_ends prints before after line more n h object e wrote = rw e (record { text = wrote; ends = refl; history = refl })
 
-pub bad_ends : (prints : Bool) (before after line : List ℕ) (more : List (List ℕ)) (n : ℕ) (h : Recorded) → line_of line ≡ Bad → after ≡ before ++ bad_line n
+pub bad_ends : (prints : Prints) (before after line : List ℕ) (more : List (List ℕ)) (n : ℕ) (h : Recorded) → line_of line ≡ Bad → after ≡ before ++ bad_line n
     → Ends before (steps_transcript prints (line ∷ more) n h) after (end_at (Some n)) h
 unfolding steps_transcript step_line stopped end_at
 bad_ends prints before after line more n h e wrote = rw e (record { text = wrote; ends = refl; history = refl })
@@ -52,7 +73,7 @@ pub goes_on_later : (before mid after : List ℕ) (all some rest : Transcript) �
 goes_on_later before mid after all some rest first then = record { text = first.text ∙ then.text; end = first.end ∙ then.end; history = first.history ∙ then.history }
 
 -- no line is left
-pub none_ends : (prints : Bool) (before : List ℕ) (n : ℕ) (h : Recorded) → Ends before (steps_transcript prints [] n h) before (end_at None) h
+pub none_ends : (prints : Prints) (before : List ℕ) (n : ℕ) (h : Recorded) → Ends before (steps_transcript prints [] n h) before (end_at None) h
 unfolding steps_transcript finished end_at
 none_ends prints before n h = record { text = sym (append-nil before); ends = refl; history = refl }
 

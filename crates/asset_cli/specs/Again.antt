@@ -1,5 +1,5 @@
 -- What a script that a report prints does when it is run.
-use Rattle.std.specs.Prelude.{◌≡◌, ℕ, ◌+◌, true, false, List, [], ◌∷◌, ◌++◌, length}
+use Rattle.std.specs.Prelude.{◌≡◌, ℕ, ◌+◌, true, List, [], ◌∷◌, ◌++◌, length}
 use Rattle.asset_names.specs.Steps.{Opening, Entry, applied}
 use Rattle.asset_names.specs.Room.{fits}
 use Rattle.asset_names.specs.Groups.{without}
@@ -10,6 +10,7 @@ use Rattle.asset_grammar.specs.Texts.{reply_line}
 use Rattle.asset_cli.specs.declared.ends.RunEnd.TheVariants.{Finished}
 use Rattle.asset_cli.specs.Transcript.{Transcript, transcript}
 use Rattle.asset_cli.specs.Reporting.{pruned, reported, serialized}
+use Rattle.asset_cli.specs.declared.prints.Prints.TheVariants.{Nothing, Replies}
 
 -- the lines of the replies of entries, oldest first
 unfoldable pub replies_text : List Entry → List ℕ
@@ -27,11 +28,11 @@ replayed opening entries capacity = record { text = replies_text entries; end = 
 
 -- run as a script, over a history with room for the entries, the text prints the replies that they had, and leaves them
 unfoldable pub RunsAgain : List ℕ → Opening → List Entry → Type 0
-RunsAgain text opening entries = (capacity : ℕ) → FitThroughout entries capacity → transcript true text capacity ≡ replayed opening entries capacity
+RunsAgain text opening entries = (capacity : ℕ) → FitThroughout entries capacity → transcript Replies text capacity ≡ replayed opening entries capacity
 
 -- the history that a script leaves
 abbrev pub left_by : List ℕ → ℕ → Recorded
-left_by bytes capacity = (transcript false bytes capacity).history
+left_by bytes capacity = (transcript Nothing bytes capacity).history
 
 -- what is printed of it without its dead groups runs again, unless a line was bad
 abbrev pub PrunedRunsAgain : List ℕ → ℕ → Type 0

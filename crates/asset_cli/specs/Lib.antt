@@ -1,5 +1,6 @@
 pub mod Device
 pub mod Transfers
+pub mod Listing
 pub mod Transcript
 pub mod Rendering
 pub mod Playing

@@ -5,6 +5,8 @@ use Rattle.asset_cli.specs.declared.player.Player.{Player}
 use Rattle.asset_cli.specs.declared.player.Player.TheVariants.{Plain, Tracing}
 use Rattle.asset_cli.specs.declared.player.Left.{Left}
 use Rattle.asset_cli.specs.declared.player.Left.TheVariants as Left'
+use Rattle.asset_cli.specs.declared.prints.Prints.{Prints}
+use Rattle.asset_cli.specs.declared.prints.Prints.TheVariants.{Nothing, Replies, Listing}
 use Rattle.asset_cli.specs.declared.reporting.Work.{Work}
 use Rattle.asset_cli.specs.declared.reporting.Work.TheVariants as Work'
 
@@ -23,10 +25,11 @@ unfoldable pub left_of : Player → Left
 left_of (Plain core) = Left'.History core.history
 left_of (Tracing tracer) = Left'.Trace tracer
 
--- whether steps print the lines of their outcomes
-unfoldable pub prints_for : Work → Bool
-prints_for Work'.Run = true
-prints_for work = false
+-- what steps print
+unfoldable pub prints_for : Work → Prints
+prints_for Work'.Run = Replies
+prints_for Work'.Steps = Listing
+prints_for work = Nothing
 
 -- whether sources are to be kept
 unfoldable pub traces_for : Work → Bool

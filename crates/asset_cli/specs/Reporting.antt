@@ -1,5 +1,5 @@
 -- What scripts are run for: their transcript, or a report on the history that they leave.
-use Rattle.std.specs.Prelude.{ℕ, true, false, cond, List, ◌++◌}
+use Rattle.std.specs.Prelude.{ℕ, cond, List, ◌++◌}
 use Rattle.asset_laws.specs.Serial.{shares_nothing}
 use Rattle.asset_history.specs.Recorded.{Recorded}
 use Rattle.asset_reports.specs.Reports.{pruned_text, serial_text}
@@ -12,6 +12,7 @@ use Rattle.asset_cli.specs.declared.reporting.Report.TheVariants as Report'
 use Rattle.asset_cli.specs.declared.reporting.Work.{Work}
 use Rattle.asset_cli.specs.declared.reporting.Work.TheVariants as Work'
 use Rattle.asset_cli.specs.Transcript.{Transcript, transcript}
+use Rattle.asset_cli.specs.declared.prints.Prints.TheVariants.{Nothing, Replies, Listing}
 
 -- the text of a report, and how a run ends with it
 pub record Reported : Type 0 where
@@ -45,7 +46,7 @@ with_report end run report = run
 
 -- A report on the history that a script leaves. Its steps print nothing; a bad line is all that is printed then.
 unfoldable pub reported : (Recorded → Reported) → List ℕ → ℕ → Transcript
-reported report bytes capacity = with_report (transcript false bytes capacity).end (transcript false bytes capacity) (report (transcript false bytes capacity).history)
+reported report bytes capacity = with_report (transcript Nothing bytes capacity).end (transcript Nothing bytes capacity) (report (transcript Nothing bytes capacity).history)
 
 -- each report that is made of the history alone
 abbrev pub report_of : Report → Recorded → Reported
@@ -55,6 +56,7 @@ report_of Report'.Serial = serialized
 
 -- what each work gives of the bytes of a script
 abbrev pub transcript_of : Work → List ℕ → ℕ → Transcript
-transcript_of Work'.Run bytes capacity = transcript true bytes capacity
+transcript_of Work'.Run bytes capacity = transcript Replies bytes capacity
+transcript_of Work'.Steps bytes capacity = transcript Listing bytes capacity
 transcript_of Work'.Sources bytes capacity = reported sourced bytes capacity
 transcript_of (Work'.Report report) bytes capacity = reported (report_of report) bytes capacity

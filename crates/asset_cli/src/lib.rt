@@ -6,9 +6,11 @@ mod device;
 mod ends;
 mod faults;
 mod laws;
+mod listing;
 mod opening_objects;
 mod player;
 mod preamble;
+mod prints;
 mod reading;
 mod rendering;
 mod reporting;
@@ -20,9 +22,10 @@ pub use ends::RunEnd;
 pub use faults::ScriptFault;
 pub use laws::printed_scripts_run_again;
 pub use opening_objects::OpeningObjects;
+pub use prints::Prints;
 pub use reading::read_all;
 pub use reporting::{Report, Work};
 pub use running::{
-    groups_script, prune_script, run_for, run_script, serial_script, sources_script,
+    groups_script, prune_script, run_for, run_script, serial_script, sources_script, steps_script,
 };
 pub use writing::write_all;

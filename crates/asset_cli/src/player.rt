@@ -1,6 +1,6 @@
 //! Who answers the steps of a script.
 
-ghost use Rattle.std.specs.Prelude.{◌≡◌, IfOk};
+ghost use Rattle.std.specs.Prelude.{◌≡◌, IfOk, false, length};
 ghost use Rattle.asset_names.specs.Sets.{HasNoDouble};
 ghost use Rattle.asset_history.specs.Answered.{IsAnswered};
 ghost use Rattle.asset_history.specs.Recorded.{objects_of, opened};
@@ -52,6 +52,18 @@ pub(crate) fn play_step(player: &mut Player, step: &Step) -> Result<Outcome, Fau
     match player {
         Player::Plain(core) => core.step_lent(step),
         Player::Tracing(tracer) => tracer.step_lent(step),
+    }
+}
+
+/// Returns the number that the next entry of the facility's history will have. If sources are kept, the number means nothing.
+#[inline(always)]
+#[tactic(auto, unfolding(crate::specs::Playing::history_of, crate::specs::Playing::traces_in))]
+pub(crate) fn next_entry(player: &Player) -> usize
+    ensures { traces_in player.now ≡ false → result ≡ length (history_of player.now).entries }
+{
+    match player {
+        Player::Plain(core) => core.history().len(),
+        Player::Tracing(_) => 0,
     }
 }
 

@@ -5,6 +5,7 @@ ghost use Rattle.asset_core.specs.OpenFaults.{objects_of};
 ghost use Rattle.asset_grammar.specs.Grammar.{line_of, said_as};
 ghost use Rattle.asset_grammar.specs.Lines.{lines};
 ghost use Rattle.asset_cli.specs.Transcript.{objects_transcript};
+ghost use Rattle.asset_cli.specs.declared.prints.Prints.{Prints};
 ghost use Rattle.asset_cli.specs.Preamble.{Takes, transcript_from};
 
 use crate::faults::ScriptFault;
@@ -63,7 +64,7 @@ pub(crate) fn take_objects<'a>(
 ) -> Result<Preamble<'a>, ScriptFault>
     requires empty { opening.old ≡ [] }
     requires few { length (lines bytes.now) + 1 < 2 ^ 64 }
-    ensures rendered { IfOk result (λ preamble. (prints : Bool) (capacity : ℕ) →
+    ensures rendered { IfOk result (λ preamble. (prints : Prints) (capacity : ℕ) →
         objects_transcript prints (lines bytes.now) 1 [] capacity ≡ transcript_from prints preamble.line preamble.step preamble.rest preamble.number opening.new capacity) }
     ensures few { IfOk result (λ preamble. preamble.number + length preamble.rest ≤ 1 + length (lines bytes.now)) }
     ensures different { OnOk result (HasNoDouble (objects_of opening.new)) }

@@ -1,27 +1,30 @@
 //! Renders the transcript of a script: its text, and what is left when it ends. No input and no output is made here.
 ghost use Rattle.std.specs.Bool.{OnTrue, OnFalse};
-ghost use Rattle.std.specs.Prelude.{◌≡◌, ℕ, ◌+◌, ◌^◌, ◌<◌, ◌≤◌, List, ◌∷◌, ◌++◌, Some, length, IfOk, OnOk, IfErr, string_bytes};
+ghost use Rattle.std.specs.Prelude.{◌≡◌, false, ℕ, ◌+◌, ◌^◌, ◌<◌, ◌≤◌, List, ◌∷◌, ◌++◌, Some, length, IfOk, OnOk, IfErr, string_bytes};
 ghost use Rattle.asset_names.specs.Sets.{HasNoDouble};
 ghost use Rattle.asset_history.specs.Recorded.{answer_to};
 ghost use Rattle.asset_core.specs.OpenFaults.{objects_of};
 ghost use Rattle.asset_core.specs.OpenFaults.{IsCapacity};
 ghost use Rattle.asset_grammar.specs.Grammar.{line_of, said_as};
 ghost use Rattle.asset_cli.specs.Transfers.{input_limit};
-ghost use Rattle.asset_cli.specs.Transcript.{outcome_text, line_if, joined_by, steps_from, steps_transcript, transcript};
+ghost use Rattle.asset_cli.specs.Transcript.{answered_text, full_text, printed, joined_by, steps_from, steps_transcript, transcript};
 ghost use Rattle.asset_cli.specs.Rendering.{GoesOn, Ends, Plays, end_at, played_of};
 ghost use Rattle.asset_cli.specs.Preamble.{transcript_from};
 ghost use Rattle.asset_cli.specs.Playing.{history_of, traces_in, prints_for, traces_for};
+ghost use Rattle.asset_cli.specs.declared.prints.Prints.TheVariants.{Listing};
 
 use crate::faults::ScriptFault;
+use crate::listing::{entry_of, push_columns};
 use crate::opening_objects::OpeningObjects;
-use crate::player::{Left, Player, end_player, open_player, play_step};
+use crate::player::{Left, Player, end_player, next_entry, open_player, play_step};
 use crate::preamble::{ObjectLine, Preamble, take_objects};
+use crate::prints::Prints;
 use crate::reporting::Work;
 use asset_grammar::{Said, ScriptLines, push_bad_line, push_full, push_outcome};
 use asset_history::History;
-use asset_names::{Fault, Ob, Step};
+use asset_names::{Fault, Ob, Outcome, Step};
 use asset_sources::Trace;
-use std::alloc::Global;
+use std::alloc::{AllocError, Global};
 
 /// What is left of a script that was played.
 #[derive(Drop)]
@@ -48,28 +51,69 @@ fn end_play(left: Left, bad: Option<u64>) -> Played
     }
 }
 
-/// Asks one step, and appends the line of its outcome to the text if steps print theirs.
+/// Appends what a step on the line `number` prints that is answered. The next entry has the number `place`.
 #[inline(always)]
-#[tactic(auto, unfolding(crate::specs::Transcript::outcome_text, crate::specs::Transcript::line_if, crate::specs::Transcript::joined_by))]
-fn ask(player: &mut Player, text: &mut String, step: &Step, prints: bool) -> Result<(), ScriptFault>
-    ensures text { OnOk result (string_bytes text.new ≡ string_bytes text.old ++ line_if prints (outcome_text (history_of player.old) step.now (answer_to (history_of player.old) step.now))) }
+#[tactic(auto, unfolding(crate::specs::Transcript::answered_text, crate::specs::Listing::entry_of))]
+fn push_answered(
+    text: &mut String,
+    prints: Prints,
+    number: u64,
+    place: usize,
+    step: &Step,
+    outcome: Outcome,
+) -> Result<(), AllocError>
+    ensures { OnOk result (string_bytes text.new ≡ string_bytes text.old ++ answered_text prints number place step.now outcome) }
+{
+    match prints {
+        Prints::Nothing => Ok(()),
+        Prints::Replies => push_outcome(text, outcome),
+        Prints::Listing => {
+            push_columns(text, number, entry_of(outcome, place), step)?;
+            push_outcome(text, outcome)
+        }
+    }
+}
+
+/// Appends what a step on the line `number` prints for which there is no room.
+#[tactic(auto, unfolding(crate::specs::Transcript::full_text))]
+fn push_unanswered(
+    text: &mut String,
+    prints: Prints,
+    number: u64,
+    step: &Step,
+) -> Result<(), AllocError>
+    ensures { OnOk result (string_bytes text.new ≡ string_bytes text.old ++ full_text prints number step.now) }
+{
+    match prints {
+        Prints::Nothing => Ok(()),
+        Prints::Replies => push_full(text),
+        Prints::Listing => {
+            push_columns(text, number, None, step)?;
+            push_full(text)
+        }
+    }
+}
+
+/// Asks one step on the line `number`, and appends what it prints to the text. For a listing the player keeps no sources.
+#[inline(always)]
+#[tactic(auto, unfolding(crate::specs::Transcript::printed, crate::specs::Transcript::joined_by), using(crate::proofs::TranscriptLemmas::answered_at))]
+fn ask(
+    player: &mut Player,
+    text: &mut String,
+    step: &Step,
+    number: u64,
+    prints: Prints,
+) -> Result<(), ScriptFault>
+    requires plain { prints ≡ Listing → traces_in player.old ≡ false }
+    ensures text { OnOk result (string_bytes text.new ≡ string_bytes text.old ++ printed prints number (history_of player.old) step.now (answer_to (history_of player.old) step.now)) }
     ensures history { OnOk result (history_of player.new ≡ joined_by (history_of player.old) step.now (answer_to (history_of player.old) step.now)) }
     ensures same { traces_in player.new ≡ traces_in player.old }
     ensures memory { IfErr result (λ fault. fault ≡ ScriptFault.NoMemory) }
 {
+    let place = next_entry(player);
     match play_step(player, step) {
-        Ok(outcome) => {
-            if prints {
-                push_outcome(text, outcome)?;
-            }
-            Ok(())
-        }
-        Err(Fault::Full) => {
-            if prints {
-                push_full(text)?;
-            }
-            Ok(())
-        }
+        Ok(outcome) => Ok(push_answered(text, prints, number, place, step, outcome)?),
+        Err(Fault::Full) => Ok(push_unanswered(text, prints, number, step)?),
         Err(Fault::NoMemory) => Err(ScriptFault::NoMemory),
     }
 }
@@ -81,8 +125,9 @@ fn render_line(
     said: Said,
     step: &Step,
     number: u64,
-    prints: bool,
+    prints: Prints,
 ) -> Result<bool, ScriptFault>
+    requires plain { prints ≡ Listing → traces_in player.old ≡ false }
     ensures goes_on { IfOk result (λ goes_on. OnTrue goes_on ((line : List ℕ) (more : List (List ℕ)) → line_of line ≡ said_as said step.now →
         GoesOn (string_bytes text.old) (steps_transcript prints (line ∷ more) number (history_of player.old)) (string_bytes text.new) (steps_transcript prints more (number + 1) (history_of player.new)))) }
     ensures stops { IfOk result (λ goes_on. OnFalse goes_on ((line : List ℕ) (more : List (List ℕ)) → line_of line ≡ said_as said step.now →
@@ -93,7 +138,7 @@ fn render_line(
     match said {
         Said::Blank => Ok(true),
         Said::Ask => {
-            ask(player, text, step, prints)?;
+            ask(player, text, step, number, prints)?;
             Ok(true)
         }
         Said::Object(_) => {
@@ -115,14 +160,15 @@ fn render_steps(
     step: &mut Step,
     number: u64,
     rest: &mut ScriptLines<'_>,
-    prints: bool,
+    prints: Prints,
 ) -> Result<Option<u64>, ScriptFault>
-    requires { number + length rest.old + 1 < 2 ^ 64 }
+    requires few { number + length rest.old + 1 < 2 ^ 64 }
+    requires plain { prints ≡ Listing → traces_in player.old ≡ false }
     ensures rendered { IfOk result (λ bad. Ends (string_bytes text.old) (steps_from prints step.old rest.old number (history_of player.old)) (string_bytes text.new) (end_at bad) (history_of player.new)) }
     ensures same { traces_in player.new ≡ traces_in player.old }
     ensures memory { IfErr result (λ fault. fault ≡ ScriptFault.NoMemory) }
 {
-    ask(player, text, step, prints)?;
+    ask(player, text, step, number, prints)?;
     let mut line_number = number + 1;
     'lines: while let Some(said) = rest.next_line(step) {
         if !render_line(player, text, said, step, line_number, prints)? {
@@ -138,9 +184,10 @@ fn play_steps(
     player: Player,
     text: &mut String,
     preamble: Preamble<'_>,
-    prints: bool,
+    prints: Prints,
 ) -> Result<Played, ScriptFault>
     requires few { preamble.number + length preamble.rest + 1 < 2 ^ 64 }
+    requires plain { prints ≡ Listing → traces_in player ≡ false }
     ensures played { IfOk result (λ played. Plays (string_bytes text.old) (steps_from prints preamble.entry.step preamble.entry.rest preamble.entry.number (history_of player)) (string_bytes text.new) (traces_in player) played) }
     ensures memory { IfErr result (λ fault. fault ≡ ScriptFault.NoMemory) }
 {

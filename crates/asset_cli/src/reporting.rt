@@ -2,6 +2,7 @@
 ghost use Rattle.std.specs.Prelude.{◌≡◌, true, cond, ◌++◌, ◌≤◌, length, IfOk, IfErr, string_bytes};
 ghost use Rattle.asset_core.specs.OpenFaults.{IsCapacity};
 ghost use Rattle.asset_cli.specs.Transfers.{input_limit};
+ghost use Rattle.asset_cli.specs.declared.prints.Prints.TheVariants.{Replies, Listing};
 ghost use Rattle.asset_cli.specs.Transcript.{transcript};
 ghost use Rattle.asset_cli.specs.Rendering.{Renders};
 ghost use Rattle.asset_cli.specs.Playing.{prints_for, traces_for};
@@ -9,6 +10,7 @@ ghost use Rattle.asset_cli.specs.Reporting.{report_of, reported, sourced, transc
 
 use crate::ends::RunEnd;
 use crate::faults::ScriptFault;
+use crate::prints::Prints;
 use crate::rendering::{Played, play};
 use asset_history::History;
 use asset_names::NoMemory;
@@ -31,6 +33,8 @@ pub enum Report {
 pub enum Work {
     /// Its transcript.
     Run,
+    /// The listing of its steps, with their replies beside them.
+    Steps,
     /// The sources of what was read.
     Sources,
     /// A report on the history that it leaves.
@@ -38,12 +42,17 @@ pub enum Work {
 }
 
 impl Work {
-    /// Returns whether steps print the lines of their outcomes.
+    /// Returns what steps print.
     #[tactic(auto, unfolding(crate::specs::Playing::prints_for))]
-    pub(crate) fn prints(self) -> bool
+    pub(crate) fn prints(self) -> Prints
         ensures { result ≡ prints_for self }
     {
-        matches!(self, Work::Run)
+        match self {
+            Work::Run => Prints::Replies,
+            Work::Steps => Prints::Listing,
+            Work::Sources => Prints::Nothing,
+            Work::Report(_) => Prints::Nothing,
+        }
     }
 
     /// Returns whether sources are to be kept.
@@ -140,10 +149,30 @@ fn render_run(
 ) -> Result<RunEnd, ScriptFault>
     requires capacity { IsCapacity capacity }
     requires limit { length bytes.now ≤ input_limit }
-    ensures rendered { IfOk result (λ end. Renders (string_bytes text.old) (transcript true bytes.now capacity) (string_bytes text.new) end) }
+    ensures rendered { IfOk result (λ end. Renders (string_bytes text.old) (transcript Replies bytes.now capacity) (string_bytes text.new) end) }
     ensures memory { IfErr result (λ fault. fault ≡ ScriptFault.NoMemory) }
 {
     match play(alloc, bytes, capacity, text, Work::Run) {
+        Ok(Played::Finished(_)) => Ok(RunEnd::Finished),
+        Ok(Played::Traced(_)) => unreachable!(),
+        Ok(Played::BadLine(number)) => Ok(RunEnd::BadLine(number)),
+        Err(fault) => Err(fault),
+    }
+}
+
+/// Appends the listing of a script, and drops the history that is left.
+fn render_listing(
+    alloc: Global,
+    bytes: &[u8],
+    capacity: usize,
+    text: &mut String,
+) -> Result<RunEnd, ScriptFault>
+    requires capacity { IsCapacity capacity }
+    requires limit { length bytes.now ≤ input_limit }
+    ensures rendered { IfOk result (λ end. Renders (string_bytes text.old) (transcript Listing bytes.now capacity) (string_bytes text.new) end) }
+    ensures memory { IfErr result (λ fault. fault ≡ ScriptFault.NoMemory) }
+{
+    match play(alloc, bytes, capacity, text, Work::Steps) {
         Ok(Played::Finished(_)) => Ok(RunEnd::Finished),
         Ok(Played::Traced(_)) => unreachable!(),
         Ok(Played::BadLine(number)) => Ok(RunEnd::BadLine(number)),
@@ -167,6 +196,7 @@ pub(crate) fn render(
 {
     match work {
         Work::Run => render_run(alloc, bytes, capacity, text),
+        Work::Steps => render_listing(alloc, bytes, capacity, text),
         Work::Sources => render_sources(alloc, bytes, capacity, text),
         Work::Report(report) => render_report(alloc, bytes, capacity, report, text),
     }

@@ -2,6 +2,7 @@
 ghost use Rattle.std.specs.Prelude.{◌≡◌, ℕ, true, false, List, OnOk, IfOk, IfErr};
 ghost use Rattle.asset_core.specs.OpenFaults.{IsCapacity};
 ghost use Rattle.asset_cli.specs.Device.{IsUnused};
+ghost use Rattle.asset_cli.specs.declared.prints.Prints.TheVariants.{Replies, Listing};
 ghost use Rattle.asset_cli.specs.Transcript.{transcript};
 ghost use Rattle.asset_cli.specs.Reporting.{grouped, pruned, reported, serialized, sourced, transcript_of};
 ghost use Rattle.asset_cli.specs.Runs.{WroteAll, Stops};
@@ -61,10 +62,30 @@ pub fn run_script<R: Read, W: Write>(
     requires unused_output { IsUnused output.old }
     ensures sound_input { OnOk result (input.new.failed ≡ false) }
     ensures sound_output { OnOk result (output.new.failed ≡ false) }
-    ensures wrote { IfOk result (WroteAll R.remaining W.contents (λ bytes. transcript true bytes capacity) input.old input.new output.old output.new) }
-    ensures stopped { IfErr result (Stops R.remaining W.contents (λ bytes. transcript true bytes capacity) input.old input.new output.old output.new) }
+    ensures wrote { IfOk result (WroteAll R.remaining W.contents (λ bytes. transcript Replies bytes capacity) input.old input.new output.old output.new) }
+    ensures stopped { IfErr result (Stops R.remaining W.contents (λ bytes. transcript Replies bytes capacity) input.old input.new output.old output.new) }
 {
     run_for(alloc, input, output, capacity, Work::Run)
+}
+
+/// Runs the script that the reader gives, and writes a line for each step: the number of its line, the number of the entry that
+/// it becomes or `-` if it becomes none, the step, and the line that `run_script` writes for it. It ends at the first bad line, as
+/// `run_script` does. What `run_script` says of faults and requires holds here too.
+pub fn steps_script<R: Read, W: Write>(
+    alloc: Global,
+    input: &mut Device<R>,
+    output: &mut Device<W>,
+    capacity: usize,
+) -> Result<RunEnd, ScriptFault>
+    requires capacity { IsCapacity capacity }
+    requires unused_input { IsUnused input.old }
+    requires unused_output { IsUnused output.old }
+    ensures sound_input { OnOk result (input.new.failed ≡ false) }
+    ensures sound_output { OnOk result (output.new.failed ≡ false) }
+    ensures wrote { IfOk result (WroteAll R.remaining W.contents (λ bytes. transcript Listing bytes capacity) input.old input.new output.old output.new) }
+    ensures stopped { IfErr result (Stops R.remaining W.contents (λ bytes. transcript Listing bytes capacity) input.old input.new output.old output.new) }
+{
+    run_for(alloc, input, output, capacity, Work::Steps)
 }
 
 /// Runs the script that the reader gives, and writes the script that is left without its dead groups: the objects, and the

@@ -29,10 +29,10 @@ fn first_wrong_word(
     alloc: Global,
     comment: usize,
     script: &[u8],
-    texts: [&str; 5],
+    texts: [&str; 6],
     end: RunEnd,
 ) -> Option<usize> {
-    for word in 0..5usize {
+    for word in 0..6usize {
         let left = run_again(alloc, WORDS[word], comment, script, texts[word]);
         if !is_whole(&left, end) {
             return Some(word);
@@ -52,14 +52,20 @@ fn cut_in_a_number(rt: HostRuntime) {
         "0 dead 7\n",
         "2 read 7 1 100 opening\n",
         "object 1 100\nobject 2 200\nobject 3 300\n",
+        "\
+        4       0       initiate 7                      ok\n\
+        5       1       begin 7                         ok\n\
+        6       2       read 7 1                        100\n\
+        7       3       write 7 1 5                     ok\n",
     ];
     let wrong = first_wrong_word(rt.alloc(), 0, script, texts, RunEnd::Finished);
     assert_eq!(rt; wrong, None);
 }
 
-/// What a script writes whose line of this number is bad: its first outcomes and that line, or that line alone.
-fn bad_texts<'a>(transcript: &'a str, line: &'a str) -> [&'a str; 5] {
-    [transcript, line, line, line, line]
+/// What a script writes of which a line is bad: its first outcomes and the text of that line, that text alone, or its first steps
+/// with their outcomes and that text.
+fn bad_texts<'a>(transcript: &'a str, line: &'a str, listing: &'a str) -> [&'a str; 6] {
+    [transcript, line, line, line, line, listing]
 }
 
 #[test]
@@ -70,6 +76,14 @@ fn cut_after_a_space(rt: HostRuntime) {
     let texts = bad_texts(
         "ok\nok\n100\nok\n50\nok\nline 10: bad command\n",
         "line 10: bad command\n",
+        "\
+        4       0       initiate 7                      ok\n\
+        5       1       begin 7                         ok\n\
+        6       2       read 7 1                        100\n\
+        7       3       write 7 1 50                    ok\n\
+        8       4       read 7 1                        50\n\
+        9       5       complete 7                      ok\n\
+        line 10: bad command\n",
     );
     let wrong = first_wrong_word(rt.alloc(), 0, script, texts, RunEnd::BadLine(10));
     assert_eq!(rt; wrong, None);
@@ -77,7 +91,13 @@ fn cut_after_a_space(rt: HostRuntime) {
 
 #[test]
 fn cut_after_a_word(rt: HostRuntime) {
-    let texts = bad_texts("ok\nline 2: bad command\n", "line 2: bad command\n");
+    let texts = bad_texts(
+        "ok\nline 2: bad command\n",
+        "line 2: bad command\n",
+        "\
+        1       0       initiate 7                      ok\n\
+        line 2: bad command\n",
+    );
     let wrong = first_wrong_word(
         rt.alloc(),
         0,
@@ -90,14 +110,21 @@ fn cut_after_a_word(rt: HostRuntime) {
 
 #[test]
 fn carriage_return(rt: HostRuntime) {
-    let texts = ["line 1: bad command\n"; 5];
+    let texts = ["line 1: bad command\n"; 6];
     let wrong = first_wrong_word(rt.alloc(), 0, b"initiate 7\r\n", texts, RunEnd::BadLine(1));
     assert_eq!(rt; wrong, None);
 }
 
 #[test]
 fn longest_comment(rt: HostRuntime) {
-    let texts = ["ok\n", "", "0 dead 7\n", "", ""];
+    let texts = [
+        "ok\n",
+        "",
+        "0 dead 7\n",
+        "",
+        "",
+        "2       0       initiate 7                      ok\n",
+    ];
     let wrong = first_wrong_word(
         rt.alloc(),
         4_096,
@@ -110,7 +137,7 @@ fn longest_comment(rt: HostRuntime) {
 
 #[test]
 fn comment_too_long(rt: HostRuntime) {
-    let texts = ["line 1: bad command\n"; 5];
+    let texts = ["line 1: bad command\n"; 6];
     let wrong = first_wrong_word(
         rt.alloc(),
         4_097,
@@ -124,14 +151,18 @@ fn comment_too_long(rt: HostRuntime) {
 #[test]
 fn object_after_a_step(rt: HostRuntime) {
     let script = b"object 1 100\ninitiate 7\nobject 2 5\n";
-    let texts = bad_texts("ok\nline 3: bad command\n", "line 3: bad command\n");
+    let texts = bad_texts(
+        "ok\nline 3: bad command\n",
+        "line 3: bad command\n",
+        "2       0       initiate 7                      ok\nline 3: bad command\n",
+    );
     let wrong = first_wrong_word(rt.alloc(), 0, script, texts, RunEnd::BadLine(3));
     assert_eq!(rt; wrong, None);
 }
 
 #[test]
 fn number_too_large(rt: HostRuntime) {
-    let texts = ["line 1: bad command\n"; 5];
+    let texts = ["line 1: bad command\n"; 6];
     let script = b"initiate 18446744073709551616\n";
     let wrong = first_wrong_word(rt.alloc(), 0, script, texts, RunEnd::BadLine(1));
     assert_eq!(rt; wrong, None);

@@ -106,6 +106,11 @@ fn comment_without_an_end_is_given_up_in_serializing(rt: HostRuntime) {
     assert!(rt; comment_is_given_up(rt.alloc(), Work::Report(Report::Serial)));
 }
 
+#[test]
+fn comment_without_an_end_is_given_up_in_listing(rt: HostRuntime) {
+    assert!(rt; comment_is_given_up(rt.alloc(), Work::Steps));
+}
+
 /// Returns a reader that gives a script byte by byte.
 fn by_bytes(script: &[u8]) -> Reader<'_> {
     Reader {
@@ -127,7 +132,7 @@ fn is_read(alloc: Global, work: Work, script: &[u8], text: &str, end: RunEnd) ->
 
 /// Returns whether each row is read whole byte by byte, by a word.
 fn rows_are_read(alloc: Global, word: usize) -> bool
-    requires { word < 5 }
+    requires { word < 6 }
 {
     for row in ROWS {
         let (text, end) = row.texts[word];
@@ -140,7 +145,7 @@ fn rows_are_read(alloc: Global, word: usize) -> bool
 
 #[test]
 fn scripts_come_byte_by_byte(rt: HostRuntime) {
-    for word in 0..5usize {
+    for word in 0..6usize {
         assert!(rt; rows_are_read(rt.alloc(), word), "at {word}");
     }
 }

@@ -11,7 +11,7 @@ use std::alloc::Global;
 
 /// Runs the script of a row for a word.
 fn run_row(alloc: Global, row: &Row, word: usize) -> Left
-    requires { word < 5 }
+    requires { word < 6 }
 {
     let (text, _end) = row.texts[word];
     run(alloc, WORDS[word], whole(row.script), taking(text))
@@ -19,7 +19,7 @@ fn run_row(alloc: Global, row: &Row, word: usize) -> Left
 
 /// Returns whether the run for a word is whole, at once or after one that was refused memory and wrote nothing.
 fn is_whole_or_refused(alloc: Global, row: &Row, word: usize) -> bool
-    requires { word < 5 }
+    requires { word < 6 }
 {
     let (text, end) = row.texts[word];
     let mut left = run_row(alloc, row, word);
@@ -31,7 +31,7 @@ fn is_whole_or_refused(alloc: Global, row: &Row, word: usize) -> bool
 
 /// Returns whether this is so of each row.
 fn are_whole_or_refused(alloc: Global, word: usize) -> bool
-    requires { word < 5 }
+    requires { word < 6 }
 {
     for row in ROWS {
         if !is_whole_or_refused(alloc, &row, word) {
@@ -64,4 +64,9 @@ fn sources_are_whole_or_refused(rt: HostRuntime) {
 #[test]
 fn serial_scripts_are_whole_or_refused(rt: HostRuntime) {
     assert!(rt; are_whole_or_refused(rt.alloc(), 4));
+}
+
+#[test]
+fn listings_are_whole_or_refused(rt: HostRuntime) {
+    assert!(rt; are_whole_or_refused(rt.alloc(), 5));
 }

@@ -6,7 +6,7 @@ use asset_cli::RunEnd;
 #[derive(Clone, Copy)]
 pub(crate) struct Row {
     pub(crate) script: &'static [u8],
-    pub(crate) texts: [(&'static str, RunEnd); 5],
+    pub(crate) texts: [(&'static str, RunEnd); 6],
 }
 
 /// One transaction that reads, writes and commits.
@@ -28,6 +28,17 @@ pub(crate) const ONE: Row = Row {
         (
             "object 1 100\nobject 2 200\nobject 3 300\ninitiate 7\nbegin 7\nread 7 1\nwrite 7 1 50\nread 7 1\ncomplete 7\n\
             commit 7\n",
+            RunEnd::Finished,
+        ),
+        (
+            "\
+            4       0       initiate 7                      ok\n\
+            5       1       begin 7                         ok\n\
+            6       2       read 7 1                        100\n\
+            7       3       write 7 1 50                    ok\n\
+            8       4       read 7 1                        50\n\
+            9       5       complete 7                      ok\n\
+            10      6       commit 7                        committed\n",
             RunEnd::Finished,
         ),
     ],
@@ -53,6 +64,25 @@ pub(crate) const HANDED_OVER: Row = Row {
             "object 1 100\nobject 2 200\nobject 3 300\n",
             RunEnd::Finished,
         ),
+        (
+            "\
+            4       0       initiate 7                      ok\n\
+            5       1       begin 7                         ok\n\
+            6       2       initiate 8                      ok\n\
+            7       3       begin 8                         ok\n\
+            8       4       initiate 9                      ok\n\
+            9       5       begin 9                         ok\n\
+            10      6       write 7 1 50                    ok\n\
+            11      7       write 8 2 80                    ok\n\
+            12      8       permit 7 9 rw all               ok\n\
+            13      9       delegate 7 8 1                  ok\n\
+            14      -       read 7 1                        wait\n\
+            15      10      read 9 1                        50\n\
+            16      -       read 9 2                        wait\n\
+            17      11      delegate 7 8 all                ok\n\
+            18      -       read 9 2                        wait\n",
+            RunEnd::Finished,
+        ),
     ],
 };
 
@@ -73,6 +103,23 @@ pub(crate) const TOGETHER: Row = Row {
         ("0 committed 7 8\n", RunEnd::Finished),
         ("", RunEnd::Finished),
         ("shared\n", RunEnd::Shared),
+        (
+            "\
+            4       0       initiate 7                      ok\n\
+            5       1       begin 7                         ok\n\
+            6       2       initiate 8                      ok\n\
+            7       3       begin 8                         ok\n\
+            8       4       depend gc 7 8                   ok\n\
+            9       -       commit 7                        wait\n\
+            10      5       complete 7                      ok\n\
+            11      -       commit 7                        wait\n\
+            12      6       complete 8                      ok\n\
+            13      7       commit 7                        committed\n\
+            14      8       commit 8                        committed\n\
+            15      9       abort 8                         refused too late 8\n\
+            16      10      wait 8                          committed\n",
+            RunEnd::Finished,
+        ),
     ],
 };
 
@@ -98,6 +145,24 @@ pub(crate) const APART: Row = Row {
         (
             "object 1 100\nobject 2 200\nobject 3 300\ninitiate 9\nbegin 9\nread 9 3\nwrite 9 3 33\nread 9 1\ncomplete 9\n\
             commit 9\n",
+            RunEnd::Finished,
+        ),
+        (
+            "\
+            4       0       initiate 7                      ok\n\
+            5       1       begin 7                         ok\n\
+            6       2       initiate 8                      ok\n\
+            7       3       begin 8                         ok\n\
+            8       4       initiate 9                      ok\n\
+            9       5       begin 9                         ok\n\
+            10      6       write 7 1 11                    ok\n\
+            11      7       write 8 2 22                    ok\n\
+            12      8       read 9 3                        300\n\
+            13      9       write 9 3 33                    ok\n\
+            14      10      abort 7                         aborted\n\
+            15      11      read 9 1                        100\n\
+            16      12      complete 9                      ok\n\
+            17      13      commit 9                        committed\n",
             RunEnd::Finished,
         ),
     ],

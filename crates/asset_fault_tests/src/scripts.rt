@@ -5,12 +5,13 @@ use asset_cli::{Device, Report, RunEnd, ScriptFault, Work, run_for};
 use std::alloc::Global;
 
 /// What a script is run for, in the order in which a row has its texts.
-pub(crate) const WORDS: [Work; 5] = [
+pub(crate) const WORDS: [Work; 6] = [
     Work::Run,
     Work::Report(Report::Pruned),
     Work::Report(Report::Groups),
     Work::Sources,
     Work::Report(Report::Serial),
+    Work::Steps,
 ];
 
 /// How a run ended, which devices failed, how many bytes of the wanted text were not written, and whether those that were

@@ -22,7 +22,7 @@ fn taking_pieces(text: &str, piece: usize, calls: usize, takes_nothing: bool) ->
 /// Runs the script of a row for a word. The writer takes three bytes at a time, for `calls` times; then it fails, or takes
 /// nothing. If memory runs out once, the script is run again.
 fn run_row(alloc: Global, row: &Row, word: usize, calls: usize, takes_nothing: bool) -> Left
-    requires { word < 5 }
+    requires { word < 6 }
 {
     let (text, _end) = row.texts[word];
     let writer = taking_pieces(text, 3, calls, takes_nothing);
@@ -36,7 +36,7 @@ fn run_row(alloc: Global, row: &Row, word: usize, calls: usize, takes_nothing: b
 
 /// Returns whether a writer that fails at each write leaves a prefix, by a word.
 fn is_cut_at_each_write(alloc: Global, row: &Row, word: usize, takes_nothing: bool) -> bool
-    requires { word < 5 }
+    requires { word < 6 }
 {
     let (text, _end) = row.texts[word];
     for calls in 0..text.len().div_ceil(3) {
@@ -51,7 +51,7 @@ fn is_cut_at_each_write(alloc: Global, row: &Row, word: usize, takes_nothing: bo
 
 /// Returns whether this is so of each row.
 fn are_cut_at_each_write(alloc: Global, word: usize, takes_nothing: bool) -> bool
-    requires { word < 5 }
+    requires { word < 6 }
 {
     for row in ROWS {
         if !is_cut_at_each_write(alloc, &row, word, takes_nothing) {
@@ -63,14 +63,14 @@ fn are_cut_at_each_write(alloc: Global, word: usize, takes_nothing: bool) -> boo
 
 #[test]
 fn writer_fails_at_each_write(rt: HostRuntime) {
-    for word in 0..5usize {
+    for word in 0..6usize {
         assert!(rt; are_cut_at_each_write(rt.alloc(), word, false), "at {word}");
     }
 }
 
 #[test]
 fn writer_takes_nothing_at_each_write(rt: HostRuntime) {
-    for word in 0..5usize {
+    for word in 0..6usize {
         assert!(rt; are_cut_at_each_write(rt.alloc(), word, true), "at {word}");
     }
 }
@@ -93,7 +93,7 @@ fn is_taken(alloc: Global, work: Work, script: &[u8], text: &str, end: RunEnd) -
 
 /// Returns whether each row is written whole byte by byte, by a word.
 fn rows_are_taken(alloc: Global, word: usize) -> bool
-    requires { word < 5 }
+    requires { word < 6 }
 {
     for row in ROWS {
         let (text, end) = row.texts[word];
@@ -106,7 +106,7 @@ fn rows_are_taken(alloc: Global, word: usize) -> bool
 
 #[test]
 fn texts_go_byte_by_byte(rt: HostRuntime) {
-    for word in 0..5usize {
+    for word in 0..6usize {
         assert!(rt; rows_are_taken(rt.alloc(), word), "at {word}");
     }
 }

@@ -14,6 +14,8 @@ mod examples;
 #[cfg(test)]
 mod lines;
 #[cfg(test)]
+mod listings;
+#[cfg(test)]
 mod memory;
 #[cfg(test)]
 mod permits;

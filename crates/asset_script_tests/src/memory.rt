@@ -4,7 +4,7 @@ ghost use Rattle.asset_cli.specs.Device.{IsUnused};
 
 use asset_cli::{
     Device, RunEnd, ScriptFault, groups_script, prune_script, run_script, serial_script,
-    sources_script,
+    sources_script, steps_script,
 };
 use std::alloc::Global;
 use std::process::Abort;
@@ -32,6 +32,7 @@ pub enum Call {
     Groups,
     Serial,
     Sources,
+    Steps,
 }
 
 /// Runs the script that the device gives for what the call gives, and writes that to the other device.
@@ -52,6 +53,7 @@ fn run_between(
         Call::Groups => groups_script(alloc, input, output, capacity),
         Call::Serial => serial_script(alloc, input, output, capacity),
         Call::Sources => sources_script(alloc, input, output, capacity),
+        Call::Steps => steps_script(alloc, input, output, capacity),
     }
 }
 
@@ -101,7 +103,7 @@ fn run_again(
 }
 
 /// Asserts what a call writes of a script over a history with room for `capacity` entries, and how the run ends.
-fn expect_call(
+pub fn expect_call(
     rt: &(impl Abort + AllocGlobal),
     call: Call,
     script: &[u8],

@@ -1,13 +1,19 @@
-use Rattle.std.proofs.Common.{◌≡◌, refl}
+use Rattle.std.proofs.Common.{◌≡◌, ◌∙◌, refl, sym}
 use Rattle.asset_cli.specs.declared.preamble.ObjectLine.{ObjectLine}
 use Rattle.asset_cli.specs.declared.preamble.ObjectLine.TheVariants.{More, First, Bad}
 use Rattle.asset_cli.specs.Preamble.{transcript_from}
-use Rattle.asset_cli.proofs.TranscriptLemmas.{finished_plays, stopped_plays}
+use Rattle.asset_cli.proofs.TranscriptLemmas.{finished_plays, listing_plain, stopped_plays}
 use Rattle.asset_cli.proofs.rendering.play_from.Goals as goal
 
 pub returns-in-Bad-clause-played : goal.returns-in-Bad-clause-played
 unfolding transcript_from
 returns-in-Bad-clause-played c = rw c.in-Bad.is (stopped_plays _ _ _ _ _ c.in_ok-push_bad_line.ensures)
+
+pub play_steps-requires : goal.play_steps-requires
+play_steps-requires c = record {
+  few = c.requires.few;
+  plain = λ listing. c.in-Ok.ensures.traces ∙ c.traces.ensures ∙ listing_plain c.args.work (sym c.prints.ensures ∙ listing);
+}
 
 pub returns-in-First : goal.returns-in-First
 unfolding transcript_from
