@@ -1,0 +1,14 @@
+-- How far a walk over a history has come.
+use Rattle.std.specs.Prelude.{ℕ, List, reverse, take}
+use Rattle.asset_names.specs.Steps.{Entry, applied}
+use Rattle.asset_history.specs.Recorded.{Recorded}
+use Rattle.asset_ends.specs.Shows.{Shows}
+use Rattle.asset_ends.specs.Standing.{Standing, values_of}
+
+-- the first entries of a history, newest first
+abbrev pub first_entries : Recorded → ℕ → List Entry
+first_entries history count = reverse (take count (reverse history.entries))
+
+-- the tables show the first entries of a history
+abbrev pub ShowsFirst : Recorded → ℕ → Standing → Type 0
+ShowsFirst history count tables = Shows history.opening (applied (first_entries history count)) (values_of tables)
