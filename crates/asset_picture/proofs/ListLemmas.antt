@@ -1,10 +1,10 @@
 -- What one more item adds to a list.
-use Rattle.std.proofs.Common.{◌≡◌, ℕ, ◌+◌, ◌<◌, Bool, false, List, [], ◌∷◌, ◌++◌, get_or, length, map, take, reverse, refl, sym, ap, ◌∙◌, append-nil, append_assoc, arith, Some, None}
+use Rattle.std.proofs.Common.{◌≡◌, ℕ, ◌+◌, ◌<◌, Bool, false, List, [], ◌∷◌, ◌++◌, get_or, drop, length, map, take, reverse, refl, sym, ap, ◌∙◌, append-nil, append_assoc, arith, Some, None}
 use Rattle.std.specs.Prelude.{Option, flat_map, slice_get}
 use Rattle.std.specs.Option.{option_map}
 use Rattle.std.specs.List.{range_with_len, list_any}
 use Rattle.std.proofs.lemmas.Grind.{flat_map-append}
-use Rattle.std.proofs.lemmas.List.{take_more, flat_map_more}
+use Rattle.std.proofs.lemmas.List.{drop_more, take_more, flat_map_more}
 use Rattle.std.proofs.lemmas.List.Folds.{flat_map-map, list_any-append}
 use Rattle.std.proofs.lemmas.List.FromFn.{map-range_with_len_more, get_or-map-range_with_len}
 use Rattle.std.proofs.lemmas.Option.{get_or_from_slice_get}
@@ -15,6 +15,8 @@ use Rattle.asset_buckets.specs.Bucketed.{indices_of, buckets_of}
 use Rattle.asset_deletion.specs.Grouping.{Grouping, named}
 use Rattle.asset_sources.specs.Sourced.{source_at}
 use Rattle.asset_sources.proofs.WalkLemmas.{older_length}
+use Rattle.asset_deletion.specs.Named.{with_name}
+use Rattle.asset_picture.specs.Uses.{with_names}
 use Rattle.asset_picture.specs.Marks.{mark_of, mark_list, marks}
 use Rattle.asset_picture.specs.Arrows.{arrow_of, arrow_list, arrows_among}
 
@@ -75,3 +77,8 @@ none_more test items i d below so_far here =
 -- what stands at an index
 pub source_there : {A : Type 0} (items : List A) (i : ℕ) (d : A) (item : A) → slice_get items i ≡ Some item → get_or items i d ≡ item
 source_there items i d item at = get_or_from_slice_get items i item d at
+
+-- the names with the next one
+pub names_next : (names rows : List ℕ) (i : ℕ) → i < length rows → with_names names (drop i rows) ≡ with_names (with_name names (get_or rows i 0)) (drop (i + 1) rows)
+unfolding with_names
+names_next names rows i below = rw (drop_more rows i 0 below) refl

@@ -4,6 +4,7 @@ pub mod Lanes
 pub mod Marks
 pub mod Arrows
 pub mod Shapes
+pub mod Uses
 pub mod Tables
 pub mod Picture
 pub mod Promised

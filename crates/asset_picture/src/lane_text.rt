@@ -37,7 +37,7 @@ fn band_word(group: usize) -> &'static str
 pub(crate) fn state_word(is_dead: bool) -> &'static str
     ensures { result.now ≡ state_word is_dead }
 {
-    if is_dead { " dead" } else { " committed" }
+    if is_dead { "dead" } else { "committed" }
 }
 
 /// Appends the band of a lane, with its group and its name.
@@ -50,7 +50,7 @@ fn push_label(text: &mut String, wide: bool, lane: &Lane) -> Result<(), AllocErr
     let x = x_at(wide, lane.span.start.unwrap_or(0));
     write!(
         text,
-        "<rect class='{band}' y='-26' width='100%' height='56'/><text class='note' x='16' y='-12'>group {}{state}</text><text class='name' x='{x}' dx='-12' y='5'>{}</text>",
+        "<rect class='{band}' y='-26' width='100%' height='56'/><text class='note' x='16' y='-12'>group {} {state}</text><text class='name' x='{x}' dx='-12' y='5'>{}</text>",
         lane.group, lane.t
     )
 }

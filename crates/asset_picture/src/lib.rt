@@ -15,6 +15,7 @@ mod picture;
 mod rows;
 mod style;
 mod table;
+mod uses;
 mod walking;
 
 pub use laws::pictures_mark_operations;

@@ -7,7 +7,7 @@ ghost use Rattle.asset_ends.specs.Standing.{values_of};
 ghost use Rattle.asset_picture.specs.Lanes.{lanes};
 ghost use Rattle.asset_picture.specs.Marks.{marks};
 ghost use Rattle.asset_picture.specs.Arrows.{arrows};
-ghost use Rattle.asset_picture.specs.Tables.{table_in};
+ghost use Rattle.asset_picture.specs.Tables.{table_by, table_in};
 ghost use Rattle.asset_picture.specs.Picture.{frame_text, frame_for, rest_text, shapes_in, shapes_text, drawing_in, picture_in, picture_text};
 
 use crate::arrow_text::push_arrows;
@@ -21,11 +21,13 @@ use crate::opening::{push_open, push_steps};
 use crate::rows::lane_names;
 use crate::style::{push_legend, push_style};
 use crate::table::push_table;
+use crate::uses::{row_names, uses};
 use crate::walking::tables_after;
 use asset_deletion::{Groups, groups};
 use asset_history::History;
 use asset_names::NoMemory;
 use asset_sources::sources;
+use indexmap::IndexSet;
 use std::alloc::{AllocError, Global};
 
 /// Appends the start of a picture of this size, with its legend.
@@ -154,7 +156,33 @@ fn push_drawing(
     }
 }
 
+/// Appends the table of a history with these groups and rows, by names, or answers `NoMemory` if memory runs out.
+fn push_by_names(
+    alloc: Global,
+    history: &History,
+    groups: &Groups,
+    rows: &[u64],
+    names: &IndexSet<u64>,
+    text: &mut String,
+) -> Result<(), NoMemory>
+    ensures { OnOk result (string_bytes text.new ≡ string_bytes text.old ++ table_by groups.now rows.now history.now.entries names.now.keys) }
+{
+    let used = uses(alloc, history, names)?;
+    match tables_after(alloc, history) {
+        Ok(tables) => {
+            let pushed = push_table(text, history, groups, &tables, names, &used, rows);
+            drop(tables);
+            match pushed {
+                Ok(()) => Ok(()),
+                Err(_) => Err(NoMemory),
+            }
+        }
+        Err(_) => Err(NoMemory),
+    }
+}
+
 /// Appends the table of a history with these groups and rows, or answers `NoMemory` if memory runs out.
+#[tactic(auto, unfolding(crate::specs::Tables::table_in))]
 fn push_long(
     alloc: Global,
     history: &History,
@@ -164,13 +192,8 @@ fn push_long(
 ) -> Result<(), NoMemory>
     ensures { OnOk result (string_bytes text.new ≡ string_bytes text.old ++ table_in groups.now rows.now history.now.entries) }
 {
-    let tables = tables_after(alloc, history)?;
-    let pushed = push_table(text, history, groups, &tables, rows);
-    drop(tables);
-    match pushed {
-        Ok(()) => Ok(()),
-        Err(_) => Err(NoMemory),
-    }
+    let names = row_names(alloc, rows)?;
+    push_by_names(alloc, history, groups, rows, &names, text)
 }
 
 /// Appends the picture of a history with these groups, or its table if it is long.

@@ -17,7 +17,7 @@ text{font:11px ui-monospace,Menlo,Consolas,'DejaVu Sans Mono',monospace;fill:#1f
 .arrow{fill:none;stroke-width:1.5}.source{stroke:#818b98;marker-end:url(#s)}
 .permit{stroke:#8250df;marker-end:url(#p)}.delegate{stroke:#bc4c00;stroke-width:2.5;marker-end:url(#d)}
 .cd,.ad,.gc{stroke:#0e8a93;marker-end:url(#t)}.cd{stroke-dasharray:4 3}.gc{marker-start:url(#u)}
-.dead{opacity:.4}
+.dead{opacity:.5}
 ";
 
 const DARK: &str = "\
