@@ -5,6 +5,7 @@ use Rattle.asset_history.specs.Recorded.{Recorded}
 use Rattle.asset_reports.specs.Reports.{pruned_text, serial_text}
 use Rattle.asset_reports.specs.Groups.{groups_text}
 use Rattle.asset_reports.specs.Sources.{sources_text}
+use Rattle.asset_picture.specs.Picture.{picture_text}
 use Rattle.asset_cli.specs.declared.ends.RunEnd.{RunEnd}
 use Rattle.asset_cli.specs.declared.ends.RunEnd.TheVariants.{Finished, Shared}
 use Rattle.asset_cli.specs.declared.reporting.Report.{Report}
@@ -48,11 +49,16 @@ with_report end run report = run
 unfoldable pub reported : (Recorded → Reported) → List ℕ → ℕ → Transcript
 reported report bytes capacity = with_report (transcript Nothing bytes capacity).end (transcript Nothing bytes capacity) (report (transcript Nothing bytes capacity).history)
 
+-- the picture
+abbrev pub pictured : Recorded → Reported
+pictured history = always (picture_text history.entries)
+
 -- each report that is made of the history alone
 abbrev pub report_of : Report → Recorded → Reported
 report_of Report'.Pruned = pruned
 report_of Report'.Groups = grouped
 report_of Report'.Serial = serialized
+report_of Report'.Picture = pictured
 
 -- what each work gives of the bytes of a script
 abbrev pub transcript_of : Work → List ℕ → ℕ → Transcript

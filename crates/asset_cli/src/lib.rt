@@ -26,6 +26,7 @@ pub use prints::Prints;
 pub use reading::read_all;
 pub use reporting::{Report, Work};
 pub use running::{
-    groups_script, prune_script, run_for, run_script, serial_script, sources_script, steps_script,
+    groups_script, picture_script, prune_script, run_for, run_script, serial_script,
+    sources_script, steps_script,
 };
 pub use writing::write_all;

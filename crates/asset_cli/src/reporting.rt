@@ -14,6 +14,7 @@ use crate::prints::Prints;
 use crate::rendering::{Played, play};
 use asset_history::History;
 use asset_names::NoMemory;
+use asset_picture::push_picture;
 use asset_reports::{push_groups, push_pruned, push_serial, push_sources};
 use std::alloc::Global;
 
@@ -26,6 +27,8 @@ pub enum Report {
     Groups,
     /// The script of those who committed, one after another.
     Serial,
+    /// The picture, an SVG.
+    Picture,
 }
 
 /// What a script is run for.
@@ -89,6 +92,7 @@ fn push_report(
         Report::Pruned => push_pruned(alloc, history, text)?,
         Report::Groups => push_groups(alloc, history, text)?,
         Report::Serial => return Ok(serial_end(push_serial(alloc, history, text)?)),
+        Report::Picture => push_picture(alloc, history, text)?,
     }
     Ok(RunEnd::Finished)
 }

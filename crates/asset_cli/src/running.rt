@@ -4,7 +4,7 @@ ghost use Rattle.asset_core.specs.OpenFaults.{IsCapacity};
 ghost use Rattle.asset_cli.specs.Device.{IsUnused};
 ghost use Rattle.asset_cli.specs.declared.prints.Prints.TheVariants.{Replies, Listing};
 ghost use Rattle.asset_cli.specs.Transcript.{transcript};
-ghost use Rattle.asset_cli.specs.Reporting.{grouped, pruned, reported, serialized, sourced, transcript_of};
+ghost use Rattle.asset_cli.specs.Reporting.{grouped, pictured, pruned, reported, serialized, sourced, transcript_of};
 ghost use Rattle.asset_cli.specs.Runs.{WroteAll, Stops};
 ghost use Rattle.asset_cli.specs.Again.{PrunedRunsAgain, SerialRunsAgain};
 
@@ -151,6 +151,32 @@ pub fn serial_script<R: Read, W: Write>(
     ensures again { (bytes : List ℕ) → SerialRunsAgain bytes capacity }
 {
     run_for(alloc, input, output, capacity, Work::Report(Report::Serial))
+}
+
+/// Runs the script that the reader gives, and writes a picture of the history that it leaves, as an SVG: a lane for each transaction
+/// with a mark for each operation, or a table of the transactions if there are more than 200 entries. A bad line is all that is
+/// written, if there is one. What `run_script` says of faults and requires holds here too.
+pub fn picture_script<R: Read, W: Write>(
+    alloc: Global,
+    input: &mut Device<R>,
+    output: &mut Device<W>,
+    capacity: usize,
+) -> Result<RunEnd, ScriptFault>
+    requires capacity { IsCapacity capacity }
+    requires unused_input { IsUnused input.old }
+    requires unused_output { IsUnused output.old }
+    ensures sound_input { OnOk result (input.new.failed ≡ false) }
+    ensures sound_output { OnOk result (output.new.failed ≡ false) }
+    ensures wrote { IfOk result (WroteAll R.remaining W.contents (λ bytes. reported pictured bytes capacity) input.old input.new output.old output.new) }
+    ensures stopped { IfErr result (Stops R.remaining W.contents (λ bytes. reported pictured bytes capacity) input.old input.new output.old output.new) }
+{
+    run_for(
+        alloc,
+        input,
+        output,
+        capacity,
+        Work::Report(Report::Picture),
+    )
 }
 
 /// Runs the script that the reader gives, and writes a line for each read that was answered by a value: the number of its
