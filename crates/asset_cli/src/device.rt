@@ -77,7 +77,7 @@ impl<D> Device<D> {
 
 impl<D: Read> Device<D> {
     /// Asks the reader once, and returns how many bytes it gave. `None` if it failed.
-    pub(crate) fn read(&mut self, buf: &mut [u8]) -> Option<usize>
+    pub fn read(&mut self, buf: &mut [u8]) -> Option<usize>
         ensures bound { IfSome result (λ n. n ≤ length buf.new) }
         ensures gave { IfSome result (λ n.
             Consumes (D.remaining self.old.inner) (D.remaining self.new.inner) (take n buf.new)) }
