@@ -1,0 +1,11 @@
+//! The tests of pictures: worked ones, whose shapes are written out here, and drawn ones, whose shapes are counted.
+#![tactic(auto)]
+
+#[cfg(test)]
+mod drawing;
+#[cfg(test)]
+mod drawn;
+#[cfg(test)]
+mod sizes;
+#[cfg(test)]
+mod worked;
