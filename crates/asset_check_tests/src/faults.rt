@@ -1,0 +1,84 @@
+//! Devices that fail, and memory that runs out.
+
+use crate::checks::{Left, check, is_stopped, is_whole};
+use crate::devices::{Reader, Writer, taking, whole};
+use asset_cli::{RunEnd, ScriptFault};
+use std::alloc::Global;
+
+/// A script with two bad lines.
+const SCRIPT: &[u8] = b"object 1 5\nobject 1 6\nbegin 7\nread 7 x\n";
+
+/// What is printed of it.
+const TEXT: &str = "line 2: object 1 given twice\nline 4: not a number: x\n";
+
+/// Returns a writer that takes three bytes at a time, for `calls` times; then it fails, or takes nothing.
+fn taking_pieces(calls: usize, takes_nothing: bool) -> Writer<'static> {
+    Writer {
+        wanted: TEXT.as_bytes(),
+        same: true,
+        piece: 3,
+        calls,
+        takes_nothing,
+    }
+}
+
+/// Checks the script. If memory runs out once, it is checked again.
+fn check_again(alloc: Global, calls: usize, takes_nothing: bool) -> Left {
+    let left = check(alloc, whole(SCRIPT), taking_pieces(calls, takes_nothing));
+    if !is_stopped(&left, ScriptFault::NoMemory, TEXT.len()) {
+        return left;
+    }
+    check(alloc, whole(SCRIPT), taking_pieces(calls, takes_nothing))
+}
+
+/// Returns whether a writer that fails at each write leaves a prefix.
+fn is_cut_at_each_write(alloc: Global, takes_nothing: bool) -> bool {
+    for calls in 0..TEXT.len().div_ceil(3) {
+        let left = check_again(alloc, calls, takes_nothing);
+        let missing = TEXT.len().saturating_sub(calls.saturating_mul(3));
+        if !(is_stopped(&left, ScriptFault::Write, missing) && left.failed == (false, true)) {
+            return false;
+        }
+    }
+    true
+}
+
+#[test]
+fn writer_fails_at_each_write(rt: HostRuntime) {
+    assert!(rt; is_cut_at_each_write(rt.alloc(), false));
+    assert!(rt; is_cut_at_each_write(rt.alloc(), true));
+}
+
+/// Returns whether nothing is written if a reader fails after `count` bytes of the script.
+fn is_stopped_after(alloc: Global, count: usize) -> bool {
+    let (given, _) = SCRIPT.split_at(count.min(SCRIPT.len()));
+    let reader = Reader {
+        comment: 0,
+        left: given,
+        piece: 5,
+        fails: true,
+    };
+    let left = check(alloc, reader, taking(TEXT));
+    left.missing == TEXT.len() && left.same && left.end != Ok(RunEnd::Finished)
+}
+
+#[test]
+fn reader_fails_after_each_byte(rt: HostRuntime) {
+    for count in 0..=SCRIPT.len() {
+        assert!(rt; is_stopped_after(rt.alloc(), count), "after {count}");
+    }
+}
+
+/// Returns whether the check is whole, at once or after one that was refused memory and wrote nothing.
+fn is_whole_or_refused(alloc: Global) -> bool {
+    let mut left = check(alloc, whole(SCRIPT), taking(TEXT));
+    if is_stopped(&left, ScriptFault::NoMemory, TEXT.len()) {
+        left = check(alloc, whole(SCRIPT), taking(TEXT));
+    }
+    is_whole(&left, RunEnd::BadLine(2))
+}
+
+#[test]
+fn checks_are_whole_or_refused(rt: HostRuntime) {
+    assert!(rt; is_whole_or_refused(rt.alloc()));
+}
