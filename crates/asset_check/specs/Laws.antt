@@ -1,5 +1,5 @@
 -- What a check has to do with a run.
-use Rattle.std.specs.Prelude.{◌≡◌, ℕ, Bool, List, [], ◌++◌, codes}
+use Rattle.std.specs.Prelude.{◌≡◌, ℕ, List, [], ◌++◌, codes}
 use Rattle.std.specs.Fmt.{decimal}
 use Rattle.asset_cli.specs.declared.ends.RunEnd.TheVariants.{Finished, BadLine}
 use Rattle.asset_cli.specs.Transcript.{transcript}
