@@ -28,7 +28,7 @@ style_text = light_text ++ (dark_text ++ heads_text)
 
 -- what the shapes and colours mean
 unfoldable pub legend_text : List ℕ
-legend_text = codes "<g class='committed'><path class='lane' d='M20 22H50'/></g><text class='key' x='56' y='26'>committed</text>\n<g class='aborted'><path class='lane' d='M140 22H170'/></g><text class='key' x='176' y='26'>aborted</text>\n<g class='live'><path class='lane' d='M250 22H280'/></g><text class='key' x='286' y='26'>live</text>\n<g class='read' transform='translate(345 22)'><circle r='5'/></g><text class='key' x='356' y='26'>read</text>\n<g class='write' transform='translate(415 22)'><rect x='-5' y='-5' width='10' height='10'/></g><text class='key' x='426' y='26'>write</text>\n<text class='note' x='480' y='26'>below a mark: its object and its value; pale: the group is dead</text>\n<path class='arrow source' d='M20 44H50'/><text class='key' x='56' y='48'>read to its source</text>\n<path class='arrow permit' d='M200 44H230'/><text class='key' x='236' y='48'>permit</text>\n<path class='arrow delegate' d='M300 44H330'/><text class='key' x='336' y='48'>delegate</text>\n<path class='arrow cd' d='M415 44H445'/><text class='key' x='451' y='48'>depend cd</text>\n<path class='arrow ad' d='M530 44H560'/><text class='key' x='566' y='48'>ad</text>\n<path class='arrow gc' d='M600 44H630'/><text class='key' x='636' y='48'>gc</text>\n"
+legend_text = codes "<g class='committed'><path class='lane' d='M20 22H50'/></g><text class='key' x='56' y='26'>committed</text>\n<g class='aborted'><path class='lane' d='M140 22H170'/></g><text class='key' x='176' y='26'>aborted</text>\n<g class='live'><path class='lane' d='M250 22H280'/></g><text class='key' x='286' y='26'>live</text>\n<g class='read' transform='translate(345 22)'><circle r='5'/></g><text class='key' x='356' y='26'>read</text>\n<g class='write' transform='translate(415 22)'><rect x='-5' y='-5' width='10' height='10'/></g><text class='key' x='426' y='26'>write</text>\n<text class='note' x='480' y='26'>below a mark: object, value; pale: dead group</text>\n<path class='arrow source' d='M20 44H50'/><text class='key' x='56' y='48'>read to its source</text>\n<path class='arrow permit' d='M200 44H230'/><text class='key' x='236' y='48'>permit</text>\n<path class='arrow delegate' d='M300 44H330'/><text class='key' x='336' y='48'>delegate</text>\n<path class='arrow cd' d='M415 44H445'/><text class='key' x='451' y='48'>depend cd</text>\n<path class='arrow ad' d='M530 44H560'/><text class='key' x='566' y='48'>ad</text>\n<path class='arrow gc' d='M600 44H630'/><text class='key' x='636' y='48'>gc</text>\n"
 
 -- the start of a picture of this size
 unfoldable pub open_text : ℕ → ℕ → List ℕ

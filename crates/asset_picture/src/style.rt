@@ -45,7 +45,7 @@ const LEGEND: &str = "\
 <g class='live'><path class='lane' d='M250 22H280'/></g><text class='key' x='286' y='26'>live</text>
 <g class='read' transform='translate(345 22)'><circle r='5'/></g><text class='key' x='356' y='26'>read</text>
 <g class='write' transform='translate(415 22)'><rect x='-5' y='-5' width='10' height='10'/></g><text class='key' x='426' y='26'>write</text>
-<text class='note' x='480' y='26'>below a mark: its object and its value; pale: the group is dead</text>
+<text class='note' x='480' y='26'>below a mark: object, value; pale: dead group</text>
 <path class='arrow source' d='M20 44H50'/><text class='key' x='56' y='48'>read to its source</text>
 <path class='arrow permit' d='M200 44H230'/><text class='key' x='236' y='48'>permit</text>
 <path class='arrow delegate' d='M300 44H330'/><text class='key' x='336' y='48'>delegate</text>
