@@ -89,6 +89,7 @@ impl Checker {
     ) -> Result<Option<Mistake<'a>>, ScriptFault>
         ensures mistake { IfOk result (λ found. Tells found (object_mistake self.old object.0 line.now)) }
         ensures seen { OnOk result (self.new ≡ seen_object self.old object) }
+        ensures unchanged { OnErr result (self.new ≡ self.old) }
         ensures memory { IfErr result (λ fault. fault ≡ ScriptFault.NoMemory) }
     {
         if self.stepped {
@@ -98,7 +99,8 @@ impl Checker {
         Ok(twice_unless(added, line))
     }
 
-    /// Takes the next line, which says this. Returns why it is bad, if it is.
+    /// Takes the next line, which says this. Returns why it is bad, if it is. If memory runs out,
+    /// nothing changes.
     pub fn take<'a>(
         &mut self,
         line: &'a [u8],
@@ -106,6 +108,7 @@ impl Checker {
     ) -> Result<Option<Mistake<'a>>, ScriptFault>
         ensures mistake { IfOk result (λ found. (step : StepAsked) → line_of line.now ≡ said_as said step → Tells found (mistake_at self.old line.now)) }
         ensures seen { OnOk result ((step : StepAsked) → line_of line.now ≡ said_as said step → self.new ≡ seen_by self.old (line_of line.now)) }
+        ensures unchanged { OnErr result (self.new ≡ self.old) }
         ensures memory { IfErr result (λ fault. fault ≡ ScriptFault.NoMemory) }
     {
         match said {
