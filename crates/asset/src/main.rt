@@ -1,13 +1,13 @@
-//! The program `asset`: it runs the script that comes on standard input, and writes the transcript to
-//! standard output; or it runs the jobs of a job script, and writes how each of them ended.
+//! The program `asset`: it runs the script that comes on standard input, and writes the transcript or a report to
+//! standard output; or it says why lines are bad, holds a conversation, or runs the jobs of a job script.
 #![tactic(auto)]
 
 use asset_bodies::{Body, Tx};
 use asset_cli::Device;
 use asset_jobs::do_acts;
 use asset_program::{
-    Asked, Begun, JobsStop, Opened, add_job, begin_jobs, end_jobs, finish_jobs, read_arguments,
-    requested, run_program,
+    Asked, Begun, JobsStop, Opened, add_job, begin_jobs, converse, end_jobs, finish_jobs,
+    read_arguments, requested, run_check, run_program,
 };
 use asset_runner::Plan;
 use std::process::ExitCode;
@@ -21,6 +21,22 @@ fn main(rt: HostRuntime) -> ExitCode {
         Ok(Asked::Jobs(request)) => request,
         Ok(Asked::Script(request)) => {
             let status = run_program(alloc, &Ok(request), &mut input, &mut output, &mut errors);
+            return ExitCode::from(status);
+        }
+        Ok(Asked::Check) => {
+            let status = run_check(alloc, &mut input, &mut output, &mut errors);
+            return ExitCode::from(status);
+        }
+        Ok(Asked::Shell(capacity)) => {
+            let mut reasons = Device::new(rt.stderr());
+            let status = converse(
+                alloc,
+                capacity,
+                &mut input,
+                &mut output,
+                &mut reasons,
+                &mut errors,
+            );
             return ExitCode::from(status);
         }
         Err(answer) => {

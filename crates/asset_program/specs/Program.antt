@@ -7,19 +7,28 @@ use Rattle.asset_cli.specs.Device.{DeviceState}
 use Rattle.asset_cli.specs.Transfers.{TookPrefix}
 use Rattle.asset_cli.specs.Reporting.{transcript_of}
 use Rattle.asset_cli.specs.Runs.{WroteAll, Stops}
+use Rattle.asset_cli.specs.Transcript.{Transcript}
+use Rattle.asset_check.specs.Checked.{checked}
 use Rattle.asset_program.specs.declared.requests.Request.{Request}
 use Rattle.asset_program.specs.declared.answers.Answer.{Answer}
 use Rattle.asset_program.specs.declared.answers.Answer.TheVariants.{Help, Refusal, Fault}
 use Rattle.asset_program.specs.Exit.{run_status, capacity_of}
 
 module _ {R W : Type 0} (remaining : R → Option (List ℕ)) (contents : W → Option (List ℕ)) where
-  -- A script was run for this work, over a history with room for `capacity` entries. The status says how the run ended; what
-  -- was written is what the work gives of all bytes that were read, or at a fault a prefix of it or nothing.
-  pub record RunsScript (work : Work) (capacity : ℕ) (input input' : DeviceState R) (output output' : DeviceState W) (status : ℕ) : Type 0 where
+  -- A script was read. The status says how that ended; what was written is what all bytes that were read give, or at a fault a
+  -- prefix of it or nothing.
+  pub record Gives (render : List ℕ → Transcript) (input input' : DeviceState R) (output output' : DeviceState W) (status : ℕ) : Type 0 where
     pub ended : Result RunEnd ScriptFault
     pub says : status ≡ run_status ended
-    pub ran : MatchResult ended (WroteAll remaining contents (λ bytes. transcript_of work bytes capacity) input input' output output')
-        (Stops remaining contents (λ bytes. transcript_of work bytes capacity) input input' output output')
+    pub ran : MatchResult ended (WroteAll remaining contents render input input' output output') (Stops remaining contents render input input' output output')
+
+  -- a script was run for this work, over a history with room for `capacity` entries
+  abbrev pub RunsScript : Work → ℕ → DeviceState R → DeviceState R → DeviceState W → DeviceState W → ℕ → Type 0
+  RunsScript work capacity = Gives (λ bytes. transcript_of work bytes capacity)
+
+  -- a script was checked
+  abbrev pub ChecksScript : DeviceState R → DeviceState R → DeviceState W → DeviceState W → ℕ → Type 0
+  ChecksScript = Gives checked
 
   -- a request runs a script with the capacity that it asks for; if that is out of range, nothing is read or written
   unfoldable pub Serves : Request → DeviceState R → DeviceState R → DeviceState W → DeviceState W → ℕ → Type 0

@@ -1,6 +1,6 @@
 //! The call that takes a script, for somebody who gave its path as an argument.
 
-use crate::command_line::{JOBS, work_named};
+use crate::command_line::{CHECK, JOBS, SHELL, work_named};
 use std::alloc::{AllocError, Global};
 
 /// Returns whether a text is an option.
@@ -10,7 +10,7 @@ fn is_option(text: &str) -> bool {
 
 /// Returns whether the program has this word.
 fn is_word(text: &str) -> bool {
-    text == JOBS || work_named(text).is_some()
+    text == JOBS || text == CHECK || text == SHELL || work_named(text).is_some()
 }
 
 /// Returns whether an option is one that the word for jobs alone takes.
@@ -21,9 +21,12 @@ fn is_of_jobs(option: &str) -> bool {
         || option.starts_with("--turns=")
 }
 
-/// Returns whether an option is one that the program takes beside the first word.
-fn is_taken(option: &str, for_jobs: bool) -> bool {
-    option == "--cap" || option.starts_with("--cap=") || (for_jobs && is_of_jobs(option))
+/// Returns whether an option is one that the program takes after this word. A check takes none.
+fn is_taken(option: &str, word: &str) -> bool {
+    if word == CHECK {
+        return false;
+    }
+    option == "--cap" || option.starts_with("--cap=") || (word == JOBS && is_of_jobs(option))
 }
 
 /// Returns whether an option's value is the next argument.
@@ -37,24 +40,24 @@ fn may_be_path(text: &str, before: &str, index: usize) -> bool {
     !takes_next(before) && !is_option(text) && (index != 1 || !is_word(text))
 }
 
-/// Returns whether the first argument after the program's name is the word for jobs.
-fn is_for_jobs(arguments: &[String]) -> bool {
+/// Returns the first argument after the program's name, and nothing if there is none.
+fn first_word(arguments: &[String]) -> &str {
     match arguments.get(1) {
-        Some(argument) => argument.as_str() == JOBS,
-        None => false,
+        Some(argument) => argument.as_str(),
+        None => "",
     }
 }
 
 /// Returns the index of the argument that may be the path of a script. `None` if there is no such argument or more than one,
 /// or there is an option that the program does not take.
 fn path_index(arguments: &[String]) -> Option<usize> {
-    let for_jobs = is_for_jobs(arguments);
+    let word = first_word(arguments);
     let mut found = None;
     let mut before = "";
     for (index, argument) in arguments.iter().enumerate() {
         let text = argument.as_str();
         if index != 0 {
-            if is_option(text) && !is_taken(text, for_jobs) {
+            if is_option(text) && !is_taken(text, word) {
                 return None;
             }
             if may_be_path(text, before, index) {
@@ -71,10 +74,7 @@ fn path_index(arguments: &[String]) -> Option<usize> {
 
 /// Returns whether the first argument after the program's name is a word of the program.
 fn has_word(arguments: &[String]) -> bool {
-    match arguments.get(1) {
-        Some(argument) => is_word(argument.as_str()),
-        None => false,
-    }
+    is_word(first_word(arguments))
 }
 
 /// Appends an argument, and a space before it.

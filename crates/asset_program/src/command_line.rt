@@ -12,8 +12,20 @@ const USAGE: &str = "asset [<word> [--cap <n>]] < SCRIPT";
 /// How the program is called for jobs.
 const JOBS_USAGE: &str = "asset jobs [--cap <n>] [--workers <n>] [--turns <n>] < SCRIPT";
 
+/// How the program is called for a check.
+const CHECK_USAGE: &str = "asset check < SCRIPT";
+
+/// How the program is called for a conversation.
+const SHELL_USAGE: &str = "asset shell [--cap <n>]";
+
 /// The word for jobs.
 pub(crate) const JOBS: &str = "jobs";
+
+/// The word for a check.
+pub(crate) const CHECK: &str = "check";
+
+/// The word for a conversation.
+pub(crate) const SHELL: &str = "shell";
 
 /// What help says after the arguments.
 const NOTES: &str =
@@ -23,14 +35,24 @@ const NOTES: &str =
 const JOBS_NOTES: &str =
     "The output is written once all jobs have ended.\n\nExit status:\n  0  the jobs were run, or help was asked for\n  1  the input, the output or the audit failed, or memory ran out\n  2  a line is bad, and no job was run, or an argument is refused";
 
+/// What help says after the arguments of a check.
+const CHECK_NOTES: &str =
+    "The output is written once the input has ended.\n\nExit status:\n  0  no line is bad, and nothing is written, or help was asked for\n  1  the input or the output failed, or memory ran out\n  2  a line is bad, or an argument is refused";
+
+/// What help says after the arguments of a conversation.
+const SHELL_NOTES: &str =
+    "Each line is answered before the next one is read. Why a line is bad is said on standard error, and the conversation goes on.\n\nExit status:\n  0  no line was bad, or help was asked for\n  1  the input or an output failed, or memory ran out\n  2  a line was bad, or an argument is refused";
+
 /// Returns what a script is run for by this word. `None` if the program has no such word for scripts.
 pub(crate) fn work_named(word: &str) -> Option<Work> {
     match word {
         "run" => Some(Work::Run),
+        "steps" => Some(Work::Steps),
         "prune" => Some(Work::Report(Report::Pruned)),
         "groups" => Some(Work::Report(Report::Groups)),
         "sources" => Some(Work::Sources),
         "serial" => Some(Work::Report(Report::Serial)),
+        "picture" => Some(Work::Report(Report::Picture)),
         _ => None,
     }
 }
@@ -88,6 +110,30 @@ fn with_word<'a>(
     line.subcommand(word_command(alloc, name, about)?)
 }
 
+/// Returns a command line with the word for a check.
+fn with_check<'a>(line: Command<'a>, alloc: Global) -> Result<Command<'a>, AllocError> {
+    line.subcommand(
+        Command::new(alloc, CHECK)
+            .about("Names each bad line of the script on standard input, and why it is bad")
+            .override_usage(CHECK_USAGE)
+            .after_help(CHECK_NOTES),
+    )
+}
+
+/// Returns the command of a conversation.
+fn shell_command<'a>(alloc: Global) -> Result<Command<'a>, AllocError> {
+    Command::new(alloc, SHELL)
+        .about("Answers each line as it comes")
+        .override_usage(SHELL_USAGE)
+        .after_help(SHELL_NOTES)
+        .arg(capacity_argument(alloc))
+}
+
+/// Returns a command line with the word for a conversation.
+fn with_shell<'a>(line: Command<'a>, alloc: Global) -> Result<Command<'a>, AllocError> {
+    line.subcommand(shell_command(alloc)?)
+}
+
 /// Returns the command of jobs without its arguments.
 fn bare_jobs<'a>(alloc: Global) -> Command<'a> {
     Command::new(alloc, JOBS)
@@ -130,6 +176,12 @@ pub(crate) fn command_line<'a>(alloc: Global) -> Result<Command<'a>, AllocError>
     let line = with_word(
         line,
         alloc,
+        "steps",
+        "Writes each step with its reply, numbered by line and by entry",
+    )?;
+    let line = with_word(
+        line,
+        alloc,
         "prune",
         "Writes the script that is left without dead groups",
     )?;
@@ -151,6 +203,14 @@ pub(crate) fn command_line<'a>(alloc: Global) -> Result<Command<'a>, AllocError>
         "serial",
         "Writes the script of those who committed, one after another",
     )?;
+    let line = with_word(
+        line,
+        alloc,
+        "picture",
+        "Draws the history as a picture, an SVG",
+    )?;
+    let line = with_check(line, alloc)?;
+    let line = with_shell(line, alloc)?;
     with_jobs(line, alloc)
 }
 
@@ -175,6 +235,8 @@ fn script_request(word: &str, given: &ArgMatches<'_>) -> Request {
 pub(crate) fn asked_by(matches: &ArgMatches<'_>) -> Asked {
     match matches.subcommand() {
         Some((JOBS, given)) => Asked::Jobs(jobs_request(given)),
+        Some((CHECK, _)) => Asked::Check,
+        Some((SHELL, given)) => Asked::Shell(given.get_one::<u32>("cap")),
         Some((word, given)) => Asked::Script(script_request(word, given)),
         None => Asked::Script(Request {
             work: Work::Run,

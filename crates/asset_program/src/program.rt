@@ -3,15 +3,34 @@
 ghost use Rattle.std.specs.Prelude.{◌≡◌, IfOk, IfErr, OnErr};
 ghost use Rattle.asset_core.specs.OpenFaults.{IsCapacity};
 ghost use Rattle.asset_cli.specs.Device.{IsUnused};
-ghost use Rattle.asset_program.specs.Exit.{answer_status};
-ghost use Rattle.asset_program.specs.Program.{RunsScript, Serves, Shows};
+ghost use Rattle.asset_program.specs.Exit.{answer_status, run_status};
+ghost use Rattle.asset_program.specs.Program.{ChecksScript, RunsScript, Serves, Shows};
 
 use crate::answers::Answer;
 use crate::exit::{status_of_answer, status_of_run};
 use crate::requests::{Request, capacity_or_default};
-use asset_cli::{Device, Work, run_for, write_all};
+use asset_check::check_script;
+use asset_cli::{Device, RunEnd, ScriptFault, Work, run_for, write_all};
 use std::alloc::Global;
 use std::io::{Read, Write};
+
+/// Says a fault to the errors. Returns the exit status of what ended so.
+pub(crate) fn say_fault<E: Write>(ended: Result<RunEnd, ScriptFault>, errors: &mut E) -> u8
+    ensures { result ≡ run_status ended }
+{
+    if let Err(fault) = ended {
+        let _ = writeln!(errors, "asset: {fault}");
+    }
+    status_of_run(ended)
+}
+
+/// Says to the errors that a capacity is out of range. Returns the exit status.
+pub(crate) fn say_range<E: Write>(errors: &mut E) -> u8
+    ensures { result ≡ 2 }
+{
+    let _ = writeln!(errors, "asset: a capacity is a number from 1 to 1000000");
+    2
+}
 
 /// Runs the script that the reader gives for the work. Says a fault to the errors. Returns the exit status.
 fn run<R: Read, W: Write, E: Write>(
@@ -28,10 +47,7 @@ fn run<R: Read, W: Write, E: Write>(
     ensures { RunsScript R.remaining W.contents work capacity input.old input.new output.old output.new result }
 {
     let ended = run_for(alloc, input, output, capacity, work);
-    if let Err(fault) = ended {
-        let _ = writeln!(errors, "asset: {fault}");
-    }
-    status_of_run(ended)
+    say_fault(ended, errors)
 }
 
 /// Runs the script that the reader gives as the request says. Returns the exit status.
@@ -49,10 +65,7 @@ fn serve<R: Read, W: Write, E: Write>(
 {
     match capacity_or_default(request.capacity) {
         Some(capacity) => run(alloc, request.work, capacity, input, output, errors),
-        None => {
-            let _ = writeln!(errors, "asset: a capacity is a number from 1 to 1000000");
-            2
-        }
+        None => say_range(errors),
     }
 }
 
@@ -100,4 +113,22 @@ pub fn run_program<R: Read, W: Write, E: Write>(
             status_of_answer(answer)
         }
     }
+}
+
+/// Checks the script that the reader gives, and writes why its bad lines are bad to the output, a line for each. Says a fault to the
+/// errors. Returns the exit status: 0 if no line is bad.
+///
+/// Requires devices that were asked nothing.
+pub fn run_check<R: Read, W: Write, E: Write>(
+    alloc: Global,
+    input: &mut Device<R>,
+    output: &mut Device<W>,
+    errors: &mut E,
+) -> u8
+    requires unused_input { IsUnused input.old }
+    requires unused_output { IsUnused output.old }
+    ensures { ChecksScript R.remaining W.contents input.old input.new output.old output.new result }
+{
+    let ended = check_script(alloc, input, output);
+    say_fault(ended, errors)
 }

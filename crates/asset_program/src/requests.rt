@@ -26,6 +26,10 @@ pub struct Request {
 pub enum Asked {
     /// That a script is run.
     Script(Request),
+    /// That a script is checked.
+    Check,
+    /// That a conversation is held, over a history of this capacity, if an argument gives one.
+    Shell(Option<u32>),
     /// That the jobs of a job script are run.
     Jobs(JobsRequest),
 }

@@ -19,18 +19,23 @@ fn arguments_give_the_word_and_the_capacity(rt: HostRuntime) {
     let pruned = Work::Report(Report::Pruned);
     let groups = Work::Report(Report::Groups);
     let serial = Work::Report(Report::Serial);
+    let picture = Work::Report(Report::Picture);
     for (texts, work, capacity) in [
         (&[][..], Work::Run, None),
         (&["run"][..], Work::Run, Some(10_000)),
         (&["run", "--cap", "4"][..], Work::Run, Some(4)),
         (&["run", "--cap", "1"][..], Work::Run, Some(1)),
         (&["run", "--cap=1000000"][..], Work::Run, Some(1_000_000)),
+        (&["steps"][..], Work::Steps, Some(10_000)),
+        (&["steps", "--cap", "9"][..], Work::Steps, Some(9)),
         (&["prune"][..], pruned, Some(10_000)),
         (&["prune", "--cap", "5"][..], pruned, Some(5)),
         (&["groups"][..], groups, Some(10_000)),
         (&["groups", "--cap=6"][..], groups, Some(6)),
         (&["sources"][..], Work::Sources, Some(10_000)),
         (&["sources", "--cap=8"][..], Work::Sources, Some(8)),
+        (&["picture"][..], picture, Some(10_000)),
+        (&["picture", "--cap=3"][..], picture, Some(3)),
         (&["serial"][..], serial, Some(10_000)),
         (&["serial", "--cap", "7"][..], serial, Some(7)),
     ] {
@@ -39,6 +44,17 @@ fn arguments_give_the_word_and_the_capacity(rt: HostRuntime) {
             Ok(Some(Asked::Script(Request { work, capacity }))),
             "at {texts:?}"
         );
+    }
+}
+
+#[test]
+fn arguments_ask_for_a_check_or_a_conversation(rt: HostRuntime) {
+    for (texts, asked) in [
+        (&["check"][..], Asked::Check),
+        (&["shell"][..], Asked::Shell(Some(10_000))),
+        (&["shell", "--cap", "4"][..], Asked::Shell(Some(4))),
+    ] {
+        assert_eq!(rt; request(rt.alloc(), texts), Ok(Some(asked)), "at {texts:?}");
     }
 }
 
@@ -103,6 +119,9 @@ fn refused_arguments_ask_for_nothing(rt: HostRuntime) {
         &["jobs", "--workers", "65"][..],
         &["jobs", "--turns", "1000001"][..],
         &["jobs", "--cap", "0"][..],
+        &["check", "--cap", "4"][..],
+        &["check", "x"][..],
+        &["shell", "--cap", "0"][..],
     ] {
         assert_eq!(rt; request(rt.alloc(), texts), Ok(None), "at {texts:?}");
     }

@@ -17,14 +17,15 @@ pub(crate) fn list(alloc: Global, texts: &[&str]) -> Result<Vec<String>, AllocEr
     Ok(arguments)
 }
 
-/// Returns what the arguments ask of a script, or what they are answered. Arguments that ask for jobs are none of these tests'.
+/// Returns what the arguments ask of a script, or what they are answered. Arguments that ask for something else are none of these
+/// tests'.
 fn script_request(
     alloc: Global,
     arguments: &Result<Vec<String>, ArgumentsFault>,
 ) -> Result<Request, Answer> {
     match requested(alloc, arguments) {
         Ok(Asked::Script(request)) => Ok(request),
-        Ok(Asked::Jobs(_)) => Err(Answer::Fault(ArgumentsFault::NoMemory)),
+        Ok(_) => Err(Answer::Fault(ArgumentsFault::NoMemory)),
         Err(answer) => Err(answer),
     }
 }

@@ -41,6 +41,19 @@ fn each_word_writes_its_text(rt: HostRuntime) -> Result<(), Fail> {
 }
 
 #[test]
+fn steps_are_listed_with_their_replies(rt: HostRuntime) -> Result<(), Fail> {
+    let listing = "\
+        1       0       initiate 7                      ok\n\
+        2       1       begin 7                         ok\n\
+        3       -       initiate 8                      full\n\
+        4       2       complete 7                      ok\n\
+        5       3       commit 7                        committed\n";
+    expect(&rt, &["steps", "--cap", "4"], FULL, (listing, "", 0))?;
+    let bad = "1       0       initiate 7                      ok\nline 2: bad command\n";
+    expect(&rt, &["steps"], b"initiate 7\nbegin\n", (bad, "", 2))
+}
+
+#[test]
 fn shared_work_ends_serial_with_one(rt: HostRuntime) -> Result<(), Fail> {
     let script = b"initiate 7\nbegin 7\npermit 7 8 r all\ncomplete 7\ncommit 7\n";
     expect(&rt, &["serial"], script, ("shared\n", "", 1))

@@ -9,10 +9,14 @@ Usage: asset [<word> [--cap <n>]] < SCRIPT
 
 Commands:
   run      Runs the script on standard input and writes its transcript (the default)
+  steps    Writes each step with its reply, numbered by line and by entry
   prune    Writes the script that is left without dead groups
   groups   Writes the groups of those who shared something
   sources  Writes where each value that was read comes from
   serial   Writes the script of those who committed, one after another
+  picture  Draws the history as a picture, an SVG
+  check    Names each bad line of the script on standard input, and why it is bad
+  shell    Answers each line as it comes
   jobs     Runs the jobs of the job script on standard input by threads, and writes how each ended
   help     Print this message or the help of the given subcommand(s)
 
