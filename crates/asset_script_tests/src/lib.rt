@@ -20,6 +20,8 @@ mod memory;
 #[cfg(test)]
 mod permits;
 #[cfg(test)]
+mod pictures;
+#[cfg(test)]
 mod requests;
 #[cfg(test)]
 mod rows;
