@@ -12,7 +12,7 @@ use Rattle.asset_picture.specs.Layout.{pieces, x_at, y_at, bow_at, pale}
 
 -- the colours on a light screen
 unfoldable pub light_text : List ℕ
-light_text = codes "<style>\n.page{fill:#ffffff}.even{fill:#f3f5f8}.odd{fill:#e8ecf1}\ntext{font:11px ui-monospace,Menlo,Consolas,'DejaVu Sans Mono',monospace;fill:#1f2328;text-anchor:middle}\n.name{font-size:13px;font-weight:bold;text-anchor:end}.note,.step{font-size:10px;fill:#59636e}\n.note,.key,.row{text-anchor:start}.object{font-weight:bold}\n.lane{fill:none;stroke-width:5;stroke:#818b98}\n.committed .lane{stroke:#2da44e}.aborted .lane{stroke:#e5534b}.live .lane{stroke:#539bf5}\n.read circle{fill:#ffffff;stroke:#1f2328;stroke-width:2}.write rect{fill:#1f2328}\n.arrow{fill:none;stroke-width:1.5}.source{stroke:#818b98;marker-end:url(#s)}\n.permit{stroke:#8250df;marker-end:url(#p)}.delegate{stroke:#bc4c00;stroke-width:2.5;marker-end:url(#d)}\n.cd,.ad,.gc{stroke:#0e8a93;marker-end:url(#t)}.cd{stroke-dasharray:4 3}.gc{marker-start:url(#u)}\n.dead{opacity:.5}\n"
+light_text = codes "<style>\n.page{fill:#ffffff}.even{fill:#f3f5f8}.odd{fill:#e8ecf1}\ntext{font:11px ui-monospace,Menlo,Consolas,'DejaVu Sans Mono',monospace;fill:#1f2328;text-anchor:middle}\n.name{font-size:13px;font-weight:bold;text-anchor:end}.note,.step{font-size:10px;fill:#59636e}\n.note,.key,.row{text-anchor:start}.object{font-weight:bold}\n.lane{fill:none;stroke-width:5;stroke:#818b98}\n.committed .lane{stroke:#2da44e}.aborted .lane{stroke:#e5534b}.live .lane{stroke:#539bf5}\n.read circle{fill:#ffffff;stroke:#1f2328;stroke-width:2}.write rect{fill:#1f2328}\n.arrow{fill:none;stroke-width:1.5}.source{stroke:#818b98;stroke-width:1;stroke-opacity:.7;marker-end:url(#s)}\n.permit{stroke:#8250df;marker-end:url(#p)}.delegate{stroke:#bc4c00;stroke-width:2.5;marker-end:url(#d)}\n.cd,.ad,.gc{stroke:#0e8a93;marker-end:url(#t)}.cd{stroke-dasharray:4 3}.gc{marker-start:url(#u)}\n.dead{opacity:.5}\n"
 
 -- and on a dark one
 unfoldable pub dark_text : List ℕ
