@@ -6,6 +6,8 @@ mod drawing;
 #[cfg(test)]
 mod drawn;
 #[cfg(test)]
+mod scripts;
+#[cfg(test)]
 mod sizes;
 #[cfg(test)]
 mod worked;

@@ -20,8 +20,6 @@ mod memory;
 #[cfg(test)]
 mod permits;
 #[cfg(test)]
-mod pictures;
-#[cfg(test)]
 mod requests;
 #[cfg(test)]
 mod rows;

@@ -68,22 +68,10 @@ fn listing_of_no_steps_is_empty(rt: HostRuntime) -> Result<(), Fail> {
 
 /// Sixteen objects, permitted all at once, which is a step that is longer than its column; and two that are not in order.
 const LONG: &str = "\
-    object 1000000001 0\n\
-    object 1000000002 0\n\
-    object 1000000003 0\n\
-    object 1000000004 0\n\
-    object 1000000005 0\n\
-    object 1000000006 0\n\
-    object 1000000007 0\n\
-    object 1000000008 0\n\
-    object 1000000009 0\n\
-    object 1000000010 0\n\
-    object 1000000011 0\n\
-    object 1000000012 0\n\
-    object 1000000013 0\n\
-    object 1000000014 0\n\
-    object 1000000015 0\n\
-    object 1000000016 0\n\
+    object 1000000001 0\nobject 1000000002 0\nobject 1000000003 0\nobject 1000000004 0\n\
+    object 1000000005 0\nobject 1000000006 0\nobject 1000000007 0\nobject 1000000008 0\n\
+    object 1000000009 0\nobject 1000000010 0\nobject 1000000011 0\nobject 1000000012 0\n\
+    object 1000000013 0\nobject 1000000014 0\nobject 1000000015 0\nobject 1000000016 0\n\
     initiate 7\n\
     initiate 8\n\
     permit 7 8 rw 1000000001,1000000002,1000000003,1000000004,1000000005,1000000006,1000000007,1000000008,1000000009,1000000010,1000000011,1000000012,1000000013,1000000014,1000000015,1000000016\n\

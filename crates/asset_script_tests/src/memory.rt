@@ -3,8 +3,8 @@ ghost use Rattle.asset_core.specs.OpenFaults.{IsCapacity};
 ghost use Rattle.asset_cli.specs.Device.{IsUnused};
 
 use asset_cli::{
-    Device, RunEnd, ScriptFault, groups_script, picture_script, prune_script, run_script,
-    serial_script, sources_script, steps_script,
+    Device, RunEnd, ScriptFault, groups_script, prune_script, run_script, serial_script,
+    sources_script, steps_script,
 };
 use std::alloc::Global;
 use std::process::Abort;
@@ -33,7 +33,6 @@ pub enum Call {
     Serial,
     Sources,
     Steps,
-    Picture,
 }
 
 /// Runs the script that the device gives for what the call gives, and writes that to the other device.
@@ -55,7 +54,6 @@ fn run_between(
         Call::Serial => serial_script(alloc, input, output, capacity),
         Call::Sources => sources_script(alloc, input, output, capacity),
         Call::Steps => steps_script(alloc, input, output, capacity),
-        Call::Picture => picture_script(alloc, input, output, capacity),
     }
 }
 
@@ -72,17 +70,6 @@ fn run(
     let mut input = Device::new(script);
     let mut output = Device::new(written);
     run_between(alloc, call, &mut input, &mut output, capacity)
-}
-
-/// Draws the picture of a script, and adds it to these bytes. If memory runs out once, it is drawn again.
-pub fn draw(alloc: Global, script: &[u8], written: &mut Vec<u8>) -> Result<RunEnd, ScriptFault> {
-    match run(alloc, Call::Picture, script, ROOM, written) {
-        Err(ScriptFault::NoMemory) => {
-            written.clear();
-            run(alloc, Call::Picture, script, ROOM, written)
-        }
-        ended => ended,
-    }
 }
 
 /// Runs a script, and adds to these bytes its transcript. It is run once, and not again if memory runs out.
