@@ -103,7 +103,13 @@ fn conversation_goes_on_after_a_bad_line(rt: HostRuntime) -> Result<(), Fail> {
 #[test]
 fn conversation_uses_the_capacity(rt: HostRuntime) -> Result<(), Fail> {
     let lines = b"initiate 7\nbegin 7\ninitiate 8\ncomplete 7\ncommit 7\n";
-    expect_talk(&rt, Some(4), lines, ("ok\nok\nfull\nok\ncommitted\n", "", ""), 0)
+    expect_talk(
+        &rt,
+        Some(4),
+        lines,
+        ("ok\nok\nfull\nok\ncommitted\n", "", ""),
+        0,
+    )
 }
 
 #[test]

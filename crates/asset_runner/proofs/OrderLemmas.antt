@@ -1,7 +1,6 @@
 -- A row of jobs that stand in order.
 use Rattle.std.proofs.Common.{◌≡◌, ◌<◌, ◌+◌, ◌∙◌, ℕ, List, Some, Bool, true, false, eqb, refl, sym, ap, arith}
 use Rattle.std.specs.Prelude.{slice_get}
-
 use Rattle.asset_runner.specs.Arrived.{Arrived}
 
 -- one more job that stands in its place
