@@ -25,8 +25,10 @@ fn draw(alloc: Global, script: &[u8], written: &mut Vec<u8>) -> Result<RunEnd, S
 const ONE_TRANSACTION: &[u8] =
     b"object 1 100\ninitiate 7\nbegin 7\nread 7 1\nwrite 7 1 50\nread 7 1\ncomplete 7\ncommit 7\n";
 
-/// Its reads and its write: the columns of its entries 2 to 4, in the one lane.
-const MARKS: [&str; 3] = [
+/// Its lane, its reads and its write in the columns of its entries 2 to 4, and the bow from the later read to the write.
+const SHAPES: [&str; 5] = [
+    "<g class='committed' transform='translate(0 108)'>",
+    "<path class='arrow source' d='M422 108 ",
     "<g class='read' transform='translate(326 108)'>",
     "<g class='write' transform='translate(374 108)'>",
     "<g class='read' transform='translate(422 108)'>",
@@ -38,10 +40,8 @@ fn picture_of_a_script_has_its_lanes(rt: HostRuntime) -> Result<(), Fail> {
     let ended = draw(rt.alloc(), ONE_TRANSACTION, &mut written);
     assert_eq!(rt; ended, Ok(RunEnd::Finished));
     let picture = str::from_utf8(&written)?;
-    assert_eq!(rt; picture.matches("<g class='committed'").count(), 1);
-    assert_eq!(rt; picture.matches("<path class='arrow source'").count(), 1);
-    for mark in MARKS {
-        assert!(rt; picture.contains(mark), "without {mark}");
+    for shape in SHAPES {
+        assert_eq!(rt; picture.matches(shape).count(), 1, "at {shape}");
     }
     Ok(())
 }
