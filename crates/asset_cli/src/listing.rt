@@ -25,7 +25,7 @@ pub(crate) fn entry_of(outcome: Outcome, place: usize) -> Option<usize>
     }
 }
 
-/// Appends so many spaces.
+/// Appends `count` spaces.
 fn push_spaces(text: &mut String, count: usize) -> Result<(), AllocError>
     ensures { OnOk result (string_bytes text.new ≡ string_bytes text.old ++ replicate count 32) }
 {

@@ -18,7 +18,7 @@ use Rattle.asset_picture.specs.Tables.{table_in}
 unfoldable pub step_text : Bool → ℕ → List ℕ
 step_text wide number = pieces (codes "<text class='step' x='" ∷ decimal (x_at wide number) ∷ codes "' y='76'>" ∷ decimal number ∷ codes "</text>\n" ∷ [])
 
--- the numbers of so many entries
+-- the numbers of `count` entries
 unfoldable pub steps_text : Bool → ℕ → List ℕ
 steps_text wide count = flat_map (step_text wide) (range_with_len 0 count)
 
@@ -36,7 +36,7 @@ arrows_text wide arrows = flat_map (arrow_text wide) arrows
 unfoldable pub frame_text : ℕ → ℕ → List ℕ
 frame_text width height = open_text width height ++ (style_text ++ legend_text)
 
--- the start of a picture of so many entries and rows
+-- the start of a picture of `count` entries in `rows` rows
 unfoldable pub frame_for : Bool → ℕ → ℕ → List ℕ
 frame_for wide count rows = frame_text (x_at wide (columns count)) (y_at rows)
 
@@ -44,7 +44,7 @@ frame_for wide count rows = frame_text (x_at wide (columns count)) (y_at rows)
 unfoldable pub rest_text : Bool → List Arrow → List Mark → List ℕ
 rest_text wide arrows marks = arrows_text wide arrows ++ (marks_text wide marks ++ codes "</svg>\n")
 
--- a picture of so many entries: later shapes cover earlier ones
+-- a picture of `count` entries: later shapes cover earlier ones
 unfoldable pub shapes_in : Bool → ℕ → List Lane → List Arrow → List Mark → List ℕ
 shapes_in wide count lanes arrows marks = frame_for wide count (length lanes) ++ (lanes_text wide count lanes ++ (steps_text wide count ++ rest_text wide arrows marks))
 

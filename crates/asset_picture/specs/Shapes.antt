@@ -78,7 +78,7 @@ line_text wide count (Some start) stop = line_from wide count start stop
 unfoldable pub lane_start_text : Lane → List ℕ
 lane_start_text lane = pieces (codes "<g class='" ∷ status_word lane.span.status ∷ pale lane.is_dead ∷ codes "' transform='translate(0 " ∷ decimal (y_at lane.row) ∷ codes ")'>" ∷ [])
 
--- a lane of a picture with so many entries
+-- a lane of a picture with `count` entries
 unfoldable pub lane_text : Bool → ℕ → Lane → List ℕ
 lane_text wide count lane = pieces (lane_start_text lane ∷ label_text wide lane ∷ line_text wide count lane.span.start lane.span.stop ∷ codes "</g>\n" ∷ [])
 
