@@ -142,6 +142,9 @@ module _ (p : Parts) (size : ℕ) (marked : Met) (valid : IsValid p size marked)
   pub source_within : (kinds : Kinds) (c d : ℕ) → has_arrow (arrows_along (of_kinds kinds) p.links p.across p.along) d c ≡ true → c < size
   source_within kinds c d arrow = let found = along_named kinds c d (sym (back_is kinds d c) ∙ arrow) in (valid.within c (ap is_some found.from)).2
 
+  pub source_seated : (kinds : Kinds) (c d : ℕ) → has_arrow (arrows_along (of_kinds kinds) p.links p.across p.along) d c ≡ true → c < marked.size
+  source_seated kinds c d arrow = let found = along_named kinds c d (sym (back_is kinds d c) ∙ arrow) in (valid.within c (ap is_some found.from)).3
+
   -- ---- one who has no seat leads to nobody, and nobody to it
   pub leads_to_nobody : (kinds : Kinds) (t : Txn) (n : ℕ) → ((c : ℕ) → seat p.seats c ≡ Some t → ⊥) → linked (ways_in kinds (dependencies_of p.links)) t.0 n ≡ eqb t.0 n
   leads_to_nobody kinds t n absent = both_follow _ _ to (λ same. subst (λ k. linked (ways_in kinds (dependencies_of p.links)) t.0 k ≡ true) (eqb-true t.0 n same) (linked_refl (ways_in kinds (dependencies_of p.links)) t.0)) where
@@ -173,7 +176,7 @@ module _ (p : Parts) (size : ℕ) (marked : Met) (valid : IsValid p size marked)
   -- ---- transactions are linked as their seats are
   module _ (one : (t : Txn) (c d : ℕ) → seat p.seats c ≡ Some t → seat p.seats d ≡ Some t → d ≡ c) where
     -- a seat that is reached is that of a name that is reached
-    reached_name : (kinds : Kinds) (a b : ℕ) (t : Txn) → seat p.seats a ≡ Some t → linked (seat_ways kinds p.links p.along p.across) a b ≡ true
+    pub reached_name : (kinds : Kinds) (a b : ℕ) (t : Txn) → seat p.seats a ≡ Some t → linked (seat_ways kinds p.links p.along p.across) a b ≡ true
         → (u : Txn) × (seat p.seats b ≡ Some u) × (linked (ways_in kinds (dependencies_of p.links)) t.0 u.0 ≡ true)
     reached_name kinds a b t sat way =
         kept_linked (λ c. (u : Txn) × (seat p.seats c ≡ Some u) × (linked (ways_in kinds (dependencies_of p.links)) t.0 u.0 ≡ true)) (seat_ways kinds p.links p.along p.across) (λ c d arrow so.

@@ -1,6 +1,6 @@
 -- Dependencies between transactions, as callers see them: those that stand, the classes that group commits make of them,
 -- and whom an end takes with it.
-use Rattle.std.specs.Prelude.{ℕ, Bool, ◌==◌, ◌&&◌, ◌||◌, List, ◌++◌, map, filter}
+use Rattle.std.specs.Prelude.{ℕ, Bool, ◌==◌, ◌&&◌, ◌||◌, not, List, ◌++◌, map, filter}
 use Rattle.std.specs.List.{list_any}
 use Rattle.asset_names.specs.declared.steps.Kind.{Kind}
 use Rattle.asset_names.specs.declared.steps.Kind.TheVariants.{Cd, Ad, Gc}
@@ -59,3 +59,11 @@ is_linked_in dependencies t = list_any (λ (d : Dependency). d.source == t || d.
 -- whether a member of t's class depends on a source outside it, by a commit or an abort dependency
 unfoldable pub outside_source_in : List Dependency → ℕ → Bool
 outside_source_in dependencies t = has_outside (class_ways dependencies) (order_ways dependencies) t
+
+-- whether u is outside the class of t, and an arrow of order leads from it to a member
+unfoldable pub is_outside_of : List Arrow → List Arrow → ℕ → ℕ → Bool
+is_outside_of classes orders t u = not (linked classes t u) && list_any (λ (arrow : Arrow). arrow.0 == u && linked classes t arrow.1) orders
+
+-- whether u is a source outside t's class, on which a member depends by a commit or an abort dependency
+unfoldable pub is_outside_source_in : List Dependency → ℕ → ℕ → Bool
+is_outside_source_in dependencies t u = is_outside_of (class_ways dependencies) (order_ways dependencies) t u
