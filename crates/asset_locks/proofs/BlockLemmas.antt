@@ -90,31 +90,44 @@ module _ (store : Stored) (stored : IsStored store) (of_owner : IsSound store.by
 
   module _ (number : ℕ) (numbered : number_in store.objects x ≡ Some number) where
     -- if a lock of the object blocks, its owner does
-    pub blocks_by_key : (k : ℕ) (w : Bool) → part_of store.by_object k ≡ Some (part_for number w) → key_blocks store seats allows t op k ≡ true
-        → (c : ℕ) × (u : Txn) × (seat seats c ≡ Some u) × (blocks allows t x op u.0 (locks_at store c) ≡ true)
+    pub blocker_by_key : (k : ℕ) (w : Bool) → part_of store.by_object k ≡ Some (part_for number w) → key_blocks store seats allows t op k ≡ true
+        → (c : ℕ) × (u : Txn) × (seat seats c ≡ Some u) × (blocks allows t x op u.0 (locks_at store c) ≡ true) × (name_of seats (home_of store.by_owner k) ≡ Some u)
     unfolding blocks conflicts_on locks_at
-    blocks_by_key k w at h =
+    blocker_by_key k w at h =
         let who = blocker k h in
-        let parts = three_from _ _ _ (sym (blocked_by store seats allows t op k who.1 (named k who.0 who.1 who.2 who.3)) ∙ h) in
+        let is = named k who.0 who.1 who.2 who.3 in
+        let parts = three_from _ _ _ (sym (blocked_by store seats allows t op k who.1 is) ∙ h) in
         let on = on_from x _ (on_object store stored x number numbered k who.0 w who.2 at).0 in (
           who.0,
           who.1,
           who.3,
           three_all _ _ _ parts.0 parts.2 (any_from (conflicts_on x op) (lock_at store.locks) (chain_of store.by_owner who.0) k (of_owner.listed who.0 k who.2) (and_from _ _ on parts.1)),
+          is,
         )
 
-    -- if no lock that is looked at does, nobody does
-    pub free_by_keys : ((k : ℕ) (w : Bool) → part_of store.by_object k ≡ Some (part_for number w) → (w || has_op (only_op op) Op'.Write) ≡ true → key_blocks store seats allows t op k ≡ false)
-        → (c : ℕ) (u : Txn) → seat seats c ≡ Some u → blocks allows t x op u.0 (locks_at store c) ≡ false
+    pub blocks_by_key : (k : ℕ) (w : Bool) → part_of store.by_object k ≡ Some (part_for number w) → key_blocks store seats allows t op k ≡ true
+        → (c : ℕ) × (u : Txn) × (seat seats c ≡ Some u) × (blocks allows t x op u.0 (locks_at store c) ≡ true)
+    blocks_by_key k w at h = let by = blocker_by_key k w at h in (by.0, by.1, by.2, by.3)
+
+    -- and if somebody does, a lock of its does, which is looked at
+    pub key_of_blocker : (c : ℕ) (u : Txn) → seat seats c ≡ Some u → blocks allows t x op u.0 (locks_at store c) ≡ true
+        → (k : ℕ) × ((w : Bool) × (part_of store.by_object k ≡ Some (part_for number w)) × ((w || has_op (only_op op) Op'.Write) ≡ true)) × (name_of seats (home_of store.by_owner k) ≡ Some u) × (key_blocks store seats allows t op k ≡ true)
     unfolding blocks conflicts_on locks_at
-    free_by_keys none c u sits = false_from_ne_true _ (λ h.
+    key_of_blocker c u sits h =
         let parts = three_from _ _ _ h in
         let found = any_found (conflicts_on x op) (lock_at store.locks) (chain_of store.by_owner c) parts.2 in
         let home = of_owner.at_home c found.0 found.1 in
         let both = and_parts _ _ found.2 in
         let at = in_list store stored x number numbered found.0 c home (on_to x _ both.0) in
-        both_ways (key_blocks store seats allows t op found.0) (none found.0 _ at (looked_at _ op both.1))
-        (blocked_by store seats allows t op found.0 u (named found.0 c u home sits) ∙ three_all _ _ _ parts.0 both.1 parts.1))
+        let is = named found.0 c u home sits in
+        (found.0, (_, at, looked_at _ op both.1), is, blocked_by store seats allows t op found.0 u is ∙ three_all _ _ _ parts.0 both.1 parts.1)
+
+    -- if no lock that is looked at does, nobody does
+    pub free_by_keys : ((k : ℕ) (w : Bool) → part_of store.by_object k ≡ Some (part_for number w) → (w || has_op (only_op op) Op'.Write) ≡ true → key_blocks store seats allows t op k ≡ false)
+        → (c : ℕ) (u : Txn) → seat seats c ≡ Some u → blocks allows t x op u.0 (locks_at store c) ≡ false
+    free_by_keys none c u sits = false_from_ne_true _ (λ h.
+        let by = key_of_blocker c u sits h in
+        both_ways (key_blocks store seats allows t op by.0) (none by.0 by.1.0 by.1.1 by.1.2) by.3)
 
   -- nobody has a lock on an object without a number
   pub free_unnumbered : number_in store.objects x ≡ None → (c : ℕ) (u : Txn) → seat seats c ≡ Some u → blocks allows t x op u.0 (locks_at store c) ≡ false

@@ -16,3 +16,4 @@ pub mod SeatLemmas
 pub mod HandedRows
 pub mod HandLaws
 pub mod EnrolledLemmas
+pub mod BlockingLemmas

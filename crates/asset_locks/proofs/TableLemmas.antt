@@ -2,7 +2,7 @@
 use Rattle.std.proofs.Common.{◌≡◌, ℕ, ◌<◌, ◌-◌, ◌≤◌, Bool, true, false, eqb, not, cond, ◌&&◌, List, [], ◌∷◌, ◌++◌, map, filter, length, get_or, set, Option, Some, None, is_some, ◌⊎◌, refl, sym, ap, subst, ◌∙◌, inl, inr, arith}
 use Rattle.std.specs.Prelude.{find, flat_map, slice_get, Result, Ok, Err, OnOk}
 use Rattle.std.specs.List.{list_any, IsDistinct}
-use Rattle.std.proofs.lemmas.Bool.{eqb-true, eqb-false, eq-eqb, ne_eqb, true≢false, cases_Bool, or_left, or_right, or_parts, false_from_ne_true}
+use Rattle.std.proofs.lemmas.Bool.{eqb-true, eqb-false, eq-eqb, ne_eqb, true≢false, cases_Bool, and_parts, and_from, or_left, or_right, or_parts, false_from_ne_true}
 use Rattle.std.proofs.lemmas.List.{map-append, get_or-set_same, get_or-set_other, length-set}
 use Rattle.asset_names.specs.declared.names.Txn.{Txn}
 use Rattle.asset_names.specs.declared.names.Ob.{Ob}
@@ -13,12 +13,13 @@ use Rattle.asset_chains.specs.Chained.{Chained, chain_of, home_of, lists, withou
 use Rattle.asset_chains.proofs.Laws.{IsPushed, read_more, unlinks, unlinks_nothing}
 use Rattle.asset_chains.proofs.SoundLemmas.{no_home_of, no_chain_of}
 use Rattle.asset_chains.proofs.KeyLemmas.{distinct_none, without_unlisted}
-use Rattle.asset_chains.proofs.Walks.{homes_without, map_same, find_key, find_none, find_found, any_from, any_none, distinct_map}
+use Rattle.asset_chains.proofs.Walks.{homes_without, map_same, find_key, find_none, find_found, any_found, any_from, any_none, distinct_map}
 use Rattle.asset_seats.specs.Seated.{Seated, seat}
 use Rattle.asset_locks.specs.declared.lock.Lock.{Lock}
 use Rattle.asset_locks.specs.LockTable.{Enrolled, LockTable, PendingRequest, is_on, names_in, enrolled_in, locks_or_none, locks_of, lock_in, held_in, both_conflict, blocks, is_free_in, enrol_in, release_in, waiting_row, wait_in, ops_with, granted_own, suspended, granted_row, grant_in, waiting_at, waiters_in}
 use Rattle.asset_locks.specs.Valid.{IsValid, is_some_op}
 use Rattle.asset_locks.specs.Stored.{Stored, lock_at, locks_at, name_or_zero, pending_at, row_at, rows_of, AreSeated, IsStored, IsGrown, IsRoomMade}
+use Rattle.asset_locks.specs.Blocking.{is_blocker_in, request_of, request_in}
 use Rattle.asset_locks.specs.Tied.{LockParts, IsTied}
 use Rattle.asset_locks.proofs.GrantLemmas.{grown_same}
 use Rattle.asset_locks.proofs.WalkLemmas.{get_first, get_later}
@@ -135,6 +136,14 @@ module _ (seats : Seated) (pending : List PendingRequest) (order : Chained) (sto
       let at = find_found (λ (who : Enrolled). eqb who.name n) (row_at seats pending store) (chain_of order 0) who found in
       let sits = sits_at at.0 at.1 in
       (at.0, sits.0, sits.1, sym (row_name at.0 sits.0 sits.1) ∙ eqb-true _ _ at.2, at.3)
+
+  -- its request that waits
+  pub request_of_seat : (c : ℕ) (t : Txn) → seat seats c ≡ Some t → is_some (enrolled_in (rows_of seats pending order store) t.0) ≡ true → request_in (rows_of seats pending order store) t.0 ≡ pending_at pending c
+  unfolding request_in request_of row_at
+  request_of_seat c t sits there = elim (enrolled_or_not c) [
+    | inl home ↦ ap request_of (enrolled_at c t sits home)
+    | inr out ↦ absurd (true≢false (sym there ∙ ap is_some (not_enrolled t (not_in_order c t sits out))))
+  ]
 
   -- its locks
   pub locks_of_enrolled : (c : ℕ) (t : Txn) → seat seats c ≡ Some t → home_of order c ≡ Some 0 → locks_of (rows_of seats pending order store) t.0 ≡ locks_at store c
@@ -419,20 +428,22 @@ module _ (seats : Seated) (pending : List PendingRequest) (order : Chained) (sto
 
 -- ---- who is free
 module _ (seats : Seated) (pending : List PendingRequest) (order : Chained) (store : Stored) (seated : AreSeated seats pending order store) (sound : IsSound order) (allows : ℕ → Bool) (t x : ℕ) (op : Op) where
+  nothing_blocks : (u : Txn) → blocks allows t x op u.0 [] ≡ true → ⊥
+  unfolding blocks
+  nothing_blocks u is = go (not (eqb u.0 t)) (not (allows u.0)) is where
+    go : (a b : Bool) → (a && b && false) ≡ true → ⊥
+    go true true e = true≢false (sym e)
+    go true false e = true≢false (sym e)
+    go false b e = true≢false (sym e)
+
   pub is_blocked_by : IsSound store.by_owner → (c : ℕ) (u : Txn) → seat seats c ≡ Some u → blocks allows t x op u.0 (locks_at store c) ≡ true → is_free_in (rows_of seats pending order store) allows t x op ≡ false
-  unfolding is_free_in rows_of row_at blocks
+  unfolding is_free_in rows_of row_at
   is_blocked_by owners c u sits h = elim (enrolled_or_not seats pending order store seated sound c) [
     | inl home ↦
         ap not (any_from (λ (who : Enrolled). blocks allows t x op who.name who.locks) (row_at seats pending store) (chain_of order 0) c (sound.listed 0 c home)
         (ap (λ (n : ℕ). blocks allows t x op n (locks_at store c)) (row_name seats pending order store seated sound c u sits) ∙ h))
-    | inr out ↦ absurd (nothing_blocks (ap (blocks allows t x op u.0) (sym (nothing_held seats pending order store seated sound owners c out)) ∙ h))
-  ] where
-    nothing_blocks : blocks allows t x op u.0 [] ≡ true → ⊥
-    nothing_blocks is = go (not (eqb u.0 t)) (not (allows u.0)) is where
-      go : (a b : Bool) → (a && b && false) ≡ true → ⊥
-      go true true e = true≢false (sym e)
-      go true false e = true≢false (sym e)
-      go false b e = true≢false (sym e)
+    | inr out ↦ absurd (nothing_blocks u (ap (blocks allows t x op u.0) (sym (nothing_held seats pending order store seated sound owners c out)) ∙ h))
+  ]
 
   pub is_free_by : ((c : ℕ) (u : Txn) → seat seats c ≡ Some u → blocks allows t x op u.0 (locks_at store c) ≡ false) → is_free_in (rows_of seats pending order store) allows t x op ≡ true
   unfolding is_free_in rows_of row_at
@@ -440,6 +451,26 @@ module _ (seats : Seated) (pending : List PendingRequest) (order : Chained) (sto
       ap not (any_none (λ (who : Enrolled). blocks allows t x op who.name who.locks) (row_at seats pending store) (chain_of order 0) (λ c there.
       let at = sits_at seats pending order store seated sound c there in
       ap (λ (n : ℕ). blocks allows t x op n (locks_at store c)) (row_name seats pending order store seated sound c at.0 at.1) ∙ none c at.0 at.1))
+
+  -- ---- who blocks
+  pub is_blocker_by : IsSound store.by_owner → (c : ℕ) (u : Txn) → seat seats c ≡ Some u → blocks allows t x op u.0 (locks_at store c) ≡ true → is_blocker_in (rows_of seats pending order store) allows t x op u.0 ≡ true
+  unfolding is_blocker_in rows_of row_at
+  is_blocker_by owners c u sits h = elim (enrolled_or_not seats pending order store seated sound c) [
+    | inl home ↦
+        let name = row_name seats pending order store seated sound c u sits in
+        any_from (λ (who : Enrolled). eqb who.name u.0 && blocks allows t x op who.name who.locks) (row_at seats pending store) (chain_of order 0) c (sound.listed 0 c home)
+        (and_from _ _ (ap (λ (n : ℕ). eqb n u.0) name ∙ eq-eqb u.0 u.0 refl) (ap (λ (n : ℕ). blocks allows t x op n (locks_at store c)) name ∙ h))
+    | inr out ↦ absurd (nothing_blocks u (ap (blocks allows t x op u.0) (sym (nothing_held seats pending order store seated sound owners c out)) ∙ h))
+  ]
+
+  pub blocker_is_seated : (n : ℕ) → is_blocker_in (rows_of seats pending order store) allows t x op n ≡ true → (c : ℕ) × (u : Txn) × (seat seats c ≡ Some u) × (blocks allows t x op u.0 (locks_at store c) ≡ true) × (u.0 ≡ n)
+  unfolding is_blocker_in rows_of row_at
+  blocker_is_seated n h =
+      let found = any_found (λ (who : Enrolled). eqb who.name n && blocks allows t x op who.name who.locks) (row_at seats pending store) (chain_of order 0) h in
+      let at = sits_at seats pending order store seated sound found.0 found.1 in
+      let both = and_parts _ _ found.2 in
+      let name = row_name seats pending order store seated sound found.0 at.0 at.1 in
+      (found.0, at.0, at.1, ap (λ (m : ℕ). blocks allows t x op m (locks_at store found.0)) (sym name) ∙ both.1, sym name ∙ eqb-true _ n both.0)
 
 -- ---- who waits
 pub waiting_seat : Seated → List PendingRequest → ℕ → ℕ → List (Txn × Op)

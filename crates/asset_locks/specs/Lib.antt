@@ -3,3 +3,4 @@ pub mod Valid
 pub mod Stored
 pub mod Looked
 pub mod Tied
+pub mod Blocking

@@ -2,10 +2,11 @@
 //!
 //! Locks lie in a slab. Each is in the chain of its owner, in order of first grant, and in the list of its object, where
 //! those that write are apart from those that only read. `SeatedLocks` is asked by seat, and `Locks` by name. Only room for a
-//! seat, or by name an enrolment, and the first grant to a transaction on an object take memory.
+//! seat, or by name an enrolment, the first grant to a transaction on an object, and what lists names or objects take memory.
 #![tactic(auto)]
 
 mod allows;
+mod blocking;
 mod granting;
 mod handing;
 mod lock;
@@ -21,6 +22,7 @@ mod suspending;
 mod table;
 
 pub use allows::Allows;
+pub use blocking::NameSet;
 pub use locks::Locks;
 pub use searching::HeldObjects;
 pub use state::{Asked, LockState};

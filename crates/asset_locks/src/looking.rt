@@ -56,7 +56,7 @@ impl LockStore {
 
     /// Returns who has the lock at the key, if anybody has it.
     #[tactic(auto, unfolding(crate::specs::Stored::name_of))]
-    fn owner(&self, key: usize, seats: &Seats) -> Option<Sitter>
+    pub(crate) fn owner(&self, key: usize, seats: &Seats) -> Option<Sitter>
         ensures found { IfSome result (λ owner. HasSeat seats.now owner × (name_of seats.now (home_of self.now.by_owner key) ≡ Some owner.t)) }
         ensures none { IfNone result (name_of seats.now (home_of self.now.by_owner key) ≡ None) }
     {
@@ -66,7 +66,7 @@ impl LockStore {
     }
 
     /// Looks at the lock at the key, which is on the object that is asked for.
-    fn look_at<A: Allows>(
+    pub(crate) fn look_at<A: Allows>(
         &self,
         key: usize,
         request: Request,

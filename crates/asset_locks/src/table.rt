@@ -8,6 +8,7 @@ ghost use Rattle.asset_locks.specs.LockTable.{waiting_at};
 ghost use Rattle.asset_locks.specs.Stored.{pending_at, name_or_zero};
 
 use crate::allows::Allows;
+use crate::blocking::NameSet;
 use crate::lock::Request;
 use crate::room::{add_pending, add_to_order};
 use crate::searching::HeldObjects;
@@ -50,13 +51,26 @@ fn waiter_at(seats: &Seats, pending: &[Option<(Ob, Op)>], c: usize, x: Ob) -> Op
     }
 }
 
+/// Returns the request of the seat that waits, if there is one.
+#[tactic(auto, unfolding(crate::specs::Stored::pending_at))]
+fn request_at(pending: &[Option<(Ob, Op)>], c: usize) -> Option<(Ob, Op)>
+    ensures { result ≡ pending_at pending.now c }
+{
+    match pending.get(c) {
+        Some(request) => *request,
+        None => None,
+    }
+}
+
 impl SeatedLocks {
     ghost use Rattle.std.specs.Prelude.{◌≡◌, ℕ, ◌==◌, cond, true, false, [], None, Some, is_some, slice_get, filter, IfOk, IsErr, OnOk, OnErr};
+    ghost use Rattle.asset_names.specs.Arrows.{lists};
     ghost use Rattle.asset_names.specs.InSet.{in_set};
     ghost use Rattle.asset_chains.specs.Chained.{IsSound};
     ghost use Rattle.asset_seats.specs.Seated.{Seated, seat, HasSeat};
-    ghost use Rattle.asset_locks.specs.LockTable.{enrol_in, release_in, hand_over_in, enrolled_in, is_free_in, lock_in, status_in, held_in, waiters_in};
+    ghost use Rattle.asset_locks.specs.LockTable.{carries, enrol_in, release_in, hand_over_in, enrolled_in, is_free_in, lock_in, status_in, held_in, waiters_in};
     ghost use Rattle.asset_locks.specs.Valid.{answer_where, after_ask, IsValid};
+    ghost use Rattle.asset_locks.specs.Blocking.{is_blocker_in, request_in};
     ghost use Rattle.asset_locks.specs.Tied.{rows_in, IsTied, HasRoom};
 
     /// Returns a table in which nobody is enrolled. It does not allocate.
@@ -170,6 +184,61 @@ impl SeatedLocks {
         self.store.grant(look, number, t.at, x, op)?;
         self.pending[t.at] = None;
         Ok(Asked::Granted)
+    }
+
+    /// Returns who blocks `t` from `op` on `x`, and nobody else: each other transaction that has a lock on `x`, granted or
+    /// suspended, which conflicts with `op`, and that does not allow `t`. It looks at the locks at which `is_free` looks. The
+    /// seat of `t` matters only to the permits.
+    ///
+    /// If memory runs out, the answer is `NoMemory`.
+    pub fn blockers<A: Allows>(
+        &self,
+        alloc: Global,
+        seats: &Seats,
+        t: Sitter,
+        x: Ob,
+        op: Op,
+        permits: &mut A,
+    ) -> Result<NameSet, NoMemory>
+        requires tied { IsTied self.now seats.now }
+        requires asker { A.can_ask permits.old seats.now t }
+        ensures named { IfOk result (λ found. (u : ℕ) → lists found.keys u ≡ is_blocker_in (rows_in seats.now self.now) (λ n. A.allows permits.old n t.t.0 x.0 op) t.t.0 x.0 op u) }
+        ensures permits { permits.new ≡ permits.old }
+    {
+        self.laws(seats);
+        self.order.laws();
+        self.store.laws();
+        let request = Request { asker: t, x, op };
+        let number = self.store.number(x);
+        self.store.blockers(alloc, number, request, seats, permits)
+    }
+
+    /// Returns whether a lock of `t` on `x` carries `op`. It looks at the locks of `t` or at those on `x`, whichever are fewer.
+    pub fn carries(&self, seats: &Seats, t: Sitter, x: Ob, op: Op) -> bool
+        requires tied { IsTied self.now seats.now }
+        requires sits { HasSeat seats.now t }
+        ensures { result ≡ carries (rows_in seats.now self.now) t.t.0 x.0 op }
+    {
+        self.laws(seats);
+        self.order.laws();
+        self.store.laws();
+        match self.store.key_on(self.store.number(x), t.at, x) {
+            Some(key) => self.store.lock(key).ops.has(op),
+            None => false,
+        }
+    }
+
+    /// Returns the request of `t` that waits, if there is one. `t` is enrolled.
+    pub fn pending(&self, seats: &Seats, t: Sitter) -> Option<(Ob, Op)>
+        requires tied { IsTied self.now seats.now }
+        requires sits { HasSeat seats.now t }
+        requires enrolled { is_some (enrolled_in (rows_in seats.now self.now) t.t.0) ≡ true }
+        ensures { result ≡ request_in (rows_in seats.now self.now) t.t.0 }
+    {
+        self.laws(seats);
+        self.order.laws();
+        self.store.laws();
+        request_at(&self.pending, t.at)
     }
 
     /// Returns the state of the lock that `t` has on `x`, if it has one. It looks at the locks of `t` or at those on `x`,
