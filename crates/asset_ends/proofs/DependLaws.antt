@@ -79,7 +79,7 @@ depended_depend kind a b steps one other k u v =
 abbrev pub HasSameArrows : List Step → List Dependency → Type 0
 HasSameArrows steps deps = (k : Kind) (u v : ℕ) → has_arrow (arrows_of k deps) u v ≡ depended steps k u v
 
-class_arrow : (steps : List Step) (deps : List Dependency) → HasSameArrows steps deps → (u v : ℕ) → has_arrow (class_ways deps) u v ≡ has_arrow (among (live steps) (class_arrows steps)) u v
+pub class_arrow : (steps : List Step) (deps : List Dependency) → HasSameArrows steps deps → (u v : ℕ) → has_arrow (class_ways deps) u v ≡ has_arrow (among (live steps) (class_arrows steps)) u v
 unfolding class_ways class_arrows depended
 class_arrow steps deps same u v =
     rw (has_both (arrows_of Gc deps) u v, same Gc u v, same Gc v u, has_among (live steps) (both_ways (dependencies Gc steps)) u v, has_both (dependencies Gc steps) u v)
@@ -87,7 +87,7 @@ class_arrow steps deps same u v =
       go : (p q x y : Bool) → ((p && q && x) || (q && p && y)) ≡ (p && q && (x || y))
       go p q x y = grind arith
 
-order_arrow : (steps : List Step) (deps : List Dependency) → HasSameArrows steps deps → (u v : ℕ) → has_arrow (order_ways deps) u v ≡ has_arrow (among (live steps) (order_arrows steps)) u v
+pub order_arrow : (steps : List Step) (deps : List Dependency) → HasSameArrows steps deps → (u v : ℕ) → has_arrow (order_ways deps) u v ≡ has_arrow (among (live steps) (order_arrows steps)) u v
 unfolding order_ways order_arrows depended
 order_arrow steps deps same u v =
     rw (has_append (arrows_of Cd deps) (arrows_of Ad deps) u v, same Cd u v, same Ad u v, has_among (live steps) (dependencies Cd steps ++ dependencies Ad steps) u v, has_append (dependencies Cd steps) (dependencies Ad steps) u v)

@@ -17,3 +17,4 @@ pub mod ReadyLemmas
 pub mod OperationLemmas
 pub mod WorkLemmas
 pub mod ShareLemmas
+pub mod WaitLemmas

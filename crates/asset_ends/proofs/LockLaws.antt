@@ -13,6 +13,7 @@ use Rattle.asset_names.specs.OpSets.{has_op, OpSet, only_op, with_op}
 use Rattle.asset_names.proofs.ListLemmas.{any_alike, any_map, any_of_two, any_and}
 use Rattle.asset_locks.specs.declared.lock.Lock.{Lock}
 use Rattle.asset_locks.specs.LockTable.{Enrolled, LockTable, is_on, carries_on, carries, one_conflicts, both_conflict, conflicts_on, blocks, is_free_in, lock_in, ops_with, taken, new_lock, granted_own, suspended, granted_row, grant_in, waiting_row, wait_in, enrol_in, release_in, enrolled_in, names_in}
+use Rattle.asset_locks.specs.Blocking.{is_blocker_in}
 use Rattle.asset_locks.proofs.HandLaws.{any_named, names_changed}
 
 -- one more operation
@@ -234,3 +235,34 @@ free_by_locks table allows t x op is_free u other held conflicts apart = blocked
 pub locks_by_free : (table : LockTable) (allows : ℕ → Bool) (t x : ℕ) (op : Op) → ((u : ℕ) (other : Op) → carries table u x other ≡ true → conflict other op ≡ true → u ≢ t → allows u ≡ true) → is_free_in table allows t x op ≡ true
 unfolding is_free_in carries
 locks_by_free table allows t x op allowed = not_from_false _ (none_blocks allows t x op table allowed)
+
+-- ---- who blocks
+-- who blocks is another, who does not allow t and carries an operation in conflict
+pub blocker_carries : (allows : ℕ → Bool) (t x : ℕ) (op : Op) (u : ℕ) (table : LockTable) → is_blocker_in table allows t x op u ≡ true
+    → (eqb u t ≡ false) × (allows u ≡ false) × ((other : Op) × (carries table u x other ≡ true) × (conflict other op ≡ true))
+unfolding is_blocker_in carries
+blocker_carries allows t x op u [] h = absurd (false≢true h)
+blocker_carries allows t x op u (who ∷ table) h = elim (or_cases (eqb who.name u && blocks allows t x op who.name who.locks) _ h) [
+  | inl here ↦
+      let both = and_parts (eqb who.name u) _ here in
+      let name = eqb-true who.name u both.0 in
+      let parts = blocks_parts allows t x op who.name who.locks both.1 in
+      let by = conflict_carried x op who.locks parts.2 in
+      (sym (ap (λ n. eqb n t) name) ∙ parts.0, sym (ap allows name) ∙ parts.1, (by.0, or_left (row_carries u x by.0 who) _ (and_from _ _ both.0 by.1), by.2))
+  | inr later ↦
+      let found = blocker_carries allows t x op u table later in
+      (found.0, found.1, (found.2.0, or_right (row_carries u x found.2.0 who) _ found.2.1, found.2.2))
+]
+
+-- and each such one blocks
+pub carrier_blocks : (allows : ℕ → Bool) (t x : ℕ) (op : Op) (u : ℕ) (other : Op) (table : LockTable) → eqb u t ≡ false → allows u ≡ false → carries table u x other ≡ true → conflict other op ≡ true
+    → is_blocker_in table allows t x op u ≡ true
+unfolding is_blocker_in carries blocks
+carrier_blocks allows t x op u other [] apart refused held conflicts = absurd (false≢true held)
+carrier_blocks allows t x op u other (who ∷ table) apart refused held conflicts = elim (or_cases (row_carries u x other who) _ held) [
+  | inl here ↦
+      let both = and_parts (eqb who.name u) (list_any (carries_on x other) who.locks) here in
+      let name = eqb-true who.name u both.0 in
+      or_left _ _ (and_from _ _ both.0 (and_from _ _ (and_from _ _ (ap not (ap (λ n. eqb n t) name ∙ apart)) (ap not (ap allows name ∙ refused))) (locks_conflict x other op who.locks both.1 conflicts)))
+  | inr later ↦ or_right (eqb who.name u && (not (eqb who.name t) && not (allows who.name) && list_any (conflicts_on x op) who.locks)) _ (carrier_blocks allows t x op u other table apart refused later conflicts)
+]

@@ -5,3 +5,4 @@ pub mod Tied
 pub mod Shown
 pub mod Ready
 pub mod Stepped
+pub mod Waits

@@ -16,7 +16,7 @@ use asset_trans::Trans;
 
 /// The permits to somebody who has no seat: there are none, and each allows itself alone.
 #[derive(Drop)]
-struct NoPermits;
+pub(crate) struct NoPermits;
 
 impl Allows for NoPermits {
     ghost use Rattle.std.specs.Prelude.{⊤, ◌==◌};

@@ -13,7 +13,9 @@ mod parts;
 mod seating;
 mod stepping;
 mod tables;
+mod waiting;
 mod working;
 
+pub use asset_locks::NameSet;
 pub use ending::Tried;
 pub use tables::Tables;
