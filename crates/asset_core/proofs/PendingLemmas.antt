@@ -1,6 +1,6 @@
 -- The pending requests after a step.
 use Rattle.std.proofs.Common.{◌≡◌, ℕ, Bool, true, false, cond, not, eqb, ◌&&◌, ◌||◌, List, [], ◌∷◌, ◌++◌, filter, reverse, map, refl, sym, ◌∙◌, ap, subst, arith, Some, None, inl, inr, ◌⊎◌}
-use Rattle.std.specs.Prelude.{Option, flat_map}
+use Rattle.std.specs.Prelude.{Option, find, flat_map}
 use Rattle.std.proofs.lemmas.List.{map-append, append-nil}
 use Rattle.std.proofs.lemmas.Bool.{eqb-true, eq-eqb, or_cases, or_left, or_right, false≢true}
 use Rattle.asset_names.specs.declared.names.Txn.{Txn}
@@ -27,11 +27,13 @@ use Rattle.asset_names.proofs.DelegateLemmas.{live_delegated}
 use Rattle.asset_names.proofs.ListLemmas.{lists_pushed}
 use Rattle.asset_locks.specs.declared.lock.Lock.{Lock}
 use Rattle.asset_locks.specs.LockTable as Locks
+use Rattle.asset_locks.specs.Blocking as Blocking
+use Rattle.asset_locks.specs.Blocking.{request_in}
 use Rattle.asset_locks.proofs.HandLaws.{handed_name, handed_pending}
 use Rattle.asset_trans.specs.TransRows.{status_in}
 use Rattle.asset_ends.specs.Standing.{Standing, values_of}
 use Rattle.asset_history.specs.Recorded.{after}
-use Rattle.asset_core.specs.Pending.{Pending, asker_after, request_after, new_asker, waiter_of, waiting_for}
+use Rattle.asset_core.specs.Pending.{Pending, asker_after, request_after, request_of, pending_of, new_asker, waiter_of, waiting_for}
 use Rattle.asset_ends.specs.Ready.{locks_after, locks_waiting, released}
 use Rattle.asset_core.specs.Tables.{asker_of, pending_in}
 use Rattle.asset_ends.proofs.HistoryLemmas.{live_quiet, begin_quiet, complete_quiet, read_ends, write_ends}
@@ -53,6 +55,18 @@ askers_named table = go table where
   go : (everyone : List Locks.Enrolled) → named (map asker_of everyone) ≡ map (λ (who : Locks.Enrolled). who.name) everyone
   go [] = refl
   go (who ∷ everyone) = ap (λ ns. who.name ∷ ns) (go everyone)
+
+-- the request of one of them
+pub pending_found : (table : Locks.LockTable) (t : ℕ) → request_in table t ≡ pending_of t (pending_requests table)
+unfolding request_in Blocking.request_of Locks.enrolled_in pending_of request_of asker_of
+pending_found table t = go table where
+  go : (everyone : List Locks.Enrolled) → Blocking.request_of (find (λ (who : Locks.Enrolled). eqb who.name t) everyone) ≡ request_of (find (λ (asker : Pending). eqb asker.name t) (map asker_of everyone))
+  go [] = refl
+  go (who ∷ everyone) = by (eqb who.name t) (go everyone) where
+    by : (here : Bool) → Blocking.request_of (find (λ (other : Locks.Enrolled). eqb other.name t) everyone) ≡ request_of (find (λ (asker : Pending). eqb asker.name t) (map asker_of everyone))
+        → Blocking.request_of (cond here (Some who) (find (λ (other : Locks.Enrolled). eqb other.name t) everyone)) ≡ request_of (cond here (Some (asker_of who)) (find (λ (asker : Pending). eqb asker.name t) (map asker_of everyone)))
+    by true rest = refl
+    by false rest = rest
 
 -- all pending_requests stay where each of their names passes
 all_stay : (p : ℕ → Bool) (ps : List Pending) → ((n : ℕ) → lists (named ps) n ≡ true → p n ≡ true) → filter (λ (asker : Pending). p asker.name) ps ≡ ps

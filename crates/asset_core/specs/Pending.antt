@@ -1,5 +1,5 @@
 -- The facility as callers see it: its history, and the pending request of each live transaction.
-use Rattle.std.specs.Prelude.{ℕ, cond, ◌==◌, List, [], ◌∷◌, ◌++◌, map, filter, flat_map, Option, Some, None}
+use Rattle.std.specs.Prelude.{ℕ, cond, ◌==◌, List, [], ◌∷◌, ◌++◌, map, filter, find, flat_map, Option, Some, None}
 use Rattle.asset_names.specs.declared.names.Txn.{Txn}
 use Rattle.asset_names.specs.declared.names.Ob.{Ob}
 use Rattle.asset_names.specs.declared.operations.Op.{Op}
@@ -49,6 +49,15 @@ unfoldable pub pending_after : Facility → Step → Outcome → List Pending
 pending_after facility step outcome =
     filter (λ (asker : Pending). live (applied (after facility.history step outcome).entries) asker.name)
     (map (asker_after step outcome) facility.pending ++ new_asker step outcome)
+
+-- the request of one who is found
+unfoldable pub request_of : Option Pending → Option (Ob × Op)
+request_of None = None
+request_of (Some asker) = asker.request
+
+-- the pending request of a transaction, if there is one
+unfoldable pub pending_of : ℕ → List Pending → Option (Ob × Op)
+pending_of t pending = request_of (find (λ (asker : Pending). asker.name == t) pending)
 
 -- the transaction as a waiter for x, if its pending request is for x
 unfoldable pub waiter_of : ℕ → ℕ → Option (Ob × Op) → List (Txn × Op)

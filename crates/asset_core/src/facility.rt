@@ -4,7 +4,7 @@ ghost use Rattle.std.specs.Prelude.{◌≡◌, ◌≤◌, cond};
 ghost use Rattle.asset_names.specs.Room.{initiates};
 
 use crate::OpenFault;
-use asset_ends::Tables;
+use asset_ends::{NameSet, Tables};
 use asset_history::History;
 use asset_names::{
     Counts, End, Fault, NoMemory, Ob, Op, Outcome, Reply, Status, Step, Txn, takes_effect,
@@ -55,15 +55,17 @@ impl Model for Core {
 }
 
 impl Core {
-    ghost use Rattle.std.specs.Prelude.{◌≡◌, ◌+◌, ◌<◌, ◌≤◌, [], ◌∷◌, true, false, cond, map, filter, reverse, length, slice_get, IfOk, IfErr, OnOk, Err};
+    ghost use Rattle.std.specs.Prelude.{◌≡◌, ℕ, ◌+◌, ◌<◌, ◌≤◌, [], ◌∷◌, true, false, cond, map, filter, reverse, length, slice_get, IfOk, IfErr, OnOk, Err};
     ghost use Rattle.asset_names.specs.Steps.{takes_effect, applied, initiated};
     ghost use Rattle.asset_names.specs.Endings.{live, status};
-    ghost use Rattle.asset_names.specs.Operations.{value_if_any};
+    ghost use Rattle.asset_names.specs.Operations.{holds, value_if_any};
     ghost use Rattle.asset_names.specs.declared.replies.Outcome.TheVariants.{Answer, Wait as Waits};
     ghost use Rattle.asset_names.specs.Room.{initiates, owed, fits, changes_status};
     ghost use Rattle.asset_history.specs.Recorded.{answer_to, after, has_room, is_ending};
     ghost use Rattle.asset_core.specs.OpenFaults.{objects_of};
-    ghost use Rattle.asset_core.specs.Pending.{Pending, facility_of, pending_after, waiting_for};
+    ghost use Rattle.asset_names.specs.Arrows.{lists};
+    ghost use Rattle.asset_ends.specs.Waits.{is_blocker, is_unfinished, is_outside_source};
+    ghost use Rattle.asset_core.specs.Pending.{Pending, facility_of, pending_after, pending_of, waiting_for};
     ghost use Rattle.asset_names.specs.Sources.{is_operation};
     ghost use Rattle.asset_core.specs.Stepped.{IsStep};
     ghost use Rattle.asset_names.specs.Sets.{HasNoDouble};
@@ -326,6 +328,55 @@ impl Core {
         ensures askers { map (λ (asker : Pending). asker.name) self.now.pending ≡ filter (live (applied self.now.history.entries)) (reverse (initiated (applied self.now.history.entries))) }
     {
         self.tables.waiters(x, index)
+    }
+
+    /// Returns the pending request of a transaction, if there is one: the object and the operation. Its cost is constant.
+    pub fn pending(&self, t: Txn) -> Option<(Ob, Op)>
+        ensures { result ≡ pending_of t.0 self.now.pending }
+    {
+        self.tables.pending(t)
+    }
+
+    /// Returns whether `t` is live and holds `x` by `op`. It looks at the locks of `t` or at those on `x`, whichever are
+    /// fewer.
+    pub fn holds(&self, t: Txn, x: Ob, op: Op) -> bool
+        ensures { result ≡ holds (applied self.now.history.entries) t.0 x.0 op }
+    {
+        self.tables.holds(t, x, op)
+    }
+
+    /// Returns who blocks `t` from `op` on `x`, rising: each other transaction that holds `x` by an operation in conflict
+    /// and does not allow `t`, and nobody else. If `t` asked for it, it would wait for them, and for nobody else. It looks
+    /// at the locks on `x`, and searches for a permit from each that conflicts.
+    ///
+    /// If memory runs out, the answer is `NoMemory`. Nothing changes.
+    pub fn blockers(&mut self, t: Txn, x: Ob, op: Op) -> Result<NameSet, NoMemory>
+        ensures named { IfOk result (λ found. (u : ℕ) → lists found.keys u ≡ is_blocker (applied self.old.history.entries) t.0 x.0 op u) }
+        ensures same { self.new ≡ self.old }
+    {
+        self.tables.blockers(t, x, op)
+    }
+
+    /// Returns the members of the class of `t` that have not completed, rising, and nobody if `t` is not live. A commit of
+    /// `t` waits for them. It looks at the class and its dependencies.
+    ///
+    /// If memory runs out, the answer is `NoMemory`. Nothing changes.
+    pub fn unfinished(&mut self, t: Txn) -> Result<NameSet, NoMemory>
+        ensures named { IfOk result (λ found. (u : ℕ) → lists found.keys u ≡ is_unfinished (applied self.old.history.entries) t.0 u) }
+        ensures same { self.new ≡ self.old }
+    {
+        self.tables.unfinished(t)
+    }
+
+    /// Returns the live transactions outside the class of `t` on which a member depends by a commit or an abort dependency,
+    /// rising, and nobody if `t` is not live. A commit of `t` waits for them. It looks at the class and its dependencies.
+    ///
+    /// If memory runs out, the answer is `NoMemory`. Nothing changes.
+    pub fn outside_sources(&mut self, t: Txn) -> Result<NameSet, NoMemory>
+        ensures named { IfOk result (λ found. (u : ℕ) → lists found.keys u ≡ is_outside_source (applied self.old.history.entries) t.0 u) }
+        ensures same { self.new ≡ self.old }
+    {
+        self.tables.outside_sources(t)
     }
 
     /// Returns the history so far, whose capacity is at most 1,000,000: its entries and those that are owed are within it.

@@ -5,6 +5,7 @@
 mod facility;
 mod open_fault;
 
+pub use asset_ends::NameSet;
 pub use asset_history::History;
 pub use asset_names::Counts;
 pub use facility::Core;
