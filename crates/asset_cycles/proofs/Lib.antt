@@ -1,0 +1,9 @@
+pub mod MarkLemmas
+pub mod LeavingLemmas
+pub mod ReachLemmas
+pub mod WalkLemmas
+pub mod LeastLemmas
+pub mod CycleLemmas
+pub mod LabelLemmas
+pub mod LawLemmas
+pub mod MemberLemmas

@@ -1,0 +1,104 @@
+-- Laws of what a node reaches along arrows.
+use Rattle.std.proofs.Common.{◌≡◌, ℕ, Bool, true, false, eqb, ◌&&◌, ◌||◌, List, [], ◌∷◌, map, refl, sym, ap, subst, ◌∙◌, inl, inr}
+use Rattle.std.specs.List.{list_any}
+use Rattle.std.proofs.lemmas.Bool.{or_cases, or_left, or_right, and_from, and_parts, eqb-true, eq-eqb, false≢true}
+use Rattle.asset_names.specs.Arrows.{Arrow, linked, has_arrow, Chain}
+use Rattle.asset_names.specs.Arrows.Chain.{stay, along}
+use Rattle.asset_names.proofs.Arrows.{linked_refl, linked_trans, chain_from_linked}
+use Rattle.asset_names.proofs.PermitLemmas.{has_listed, linked_has}
+use Rattle.asset_names.proofs.Common.{both_follow}
+use Rattle.asset_cycles.specs.Cyclic.{reaches, turned}
+
+-- ---- a node reaches what is linked behind an arrow
+pub reaches_by : (arrows : List Arrow) (a c b : ℕ) → has_arrow arrows a c ≡ true → linked arrows c b ≡ true → reaches arrows a b ≡ true
+unfolding reaches has_arrow
+reaches_by arrows a c b arrow way = go arrows arrow where
+  go : (few : List Arrow) → has_arrow few a c ≡ true → list_any (λ (one : Arrow). eqb one.0 a && linked arrows one.1 b) few ≡ true
+  go [] h = absurd (false≢true h)
+  go (one ∷ few) h = elim (or_cases (eqb one.0 a && eqb one.1 c) _ h) [
+    | inl here ↦
+        let ends = and_parts (eqb one.0 a) (eqb one.1 c) here in
+        or_left _ _ (and_from _ _ ends.0 (subst (λ n. linked arrows n b ≡ true) (sym (eqb-true one.1 c ends.1)) way))
+    | inr later ↦ or_right (eqb one.0 a && linked arrows one.1 b) _ (go few later)
+  ]
+
+pub reach_parts : (arrows : List Arrow) (a b : ℕ) → reaches arrows a b ≡ true → (c : ℕ) × (has_arrow arrows a c ≡ true) × (linked arrows c b ≡ true)
+unfolding reaches has_arrow
+reach_parts arrows a b h = go arrows h where
+  go : (few : List Arrow) → list_any (λ (one : Arrow). eqb one.0 a && linked arrows one.1 b) few ≡ true → (c : ℕ) × (has_arrow few a c ≡ true) × (linked arrows c b ≡ true)
+  go [] h = absurd (false≢true h)
+  go (one ∷ few) h = elim (or_cases (eqb one.0 a && linked arrows one.1 b) _ h) [
+    | inl here ↦
+        let parts = and_parts (eqb one.0 a) (linked arrows one.1 b) here in
+        (one.1, or_left _ _ (and_from (eqb one.0 a) (eqb one.1 one.1) parts.0 (eq-eqb one.1 one.1 refl)), parts.1)
+    | inr later ↦
+        let found = go few later in
+        (found.0, or_right (eqb one.0 a && eqb one.1 found.0) _ found.1, found.2)
+  ]
+
+pub reach_first : (arrows : List Arrow) (a b : ℕ) → has_arrow arrows a b ≡ true → reaches arrows a b ≡ true
+reach_first arrows a b arrow = reaches_by arrows a b b arrow (linked_refl arrows b)
+
+pub reach_linked : (arrows : List Arrow) (a b : ℕ) → reaches arrows a b ≡ true → linked arrows a b ≡ true
+reach_linked arrows a b h =
+    let parts = reach_parts arrows a b h in
+    linked_trans arrows a parts.0 b (linked_has arrows a parts.0 parts.1) parts.2
+
+pub reach_on : (arrows : List Arrow) (a b c : ℕ) → reaches arrows a b ≡ true → linked arrows b c ≡ true → reaches arrows a c ≡ true
+reach_on arrows a b c h way =
+    let parts = reach_parts arrows a b h in
+    reaches_by arrows a parts.0 c parts.1 (linked_trans arrows parts.0 b c parts.2 way)
+
+pub reach_step : (arrows : List Arrow) (a b c : ℕ) → reaches arrows a b ≡ true → has_arrow arrows b c ≡ true → reaches arrows a c ≡ true
+reach_step arrows a b c h arrow = reach_on arrows a b c h (linked_has arrows b c arrow)
+
+pub reach_trans : (arrows : List Arrow) (a b c : ℕ) → reaches arrows a b ≡ true → reaches arrows b c ≡ true → reaches arrows a c ≡ true
+reach_trans arrows a b c g h = reach_on arrows a b c g (reach_linked arrows b c h)
+
+-- a way, and an arrow behind it
+pub reach_last : (arrows : List Arrow) (a b c : ℕ) → linked arrows a b ≡ true → has_arrow arrows b c ≡ true → reaches arrows a c ≡ true
+reach_last arrows a b c way arrow = go a b (chain_from_linked arrows a b way) arrow where
+  go : (a b : ℕ) → Chain arrows a b → has_arrow arrows b c ≡ true → reaches arrows a c ≡ true
+  go a b (stay n) arrow = reach_first arrows a c arrow
+  go a b (along m n o first rest) arrow = reaches_by arrows a n c (has_listed arrows a n first) (reach_linked arrows n c (go n b rest arrow))
+
+-- what each arrow keeps is kept along the arrows
+pub kept_linked : (test : ℕ → Bool) (arrows : List Arrow) → ((u t : ℕ) → has_arrow arrows u t ≡ true → test u ≡ true → test t ≡ true) → (a b : ℕ) → linked arrows a b ≡ true → test a ≡ true → test b ≡ true
+kept_linked test arrows closed a b way start = go a b (chain_from_linked arrows a b way) start where
+  go : (a b : ℕ) → Chain arrows a b → test a ≡ true → test b ≡ true
+  go a b (stay n) h = h
+  go a b (along m n o first rest) h = go n b rest (closed a n (has_listed arrows a n first) h)
+
+-- ---- arrows that are turned round
+-- an arrow leads on where the arrow turned round leads back
+pub turned_leads : (arrows : List Arrow) (u t : ℕ) → has_arrow (turned arrows) u t ≡ has_arrow arrows t u
+unfolding has_arrow
+turned_leads [] u t = refl
+turned_leads (arrow ∷ arrows) u t = (λ m. (swap (eqb arrow.1 u) (eqb arrow.0 t) m) || turned_leads arrows u t m) where
+  swap : (p q : Bool) → (p && q) ≡ (q && p)
+  swap true true = refl
+  swap true false = refl
+  swap false true = refl
+  swap false false = refl
+
+linked_turned : (arrows : List Arrow) (a b : ℕ) → linked (turned arrows) a b ≡ true → linked arrows b a ≡ true
+linked_turned arrows a b way = go a b (chain_from_linked (turned arrows) a b way) where
+  go : (a b : ℕ) → Chain (turned arrows) a b → linked arrows b a ≡ true
+  go a b (stay n) = linked_refl arrows a
+  go a b (along m n o first rest) = linked_trans arrows b n a (go n b rest) (linked_has arrows n a (sym (turned_leads arrows a n) ∙ has_listed (turned arrows) a n first))
+
+turned_linked : (arrows : List Arrow) (a b : ℕ) → linked arrows a b ≡ true → linked (turned arrows) b a ≡ true
+turned_linked arrows a b way = go a b (chain_from_linked arrows a b way) where
+  go : (a b : ℕ) → Chain arrows a b → linked (turned arrows) b a ≡ true
+  go a b (stay n) = linked_refl (turned arrows) a
+  go a b (along m n o first rest) = linked_trans (turned arrows) b n a (go n b rest) (linked_has (turned arrows) n a (turned_leads arrows n a ∙ has_listed arrows a n first))
+
+-- what reaches a node is what the node reaches along the arrows turned round
+pub reaches_turned : (arrows : List Arrow) (a b : ℕ) → reaches (turned arrows) a b ≡ reaches arrows b a
+reaches_turned arrows a b = both_follow _ _
+    (λ h.
+    let parts = reach_parts (turned arrows) a b h in
+    reach_last arrows b parts.0 a (linked_turned arrows parts.0 b parts.2) (sym (turned_leads arrows a parts.0) ∙ parts.1))
+    (λ h.
+    let parts = reach_parts arrows b a h in
+    reach_last (turned arrows) a parts.0 b (turned_linked arrows parts.0 a parts.2) (turned_leads arrows parts.0 b ∙ parts.1))

@@ -1,0 +1,4 @@
+pub mod Cyclic
+pub mod Members
+pub mod Textbook
+pub mod Marked

@@ -1,0 +1,113 @@
+//! The labels of nodes, found cycle by cycle.
+
+ghost use Rattle.std.specs.Prelude.{◌≡◌, ℕ, ◌<◌, ◌&&◌, Option, Some, None, cond, length, replicate, slice_index_or, IfOk};
+ghost use Rattle.asset_names.specs.Arrows.{Arrow, lists};
+ghost use Rattle.asset_cycles.specs.Cyclic.{AreBelow, reaches, turned, on_one_cycle, cycle_labels};
+
+use crate::adjacency::Adjacency;
+use crate::marks::Marks;
+use std::alloc::{AllocError, Global};
+
+/// The arrows of a graph and those arrows turned round, and the nodes that a search along each of the two has met.
+#[derive(Drop)]
+struct Search {
+    forward: Adjacency,
+    backward: Adjacency,
+    ahead: Marks,
+    behind: Marks,
+    ghost turned_round: { backward.arrows.items ≡ turned forward.arrows.items },
+    ghost same_count: { length backward.leaving ≡ length forward.leaving },
+    ghost ahead_size: { ahead.size ≡ length forward.leaving },
+    ghost behind_size: { behind.size ≡ length forward.leaving },
+}
+
+/// Returns the arrows, each turned round.
+fn turned(alloc: Global, arrows: &[(usize, usize)]) -> Result<Vec<(usize, usize)>, AllocError>
+    ensures { IfOk result (λ back. back.items ≡ turned arrows.now) }
+{
+    let mut back = Vec::new(alloc);
+    'arrows: for arrow in arrows {
+        back.push((arrow.1, arrow.0))?;
+    }
+    Ok(back)
+}
+
+/// Labels those nodes that are met ahead and behind, and leaves the labels of the others.
+fn label_met(ahead: &Marks, behind: &Marks, label: usize, labels: &mut [Option<usize>])
+    requires ahead { ahead.now.size ≡ length labels.old }
+    requires behind { behind.now.size ≡ length labels.old }
+    ensures { (n : ℕ) → n < length labels.old → slice_index_or labels.new n None
+        ≡ cond (lists ahead.now.nodes n && lists behind.now.nodes n) (Some label) (slice_index_or labels.old n None) }
+{
+    'ahead: for k in 0..ahead.len() {
+        let node = ahead.node(k);
+        if behind.has(node) {
+            labels[node] = Some(label);
+        }
+    }
+}
+
+impl Search {
+    ghost use Rattle.std.specs.Prelude.{◌≡◌, ℕ, ◌<◌, Option, Some, None, cond, length, slice_index_or, IfOk};
+    ghost use Rattle.asset_cycles.specs.Cyclic.{AreBelow, on_one_cycle};
+
+    /// Returns a search along the arrows between the nodes below the count.
+    fn of(alloc: Global, count: usize, arrows: Vec<(usize, usize)>) -> Result<Search, AllocError>
+        requires { AreBelow arrows.items count }
+        ensures arrows { IfOk result (λ search. search.forward.arrows.items ≡ arrows.items) }
+        ensures count { IfOk result (λ search. length search.forward.leaving ≡ count) }
+    {
+        let back = turned(alloc, &arrows)?;
+        let forward = Adjacency::of(alloc, count, arrows)?;
+        let backward = Adjacency::of(alloc, count, back)?;
+        let ahead = Marks::of(alloc, count)?;
+        let behind = Marks::of(alloc, count)?;
+        Ok(Search {
+            forward,
+            backward,
+            ahead,
+            behind,
+        })
+    }
+
+    /// Labels the nodes that are on one cycle with this one, and leaves the labels of the others.
+    fn label_cycle(&mut self, node: usize, labels: &mut [Option<usize>])
+        requires node { node < length self.old.forward.leaving }
+        requires labels { length labels.old ≡ length self.old.forward.leaving }
+        ensures arrows { self.new.forward ≡ self.old.forward }
+        ensures labels { (n : ℕ) → n < length labels.old → slice_index_or labels.new n None
+            ≡ cond (on_one_cycle self.old.forward.arrows.items node n) (Some node) (slice_index_or labels.old n None) }
+    {
+        self.forward.search(node, &mut self.ahead);
+        if self.ahead.has(node) {
+            self.backward.search(node, &mut self.behind);
+            label_met(&self.ahead, &self.behind, node, labels);
+        }
+    }
+}
+
+/// Returns no label for each of `count` nodes.
+fn no_labels(alloc: Global, count: usize) -> Result<Vec<Option<usize>>, AllocError>
+    ensures { IfOk result (λ labels. labels.items ≡ replicate count None) }
+{
+    vec![in alloc; None; count]
+}
+
+/// Returns the label of each node below the count, or `AllocError` if memory runs out.
+pub(crate) fn labels(
+    alloc: Global,
+    count: usize,
+    arrows: Vec<(usize, usize)>,
+) -> Result<Vec<Option<usize>>, AllocError>
+    requires { AreBelow arrows.items count }
+    ensures { IfOk result (λ labels. labels.items ≡ cycle_labels arrows.items count) }
+{
+    let mut search = Search::of(alloc, count, arrows)?;
+    let mut labels = no_labels(alloc, count)?;
+    'nodes: for node in 0..count {
+        if labels[node].is_none() {
+            search.label_cycle(node, &mut labels);
+        }
+    }
+    Ok(labels)
+}

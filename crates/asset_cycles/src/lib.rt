@@ -1,0 +1,12 @@
+//! Which nodes lie on cycles of arrows, such as transactions that wait for one another. The one fault is that memory
+//! runs out.
+#![tactic(auto)]
+
+mod adjacency;
+mod cycles;
+mod labelling;
+mod laws;
+mod marks;
+
+pub use cycles::Cycles;
+pub use laws::{label_is_least, labels_are_cycles, members_have_their_label};
