@@ -7,3 +7,4 @@ pub mod CycleLemmas
 pub mod LabelLemmas
 pub mod LawLemmas
 pub mod MemberLemmas
+pub mod TrimLemmas

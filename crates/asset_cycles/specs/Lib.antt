@@ -2,3 +2,4 @@ pub mod Cyclic
 pub mod Members
 pub mod Textbook
 pub mod Marked
+pub mod Trimmed

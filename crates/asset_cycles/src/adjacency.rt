@@ -30,10 +30,11 @@ fn starts(alloc: Global, arrows: &[(usize, usize)]) -> Result<Vec<usize>, AllocE
 }
 
 impl Adjacency {
-    ghost use Rattle.std.specs.Prelude.{◌≡◌, ℕ, ◌<◌, length, IfOk};
-    ghost use Rattle.asset_names.specs.Arrows.{lists};
+    ghost use Rattle.std.specs.Prelude.{◌≡◌, ℕ, ◌<◌, true, [], length, slice_index_or, IfOk};
+    ghost use Rattle.asset_names.specs.Arrows.{lists, has_arrow};
     ghost use Rattle.asset_cycles.specs.Cyclic.{AreBelow, reaches};
     ghost use Rattle.asset_cycles.specs.Marked.{Expands};
+    ghost use Rattle.asset_cycles.specs.Trimmed.{end_at};
 
     /// Puts the arrows in order of the nodes from which they lead. The nodes are those below the count.
     pub(crate) fn of(
@@ -50,6 +51,39 @@ impl Adjacency {
         Ok(Adjacency { arrows, leaving })
     }
 
+    /// Returns how many arrows lead from the node.
+    pub(crate) fn degree(&self, node: usize) -> usize
+        ensures { result ≡ length (slice_index_or self.now.leaving node []) }
+    {
+        self.leaving.bucket(node).len()
+    }
+
+    /// Returns the node to which the arrow at the index leads, among the arrows from the node.
+    pub(crate) fn end(&self, node: usize, index: usize) -> usize
+        requires node { node < length self.now.leaving }
+        requires index { index < length (slice_index_or self.now.leaving node []) }
+        ensures end { result ≡ end_at self.now.arrows.items self.now.leaving node index }
+        ensures arrow { has_arrow self.now.arrows.items node result ≡ true }
+        ensures below { result < length self.now.leaving }
+    {
+        self.arrows[self.leaving.bucket(node)[index]].1
+    }
+
+    /// Returns the index of the first arrow from the node that leads to a node that is not met, and how many arrows there
+    /// are if all lead to nodes that are met. Those before `from` are known to do so.
+    pub(crate) fn first_unmet(&self, node: usize, from: usize, marks: &Marks) -> usize
+        requires node { node < length self.now.leaving }
+        requires size { marks.now.size ≡ length self.now.leaving }
+        requires met { (i : ℕ) → i < from → lists marks.now.nodes (end_at self.now.arrows.items self.now.leaving node i) ≡ true }
+        ensures { (i : ℕ) → i < result → lists marks.now.nodes (end_at self.now.arrows.items self.now.leaving node i) ≡ true }
+    {
+        let mut index = from;
+        'arrows: while index < self.degree(node) && marks.has(self.end(node, index)) {
+            index += 1;
+        }
+        index
+    }
+
     /// Meets the nodes to which an arrow leads from this one.
     fn expand(&self, node: usize, marks: &mut Marks)
         requires node { node < length self.now.leaving }
@@ -57,8 +91,8 @@ impl Adjacency {
         ensures size { marks.new.size ≡ marks.old.size }
         ensures expanded { Expands self.now.arrows.items node marks.old.nodes marks.new.nodes }
     {
-        'arrows: for k in self.leaving.bucket(node) {
-            marks.meet(self.arrows[*k].1);
+        'arrows: for index in 0..self.degree(node) {
+            marks.meet(self.end(node, index));
         }
     }
 

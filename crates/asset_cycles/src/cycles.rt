@@ -4,6 +4,7 @@ ghost use Rattle.std.specs.Prelude.{◌≡◌, IfOk};
 ghost use Rattle.asset_cycles.specs.Members.{own_labels, label_numbers};
 
 use crate::labelling::labels;
+use crate::trimming::trimmed_both_ways;
 use asset_buckets::Buckets;
 use std::alloc::{AllocError, Global};
 use std::marker::Model;
@@ -44,7 +45,8 @@ impl Cycles {
         requires { AreBelow arrows.now count }
         ensures { IfOk result (λ cycles. cycles ≡ cycle_labels arrows.now count) }
     {
-        let labels = labels(alloc, count, Vec::from_slice(alloc, arrows)?)?;
+        let left = trimmed_both_ways(alloc, count, arrows)?;
+        let labels = labels(alloc, count, left)?;
         let own = own_labels(alloc, &labels)?;
         let numbers = label_numbers(alloc, &labels)?;
         let members = Buckets::of(alloc, &numbers, labels.len())?;

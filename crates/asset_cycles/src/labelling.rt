@@ -1,35 +1,21 @@
 //! The labels of nodes, found cycle by cycle.
 
 ghost use Rattle.std.specs.Prelude.{◌≡◌, ℕ, ◌<◌, ◌&&◌, Option, Some, None, cond, length, replicate, slice_index_or, IfOk};
-ghost use Rattle.asset_names.specs.Arrows.{Arrow, lists};
-ghost use Rattle.asset_cycles.specs.Cyclic.{AreBelow, reaches, turned, on_one_cycle, cycle_labels};
+ghost use Rattle.asset_names.specs.Arrows.{lists};
+ghost use Rattle.asset_cycles.specs.Cyclic.{AreBelow, on_one_cycle, cycle_labels};
 
-use crate::adjacency::Adjacency;
+use crate::graph::Graph;
 use crate::marks::Marks;
 use std::alloc::{AllocError, Global};
 
-/// The arrows of a graph and those arrows turned round, and the nodes that a search along each of the two has met.
+/// A graph, and the nodes that a search forward and one backward have met.
 #[derive(Drop)]
 struct Search {
-    forward: Adjacency,
-    backward: Adjacency,
+    graph: Graph,
     ahead: Marks,
     behind: Marks,
-    ghost turned_round: { backward.arrows.items ≡ turned forward.arrows.items },
-    ghost same_count: { length backward.leaving ≡ length forward.leaving },
-    ghost ahead_size: { ahead.size ≡ length forward.leaving },
-    ghost behind_size: { behind.size ≡ length forward.leaving },
-}
-
-/// Returns the arrows, each turned round.
-fn turned(alloc: Global, arrows: &[(usize, usize)]) -> Result<Vec<(usize, usize)>, AllocError>
-    ensures { IfOk result (λ back. back.items ≡ turned arrows.now) }
-{
-    let mut back = Vec::new(alloc);
-    'arrows: for arrow in arrows {
-        back.push((arrow.1, arrow.0))?;
-    }
-    Ok(back)
+    ghost ahead_size: { ahead.size ≡ length graph.forward.leaving },
+    ghost behind_size: { behind.size ≡ length graph.forward.leaving },
 }
 
 /// Labels those nodes that are met ahead and behind, and leaves the labels of the others.
@@ -54,17 +40,14 @@ impl Search {
     /// Returns a search along the arrows between the nodes below the count.
     fn of(alloc: Global, count: usize, arrows: Vec<(usize, usize)>) -> Result<Search, AllocError>
         requires { AreBelow arrows.items count }
-        ensures arrows { IfOk result (λ search. search.forward.arrows.items ≡ arrows.items) }
-        ensures count { IfOk result (λ search. length search.forward.leaving ≡ count) }
+        ensures arrows { IfOk result (λ search. search.graph.forward.arrows.items ≡ arrows.items) }
+        ensures count { IfOk result (λ search. length search.graph.forward.leaving ≡ count) }
     {
-        let back = turned(alloc, &arrows)?;
-        let forward = Adjacency::of(alloc, count, arrows)?;
-        let backward = Adjacency::of(alloc, count, back)?;
+        let graph = Graph::of(alloc, count, arrows)?;
         let ahead = Marks::of(alloc, count)?;
         let behind = Marks::of(alloc, count)?;
         Ok(Search {
-            forward,
-            backward,
+            graph,
             ahead,
             behind,
         })
@@ -72,15 +55,16 @@ impl Search {
 
     /// Labels the nodes that are on one cycle with this one, and leaves the labels of the others.
     fn label_cycle(&mut self, node: usize, labels: &mut [Option<usize>])
-        requires node { node < length self.old.forward.leaving }
-        requires labels { length labels.old ≡ length self.old.forward.leaving }
-        ensures arrows { self.new.forward ≡ self.old.forward }
+        requires node { node < length self.old.graph.forward.leaving }
+        requires labels { length labels.old ≡ length self.old.graph.forward.leaving }
+        ensures graph { self.new.graph ≡ self.old.graph }
         ensures labels { (n : ℕ) → n < length labels.old → slice_index_or labels.new n None
-            ≡ cond (on_one_cycle self.old.forward.arrows.items node n) (Some node) (slice_index_or labels.old n None) }
+            ≡ cond (on_one_cycle self.old.graph.forward.arrows.items node n) (Some node) (slice_index_or labels.old n None) }
     {
-        self.forward.search(node, &mut self.ahead);
+        let graph = &self.graph;
+        graph.forward.search(node, &mut self.ahead);
         if self.ahead.has(node) {
-            self.backward.search(node, &mut self.behind);
+            graph.backward.search(node, &mut self.behind);
             label_met(&self.ahead, &self.behind, node, labels);
         }
     }

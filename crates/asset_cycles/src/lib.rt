@@ -4,9 +4,11 @@
 
 mod adjacency;
 mod cycles;
+mod graph;
 mod labelling;
 mod laws;
 mod marks;
+mod trimming;
 
 pub use cycles::Cycles;
 pub use laws::{label_is_least, labels_are_cycles, members_have_their_label};

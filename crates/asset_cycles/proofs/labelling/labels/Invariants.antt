@@ -5,8 +5,8 @@ use Rattle.asset_cycles.proofs.labelling.labels.Given as goal
 -- each node has the least label among the first nodes
 abbrev pub invariant-nodes : goal.invariant-nodes
 invariant-nodes l = record {
-  arrows : l.search.forward.arrows.items ≡ l.fn.arrows.items;
-  count : length l.search.forward.leaving ≡ l.count;
+  arrows : l.search.graph.forward.arrows.items ≡ l.fn.arrows.items;
+  count : length l.search.graph.forward.leaving ≡ l.count;
   long : length l.labels.items ≡ l.count;
   least : (n : ℕ) → n < l.count → get_or l.labels.items n None ≡ label_below l.fn.arrows.items l.node n;
 }

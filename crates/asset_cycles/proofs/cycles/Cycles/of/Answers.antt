@@ -8,8 +8,8 @@ use Rattle.asset_cycles.proofs.cycles.Cycles.of.Goals as goal
 pub invariant_of-result : goal.invariant_of-result
 invariant_of-result c =
     let labels = c.in_ok-labels.labels.items in
-    let arrows = c.in_ok-from_slice.field-0.items in
-    let is : labels ≡ cycle_labels arrows c.args.count = c.in_ok-labels.ensures in
+    let arrows = c.args.arrows.now in
+    let is : labels ≡ cycle_labels arrows c.args.count = c.in_ok-labels.ensures ∙ c.in_ok-left.ensures.labels in
     let count : c.len.result ≡ length labels = omega (arith, c.len.ensures, c.in_ok-labels.labels.ok.0) in
     record {
       labels_once = c.in_ok-own.ensures ∙ ap own_labels c.deref.ensures.value;

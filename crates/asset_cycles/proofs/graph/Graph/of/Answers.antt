@@ -1,7 +1,7 @@
 use Rattle.std.proofs.Common.{◌≡◌, ◌∙◌, sym, ap, subst}
 use Rattle.asset_cycles.specs.Cyclic.{AreBelow, turned}
 use Rattle.asset_cycles.proofs.LeavingLemmas.{turned_below}
-use Rattle.asset_cycles.proofs.labelling.Search.of.Goals as goal
+use Rattle.asset_cycles.proofs.graph.Graph.of.Goals as goal
 
 pub of-requires-2 : goal.of-requires-2
 of-requires-2 c =

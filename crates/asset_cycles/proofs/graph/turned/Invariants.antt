@@ -1,6 +1,6 @@
 use Rattle.std.proofs.Common.{◌≡◌, take}
 use Rattle.asset_cycles.specs.Cyclic.{turned}
-use Rattle.asset_cycles.proofs.labelling.turned.Given as goal
+use Rattle.asset_cycles.proofs.graph.turned.Given as goal
 
 -- the first arrows are turned round
 abbrev pub invariant-arrows : goal.invariant-arrows
