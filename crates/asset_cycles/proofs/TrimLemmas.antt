@@ -11,7 +11,8 @@ use Rattle.asset_names.proofs.PermitLemmas.{has_listed, linked_has, linked_more,
 use Rattle.asset_names.proofs.Common.{both_follow}
 use Rattle.asset_names.proofs.ListLemmas.{lists_pushed}
 use Rattle.asset_cycles.specs.Cyclic.{AreBelow, turned, reaches, on_one_cycle, label_below, cycle_labels}
-use Rattle.asset_cycles.specs.Trimmed.{IsTrimmed, ArePassed, end_at}
+use Rattle.asset_cycles.specs.Leaving.{end_at}
+use Rattle.asset_cycles.specs.Trimmed.{IsTrimmed, ArePassed}
 use Rattle.asset_cycles.proofs.ReachLemmas.{reaches_by, reach_parts, reaches_turned}
 use Rattle.asset_cycles.proofs.WalkLemmas.{still_met}
 

@@ -34,7 +34,7 @@ impl Adjacency {
     ghost use Rattle.asset_names.specs.Arrows.{lists, has_arrow};
     ghost use Rattle.asset_cycles.specs.Cyclic.{AreBelow, reaches};
     ghost use Rattle.asset_cycles.specs.Marked.{Expands};
-    ghost use Rattle.asset_cycles.specs.Trimmed.{end_at};
+    ghost use Rattle.asset_cycles.specs.Leaving.{end_at};
 
     /// Puts the arrows in order of the nodes from which they lead. The nodes are those below the count.
     pub(crate) fn of(

@@ -33,14 +33,16 @@ impl Model for Cycles {
 }
 
 impl Cycles {
-    ghost use Rattle.std.specs.Prelude.{◌≡◌, None, length, slice_index_or, IfOk};
+    ghost use Rattle.std.specs.Prelude.{◌≡◌, ◌↔◌, None, length, slice_index_or, IsTrue, IfOk};
     ghost use Rattle.asset_cycles.specs.Cyclic.{AreBelow, cycle_labels};
     ghost use Rattle.asset_cycles.specs.Members.{members_of, own_labels};
 
-    /// Finds the cycles of the nodes below the count. Each arrow leads from its first node to its second; one that is
-    /// listed twice counts once.
+    /// Finds the cycles of the nodes below the count. Each arrow leads from its first node to its second; an arrow that is
+    /// listed twice counts once. `are_below` says whether all arrows are between nodes below the count.
     ///
-    /// It answers `AllocError` if memory runs out.
+    /// It answers `AllocError` if memory runs out. Nodes that lead to no cycle, and those to which no cycle leads, take
+    /// time in proportion to their arrows. Each cycle, and each node between two cycles, takes a search among the arrows
+    /// that are left.
     pub fn of(alloc: Global, count: usize, arrows: &[(usize, usize)]) -> Result<Cycles, AllocError>
         requires { AreBelow arrows.now count }
         ensures { IfOk result (λ cycles. cycles ≡ cycle_labels arrows.now count) }
@@ -55,6 +57,18 @@ impl Cycles {
             own,
             members,
         })
+    }
+
+    /// Returns whether both ends of each arrow are below the count.
+    pub fn are_below(count: usize, arrows: &[(usize, usize)]) -> bool
+        ensures { IsTrue result ↔ AreBelow arrows.now count }
+    {
+        'arrows: for arrow in arrows {
+            if arrow.0 >= count || arrow.1 >= count {
+                return false;
+            }
+        }
+        true
     }
 
     /// Returns how many nodes there are.

@@ -1,4 +1,4 @@
-//! The arrows that can be on a cycle: those between nodes that are left once nodes without an arrow are taken away.
+//! Nodes that are on no cycle are taken away first, so that no search visits them.
 
 ghost use Rattle.std.specs.Prelude.{◌≡◌, ◌<◌, ◌&&◌, length, not, IfOk};
 ghost use Rattle.asset_names.specs.Arrows.{lists, among};
@@ -9,7 +9,8 @@ use crate::graph::{Graph, turned};
 use crate::marks::Marks;
 use std::alloc::{AllocError, Global};
 
-/// A graph, and the nodes that are taken away so far: those from which all arrows lead to nodes that are taken away.
+/// A graph, and the nodes that are taken away so far. When a node is taken away, all arrows from it lead to nodes that
+/// were taken away before it.
 ///
 /// `passed` says for each node how many of its arrows are known to lead to nodes that are taken away.
 #[derive(Drop)]
@@ -97,7 +98,7 @@ impl Trim {
 }
 
 /// Returns those of the arrows that are left once nodes are taken away, again and again, from which no arrow leads to a
-/// node that is left. Cycles stay the same.
+/// node that is left. Nodes keep their labels.
 fn trimmed(
     alloc: Global,
     count: usize,
@@ -120,8 +121,8 @@ fn trimmed(
     left(alloc, &trim.graph.forward.arrows, &trim.taken)
 }
 
-/// Returns those of the arrows that are left once nodes are taken away, again and again, that no arrow joins with a node
-/// that is left on one side. Cycles stay the same.
+/// Returns those of the arrows that are left once nodes are taken away, again and again, from which no arrow leads to a
+/// node that is left, and then those to which no arrow leads from a node that is left. Nodes keep their labels.
 pub(crate) fn trimmed_both_ways(
     alloc: Global,
     count: usize,

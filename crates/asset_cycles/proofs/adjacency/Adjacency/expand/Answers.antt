@@ -1,7 +1,7 @@
 use Rattle.std.proofs.Common.{◌≡◌, ◌<◌, ◌∙◌, true, length, refl, sym, ap, subst, arith, inl, inr}
 use Rattle.std.proofs.lemmas.Bool.{cases_eq}
 use Rattle.asset_names.specs.Arrows.{lists}
-use Rattle.asset_cycles.specs.Trimmed.{end_at}
+use Rattle.asset_cycles.specs.Leaving.{end_at}
 use Rattle.asset_cycles.proofs.LeavingLemmas.{row_has}
 use Rattle.asset_cycles.proofs.WalkLemmas.{none_more, one_more, met_here, still_met}
 use Rattle.asset_cycles.proofs.adjacency.Adjacency.expand.Goals as goal

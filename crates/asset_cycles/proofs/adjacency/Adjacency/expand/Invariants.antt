@@ -1,6 +1,6 @@
 use Rattle.std.proofs.Common.{◌≡◌, ℕ, ◌<◌, true}
 use Rattle.asset_names.specs.Arrows.{lists}
-use Rattle.asset_cycles.specs.Trimmed.{end_at}
+use Rattle.asset_cycles.specs.Leaving.{end_at}
 use Rattle.asset_cycles.proofs.WalkLemmas.{IsMore}
 use Rattle.asset_cycles.proofs.adjacency.Adjacency.expand.Given as goal
 

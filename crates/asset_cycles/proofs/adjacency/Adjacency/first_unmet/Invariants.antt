@@ -1,6 +1,6 @@
 use Rattle.std.proofs.Common.{◌≡◌, ℕ, ◌<◌, ◌-◌, true, [], length, get_or}
 use Rattle.asset_names.specs.Arrows.{lists}
-use Rattle.asset_cycles.specs.Trimmed.{end_at}
+use Rattle.asset_cycles.specs.Leaving.{end_at}
 use Rattle.asset_cycles.proofs.adjacency.Adjacency.first_unmet.Given as goal
 
 -- the arrows so far lead to nodes that are met
