@@ -1,4 +1,4 @@
-//! The tests of the containers: chains, rows and columns, lists, buckets and labels. They call what is public.
+//! The tests of the containers: chains, rows and columns, lists, buckets, labels and cycles. They call what is public.
 #![tactic(auto)]
 
 #[cfg(test)]
@@ -7,6 +7,8 @@ mod buckets;
 mod chains;
 #[cfg(test)]
 mod crossed;
+#[cfg(test)]
+mod cycles;
 #[cfg(test)]
 mod labels;
 #[cfg(test)]
