@@ -1,15 +1,14 @@
 -- Labels in the words of a textbook.
-use Rattle.std.proofs.Common.{◌≡◌, ◌↔◌, ℕ, ◌<◌, true, false, List, Option, Some, None, refl, sym, ap, ◌∙◌}
-use Rattle.std.specs.List.{Contains}
+use Rattle.std.proofs.Common.{◌≡◌, ℕ, ◌<◌, true, List, Option, Some, None, refl, sym, ◌∙◌}
 use Rattle.std.proofs.lemmas.Bool.{and_from, and_parts, true≢false, false_from_ne_true}
-use Rattle.asset_names.specs.Arrows.{Arrow, has_arrow, Chain}
+use Rattle.asset_names.specs.Arrows.{Arrow}
 use Rattle.asset_names.proofs.Arrows.{chain_from_linked, linked_from_chain}
 use Rattle.asset_names.proofs.PermitLemmas.{has_listed}
 use Rattle.asset_cycles.specs.Cyclic.{reaches, on_one_cycle, label_below}
 use Rattle.asset_cycles.specs.Textbook.{Reaches, OnOneCycle}
 use Rattle.asset_cycles.proofs.LeavingLemmas.{contains_arrow}
 use Rattle.asset_cycles.proofs.ReachLemmas.{reaches_by, reach_parts}
-use Rattle.asset_cycles.proofs.LeastLemmas.{IsLeast, least_found}
+use Rattle.asset_cycles.proofs.LeastLemmas.{IsLeast}
 use Rattle.asset_cycles.proofs.CycleLemmas.{cycle_sym, cycle_trans, label_none, label_least, label_found}
 
 -- ---- the two relations are one

@@ -4,8 +4,8 @@ use Rattle.std.specs.Prelude.{unwrap_or}
 use Rattle.std.specs.Option.{option_eq}
 use Rattle.std.specs.List.{filter, range_with_len, Contains}
 use Rattle.std.proofs.lemmas.Bool.{cases_lt, ne_eqb, eqb-true, eq-eqb, false≢true, false_from_ne_true}
-use Rattle.std.proofs.lemmas.List.{get_or-map, length-map, get_or_past, get_or_default, map-id, append-nil}
-use Rattle.std.proofs.lemmas.List.FromFn.{get_or-map-range_with_len, length-map-range_with_len, filter_of_map_range_with_len_more}
+use Rattle.std.proofs.lemmas.List.{get_or-map, length-map, get_or_past, get_or_default, map-id}
+use Rattle.std.proofs.lemmas.List.FromFn.{get_or-map-range_with_len, filter_of_map_range_with_len_more}
 use Rattle.asset_names.specs.Arrows.{lists}
 use Rattle.asset_names.proofs.ListLemmas.{listed_at}
 use Rattle.asset_buckets.specs.Bucketed.{indices_below, indices_of, buckets_of}

@@ -1,5 +1,5 @@
 -- The labels of nodes, and the nodes by their labels.
-use Rattle.std.specs.Prelude.{◌≡◌, ℕ, ◌<◌, ◌==◌, Bool, true, false, List, length, map, slice_index_or, unwrap_or, Option, Some, None}
+use Rattle.std.specs.Prelude.{◌≡◌, ℕ, ◌<◌, ◌==◌, Bool, false, List, length, map, slice_index_or, unwrap_or, Option, Some, None}
 use Rattle.std.specs.List.{filter, range_with_len}
 use Rattle.asset_buckets.specs.Bucketed.{buckets_of}
 

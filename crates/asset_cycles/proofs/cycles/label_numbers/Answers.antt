@@ -1,4 +1,4 @@
-use Rattle.std.proofs.Common.{◌≡◌, ◌∙◌, ap, length, map, arith}
+use Rattle.std.proofs.Common.{◌∙◌, ap, length, map, arith}
 use Rattle.std.specs.Prelude.{unwrap_or}
 use Rattle.std.proofs.lemmas.List.{take_all}
 use Rattle.asset_cycles.proofs.MemberLemmas.{all_numbers}

@@ -1,6 +1,6 @@
-use Rattle.std.proofs.Common.{◌≡◌, ◌<◌, ◌∙◌, true, false, length, get_or, sym, arith}
+use Rattle.std.proofs.Common.{◌<◌, ◌∙◌, length, sym, arith}
 use Rattle.asset_names.specs.Arrows.{lists}
-use Rattle.asset_cycles.proofs.LabelLemmas.{none_labelled, one_labelled, one_passed, all_labelled}
+use Rattle.asset_cycles.proofs.LabelLemmas.{none_labelled, one_labelled, one_passed}
 use Rattle.asset_cycles.proofs.labelling.label_met.Goals as goal
 use Rattle.asset_cycles.proofs.labelling.label_met.Goals.{then-has, else-has}
 

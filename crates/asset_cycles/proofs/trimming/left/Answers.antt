@@ -1,4 +1,4 @@
-use Rattle.std.proofs.Common.{◌≡◌, ◌∙◌, ◌++◌, ◌∷◌, [], ℕ, cond, not, get_or, sym, ap}
+use Rattle.std.proofs.Common.{◌∙◌, ◌++◌, ◌∷◌, [], ℕ, cond, not, get_or, sym, ap}
 use Rattle.std.proofs.lemmas.List.{append-nil}
 use Rattle.asset_names.specs.Arrows.{lists}
 use Rattle.asset_cycles.proofs.TrimLemmas.{no_arrows_left, one_left}

@@ -1,4 +1,4 @@
-use Rattle.std.proofs.Common.{◌≡◌, ◌<◌, ◌∙◌, List, ℕ, length, get_or, sym, ap, arith}
+use Rattle.std.proofs.Common.{◌≡◌, ◌<◌, ◌∙◌, List, ℕ, length, get_or, ap, arith}
 use Rattle.asset_names.specs.Arrows.{Arrow}
 use Rattle.asset_cycles.proofs.LeavingLemmas.{no_arrow, row_leads, read_leads}
 use Rattle.asset_cycles.proofs.adjacency.Adjacency.end.Goals as goal

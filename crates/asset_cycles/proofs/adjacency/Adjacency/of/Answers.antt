@@ -1,4 +1,4 @@
-use Rattle.std.proofs.Common.{◌≡◌, ℕ, ◌∙◌, List, length, map, sym, ap, subst, arith}
+use Rattle.std.proofs.Common.{◌≡◌, ℕ, ◌∙◌, List, length, map, sym, ap, subst}
 use Rattle.asset_buckets.specs.Bucketed.{buckets_of}
 use Rattle.asset_cycles.proofs.LeavingLemmas.{start_of, bucket_count}
 use Rattle.asset_cycles.specs.Cyclic.{AreBelow}

@@ -1,4 +1,4 @@
-use Rattle.std.proofs.Common.{◌≡◌, ◌<◌, ◌∙◌, subst, get_or, length, arith}
+use Rattle.std.proofs.Common.{◌<◌, ◌∙◌, subst, get_or, length, arith}
 use Rattle.asset_cycles.specs.Marked.{Expands}
 use Rattle.asset_cycles.proofs.WalkLemmas.{walk_from, walk_on, walk_ends}
 use Rattle.asset_cycles.proofs.adjacency.Adjacency.search.Goals as goal

@@ -1,4 +1,4 @@
-use Rattle.std.proofs.Common.{◌<◌, take, refl, subst, arith}
+use Rattle.std.proofs.Common.{◌<◌, refl, subst, arith}
 use Rattle.std.proofs.lemmas.List.{take_all}
 use Rattle.std.proofs.lemmas.List.Elements.{All-more}
 use Rattle.asset_names.specs.Arrows.{Arrow}

@@ -1,9 +1,8 @@
-use Rattle.std.proofs.Common.{arith}
-use Rattle.std.proofs.lemmas.Grind.{common_steps}
+use Rattle.std.proofs.Common.{rules}
 use Rattle.asset_cycles.proofs.cycles.Cycles.label.Goals as goal
 
 pub returns-in-Some : goal.returns-in-Some
-returns-in-Some c = grind (arith, common_steps)
+returns-in-Some c = search rules
 
 pub returns-in-None : goal.returns-in-None
-returns-in-None c = grind (arith, common_steps)
+returns-in-None c = search rules

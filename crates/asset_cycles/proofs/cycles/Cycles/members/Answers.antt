@@ -1,4 +1,4 @@
-use Rattle.std.proofs.Common.{◌≡◌, ◌∙◌}
+use Rattle.std.proofs.Common.{◌∙◌}
 use Rattle.asset_cycles.proofs.MemberLemmas.{bucket_members}
 use Rattle.asset_cycles.proofs.cycles.Cycles.members.Goals as goal
 

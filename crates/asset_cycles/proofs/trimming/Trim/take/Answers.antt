@@ -1,5 +1,5 @@
-use Rattle.std.proofs.Common.{◌≡◌, ◌∙◌, ◌<◌, ℕ, true, length, get_or, subst, sym, ap, arith}
-use Rattle.std.proofs.lemmas.List.{length-set, get_or_read}
+use Rattle.std.proofs.Common.{◌≡◌, ◌∙◌, ◌<◌, true, length, subst, arith}
+use Rattle.std.proofs.lemmas.List.{length-set}
 use Rattle.asset_names.specs.Arrows.{lists}
 use Rattle.asset_cycles.proofs.LeavingLemmas.{row_has}
 use Rattle.asset_cycles.proofs.TrimLemmas.{one_taken, more_passed, still_passed}
