@@ -22,6 +22,7 @@ pub use ends::RunEnd;
 pub use faults::ScriptFault;
 pub use laws::printed_scripts_run_again;
 pub use opening_objects::OpeningObjects;
+pub use preamble::{ObjectLine, Preamble, take_objects};
 pub use prints::Prints;
 pub use reading::read_all;
 pub use reporting::{Report, Work};

@@ -4,9 +4,7 @@ ghost use Rattle.asset_names.specs.Sets.{HasNoDouble};
 ghost use Rattle.asset_core.specs.OpenFaults.{objects_of};
 ghost use Rattle.asset_grammar.specs.Grammar.{line_of, said_as};
 ghost use Rattle.asset_grammar.specs.Lines.{lines};
-ghost use Rattle.asset_cli.specs.Transcript.{objects_transcript};
-ghost use Rattle.asset_cli.specs.declared.prints.Prints.{Prints};
-ghost use Rattle.asset_cli.specs.Preamble.{Takes, transcript_from};
+ghost use Rattle.asset_cli.specs.Preamble.{beginning, begun_at, Takes};
 
 use crate::faults::ScriptFault;
 use crate::opening_objects::OpeningObjects;
@@ -15,7 +13,7 @@ use asset_names::{Step, Txn};
 
 /// What a line is before the first step.
 #[derive(Clone, Copy)]
-pub(crate) enum ObjectLine {
+pub enum ObjectLine {
     /// It adds an object or says nothing, and further objects may follow.
     More,
     /// It asks for the first step, which is in the slot.
@@ -26,7 +24,7 @@ pub(crate) enum ObjectLine {
 
 /// Where the object lines end.
 #[derive(Drop)]
-pub(crate) struct Preamble<'a> {
+pub struct Preamble<'a> {
     /// The line at which they end: the first step or a bad line, or `More` at the end of the script.
     pub line: ObjectLine,
     /// The number of that line.
@@ -57,15 +55,15 @@ fn take_line(opening: &mut OpeningObjects, said: Said) -> Result<ObjectLine, Scr
     }
 }
 
-/// Takes the object lines at the start of a script into the opening, which is empty before.
-pub(crate) fn take_objects<'a>(
+/// Takes the object lines at the start of a script into the opening, which is empty before. Returns where they end. Answers
+/// `NoMemory` if memory runs out; a part of the objects may have been taken then.
+pub fn take_objects<'a>(
     opening: &mut OpeningObjects,
     bytes: &'a [u8],
 ) -> Result<Preamble<'a>, ScriptFault>
     requires empty { opening.old ≡ [] }
     requires few { length (lines bytes.now) + 1 < 2 ^ 64 }
-    ensures rendered { IfOk result (λ preamble. (prints : Prints) (capacity : ℕ) →
-        objects_transcript prints (lines bytes.now) 1 [] capacity ≡ transcript_from prints preamble.line preamble.step preamble.rest preamble.number opening.new capacity) }
+    ensures begun { IfOk result (λ preamble. beginning (lines bytes.now) 1 [] ≡ begun_at preamble.line preamble.step preamble.rest preamble.number opening.new) }
     ensures few { IfOk result (λ preamble. preamble.number + length preamble.rest ≤ 1 + length (lines bytes.now)) }
     ensures different { OnOk result (HasNoDouble (objects_of opening.new)) }
     ensures memory { IfErr result (λ fault. fault ≡ ScriptFault.NoMemory) }

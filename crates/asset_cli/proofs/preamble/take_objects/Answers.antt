@@ -1,35 +1,34 @@
 use Rattle.std.proofs.Common.{length, refl, ◌∙◌, ap, arith}
 use Rattle.asset_names.specs.Sets.{twice, HasNoDouble}
 use Rattle.asset_grammar.specs.Grammar.{ReadsLine}
-use Rattle.asset_cli.specs.Transcript.{objects_transcript}
-use Rattle.asset_cli.specs.Preamble.{Takes, transcript_from}
+use Rattle.asset_cli.specs.Preamble.{Takes, begun_at, beginning}
 use Rattle.asset_cli.proofs.preamble.take_objects.Goals as goal
 
 pub lines-init : goal.lines-init
 unfolding HasNoDouble twice
 lines-init c = record {
-  rendered = λ prints capacity. rw (c.requires.empty, c.new-rest.ensures) refl;
+  begun = rw (c.requires.empty, c.new-rest.ensures) refl;
   count = rw c.new-rest.ensures refl;
   different = rw c.requires.empty (λ m. refl);
 }
 
-pub returns-in-First-clause-rendered : goal.returns-in-First-clause-rendered
-unfolding Takes ReadsLine
-returns-in-First-clause-rendered c =
+pub returns-in-First-clause-begun : goal.returns-in-First-clause-begun
+unfolding Takes begun_at ReadsLine
+returns-in-First-clause-begun c =
     let read = c.in-Some.ensures in
     let takes = rw c.in-First.is at (c.in_ok-take_line.ensures.takes read.0 _ read.2) in
-    λ prints capacity. rw read.1 at (c.lines.invariant.rendered prints capacity) ∙ takes prints _ _ capacity
+    rw read.1 at c.lines.invariant.begun ∙ takes _ _
 
 pub returns-in-First-clause-few : goal.returns-in-First-clause-few
 unfolding ReadsLine
 returns-in-First-clause-few c = omega (arith, c.lines.invariant.count, ap length c.in-Some.ensures.1)
 
-pub returns-in-Bad-clause-rendered : goal.returns-in-Bad-clause-rendered
-unfolding Takes ReadsLine
-returns-in-Bad-clause-rendered c =
+pub returns-in-Bad-clause-begun : goal.returns-in-Bad-clause-begun
+unfolding Takes begun_at ReadsLine
+returns-in-Bad-clause-begun c =
     let read = c.in-Some.ensures in
     let takes = rw c.in-Bad.is at (c.in_ok-take_line.ensures.takes read.0 _ read.2) in
-    λ prints capacity. rw read.1 at (c.lines.invariant.rendered prints capacity) ∙ takes prints _ _ capacity
+    rw read.1 at c.lines.invariant.begun ∙ takes _ _
 
 pub returns-in-Bad-clause-few : goal.returns-in-Bad-clause-few
 unfolding ReadsLine
@@ -41,14 +40,14 @@ lines-preserved c =
     let read = c.in-Some.ensures in
     let takes = rw c.in-More.is at (c.in_ok-take_line.ensures.takes read.0 _ read.2) in
     record {
-      rendered = λ prints capacity. rw read.1 at (c.lines.invariant.rendered prints capacity) ∙ takes prints _ _ capacity;
+      begun = rw read.1 at c.lines.invariant.begun ∙ takes _ _;
       count = omega (arith, c.lines.invariant.count, ap length read.1);
       different = c.in_ok-take_line.ensures.different c.lines.invariant.different;
     }
 
-pub returns-clause-rendered : goal.returns-clause-rendered
-unfolding transcript_from objects_transcript ReadsLine
-returns-clause-rendered c = λ prints capacity. rw c.in_default.ensures.0 at (c.lines.invariant.rendered prints capacity)
+pub returns-clause-begun : goal.returns-clause-begun
+unfolding begun_at beginning ReadsLine
+returns-clause-begun c = rw c.in_default.ensures.0 at c.lines.invariant.begun
 
 pub overflow_add-number : goal.overflow_add-number
 unfolding ReadsLine
