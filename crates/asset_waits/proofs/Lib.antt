@@ -1,0 +1,6 @@
+pub mod ListLemmas
+pub mod RisingLemmas
+pub mod WhoLemmas
+pub mod LiveLemmas
+pub mod ArrowLemmas
+pub mod TextLemmas

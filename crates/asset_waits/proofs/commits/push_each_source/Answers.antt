@@ -1,0 +1,11 @@
+use Rattle.std.proofs.Common.{string_bytes, sym, append-nil}
+use Rattle.asset_waits.specs.Texts.{source_line}
+use Rattle.asset_waits.proofs.ListLemmas.{text_more}
+use Rattle.asset_waits.proofs.commits.push_each_source.Goals as goal
+
+pub names-init : goal.names-init
+names-init c = sym (append-nil (string_bytes c.args.text.now))
+
+pub names-preserved : goal.names-preserved
+names-preserved c =
+    text_more (source_line c.args.t.0) c.args.names.now c.names.u-index _ (string_bytes c.args.text.now) (string_bytes c.names.text) _ c.names-test.true c.names.invariant c.in_ok-push_source_line.ensures

@@ -1,0 +1,5 @@
+pub mod Waiting
+pub mod Live
+pub mod Deadlocks
+pub mod Words
+pub mod Texts

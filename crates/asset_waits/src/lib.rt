@@ -1,0 +1,15 @@
+//! Who waits for whom at the end of a script, as text: each live transaction with those for whom it waits, and each cycle of
+//! waits. The one fault is that memory runs out; a part of the text may have been appended then.
+#![tactic(auto)]
+
+mod arrows;
+mod commits;
+mod deadlocks;
+mod listing;
+mod live;
+mod report;
+mod requests;
+mod waiters;
+mod waiting;
+
+pub use report::push_waits;
