@@ -1,0 +1,22 @@
+-- The report of who waits for whom when a script has ended, and what it has of a run.
+use Rattle.std.specs.Prelude.{◌≡◌, ℕ, List, Option, None, Some}
+use Rattle.asset_names.specs.Steps.{applied}
+use Rattle.asset_core.specs.Pending.{Facility}
+use Rattle.asset_cli.specs.declared.ends.RunEnd.TheVariants.{Finished}
+use Rattle.asset_cli.specs.declared.prints.Prints.{Prints}
+use Rattle.asset_cli.specs.Transcript.{Transcript, stopped, transcript}
+use Rattle.asset_waits.specs.Texts.{report_text}
+use Rattle.asset_standing.specs.Standing.{Standing, left}
+
+-- a bad line is all that is written, if there is one
+unfoldable pub waited_at : Option ℕ → Facility → Transcript
+waited_at None facility = record { text = report_text (applied facility.history.entries) facility.pending; end = Finished; history = facility.history }
+waited_at (Some n) facility = stopped n facility.history
+
+unfoldable pub waited : List ℕ → ℕ → Transcript
+waited bytes capacity = waited_at (left bytes capacity).bad (left bytes capacity).facility
+
+-- a report ends as a run of the same script, over the same history
+pub record EndsAsRun (prints : Prints) (bytes : List ℕ) (capacity : ℕ) : Type 0 where
+  pub end : (waited bytes capacity).end ≡ (transcript prints bytes capacity).end
+  pub history : (waited bytes capacity).history ≡ (transcript prints bytes capacity).history
