@@ -2,17 +2,24 @@
 use Rattle.std.specs.Prelude.{◌≡◌, ℕ, List, Option, MatchOption, Result, MatchResult, string_bytes}
 use Rattle.asset_cli.specs.declared.ends.RunEnd.{RunEnd}
 use Rattle.asset_cli.specs.declared.faults.ScriptFault.{ScriptFault}
-use Rattle.asset_cli.specs.declared.reporting.Work.{Work}
 use Rattle.asset_cli.specs.Device.{DeviceState}
 use Rattle.asset_cli.specs.Transfers.{TookPrefix}
 use Rattle.asset_cli.specs.Reporting.{transcript_of}
 use Rattle.asset_cli.specs.Runs.{WroteAll, Stops}
 use Rattle.asset_cli.specs.Transcript.{Transcript}
 use Rattle.asset_check.specs.Checked.{checked}
+use Rattle.asset_standing.specs.Waited.{waited}
 use Rattle.asset_program.specs.declared.requests.Request.{Request}
+use Rattle.asset_program.specs.declared.requests.Task.{Task}
+use Rattle.asset_program.specs.declared.requests.Task.TheVariants.{Run, Waits}
 use Rattle.asset_program.specs.declared.answers.Answer.{Answer}
 use Rattle.asset_program.specs.declared.answers.Answer.TheVariants.{Help, Refusal, Fault}
 use Rattle.asset_program.specs.Exit.{run_status, capacity_of}
+
+-- what each task gives of the bytes of a script
+unfoldable pub given_by : Task → List ℕ → ℕ → Transcript
+given_by (Run work) bytes capacity = transcript_of work bytes capacity
+given_by Waits bytes capacity = waited bytes capacity
 
 module _ {R W : Type 0} (remaining : R → Option (List ℕ)) (contents : W → Option (List ℕ)) where
   -- A script was read. The status says how that ended; what was written is what all bytes that were read give, or at a fault a
@@ -22,9 +29,9 @@ module _ {R W : Type 0} (remaining : R → Option (List ℕ)) (contents : W → 
     pub says : status ≡ run_status ended
     pub ran : MatchResult ended (WroteAll remaining contents render input input' output output') (Stops remaining contents render input input' output output')
 
-  -- a script was run for this work, over a history with room for `capacity` entries
-  abbrev pub RunsScript : Work → ℕ → DeviceState R → DeviceState R → DeviceState W → DeviceState W → ℕ → Type 0
-  RunsScript work capacity = Gives (λ bytes. transcript_of work bytes capacity)
+  -- a script was read for this task, over a history with room for `capacity` entries
+  abbrev pub RunsScript : Task → ℕ → DeviceState R → DeviceState R → DeviceState W → DeviceState W → ℕ → Type 0
+  RunsScript task capacity = Gives (λ bytes. given_by task bytes capacity)
 
   -- a script was checked
   abbrev pub ChecksScript : DeviceState R → DeviceState R → DeviceState W → DeviceState W → ℕ → Type 0
@@ -34,7 +41,7 @@ module _ {R W : Type 0} (remaining : R → Option (List ℕ)) (contents : W → 
   unfoldable pub Serves : Request → DeviceState R → DeviceState R → DeviceState W → DeviceState W → ℕ → Type 0
   Serves request input input' output output' status = MatchOption (capacity_of request.capacity)
       ((status ≡ 2) × (input' ≡ input) × (output' ≡ output))
-      (λ capacity. RunsScript request.work capacity input input' output output' status)
+      (λ capacity. RunsScript request.task capacity input input' output output' status)
 
 -- help and the version go to the writer, or a prefix of them if it fails; of another answer it sees nothing
 unfoldable pub Shows : {W : Type 0} → (W → Option (List ℕ)) → Answer → DeviceState W → DeviceState W → Type 0

@@ -1,6 +1,6 @@
 //! The call that takes a script, for somebody who gave its path as an argument.
 
-use crate::command_line::{CHECK, JOBS, SHELL, work_named};
+use crate::command_line::{CHECK, JOBS, SHELL, task_named};
 use std::alloc::{AllocError, Global};
 
 /// Returns whether a text is an option.
@@ -10,7 +10,7 @@ fn is_option(text: &str) -> bool {
 
 /// Returns whether the program has this word.
 fn is_word(text: &str) -> bool {
-    text == JOBS || text == CHECK || text == SHELL || work_named(text).is_some()
+    text == JOBS || text == CHECK || text == SHELL || task_named(text).is_some()
 }
 
 /// Returns whether an option is one that the word for jobs alone takes.

@@ -1,7 +1,7 @@
 //! The command line that the program takes: its words, its option, and the texts of its help.
 
 use crate::limits::JobsRequest;
-use crate::requests::{Asked, Request};
+use crate::requests::{Asked, Request, Task};
 use asset_cli::{Report, Work};
 use clap::{Arg, ArgMatches, Command, value_parser};
 use std::alloc::{AllocError, Global};
@@ -43,16 +43,17 @@ const CHECK_NOTES: &str =
 const SHELL_NOTES: &str =
     "Each line is answered before the next one is read. Why a line is bad is said on standard error, and the conversation goes on.\n\nExit status:\n  0  no line was bad, or help was asked for\n  1  the input or an output failed, or memory ran out\n  2  a line was bad, or an argument is refused";
 
-/// Returns what a script is run for by this word. `None` if the program has no such word for scripts.
-pub(crate) fn work_named(word: &str) -> Option<Work> {
+/// Returns what a script is read for by this word. `None` if the program has no such word for scripts.
+pub(crate) fn task_named(word: &str) -> Option<Task> {
     match word {
-        "run" => Some(Work::Run),
-        "steps" => Some(Work::Steps),
-        "prune" => Some(Work::Report(Report::Pruned)),
-        "groups" => Some(Work::Report(Report::Groups)),
-        "sources" => Some(Work::Sources),
-        "serial" => Some(Work::Report(Report::Serial)),
-        "picture" => Some(Work::Report(Report::Picture)),
+        "run" => Some(Task::Run(Work::Run)),
+        "steps" => Some(Task::Run(Work::Steps)),
+        "prune" => Some(Task::Run(Work::Report(Report::Pruned))),
+        "groups" => Some(Task::Run(Work::Report(Report::Groups))),
+        "sources" => Some(Task::Run(Work::Sources)),
+        "serial" => Some(Task::Run(Work::Report(Report::Serial))),
+        "waits" => Some(Task::Waits),
+        "picture" => Some(Task::Run(Work::Report(Report::Picture))),
         _ => None,
     }
 }
@@ -206,6 +207,12 @@ pub(crate) fn command_line<'a>(alloc: Global) -> Result<Command<'a>, AllocError>
     let line = with_word(
         line,
         alloc,
+        "waits",
+        "Writes who waits for whom when the script has ended",
+    )?;
+    let line = with_word(
+        line,
+        alloc,
         "picture",
         "Draws the history as a picture, an SVG",
     )?;
@@ -226,7 +233,7 @@ fn jobs_request(given: &ArgMatches<'_>) -> JobsRequest {
 /// Returns what the matched arguments of another word ask for.
 fn script_request(word: &str, given: &ArgMatches<'_>) -> Request {
     Request {
-        work: work_named(word).unwrap_or(Work::Run),
+        task: task_named(word).unwrap_or(Task::Run(Work::Run)),
         capacity: given.get_one::<u32>("cap"),
     }
 }
@@ -239,7 +246,7 @@ pub(crate) fn asked_by(matches: &ArgMatches<'_>) -> Asked {
         Some((SHELL, given)) => Asked::Shell(given.get_one::<u32>("cap")),
         Some((word, given)) => Asked::Script(script_request(word, given)),
         None => Asked::Script(Request {
-            work: Work::Run,
+            task: Task::Run(Work::Run),
             capacity: None,
         }),
     }

@@ -21,4 +21,4 @@ pub use jobs_end::{JobsStop, end_jobs};
 pub use jobs_run::{Begun, Opened, add_job, begin_jobs, finish_jobs};
 pub use limits::{JobsRequest, Limits, limits_of};
 pub use program::{run_check, run_program};
-pub use requests::{Asked, Request, capacity_or_default, requested};
+pub use requests::{Asked, Request, Task, capacity_or_default, requested};

@@ -8,9 +8,10 @@ ghost use Rattle.asset_program.specs.Program.{ChecksScript, RunsScript, Serves, 
 
 use crate::answers::Answer;
 use crate::exit::{status_of_answer, status_of_run};
-use crate::requests::{Request, capacity_or_default};
+use crate::requests::{Request, Task, capacity_or_default};
 use asset_check::check_script;
-use asset_cli::{Device, RunEnd, ScriptFault, Work, run_for, write_all};
+use asset_cli::{Device, RunEnd, ScriptFault, run_for, write_all};
+use asset_standing::waits_script;
 use std::alloc::Global;
 use std::io::{Read, Write};
 
@@ -32,10 +33,11 @@ pub(crate) fn say_range<E: Write>(errors: &mut E) -> u8
     2
 }
 
-/// Runs the script that the reader gives for the work. Says a fault to the errors. Returns the exit status.
+/// Reads the script that the reader gives for the task. Says a fault to the errors. Returns the exit status.
+#[tactic(auto, unfolding(crate::specs::Program::given_by))]
 fn run<R: Read, W: Write, E: Write>(
     alloc: Global,
-    work: Work,
+    task: Task,
     capacity: usize,
     input: &mut Device<R>,
     output: &mut Device<W>,
@@ -44,10 +46,12 @@ fn run<R: Read, W: Write, E: Write>(
     requires capacity { IsCapacity capacity }
     requires unused_input { IsUnused input.old }
     requires unused_output { IsUnused output.old }
-    ensures { RunsScript R.remaining W.contents work capacity input.old input.new output.old output.new result }
+    ensures { RunsScript R.remaining W.contents task capacity input.old input.new output.old output.new result }
 {
-    let ended = run_for(alloc, input, output, capacity, work);
-    say_fault(ended, errors)
+    match task {
+        Task::Run(work) => say_fault(run_for(alloc, input, output, capacity, work), errors),
+        Task::Waits => say_fault(waits_script(alloc, input, output, capacity), errors),
+    }
 }
 
 /// Runs the script that the reader gives as the request says. Returns the exit status.
@@ -64,7 +68,7 @@ fn serve<R: Read, W: Write, E: Write>(
     ensures { Serves R.remaining W.contents request.now input.old input.new output.old output.new result }
 {
     match capacity_or_default(request.capacity) {
-        Some(capacity) => run(alloc, request.work, capacity, input, output, errors),
+        Some(capacity) => run(alloc, request.task, capacity, input, output, errors),
         None => say_range(errors),
     }
 }

@@ -12,11 +12,20 @@ use asset_cli::Work;
 use clap::Error;
 use std::alloc::Global;
 
+/// What a script is read for.
+#[derive(Clone, Copy, Debug, PartialEq, Eq)]
+pub enum Task {
+    /// Its transcript, or a report on the history that it leaves.
+    Run(Work),
+    /// The report of who waits for whom when it has ended.
+    Waits,
+}
+
 /// What the arguments ask of a script.
 #[derive(Clone, Copy, Debug, PartialEq, Eq)]
 pub struct Request {
-    /// What the script is run for.
-    pub work: Work,
+    /// What the script is read for.
+    pub task: Task,
     /// The capacity of the history, if an argument gives one.
     pub capacity: Option<u32>,
 }
