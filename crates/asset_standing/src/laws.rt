@@ -7,5 +7,4 @@ ghost use Rattle.asset_standing.specs.Waited.{EndsAsRun};
 /// and over the same history. It does nothing.
 pub fn waits_end_as_runs()
     ensures { (prints : Prints) (bytes : List ℕ) (capacity : ℕ) → EndsAsRun prints bytes capacity }
-{
-}
+{}
