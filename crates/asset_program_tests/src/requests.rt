@@ -3,7 +3,7 @@
 use crate::running::list;
 use asset_cli::{Report, Work};
 use asset_program::{
-    Asked, JobsRequest, Limits, Request, capacity_or_default, limits_of, requested,
+    Asked, JobsRequest, Limits, Request, Task, capacity_or_default, limits_of, requested,
 };
 use std::alloc::{AllocError, Global};
 use std::process::Abort;
@@ -41,9 +41,23 @@ fn arguments_give_the_word_and_the_capacity(rt: HostRuntime) {
     ] {
         assert_eq!(rt;
             request(rt.alloc(), texts),
-            Ok(Some(Asked::Script(Request { work, capacity }))),
+            Ok(Some(Asked::Script(Request {
+                task: Task::Run(work),
+                capacity
+            }))),
             "at {texts:?}"
         );
+    }
+}
+
+#[test]
+fn arguments_ask_who_waits(rt: HostRuntime) {
+    for (texts, capacity) in [(&["waits"][..], 10_000), (&["waits", "--cap", "4"][..], 4)] {
+        let asked = Asked::Script(Request {
+            task: Task::Waits,
+            capacity: Some(capacity),
+        });
+        assert_eq!(rt; request(rt.alloc(), texts), Ok(Some(asked)), "at {texts:?}");
     }
 }
 

@@ -54,6 +54,18 @@ fn steps_are_listed_with_their_replies(rt: HostRuntime) -> Result<(), Fail> {
 }
 
 #[test]
+fn who_waits_is_written(rt: HostRuntime) -> Result<(), Fail> {
+    expect(&rt, &["waits"], FULL, ("8 initiated\n", "", 0))?;
+    expect(&rt, &["waits", "--cap", "4"], FULL, ("", "", 0))?;
+    expect(
+        &rt,
+        &["waits"],
+        b"initiate 7\nbegin\n",
+        ("line 2: bad command\n", "", 2),
+    )
+}
+
+#[test]
 fn shared_work_ends_serial_with_one(rt: HostRuntime) -> Result<(), Fail> {
     let script = b"initiate 7\nbegin 7\npermit 7 8 r all\ncomplete 7\ncommit 7\n";
     expect(&rt, &["serial"], script, ("shared\n", "", 1))

@@ -14,6 +14,7 @@ Commands:
   groups   Writes the groups of those who shared something
   sources  Writes where each value that was read comes from
   serial   Writes the script of those who committed, one after another
+  waits    Writes who waits for whom when the script has ended
   picture  Draws the history as a picture, an SVG
   check    Names each bad line of the script on standard input, and why it is bad
   shell    Answers each line as it comes
