@@ -4,3 +4,5 @@ pub mod WhoLemmas
 pub mod LiveLemmas
 pub mod ArrowLemmas
 pub mod TextLemmas
+pub mod ChainLemmas
+pub mod DeadlockLemmas

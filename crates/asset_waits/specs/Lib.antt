@@ -3,3 +3,4 @@ pub mod Live
 pub mod Deadlocks
 pub mod Words
 pub mod Texts
+pub mod Chains

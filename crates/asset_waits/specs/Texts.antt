@@ -1,5 +1,5 @@
 -- The report on who waits for whom, as text.
-use Rattle.std.specs.Prelude.{ℕ, List, [], ◌∷◌, ◌++◌, flat_map, length, slice_get, Option, Some, None, codes}
+use Rattle.std.specs.Prelude.{ℕ, List, [], ◌∷◌, ◌++◌, flat_map, slice_get, Option, Some, None, codes}
 use Rattle.std.specs.Fmt.{decimal}
 use Rattle.asset_names.specs.declared.names.Ob.{Ob}
 use Rattle.asset_names.specs.declared.operations.Op.{Op}
@@ -8,10 +8,9 @@ use Rattle.asset_names.specs.declared.statuses.Status.TheVariants as Status'
 use Rattle.asset_names.specs.declared.steps.Step.{Step}
 use Rattle.asset_names.specs.Endings.{status}
 use Rattle.asset_core.specs.Pending.{Pending, pending_of}
-use Rattle.asset_cycles.specs.Cyclic.{cycle_labels}
 use Rattle.asset_cycles.specs.Members.{own_labels, members_of}
 use Rattle.asset_waits.specs.Waiting.{live_names, blockers_of, unfinished_of, sources_of}
-use Rattle.asset_waits.specs.Deadlocks.{wait_arrows}
+use Rattle.asset_waits.specs.Deadlocks.{deadlock_labels}
 use Rattle.asset_waits.specs.Words.{pieces, status_word, op_word, held_words, name_word}
 
 -- ---- one that waits for a request
@@ -102,4 +101,4 @@ deadlocks_text names labels = flat_map (label_line names labels) (own_labels lab
 unfoldable pub report_text : List Step → List Pending → List ℕ
 report_text steps pending =
     waiters_text steps pending (live_names steps)
-    ++ deadlocks_text (live_names steps) (cycle_labels (wait_arrows steps pending) (length (live_names steps)))
+    ++ deadlocks_text (live_names steps) (deadlock_labels steps pending)

@@ -5,6 +5,7 @@
 mod arrows;
 mod commits;
 mod deadlocks;
+mod laws;
 mod listing;
 mod live;
 mod report;
@@ -12,4 +13,5 @@ mod requests;
 mod waiters;
 mod waiting;
 
+pub use laws::deadlocks_are_cycles_of_waits;
 pub use report::push_waits;
