@@ -1,6 +1,6 @@
 -- What one more item adds to a list.
 use Rattle.std.proofs.Common.{◌≡◌, ℕ, ◌+◌, ◌<◌, List, [], ◌∷◌, ◌++◌, get_or, length, map, take, sym, ap, ◌∙◌, append-nil, append_assoc, arith}
-use Rattle.std.specs.Prelude.{flat_map, Result, Ok, Err, IfOk}
+use Rattle.std.specs.Prelude.{flat_map}
 use Rattle.std.specs.List.{range_with_len}
 use Rattle.std.proofs.lemmas.Grind.{flat_map-append}
 use Rattle.std.proofs.lemmas.List.{take_more, flat_map_more, map_more}
@@ -37,8 +37,3 @@ item_more {A} {B} f items i d before middle now below so_far more =
     ∙ ap (λ (l : List B). l ++ f (get_or items i d) ∷ []) so_far
     ∙ append_assoc before (map f (take i items)) (f (get_or items i d) ∷ [])
     ∙ ap (λ (l : List B). before ++ l) (sym (map_more f items i d below))
-
--- what holds of a result that is fine
-pub if_ok_as : {X Y : Type 0} {P Q : X → Type 0} (r : Result X Y) → ((x : X) → P x → Q x) → IfOk r P → IfOk r Q
-if_ok_as (Ok x) f p = f x p
-if_ok_as (Err y) f p = tt

@@ -19,7 +19,6 @@ use std::alloc::Global;
 /// those who are on it, in order of initiation.
 ///
 /// It answers `NoMemory` if memory runs out. The facility stays the same.
-#[tactic(auto, unfolding(crate::specs::Texts::report_text))]
 pub fn push_waits(alloc: Global, core: &mut Core, text: &mut String) -> Result<(), NoMemory>
     ensures text { OnOk result (string_bytes text.new ≡ string_bytes text.old ++ report_text (applied core.old.history.entries) core.old.pending) }
     ensures same { core.new ≡ core.old }

@@ -55,7 +55,6 @@ fn push_start(text: &mut String, t: Txn, x: Ob, op: Op) -> Result<(), AllocError
 }
 
 /// Appends what `u` holds, which blocks `op` on `x`.
-#[tactic(auto, unfolding(crate::specs::Texts::holder_text, crate::specs::Words::pieces))]
 fn push_holder(text: &mut String, core: &Core, x: Ob, op: Op, u: Txn) -> Result<(), AllocError>
     ensures { OnOk result (string_bytes text.new ≡ string_bytes text.old ++ holder_text (applied core.now.history.entries) x.0 op u.0) }
 {

@@ -55,7 +55,6 @@ fn push_waits_of(
 }
 
 /// Appends the lines of a transaction: its status, and what it waits for. It answers `NoMemory` if memory runs out.
-#[tactic(auto, unfolding(crate::specs::Texts::waiter_text))]
 fn push_waiter(alloc: Global, core: &mut Core, text: &mut String, t: Txn) -> Result<(), NoMemory>
     ensures text { OnOk result (string_bytes text.new ≡ string_bytes text.old ++ waiter_text (applied core.old.history.entries) core.old.pending t.0) }
     ensures same { core.new ≡ core.old }

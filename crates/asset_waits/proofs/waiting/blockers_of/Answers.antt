@@ -1,8 +1,8 @@
 use Rattle.std.proofs.Common.{◌∙◌}
 use Rattle.asset_names.specs.Steps.{applied}
 use Rattle.asset_ends.specs.Waits.{is_blocker}
+use Rattle.asset_ends.proofs.WaitLemmas.{if_ok_as}
 use Rattle.asset_waits.specs.Waiting.{blockers_of}
-use Rattle.asset_waits.proofs.ListLemmas.{if_ok_as}
 use Rattle.asset_waits.proofs.WhoLemmas.{found_are, blocker_lives}
 use Rattle.asset_waits.proofs.waiting.blockers_of.Goals as goal
 

@@ -1,8 +1,8 @@
 use Rattle.std.proofs.Common.{◌∙◌}
 use Rattle.asset_names.specs.Steps.{applied}
 use Rattle.asset_ends.specs.Waits.{is_unfinished}
+use Rattle.asset_ends.proofs.WaitLemmas.{if_ok_as}
 use Rattle.asset_waits.specs.Waiting.{unfinished_of}
-use Rattle.asset_waits.proofs.ListLemmas.{if_ok_as}
 use Rattle.asset_waits.proofs.WhoLemmas.{found_are, unfinished_lives}
 use Rattle.asset_waits.proofs.waiting.unfinished_of.Goals as goal
 
