@@ -83,10 +83,18 @@ TEXTS = {
 16      12      complete 9                      ok
 17      13      commit 9                        committed
 """,
+    "waits": b"8 running\n",
+    "check": b"line 2: begin wants t\n",
     "jobs": b"job 7 committed\njob 8 committed\naudit ok entries 10 committed 2 aborted 0\n",
 }
 
+# The words that write once the input has ended, and the statuses of those that do not end with 0 here.
 WORDS = list(TEXTS)
+STATUSES = {"check": 2}
+
+# A conversation writes before its input has ended, so what it wrote at a fault is a prefix, and an endless line never ends it.
+TEXTS["shell"] = TEXTS["run"]
+ALL_WORDS = WORDS + ["shell"]
 
 READ_FAULT = b"asset: read fault\n"
 WRITE_FAULT = b"asset: write fault\n"
@@ -95,7 +103,12 @@ NO_MEMORY = b"asset: no memory\n"
 
 def small(word):
     """The small script of a word."""
-    return JOBS if word == "jobs" else SCRIPT
+    return {"jobs": JOBS, "check": b"object 1 100\nbegin\n"}.get(word, SCRIPT)
+
+
+def whole(word, text):
+    """What a whole run of a word comes to that writes this text."""
+    return STATUSES.get(word, 0), text, b""
 
 
 def large(word, objects):
@@ -104,6 +117,10 @@ def large(word, objects):
     if word == "jobs":
         text = b"job 7 committed\naudit ok entries 6 committed 1 aborted 0\n"
         return opening + b"job 7\nread 1\nwrite 2 5\n", text
+    if word == "waits":
+        return opening + b"initiate 7\nbegin 7\n", b"7 running\n"
+    if word == "check":
+        return opening + b"begin\n", b"line %d: begin wants t\n" % (objects + 1)
     steps = b"initiate 7\nbegin 7\nread 7 1\nwrite 7 2 5\ncomplete 7\ncommit 7\n"
     texts = {
         "run": b"ok\nok\n1\nok\nok\ncommitted\n",
@@ -116,7 +133,7 @@ def large(word, objects):
             for entry, (step, reply) in enumerate(zip(steps.splitlines(), b"ok ok 1 ok ok committed".split()))
         ),
     }
-    return opening + steps, texts[word]
+    return opening + steps, texts["run" if word == "shell" else word]
 
 
 class Ran:
@@ -189,10 +206,10 @@ class Outside:
 def whole_runs(outside, objects):
     """Each word on its small script, on a large one, and on nothing."""
     before = outside.so_far()
-    for word in WORDS:
-        outside.see(word, outside.run([word], small(word)), (0, TEXTS[word], b""))
+    for word in ALL_WORDS:
+        outside.see(word, outside.run([word], small(word)), whole(word, TEXTS[word]))
         given, text = large(word, objects)
-        outside.see(f"{word} over {objects} objects", outside.run([word], given), (0, text, b""))
+        outside.see(f"{word} over {objects} objects", outside.run([word], given), whole(word, text))
         nothing = b"audit ok entries 0 committed 0 aborted 0\n" if word == "jobs" else b""
         outside.see(f"{word} of nothing", outside.run([word], redirected="< /dev/null"), (0, nothing, b""))
     outside.see("no word", outside.run([], SCRIPT), (0, TEXTS["run"], b""))
@@ -203,7 +220,7 @@ def outputs_that_fail(outside, objects):
     """A full output, a missing one, and one whose reader has gone. Help that nobody can take is no fault."""
     before = outside.so_far()
     stopped = (1, b"", WRITE_FAULT)
-    for word in WORDS:
+    for word in ALL_WORDS:
         for name, given in ((word, small(word)), (f"{word} over {objects} objects", large(word, objects)[0])):
             outside.see(f"{name} > /dev/full", outside.run([word], given, redirected="> /dev/full"), stopped)
             outside.see(f"{name} >&-", outside.run([word], given, redirected=">&-"), stopped)
@@ -220,8 +237,8 @@ def outputs_that_fail(outside, objects):
 def inputs_that_fail(outside):
     """A missing input, a folder, and inputs that never end."""
     before = outside.so_far()
-    for word in WORDS:
-        for redirected in ("<&-", "< /", "< /dev/zero"):
+    for word in ALL_WORDS:
+        for redirected in ("<&-", "< /") if word == "shell" else ("<&-", "< /", "< /dev/zero"):
             outside.see(f"{word} {redirected}", outside.run([word], redirected=redirected), (1, b"", READ_FAULT))
     outside.say("inputs that fail", before)
 
@@ -230,7 +247,7 @@ def errors_that_fail(outside):
     """Errors that cannot be said: the status says what happened."""
     before = outside.so_far()
     for redirected in ("2> /dev/full", "2>&-"):
-        for word in WORDS:
+        for word in ALL_WORDS:
             ran = outside.run([word], redirected=f"<&- {redirected}")
             outside.see(f"{word} <&- {redirected}", ran, (1, b"", b""))
             ran = outside.run([word], small(word), redirected=f"> /dev/full {redirected}")
@@ -260,10 +277,10 @@ def memory_that_rises(outside, name, least, step, words, given, text):
     limit, ran_out = least, 0
     while True:
         ran = outside.run(words, given, limit=limit)
-        if not outside.see(f"{name} with {limit} kB", ran, (0, text, b""), (1, b"", NO_MEMORY)):
+        if not outside.see(f"{name} with {limit} kB", ran, whole(words[0], text), (1, b"", NO_MEMORY)):
             if outside.wrong - before[1] > 5:
                 break
-        if ran.status == 0:
+        if ran.status == STATUSES.get(words[0], 0):
             break
         ran_out += 1
         limit += step
@@ -299,7 +316,7 @@ def refused_requests(outside, folder):
             ran = Ran(ran.returncode, ran.stdout, ran.stderr, time.perf_counter() - started)
             is_whole = word == "jobs" and ran.status == 0 and are_job_ends(ran.output)
             text = ran.output if is_whole else TEXTS[word]
-            outside.see(f"{word}, request {number} refused", ran, (0, text, b""), (1, b"", NO_MEMORY))
+            outside.see(f"{word}, request {number} refused", ran, whole(word, text), (1, b"", NO_MEMORY))
         outside.say(f"{word}, {number - 1} requests refused in turn", before)
 
 
