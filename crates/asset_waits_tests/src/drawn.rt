@@ -132,6 +132,10 @@ fn all_agree(core: &mut Core, entries: &mut Vec<(Step, Reply)>, seed: u64) -> Re
 #[test]
 fn facility_and_reference_agree_on_waits(rt: HostRuntime) -> Result<(), Fail> {
     let mut entries = Vec::new(rt.alloc());
+    // Room for all entries, so that none of them asks for memory.
+    if entries.reserve(STEPS).is_err() {
+        entries.reserve(STEPS)?;
+    }
     for seed in 0..HISTORIES {
         let mut core = opened(rt.alloc(), &THREE, ROOM)?;
         entries.clear();

@@ -12,14 +12,14 @@ fn report_once(alloc: Global, script: &[u8], written: &mut Vec<u8>) -> Result<Ru
     waits_script(alloc, &mut input, &mut output, 10_000)
 }
 
-/// Writes the report on a script to these bytes. If memory runs out once, it is asked for again.
+/// Writes the report on a script to these bytes. If memory runs out once, for the report or for the bytes, it is asked for again.
 pub(crate) fn report(
     alloc: Global,
     script: &[u8],
     written: &mut Vec<u8>,
 ) -> Result<RunEnd, ScriptFault> {
     match report_once(alloc, script, written) {
-        Err(ScriptFault::NoMemory) => {
+        Err(ScriptFault::NoMemory | ScriptFault::Write) => {
             written.clear();
             report_once(alloc, script, written)
         }

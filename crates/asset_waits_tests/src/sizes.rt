@@ -47,6 +47,22 @@ fn crowd(alloc: Global, count: u64) -> Result<String, AllocError> {
     Ok(script)
 }
 
+/// Returns the script of the ring, which is made again if memory runs out once.
+fn made(alloc: Global, last: Option<u64>) -> Result<String, AllocError> {
+    match ring(alloc, MANY, last) {
+        Ok(script) => Ok(script),
+        Err(_) => ring(alloc, MANY, last),
+    }
+}
+
+/// Returns the script of the crowd, which is made again if memory runs out once.
+fn made_crowd(alloc: Global) -> Result<String, AllocError> {
+    match crowd(alloc, MANY) {
+        Ok(script) => Ok(script),
+        Err(_) => crowd(alloc, MANY),
+    }
+}
+
 /// Returns the report on a script.
 fn reported(alloc: Global, script: &str) -> Result<Vec<u8>, Fail> {
     let mut written = Vec::new(alloc);
@@ -60,7 +76,7 @@ fn reported(alloc: Global, script: &str) -> Result<Vec<u8>, Fail> {
 
 #[test]
 fn ring_of_hundreds_is_one_deadlock(rt: HostRuntime) -> Result<(), Fail> {
-    let script = ring(rt.alloc(), MANY, Some(1))?;
+    let script = made(rt.alloc(), Some(1))?;
     let written = reported(rt.alloc(), &script)?;
     let text = str::from_utf8(&written)?;
     assert_eq!(rt; text.matches(" holds it by write\n").count(), 300);
@@ -72,7 +88,7 @@ fn ring_of_hundreds_is_one_deadlock(rt: HostRuntime) -> Result<(), Fail> {
 
 #[test]
 fn row_of_hundreds_is_no_deadlock(rt: HostRuntime) -> Result<(), Fail> {
-    let script = ring(rt.alloc(), MANY, None)?;
+    let script = made(rt.alloc(), None)?;
     let written = reported(rt.alloc(), &script)?;
     let text = str::from_utf8(&written)?;
     assert_eq!(rt; text.matches(" holds it by write\n").count(), 299);
@@ -82,7 +98,7 @@ fn row_of_hundreds_is_no_deadlock(rt: HostRuntime) -> Result<(), Fail> {
 
 #[test]
 fn writer_waits_for_hundreds_of_readers(rt: HostRuntime) -> Result<(), Fail> {
-    let script = crowd(rt.alloc(), MANY)?;
+    let script = made_crowd(rt.alloc())?;
     let written = reported(rt.alloc(), &script)?;
     let text = str::from_utf8(&written)?;
     assert_eq!(rt; text.matches("300 waits to write 1: ").count(), 299);
