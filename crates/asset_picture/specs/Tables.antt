@@ -13,7 +13,7 @@ use Rattle.asset_picture.specs.Shapes.{style_text, status_word, state_word, open
 unfoldable pub table_height : ℕ → ℕ
 table_height rows = 70 + 20 * rows
 
--- the start of a table of a history with so many entries
+-- the start of a table of a history with `count` entries
 unfoldable pub heading_text : ℕ → List ℕ
 heading_text count = pieces (codes "<text class='key' x='20' y='28'>" ∷ decimal count
     ∷ codes " entries</text>\n<text class='row' y='50'><tspan class='object' x='20'>transaction</tspan><tspan class='object' x='190'>group</tspan><tspan class='object' x='270'>the group is</tspan><tspan class='object' x='380'>status</tspan><tspan class='object' x='470'>steps</tspan><tspan class='object' x='550'>first</tspan><tspan class='object' x='630'>last</tspan>\n" ∷ [])
@@ -48,7 +48,7 @@ row_for groups entries used n = row_text n (unwrap_or (number_in groups n) 0) (d
 unfoldable pub rows_text : Grouping → List Entry → List ℕ → List (List ℕ) → List ℕ → List ℕ
 rows_text groups entries names used rows = flat_map (λ n. row_for groups entries (uses_of names used n) n) rows
 
--- the start of a table of so many entries and rows
+-- the start of a table of `count` entries in `rows` rows
 unfoldable pub table_frame : ℕ → ℕ → List ℕ
 table_frame count rows = open_text 720 (table_height rows) ++ (style_text ++ heading_text count)
 

@@ -124,7 +124,7 @@ fn push_start(text: &mut String, lane: &Lane) -> Result<(), AllocError>
     )
 }
 
-/// Appends a lane of a picture with so many entries.
+/// Appends a lane of a picture with `count` entries.
 #[tactic(auto, unfolding(crate::specs::Shapes::lane_text, crate::specs::Layout::pieces))]
 fn push_lane(text: &mut String, wide: bool, count: usize, lane: &Lane) -> Result<(), AllocError>
     ensures { OnOk result (string_bytes text.new ≡ string_bytes text.old ++ lane_text wide count lane.now) }

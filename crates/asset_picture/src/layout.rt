@@ -32,7 +32,7 @@ pub(crate) fn bow_at(row: usize) -> u128
     74 + 56 * (row as u128)
 }
 
-/// Returns how many columns a picture of so many entries has.
+/// Returns how many columns a picture of `count` entries has.
 #[tactic(auto, unfolding(crate::specs::Layout::columns))]
 pub(crate) fn columns(count: usize) -> usize
     ensures { result ≡ columns count }
