@@ -18,7 +18,8 @@ use std::alloc::Global;
 /// member of its class that has not, and for each live source outside it. At last each cycle of waits has a line that names
 /// those who are on it, in order of initiation.
 ///
-/// It answers `NoMemory` if memory runs out. The facility stays the same.
+/// It answers `NoMemory` if memory runs out, and a part of the text may have been appended then. The facility stays the same.
+/// It goes over the entries once, and asks of each live transaction twice for whom it waits.
 pub fn push_waits(alloc: Global, core: &mut Core, text: &mut String) -> Result<(), NoMemory>
     ensures text { OnOk result (string_bytes text.new ≡ string_bytes text.old ++ report_text (applied core.old.history.entries) core.old.pending) }
     ensures same { core.new ≡ core.old }
