@@ -27,7 +27,7 @@ fn push_step(text: &mut String, wide: bool, number: usize) -> Result<(), AllocEr
     write!(text, "<text class='step' x='{x}' y='76'>{number}</text>\n")
 }
 
-/// Appends the numbers of so many entries.
+/// Appends the numbers of `count` entries.
 pub(crate) fn push_steps(text: &mut String, wide: bool, count: usize) -> Result<(), AllocError>
     ensures { OnOk result (string_bytes text.new ≡ string_bytes text.old ++ steps_text wide count) }
 {

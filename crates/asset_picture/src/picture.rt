@@ -40,7 +40,7 @@ fn push_frame(text: &mut String, width: u128, height: u128) -> Result<(), AllocE
     push_legend(text)
 }
 
-/// Appends the start of a picture of so many entries and rows.
+/// Appends the start of a picture of `count` entries in `rows` rows.
 #[tactic(auto, unfolding(crate::specs::Picture::frame_for))]
 fn push_frame_for(
     text: &mut String,
@@ -68,7 +68,7 @@ fn push_rest(
     text.push_str("</svg>\n")
 }
 
-/// Appends a picture of so many entries, whose columns are wide or not.
+/// Appends a picture of `count` entries, whose columns are wide or not.
 #[tactic(auto, unfolding(crate::specs::Picture::shapes_in))]
 fn push_shapes_in(
     text: &mut String,
@@ -86,7 +86,7 @@ fn push_shapes_in(
     push_rest(text, wide, arrows, marks)
 }
 
-/// Appends a picture of so many entries.
+/// Appends a picture of `count` entries.
 #[tactic(auto, unfolding(crate::specs::Picture::shapes_text))]
 fn push_shapes(
     text: &mut String,

@@ -19,7 +19,7 @@ use asset_names::{Status, Txn};
 use indexmap::IndexSet;
 use std::alloc::AllocError;
 
-/// Returns the height of a table with so many rows.
+/// Returns the height of a table with `rows` rows.
 #[tactic(auto, unfolding(crate::specs::Tables::table_height))]
 fn table_height(rows: usize) -> u128
     ensures { result ≡ table_height rows }
@@ -134,7 +134,7 @@ fn push_rows(
     Ok(())
 }
 
-/// Appends the start of a table of so many entries and rows.
+/// Appends the start of a table of `count` entries in `rows` rows.
 #[tactic(auto, unfolding(crate::specs::Tables::table_frame))]
 fn push_frame(text: &mut String, count: usize, rows: usize) -> Result<(), AllocError>
     ensures { OnOk result (string_bytes text.new ≡ string_bytes text.old ++ table_frame count rows) }

@@ -138,7 +138,7 @@ pub fn begin_jobs<R: Read>(
     }
 }
 
-/// Puts a job that is expected to do so many operations into the plan, unless it is refused or the history has no room for it.
+/// Puts a job that is expected to do `operations` operations into the plan, unless it is refused or the history has no room for it.
 /// It answers `NoMemory` if memory runs out.
 pub fn add_job<R: Wait>(
     rt: &R,
@@ -244,7 +244,7 @@ fn write_ends<W: Write>(
     }
 }
 
-/// Runs the jobs by so many threads, closes the manager, and writes how the jobs of these names ended, in order, and then the
+/// Runs the jobs by `workers` threads, closes the manager, and writes how the jobs of these names ended, in order, and then the
 /// audit, which it returns. The manager is the one of the plan.
 ///
 /// It answers `InUse` if somebody else has the manager, `NoMemory` if memory runs out, and `Write` if the writer failed.
