@@ -9,7 +9,7 @@ use Rattle.asset_picture.specs.Layout.{pieces}
 use Rattle.asset_picture.specs.Uses.{with_names, uses, uses_of}
 use Rattle.asset_picture.specs.Shapes.{style_text, status_word, state_word, open_text}
 
--- how high a table of so many rows is: 20 pixels for each
+-- how high a table of `rows` rows is: 20 pixels for each
 unfoldable pub table_height : ℕ → ℕ
 table_height rows = 70 + 20 * rows
 
