@@ -21,14 +21,25 @@ pub trait Allows {
     ghost allows: { Self → ℕ → ℕ → ℕ → Op → Bool };
 
     /// Returns whether the holder, who has a seat, allows the asker to do `op` on `x`. Nothing changes.
-    fn allows(&mut self, seats: &Seats, holder: Sitter, asker: Sitter, x: Ob, op: Op) -> bool
+    ///
+    /// `again` says that other holders are asked about for the same request too, so that it may be worth finding all who
+    /// allow the asker at once. The answer is the same.
+    fn allows(
+        &mut self,
+        seats: &Seats,
+        holder: Sitter,
+        asker: Sitter,
+        x: Ob,
+        op: Op,
+        again: bool,
+    ) -> bool
         requires asker { can_ask self.old seats.now asker }
         requires holder { HasSeat seats.now holder }
         ensures allowed { result ≡ allows self.old holder.t.0 asker.t.0 x.0 op }
         ensures same { self.new ≡ self.old };
 }
 
-/// Permits by name look at nobody's seat.
+/// Permits by name look at nobody's seat, and search for each holder.
 impl Allows for Permits {
     ghost use Rattle.std.specs.Prelude.{⊤};
     ghost use Rattle.asset_permits.specs.Descriptors.{allows_by};
@@ -37,7 +48,15 @@ impl Allows for Permits {
 
     ghost allows = { λ permits u t x op. allows_by permits u t x op };
 
-    fn allows(&mut self, _seats: &Seats, holder: Sitter, asker: Sitter, x: Ob, op: Op) -> bool {
+    fn allows(
+        &mut self,
+        _seats: &Seats,
+        holder: Sitter,
+        asker: Sitter,
+        x: Ob,
+        op: Op,
+        _again: bool,
+    ) -> bool {
         self.allows(holder.t, asker.t, x, op)
     }
 }
@@ -52,7 +71,19 @@ impl Allows for SeatedPermits {
 
     ghost allows = { λ table u t x op. allows_by (permits_in table) u t x op };
 
-    fn allows(&mut self, seats: &Seats, holder: Sitter, asker: Sitter, x: Ob, op: Op) -> bool {
-        self.allows(seats, holder, asker, x, op)
+    fn allows(
+        &mut self,
+        seats: &Seats,
+        holder: Sitter,
+        asker: Sitter,
+        x: Ob,
+        op: Op,
+        again: bool,
+    ) -> bool {
+        if again {
+            self.is_allower(seats, holder, asker, x, op)
+        } else {
+            self.allows(seats, holder, asker, x, op)
+        }
     }
 }

@@ -39,7 +39,7 @@ impl LockStore {
         ensures permits { permits.new ≡ permits.old }
     {
         let owner = self.owner(key, seats)?;
-        if self.look_at(key, request, seats, permits).blocked {
+        if self.look_at(key, request, seats, permits, true).blocked {
             Some(owner.t)
         } else {
             None

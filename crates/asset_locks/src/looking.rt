@@ -65,13 +65,15 @@ impl LockStore {
         Some(Sitter { t, at })
     }
 
-    /// Looks at the lock at the key, which is on the object that is asked for.
+    /// Looks at the lock at the key, which is on the object that is asked for. `again` says whether the permits are asked
+    /// about other holders too.
     pub(crate) fn look_at<A: Allows>(
         &self,
         key: usize,
         request: Request,
         seats: &Seats,
         permits: &mut A,
+        again: bool,
     ) -> Look
         requires { A.can_ask permits.old seats.now request.asker }
         ensures look { IsLook self.now seats.now (λ u. A.allows permits.old u request.asker.t.0 request.x.0 request.op) request.asker.t.0 request.op (λ (k : ℕ). k ≡ key) result }
@@ -89,7 +91,7 @@ impl LockStore {
         }
         if one_conflicts(self.lock(key).ops, request.op) {
             Look {
-                blocked: !permits.allows(seats, owner, request.asker, request.x, request.op),
+                blocked: !permits.allows(seats, owner, request.asker, request.x, request.op, again),
                 own: None,
                 conflicts: true,
             }
@@ -98,7 +100,8 @@ impl LockStore {
         }
     }
 
-    /// Looks at the locks of the part, which is one of the object that is asked for.
+    /// Looks at the locks of the part, which is one of the object that is asked for. From the second lock that conflicts on,
+    /// all who allow the asker are found at once.
     fn look_in<A: Allows>(
         &self,
         part: Part,
@@ -113,7 +116,8 @@ impl LockStore {
         let keys = self.by_object.keys(part);
         let mut look = Look::NOTHING;
         'keys: for key in keys {
-            look = look.with(self.look_at(*key as usize, request, seats, permits));
+            let again = look.conflicts;
+            look = look.with(self.look_at(*key as usize, request, seats, permits, again));
             if look.blocked {
                 return look;
             }

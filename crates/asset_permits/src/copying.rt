@@ -234,6 +234,7 @@ impl SeatedPermits {
             return;
         };
         self.permits.laws();
+        self.marked = None;
         self.permits.remove(key);
         self.permits.laws();
     }

@@ -3,6 +3,7 @@
 //! seat, and `Permits` by name.
 #![tactic(auto)]
 
+mod allowers;
 mod copying;
 mod dropping;
 mod finding;

@@ -1,5 +1,6 @@
 //! The table of permits by seat, and its calls.
 
+use crate::allowers::{Question, mark_allowers};
 use crate::dropping::drop_along;
 use crate::finding::find;
 use crate::permit::{Permit, Sought};
@@ -15,19 +16,26 @@ use std::marker::Model;
 /// The permits that stand, asked by seat. Each permit is in the row of its giver's seat and in the column of its taker's,
 /// and the seats are kept elsewhere: each call takes them, and requires that the table is tied to them. None stands twice;
 /// their order means nothing.
+///
+/// `marked` says whom the marks stand for, if all who allow somebody something are marked. It is `None` once a permit
+/// changes.
 #[derive(Drop)]
 pub struct SeatedPermits {
     pub(crate) permits: Crossed<Permit>,
     marks: Marks,
+    pub(crate) marked: Option<Question>,
     pub(crate) alloc: Global,
 }
 
 impl Model for SeatedPermits {
     ghost use Rattle.asset_permits.specs.Valid.{PermitTable};
+    ghost use Rattle.asset_permits.specs.Marked.{HasMarked};
 
     ghost Value = { PermitTable };
 
     ghost view = { λ p. record { permits = p.permits; size = p.marks.size } };
+
+    ghost invariant = { λ p. HasMarked p.permits p.marks.nodes p.marked };
 }
 
 impl SeatedPermits {
@@ -50,6 +58,7 @@ impl SeatedPermits {
         SeatedPermits {
             permits: Crossed::new(alloc),
             marks: Marks::new(alloc),
+            marked: None,
             alloc,
         }
     }
@@ -62,6 +71,7 @@ impl SeatedPermits {
         ensures used { (d : ℕ) → used_in self.new d ≡ used_in self.old d }
         ensures tied { (seats : Seated) → IsTied self.old seats → IsTied self.new seats }
     {
+        self.marked = None;
         add_lines(&mut self.permits, Side::Row, c)?;
         add_lines(&mut self.permits, Side::Column, c)?;
         self.marks.add(c)
@@ -113,6 +123,7 @@ impl SeatedPermits {
         if self.has(seats, sought) {
             return Ok(());
         }
+        self.marked = None;
         reserve_item(&mut self.permits)?;
         let permit = Permit::of(sought, self.alloc)?;
         self.permits
@@ -137,6 +148,27 @@ impl SeatedPermits {
     {
         let _ = &self.permits;
         giver.t == taker.t || self.leads(seats, giver, taker, x, op)
+    }
+
+    /// Returns whether the giver allows the taker to do `op` on `x`, as `allows` does. No permit changes.
+    ///
+    /// It marks all who allow the taker, and while no permit changes, the next such calls for the same taker, object and
+    /// operation look at a mark alone. So it is for who asks about several givers in a row. It takes no memory.
+    pub fn is_allower(&mut self, seats: &Seats, giver: Sitter, taker: Sitter, x: Ob, op: Op) -> bool
+        requires tied { IsTied self.old seats.now }
+        requires giver { HasSeat seats.now giver }
+        requires taker { HasSeat seats.now taker }
+        ensures allowed { result ≡ allows_by (permits_in self.old) giver.t.0 taker.t.0 x.0 op }
+        ensures same { self.new ≡ self.old }
+    {
+        seats.laws();
+        self.permits.laws();
+        let question = Question {
+            taker: taker.at,
+            covered: Covered { x, op },
+        };
+        mark_allowers(&self.permits, &mut self.marks, &mut self.marked, question);
+        self.marks.has(giver.at)
     }
 
     /// Returns whether the permit stands.
@@ -166,6 +198,7 @@ impl SeatedPermits {
     {
         seats.laws();
         self.permits.laws();
+        self.marked = None;
         let (from, to) = (giver.at, taker.at);
         if self.permits.len(Side::Row, from) <= self.permits.len(Side::Column, to) {
             let search = Search {
@@ -196,6 +229,7 @@ impl SeatedPermits {
     {
         seats.laws();
         self.permits.laws();
+        self.marked = None;
         self.permits.clear(Side::Row, t.at);
         self.permits.laws();
         self.permits.clear(Side::Column, t.at);
@@ -213,6 +247,7 @@ impl SeatedPermits {
         ensures covers { (u v x : ℕ) (op : Op) → one_covers (permits_in self.new) u v x op ≡ (one_covers (permits_in self.old) u v x op && not (u == t.t.0) && not (v == t.t.0)) }
     {
         seats.laws();
+        self.marked = None;
         drop_along(&mut self.permits, seats, Side::Row, t.at);
         drop_along(&mut self.permits, seats, Side::Column, t.at);
         self.permits.laws();

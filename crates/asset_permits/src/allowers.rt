@@ -1,0 +1,65 @@
+//! Marks on all who allow one transaction to do an operation on an object.
+
+ghost use Rattle.std.specs.Prelude.{◌≡◌, ◌<◌, true, Some};
+ghost use Rattle.asset_marks.specs.Searched.{AreWithin};
+ghost use Rattle.asset_permits.specs.Marked.{arrows_back, HasMarked};
+
+use crate::permit::Permit;
+use crate::search::{Covered, Search};
+use asset_chains::{Crossed, Side};
+use asset_marks::{Marks, spread};
+
+/// Whom marks stand for: all who allow the transaction in the seat to do the operation on the object.
+#[derive(Clone, Copy)]
+pub(crate) struct Question {
+    /// The seat of the one who is allowed.
+    pub taker: usize,
+    /// The object and the operation.
+    pub covered: Covered,
+}
+
+/// Returns whether the two are one question.
+fn is_same(question: Question, other: Question) -> bool
+    ensures { result ≡ true → question ≡ other }
+{
+    question.taker == other.taker
+        && question.covered.x == other.covered.x
+        && question.covered.op == other.covered.op
+}
+
+/// Returns whether marks that stand for one question, if for any, stand for this one.
+fn stand_for(marked: Option<Question>, question: Question) -> bool
+    ensures { result ≡ true → marked ≡ Some question }
+{
+    match marked {
+        Some(other) => is_same(other, question),
+        None => false,
+    }
+}
+
+/// Marks all for whom the question stands, unless they are marked. It goes from the one who is allowed back along the
+/// permits that cover what the question asks.
+pub(crate) fn mark_allowers(
+    permits: &Crossed<Permit>,
+    marks: &mut Marks,
+    marked: &mut Option<Question>,
+    question: Question,
+)
+    requires marked { HasMarked permits.now marks.old.nodes marked.old }
+    requires within { AreWithin (arrows_back question.covered permits.now) marks.old.size }
+    requires taker { question.taker < marks.old.size }
+    ensures size { marks.new.size ≡ marks.old.size }
+    ensures question { marked.new ≡ Some question }
+    ensures marked { HasMarked permits.now marks.new.nodes (Some question) }
+{
+    if stand_for(*marked, question) {
+        return;
+    }
+    let search = Search {
+        permits,
+        side: Side::Column,
+        covered: question.covered,
+    };
+    spread(&search, question.taker, marks);
+    *marked = Some(question);
+}
