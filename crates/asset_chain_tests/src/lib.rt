@@ -14,8 +14,8 @@ mod objects;
 #[cfg(test)]
 mod objects_beside_list;
 #[cfg(test)]
-mod records;
-#[cfg(test)]
 mod seats;
 #[cfg(test)]
 mod trans;
+#[cfg(test)]
+mod visits;

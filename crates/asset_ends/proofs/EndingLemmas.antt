@@ -19,6 +19,7 @@ use Rattle.asset_names.proofs.Common.{both_follow, eqb-flip}
 use Rattle.asset_names.proofs.EndLemmas.{commits, aborts}
 use Rattle.asset_names.proofs.ListLemmas.{all_listed, listed_all, lists_pushed}
 use Rattle.asset_objects.specs.Cells.{cells}
+use Rattle.asset_objects.specs.Placed.{objects_in}
 use Rattle.asset_locks.specs.LockTable as Locks
 use Rattle.asset_permits.specs.Valid.{permits_in}
 use Rattle.asset_seats.specs.Seated.{Seated, seat}
@@ -146,21 +147,21 @@ all_ended how start now ending none =
 
 pub commit_stands : (opening : Opening) (steps : List Step) (test : ℕ → Bool) (before later : Parts) (t : Txn) → AreEnded test End'.Committed before later
     → ((n : ℕ) → test n ≡ class_in (dependencies_in before.deps) t.0 n) → is_live_status (status_in before.trans t.0) ≡ true
-    → Shows opening steps (table_values before.trans (cells before.objects) (locks_of before) (permits_in before.permits) (dependencies_in before.deps))
-    → Shows opening (Commit t ∷ steps) (table_values later.trans (cells later.objects) (locks_of later) (permits_in later.permits) (dependencies_in later.deps))
+    → Shows opening steps (table_values before.trans (cells (objects_in before.objects)) (locks_of before) (permits_in before.permits) (dependencies_in before.deps))
+    → Shows opening (Commit t ∷ steps) (table_values later.trans (cells (objects_in later.objects)) (locks_of later) (permits_in later.permits) (dependencies_in later.deps))
 unfolding ended_cell ended_as
 commit_stands opening steps test before later t ended is alive stand =
     let all = ended_as_test test (commits steps t.0) End'.Committed before later (λ n. is n ∙ commits_shown steps (dependencies_in before.deps) stand.dependencies_stand t.0 (sym (live_shown opening steps _ _ _ _ _ t.0 stand) ∙ alive) n) ended in
-    rw (all.rows, all.objects, all.locks) (commit_shows opening steps before.trans (cells before.objects) (locks_of before) (permits_in before.permits) (dependencies_in before.deps) t stand (permits_in later.permits) all.permits (dependencies_in later.deps) all.deps)
+    rw (all.rows, all.objects, all.locks) (commit_shows opening steps before.trans (cells (objects_in before.objects)) (locks_of before) (permits_in before.permits) (dependencies_in before.deps) t stand (permits_in later.permits) all.permits (dependencies_in later.deps) all.deps)
 
 pub abort_stands : (opening : Opening) (steps : List Step) (test : ℕ → Bool) (before later : Parts) (t : Txn) → AreEnded test End'.Aborted before later
     → ((n : ℕ) → test n ≡ doomed_in (dependencies_in before.deps) t.0 n) → is_live_status (status_in before.trans t.0) ≡ true
-    → Shows opening steps (table_values before.trans (cells before.objects) (locks_of before) (permits_in before.permits) (dependencies_in before.deps))
-    → Shows opening (Abort t ∷ steps) (table_values later.trans (cells later.objects) (locks_of later) (permits_in later.permits) (dependencies_in later.deps))
+    → Shows opening steps (table_values before.trans (cells (objects_in before.objects)) (locks_of before) (permits_in before.permits) (dependencies_in before.deps))
+    → Shows opening (Abort t ∷ steps) (table_values later.trans (cells (objects_in later.objects)) (locks_of later) (permits_in later.permits) (dependencies_in later.deps))
 unfolding ended_cell ended_as
 abort_stands opening steps test before later t ended is alive stand =
     let all = ended_as_test test (aborts steps t.0) End'.Aborted before later (λ n. is n ∙ aborts_shown steps (dependencies_in before.deps) stand.dependencies_stand t.0 (sym (live_shown opening steps _ _ _ _ _ t.0 stand) ∙ alive) n) ended in
-    rw (all.rows, all.objects, all.locks) (abort_shows opening steps before.trans (cells before.objects) (locks_of before) (permits_in before.permits) (dependencies_in before.deps) t stand (permits_in later.permits) all.permits (dependencies_in later.deps) all.deps)
+    rw (all.rows, all.objects, all.locks) (abort_shows opening steps before.trans (cells (objects_in before.objects)) (locks_of before) (permits_in before.permits) (dependencies_in before.deps) t stand (permits_in later.permits) all.permits (dependencies_in later.deps) all.deps)
 
 -- ---- who is enrolled then
 

@@ -5,6 +5,8 @@ use Rattle.std.proofs.lemmas.Bool.{eqb-true}
 use Rattle.asset_names.specs.declared.names.Txn.{Txn}
 use Rattle.asset_names.specs.declared.operations.Op.{Op}
 use Rattle.asset_seats.specs.Seated.{Seated, seat}
+use Rattle.asset_objects.specs.Placed as Objects
+use Rattle.asset_objects.proofs.SeatLemmas as ObjectSeats
 use Rattle.asset_permits.specs.Descriptors.{allows_by}
 use Rattle.asset_permits.specs.Valid as Permits
 use Rattle.asset_permits.proofs.ArrowLaws.{allows_itself}
@@ -41,17 +43,20 @@ permits_sits table seats new s t tied free sits room = record {
   go c false at some = tied.within c (sym (ap is_some (sits c ∙ ap (λ b. cond b (Some t) (seat seats c)) at)) ∙ some)
 
 -- nobody moves
-pub tied_same : (table : Locks.LockParts) (given : Permits.PermitTable) (links : Deps.LinkTable) (seats new : Seated) → AreTied table given links seats → ((c : ℕ) → seat new c ≡ seat seats c) → AreTied table given links new
-tied_same table given links seats new tied same = record {
+pub tied_same : (written : Objects.ObjectParts) (table : Locks.LockParts) (given : Permits.PermitTable) (links : Deps.LinkTable) (seats new : Seated) → AreTied written table given links seats → ((c : ℕ) → seat new c ≡ seat seats c)
+    → AreTied written table given links new
+tied_same written table given links seats new tied same = record {
+  objects = ObjectSeats.tied_same written seats new tied.objects same;
   locks = LockSeats.tied_same table seats new same tied.locks;
   permits = permits_same given seats new tied.permits same;
   deps = DepSeats.tied_same links seats new tied.deps same;
 }
 
 -- one more sits down
-pub tied_sits : (table : Locks.LockParts) (given : Permits.PermitTable) (links : Deps.LinkTable) (seats new : Seated) (s : ℕ) (t : Txn) → ((c : ℕ) → seat seats c ≡ Some t → ⊥) → AreTied table given links seats → seat seats s ≡ None → ((c : ℕ) → seat new c ≡ cond (eqb c s) (Some t) (seat seats c)) → HasRoom table given links s
-    → AreTied table given links new
-tied_sits table given links seats new s t absent tied free sits room = record {
+pub tied_sits : (written : Objects.ObjectParts) (table : Locks.LockParts) (given : Permits.PermitTable) (links : Deps.LinkTable) (seats new : Seated) (s : ℕ) (t : Txn) → ((c : ℕ) → seat seats c ≡ Some t → ⊥) → AreTied written table given links seats → Objects.IsTied written new → seat seats s ≡ None → ((c : ℕ) → seat new c ≡ cond (eqb c s) (Some t) (seat seats c)) → HasRoom written table given links s
+    → AreTied written table given links new
+tied_sits written table given links seats new s t absent tied objects free sits room = record {
+  objects = objects;
   locks = LockSeats.tied_sits table seats new s t free sits absent room.locks tied.locks;
   permits = permits_sits given seats new s t tied.permits free sits room.permits;
   deps = DepSeats.tied_sits links seats new s t tied.deps free sits room.deps;

@@ -5,6 +5,7 @@ use Rattle.asset_names.specs.declared.names.Txn.{Txn}
 use Rattle.asset_names.specs.declared.statuses.End.{End}
 use Rattle.asset_names.specs.declared.statuses.End.TheVariants as End'
 use Rattle.asset_names.specs.declared.statuses.Status.{Status}
+use Rattle.asset_objects.specs.Placed.{objects_in}
 use Rattle.asset_objects.specs.Cells.{Written, Cell, Cells, cells, undone, settled, settled_value, newer, change_each}
 use Rattle.asset_seats.specs.Seated.{seat}
 use Rattle.asset_locks.specs.LockTable as Locks
@@ -155,7 +156,7 @@ pub ended_twice : (p q : ℕ → Bool) (how : End) (before now later : Parts) �
 unfolding either
 ended_twice p q how before now later first second = record {
   rows = second.rows ∙ ap (set_in q (ended_as how)) first.rows ∙ rows_twice p q (ended_as how) before.trans;
-  objects = second.objects ∙ ap (change_each (ended_cell how q)) first.objects ∙ objects_twice how p q (cells before.objects);
+  objects = second.objects ∙ ap (change_each (ended_cell how q)) first.objects ∙ objects_twice how p q (cells (objects_in before.objects));
   locks = second.locks ∙ ap (Locks.release_in q) first.locks ∙ locks_twice p q (locks_of before);
   permits = λ u n x op. second.permits u n x op ∙ rw (first.permits u n x op) (both_gone _ (p u) (q u) (p n) (q n));
   deps = λ k u v. second.deps k u v ∙ rw (first.deps k u v) (both_gone _ (p u) (q u) (p v) (q v));
@@ -167,7 +168,7 @@ pub ended_none : (how : End) (now : Parts) → AreEnded nobody how now now
 unfolding nobody
 ended_none how now = record {
   rows = sym (rows_none (ended_as how) now.trans);
-  objects = sym (objects_none how (cells now.objects));
+  objects = sym (objects_none how (cells (objects_in now.objects)));
   locks = sym (locks_none (locks_of now));
   permits = λ u n x op. both_kept _;
   deps = λ k u v. both_kept _;

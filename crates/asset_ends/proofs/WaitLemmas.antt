@@ -4,7 +4,7 @@ use Rattle.std.specs.Prelude.{slice_get, Result, Ok, Err, IfOk}
 use Rattle.std.specs.List.{list_any}
 use Rattle.std.proofs.lemmas.List.Folds.{list_any_more}
 use Rattle.std.proofs.lemmas.Option.{slice_get_within, get_or_from_slice_get}
-use Rattle.std.proofs.lemmas.Bool.{or_cases, or_left, or_right, and_parts, and_from, eqb-true, eq-eqb, not-true, true≢false}
+use Rattle.std.proofs.lemmas.Bool.{or_cases, or_left, or_right, and_parts, and_from, eqb-true, not-true, true≢false}
 use Rattle.asset_names.specs.declared.names.Txn.{Txn}
 use Rattle.asset_names.specs.declared.operations.Op.{Op}
 use Rattle.asset_names.specs.declared.operations.Op.TheVariants as Op'
@@ -26,7 +26,7 @@ use Rattle.asset_objects.specs.Cells.{Cells}
 use Rattle.asset_ends.specs.Shows.{Shows, table_values}
 use Rattle.asset_ends.specs.Standing.{AreEnrolled, LiveAreSeated}
 use Rattle.asset_ends.specs.Waits.{holds_against, is_blocker, is_unfinished, is_outside_source}
-use Rattle.asset_ends.proofs.DependLaws.{HasSameArrows, class_arrow, order_arrow, class_shown}
+use Rattle.asset_ends.proofs.DependLaws.{class_arrow, order_arrow, class_shown}
 use Rattle.asset_ends.proofs.EnrolledLemmas.{enrolled_named}
 use Rattle.asset_ends.proofs.LockLaws.{blocker_carries, carrier_blocks}
 use Rattle.asset_ends.proofs.ShowsLemmas.{allows_shown, live_shown}

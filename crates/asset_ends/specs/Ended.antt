@@ -6,7 +6,8 @@ use Rattle.asset_names.specs.declared.statuses.End.{End}
 use Rattle.asset_names.specs.declared.statuses.End.TheVariants as End'
 use Rattle.asset_names.specs.declared.steps.Kind.{Kind}
 use Rattle.asset_names.specs.Arrows.{has_arrow}
-use Rattle.asset_objects.specs.Cells.{Cell, ObjectTable, cells, undone, settled, change_each}
+use Rattle.asset_objects.specs.Placed.{ObjectParts, objects_in}
+use Rattle.asset_objects.specs.Cells.{Cell, cells, undone, settled, change_each}
 use Rattle.asset_locks.specs.LockTable as Locks
 use Rattle.asset_locks.specs.Tied.{LockParts, rows_in}
 use Rattle.asset_permits.specs.Descriptors.{Descriptor, one_covers}
@@ -18,7 +19,7 @@ use Rattle.asset_trans.specs.TransRows.{NamedTransRow, set_in, ended_as}
 use Rattle.asset_ends.specs.declared.parts.Parts.{Parts}
 
 -- what the five tables hold, and the seats
-abbrev pub parts : Seated → List NamedTransRow → ObjectTable → LockParts → PermitTable → LinkTable → Parts
+abbrev pub parts : Seated → List NamedTransRow → ObjectParts → LockParts → PermitTable → LinkTable → Parts
 parts seats trans objects locks permits deps = record { seats = seats; trans = trans; objects = objects; locks = locks; permits = permits; deps = deps }
 
 -- the rows of those who are enrolled for locks
@@ -52,7 +53,7 @@ ended_cell End'.Aborted test = undone test
 -- and permits are gone, they have no dependencies any more, and they have left their seats
 pub record AreEnded (test : ℕ → Bool) (how : End) (before later : Parts) : Type 0 where
   pub rows : later.trans ≡ set_in test (ended_as how) before.trans
-  pub objects : cells later.objects ≡ change_each (ended_cell how test) (cells before.objects)
+  pub objects : cells (objects_in later.objects) ≡ change_each (ended_cell how test) (cells (objects_in before.objects))
   pub locks : locks_of later ≡ Locks.release_in test (locks_of before)
   pub permits : IsDropped test (permits_in before.permits) (permits_in later.permits)
   pub deps : AreLeft test (dependencies_in before.deps) (dependencies_in later.deps)

@@ -1,6 +1,7 @@
 -- What ties the tables to the seats.
 use Rattle.std.specs.Prelude.{ℕ, List}
 use Rattle.asset_seats.specs.Seated.{Seated}
+use Rattle.asset_objects.specs.Placed as Objects
 use Rattle.asset_permits.specs.Valid as Permits
 use Rattle.asset_locks.specs.Tied as Locks
 use Rattle.asset_deps.specs.Valid as Deps
@@ -8,26 +9,28 @@ use Rattle.asset_trans.specs.TransRows.{NamedTransRow}
 use Rattle.asset_ends.specs.declared.parts.Parts.{Parts}
 use Rattle.asset_ends.specs.Standing.{AreEnrolled, LiveAreSeated}
 
--- locks, permits and dependencies are those of who have seats
-pub record AreTied (table : Locks.LockParts) (given : Permits.PermitTable) (links : Deps.LinkTable) (seating : Seated) : Type 0 where
+-- writes, locks, permits and dependencies are those of who have seats
+pub record AreTied (written : Objects.ObjectParts) (table : Locks.LockParts) (given : Permits.PermitTable) (links : Deps.LinkTable) (seating : Seated) : Type 0 where
+  pub objects : Objects.IsTied written seating
   pub locks : Locks.IsTied table seating
   pub permits : Permits.IsTied given seating
   pub deps : Deps.IsTied links seating
 
 abbrev pub PartsAreTied : Parts → Type 0
-PartsAreTied p = AreTied p.locks p.permits p.deps p.seats
+PartsAreTied p = AreTied p.objects p.locks p.permits p.deps p.seats
 
 -- the seat has room in each table
-pub record HasRoom (table : Locks.LockParts) (given : Permits.PermitTable) (links : Deps.LinkTable) (c : ℕ) : Type 0 where
+pub record HasRoom (written : Objects.ObjectParts) (table : Locks.LockParts) (given : Permits.PermitTable) (links : Deps.LinkTable) (c : ℕ) : Type 0 where
+  pub objects : Objects.HasRoom written c
   pub locks : Locks.HasRoom table c
   pub permits : Permits.HasRoom given c
   pub deps : Deps.HasRoom links c
 
 -- the live are enrolled for locks, and they have the seats, to which the tables are tied
-pub record IsValid (rows : List NamedTransRow) (seating : Seated) (table : Locks.LockParts) (given : Permits.PermitTable) (links : Deps.LinkTable) : Type 0 where
+pub record IsValid (rows : List NamedTransRow) (seating : Seated) (written : Objects.ObjectParts) (table : Locks.LockParts) (given : Permits.PermitTable) (links : Deps.LinkTable) : Type 0 where
   pub locks : AreEnrolled rows (Locks.rows_in seating table)
   pub seats : LiveAreSeated rows seating
-  pub tied : AreTied table given links seating
+  pub tied : AreTied written table given links seating
 
 abbrev pub PartsAreValid : Parts → Type 0
-PartsAreValid p = IsValid p.trans p.seats p.locks p.permits p.deps
+PartsAreValid p = IsValid p.trans p.seats p.objects p.locks p.permits p.deps

@@ -25,7 +25,15 @@ impl Allows for NoPermits {
 
     ghost allows = { λ _ u t _ _. u == t };
 
-    fn allows(&mut self, _seats: &Seats, holder: Sitter, asker: Sitter, _x: Ob, _op: Op) -> bool {
+    fn allows(
+        &mut self,
+        _seats: &Seats,
+        holder: Sitter,
+        asker: Sitter,
+        _x: Ob,
+        _op: Op,
+        _again: bool,
+    ) -> bool {
         holder.t == asker.t
     }
 }

@@ -97,7 +97,9 @@ impl Tables {
             obs,
         )?;
         self.parts.locks.hand_over(&self.parts.seats, from, to, obs);
-        self.parts.objects.hand_over(from.t, to.t, obs);
+        self.parts
+            .objects
+            .hand_over(&self.parts.seats, from, to, obs);
         Ok(())
     }
 }

@@ -1,12 +1,13 @@
 //! The ends of transactions: a commit of a whole class, and an abort of all that it spreads to.
 
-ghost use Rattle.std.specs.Prelude.{◌≡◌, ℕ, ◌==◌, true, false};
+ghost use Rattle.std.specs.Prelude.{◌≡◌, ℕ, ◌==◌, cond, None, true, false};
 ghost use Rattle.std.specs.List.{list_all};
 ghost use Rattle.asset_names.specs.Arrows.{lists};
 ghost use Rattle.asset_names.specs.Answers.{is_completed};
 ghost use Rattle.asset_names.specs.Endings.{is_live_status};
 ghost use Rattle.asset_objects.specs.Cells.{cells, change_each};
-ghost use Rattle.asset_seats.specs.Seated.{HasSeat};
+ghost use Rattle.asset_objects.specs.Placed.{objects_in, IsTied as AreWritesTied};
+ghost use Rattle.asset_seats.specs.Seated.{Seated, seat, HasSeat};
 ghost use Rattle.asset_deps.specs.Valid.{IsTied};
 ghost use Rattle.asset_trans.specs.TransRows.{status_in};
 ghost use Rattle.asset_ends.specs.Ended.{ended_cell, marked_by, AreEnded};
@@ -15,8 +16,8 @@ ghost use Rattle.asset_ends.specs.Tied.{PartsAreTied};
 use crate::parts::Parts;
 use crate::tables::Tables;
 use asset_names::{End, Status, Txn};
-use asset_objects::Objects;
-use asset_seats::Sitter;
+use asset_objects::SeatedObjects;
+use asset_seats::{Seats, Sitter};
 
 /// What became of a commit.
 #[derive(Clone, Copy, Debug, PartialEq, Eq)]
@@ -27,13 +28,16 @@ pub enum Tried {
     Wait,
 }
 
-/// Makes the writes of the transaction final, or undoes them.
-fn end_writes(objects: &mut Objects, t: Txn, how: End)
-    ensures { cells objects.new ≡ change_each (ended_cell how (λ n. n == t.0)) (cells objects.old) }
+/// Makes the writes of the transaction final, or undoes them. The transaction may leave its seat then.
+fn end_writes(objects: &mut SeatedObjects, seats: &Seats, one: Sitter, how: End)
+    requires tied { AreWritesTied objects.old seats.now }
+    requires sits { HasSeat seats.now one }
+    ensures leaves { (left : Seated) → ((c : ℕ) → seat left c ≡ cond (c == one.at) None (seat seats.now c)) → AreWritesTied objects.new left }
+    ensures cells { cells (objects_in objects.new) ≡ change_each (ended_cell how (λ n. n == one.t.0)) (cells (objects_in objects.old)) }
 {
     match how {
-        End::Committed => objects.settle(t),
-        End::Aborted => objects.undo(t),
+        End::Committed => objects.settle(seats, one),
+        End::Aborted => objects.undo(seats, one),
     }
 }
 
@@ -46,7 +50,7 @@ fn end_one(parts: &mut Parts, one: Sitter, how: End)
     ensures ended { AreEnded (λ n. n == one.t.0) how parts.old parts.new }
     ensures marked { lists (marked_by parts.old) one.t.0 ≡ false → marked_by parts.new ≡ marked_by parts.old }
 {
-    end_writes(&mut parts.objects, one.t, how);
+    end_writes(&mut parts.objects, &parts.seats, one, how);
     parts.locks.release(&parts.seats, one);
     parts.permits.drop_all(&parts.seats, one);
     parts.deps.end(&parts.seats, one);

@@ -2,6 +2,7 @@
 
 ghost use Rattle.std.specs.Prelude.{◌≡◌, ◌≢◌, ℕ, true, Some, IfSome, IfNone, IfOk};
 ghost use Rattle.asset_seats.specs.Seated.{seat, HasSeat};
+ghost use Rattle.asset_objects.specs.Placed.{objects_in};
 ghost use Rattle.asset_permits.specs.Valid.{permits_in};
 ghost use Rattle.asset_deps.specs.Valid.{dependencies_in};
 ghost use Rattle.asset_ends.specs.Standing.{LiveAreSeated};
@@ -11,6 +12,7 @@ ghost use Rattle.asset_ends.specs.Tied.{HasRoom, AreTied};
 use asset_deps::SeatedDeps;
 use asset_locks::SeatedLocks;
 use asset_names::{NoMemory, Txn};
+use asset_objects::SeatedObjects;
 use asset_permits::SeatedPermits;
 use asset_seats::{Seats, Sitter};
 use asset_trans::Trans;
@@ -35,23 +37,26 @@ pub(crate) fn sitter_of(trans: &Trans, seats: &Seats, t: Txn) -> Option<Sitter>
 }
 
 /// Reserves a seat, makes room for it in the tables, and returns it: it is given next. If memory runs out, nobody's seat
-/// has changed, and no lock, permit or dependency.
+/// has changed, and no object, lock, permit or dependency that any call shows.
 pub(crate) fn make_room(
     seats: &mut Seats,
+    objects: &mut SeatedObjects,
     locks: &mut SeatedLocks,
     permits: &mut SeatedPermits,
     deps: &mut SeatedDeps,
 ) -> Result<usize, NoMemory>
-    requires tied { AreTied locks.old permits.old deps.old seats.old }
-    ensures room { IfOk result (λ c. (seats.new.vacant ≡ c) × (seats.new.has_room ≡ true) × HasRoom locks.new permits.new deps.new c) }
+    requires tied { AreTied objects.old locks.old permits.old deps.old seats.old }
+    ensures room { IfOk result (λ c. (seats.new.vacant ≡ c) × (seats.new.has_room ≡ true) × HasRoom objects.new locks.new permits.new deps.new c) }
     ensures seats { (c : ℕ) → seat seats.new c ≡ seat seats.old c }
+    ensures objects { objects_in objects.new ≡ objects_in objects.old }
     ensures locks { rows_in seats.new locks.new ≡ rows_in seats.old locks.old }
     ensures permits { permits_in permits.new ≡ permits_in permits.old }
     ensures dependencies { dependencies_in deps.new ≡ dependencies_in deps.old }
-    ensures tied { AreTied locks.new permits.new deps.new seats.new }
+    ensures tied { AreTied objects.new locks.new permits.new deps.new seats.new }
 {
     seats.reserve()?;
     let vacant = seats.vacant();
+    objects.make_room(vacant)?;
     locks.make_room(vacant)?;
     permits.make_room(vacant)?;
     deps.make_room(vacant)?;

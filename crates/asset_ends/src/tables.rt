@@ -5,7 +5,7 @@ use crate::parts::Parts;
 use asset_deps::SeatedDeps;
 use asset_locks::SeatedLocks;
 use asset_names::{End, NoMemory, Ob, Op, Status, Txn};
-use asset_objects::{Objects, ObjectsFault};
+use asset_objects::{ObjectsFault, SeatedObjects};
 use asset_permits::SeatedPermits;
 use asset_seats::{Seats, Sitter};
 use asset_trans::Trans;
@@ -22,6 +22,7 @@ pub struct Tables {
 }
 
 impl Model for Tables {
+    ghost use Rattle.asset_objects.specs.Placed.{objects_in};
     ghost use Rattle.asset_permits.specs.Valid.{permits_in};
     ghost use Rattle.asset_deps.specs.Valid.{dependencies_in};
     ghost use Rattle.asset_ends.specs.Standing.{Standing};
@@ -30,13 +31,13 @@ impl Model for Tables {
 
     ghost Value = { Standing };
 
-    ghost view = { λ t. record { trans = t.parts.trans; objects = t.parts.objects; locks = locks_of t.parts; permits = permits_in t.parts.permits; deps = dependencies_in t.parts.deps } };
+    ghost view = { λ t. record { trans = t.parts.trans; objects = objects_in t.parts.objects; locks = locks_of t.parts; permits = permits_in t.parts.permits; deps = dependencies_in t.parts.deps } };
 
     ghost invariant = { λ t. PartsAreValid t.parts };
 }
 
 impl Tables {
-    ghost use Rattle.std.specs.Prelude.{◌≡◌, ℕ, slice_get, [], OnOk, IfOk, IfErr};
+    ghost use Rattle.std.specs.Prelude.{◌≡◌, ℕ, slice_get, [], None, OnOk, IfOk, IfErr};
     ghost use Rattle.asset_names.specs.declared.operations.Op.{Op as Operation};
     ghost use Rattle.asset_names.specs.Steps.{Opening};
     ghost use Rattle.asset_names.specs.Orderly.{IsOrderly};
@@ -46,6 +47,8 @@ impl Tables {
     ghost use Rattle.asset_names.specs.Sets.{HasNoDouble};
     ghost use Rattle.asset_objects.specs.Faults.{objects_of, IsObjectsFault};
     ghost use Rattle.asset_objects.specs.Cells.{cells, value_in, opened};
+    ghost use Rattle.asset_objects.specs.Placed.{objects_in, IsTied};
+    ghost use Rattle.asset_seats.specs.Seated.{Seated, seat};
     ghost use Rattle.asset_locks.specs.LockTable.{waiters_in};
     ghost use Rattle.asset_permits.specs.Descriptors.{allows_by};
     ghost use Rattle.asset_trans.specs.TransRows.{status_in, seat_in, owed_in, ended_in};
@@ -63,7 +66,7 @@ impl Tables {
         ensures different { OnOk result (HasNoDouble (objects_of opening.now)) }
         ensures fault { IfErr result (λ fault. IsObjectsFault opening.now fault) }
     {
-        Ok(Tables::over(alloc, Objects::open(alloc, opening)?))
+        Ok(Tables::over(alloc, SeatedObjects::open(alloc, opening)?))
     }
 
     /// Returns the tables of an opening that gives no object twice, before the first step. It fails only if memory
@@ -73,12 +76,13 @@ impl Tables {
         ensures shows { IfOk result (λ tables. Shows opening.now [] (values_of tables)) }
         ensures locks { IfOk result (λ tables. tables.locks ≡ []) }
     {
-        Ok(Tables::over(alloc, Objects::open_distinct(alloc, opening)?))
+        Ok(Tables::over(alloc, SeatedObjects::open_distinct(alloc, opening)?))
     }
 
     /// Returns the tables over objects at their opening values.
-    fn over(alloc: Global, objects: Objects) -> Tables
-        ensures shows { (opening : Opening) → cells objects ≡ opened opening → Shows opening [] (values_of result) }
+    fn over(alloc: Global, objects: SeatedObjects) -> Tables
+        requires { (seats : Seated) → ((c : ℕ) → seat seats c ≡ None) → IsTied objects seats }
+        ensures shows { (opening : Opening) → cells (objects_in objects) ≡ opened opening → Shows opening [] (values_of result) }
         ensures locks { result.locks ≡ [] }
     {
         let parts = Parts {

@@ -29,12 +29,14 @@ impl Tables {
     {
         let seat = make_room(
             &mut self.parts.seats,
+            &mut self.parts.objects,
             &mut self.parts.locks,
             &mut self.parts.permits,
             &mut self.parts.deps,
         )?;
         self.parts.trans.initiate_at(t, parent, seat)?;
         self.parts.locks.laws(&self.parts.seats);
+        self.parts.objects.may_sit(&self.parts.seats);
         let at = self.parts.seats.sit(t);
         self.parts.locks.enrol(&self.parts.seats, Sitter { t, at });
         Ok(())
@@ -167,7 +169,7 @@ impl Tables {
         ensures unchanged { OnErr result (self.new ≡ self.old) }
     {
         if self.hold(one, x, Op::Write)? {
-            self.parts.objects.write(one.t, x, v);
+            self.parts.objects.write(&self.parts.seats, one, x, v);
             Ok(true)
         } else {
             Ok(false)

@@ -10,7 +10,6 @@ use Rattle.asset_names.specs.declared.operations.Op.{Op}
 use Rattle.asset_names.specs.declared.operations.Op.TheVariants as Op'
 use Rattle.asset_names.specs.Arrows.{lists}
 use Rattle.asset_names.specs.OpSets.{has_op, only_op}
-use Rattle.asset_names.proofs.Common.{some_is_not_none}
 use Rattle.std.specs.List.{list_any}
 use Rattle.asset_chains.specs.Chained.{chain_of, home_of, IsSound}
 use Rattle.asset_chains.proofs.Walks.{any_from, any_none}

@@ -2,3 +2,4 @@ pub mod CellLemmas
 pub mod EndLemmas
 pub mod PlacedLemmas
 pub mod HandLemmas
+pub mod SeatLemmas

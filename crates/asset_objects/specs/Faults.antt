@@ -3,8 +3,8 @@ use Rattle.std.specs.Prelude.{ℕ, ℤ, List, map}
 use Rattle.asset_names.specs.declared.names.Ob.{Ob}
 use Rattle.asset_names.specs.Sets.{IsLeastDouble, HasNoDouble}
 use Rattle.asset_names.specs.Steps.{Opening}
-use Rattle.asset_objects.specs.declared.table.ObjectsFault.{ObjectsFault}
-use Rattle.asset_objects.specs.declared.table.ObjectsFault.TheVariants.{DoubleObject, NoMemory}
+use Rattle.asset_objects.specs.declared.seated.ObjectsFault.{ObjectsFault}
+use Rattle.asset_objects.specs.declared.seated.ObjectsFault.TheVariants.{DoubleObject, NoMemory}
 
 -- the objects of an opening
 abbrev pub objects_of : Opening → List ℕ

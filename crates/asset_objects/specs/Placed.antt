@@ -1,12 +1,15 @@
 -- How the table is stored: the objects in the order of the opening, and of each the value in place and the records of the
 -- writes that stand, oldest first. Each record has what its write found.
-use Rattle.std.specs.Prelude.{◌≡◌, ℕ, ℤ, pos, ◌+◌, suc, Bool, true, false, cond, ◌==◌, List, [], ◌∷◌, ◌++◌, length, map, slice_get, slice_index_or, Option, Some, None, option_map}
+use Rattle.std.specs.Prelude.{◌≡◌, ℕ, ℤ, pos, ◌+◌, ◌<◌, ◌≤◌, suc, Bool, true, false, cond, ◌==◌, List, [], ◌∷◌, ◌++◌, length, map, slice_get, slice_index_or, Option, Some, None, option_map}
 use Rattle.asset_names.specs.declared.names.Ob.{Ob}
 use Rattle.asset_names.specs.declared.sets.ObSet.{ObSet}
 use Rattle.asset_names.specs.InSet.{in_set}
 use Rattle.asset_names.specs.Steps.{Opening}
 use Rattle.asset_records.specs.declared.records.Record.{Record}
-use Rattle.asset_records.specs.Listed.{Listed, on}
+use Rattle.slab.specs.Slab.{slab_len}
+use Rattle.asset_chains.specs.Crossed.{Crossed, has_room}
+use Rattle.asset_seats.specs.Seated.{Seated}
+use Rattle.asset_records.specs.Listed.{lists_in, on, IsTied as AreTied}
 use Rattle.asset_objects.specs.Cells.{Written, Cell, ObjectTable}
 
 -- what the oldest of the records found, or else the value in place
@@ -54,11 +57,39 @@ is_in set (Some x) = in_set set x.0
 unfoldable pub object_table : List Ob → List ℤ → List (List Record) → Bool → ℕ → ObjectTable
 object_table objects values lists reserved visits = record { rows = rows_from 0 objects values lists; reserved = reserved; visits = visits }
 
+-- the parts of a table by seat: the objects, their values in place, their records in rows and columns, whether one more write
+-- is reserved, and how many records the last end or hand-over visited
+pub record ObjectParts : Type 0 where
+  pub objects : List Ob
+  pub values : List ℤ
+  pub records : Crossed Record
+  pub reserved : Bool
+  pub visits : ℕ
+
+-- what callers see of the parts
+abbrev pub objects_in : ObjectParts → ObjectTable
+objects_in parts = object_table parts.objects parts.values (lists_in parts.records) parts.reserved parts.visits
+
+-- each record is in the column of its owner's seat, and each seat that is taken has its column
+abbrev pub IsTied : ObjectParts → Seated → Type 0
+IsTied parts seats = AreTied parts.records seats
+
+-- the seat has its column
+abbrev pub HasRoom : ObjectParts → ℕ → Type 0
+HasRoom parts c = c < length parts.records.columns.chains
+
 -- each object has a value in place and a list of records, and a reservation is one of the records
-pub record IsPlaced (objects : List Ob) (values : List ℤ) (listed : Listed) (reserved : Bool) : Type 0 where
-  pub valued : length values ≡ length objects
-  pub many : length listed.lists ≡ length objects
-  pub room : reserved ≡ true → listed.reserved ≡ true
+pub record IsPlaced (parts : ObjectParts) : Type 0 where
+  pub valued : length parts.values ≡ length parts.objects
+  pub many : length (lists_in parts.records) ≡ length parts.objects
+  pub room : parts.reserved ≡ true → has_room parts.records ≡ true
+
+-- the table by name: there are more seats than records, each with its column, and one seat more once a write is reserved
+pub record IsSpared (parts : ObjectParts) (seats : Seated) : Type 0 where
+  pub tied : IsTied parts seats
+  pub columns : length seats.slots ≤ length parts.records.columns.chains
+  pub spare : 0 < slab_len parts.records.items → slab_len parts.records.items < length seats.slots
+  pub room : parts.reserved ≡ true → slab_len parts.records.items + 1 < length seats.slots
 
 -- the objects of an opening at their opening values, with no record
 pub record IsOpened (opening : Opening) (objects : List Ob) (values : List ℤ) (lists : List (List Record)) : Type 0 where

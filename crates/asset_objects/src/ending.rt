@@ -1,12 +1,14 @@
 //! The records of a transaction go, when it ends.
 
 ghost use Rattle.std.specs.Prelude.{◌≡◌, ℕ, ◌==◌, ◌≤◌, ◌+◌, ◌*◌, ◌<◌, length, true, cond, unwrap_or};
+ghost use Rattle.asset_chains.specs.Crossed.{has_room};
+ghost use Rattle.asset_seats.specs.Seated.{HasSeat};
 ghost use Rattle.asset_objects.specs.Cells.{undone, settled};
-ghost use Rattle.asset_records.specs.Listed.{records_by};
+ghost use Rattle.asset_records.specs.Listed.{lists_in, records_by, HasNone, IsTied, IsNoMore};
 ghost use Rattle.asset_objects.specs.Placed.{value_at, cell_at};
 
-use asset_names::Txn;
 use asset_records::Records;
+use asset_seats::{Seats, Sitter};
 
 /// Puts the before-image that is left over, if there is one, in place of the value with this index.
 fn put_back(values: &mut Vec<i64>, i: usize, restored: Option<i64>)
@@ -20,16 +22,21 @@ fn put_back(values: &mut Vec<i64>, i: usize, restored: Option<i64>)
 }
 
 /// Takes back the writes of the transaction, the newest first. Returns how many records were visited.
-pub(crate) fn undo(values: &mut Vec<i64>, records: &mut Records, t: Txn) -> usize
-    requires { length records.old.lists ≡ length values.old.items }
+pub(crate) fn undo(values: &mut Vec<i64>, records: &mut Records, seats: &Seats, t: Sitter) -> usize
+    requires many { length (lists_in records.old) ≡ length values.old.items }
+    requires tied { IsTied records.old seats.now }
+    requires sits { HasSeat seats.now t }
+    ensures tied { IsTied records.new seats.now }
+    ensures none { HasNone t.t.0 (lists_in records.new) }
+    ensures few { IsNoMore records.old records.new }
     ensures values { length values.new.items ≡ length values.old.items }
-    ensures lists { length records.new.lists ≡ length records.old.lists }
-    ensures cells { (i : ℕ) → cell_at values.new.items records.new.lists i ≡ undone (λ n. n == t.0) (cell_at values.old.items records.old.lists i) }
-    ensures visits { result ≤ 4 * records_by (λ n. n == t.0) records.old.lists }
-    ensures reserved { records.old.reserved ≡ true → records.new.reserved ≡ true }
+    ensures lists { length (lists_in records.new) ≡ length (lists_in records.old) }
+    ensures cells { (i : ℕ) → cell_at values.new.items (lists_in records.new) i ≡ undone (λ n. n == t.t.0) (cell_at values.old.items (lists_in records.old) i) }
+    ensures visits { result ≤ 4 * records_by (λ n. n == t.t.0) (lists_in records.old) }
+    ensures reserved { has_room records.old ≡ true → has_room records.new ≡ true }
 {
     let mut visits: usize = 0;
-    'newest: while let Some(undone) = records.take_back(t) {
+    'newest: while let Some(undone) = records.take_back(seats, t) {
         put_back(values, undone.object, undone.restored);
         visits = visits.saturating_add(undone.visited);
     }
@@ -37,15 +44,20 @@ pub(crate) fn undo(values: &mut Vec<i64>, records: &mut Records, t: Txn) -> usiz
 }
 
 /// Drops the records of the transaction, each with all before it on its object. Returns how many records were visited.
-pub(crate) fn settle(values: &[i64], records: &mut Records, t: Txn) -> usize
-    requires { length records.old.lists ≡ length values.now }
-    ensures lists { length records.new.lists ≡ length records.old.lists }
-    ensures cells { (i : ℕ) → cell_at values.now records.new.lists i ≡ settled (λ n. n == t.0) (cell_at values.now records.old.lists i) }
-    ensures visits { result + 4 * records_by (λ n. true) records.new.lists ≤ 4 * records_by (λ n. true) records.old.lists }
-    ensures reserved { records.old.reserved ≡ true → records.new.reserved ≡ true }
+pub(crate) fn settle(values: &[i64], records: &mut Records, seats: &Seats, t: Sitter) -> usize
+    requires many { length (lists_in records.old) ≡ length values.now }
+    requires tied { IsTied records.old seats.now }
+    requires sits { HasSeat seats.now t }
+    ensures tied { IsTied records.new seats.now }
+    ensures none { HasNone t.t.0 (lists_in records.new) }
+    ensures few { IsNoMore records.old records.new }
+    ensures lists { length (lists_in records.new) ≡ length (lists_in records.old) }
+    ensures cells { (i : ℕ) → cell_at values.now (lists_in records.new) i ≡ settled (λ n. n == t.t.0) (cell_at values.now (lists_in records.old) i) }
+    ensures visits { result + 4 * records_by (λ n. true) (lists_in records.new) ≤ 4 * records_by (λ n. true) (lists_in records.old) }
+    ensures reserved { has_room records.old ≡ true → has_room records.new ≡ true }
 {
     let mut visits: usize = 0;
-    'newest: while let Some(visited) = records.settle_newest(t) {
+    'newest: while let Some(visited) = records.settle_newest(seats, t) {
         visits = visits.saturating_add(visited);
     }
     visits

@@ -3,12 +3,15 @@
 ghost use Rattle.std.specs.Prelude.{◌≡◌, ℕ, ◌==◌, ◌≤◌, ◌*◌, cond, true, false, length, map, Some};
 ghost use Rattle.std.specs.List.{list_any};
 ghost use Rattle.asset_names.specs.InSet.{in_set};
-ghost use Rattle.asset_records.specs.Listed.{on, is_of, records_by};
+ghost use Rattle.asset_chains.specs.Crossed.{has_room};
+ghost use Rattle.asset_seats.specs.Seated.{HasSeat};
+ghost use Rattle.asset_records.specs.Listed.{lists_in, on, is_of, records_by, IsTied, IsNoMore};
 ghost use Rattle.asset_records.specs.Handed.{renamed};
 ghost use Rattle.asset_objects.specs.Placed.{index_of};
 
-use asset_names::{Ob, ObSet, Txn};
+use asset_names::{Ob, ObSet};
 use asset_records::{Picks, Records};
+use asset_seats::{Seats, Sitter};
 use indexmap::IndexSet;
 
 /// The objects of a set, by their indexes.
@@ -40,18 +43,24 @@ impl<'a> Picks for Among<'a> {
 fn hand_over_one(
     objects: &IndexSet<Ob>,
     records: &mut Records,
-    giver: Txn,
-    taker: Txn,
+    seats: &Seats,
+    giver: Sitter,
+    taker: Sitter,
     x: Ob,
 ) -> usize
-    ensures many { length records.new.lists ≡ length records.old.lists }
-    ensures lists { (y i : ℕ) → index_of objects.now.keys y ≡ Some i → on records.new.lists i ≡ cond (x.0 == y) (map (renamed giver.0 taker.0) (on records.old.lists i)) (on records.old.lists i) }
-    ensures counted { (taker.0 == giver.0) ≡ false → (i : ℕ) → index_of objects.now.keys x.0 ≡ Some i → list_any (is_of giver.0) (on records.old.lists i) ≡ true → 1 ≤ result }
-    ensures visits { result ≤ 4 * records_by (λ n. n == giver.0) records.old.lists }
-    ensures reserved { records.old.reserved ≡ true → records.new.reserved ≡ true }
+    requires tied { IsTied records.old seats.now }
+    requires giver { HasSeat seats.now giver }
+    requires taker { HasSeat seats.now taker }
+    ensures tied { IsTied records.new seats.now }
+    ensures few { IsNoMore records.old records.new }
+    ensures many { length (lists_in records.new) ≡ length (lists_in records.old) }
+    ensures lists { (y i : ℕ) → index_of objects.now.keys y ≡ Some i → on (lists_in records.new) i ≡ cond (x.0 == y) (map (renamed giver.t.0 taker.t.0) (on (lists_in records.old) i)) (on (lists_in records.old) i) }
+    ensures counted { (taker.t.0 == giver.t.0) ≡ false → (i : ℕ) → index_of objects.now.keys x.0 ≡ Some i → list_any (is_of giver.t.0) (on (lists_in records.old) i) ≡ true → 1 ≤ result }
+    ensures visits { result ≤ 4 * records_by (λ n. n == giver.t.0) (lists_in records.old) }
+    ensures reserved { has_room records.old ≡ true → has_room records.new ≡ true }
 {
     match objects.get_index_of(&x) {
-        Some(i) => records.hand_over_on(giver, taker, i),
+        Some(i) => records.hand_over_on(seats, giver, taker, i),
         None => 0,
     }
 }
@@ -60,18 +69,24 @@ fn hand_over_one(
 pub(crate) fn hand_over(
     objects: &IndexSet<Ob>,
     records: &mut Records,
-    giver: Txn,
-    taker: Txn,
+    seats: &Seats,
+    giver: Sitter,
+    taker: Sitter,
     set: &ObSet,
 ) -> usize
-    ensures many { length records.new.lists ≡ length records.old.lists }
-    ensures lists { (y i : ℕ) → index_of objects.now.keys y ≡ Some i → on records.new.lists i ≡ cond (in_set set.now y) (map (renamed giver.0 taker.0) (on records.old.lists i)) (on records.old.lists i) }
-    ensures counted { (taker.0 == giver.0) ≡ false → (y i : ℕ) → index_of objects.now.keys y ≡ Some i → in_set set.now y ≡ true → list_any (is_of giver.0) (on records.old.lists i) ≡ true → 1 ≤ result }
-    ensures visits { result ≤ 4 * records_by (λ n. n == giver.0) records.old.lists }
-    ensures reserved { records.old.reserved ≡ true → records.new.reserved ≡ true }
+    requires tied { IsTied records.old seats.now }
+    requires giver { HasSeat seats.now giver }
+    requires taker { HasSeat seats.now taker }
+    ensures tied { IsTied records.new seats.now }
+    ensures few { IsNoMore records.old records.new }
+    ensures many { length (lists_in records.new) ≡ length (lists_in records.old) }
+    ensures lists { (y i : ℕ) → index_of objects.now.keys y ≡ Some i → on (lists_in records.new) i ≡ cond (in_set set.now y) (map (renamed giver.t.0 taker.t.0) (on (lists_in records.old) i)) (on (lists_in records.old) i) }
+    ensures counted { (taker.t.0 == giver.t.0) ≡ false → (y i : ℕ) → index_of objects.now.keys y ≡ Some i → in_set set.now y ≡ true → list_any (is_of giver.t.0) (on (lists_in records.old) i) ≡ true → 1 ≤ result }
+    ensures visits { result ≤ 4 * records_by (λ n. n == giver.t.0) (lists_in records.old) }
+    ensures reserved { has_room records.old ≡ true → has_room records.new ≡ true }
 {
     match set.only() {
-        Some(x) => hand_over_one(objects, records, giver, taker, x),
-        None => records.hand_over(giver, taker, &Among { objects, set }),
+        Some(x) => hand_over_one(objects, records, seats, giver, taker, x),
+        None => records.hand_over(seats, giver, taker, &Among { objects, set }),
     }
 }

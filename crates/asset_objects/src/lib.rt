@@ -1,12 +1,15 @@
 //! The table of objects: the current values, and the update records by which writes are undone. A table is
 //! opened with the objects that exist. `write` uses room that `reserve_write` reserved before; `undo` and
 //! `settle` do not allocate, and touch only the records that go and those beside them. `hand_over` makes writes
-//! another transaction's, and does not allocate either.
+//! another transaction's, and does not allocate either. `SeatedObjects` is asked by seat, and `Objects` by name.
 #![tactic(auto)]
 
 mod ending;
 mod handing;
+mod objects;
 mod placed;
-mod table;
+mod seated;
+mod seating;
 
-pub use table::{Objects, ObjectsFault};
+pub use objects::Objects;
+pub use seated::{ObjectsFault, SeatedObjects};

@@ -6,12 +6,17 @@ use crate::sitting::sitter;
 use asset_names::{NoMemory, Ob, ObSet, Op, Ops, Txn};
 use asset_permits::SeatedPermits;
 use asset_seats::Seats;
-use asset_test_tools::{END, FIRST, ONE, Side, listed, pair};
+use asset_test_tools::{END, FIRST, ONE, Side, listed, next, pair};
 use std::alloc::Global;
 use std::marker::Model;
 
 /// One of them, in the middle.
 const MIDDLE: u64 = 1_100;
+
+/// How many transactions permit one another something at random, from 0 on, and how many calls are drawn.
+const GIVERS: u64 = 40;
+
+const CALLS: usize = 2_000;
 
 /// Gives a transaction a seat, with room for its permits, if it has none. If memory runs out, nobody sits down.
 fn enter(seats: &mut Seats, permits: &mut SeatedPermits, t: Txn) -> Result<(), NoMemory>
@@ -91,6 +96,14 @@ impl Table {
     fn allows(&mut self, giver: u64, taker: u64, x: u64, op: Op) -> bool {
         match (sitter(&self.seats, giver), sitter(&self.seats, taker)) {
             (Some(from), Some(to)) => self.permits.allows(&self.seats, from, to, Ob(x), op),
+            _ => false,
+        }
+    }
+
+    /// Returns whether two that have seats are allowed something, by the marks on all who allow the taker.
+    fn is_allower(&mut self, giver: u64, taker: u64, x: u64, op: Op) -> bool {
+        match (sitter(&self.seats, giver), sitter(&self.seats, taker)) {
+            (Some(from), Some(to)) => self.permits.is_allower(&self.seats, from, to, Ob(x), op),
             _ => false,
         }
     }
@@ -256,4 +269,56 @@ fn two_hundred_permit_one_taker_by_seat(rt: HostRuntime) {
     let wrong = wrong_ones(&mut table, Side::Taker);
     drop(table);
     assert_eq!(rt; wrong, [None; 4]);
+}
+
+/// Returns whether each of the transactions is an allower of the taker, by marks, exactly if a search says so.
+fn marks_agree(table: &mut Table, taker: u64, x: u64, op: Op) -> bool {
+    let mut marked = [false; GIVERS as usize];
+    for (giver, one) in marked.iter_mut().enumerate() {
+        *one = table.is_allower(giver as u64, taker, x, op);
+    }
+    for (giver, one) in marked.iter().enumerate() {
+        if table.allows(giver as u64, taker, x, op) != *one {
+            return false;
+        }
+    }
+    true
+}
+
+/// Makes the call that a number stands for: a permit comes, a transaction is dropped, or marks are compared with searches.
+/// Returns whether it could be made, and both agree.
+fn call(table: &mut Table, number: u64) -> bool {
+    let giver = (number >> 40) % GIVERS;
+    let taker = (number >> 30) % GIVERS;
+    let x = (number >> 20) % 3;
+    let op = if number % 2 == 0 { Op::Read } else { Op::Write };
+    match (number >> 50) % 8 {
+        0 => {
+            table.drop_all(giver);
+            true
+        }
+        1 | 2 => marks_agree(table, taker, x, op),
+        3 => table.add(giver, taker, x, Ops::only(op)),
+        _ => table.add(giver, taker, x, both()),
+    }
+}
+
+/// Draws calls, and returns the first that goes wrong.
+fn first_wrong_call(table: &mut Table) -> Option<usize> {
+    let mut number = 1;
+    for i in 0..CALLS {
+        number = next(number);
+        if !call(table, number) {
+            return Some(i);
+        }
+    }
+    None
+}
+
+#[test]
+fn marks_agree_with_searches(rt: HostRuntime) {
+    let mut table = Table::new(rt.alloc());
+    let wrong = first_wrong_call(&mut table);
+    drop(table);
+    assert_eq!(rt; wrong, None);
 }

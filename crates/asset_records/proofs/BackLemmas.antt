@@ -1,24 +1,25 @@
 -- The lists of records after one is taken back, or dropped with all before it.
-use Rattle.std.proofs.Common.{◌≡◌, ℕ, ◌+◌, ◌*◌, ◌≤◌, Bool, true, false, cond, eqb, ◌||◌, List, [], ◌∷◌, ◌++◌, map, Option, Some, None, is_some, length, refl, sym, ap, subst, ◌∙◌, arith}
+use Rattle.std.proofs.Common.{◌≡◌, ℕ, ◌+◌, ◌*◌, ◌<◌, ◌≤◌, Bool, true, false, cond, eqb, ◌||◌, List, [], ◌∷◌, ◌++◌, map, Option, Some, None, is_some, length, refl, sym, ap, subst, ◌∙◌, arith}
 use Rattle.std.specs.Prelude.{ℤ, unwrap_or}
 use Rattle.std.specs.Option.{option_map}
-use Rattle.std.specs.List.{IsDistinct}
+use Rattle.std.specs.List.{IsDistinct, list_any}
 use Rattle.std.proofs.lemmas.Bool.{eqb-true, eqb-false, eq-eqb, ne_eqb, true≢false}
 use Rattle.std.proofs.lemmas.List.{length-map}
-use Rattle.slab.specs.Slab.{Slab, get, slab_len}
+use Rattle.slab.specs.Slab.{Slab, get}
 use Rattle.asset_names.specs.declared.names.Txn.{Txn}
-use Rattle.asset_names.proofs.Common.{one_txn}
-use Rattle.asset_chains.specs.Chained.{Chained, chain_of, home_of, first_of, lists, without, ahead, behind, IsSound}
+use Rattle.asset_names.proofs.Common.{one_txn, some_of}
+use Rattle.asset_chains.specs.Chained.{Chained, chain_of, home_of, first_of, last_of, lists, without, ahead, behind, IsSound}
 use Rattle.asset_chains.specs.declared.side.Side.TheVariants.{Row, Column}
 use Rattle.asset_chains.specs.Crossed.{Crossed, IsCrossed}
 use Rattle.asset_chains.proofs.Laws.{chain_at_key, chain_without_key}
 use Rattle.asset_chains.proofs.SoundLemmas.{listed_once}
 use Rattle.asset_chains.proofs.KeyLemmas.{lists-append, distinct_head, distinct_tail, distinct_parts, listed_apart, without_unlisted}
 use Rattle.asset_records.specs.declared.records.Record.{Record}
-use Rattle.asset_seats.specs.Seated.{Seated, seat}
-use Rattle.asset_records.specs.Listed.{Listed, listed_of, on, no_record, record_at, at_keys, is_of, owner_at, total, handed, restored_if_last, IsValid, ChangesOn, TakesBack, Settles, HasNone}
+use Rattle.asset_seats.specs.declared.sitter.Sitter.{Sitter}
+use Rattle.asset_seats.specs.Seated.{Seated, seat, HasSeat}
+use Rattle.asset_records.specs.Listed.{on, no_record, record_at, at_keys, is_of, owner_at, handed, restored_if_last, IsTied, ChangesOn, TakesBack, Settles, HasNone}
 use Rattle.asset_records.specs.Dropped.{handed_at, restored_at}
-use Rattle.asset_records.proofs.ListedLemmas.{lists_are, on_chain, keys_append, keys_length, keys_same, any_key, has_record, home_of_owner}
+use Rattle.asset_records.proofs.ListedLemmas.{on_chain, keys_append, keys_length, keys_same, any_key, none_passes, has_record, has_owned, home_of_owner}
 use Rattle.asset_records.proofs.DropLemmas.{read_some}
 
 -- the record at a key, by what the slab has
@@ -203,43 +204,84 @@ settles_through records fewer table less t k i visited gone sound sound_less hom
     go false e = ap (at_keys records) (others j (ne_eqb j i (λ same. eqb-false i j e (sym same)))) ∙ sym (on_chain records table j)
 
 -- one without a seat, or whose column is empty, has no record
-pub no_record_of : (records : Crossed Record) (owners : Seated) (t : Txn) → IsValid records owners → IsCrossed records → ((c : ℕ) → seat owners c ≡ Some t → chain_of records.columns c ≡ []) → HasNone t.0 (map (at_keys records.items) records.rows.chains)
+pub no_record_of : (records : Crossed Record) (seats : Seated) (t : Txn) → IsTied records seats → IsCrossed records → ((c : ℕ) → seat seats c ≡ Some t → chain_of records.columns c ≡ []) → HasNone t.0 (map (at_keys records.items) records.rows.chains)
 unfolding HasNone is_of
-no_record_of records owners t valid crossed empty j = rw (on_chain records.items records.rows j) (any_key records.items (λ one. eqb one.owner.0 t.0) (chain_of records.rows j) none) where
+no_record_of records seats t tied crossed empty j = rw (on_chain records.items records.rows j) (any_key records.items (λ one. eqb one.owner.0 t.0) (chain_of records.rows j) none) where
   none : (k : ℕ) → lists (chain_of records.rows j) k ≡ true → eqb (record_at records.items k).owner.0 t.0 ≡ false
   none k among =
       let held = has_record records crossed k j ((crossed.sound Row).at_home j k among) in
-      let at = home_of_owner records owners valid k held.0 held.1 in
+      let at = home_of_owner records seats tied k held.0 held.1 in
       ap (λ (one : Record). eqb one.owner.0 t.0) (read_some records.items k held.0 held.1)
       ∙ ne_eqb held.0.owner.0 t.0 (λ same. listed_nowhere k at.0 at.1 (at.2 ∙ ap Some (one_txn held.0.owner t same))) where
-        listed_nowhere : (k c : ℕ) → home_of records.columns k ≡ Some c → seat owners c ≡ Some t → ⊥
+        listed_nowhere : (k c : ℕ) → home_of records.columns k ≡ Some c → seat seats c ≡ Some t → ⊥
         listed_nowhere k c home sat = true≢false (sym ((crossed.sound Column).listed c k home) ∙ ap (λ (keys : List ℕ). lists keys k) (empty c sat))
 
--- ---- what callers see
-pub shown_none : (records : Crossed Record) (owners : Seated) (most : ℕ) (now : Listed) (t : ℕ) → listed_of records owners most ≡ now → HasNone t (map (at_keys records.items) records.rows.chains) → HasNone t now.lists
-shown_none records owners most now t view none = subst (HasNone t) (sym (lists_are records owners most now view)) none
+-- the column of a seat in which no key is last is empty
+pub column_empty : (records : Crossed Record) (seats : Seated) (t : Sitter) → HasSeat seats t → ((u : Txn) (c d : ℕ) → seat seats c ≡ Some u → seat seats d ≡ Some u → d ≡ c) → last_of (chain_of records.columns t.at) ≡ None
+    → (c : ℕ) → seat seats c ≡ Some t.t → chain_of records.columns c ≡ []
+column_empty records seats t sits one none c sat = ap (chain_of records.columns) (one t.t t.at c sits sat) ∙ nothing (chain_of records.columns t.at) none where
+  nothing : (keys : List ℕ) → last_of keys ≡ None → keys ≡ []
+  nothing [] none = refl
+  nothing (k ∷ keys) none = absurd (never k keys none) where
+    never : (k : ℕ) (keys : List ℕ) → last_of (k ∷ keys) ≡ None → ⊥
+    never k [] none = cc none
+    never k (j ∷ keys) none = never j keys none
 
-pub shown_back : (records fewer : Crossed Record) (owners left : Seated) (most : ℕ) (now : Listed) (t i : ℕ) (restored : Option ℤ) → listed_of records owners most ≡ now
-    → TakesBack t i restored (map (at_keys records.items) records.rows.chains) (map (at_keys fewer.items) fewer.rows.chains) → TakesBack t i restored now.lists (listed_of fewer left most).lists
-unfolding listed_of
-shown_back records fewer owners left most now t i restored view back =
-    subst (λ (lists : List (List Record)). TakesBack t i restored lists (map (at_keys fewer.items) fewer.rows.chains)) (ap (λ (l : Listed). l.lists) view) back
+-- a seat that is free and has a column may be given
+pub sits_tied : (records : Crossed Record) (seats given : Seated) (at : ℕ) (t : Txn) → IsTied records seats → IsCrossed records → seat seats at ≡ None → at < length records.columns.chains
+    → ((c : ℕ) → seat given c ≡ cond (eqb c at) (Some t) (seat seats c)) → IsTied records given
+unfolding owner_at
+sits_tied records seats given at t tied crossed free room sits = record {
+  owned = λ k. tied.owned k ∙ stays k (home_of records.columns k) refl;
+  within = λ c sat. within c (eqb c at) refl sat;
+} where
+  within : (c : ℕ) (b : Bool) → eqb c at ≡ b → is_some (seat given c) ≡ true → c < length records.columns.chains
+  within c true e sat = let here : c ≡ at = eqb-true c at e in rw here room
+  within c false e sat = tied.within c (ap is_some (sym (sits c ∙ ap (λ (b : Bool). cond b (Some t) (seat seats c)) e)) ∙ sat)
 
-pub shown_settled : (records fewer : Crossed Record) (owners left : Seated) (most : ℕ) (now : Listed) (t visited : ℕ) → listed_of records owners most ≡ now
-    → Settles t visited (map (at_keys records.items) records.rows.chains) (map (at_keys fewer.items) fewer.rows.chains) → Settles t visited now.lists (listed_of fewer left most).lists
-unfolding listed_of
-shown_settled records fewer owners left most now t visited view went =
-    subst (λ (lists : List (List Record)). Settles t visited lists (map (at_keys fewer.items) fewer.rows.chains)) (ap (λ (l : Listed). l.lists) view) went
+  -- no record is in the column of a seat that is free
+  apart : (k c : ℕ) → home_of records.columns k ≡ Some c → c ≡ at → ⊥
+  apart k c home same =
+      let item = sym (crossed.placed Column k) ∙ ap is_some home in
+      let held = some_of (get records.items k) item in
+      let nobody : Some held.0.owner ≡ None = sym (ap (option_map (λ (one : Record). one.owner)) held.1) ∙ tied.owned k ∙ ap (owner_at seats) home ∙ ap (seat seats) same ∙ free in
+      cc nobody
+
+  stays : (k : ℕ) (o : Option ℕ) → home_of records.columns k ≡ o → owner_at seats o ≡ owner_at given o
+  stays k None home = refl
+  stays k (Some c) home = sym (sits c ∙ ap (λ (b : Bool). cond b (Some t) (seat seats c)) (ne_eqb c at (apart k c home)))
+
+-- one who has no record may leave its seat
+pub leaves_tied : (records : Crossed Record) (seats left : Seated) (t : Sitter) → IsTied records seats → IsCrossed records → HasSeat seats t → HasNone t.t.0 (map (at_keys records.items) records.rows.chains)
+    → ((c : ℕ) → seat left c ≡ cond (eqb c t.at) None (seat seats c)) → IsTied records left
+unfolding owner_at HasNone is_of
+leaves_tied records seats left t tied crossed sits none leaves = record {
+  owned = λ k. tied.owned k ∙ stays k (home_of records.columns k) refl;
+  within = λ c sat. tied.within c (taken c (eqb c t.at) refl sat);
+} where
+  taken : (c : ℕ) (b : Bool) → eqb c t.at ≡ b → is_some (seat left c) ≡ true → is_some (seat seats c) ≡ true
+  taken c true e sat = absurd (true≢false (sym sat ∙ ap is_some (leaves c ∙ ap (λ (b : Bool). cond b None (seat seats c)) e)))
+  taken c false e sat = ap is_some (sym (leaves c ∙ ap (λ (b : Bool). cond b None (seat seats c)) e)) ∙ sat
+
+  -- no record is in the column
+  apart : (k c : ℕ) → home_of records.columns k ≡ Some c → c ≡ t.at → ⊥
+  apart k c home same =
+      let held = has_owned records seats tied k c t.t home (ap (seat seats) same ∙ sits) in
+      let place = some_of (home_of records.rows k) (crossed.placed Row k ∙ ap is_some held.1) in
+      let listed = (crossed.sound Row).listed place.0 k place.1 in
+      let clear = none_passes records.items (λ (one : Record). eqb one.owner.0 t.t.0) (chain_of records.rows place.0) (sym (ap (list_any (λ (one : Record). eqb one.owner.0 t.t.0)) (on_chain records.items records.rows place.0)) ∙ none place.0) k listed in
+      true≢false (sym (eq-eqb held.0.owner.0 t.t.0 (ap (λ (u : Txn). u.0) held.2)) ∙ sym (ap (λ (one : Record). eqb one.owner.0 t.t.0) (read_some records.items k held.0 held.1)) ∙ clear)
+
+  stays : (k : ℕ) (o : Option ℕ) → home_of records.columns k ≡ o → owner_at seats o ≡ owner_at left o
+  stays k None home = refl
+  stays k (Some c) home = sym (leaves c ∙ ap (λ (b : Bool). cond b None (seat seats c)) (ne_eqb c t.at (apart k c home)))
 
 -- a before-image that is handed on moves no record, and changes no owner
-pub handed_valid : (records later : Crossed Record) (owners : Seated) (next : Option ℕ) (key : ℕ) → IsValid records owners → ((k : ℕ) → get later.items k ≡ handed_at records.items next key k) → later.rows ≡ records.rows → later.columns ≡ records.columns
-    → slab_len later.items ≡ slab_len records.items → IsValid later owners
+pub handed_tied : (records later : Crossed Record) (seats : Seated) (next : Option ℕ) (key : ℕ) → IsTied records seats → ((k : ℕ) → get later.items k ≡ handed_at records.items next key k) → later.columns ≡ records.columns → IsTied later seats
 unfolding handed_at
-handed_valid records later owners next key valid hands rows columns len = record {
-  owned = λ k. ap (option_map (λ (one : Record). one.owner)) (hands k) ∙ same_owner next k ∙ valid.owned k ∙ sym (ap (λ (table : Chained). owner_at owners (home_of table k)) columns);
-  seated = λ c. valid.seated c ∙ sym (ap (λ (table : Chained). is_some (first_of (chain_of table c))) columns);
-  chained = omega (arith, valid.chained, ap (λ (table : Chained). length table.chains) columns);
-  counted = ap (λ (table : Chained). total table.chains) rows ∙ valid.counted ∙ sym len;
+handed_tied records later seats next key tied hands columns = record {
+  owned = λ k. ap (option_map (λ (one : Record). one.owner)) (hands k) ∙ same_owner next k ∙ tied.owned k ∙ sym (ap (λ (table : Chained). owner_at seats (home_of table k)) columns);
+  within = λ c sat. omega (arith, tied.within c sat, ap (λ (table : Chained). length table.chains) columns);
 } where
   over : Option Record → Option Record
   over o = option_map (λ (one : Record). record one { before = (record_at records.items key).before }) o

@@ -12,7 +12,7 @@ use Rattle.asset_chains.specs.Crossed.{Crossed, IsCrossed}
 use Rattle.asset_chains.proofs.KeyLemmas.{distinct_head, distinct_tail, listed_apart, lists-append, split_at_key}
 use Rattle.asset_records.specs.declared.records.Record.{Record}
 use Rattle.asset_seats.specs.Seated.{Seated, seat}
-use Rattle.asset_records.specs.Listed.{record_at, at_keys, records_by, IsValid}
+use Rattle.asset_records.specs.Listed.{record_at, at_keys, records_by, IsTied}
 use Rattle.asset_records.proofs.ListedLemmas.{has_owned}
 use Rattle.asset_records.proofs.DropLemmas.{read_some}
 
@@ -89,11 +89,11 @@ owned_in_all records test (keys ∷ rows) =
       passing_append (λ k. test (record_at records k).owner.0) keys (joined rows),
     )
 
-module _ (records : Crossed Record) (owners : Seated) (from : ℕ) (giver : Txn) (valid : IsValid records owners) (crossed : IsCrossed records) (sat : seat owners from ≡ Some giver) where
+module _ (records : Crossed Record) (seats : Seated) (from : ℕ) (giver : Txn) (tied : IsTied records seats) (crossed : IsCrossed records) (sat : seat seats from ≡ Some giver) where
   owned_here : (k : ℕ) → lists (chain_of records.columns from) k ≡ true → (lists (joined records.rows.chains) k ≡ true) × (eqb (record_at records.items k).owner.0 giver.0 ≡ true)
   unfolding chain_of
   owned_here k among =
-      let held = has_owned records owners valid k from giver ((crossed.sound Column).at_home from k among) sat in
+      let held = has_owned records seats tied k from giver ((crossed.sound Column).at_home from k among) sat in
       let place = some_of (home_of records.rows k) (crossed.placed Row k ∙ ap is_some held.1) in (
         listed_joined records.rows.chains place.0 k ((crossed.sound Row).listed place.0 k place.1),
         ap (λ (one : Record). eqb one.owner.0 giver.0) (read_some records.items k held.0 held.1) ∙ eq-eqb held.0.owner.0 giver.0 (ap (λ (t : Txn). t.0) held.2),

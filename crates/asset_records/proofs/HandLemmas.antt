@@ -1,5 +1,5 @@
 -- Records that become another transaction's, as the lists show them.
-use Rattle.std.proofs.Common.{◌≡◌, ℕ, ◌≤◌, ◌&&◌, ◌||◌, Bool, true, false, cond, eqb, List, [], ◌∷◌, map, length, Some, None, refl, sym, ap, ◌∙◌, arith, inl, inr}
+use Rattle.std.proofs.Common.{◌≡◌, ℕ, ◌&&◌, ◌||◌, Bool, true, false, cond, eqb, List, [], ◌∷◌, map, length, Option, Some, None, is_some, refl, sym, ap, ◌∙◌, arith, inl, inr}
 use Rattle.std.specs.Option.{option_map}
 use Rattle.std.specs.List.{list_any}
 use Rattle.std.proofs.lemmas.Bool.{eqb-true, eq-eqb, true≢false, cases_Bool, or_left, or_right}
@@ -13,11 +13,10 @@ use Rattle.asset_chains.specs.Crossed.{Crossed, IsCrossed}
 use Rattle.asset_chains.proofs.Walks.{any_found}
 use Rattle.asset_records.specs.declared.records.Record.{Record}
 use Rattle.asset_seats.specs.Seated.{Seated, seat}
-use Rattle.asset_records.specs.Listed.{Listed, listed_of, on, record_at, at_keys, is_of, stretches, stretches_after, IsValid}
-use Rattle.asset_records.specs.Handed.{renamed, given, is_picked, goes, picked_at, HandsOver}
-use Rattle.asset_records.proofs.ListedLemmas.{on_chain, keys_same, lists_are, has_record, home_of_owner, has_owned}
+use Rattle.asset_records.specs.Listed.{on, record_at, at_keys, is_of, owner_at, IsTied}
+use Rattle.asset_records.specs.Handed.{renamed, given, is_picked, goes, picked_at, IsHanded}
+use Rattle.asset_records.proofs.ListedLemmas.{on_chain, keys_same, has_record, home_of_owner, has_owned}
 use Rattle.asset_records.proofs.DropLemmas.{read_some}
-use Rattle.asset_records.proofs.StretchLemmas.{less_each, less_renamed}
 
 -- ---- names
 -- who is not the giver keeps its records
@@ -66,18 +65,18 @@ keys_mapped f old new [] same = refl
 keys_mapped f old new (k ∷ keys) same = λ i. same k (or_left (eqb k k) (lists keys k) (eq-eqb k k refl)) i ∷ keys_mapped f old new keys (λ l among. same l (or_right (eqb l k) (lists keys l) among)) i
 
 -- the records of the one who has the seat `from` went over
-module _ (records more : Crossed Record) (owners : Seated) (picks : ℕ → Bool) (from : ℕ) (giver taker : Txn) (valid : IsValid records owners) (crossed : IsCrossed records)
-    (sat : seat owners from ≡ Some giver) (alone : (d : ℕ) → seat owners d ≡ Some giver → d ≡ from) (hands : HandsOver picks from taker records more) where
+module _ (records more : Crossed Record) (seats : Seated) (picks : ℕ → Bool) (from : ℕ) (giver taker : Txn) (tied : IsTied records seats) (crossed : IsCrossed records)
+    (sat : seat seats from ≡ Some giver) (alone : (d : ℕ) → seat seats d ≡ Some giver → d ≡ from) (to : ℕ) (hands : IsHanded (chain_of records.columns from) (picked_at picks records) from to taker records more) where
   -- a record is in this column exactly if it is the giver's
   in_column : (k : ℕ) (one : Record) → get records.items k ≡ Some one → lists (chain_of records.columns from) k ≡ eqb one.owner.0 giver.0
   in_column k one there = elim (cases_Bool (eqb one.owner.0 giver.0)) [
     | inl is ↦
-        let at = home_of_owner records owners valid k one there in
+        let at = home_of_owner records seats tied k one there in
         let here = alone at.0 (at.2 ∙ ap Some (one_txn one.owner giver (eqb-true one.owner.0 giver.0 is))) in
         (crossed.sound Column).listed from k (at.1 ∙ ap Some here) ∙ sym is
     | inr other ↦ elim (cases_Bool (lists (chain_of records.columns from) k)) [
       | inl among ↦
-          let held = has_owned records owners valid k from giver ((crossed.sound Column).at_home from k among) sat in
+          let held = has_owned records seats tied k from giver ((crossed.sound Column).at_home from k among) sat in
           let same : Some one ≡ Some held.0 = sym there ∙ held.1 in
           let is : one ≡ held.0 = cc same in
           absurd (true≢false (sym (eq-eqb one.owner.0 giver.0 (ap (λ (r : Record). r.owner.0) is ∙ ap (λ (t : Txn). t.0) held.2)) ∙ other))
@@ -147,28 +146,29 @@ module _ (records more : Crossed Record) (owners : Seated) (picks : ℕ → Bool
   pub same_many : length (map (at_keys more.items) more.rows.chains) ≡ length (map (at_keys records.items) records.rows.chains)
   same_many = length-map more.rows.chains (at_keys more.items) ∙ ap (λ (table : Chained). length table.chains) hands.rows ∙ sym (length-map records.rows.chains (at_keys records.items))
 
-  -- no stretch is more
-  pub less_handed : stretches (map (at_keys more.items) more.rows.chains) ≤ stretches (map (at_keys records.items) records.rows.chains)
-  less_handed = less_each (map (at_keys records.items) records.rows.chains) (map (at_keys more.items) more.rows.chains) same_many (λ j. each j (picks j) refl) where
-    each : (j : ℕ) (p : Bool) → picks j ≡ p → stretches_after None (on (map (at_keys more.items) more.rows.chains) j) ≤ stretches_after None (on (map (at_keys records.items) records.rows.chains) j)
-    each j true picked =
-        omega (
-          arith,
-          ap (stretches_after None) (on_each j ∙ ap (λ (b : Bool). cond b (map (renamed giver.0 taker.0) (on (map (at_keys records.items) records.rows.chains) j)) (on (map (at_keys records.items) records.rows.chains) j)) picked),
-          less_renamed giver.0 taker.0 (on (map (at_keys records.items) records.rows.chains) j),
-        )
-    each j false left =
-        omega (
-          arith,
-          ap (stretches_after None) (on_each j ∙ ap (λ (b : Bool). cond b (map (renamed giver.0 taker.0) (on (map (at_keys records.items) records.rows.chains) j)) (on (map (at_keys records.items) records.rows.chains) j)) left),
-        )
+  -- each record that went is in the column of the taker's seat
+  pub handed_tied : seat seats to ≡ Some taker → IsTied more seats
+  unfolding owner_at given goes
+  handed_tied sits = record {
+    owned = owned;
+    within = λ c taken. omega (arith, tied.within c taken, hands.many);
+  } where
+    whose : (o : Option Record) → is_some o ≡ true → option_map (λ (one : Record). one.owner) (option_map (given taker) o) ≡ Some taker
+    whose None some = absurd (true≢false (sym some))
+    whose (Some one) some = refl
 
-  -- ---- what callers see
-  module _ (left : Seated) (most : ℕ) (now : Listed) (view : listed_of records owners most ≡ now) where
-    pub shown_handed : (j : ℕ) → on (listed_of more left most).lists j ≡ cond (picks j) (map (renamed giver.0 taker.0) (on now.lists j)) (on now.lists j)
-    unfolding listed_of
-    shown_handed j = on_each j ∙ ap (λ (l : List (List Record)). cond (picks j) (map (renamed giver.0 taker.0) (on l j)) (on l j)) (sym (lists_are records owners most now view))
+    first_of_both : (a b : Bool) → (a && b) ≡ true → a ≡ true
+    first_of_both true b h = refl
+    first_of_both false b h = h
 
-    pub shown_many : length (listed_of more left most).lists ≡ length now.lists
-    unfolding listed_of
-    shown_many = same_many ∙ ap length (sym (lists_are records owners most now view))
+    here : (k : ℕ) → goes (chain_of records.columns from) (picked_at picks records) k ≡ true → is_some (get records.items k) ≡ true
+    here k e =
+        let among = first_of_both (lists (chain_of records.columns from) k) (picked_at picks records k) e in
+        sym (crossed.placed Column k) ∙ ap is_some ((crossed.sound Column).at_home from k among)
+
+    owned : (k : ℕ) → option_map (λ (one : Record). one.owner) (get more.items k) ≡ owner_at seats (home_of more.columns k)
+    owned k = ap (option_map (λ (one : Record). one.owner)) (hands.items k) ∙ go (goes (chain_of records.columns from) (picked_at picks records) k) refl ∙ sym (ap (owner_at seats) (hands.homes k)) where
+      go : (b : Bool) → goes (chain_of records.columns from) (picked_at picks records) k ≡ b
+          → option_map (λ (one : Record). one.owner) (cond b (option_map (given taker) (get records.items k)) (get records.items k)) ≡ owner_at seats (cond b (Some to) (home_of records.columns k))
+      go true e = whose (get records.items k) (here k e) ∙ sym sits
+      go false e = tied.owned k

@@ -1,12 +1,10 @@
-pub mod TotalLemmas
 pub mod ListedLemmas
 pub mod DropLemmas
 pub mod PushLemmas
 pub mod BackLemmas
 pub mod ThroughLemmas
-pub mod StretchLemmas
 pub mod HandLemmas
 pub mod WalkLemmas
 pub mod PassLemmas
-pub mod SeatLemmas
 pub mod CountLemmas
+pub mod ColumnLemmas

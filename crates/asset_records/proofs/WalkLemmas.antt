@@ -16,7 +16,7 @@ use Rattle.asset_chains.proofs.SoundLemmas.{listed_once}
 use Rattle.asset_chains.proofs.Walks.{from_key, chains_without}
 use Rattle.asset_records.specs.declared.records.Record.{Record}
 use Rattle.asset_records.specs.Handed.{given, goes, HandedOne, IsHanded}
-use Rattle.asset_records.proofs.TotalLemmas.{count_kept}
+use Rattle.asset_records.proofs.DropLemmas.{count_kept}
 use Rattle.asset_records.proofs.DropLemmas.{written_over, room_over}
 
 -- ---- lists of keys

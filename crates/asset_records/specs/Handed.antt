@@ -56,8 +56,3 @@ pub record IsHanded (keys : List ℕ) (test : ℕ → Bool) (from to : ℕ) (tak
   pub many : length new.columns.chains ≡ length old.columns.chains
   pub len : slab_len new.items ≡ slab_len old.items
   pub room : has_slot new ≡ has_slot old
-
--- the records in this column whose objects are picked are the taker's, and no record is on another object
-pub record HandsOver (picks : ℕ → Bool) (from : ℕ) (taker : Txn) (old new : Crossed Record) : Type 0 where
-  pub rows : new.rows ≡ old.rows
-  pub items : (k : ℕ) → get new.items k ≡ cond (goes (chain_of old.columns from) (picked_at picks old) k) (option_map (given taker) (get old.items k)) (get old.items k)

@@ -1,21 +1,14 @@
-//! Records that become another transaction's. This takes no memory, because there is a seat for each stretch of
-//! one owner's records on an object, and one more: these stretches go over whole.
+//! Records that become another transaction's. This takes no memory.
 
-ghost use Rattle.std.specs.Prelude.{◌≡◌, ◌≢◌, ℕ, ◌==◌, ◌≤◌, ◌*◌, ◌<◌, true, false, length, is_some, Some, IfSome};
+ghost use Rattle.std.specs.Prelude.{◌≡◌, ℕ, ◌==◌, ◌≤◌, ◌*◌, ◌<◌, true, false, length, is_some, IfSome};
 ghost use Rattle.slab.specs.Slab.{get};
-ghost use Rattle.asset_names.specs.declared.names.Txn.{Txn};
 ghost use Rattle.asset_chains.specs.Chained.{chain_of, home_of};
-ghost use Rattle.asset_seats.specs.Seated.{seat};
-ghost use Rattle.asset_records.specs.Listed.{IsValid, has_room};
-ghost use Rattle.asset_records.specs.Dropped.{IsReadyFor};
-ghost use Rattle.asset_records.specs.Handed.{is_picked, is_at, goes, picked_at, stands_in, HandedOne, IsHanded, HandsOver};
+ghost use Rattle.asset_records.specs.Handed.{is_picked, is_at, goes, picked_at, stands_in, HandedOne, IsHanded};
 
-use crate::dropping::{counted, leave_if_empty};
-use crate::owning::seat_for;
+use crate::dropping::counted;
 use crate::records::Record;
 use asset_chains::{Crossed, Side};
-use asset_names::Txn;
-use asset_seats::Seats;
+use asset_seats::Sitter;
 
 /// The objects whose records a hand-over takes, by their indexes.
 pub trait Picks {
@@ -52,30 +45,23 @@ impl Picks for One {
     }
 }
 
-/// Where records go: the taker, and its seat.
-#[derive(Clone, Copy)]
-pub(crate) struct Destination {
-    pub taker: Txn,
-    pub seat: usize,
-}
-
 /// Moves the record at the key to the column of the taker, whose it is then. Returns how many records were visited beside
 /// it: its neighbours, and the one that was the taker's last.
-fn move_at(records: &mut Crossed<Record>, key: usize, to: Destination) -> usize
+fn move_at(records: &mut Crossed<Record>, key: usize, to: Sitter) -> usize
     requires there { is_some (get records.old.items key) ≡ true }
-    requires seat { to.seat < length records.old.columns.chains }
-    ensures one { HandedOne key to.taker to.seat records.old records.new }
+    requires seat { to.at < length records.old.columns.chains }
+    ensures one { HandedOne key to.t to.at records.old records.new }
     ensures few { result ≤ 3 }
 {
     records.laws();
     let beside = counted(records.previous(Side::Column, key));
     let after = counted(records.next(Side::Column, key));
-    let last = counted(records.last(Side::Column, to.seat));
-    records.move_to(Side::Column, key, to.seat);
+    let last = counted(records.last(Side::Column, to.at));
+    records.move_to(Side::Column, key, to.at);
     let Some(record) = records.get(key).copied() else {
         unreachable!();
     };
-    let owner = to.taker;
+    let owner = to.t;
     records.replace(key, Record { owner, ..record });
     beside + after + last
 }
@@ -91,10 +77,10 @@ fn is_picked<P: Picks>(records: &Crossed<Record>, picks: &P, key: usize) -> bool
 }
 
 /// Moves the record at the key to the taker if its object is picked. Returns how many records were visited.
-fn pass_on<P: Picks>(records: &mut Crossed<Record>, key: usize, to: Destination, picks: &P) -> usize
+fn pass_on<P: Picks>(records: &mut Crossed<Record>, key: usize, to: Sitter, picks: &P) -> usize
     requires there { is_some (get records.old.items key) ≡ true }
-    requires seat { to.seat < length records.old.columns.chains }
-    ensures picked { is_picked (P.picks picks.now) (home_of records.old.rows key) ≡ true → HandedOne key to.taker to.seat records.old records.new }
+    requires seat { to.at < length records.old.columns.chains }
+    ensures picked { is_picked (P.picks picks.now) (home_of records.old.rows key) ≡ true → HandedOne key to.t to.at records.old records.new }
     ensures other { is_picked (P.picks picks.now) (home_of records.old.rows key) ≡ false → records.new ≡ records.old }
     ensures counted { 1 ≤ result }
     ensures few { result ≤ 4 }
@@ -111,12 +97,12 @@ fn pass_on<P: Picks>(records: &mut Crossed<Record>, key: usize, to: Destination,
 fn hand_over_along<P: Picks>(
     records: &mut Crossed<Record>,
     from: usize,
-    to: Destination,
+    to: Sitter,
     picks: &P,
 ) -> usize
-    requires another { (from == to.seat) ≡ false }
-    requires seat { to.seat < length records.old.columns.chains }
-    ensures handed { IsHanded (chain_of records.old.columns from) (picked_at (P.picks picks.now) records.old) from to.seat to.taker records.old records.new }
+    requires another { (from == to.at) ≡ false }
+    requires seat { to.at < length records.old.columns.chains }
+    ensures handed { IsHanded (chain_of records.old.columns from) (picked_at (P.picks picks.now) records.old) from to.at to.t records.old records.new }
     ensures counted { length (chain_of records.old.columns from) ≤ result }
     ensures visits { result ≤ 4 * length (chain_of records.old.columns from) }
 {
@@ -132,10 +118,10 @@ fn hand_over_along<P: Picks>(
 }
 
 /// Moves the record at the key to the taker if it is in the column. Returns how many records were visited.
-fn pass_from(records: &mut Crossed<Record>, key: usize, from: usize, to: Destination) -> usize
+fn pass_from(records: &mut Crossed<Record>, key: usize, from: usize, to: Sitter) -> usize
     requires there { is_some (get records.old.items key) ≡ true }
-    requires seat { to.seat < length records.old.columns.chains }
-    ensures picked { is_at from (home_of records.old.columns key) ≡ true → HandedOne key to.taker to.seat records.old records.new }
+    requires seat { to.at < length records.old.columns.chains }
+    ensures picked { is_at from (home_of records.old.columns key) ≡ true → HandedOne key to.t to.at records.old records.new }
     ensures other { is_at from (home_of records.old.columns key) ≡ false → records.new ≡ records.old }
     ensures counted { 1 ≤ result }
     ensures few { result ≤ 4 }
@@ -148,15 +134,10 @@ fn pass_from(records: &mut Crossed<Record>, key: usize, from: usize, to: Destina
 
 /// Moves the records on the object that are in the column to the taker, oldest first. Returns how many records were
 /// visited.
-fn hand_over_row(
-    records: &mut Crossed<Record>,
-    object: usize,
-    from: usize,
-    to: Destination,
-) -> usize
-    requires another { (from == to.seat) ≡ false }
-    requires seat { to.seat < length records.old.columns.chains }
-    ensures handed { IsHanded (chain_of records.old.rows object) (stands_in from records.old) from to.seat to.taker records.old records.new }
+fn hand_over_row(records: &mut Crossed<Record>, object: usize, from: usize, to: Sitter) -> usize
+    requires another { (from == to.at) ≡ false }
+    requires seat { to.at < length records.old.columns.chains }
+    ensures handed { IsHanded (chain_of records.old.rows object) (stands_in from records.old) from to.at to.t records.old records.new }
     ensures counted { length (chain_of records.old.rows object) ≤ result }
     ensures visits { result ≤ 4 * length (chain_of records.old.rows object) }
 {
@@ -187,15 +168,15 @@ fn row_to_walk<P: Picks>(records: &Crossed<Record>, from: usize, picks: &P) -> O
 
 /// Moves the records in the column whose objects are picked to the taker. It looks at the records in the column, or at
 /// those on the one object that is picked if they are no more. Returns how many records were visited.
-fn hand_over_picked<P: Picks>(
+pub(crate) fn hand_over_picked<P: Picks>(
     records: &mut Crossed<Record>,
     from: usize,
-    to: Destination,
+    to: Sitter,
     picks: &P,
 ) -> usize
-    requires another { (from == to.seat) ≡ false }
-    requires seat { to.seat < length records.old.columns.chains }
-    ensures handed { IsHanded (chain_of records.old.columns from) (picked_at (P.picks picks.now) records.old) from to.seat to.taker records.old records.new }
+    requires another { (from == to.at) ≡ false }
+    requires seat { to.at < length records.old.columns.chains }
+    ensures handed { IsHanded (chain_of records.old.columns from) (picked_at (P.picks picks.now) records.old) from to.at to.t records.old records.new }
     ensures counted { (k : ℕ) → goes (chain_of records.old.columns from) (picked_at (P.picks picks.now) records.old) k ≡ true → 1 ≤ result }
     ensures visits { result ≤ 4 * length (chain_of records.old.columns from) }
 {
@@ -204,33 +185,4 @@ fn hand_over_picked<P: Picks>(
         Some(object) => hand_over_row(records, object, from, to),
         None => hand_over_along(records, from, to, picks),
     }
-}
-
-/// Makes the records of the one who has the seat `from` the taker's if their objects are picked. Who has no record then
-/// leaves its seat. Returns how many records were visited.
-pub(crate) fn hand_over_from<P: Picks>(
-    records: &mut Crossed<Record>,
-    owners: &mut Seats,
-    from: usize,
-    taker: Txn,
-    picks: &P,
-) -> usize
-    requires valid { IsValid records.old owners.old }
-    requires giver { is_some (seat owners.old from) ≡ true }
-    requires another { seat owners.old from ≢ Some taker }
-    requires ready { IsReadyFor taker owners.old }
-    ensures valid { IsValid records.new owners.new }
-    ensures handed { HandsOver (P.picks picks.now) from taker records.old records.new }
-    ensures counted { (k : ℕ) → goes (chain_of records.old.columns from) (picked_at (P.picks picks.now) records.old) k ≡ true → 1 ≤ result }
-    ensures visits { result ≤ 4 * length (chain_of records.old.columns from) }
-    ensures slots { length owners.new.slots ≡ length owners.old.slots }
-    ensures room { (most : ℕ) → has_room records.new owners.new most ≡ has_room records.old owners.old most }
-{
-    records.laws();
-    let seat = seat_for(owners, taker);
-    let visits = hand_over_picked(records, from, Destination { taker, seat }, picks);
-    records.laws();
-    leave_if_empty(records, owners, from);
-    leave_if_empty(records, owners, seat);
-    visits
 }

@@ -1,11 +1,10 @@
 //! The update records of the writes that stand, each in the row of its object and in the column of its owner.
 
 use crate::dropping::{counted, drop_at, drop_through, hand_on};
-use crate::handing::{One, Picks, hand_over_from};
-use crate::owning::{add_owners, seat_for, with_record};
+use crate::handing::{One, Picks, hand_over_picked};
 use asset_chains::{Crossed, Side};
 use asset_names::{NoMemory, Txn};
-use asset_seats::{Seats, reserve_item};
+use asset_seats::{Seats, Sitter, add_lines, reserve_item};
 use std::alloc::Global;
 use std::marker::Model;
 
@@ -26,49 +25,53 @@ pub struct Undone {
     pub visited: usize,
 }
 
-/// The records of each object, objects being numbers from 0 on. Contracts see the records of each object, oldest
-/// first, and whether there is room for one more.
-///
-/// There are at most `most` stretches of one owner's records, and a seat for each, so that owners can change.
+/// The records of each object, objects being numbers from 0 on, asked by seat. Each record is in the row of its object and
+/// in the column of its owner's seat, and the seats are kept elsewhere: each call takes them, and requires that the records
+/// are tied to them. Contracts see the rows and columns; `lists_in` says which records each object has, oldest first.
 #[derive(Drop)]
 pub struct Records {
     records: Crossed<Record>,
-    owners: Seats,
-    most: usize,
 }
 
 impl Model for Records {
-    ghost use Rattle.asset_records.specs.Listed.{Listed, listed_of, IsWhole};
+    ghost use Rattle.asset_chains.specs.Crossed.{Crossed as RowsAndColumns};
+    ghost use Rattle.asset_records.specs.declared.records.Record.{Record as Update};
 
-    ghost Value = { Listed };
+    ghost Value = { RowsAndColumns Update };
 
-    ghost view = { λ r. listed_of r.records r.owners r.most };
-
-    ghost invariant = { λ r. IsWhole r.records r.owners r.most };
+    ghost view = { λ r. r.records };
 }
 
 impl Records {
-    ghost use Rattle.std.specs.Prelude.{◌≡◌, ℕ, ◌<◌, ◌≤◌, ◌*◌, ◌==◌, cond, true, false, [], ◌∷◌, ◌++◌, length, map, IfSome, IfNone, OnOk, OnErr, IsOk};
-    ghost use Rattle.asset_records.specs.Listed.{on, is_of, records_by, ChangesOn, TakesBack, Settles, HasNone};
+    ghost use Rattle.std.specs.Prelude.{◌≡◌, ℕ, ◌<◌, ◌≤◌, ◌+◌, ◌*◌, ◌==◌, cond, true, false, [], ◌∷◌, ◌++◌, None, Some, is_none, length, map, IfSome, IfNone, OnOk, OnErr, IsOk};
     ghost use Rattle.std.specs.List.{list_any};
+    ghost use Rattle.slab.specs.Slab.{slab_len};
+    ghost use Rattle.asset_chains.specs.Chained.{chain_of, first_of};
+    ghost use Rattle.asset_chains.specs.Crossed.{has_room};
+    ghost use Rattle.asset_seats.specs.Seated.{Seated, seat, HasSeat};
+    ghost use Rattle.asset_names.specs.declared.names.Txn.{Txn as Name};
+    ghost use Rattle.asset_records.specs.declared.records.Record.{Record as Update};
+    ghost use Rattle.asset_records.specs.Listed.{lists_in, on, is_of, records_by, ChangesOn, TakesBack, Settles, HasNone, IsTied, IsNoMore};
     ghost use Rattle.asset_records.specs.Handed.{renamed};
 
     /// Returns no objects and no records. It does not allocate.
     pub fn new(alloc: Global) -> Records
-        ensures { result.lists ≡ [] }
+        ensures lists { lists_in result ≡ [] }
+        ensures len { slab_len result.items ≡ 0 }
+        ensures tied { (seats : Seated) → ((c : ℕ) → seat seats c ≡ None) → IsTied result seats }
     {
         Records {
             records: Crossed::new(alloc),
-            owners: Seats::new(alloc),
-            most: 0,
         }
     }
 
     /// Adds an object, which has no record. Its index is how many objects there were. If memory runs out, nothing
     /// changes.
     pub fn add_object(&mut self) -> Result<(), NoMemory>
-        ensures added { OnOk result (self.new.lists ≡ self.old.lists ++ [] ∷ []) }
+        ensures added { OnOk result (lists_in self.new ≡ lists_in self.old ++ [] ∷ []) }
         ensures unchanged { OnErr result (self.new ≡ self.old) }
+        ensures few { IsNoMore self.old self.new }
+        ensures tied { (seats : Seated) → IsTied self.old seats → IsTied self.new seats }
     {
         match self.records.add(Side::Row) {
             Ok(()) => Ok(()),
@@ -76,53 +79,75 @@ impl Records {
         }
     }
 
+    /// Adds columns until the seat has one. If memory runs out, some may have been added, and no record has changed.
+    pub fn make_room(&mut self, c: usize) -> Result<(), NoMemory>
+        ensures room { OnOk result (c < length self.new.columns.chains) }
+        ensures lists { lists_in self.new ≡ lists_in self.old }
+        ensures reserved { has_room self.new ≡ has_room self.old }
+        ensures few { IsNoMore self.old self.new }
+        ensures tied { (seats : Seated) → IsTied self.old seats → IsTied self.new seats }
+    {
+        add_lines(&mut self.records, Side::Column, c)
+    }
+
     /// Returns how many objects there are.
     pub fn objects(&self) -> usize
-        ensures { result ≡ length self.now.lists }
+        ensures { result ≡ length (lists_in self.now) }
     {
         self.records.count(Side::Row)
     }
 
     /// Reserves the memory for one more record, which stands until that record. If memory runs out, no record changes.
     pub fn reserve(&mut self) -> Result<(), NoMemory>
-        ensures reserved { OnOk result (self.new.reserved ≡ true) }
-        ensures standing { self.old.reserved ≡ true → IsOk result }
-        ensures lists { self.new.lists ≡ self.old.lists }
+        ensures reserved { OnOk result (has_room self.new ≡ true) }
+        ensures standing { has_room self.old ≡ true → IsOk result }
+        ensures lists { lists_in self.new ≡ lists_in self.old }
+        ensures few { IsNoMore self.old self.new }
+        ensures tied { (seats : Seated) → IsTied self.old seats → IsTied self.new seats }
     {
-        reserve_item(&mut self.records)?;
-        self.most = lesser(self.most, self.records.items());
-        add_owners(&mut self.records, &mut self.owners, self.most)
+        reserve_item(&mut self.records)
     }
 
-    /// Appends a record to those of its object. It uses the memory that `reserve` reserved.
-    pub fn push(&mut self, object: usize, update: Record)
-        requires object { object < length self.old.lists }
-        requires reserved { self.old.reserved ≡ true }
-        ensures { ChangesOn object (on self.old.lists object ++ update ∷ []) self.old.lists self.new.lists }
+    /// Appends a record of the owner to those of the object. It uses the memory that `reserve` reserved.
+    pub fn push(&mut self, seats: &Seats, owner: Sitter, object: usize, before: i64)
+        requires tied { IsTied self.old seats.now }
+        requires sits { HasSeat seats.now owner }
+        requires object { object < length (lists_in self.old) }
+        requires reserved { has_room self.old ≡ true }
+        ensures len { slab_len self.new.items ≡ slab_len self.old.items + 1 }
+        ensures columns { length self.new.columns.chains ≡ length self.old.columns.chains }
+        ensures tied { IsTied self.new seats.now }
+        ensures pushed { ChangesOn object (on (lists_in self.old) object ++ record { owner = owner.t; before = before } ∷ []) (lists_in self.old) (lists_in self.new) }
     {
+        let _ = seats;
         self.records.laws();
-        self.owners.laws();
-        self.most = with_record(&self.records, object, update, self.most);
-        let seat = seat_for(&mut self.owners, update.owner);
-        self.records.insert(object, seat, update);
+        let update = Record {
+            owner: owner.t,
+            before,
+        };
+        self.records.insert(object, owner.at, update);
     }
 
     /// Takes back the newest record of the transaction, and returns what is left to do; `None` if it has none. That it is
     /// the newest is tested; the contract holds for any of its records.
-    pub fn take_back(&mut self, t: Txn) -> Option<Undone>
-        ensures taken { IfSome result (λ undone. TakesBack t.0 undone.object undone.restored self.old.lists self.new.lists × (1 ≤ undone.visited) × (undone.visited ≤ 4)) }
-        ensures none { IfNone result (HasNone t.0 self.old.lists × (self.new ≡ self.old)) }
-        ensures reserved { self.old.reserved ≡ true → self.new.reserved ≡ true }
+    pub fn take_back(&mut self, seats: &Seats, t: Sitter) -> Option<Undone>
+        requires tied { IsTied self.old seats.now }
+        requires sits { HasSeat seats.now t }
+        ensures few { IsNoMore self.old self.new }
+        ensures tied { IsTied self.new seats.now }
+        ensures taken { IfSome result (λ undone. TakesBack t.t.0 undone.object undone.restored (lists_in self.old) (lists_in self.new) × (1 ≤ undone.visited) × (undone.visited ≤ 4)) }
+        ensures none { IfNone result (HasNone t.t.0 (lists_in self.old) × (self.new ≡ self.old)) }
+        ensures reserved { has_room self.old ≡ true → has_room self.new ≡ true }
     {
+        seats.laws();
         self.records.laws();
-        let seat = self.owners.seat_of(t)?;
-        let key = self.records.last(Side::Column, seat)?;
+        let key = self.records.last(Side::Column, t.at)?;
         let object = self.records.home(Side::Row, key)?;
         let next = self.records.next(Side::Row, key);
         let beside = counted(self.records.previous(Side::Row, key)) + counted(next);
         let visited = 1 + beside + counted(self.records.previous(Side::Column, key));
         let restored = hand_on(&mut self.records, next, key);
-        drop_at(&mut self.records, &mut self.owners, key);
+        drop_at(&mut self.records, key);
         Some(Undone {
             object,
             restored,
@@ -132,16 +157,20 @@ impl Records {
 
     /// Drops the newest record of the transaction with all before it on its object, and returns how many records were
     /// visited; `None` if it has none. That it is the newest is tested; the contract holds for any of its records.
-    pub fn settle_newest(&mut self, t: Txn) -> Option<usize>
-        ensures settled { IfSome result (λ visited. Settles t.0 visited self.old.lists self.new.lists) }
-        ensures none { IfNone result (HasNone t.0 self.old.lists × (self.new ≡ self.old)) }
-        ensures reserved { self.old.reserved ≡ true → self.new.reserved ≡ true }
+    pub fn settle_newest(&mut self, seats: &Seats, t: Sitter) -> Option<usize>
+        requires tied { IsTied self.old seats.now }
+        requires sits { HasSeat seats.now t }
+        ensures few { IsNoMore self.old self.new }
+        ensures tied { IsTied self.new seats.now }
+        ensures settled { IfSome result (λ visited. Settles t.t.0 visited (lists_in self.old) (lists_in self.new)) }
+        ensures none { IfNone result (HasNone t.t.0 (lists_in self.old) × (self.new ≡ self.old)) }
+        ensures reserved { has_room self.old ≡ true → has_room self.new ≡ true }
     {
+        seats.laws();
         self.records.laws();
-        let seat = self.owners.seat_of(t)?;
-        let newest = self.records.last(Side::Column, seat)?;
+        let newest = self.records.last(Side::Column, t.at)?;
         let object = self.records.home(Side::Row, newest)?;
-        let visited = drop_through(&mut self.records, &mut self.owners, object, newest);
+        let visited = drop_through(&mut self.records, object, newest);
         self.records.laws();
         Some(visited)
     }
@@ -152,42 +181,114 @@ impl Records {
     ///
     /// It takes no memory. It looks at the giver's records; if one object alone is picked, at those or at the records on
     /// the object, whichever are fewer.
-    pub fn hand_over<P: Picks>(&mut self, giver: Txn, taker: Txn, picks: &P) -> usize
-        ensures many { length self.new.lists ≡ length self.old.lists }
-        ensures lists { (j : ℕ) → on self.new.lists j ≡ cond (P.picks picks.now j) (map (renamed giver.0 taker.0) (on self.old.lists j)) (on self.old.lists j) }
-        ensures counted { (taker.0 == giver.0) ≡ false → (j : ℕ) → P.picks picks.now j ≡ true → list_any (is_of giver.0) (on self.old.lists j) ≡ true → 1 ≤ result }
-        ensures visits { result ≤ 4 * records_by (λ n. n == giver.0) self.old.lists }
-        ensures reserved { self.old.reserved ≡ true → self.new.reserved ≡ true }
+    pub fn hand_over<P: Picks>(
+        &mut self,
+        seats: &Seats,
+        giver: Sitter,
+        taker: Sitter,
+        picks: &P,
+    ) -> usize
+        requires tied { IsTied self.old seats.now }
+        requires giver { HasSeat seats.now giver }
+        requires taker { HasSeat seats.now taker }
+        ensures few { IsNoMore self.old self.new }
+        ensures tied { IsTied self.new seats.now }
+        ensures many { length (lists_in self.new) ≡ length (lists_in self.old) }
+        ensures lists { (j : ℕ) → on (lists_in self.new) j ≡ cond (P.picks picks.now j) (map (renamed giver.t.0 taker.t.0) (on (lists_in self.old) j)) (on (lists_in self.old) j) }
+        ensures counted { (taker.t.0 == giver.t.0) ≡ false → (j : ℕ) → P.picks picks.now j ≡ true → list_any (is_of giver.t.0) (on (lists_in self.old) j) ≡ true → 1 ≤ result }
+        ensures visits { result ≤ 4 * records_by (λ n. n == giver.t.0) (lists_in self.old) }
+        ensures reserved { has_room self.old ≡ true → has_room self.new ≡ true }
     {
-        if taker.0 == giver.0 {
+        seats.laws();
+        self.records.laws();
+        if taker.t.0 == giver.t.0 {
             return 0;
         }
+        let visits = hand_over_picked(&mut self.records, giver.at, taker, picks);
         self.records.laws();
-        self.owners.laws();
-        let Some(from) = self.owners.seat_of(giver) else {
-            return 0;
-        };
-        hand_over_from(&mut self.records, &mut self.owners, from, taker, picks)
+        visits
     }
 
     /// Makes the giver's records on the object the taker's, as `hand_over` does. An index past the last object has no
     /// records.
-    pub fn hand_over_on(&mut self, giver: Txn, taker: Txn, object: usize) -> usize
-        ensures many { length self.new.lists ≡ length self.old.lists }
-        ensures lists { (j : ℕ) → on self.new.lists j ≡ cond (j == object) (map (renamed giver.0 taker.0) (on self.old.lists j)) (on self.old.lists j) }
-        ensures counted { (taker.0 == giver.0) ≡ false → list_any (is_of giver.0) (on self.old.lists object) ≡ true → 1 ≤ result }
-        ensures visits { result ≤ 4 * records_by (λ n. n == giver.0) self.old.lists }
-        ensures reserved { self.old.reserved ≡ true → self.new.reserved ≡ true }
+    pub fn hand_over_on(
+        &mut self,
+        seats: &Seats,
+        giver: Sitter,
+        taker: Sitter,
+        object: usize,
+    ) -> usize
+        requires tied { IsTied self.old seats.now }
+        requires giver { HasSeat seats.now giver }
+        requires taker { HasSeat seats.now taker }
+        ensures few { IsNoMore self.old self.new }
+        ensures tied { IsTied self.new seats.now }
+        ensures many { length (lists_in self.new) ≡ length (lists_in self.old) }
+        ensures lists { (j : ℕ) → on (lists_in self.new) j ≡ cond (j == object) (map (renamed giver.t.0 taker.t.0) (on (lists_in self.old) j)) (on (lists_in self.old) j) }
+        ensures counted { (taker.t.0 == giver.t.0) ≡ false → list_any (is_of giver.t.0) (on (lists_in self.old) object) ≡ true → 1 ≤ result }
+        ensures visits { result ≤ 4 * records_by (λ n. n == giver.t.0) (lists_in self.old) }
+        ensures reserved { has_room self.old ≡ true → has_room self.new ≡ true }
     {
-        self.hand_over(giver, taker, &One { object })
+        self.hand_over(seats, giver, taker, &One { object })
     }
-}
 
-ghost use Rattle.std.specs.Prelude.{◌⊎◌, ◌≡◌, ◌≤◌};
+    /// Returns how many records there are.
+    pub fn len(&self) -> usize
+        ensures { result ≡ slab_len self.now.items }
+    {
+        self.records.items()
+    }
 
-/// Returns the lesser of two numbers.
-fn lesser(a: usize, b: usize) -> usize
-    ensures { (result ≤ a) × (result ≤ b) × ((result ≡ a) ⊎ (result ≡ b)) }
-{
-    if a < b { a } else { b }
+    /// Returns whether no record is in the column of the seat.
+    pub fn is_unused(&self, c: usize) -> bool
+        ensures { result ≡ is_none (first_of (chain_of self.now.columns c)) }
+    {
+        self.records.first(Side::Column, c).is_none()
+    }
+
+    /// Says that one who has no seat, or one whose column is empty, has no record, for proofs. It does nothing.
+    pub fn nobody(&self, seats: &Seats, t: Txn)
+        requires tied { IsTied self.now seats.now }
+        requires none { (c : ℕ) → seat seats.now c ≡ Some t → first_of (chain_of self.now.columns c) ≡ None }
+        ensures { HasNone t.0 (lists_in self.now) }
+    {
+        let _ = seats;
+        self.records.laws();
+    }
+
+    /// Says that no more columns have a record than there are records, for proofs. It does nothing.
+    pub fn few_columns(&self)
+        ensures some { (c : ℕ) → is_none (first_of (chain_of self.now.columns c)) ≡ false → 1 ≤ slab_len self.now.items }
+        ensures few { (n : ℕ) → ((c : ℕ) → c < n → is_none (first_of (chain_of self.now.columns c)) ≡ false) → n ≤ slab_len self.now.items }
+    {
+        self.records.laws();
+    }
+
+    /// Says that whoever has the seat of a column without records may leave it, for proofs. It does nothing.
+    pub fn may_clear(&self, seats: &Seats)
+        requires { IsTied self.now seats.now }
+        ensures left { (left : Seated) (at : ℕ) → is_none (first_of (chain_of self.now.columns at)) ≡ true → ((c : ℕ) → seat left c ≡ cond (c == at) None (seat seats.now c)) → IsTied self.now left }
+    {
+        let _ = seats;
+        self.records.laws();
+    }
+
+    /// Says that a seat that is free and has a column may be given, for proofs. It does nothing.
+    pub fn may_sit(&self, seats: &Seats)
+        requires { IsTied self.now seats.now }
+        ensures sits { (given : Seated) (at : ℕ) (t : Name) → seat seats.now at ≡ None → at < length self.now.columns.chains → ((c : ℕ) → seat given c ≡ cond (c == at) (Some t) (seat seats.now c)) → IsTied self.now given }
+    {
+        let _ = seats;
+        self.records.laws();
+    }
+
+    /// Says that one who has no record may leave its seat, for proofs. It does nothing.
+    pub fn may_leave(&self, seats: &Seats, t: Sitter)
+        requires tied { IsTied self.now seats.now }
+        requires sits { HasSeat seats.now t }
+        ensures left { HasNone t.t.0 (lists_in self.now) → (left : Seated) → ((c : ℕ) → seat left c ≡ cond (c == t.at) None (seat seats.now c)) → IsTied self.now left }
+    {
+        seats.laws();
+        self.records.laws();
+    }
 }

@@ -7,14 +7,14 @@ use Rattle.asset_ends.proofs.ending.end_one.Goals as goal
 pub returns-clause-tied : goal.returns-clause-tied
 returns-clause-tied c =
     let left = c.leave.new.self in
-    record { locks = (c.release.ensures.leaves left c.leave.ensures.seats).0; permits = c.drop_all.ensures.leaves left c.leave.ensures.seats; deps = c.end.ensures.leaves left c.leave.ensures.seats }
+    record { objects = c.end_writes.ensures.leaves left c.leave.ensures.seats; locks = (c.release.ensures.leaves left c.leave.ensures.seats).0; permits = c.drop_all.ensures.leaves left c.leave.ensures.seats; deps = c.end.ensures.leaves left c.leave.ensures.seats }
 
 pub returns-clause-ended : goal.returns-clause-ended
 returns-clause-ended c =
     let one = c.args.one in
     record {
       rows = c.end-2.ensures;
-      objects = c.end_writes.ensures;
+      objects = c.end_writes.ensures.cells;
       locks = (c.release.ensures.leaves c.leave.new.self c.leave.ensures.seats).1 ∙ c.release.ensures.released;
       permits = c.drop_all.ensures.covers;
       deps = c.end.ensures.dependencies;

@@ -1,17 +1,20 @@
 use Rattle.std.proofs.Common.{◌≡◌, ℕ, ◌+◌, ◌*◌, ◌≤◌, true, eqb, length}
 use Rattle.asset_objects.specs.Cells.{settled}
-use Rattle.asset_records.specs.Listed.{records_by}
+use Rattle.asset_chains.specs.Crossed.{has_room}
+use Rattle.asset_records.specs.Listed.{lists_in, records_by, IsTied, IsNoMore}
 use Rattle.asset_objects.specs.Placed.{cell_at}
 use Rattle.asset_objects.proofs.ending.settle.Given as goal
 
 -- some records of the transaction are dropped with all before them, and each cell is the same once it has settled
 abbrev pub invariant-newest : goal.invariant-newest
 invariant-newest l = record {
-  lists : length l.records.lists ≡ length l.initial.records.lists;
-  cells : (i : ℕ) → settled (λ n. eqb n l.t.0) (cell_at l.values l.records.lists i) ≡ settled (λ n. eqb n l.t.0) (cell_at l.values l.initial.records.lists i);
-  visits : l.visits + 4 * records_by (λ n. true) l.records.lists ≤ 4 * records_by (λ n. true) l.initial.records.lists;
-  reserved : l.initial.records.reserved ≡ true → l.records.reserved ≡ true;
+  lists : length (lists_in l.records) ≡ length (lists_in l.initial.records);
+  cells : (i : ℕ) → settled (λ n. eqb n l.t.t.0) (cell_at l.values (lists_in l.records) i) ≡ settled (λ n. eqb n l.t.t.0) (cell_at l.values (lists_in l.initial.records) i);
+  visits : l.visits + 4 * records_by (λ n. true) (lists_in l.records) ≤ 4 * records_by (λ n. true) (lists_in l.initial.records);
+  tied : IsTied l.records l.seats;
+  few : IsNoMore l.initial.records l.records;
+  reserved : has_room l.initial.records ≡ true → has_room l.records ≡ true;
 }
 
 abbrev pub decreases-newest : goal.decreases-newest
-decreases-newest l = records_by (λ n. true) l.records.lists
+decreases-newest l = records_by (λ n. true) (lists_in l.records)

@@ -5,6 +5,7 @@ use Rattle.std.proofs.lemmas.List.{take_more}
 use Rattle.asset_names.specs.declared.names.Ob.{Ob}
 use Rattle.asset_names.specs.Steps.{Opening}
 use Rattle.asset_names.specs.Sets.{HasNoDouble, twice}
+use Rattle.asset_records.specs.Listed.{lists_in}
 use Rattle.asset_objects.specs.Faults.{objects_of}
 use Rattle.asset_objects.specs.Placed.{IsOpened}
 use Rattle.asset_objects.proofs.PlacedLemmas.{opened_nothing, opened_more, new_pair}
@@ -12,7 +13,7 @@ use Rattle.asset_objects.proofs.placed.place_all.Goals as goal
 
 pub pairs-init : goal.pairs-init
 unfolding HasNoDouble twice
-pairs-init c = record { placed = opened_nothing _ _ _ c.in-Ok.ensures.empty c.new.ensures.items c.new-2.ensures; different = λ m. refl }
+pairs-init c = record { placed = opened_nothing _ _ _ c.in-Ok.ensures.empty c.new.ensures.items c.new-2.ensures.lists; len = c.new-2.ensures.len; tied = c.new-2.ensures.tied; different = λ m. refl }
 
 pub pairs-preserved : goal.pairs-preserved
 pairs-preserved c =
@@ -22,7 +23,9 @@ pairs-preserved c =
     let added = rw fits at c.if-not-add.ensures.values in
     let more = take_more opening c.pairs.x-index (record { 0 = 0 }, pos 0) (omega arith) in
     record {
-      placed = subst (λ (front : Opening). IsOpened front c.add.new.self.objects.keys c.add.new.self.values.items c.add.new.self.records.lists) (sym more)
-          (opened_more (take c.pairs.x-index opening) pair _ c.add.new.self.objects.keys _ c.add.new.self.values.items _ c.add.new.self.records.lists c.pairs.invariant.placed c.if-not-add.ensures.objects added c.if-not-add.ensures.records);
+      placed = subst (λ (front : Opening). IsOpened front c.add.new.self.objects.keys c.add.new.self.values.items (lists_in c.add.new.self.records)) (sym more)
+          (opened_more (take c.pairs.x-index opening) pair _ c.add.new.self.objects.keys _ c.add.new.self.values.items _ (lists_in c.add.new.self.records) c.pairs.invariant.placed c.if-not-add.ensures.objects added c.if-not-add.ensures.records);
+      len = omega (arith, c.if-not-add.ensures.few.items, c.pairs.invariant.len);
+      tied = λ seats nobody. c.if-not-add.ensures.tied seats (c.pairs.invariant.tied seats nobody);
       different = subst (λ (front : Opening). HasNoDouble (objects_of front)) (sym more) (new_pair (take c.pairs.x-index opening) pair _ c.pairs.invariant.placed.named c.if-not-add.ensures.different c.pairs.invariant.different);
     }

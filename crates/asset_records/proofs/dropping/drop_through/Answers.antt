@@ -3,14 +3,21 @@ use Rattle.std.proofs.lemmas.Bool.{ne_eqb}
 use Rattle.asset_chains.specs.Chained.{chain_of, first_of, ahead, behind}
 use Rattle.asset_chains.specs.declared.side.Side.TheVariants.{Row}
 use Rattle.asset_chains.proofs.Laws.{chain_at_first}
+use Rattle.asset_chains.specs.Crossed.{Crossed}
+use Rattle.asset_records.specs.declared.records.Record.{Record}
+use Rattle.asset_records.specs.Listed.{IsNoMore}
 use Rattle.asset_records.proofs.ThroughLemmas.{ahead_le, first_there, rest_is, others_are, shorter, behind_same, ahead_less, kept_after, home_after}
 use Rattle.asset_records.proofs.dropping.drop_through.Goals as goal
 
-pub drop_at-requires-clause-there : goal.drop_at-requires-clause-there
-drop_at-requires-clause-there c =
+-- no more than no more
+no_more : {first second third : Crossed Record} → IsNoMore second third → IsNoMore first second → IsNoMore first third
+no_more later before = record { items = omega (arith, later.items, before.items); columns = omega (arith, later.columns, before.columns) }
+
+pub drop_at-requires : goal.drop_at-requires
+drop_at-requires c =
     let first : first_of (chain_of c.oldest.records.rows c.args.object) ≡ Some c.in-Some.key = sym c.in-Some.ensures in
     let home = (chain_at_first c.in-Some.key c.args.object c.oldest.records.rows (c.oldest.invariant.crossed.sound Row) first).0 in
-    sym (c.oldest.invariant.crossed.placed Row c.in-Some.key) ∙ ap is_some home
+    record { there = sym (c.oldest.invariant.crossed.placed Row c.in-Some.key) ∙ ap is_some home }
 
 pub returns-then-key-last-clause-rest : goal.returns-then-key-last-clause-rest
 returns-then-key-last-clause-rest c =
@@ -35,7 +42,7 @@ oldest-preserved c =
     let apart : eqb c.args.last c.in-Some.key ≡ false = ne_eqb c.args.last c.in-Some.key (λ is. c.if-key-last.false (sym is)) in
     let less = ahead_less c.oldest.records.rows c.drop_at.new.records.rows c.in-Some.key c.args.object (c.oldest.invariant.crossed.sound Row) first c.drop_at.ensures.chains c.args.last apart in
     record {
-      valid = c.drop_at.ensures.valid;
+      tied = λ seats tied. c.drop_at.ensures.tied seats (c.oldest.invariant.tied seats tied);
       crossed = c.laws-in-Some.ensures.crossed;
       home = home_after c.oldest.records.rows c.drop_at.new.records.rows c.in-Some.key c.args.last c.args.object c.drop_at.ensures.homes apart c.oldest.invariant.home;
       rest = behind_same c.oldest.records.rows c.drop_at.new.records.rows c.in-Some.key c.args.object (c.oldest.invariant.crossed.sound Row) first c.drop_at.ensures.chains c.args.last apart ∙ c.oldest.invariant.rest;
@@ -44,12 +51,12 @@ oldest-preserved c =
       many = c.drop_at.ensures.many ∙ c.oldest.invariant.many;
       counted = omega (arith, c.oldest.invariant.counted, less);
       visited = omega (arith, c.oldest.invariant.visited, less, c.counted-in-Some-2.ensures, c.counted.ensures, c.counted-in-Some.ensures);
-      slots = c.drop_at.ensures.slots ∙ c.oldest.invariant.slots;
-      room = λ most room. c.drop_at.ensures.room most (c.oldest.invariant.room most room);
+      few = no_more c.drop_at.ensures.few c.oldest.invariant.few;
+      room = λ _. c.drop_at.ensures.room;
     }
 
-pub returns-then-key-last-clause-room : goal.returns-then-key-last-clause-room
-returns-then-key-last-clause-room c = λ most room. c.drop_at.ensures.room most (c.oldest.invariant.room most room)
+pub returns-then-key-last-clause-tied : goal.returns-then-key-last-clause-tied
+returns-then-key-last-clause-tied c = λ seats tied. c.drop_at.ensures.tied seats (c.oldest.invariant.tied seats tied)
 
 pub returns-then-key-last-clause-counted : goal.returns-then-key-last-clause-counted
 returns-then-key-last-clause-counted c =
@@ -67,3 +74,6 @@ overflow_add-visited-in-Some-2 c =
     let few = ahead_le c.args.last (chain_of c.args.records.now.rows c.args.object) in
     let short = c.laws.ensures.short Row c.args.object in
     omega (arith, c.oldest.invariant.visited, few, short, c.counted-in-Some-2.ensures, c.counted.ensures, c.counted-in-Some.ensures)
+
+pub returns-then-key-last-clause-few : goal.returns-then-key-last-clause-few
+returns-then-key-last-clause-few c = no_more c.drop_at.ensures.few c.oldest.invariant.few

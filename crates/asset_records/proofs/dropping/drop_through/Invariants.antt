@@ -1,14 +1,15 @@
 use Rattle.std.proofs.Common.{◌≡◌, ℕ, ◌+◌, ◌*◌, ◌≤◌, true, false, Some, is_some, length, eqb}
 use Rattle.slab.specs.Slab.{get}
 use Rattle.asset_chains.specs.Chained.{chain_of, home_of, ahead, behind}
-use Rattle.asset_chains.specs.Crossed.{IsCrossed}
-use Rattle.asset_records.specs.Listed.{IsValid, has_room}
+use Rattle.asset_chains.specs.Crossed.{IsCrossed, has_room}
+use Rattle.asset_seats.specs.Seated.{Seated}
+use Rattle.asset_records.specs.Listed.{IsTied, IsNoMore}
 use Rattle.asset_records.proofs.dropping.drop_through.Given as goal
 
 -- the oldest records of the object are gone, and the last one to go still stands
 abbrev pub invariant-oldest : goal.invariant-oldest
 invariant-oldest l = record {
-  valid : IsValid l.records l.owners;
+  tied : (seats : Seated) → IsTied l.initial.records seats → IsTied l.records seats;
   crossed : IsCrossed l.records;
   home : home_of l.records.rows l.last ≡ Some l.object;
   rest : behind l.last (chain_of l.records.rows l.object) ≡ behind l.last (chain_of l.initial.records.rows l.object);
@@ -17,8 +18,8 @@ invariant-oldest l = record {
   many : length l.records.rows.chains ≡ length l.initial.records.rows.chains;
   counted : length (ahead l.last (chain_of l.initial.records.rows l.object)) ≤ l.visited + length (ahead l.last (chain_of l.records.rows l.object));
   visited : l.visited + 4 * length (ahead l.last (chain_of l.records.rows l.object)) ≤ 4 * length (ahead l.last (chain_of l.initial.records.rows l.object));
-  slots : length l.owners.slots ≡ length l.initial.owners.slots;
-  room : (most : ℕ) → has_room l.initial.records l.initial.owners most ≡ true → has_room l.records l.owners most ≡ true;
+  few : IsNoMore l.initial.records l.records;
+  room : has_room l.initial.records ≡ true → has_room l.records ≡ true;
 }
 
 abbrev pub decreases-oldest : goal.decreases-oldest

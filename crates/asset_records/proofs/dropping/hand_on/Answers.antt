@@ -4,8 +4,7 @@ use Rattle.std.proofs.lemmas.Int.{to_z-of_z}
 use Rattle.slab.specs.Slab.{Slab, get, slab_len}
 use Rattle.asset_records.specs.declared.records.Record.{Record}
 use Rattle.asset_records.specs.Dropped.{handed_at, restored_at}
-use Rattle.asset_records.proofs.DropLemmas.{handed_is, handed_none, read_some, room_over}
-use Rattle.asset_records.proofs.TotalLemmas.{count_kept}
+use Rattle.asset_records.proofs.DropLemmas.{handed_is, handed_none, read_some, count_kept, room_over}
 use Rattle.asset_records.proofs.dropping.hand_on.Goals as goal
 
 pub returns-in_default-clause-records : goal.returns-in_default-clause-records

@@ -9,7 +9,7 @@ use Rattle.asset_records.proofs.handing.hand_over_along.Given as goal
 abbrev pub invariant-keys : goal.invariant-keys
 invariant-keys g l = record {
   crossed : IsCrossed l.records;
-  handing : IsHanding (g.P.Picks.picks l.picks) l.from l.to.seat l.to.taker l.initial.records l.records l.next l.visits;
+  handing : IsHanding (g.P.Picks.picks l.picks) l.from l.to.at l.to.t l.initial.records l.records l.next l.visits;
 }
 
 abbrev pub decreases-keys : goal.decreases-keys

@@ -9,7 +9,7 @@ use Rattle.asset_records.proofs.handing.hand_over_row.Given as goal
 abbrev pub invariant-keys : goal.invariant-keys
 invariant-keys l = record {
   crossed : IsCrossed l.records;
-  passing : IsPassing l.object l.from l.to.seat l.to.taker l.initial.records l.records l.next l.visits;
+  passing : IsPassing l.object l.from l.to.at l.to.t l.initial.records l.records l.next l.visits;
 }
 
 abbrev pub decreases-keys : goal.decreases-keys

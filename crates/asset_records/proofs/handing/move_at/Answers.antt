@@ -15,7 +15,7 @@ pub returns-clause-one : goal.returns-clause-one
 unfolding given
 returns-clause-one c =
     let fits : to_z w64 (of_z w64 c.in-Some.record.before) ≡ c.in-Some.record.before = grind (arith, to_z-of_z) in
-    let put = c.replace.ensures.items ∙ ap (λ (before : ℤ). with_value c.move_to.new.self.items c.args.key (record { owner = c.args.to.taker; before = before })) fits in
-    moved_one c.args.records.now c.move_to.new.self c.replace.new.self c.args.key c.args.to.seat c.args.to.taker c.in-Some.record c.laws.ensures.crossed c.requires.seat
+    let put = c.replace.ensures.items ∙ ap (λ (before : ℤ). with_value c.move_to.new.self.items c.args.key (record { owner = c.args.to.t; before = before })) fits in
+    moved_one c.args.records.now c.move_to.new.self c.replace.new.self c.args.key c.args.to.at c.args.to.t c.in-Some.record c.laws.ensures.crossed c.requires.seat
     (sym (ap (λ (s : Slab Record). get s c.args.key) c.move_to.ensures.items) ∙ sym c.get.ensures ∙ sym c.in-Some.ensures) c.move_to.ensures.moved c.move_to.ensures.others c.move_to.ensures.items
     put c.replace.ensures.rows c.replace.ensures.columns

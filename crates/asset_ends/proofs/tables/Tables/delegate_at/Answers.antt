@@ -20,7 +20,7 @@ unfolding AreEnrolled
 invariant_of-self-2 c = record {
   locks = rw (c.hand_over.ensures.done) (λ t. ap (λ names. lists names t) (names_handed c.args.from.t.0 c.args.to.t.0 c.args.obs.now (locks_of c.self.inside.parts)) ∙ c.self.invariant.locks t);
   seats = c.self.invariant.seats;
-  tied = record { locks = c.hand_over.ensures.tied; permits = c.copy_permits.ensures.tied; deps = c.self.invariant.tied.deps };
+  tied = record { objects = c.hand_over-2.ensures.tied; locks = c.hand_over.ensures.tied; permits = c.copy_permits.ensures.tied; deps = c.self.invariant.tied.deps };
 }
 
 pub returns-clause-stand : goal.returns-clause-stand

@@ -28,7 +28,7 @@ pub invariant_of-self-2 : goal.invariant_of-self-2
 invariant_of-self-2 c = record {
   locks = rw c.in_ok-ask.ensures.done (asked_enrolled _ _ _ c.args.one.t.0 c.args.x c.args.op c.self.invariant.locks);
   seats = c.self.invariant.seats;
-  tied = record { locks = c.ask.ensures.tied; permits = rw c.ask.ensures.permits c.self.invariant.tied.permits; deps = c.self.invariant.tied.deps };
+  tied = record { objects = c.self.invariant.tied.objects; locks = c.ask.ensures.tied; permits = rw c.ask.ensures.permits c.self.invariant.tied.permits; deps = c.self.invariant.tied.deps };
 }
 
 pub returns-clause-granted : goal.returns-clause-granted

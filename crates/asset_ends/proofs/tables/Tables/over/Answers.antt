@@ -7,7 +7,7 @@ pub invariant_of-result : goal.invariant_of-result
 invariant_of-result c = record {
   locks = nobody_enrolled _ _ c.new-4.ensures (c.new-2.ensures.rows _);
   seats = nobody_seated _ _ c.new-4.ensures c.new.ensures.seats;
-  tied = record { locks = c.new-2.ensures.tied _ c.new.ensures.seats; permits = c.new-3.ensures.tied _ c.new.ensures.seats; deps = c.new-5.ensures.tied _ c.new.ensures.seats };
+  tied = record { objects = c.requires _ c.new.ensures.seats; locks = c.new-2.ensures.tied _ c.new.ensures.seats; permits = c.new-3.ensures.tied _ c.new.ensures.seats; deps = c.new-5.ensures.tied _ c.new.ensures.seats };
 }
 
 pub returns-clause-shows : goal.returns-clause-shows

@@ -1,4 +1,4 @@
-use Rattle.std.proofs.Common.{◌≡◌, ◌&&◌, ℕ, true, not, List, sym, subst, ap, ◌∙◌}
+use Rattle.std.proofs.Common.{◌&&◌, ℕ, not, List, ap, ◌∙◌}
 use Rattle.asset_names.specs.declared.names.Txn.{Txn}
 use Rattle.asset_names.specs.Answers.{is_completed}
 use Rattle.asset_names.specs.Arrows.{lists}

@@ -2,12 +2,17 @@ use Rattle.std.proofs.Common.{◌≡◌, ◌∙◌, false, ap, w64, to_z, of_z, 
 use Rattle.std.proofs.lemmas.Int.{to_z-of_z}
 use Rattle.asset_names.proofs.Common.{on_ok_two}
 use Rattle.asset_objects.specs.Cells.{cells}
+use Rattle.asset_objects.specs.Placed.{object_table}
 use Rattle.asset_ends.specs.Standing.{is_free_for}
 use Rattle.asset_ends.proofs.AskedLemmas.{write_asked_shows}
 use Rattle.asset_ends.proofs.EnrolledLemmas.{running_enrolled}
 use Rattle.asset_ends.proofs.ShowsLemmas.{running_live}
 use Rattle.asset_ends.proofs.StandingLemmas.{stand_as}
 use Rattle.asset_ends.proofs.tables.Tables.write_at.Goals as goal
+
+pub write_reserved-requires-clause-reserved : goal.write_reserved-requires-clause-reserved
+unfolding object_table
+write_reserved-requires-clause-reserved c = c.in-Ok.ensures.reserved
 
 pub returns-in-Ok-clause-answer : goal.returns-in-Ok-clause-answer
 unfolding is_free_for

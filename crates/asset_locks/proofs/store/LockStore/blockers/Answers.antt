@@ -1,7 +1,6 @@
-use Rattle.std.proofs.Common.{◌≡◌, ◌||◌, ℕ, Bool, true, List, [], Some, sym, subst, ap, ◌∙◌}
-use Rattle.std.proofs.lemmas.Bool.{true≢false, both_ways}
+use Rattle.std.proofs.Common.{◌≡◌, ◌||◌, ℕ, Bool, true, List, Some, sym, subst, ◌∙◌}
+use Rattle.std.proofs.lemmas.Bool.{both_ways}
 use Rattle.asset_names.specs.declared.operations.Op.TheVariants as Op'
-use Rattle.asset_names.specs.Arrows.{lists}
 use Rattle.asset_names.specs.OpSets.{has_op, only_op}
 use Rattle.asset_lists.specs.Parted.{part_of}
 use Rattle.asset_locks.specs.LockTable.{blocks}

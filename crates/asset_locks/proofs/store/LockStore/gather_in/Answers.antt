@@ -1,4 +1,4 @@
-use Rattle.std.proofs.Common.{◌≡◌, ℕ, get_or, refl, subst, ◌∙◌}
+use Rattle.std.proofs.Common.{◌≡◌, get_or, refl, subst, ◌∙◌}
 use Rattle.asset_lists.specs.Parted.{AreKeys}
 use Rattle.asset_locks.specs.Stored.{Stored}
 use Rattle.asset_locks.specs.Blocking.{blocks_as, IsGathered}

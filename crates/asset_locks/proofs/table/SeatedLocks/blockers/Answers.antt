@@ -1,5 +1,4 @@
 use Rattle.std.proofs.Common.{ℕ, ◌≡◌, true, subst}
-use Rattle.std.specs.Prelude.{IfOk}
 use Rattle.asset_names.specs.Arrows.{lists}
 use Rattle.asset_locks.specs.Blocking.{is_blocker_in}
 use Rattle.asset_locks.specs.Stored.{rows_of}

@@ -1,4 +1,4 @@
-use Rattle.std.proofs.Common.{◌≡◌, false, List, sym, ap, ◌∙◌}
+use Rattle.std.proofs.Common.{sym, ap, ◌∙◌}
 use Rattle.std.specs.List.{list_any}
 use Rattle.asset_names.specs.OpSets.{has_op}
 use Rattle.asset_locks.specs.declared.lock.Lock.{Lock}

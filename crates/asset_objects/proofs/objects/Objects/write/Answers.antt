@@ -1,0 +1,25 @@
+use Rattle.std.proofs.Common.{sym, ap, ◌∙◌, arith}
+use Rattle.std.proofs.lemmas.Bool.{true≢false}
+use Rattle.asset_objects.specs.Cells.{ObjectTable}
+use Rattle.asset_objects.specs.Placed.{object_table}
+use Rattle.asset_objects.proofs.objects.Objects.write.Goals as goal
+
+pub write-requires-clause-reserved : goal.write-requires-clause-reserved
+unfolding object_table
+write-requires-clause-reserved c = ap (λ (o : ObjectTable). o.reserved) c.self.view_is ∙ c.requires.reserved
+
+pub seat_for-owner-requires-clause-spare : goal.seat_for-owner-requires-clause-spare
+unfolding object_table
+seat_for-owner-requires-clause-spare c = omega (arith, c.self.invariant.room (ap (λ (o : ObjectTable). o.reserved) c.self.view_is ∙ c.requires.reserved))
+
+pub invariant_of-self : goal.invariant_of-self
+unfolding object_table
+invariant_of-self c =
+    let spared = c.self.invariant in
+    let room = spared.room (ap (λ (o : ObjectTable). o.reserved) c.self.view_is ∙ c.requires.reserved) in
+    record {
+      tied = c.write.ensures.tied;
+      columns = omega (arith, spared.columns, c.write.ensures.columns, c.seat_for-owner.ensures.slots);
+      spare = λ _. omega (arith, room, c.write.ensures.len, c.seat_for-owner.ensures.slots);
+      room = λ reserved. absurd (true≢false (sym reserved ∙ c.write.ensures.reserved));
+    }

@@ -1,0 +1,158 @@
+//! The table of objects by name, and its calls.
+
+use crate::seated::{ObjectsFault, SeatedObjects};
+use crate::seating::{add_seats, seat_for, writer};
+use asset_names::{NoMemory, Ob, ObSet, Txn};
+use asset_seats::Seats;
+use std::alloc::Global;
+use std::marker::Model;
+
+/// The objects with their values, and an update record of each write that may still be undone, asked by name. Contracts see
+/// each object as its base and the writes that stand over it, newest first. Its value is that of the newest
+/// write, or the base if there is none.
+///
+/// Each transaction with a write has a seat, by which the table is asked. There are more seats than records, so that a
+/// hand-over finds one for the taker.
+#[derive(Drop)]
+pub struct Objects {
+    seats: Seats,
+    table: SeatedObjects,
+}
+
+impl Model for Objects {
+    ghost use Rattle.asset_objects.specs.Cells.{ObjectTable};
+    ghost use Rattle.asset_objects.specs.Placed.{objects_in, IsSpared};
+
+    ghost Value = { ObjectTable };
+
+    ghost view = { λ o. objects_in o.table };
+
+    ghost invariant = { λ o. IsSpared o.table o.seats };
+}
+
+impl Objects {
+    ghost use Rattle.std.specs.Prelude.{◌≡◌, ℕ, ◌==◌, ◌≤◌, ◌+◌, ◌*◌, true, false, Some, is_some, length, IfOk, IfErr, IsOk, OnOk, OnErr};
+    ghost use Rattle.asset_names.specs.Sets.{HasNoDouble};
+    ghost use Rattle.asset_names.specs.InSet.{in_set};
+    ghost use Rattle.asset_objects.specs.Cells.{Cell, cells, opened, value_in, has_object, has_written, written, undone, settled, handed_cell, change_at, change_each, change_where, writes_by, standing};
+    ghost use Rattle.asset_objects.specs.Faults.{objects_of, IsObjectsFault};
+
+    /// Returns the objects at their opening values, with no write yet.
+    ///
+    /// It answers `DoubleObject` with the least object that is given twice; otherwise `NoMemory` if memory runs out.
+    pub fn open(alloc: Global, opening: &[(Ob, i64)]) -> Result<Objects, ObjectsFault>
+        ensures opened { IfOk result (λ objects. cells objects ≡ opened opening.now) }
+        ensures visits { IfOk result (λ objects. objects.visits ≡ 0) }
+        ensures different { OnOk result (HasNoDouble (objects_of opening.now)) }
+        ensures fault { IfErr result (λ fault. IsObjectsFault opening.now fault) }
+    {
+        let table = SeatedObjects::open(alloc, opening)?;
+        let seats = Seats::new(alloc);
+        Ok(Objects { seats, table })
+    }
+
+    /// Returns the objects at their opening values, with no write yet, for a caller who knows that none is given
+    /// twice. If memory runs out, it answers at once, while `open` first compares each pair of objects.
+    pub fn open_distinct(alloc: Global, opening: &[(Ob, i64)]) -> Result<Objects, NoMemory>
+        requires distinct { HasNoDouble (objects_of opening.now) }
+        ensures opened { IfOk result (λ objects. cells objects ≡ opened opening.now) }
+        ensures visits { IfOk result (λ objects. objects.visits ≡ 0) }
+    {
+        let table = SeatedObjects::open_distinct(alloc, opening)?;
+        let seats = Seats::new(alloc);
+        Ok(Objects { seats, table })
+    }
+
+    /// Returns the value of an object, and `None` if there is no such object.
+    pub fn value(&self, x: Ob) -> Option<i64>
+        ensures value { result ≡ value_in (cells self.now) x.0 }
+        ensures exists { is_some result ≡ has_object (cells self.now) x.0 }
+    {
+        self.table.value(x)
+    }
+
+    /// Reserves the memory for one more write. The reservation stands until that write.
+    ///
+    /// If memory runs out, nothing changes. A reservation that stands already is answered Ok.
+    pub fn reserve_write(&mut self) -> Result<(), NoMemory>
+        ensures cells { cells self.new ≡ cells self.old }
+        ensures reserved { OnOk result (self.new.reserved ≡ true) }
+        ensures standing { self.old.reserved ≡ true → IsOk result }
+        ensures unchanged { OnErr result (self.new ≡ self.old) }
+    {
+        add_seats(&mut self.seats, &mut self.table)?;
+        self.table.reserve_write()
+    }
+
+    /// Writes the value to the object, which exists. It uses the memory that `reserve_write` reserved. Other
+    /// objects do not change.
+    pub fn write(&mut self, t: Txn, x: Ob, v: i64)
+        requires exists { has_object (cells self.old) x.0 ≡ true }
+        requires reserved { self.old.reserved ≡ true }
+        ensures { cells self.new ≡ change_at x.0 (written t.0 v) (cells self.old) }
+    {
+        let owner = seat_for(&mut self.seats, &self.table, t);
+        self.table.write(&self.seats, owner, x, v);
+    }
+
+    /// Takes back the writes of the transaction: each object is as it would be without them. It touches the
+    /// records of the transaction and those beside them.
+    pub fn undo(&mut self, t: Txn)
+        ensures cells { cells self.new ≡ change_each (undone (λ n. n == t.0)) (cells self.old) }
+        ensures visits { self.new.visits ≤ 4 * writes_by (λ n. n == t.0) self.old.rows }
+        ensures reserved { self.old.reserved ≡ true → self.new.reserved ≡ true }
+    {
+        match writer(&self.seats, &self.table, t) {
+            Some(one) => {
+                self.table.undo(&self.seats, one);
+                self.seats.leave(one.at);
+            }
+            None => self.table.pass_over(&self.seats, t),
+        }
+    }
+
+    /// Makes the writes of the transaction final: on each object the newest of them becomes the base, and its
+    /// record is dropped together with all before it. It touches the records that go and those beside them.
+    pub fn settle(&mut self, t: Txn)
+        ensures cells { cells self.new ≡ change_each (settled (λ n. n == t.0)) (cells self.old) }
+        ensures visits { self.new.visits + 4 * standing self.new.rows ≤ 4 * standing self.old.rows }
+        ensures reserved { self.old.reserved ≡ true → self.new.reserved ≡ true }
+    {
+        match writer(&self.seats, &self.table, t) {
+            Some(one) => {
+                self.table.settle(&self.seats, one);
+                self.seats.leave(one.at);
+            }
+            None => self.table.pass_over(&self.seats, t),
+        }
+    }
+
+    /// Makes the giver's writes on the objects of the set the taker's. No value changes, and nothing else does. Both may be
+    /// one, which changes nothing.
+    ///
+    /// It takes no memory. It looks at the giver's records, and at those beside the ones that change; for a set that lists
+    /// one object, at the records on it if they are fewer. It looks at each seat if the taker has none and none is free.
+    pub fn hand_over(&mut self, giver: Txn, taker: Txn, objects: &ObSet)
+        ensures cells { cells self.new ≡ change_where (in_set objects.now) (handed_cell giver.0 taker.0) (cells self.old) }
+        ensures counted { (taker.0 == giver.0) ≡ false → (x : ℕ) (cell : Cell) → cells self.old x ≡ Some cell → in_set objects.now x ≡ true → has_written giver.0 cell ≡ true → 1 ≤ self.new.visits }
+        ensures visits { self.new.visits ≤ 4 * writes_by (λ n. n == giver.0) self.old.rows }
+        ensures reserved { self.old.reserved ≡ true → self.new.reserved ≡ true }
+    {
+        match writer(&self.seats, &self.table, giver) {
+            Some(from) => {
+                self.table.few_seats();
+                let to = seat_for(&mut self.seats, &self.table, taker);
+                self.table.hand_over(&self.seats, from, to, objects);
+            }
+            None => self.table.pass_over(&self.seats, giver),
+        }
+    }
+
+    /// Returns how many records the last `undo`, `settle` or `hand_over` visited: each one that it looked at or that went,
+    /// and each time those beside it among the records of its object and of its owner. It is 0 before the first.
+    pub fn visits(&self) -> usize
+        ensures { result ≡ self.now.visits }
+    {
+        self.table.visits()
+    }
+}
