@@ -1,5 +1,1 @@
-pub mod WalkLemmas
 pub mod ListLemmas
-pub mod RowLemmas
-pub mod LawLemmas
-pub mod ArrowLemmas

@@ -1,10 +1,20 @@
 -- Where things stand in a picture, in pixels, and how text is put together.
-use Rattle.std.specs.Prelude.{ℕ, ◌+◌, ◌*◌, Bool, cond, nat_lt, List, [], ◌∷◌, ◌++◌, codes}
+use Rattle.std.specs.Prelude.{ℕ, ◌+◌, ◌*◌, Bool, ◌||◌, cond, nat_lt, unsigned_abs, List, [], ◌∷◌, ◌++◌, codes}
+use Rattle.std.specs.List.{list_any}
+use Rattle.asset_lanes.specs.declared.marking.Mark.{Mark}
 
 -- pieces of text, one after another
 unfoldable pub pieces : List (List ℕ) → List ℕ
 pieces [] = []
 pieces (piece ∷ more) = piece ++ pieces more
+
+-- whether a mark has a long number: an object of seven digits or more, or a value of six
+unfoldable pub is_long : Mark → Bool
+is_long mark = nat_lt 999999 mark.x || nat_lt 99999 (unsigned_abs mark.v)
+
+-- whether the columns are wide
+unfoldable pub are_wide : List Mark → Bool
+are_wide marks = list_any is_long marks
 
 -- the column of the entry with this number: 156 pixels for each entry if there are long numbers, and 48 otherwise
 unfoldable pub x_at : Bool → ℕ → ℕ

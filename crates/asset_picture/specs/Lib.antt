@@ -1,10 +1,4 @@
 pub mod Layout
-pub mod Walked
-pub mod Lanes
-pub mod Marks
-pub mod Arrows
 pub mod Shapes
-pub mod Uses
 pub mod Tables
 pub mod Picture
-pub mod Promised

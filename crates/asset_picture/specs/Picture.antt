@@ -4,13 +4,13 @@ use Rattle.std.specs.Fmt.{decimal}
 use Rattle.std.specs.List.{range_with_len}
 use Rattle.asset_names.specs.Steps.{Entry}
 use Rattle.asset_deletion.specs.Grouping.{Grouping, grouping_of}
-use Rattle.asset_picture.specs.declared.lanes.Lane.{Lane}
-use Rattle.asset_picture.specs.declared.marks.Mark.{Mark}
-use Rattle.asset_picture.specs.declared.arrows.Arrow.{Arrow}
-use Rattle.asset_picture.specs.Layout.{pieces, x_at, y_at, columns}
-use Rattle.asset_picture.specs.Lanes.{lane_names, lanes}
-use Rattle.asset_picture.specs.Marks.{marks, are_wide}
-use Rattle.asset_picture.specs.Arrows.{arrows}
+use Rattle.asset_lanes.specs.declared.spanning.Lane.{Lane}
+use Rattle.asset_lanes.specs.declared.marking.Mark.{Mark}
+use Rattle.asset_lanes.specs.declared.pointing.Arrow.{Arrow}
+use Rattle.asset_picture.specs.Layout.{pieces, are_wide, x_at, y_at, columns}
+use Rattle.asset_lanes.specs.Lanes.{lane_names, lanes}
+use Rattle.asset_lanes.specs.Marks.{marks}
+use Rattle.asset_lanes.specs.Arrows.{arrows}
 use Rattle.asset_picture.specs.Shapes.{open_text, style_text, legend_text, lane_text, mark_text, arrow_text}
 use Rattle.asset_picture.specs.Tables.{table_in}
 

@@ -3,11 +3,11 @@ use Rattle.std.specs.Prelude.{ℕ, ◌%◌, ◌==◌, Bool, cond, List, [], ◌�
 use Rattle.std.specs.Fmt.{decimal, signed_decimal}
 use Rattle.asset_names.specs.declared.statuses.Status.{Status}
 use Rattle.asset_names.specs.declared.statuses.Status.TheVariants as Status'
-use Rattle.asset_picture.specs.declared.lanes.Lane.{Lane}
-use Rattle.asset_picture.specs.declared.marks.Mark.{Mark}
-use Rattle.asset_picture.specs.declared.arrows.Arrow.{Arrow}
-use Rattle.asset_picture.specs.declared.arrows.Drawn.{Drawn}
-use Rattle.asset_picture.specs.declared.arrows.Drawn.TheVariants as Drawn'
+use Rattle.asset_lanes.specs.declared.spanning.Lane.{Lane}
+use Rattle.asset_lanes.specs.declared.marking.Mark.{Mark}
+use Rattle.asset_lanes.specs.declared.pointing.Arrow.{Arrow}
+use Rattle.asset_lanes.specs.declared.pointing.Drawn.{Drawn}
+use Rattle.asset_lanes.specs.declared.pointing.Drawn.TheVariants as Drawn'
 use Rattle.asset_picture.specs.Layout.{pieces, x_at, y_at, bow_at, pale}
 
 -- the colours on a light screen

@@ -1,12 +1,12 @@
 -- The table of a long history.
-use Rattle.std.specs.Prelude.{ℕ, ◌+◌, ◌-◌, ◌*◌, Bool, Option, None, Some, slice_get, List, [], ◌∷◌, ◌++◌, flat_map, length, unwrap_or, codes}
+use Rattle.std.specs.Prelude.{ℕ, ◌+◌, ◌*◌, Bool, Option, None, Some, List, [], ◌∷◌, ◌++◌, flat_map, length, codes}
 use Rattle.std.specs.Fmt.{decimal}
 use Rattle.asset_names.specs.declared.statuses.Status.{Status}
-use Rattle.asset_names.specs.Steps.{Entry, applied}
-use Rattle.asset_names.specs.Endings.{status}
-use Rattle.asset_deletion.specs.Grouping.{Grouping, number_in, dead_in}
+use Rattle.asset_names.specs.Steps.{Entry}
+use Rattle.asset_deletion.specs.Grouping.{Grouping}
+use Rattle.asset_lanes.specs.declared.summing.Summary.{Summary}
+use Rattle.asset_lanes.specs.Summaries.{summaries}
 use Rattle.asset_picture.specs.Layout.{pieces}
-use Rattle.asset_picture.specs.Uses.{with_names, uses, uses_of}
 use Rattle.asset_picture.specs.Shapes.{style_text, status_word, state_word, open_text}
 
 -- how high a table of `rows` rows is: 20 pixels for each
@@ -36,26 +36,22 @@ count_text count = pieces (codes "<tspan x='470'>" ∷ decimal count ∷ codes "
 unfoldable pub both_text : Option ℕ → Option ℕ → List ℕ
 both_text first last = number_text first ++ (codes "</tspan><tspan x='630'>" ++ (number_text last ++ codes "</tspan>\n"))
 
--- those of these entries
-unfoldable pub ends_text : List ℕ → List ℕ
-ends_text used = both_text (slice_get used 0) (slice_get used (length used - 1))
+-- the row of a transaction
+unfoldable pub row_for : Summary → List ℕ
+row_for summary = row_text summary.t summary.group summary.is_dead summary.status ++ (count_text summary.count ++ both_text summary.first summary.last)
 
--- the row of n, which asked for these entries
-unfoldable pub row_for : Grouping → List Entry → List ℕ → ℕ → List ℕ
-row_for groups entries used n = row_text n (unwrap_or (number_in groups n) 0) (dead_in groups n) (status (applied entries) n) ++ (count_text (length used) ++ ends_text used)
-
--- the rows of transactions, by the names and the entries that each asked for
-unfoldable pub rows_text : Grouping → List Entry → List ℕ → List (List ℕ) → List ℕ → List ℕ
-rows_text groups entries names used rows = flat_map (λ n. row_for groups entries (uses_of names used n) n) rows
+-- the rows of transactions
+unfoldable pub rows_text : List Summary → List ℕ
+rows_text summaries = flat_map row_for summaries
 
 -- the start of a table of `count` entries in `rows` rows
 unfoldable pub table_frame : ℕ → ℕ → List ℕ
 table_frame count rows = open_text 720 (table_height rows) ++ (style_text ++ heading_text count)
 
--- the table of entries with these groups and rows, by names
-unfoldable pub table_by : Grouping → List ℕ → List Entry → List ℕ → List ℕ
-table_by groups rows entries names = table_frame (length entries) (length rows) ++ (rows_text groups entries names (uses names entries) rows ++ codes "</text>\n</svg>\n")
+-- the table of `count` entries
+unfoldable pub table_text : ℕ → List Summary → List ℕ
+table_text count summaries = table_frame count (length summaries) ++ (rows_text summaries ++ codes "</text>\n</svg>\n")
 
--- by the names of the rows, each once
+-- the table of entries with these groups and rows
 unfoldable pub table_in : Grouping → List ℕ → List Entry → List ℕ
-table_in groups rows entries = table_by groups rows entries (with_names [] rows)
+table_in groups rows entries = table_text (length entries) (summaries groups rows entries)

@@ -4,8 +4,8 @@ ghost use Rattle.std.specs.Prelude.{◌≡◌, ◌++◌, OnOk, string_bytes};
 ghost use Rattle.asset_picture.specs.Shapes.{drawn_word, bow_text, way_text, arrow_start_text, arrow_text};
 ghost use Rattle.asset_picture.specs.Picture.{arrows_text};
 
-use crate::arrows::{Arrow, Drawn};
 use crate::layout::{bow_at, pale, x_at, y_at};
+use asset_lanes::{Arrow, Drawn};
 use std::alloc::AllocError;
 
 /// Returns the word of a kind of arrow.

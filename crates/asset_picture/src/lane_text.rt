@@ -4,8 +4,8 @@ ghost use Rattle.std.specs.Prelude.{◌≡◌, ◌++◌, OnOk, string_bytes};
 ghost use Rattle.asset_picture.specs.Shapes.{status_word, band_word, state_word, label_text, stop_text, line_start_text, line_from, line_text, lane_start_text, lane_text};
 ghost use Rattle.asset_picture.specs.Picture.{lanes_text};
 
-use crate::lanes::{Lane, Span};
 use crate::layout::{pale, x_at, y_at};
+use asset_lanes::{Lane, Span};
 use asset_names::Status;
 use std::alloc::AllocError;
 

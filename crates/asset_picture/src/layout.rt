@@ -1,7 +1,29 @@
 //! Where things stand in a picture.
 
 ghost use Rattle.std.specs.Prelude.{◌≡◌};
-ghost use Rattle.asset_picture.specs.Layout.{x_at, y_at, bow_at, columns, pale};
+ghost use Rattle.asset_picture.specs.Layout.{is_long, are_wide, x_at, y_at, bow_at, columns, pale};
+
+use asset_lanes::Mark;
+
+/// Returns whether a mark has a long number.
+#[tactic(auto, unfolding(crate::specs::Layout::is_long))]
+fn is_long(mark: &Mark) -> bool
+    ensures { result ≡ is_long mark.now }
+{
+    mark.x > 999999 || mark.v.unsigned_abs() > 99999
+}
+
+/// Returns whether some mark has a long number.
+pub(crate) fn are_wide(marks: &[Mark]) -> bool
+    ensures { result ≡ are_wide marks.now }
+{
+    'marks: for mark in marks {
+        if is_long(mark) {
+            return true;
+        }
+    }
+    false
+}
 
 /// Returns the column of the entry with this number.
 #[tactic(auto, unfolding(crate::specs::Layout::x_at))]

@@ -5,7 +5,7 @@ ghost use Rattle.asset_picture.specs.Shapes.{use_word, shape_text, mark_start_te
 ghost use Rattle.asset_picture.specs.Picture.{marks_text};
 
 use crate::layout::{pale, x_at, y_at};
-use crate::marks::Mark;
+use asset_lanes::Mark;
 use std::alloc::AllocError;
 
 /// Returns the word of a write or of a read.

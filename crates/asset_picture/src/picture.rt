@@ -1,33 +1,23 @@
 //! A history as a picture.
 
 ghost use Rattle.std.specs.Prelude.{◌≡◌, ◌++◌, IfOk, OnOk, length, string_bytes};
-ghost use Rattle.asset_names.specs.Steps.{applied};
-ghost use Rattle.asset_ends.specs.Shows.{Shows};
-ghost use Rattle.asset_ends.specs.Standing.{values_of};
-ghost use Rattle.asset_picture.specs.Lanes.{lanes};
-ghost use Rattle.asset_picture.specs.Marks.{marks};
-ghost use Rattle.asset_picture.specs.Arrows.{arrows};
-ghost use Rattle.asset_picture.specs.Tables.{table_by, table_in};
+ghost use Rattle.asset_lanes.specs.Lanes.{lanes};
+ghost use Rattle.asset_lanes.specs.Marks.{marks};
+ghost use Rattle.asset_lanes.specs.Arrows.{arrows};
+ghost use Rattle.asset_picture.specs.Tables.{table_in};
 ghost use Rattle.asset_picture.specs.Picture.{frame_text, frame_for, rest_text, shapes_in, shapes_text, drawing_in, picture_in, picture_text};
 
 use crate::arrow_text::push_arrows;
-use crate::arrows::{Arrow, arrows};
 use crate::lane_text::push_lanes;
-use crate::lanes::{Lane, lanes};
-use crate::layout::{columns, x_at, y_at};
+use crate::layout::{are_wide, columns, x_at, y_at};
 use crate::mark_text::push_marks;
-use crate::marks::{Mark, are_wide, marks};
 use crate::opening::{push_open, push_steps};
-use crate::rows::lane_names;
 use crate::style::{push_legend, push_style};
 use crate::table::push_table;
-use crate::uses::{row_names, uses};
-use crate::walking::tables_after;
 use asset_deletion::{Groups, groups};
 use asset_history::History;
+use asset_lanes::{Arrow, Lane, Mark, arrows, lane_names, lanes, marks, summaries};
 use asset_names::NoMemory;
-use asset_sources::sources;
-use indexmap::IndexSet;
 use std::alloc::{AllocError, Global};
 
 /// Appends the start of a picture of this size, with its legend.
@@ -100,22 +90,6 @@ fn push_shapes(
     push_shapes_in(text, are_wide(marks), count, lanes, arrows, marks)
 }
 
-/// Returns the arrows of all entries, oldest first, or `NoMemory` if memory runs out.
-fn arrows_of(
-    alloc: Global,
-    history: &History,
-    groups: &Groups,
-    rows: &[u64],
-) -> Result<Vec<Arrow>, NoMemory>
-    ensures { IfOk result (λ found. found.items ≡ arrows groups.now rows.now history.now.entries) }
-{
-    let sources = sources(alloc, history)?;
-    match arrows(alloc, history, groups, rows, &sources) {
-        Ok(found) => Ok(found),
-        Err(_) => Err(NoMemory),
-    }
-}
-
 /// Appends the picture of a history with these lanes and arrows, or answers `NoMemory` if memory runs out.
 fn push_with_marks(
     alloc: Global,
@@ -150,33 +124,8 @@ fn push_drawing(
     ensures { OnOk result (string_bytes text.new ≡ string_bytes text.old ++ drawing_in groups.now rows.now history.now.entries) }
 {
     let lanes = lanes(alloc, history, groups, rows)?;
-    match arrows_of(alloc, history, groups, rows) {
+    match arrows(alloc, history, groups, rows) {
         Ok(arrows) => push_with_marks(alloc, history, groups, rows, &lanes, &arrows, text),
-        Err(_) => Err(NoMemory),
-    }
-}
-
-/// Appends the table of a history with these groups and rows, by names, or answers `NoMemory` if memory runs out.
-fn push_by_names(
-    alloc: Global,
-    history: &History,
-    groups: &Groups,
-    rows: &[u64],
-    names: &IndexSet<u64>,
-    text: &mut String,
-) -> Result<(), NoMemory>
-    ensures { OnOk result (string_bytes text.new ≡ string_bytes text.old ++ table_by groups.now rows.now history.now.entries names.now.keys) }
-{
-    let used = uses(alloc, history, names)?;
-    match tables_after(alloc, history) {
-        Ok(tables) => {
-            let pushed = push_table(text, history, groups, &tables, names, &used, rows);
-            drop(tables);
-            match pushed {
-                Ok(()) => Ok(()),
-                Err(_) => Err(NoMemory),
-            }
-        }
         Err(_) => Err(NoMemory),
     }
 }
@@ -192,8 +141,11 @@ fn push_long(
 ) -> Result<(), NoMemory>
     ensures { OnOk result (string_bytes text.new ≡ string_bytes text.old ++ table_in groups.now rows.now history.now.entries) }
 {
-    let names = row_names(alloc, rows)?;
-    push_by_names(alloc, history, groups, rows, &names, text)
+    let found = summaries(alloc, history, groups, rows)?;
+    match push_table(text, history.len(), &found) {
+        Ok(()) => Ok(()),
+        Err(_) => Err(NoMemory),
+    }
 }
 
 /// Appends the picture of a history with these groups, or its table if it is long.

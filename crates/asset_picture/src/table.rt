@@ -1,22 +1,13 @@
 //! The table of a long history.
 
 ghost use Rattle.std.specs.Prelude.{◌≡◌, ◌++◌, OnOk, string_bytes};
-ghost use Rattle.asset_names.specs.Steps.{applied};
-ghost use Rattle.asset_ends.specs.Shows.{Shows};
-ghost use Rattle.asset_ends.specs.Standing.{values_of};
-ghost use Rattle.asset_picture.specs.Uses.{uses};
-ghost use Rattle.asset_picture.specs.Tables.{table_height, heading_text, row_text, number_text, count_text, both_text, ends_text, row_for, rows_text, table_frame, table_by};
+ghost use Rattle.asset_picture.specs.Tables.{table_height, heading_text, row_text, number_text, count_text, both_text, row_for, rows_text, table_frame, table_text};
 
 use crate::lane_text::{state_word, status_word};
 use crate::opening::push_open;
 use crate::style::push_style;
-use crate::uses::uses_of;
-use asset_buckets::Buckets;
-use asset_deletion::Groups;
-use asset_ends::Tables;
-use asset_history::History;
-use asset_names::{Status, Txn};
-use indexmap::IndexSet;
+use asset_lanes::Summary;
+use asset_names::Status;
 use std::alloc::AllocError;
 
 /// Returns the height of a table with `rows` rows.
@@ -87,49 +78,28 @@ fn push_both(text: &mut String, first: Option<usize>, last: Option<usize>) -> Re
     text.push_str("</tspan>\n")
 }
 
-/// Appends the numbers of the first and the last of these entries.
-#[tactic(auto, unfolding(crate::specs::Tables::ends_text))]
-fn push_ends(text: &mut String, used: &[usize]) -> Result<(), AllocError>
-    ensures { OnOk result (string_bytes text.new ≡ string_bytes text.old ++ ends_text used.now) }
-{
-    push_both(text, used.first().copied(), used.last().copied())
-}
-
-/// Appends the row of a transaction, which asked for these entries, by tables that show the history.
+/// Appends the row of a transaction.
 #[tactic(auto, unfolding(crate::specs::Tables::row_for))]
-fn push_row_for(
-    text: &mut String,
-    history: &History,
-    groups: &Groups,
-    tables: &Tables,
-    used: &[usize],
-    t: Txn,
-) -> Result<(), AllocError>
-    requires stand { Shows history.now.opening (applied history.now.entries) (values_of tables.now) }
-    ensures { OnOk result (string_bytes text.new ≡ string_bytes text.old ++ row_for groups.now history.now.entries used.now t.0) }
+fn push_row_for(text: &mut String, summary: &Summary) -> Result<(), AllocError>
+    ensures { OnOk result (string_bytes text.new ≡ string_bytes text.old ++ row_for summary.now) }
 {
-    let group = groups.of(t).unwrap_or(0);
-    push_row(text, t.0, group, groups.is_dead(t), tables.status(t))?;
-    push_count(text, used.len())?;
-    push_ends(text, used)
+    push_row(
+        text,
+        summary.t,
+        summary.group,
+        summary.is_dead,
+        summary.status,
+    )?;
+    push_count(text, summary.count)?;
+    push_both(text, summary.first, summary.last)
 }
 
-/// Appends the rows of transactions, by tables that show the history, and the entries that each asked for.
-fn push_rows(
-    text: &mut String,
-    history: &History,
-    groups: &Groups,
-    tables: &Tables,
-    names: &IndexSet<u64>,
-    used: &Buckets,
-    rows: &[u64],
-) -> Result<(), AllocError>
-    requires stand { Shows history.now.opening (applied history.now.entries) (values_of tables.now) }
-    ensures { OnOk result (string_bytes text.new ≡ string_bytes text.old ++ rows_text groups.now history.now.entries names.now.keys used.now rows.now) }
+/// Appends the rows of transactions.
+fn push_rows(text: &mut String, summaries: &[Summary]) -> Result<(), AllocError>
+    ensures { OnOk result (string_bytes text.new ≡ string_bytes text.old ++ rows_text summaries.now) }
 {
-    'rows: for n in rows {
-        let used = uses_of(names, used, Txn(*n));
-        push_row_for(text, history, groups, tables, used, Txn(*n))?;
+    'rows: for summary in summaries {
+        push_row_for(text, summary)?;
     }
     Ok(())
 }
@@ -144,22 +114,16 @@ fn push_frame(text: &mut String, count: usize, rows: usize) -> Result<(), AllocE
     push_heading(text, count)
 }
 
-/// Appends the table of a history, by tables that show it, and the entries that each name asked for.
-#[tactic(auto, unfolding(crate::specs::Tables::table_by))]
+/// Appends the table of `count` entries.
+#[tactic(auto, unfolding(crate::specs::Tables::table_text))]
 pub(crate) fn push_table(
     text: &mut String,
-    history: &History,
-    groups: &Groups,
-    tables: &Tables,
-    names: &IndexSet<u64>,
-    used: &Buckets,
-    rows: &[u64],
+    count: usize,
+    summaries: &[Summary],
 ) -> Result<(), AllocError>
-    requires stand { Shows history.now.opening (applied history.now.entries) (values_of tables.now) }
-    requires used { used.now ≡ uses names.now.keys history.now.entries }
-    ensures { OnOk result (string_bytes text.new ≡ string_bytes text.old ++ table_by groups.now rows.now history.now.entries names.now.keys) }
+    ensures { OnOk result (string_bytes text.new ≡ string_bytes text.old ++ table_text count summaries.now) }
 {
-    push_frame(text, history.len(), rows.len())?;
-    push_rows(text, history, groups, tables, names, used, rows)?;
+    push_frame(text, count, summaries.len())?;
+    push_rows(text, summaries)?;
     text.push_str("</text>\n</svg>\n")
 }

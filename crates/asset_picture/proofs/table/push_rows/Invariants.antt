@@ -4,4 +4,4 @@ use Rattle.asset_picture.proofs.table.push_rows.Given as goal
 
 -- the rows so far are appended
 abbrev pub invariant-rows : goal.invariant-rows
-invariant-rows l = string_bytes l.text ≡ string_bytes l.fn.text ++ rows_text l.groups l.history.entries l.names.keys l.used (take l.n-index l.rows)
+invariant-rows l = string_bytes l.text ≡ string_bytes l.fn.text ++ rows_text (take l.summary-index l.summaries)

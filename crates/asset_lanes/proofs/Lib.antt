@@ -1,0 +1,5 @@
+pub mod WalkLemmas
+pub mod ListLemmas
+pub mod RowLemmas
+pub mod LawLemmas
+pub mod ArrowLemmas

@@ -1,0 +1,20 @@
+//! The lanes of a history, as values: a lane for each transaction, the marks of reads and writes in them, and the arrows between
+//! them; and a summary of each transaction, for a table. `asset_picture` draws them. All stand by the rows of lanes, so the crate
+//! is named after lanes. The one fault is that memory runs out.
+#![tactic(auto)]
+
+mod asking;
+mod laws;
+mod marking;
+mod pointing;
+mod rows;
+mod spanning;
+mod summing;
+mod walking;
+
+pub use laws::pictures_mark_operations;
+pub use marking::{Mark, marks};
+pub use pointing::{Arrow, Drawn, arrows};
+pub use rows::lane_names;
+pub use spanning::{Lane, Span, lanes};
+pub use summing::{Summary, summaries};

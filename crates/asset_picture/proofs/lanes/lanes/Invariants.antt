@@ -1,7 +1,0 @@
-use Rattle.std.proofs.Common.{◌≡◌, take, map}
-use Rattle.asset_picture.specs.Lanes.{lane_of}
-use Rattle.asset_picture.proofs.lanes.lanes.Given as goal
-
--- the lanes so far are found
-abbrev pub invariant-rows : goal.invariant-rows
-invariant-rows l = l.lanes.items ≡ map (lane_of l.groups l.rows l.history.entries) (take l.t-index l.rows)

@@ -1,7 +1,0 @@
-use Rattle.std.proofs.Common.{◌≡◌, false, take}
-use Rattle.asset_picture.specs.Marks.{are_wide}
-use Rattle.asset_picture.proofs.marks.are_wide.Given as goal
-
--- none so far has a long number
-abbrev pub invariant-marks : goal.invariant-marks
-invariant-marks l = are_wide (take l.mark-index l.marks) ≡ false

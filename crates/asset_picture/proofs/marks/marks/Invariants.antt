@@ -1,7 +1,0 @@
-use Rattle.std.proofs.Common.{◌≡◌, take, reverse}
-use Rattle.asset_picture.specs.Marks.{marks}
-use Rattle.asset_picture.proofs.marks.marks.Given as goal
-
--- the marks of the first entries are found
-abbrev pub invariant-entries : goal.invariant-entries
-invariant-entries l = l.found.items ≡ marks l.groups l.rows (reverse (take l.i (reverse l.history.entries)))

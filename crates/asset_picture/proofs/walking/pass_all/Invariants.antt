@@ -1,6 +1,0 @@
-use Rattle.asset_picture.specs.Walked.{ShowsFirst}
-use Rattle.asset_picture.proofs.walking.pass_all.Given as goal
-
--- the tables are past the first entries
-abbrev pub invariant-entries : goal.invariant-entries
-invariant-entries l = ShowsFirst l.history l.i l.tables
