@@ -5,15 +5,14 @@ use Rattle.std.specs.Bool.{OnTrue, OnFalse}
 use Rattle.asset_names.specs.declared.names.Ob.{Ob}
 use Rattle.asset_names.specs.Steps.{Opening}
 use Rattle.asset_grammar.specs.Lines.{lines, Lacks}
-use Rattle.asset_grammar.specs.Words.{parts}
-use Rattle.asset_grammar.proofs.LineLemmas.{cut_at_position, lacks_without_position, lines_cut, parts_cut, parts_last}
+use Rattle.asset_grammar.proofs.LineLemmas.{cut_at_position, lines_cut}
 use Rattle.std.proofs.lemmas.List.Elements.{All-head, All-tail}
 use Rattle.asset_names.specs.Operations.{exists}
 use Rattle.asset_grammar.specs.Words.{words}
-use Rattle.asset_check.specs.declared.reasons.Reason.TheVariants.{GivenTwice}
-use Rattle.asset_check.specs.Checked.{Seen, object_mistake, second_word, seen_object}
+use Rattle.asset_reasons.specs.declared.reasons.Reason.TheVariants.{GivenTwice}
+use Rattle.asset_check.specs.Checked.{Seen, object_mistake, seen_object}
 use Rattle.asset_check.specs.Checking.{seen_in}
-use Rattle.asset_check.specs.Mistakes.{Told}
+use Rattle.asset_reasons.specs.Mistakes.{Told, second_word}
 
 -- the objects of a checker that shows some
 pub objects_shown : (stepped : Bool) (opening o : Opening) (seen : Seen) → seen_in stepped opening ≡ seen → seen ≡ Some o → seen ≡ Some opening
@@ -48,13 +47,6 @@ said_none (b ∷ text) old lacks is none =
     let one : lines (b ∷ text) ≡ (b ∷ text) ∷ [] = one_line (b ∷ text) lacks (omega arith) in
     let same : (b ∷ text) ∷ [] ≡ [] = sym one ∙ sym is ∙ none in
     absurd (cc)
-
--- a part that is cut off, and the last one
-pub parts_at : (byte : ℕ) (text : List ℕ) (i : ℕ) → position (λ b. b == byte) text ≡ Some i → parts byte text ≡ take i text ∷ parts byte (drop (i + 1) text)
-parts_at byte text i h = parts_cut byte text _ _ (cut_at_position byte text i h)
-
-pub parts_end : (byte : ℕ) (text : List ℕ) → position (λ b. b == byte) text ≡ None → parts byte text ≡ text ∷ []
-parts_end byte text h = parts_last byte text (lacks_without_position byte text h)
 
 -- an object that is new, and one that is there
 pub added_object : (opening new : Opening) (given : Ob × ℤ) (line : List ℕ) (added : Bool) → added ≡ not (exists opening given.0.0) → OnTrue added (new ≡ opening ++ given ∷ []) → OnFalse added (new ≡ opening)

@@ -12,18 +12,13 @@ use Rattle.asset_grammar.specs.Lines.{lines}
 use Rattle.asset_grammar.specs.Words.{words}
 use Rattle.asset_cli.specs.Rendering.{end_at}
 use Rattle.asset_cli.specs.Transcript.{Transcript}
-use Rattle.asset_check.specs.declared.reasons.Reason.TheVariants.{ObjectAfterStep, GivenTwice}
-use Rattle.asset_check.specs.Mistakes.{Told, reason_of}
+use Rattle.asset_reasons.specs.declared.reasons.Reason.TheVariants.{ObjectAfterStep, GivenTwice}
+use Rattle.asset_reasons.specs.Mistakes.{Told, reason_of, second_word}
 use Rattle.asset_check.specs.Sentences.{mistake_line}
 
 -- what later lines depend on: the objects so far, or nothing once a step was asked for
 abbrev pub Seen : Type 0
 Seen = Option Opening
-
--- the word after the first one of a line
-unfoldable pub second_word : List (List ℕ) → List ℕ
-second_word (first ∷ second ∷ rest) = second
-second_word other = []
 
 -- why an object line is bad where it stands: it comes after a step, or an earlier line adds the same object
 unfoldable pub object_mistake : Seen → Ob → List ℕ → Option Told

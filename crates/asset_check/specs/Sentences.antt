@@ -1,13 +1,12 @@
 -- How a reason is said.
-use Rattle.std.specs.Prelude.{◌≡◌, ℕ, ◌&&◌, Bool, true, false, cond, nat_lt, List, [], ◌++◌, take, map, Option, None, Some, codes}
+use Rattle.std.specs.Prelude.{ℕ, ◌&&◌, Bool, true, false, cond, nat_lt, List, [], ◌++◌, take, map, Option, None, Some, codes}
 use Rattle.std.specs.Fmt.{decimal}
 use Rattle.asset_grammar.specs.Texts.{line_end}
-use Rattle.asset_check.specs.declared.reasons.Mistake.{Mistake}
-use Rattle.asset_check.specs.declared.reasons.Reason.{Reason}
-use Rattle.asset_check.specs.declared.reasons.Reason.TheVariants as Reason'
-use Rattle.asset_check.specs.declared.reasons.Shape.{Shape}
-use Rattle.asset_check.specs.declared.reasons.Shape.TheVariants as Shape'
-use Rattle.asset_check.specs.Mistakes.{Told}
+use Rattle.asset_reasons.specs.declared.reasons.Reason.{Reason}
+use Rattle.asset_reasons.specs.declared.reasons.Reason.TheVariants as Reason'
+use Rattle.asset_reasons.specs.declared.reasons.Shape.{Shape}
+use Rattle.asset_reasons.specs.declared.reasons.Shape.TheVariants as Shape'
+use Rattle.asset_reasons.specs.Mistakes.{Told}
 
 -- what stands before the word that a reason is about, whether it has one, and what stands after it
 abbrev pub Words : Type 0
@@ -83,8 +82,3 @@ reason_text told = said_with (words_of told.0) told.1
 unfoldable pub mistake_line : ℕ → Option Told → List ℕ
 mistake_line number None = []
 mistake_line number (Some told) = codes "line " ++ decimal number ++ codes ": " ++ reason_text told ++ line_end
-
--- what is found is what is told
-abbrev pub Tells : Option Mistake → Option Told → Type 0
-Tells None told = told ≡ None
-Tells (Some mistake) told = told ≡ Some (mistake.reason, mistake.word.now)

@@ -1,15 +1,13 @@
 //! What a script has said before a line, as far as later lines depend on it.
 ghost use Rattle.std.specs.Prelude.{cond, Some, None};
 ghost use Rattle.asset_grammar.specs.Words.{words};
-ghost use Rattle.asset_check.specs.Checked.{second_word};
-ghost use Rattle.asset_check.specs.Sentences.{Tells};
-ghost use Rattle.asset_check.specs.declared.reasons.Reason.TheVariants.{GivenTwice};
+ghost use Rattle.asset_reasons.specs.Mistakes.{Tells, second_word};
+ghost use Rattle.asset_reasons.specs.declared.reasons.Reason.TheVariants.{GivenTwice};
 
-use crate::reasons::{Mistake, Reason};
-use crate::words::{reason_of, second_word};
 use asset_cli::{OpeningObjects, ScriptFault};
 use asset_grammar::Said;
 use asset_names::Ob;
+use asset_reasons::{Mistake, Reason, reason_of, second_word};
 use std::alloc::Global;
 use std::marker::Model;
 
@@ -56,7 +54,7 @@ impl Checker {
     ghost use Rattle.asset_names.specs.Sets.{HasNoDouble};
     ghost use Rattle.asset_grammar.specs.Grammar.{line_of, said_as};
     ghost use Rattle.asset_check.specs.Checked.{mistake_at, object_mistake, seen_by, seen_object};
-    ghost use Rattle.asset_check.specs.Sentences.{Tells};
+    ghost use Rattle.asset_reasons.specs.Mistakes.{Tells};
 
     /// Returns a checker of the first line. Takes no memory.
     pub fn new(alloc: Global) -> Checker

@@ -3,9 +3,9 @@ ghost use Rattle.std.specs.Prelude.{◌≡◌, ◌∷◌, [], IfSome, MatchOptio
 ghost use Rattle.asset_grammar.specs.Grammar.{line_of, said_as};
 ghost use Rattle.asset_grammar.specs.Lines.{lines, Lacks};
 
-use crate::parts::first_position;
 use asset_grammar::{Said, ScriptLines};
 use asset_names::Step;
+use asset_reasons::first_position;
 use std::marker::Model;
 
 /// The lines of a text that are still to come. Contracts see them as a list, each without its line feed.

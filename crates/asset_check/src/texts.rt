@@ -2,7 +2,7 @@
 ghost use Rattle.std.specs.Prelude.{◌≡◌, ◌<◌, ◌++◌, take, Some, OnOk, string_bytes};
 ghost use Rattle.asset_check.specs.Sentences.{mistake_line, reason_text, said_with, shown, shown_byte, wanted, words_of};
 
-use crate::reasons::{Mistake, Reason, Shape};
+use asset_reasons::{Mistake, Reason, Shape};
 use std::alloc::AllocError;
 
 /// The most bytes of a word that are printed.

@@ -14,9 +14,9 @@ use Rattle.asset_grammar.specs.declared.grammar.Said.TheVariants as Said'
 use Rattle.asset_grammar.specs.Grammar.{line_of, said_as}
 use Rattle.asset_shell.specs.Sessions.{outcome_text}
 use Rattle.asset_check.specs.Checked.{Seen, mistake_in, seen_by, seen_object}
-use Rattle.asset_check.specs.Mistakes.{Told}
-use Rattle.asset_check.specs.declared.reasons.Mistake.{Mistake}
-use Rattle.asset_check.specs.Sentences.{Tells, mistake_line}
+use Rattle.asset_reasons.specs.Mistakes.{Tells, Told}
+use Rattle.asset_reasons.specs.declared.reasons.Mistake.{Mistake}
+use Rattle.asset_check.specs.Sentences.{mistake_line}
 use Rattle.asset_shell.specs.Answering.{IsJoint, asks, bad_if, open_history, session_of}
 use Rattle.asset_shell.specs.Sessions.{Session, answer_if, answer_line, mistake_of, reason_for, reply_to, seen_in, session_after, session_by, with_object}
 

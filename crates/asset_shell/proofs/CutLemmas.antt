@@ -6,8 +6,8 @@ use Rattle.std.proofs.lemmas.List.{length-take, take_all}
 use Rattle.asset_grammar.specs.declared.grammar.Line.TheVariants.{Bad}
 use Rattle.asset_grammar.specs.Grammar.{line_of}
 use Rattle.asset_check.specs.Checked.{Seen, mistake_at, mistake_in}
-use Rattle.asset_check.specs.declared.reasons.Reason.TheVariants.{TooLong}
-use Rattle.asset_check.specs.Mistakes.{reason_of}
+use Rattle.asset_reasons.specs.declared.reasons.Reason.TheVariants.{TooLong}
+use Rattle.asset_reasons.specs.Mistakes.{reason_of}
 use Rattle.asset_check.specs.Checking.{or_this}
 use Rattle.asset_shell.specs.Sessions.{Session, mistake_of, reason_for, reply_to, seen_in, session_after}
 use Rattle.asset_shell.specs.Talking.{Talk, ended, kept, said_now}

@@ -12,7 +12,7 @@ use Rattle.asset_grammar.specs.Grammar.{line_of}
 use Rattle.asset_grammar.specs.Texts.{bad_line, full_line, outcome_line}
 use Rattle.asset_cli.specs.Transcript.{joined_by}
 use Rattle.asset_check.specs.Checked.{Seen, mistake_at}
-use Rattle.asset_check.specs.Mistakes.{Told}
+use Rattle.asset_reasons.specs.Mistakes.{Told}
 use Rattle.asset_check.specs.Sentences.{mistake_line}
 
 -- the history so far, and whether a step was asked for

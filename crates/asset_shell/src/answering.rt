@@ -1,20 +1,21 @@
 //! Answers one line after another.
 ghost use Rattle.std.specs.Prelude.{◌≡◌, ◌++◌, true, Option, None, Some, is_some, OnOk, IfErr, string_bytes};
 ghost use Rattle.asset_core.specs.OpenFaults.{IsCapacity};
-ghost use Rattle.asset_check.specs.Mistakes.{Told};
+ghost use Rattle.asset_reasons.specs.Mistakes.{Tells, Told};
 ghost use Rattle.asset_history.specs.Recorded.{answer_to};
 ghost use Rattle.asset_grammar.specs.Texts.{bad_line};
 ghost use Rattle.asset_cli.specs.Transcript.{joined_by};
 ghost use Rattle.asset_shell.specs.Sessions.{outcome_text};
-ghost use Rattle.asset_check.specs.Sentences.{mistake_line, Tells};
+ghost use Rattle.asset_check.specs.Sentences.{mistake_line};
 ghost use Rattle.asset_shell.specs.Answering.{asks, bad_if, IsJoint, open_history, session_of};
 
 use crate::answers::Answers;
-use asset_check::{Checker, Mistake, first_of, push_mistake, said_of};
+use asset_check::{Checker, first_of, push_mistake, said_of};
 use asset_cli::ScriptFault;
 use asset_core::Core;
 use asset_grammar::{Said, push_bad_line, push_full, push_outcome};
 use asset_names::{Fault, Step};
+use asset_reasons::Mistake;
 use std::alloc::Global;
 use std::marker::Model;
 

@@ -1,4 +1,4 @@
-use Rattle.asset_check.proofs.ReasonLemmas.{has_reason_if_bad}
+use Rattle.asset_reasons.proofs.ReasonLemmas.{has_reason_if_bad}
 use Rattle.asset_check.proofs.EndLemmas.{ends_as_run, names_first, quiet_if_finished}
 use Rattle.asset_check.proofs.laws.checks_end_as_runs.Goals as goal
 

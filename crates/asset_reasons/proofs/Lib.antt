@@ -1,0 +1,5 @@
+pub mod PartLemmas
+pub mod NumberLemmas
+pub mod ShapeLemmas
+pub mod OperandLemmas
+pub mod ReasonLemmas
