@@ -1,12 +1,14 @@
 -- Nodes on one cycle, and their labels.
-use Rattle.std.proofs.Common.{◌≡◌, ℕ, ◌+◌, ◌<◌, Bool, true, false, cond, ◌&&◌, List, length, get_or, Option, Some, None, refl, sym, ap, ◌∙◌, arith, inl, inr}
+use Rattle.std.proofs.Common.{◌≡◌, ℕ, ◌+◌, ◌<◌, Bool, true, false, cond, eqb, ◌&&◌, List, length, get_or, Option, Some, None, refl, sym, ap, ◌∙◌, arith, inl, inr}
+use Rattle.std.specs.List.{list_any}
 use Rattle.std.specs.Option.{option_or}
 use Rattle.std.proofs.lemmas.Bool.{and_from, and_parts, true≢false, false_from_ne_true, cases_lt}
 use Rattle.std.proofs.lemmas.List.FromFn.{fill_by_all, get_or-map-range_with_len, length-map-range_with_len}
 use Rattle.std.proofs.lemmas.List.{get_or_past}
-use Rattle.asset_names.specs.Arrows.{Arrow}
+use Rattle.asset_names.specs.Arrows.{Arrow, linked, lists}
+use Rattle.asset_names.proofs.Common.{both_follow}
 use Rattle.asset_cycles.specs.Cyclic.{turned, reaches, on_one_cycle, label_below, cycle_labels}
-use Rattle.asset_cycles.proofs.ReachLemmas.{reach_trans, reaches_turned}
+use Rattle.asset_cycles.proofs.ReachLemmas.{reach_linked, reach_on, reach_behind, reach_trans, linked_back}
 use Rattle.asset_cycles.proofs.LeastLemmas.{IsLeast, find_more, none_passes, found_least, least_found}
 
 -- ---- being on one cycle
@@ -61,9 +63,21 @@ labelled_here arrows i n none = label_more arrows i n ∙ go (label_below arrows
       absurd (true≢false (sym (cycle_trans arrows i n m (cycle_sym arrows i n ∙ is) least.passes) ∙ label_none arrows i i none m least.below))
 
 -- ---- what two searches meet
-pub met_both : (arrows back : List Arrow) (node n : ℕ) → back ≡ turned arrows → (reaches arrows node n && reaches back node n) ≡ on_one_cycle arrows node n
+-- a node reaches itself if an arrow leads from it to one that the search backward met
+pub met_round : (arrows back : List Arrow) (behind : List ℕ) (node : ℕ) → back ≡ turned arrows → ((n : ℕ) → lists behind n ≡ linked back node n) → list_any (λ (arrow : Arrow). eqb arrow.0 node && lists behind arrow.1) arrows ≡ reaches arrows node node
+unfolding reaches
+met_round arrows back behind node is met = λ m. list_any (λ (arrow : Arrow). eqb arrow.0 node && (met arrow.1 ∙ ap (λ l. linked l node arrow.1) is ∙ linked_back arrows node arrow.1) m) arrows
+
+-- what both searches met is on one cycle with a node that reaches itself
+pub met_both : (arrows back : List Arrow) (node n : ℕ) → back ≡ turned arrows → reaches arrows node node ≡ true → (linked arrows node n && linked back node n) ≡ on_one_cycle arrows node n
 unfolding on_one_cycle
-met_both arrows back node n is = ap (λ b. reaches arrows node n && b) (ap (λ l. reaches l node n) is ∙ reaches_turned arrows node n)
+met_both arrows back node n is round = ap (λ b. linked arrows node n && b) (ap (λ l. linked l node n) is ∙ linked_back arrows node n) ∙ both_follow _ _
+    (λ h.
+    let ways = and_parts (linked arrows node n) (linked arrows n node) h in
+    and_from _ _ (reach_on arrows node node n round ways.0) (reach_behind arrows n node node ways.1 round))
+    (λ h.
+    let ways = and_parts (reaches arrows node n) (reaches arrows n node) h in
+    and_from _ _ (reach_linked arrows node n ways.0) (reach_linked arrows n node ways.1))
 
 -- a node that does not reach itself is on no cycle
 pub met_neither : (arrows : List Arrow) (node n : ℕ) → reaches arrows node node ≡ false → on_one_cycle arrows node n ≡ false

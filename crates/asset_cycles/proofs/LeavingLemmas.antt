@@ -1,14 +1,15 @@
 -- The arrows that lead from a node, by their indices.
-use Rattle.std.proofs.Common.{◌≡◌, ℕ, ◌<◌, Bool, true, eqb, ◌&&◌, List, [], length, get_or, map, refl, sym, ap, subst, ◌∙◌, zero-add, arith}
+use Rattle.std.proofs.Common.{◌≡◌, ℕ, ◌<◌, Bool, true, eqb, ◌&&◌, List, [], length, get_or, map, refl, sym, ap, subst, ◌∙◌, zero-add, arith, inl, inr}
 use Rattle.std.specs.List.{filter, range_with_len, All, Contains}
-use Rattle.std.proofs.lemmas.Bool.{and_parts, and_from, eqb-true, eq-eqb}
-use Rattle.std.proofs.lemmas.List.{get_or-map, length-map, get_or_default, get_or_read}
+use Rattle.std.proofs.lemmas.Bool.{and_parts, and_from, eqb-true, eq-eqb, cases_lt}
+use Rattle.std.proofs.lemmas.List.{get_or-map, length-map, get_or_default, get_or_past, get_or_read}
 use Rattle.std.proofs.lemmas.List.Folds.{Any-from_list_any, list_any_at}
 use Rattle.std.proofs.lemmas.List.FromFn.{get_or-range_with_len, length-range_with_len, get_or-map-range_with_len, length-map-range_with_len}
 use Rattle.std.proofs.lemmas.List.Elements.{filter_passes, All-map, All-filter, All-get_or, All-from_get_or}
 use Rattle.asset_names.specs.Arrows.{Arrow, has_arrow, lists}
 use Rattle.asset_names.proofs.ListLemmas.{lists_at, listed_at, listed_any, any_filter}
 use Rattle.asset_buckets.specs.Bucketed.{indices_below, indices_of, buckets_of}
+use Rattle.asset_marks.specs.Searched.{AreWithin}
 use Rattle.asset_cycles.specs.Cyclic.{AreBelow, turned}
 
 -- the node from which an arrow leads, and what stands where no arrow does
@@ -77,10 +78,18 @@ unfolding buckets_of
 bucket_count numbers count = length-map-range_with_len (λ n. indices_of n numbers) 0 count
 
 -- ---- the row of a node
+-- a node whose row has an index is one of those that there are
+row_within : (leaving : List (List ℕ)) (node i : ℕ) → i < length (get_or leaving node []) → node < length leaving
+row_within leaving node i inside = elim (cases_lt node (length leaving)) [
+  | inl below ↦ below
+  | inr past ↦ absurd (omega (arith, inside, ap (length {A = ℕ}) (get_or_past leaving node [] past)))
+]
+
 -- the next index of the row is that of an arrow that leads from the node
-pub row_leads : (arrows : List Arrow) (leaving : List (List ℕ)) (row : List ℕ) (node i : ℕ) → leaving ≡ buckets_of (map start_of arrows) (length leaving) → node < length leaving → row ≡ get_or leaving node [] → i < length row
+pub row_leads : (arrows : List Arrow) (leaving : List (List ℕ)) (row : List ℕ) (node i : ℕ) → leaving ≡ buckets_of (map start_of arrows) (length leaving) → row ≡ get_or leaving node [] → i < length row
     → (get_or row i 0 < length arrows) × ((get_or arrows (get_or row i 0) no_arrow).0 ≡ node)
-row_leads arrows leaving row node i is below row_is inside =
+row_leads arrows leaving row node i is row_is inside =
+    let below = row_within leaving node i (subst (λ (l : List ℕ). i < length l) row_is inside) in
     let here : row ≡ indices_of node (map start_of arrows) = row_is ∙ leaving_at arrows leaving node is below in
     let within : i < length (indices_of node (map start_of arrows)) = subst (λ (l : List ℕ). i < length l) here inside in
     rw here (index_leads arrows node i within)
@@ -92,13 +101,19 @@ read_leads arrows node k read below from is =
     (rw same (subst (λ n. has_arrow arrows n (get_or arrows k no_arrow).1 ≡ true) from (leads_at arrows k below)), ap (λ (one : Arrow). one.1) same)
 
 -- each arrow that leads from the node has an index in its row
-pub row_has : (arrows : List Arrow) (leaving : List (List ℕ)) (node t : ℕ) → leaving ≡ buckets_of (map start_of arrows) (length leaving) → node < length leaving → has_arrow arrows node t ≡ true
+pub row_has : (arrows : List Arrow) (leaving : List (List ℕ)) (node t : ℕ) → leaving ≡ buckets_of (map start_of arrows) (length leaving) → AreBelow arrows (length leaving) → has_arrow arrows node t ≡ true
     → (i : ℕ) × (i < length (get_or leaving node [])) × ((get_or arrows (get_or (get_or leaving node []) i 0) no_arrow).1 ≡ t)
 row_has arrows leaving node t is below arrow =
-    let here = leaving_at arrows leaving node is below in
     let found = arrow_at arrows node t arrow in
+    let here = leaving_at arrows leaving node is (omega (arith, (below found.0 no_arrow found.1).0, found.2)) in
     let at = listed_at (indices_of node (map start_of arrows)) found.0 (has_index arrows node found.0 found.1 found.2) in
     rw here ((at.0, at.1, ap (λ k. (get_or arrows k no_arrow).1) at.2 ∙ found.3))
+
+-- each arrow leads to a node that there is
+pub below_within : (arrows : List Arrow) (count : ℕ) → AreBelow arrows count → AreWithin arrows count
+below_within arrows count below u t arrow =
+    let found = arrow_at arrows u t arrow in
+    omega (arith, (below found.0 no_arrow found.1).1, found.3)
 
 -- ---- arrows that are turned round
 pub turned_below : (arrows : List Arrow) (count : ℕ) → AreBelow arrows count → AreBelow (turned arrows) count

@@ -1,7 +1,5 @@
-pub mod MarkLemmas
 pub mod LeavingLemmas
 pub mod ReachLemmas
-pub mod WalkLemmas
 pub mod LeastLemmas
 pub mod CycleLemmas
 pub mod LabelLemmas

@@ -9,32 +9,37 @@ use Rattle.asset_names.proofs.PermitLemmas.{has_listed, linked_has}
 use Rattle.asset_names.proofs.Common.{both_follow}
 use Rattle.asset_cycles.specs.Cyclic.{reaches, turned}
 
+-- ---- an arrow leads from a node to one that passes a test
+pub leads_by : (test : ℕ → Bool) (arrows : List Arrow) (a c : ℕ) → has_arrow arrows a c ≡ true → test c ≡ true → list_any (λ (one : Arrow). eqb one.0 a && test one.1) arrows ≡ true
+unfolding has_arrow
+leads_by test [] a c h passes = absurd (false≢true h)
+leads_by test (one ∷ arrows) a c h passes = elim (or_cases (eqb one.0 a && eqb one.1 c) _ h) [
+  | inl here ↦
+      let ends = and_parts (eqb one.0 a) (eqb one.1 c) here in
+      or_left _ _ (and_from _ _ ends.0 (subst (λ n. test n ≡ true) (sym (eqb-true one.1 c ends.1)) passes))
+  | inr later ↦ or_right (eqb one.0 a && test one.1) _ (leads_by test arrows a c later passes)
+]
+
+pub leads_parts : (test : ℕ → Bool) (arrows : List Arrow) (a : ℕ) → list_any (λ (one : Arrow). eqb one.0 a && test one.1) arrows ≡ true → (c : ℕ) × (has_arrow arrows a c ≡ true) × (test c ≡ true)
+unfolding has_arrow
+leads_parts test [] a h = absurd (false≢true h)
+leads_parts test (one ∷ arrows) a h = elim (or_cases (eqb one.0 a && test one.1) _ h) [
+  | inl here ↦
+      let parts = and_parts (eqb one.0 a) (test one.1) here in
+      (one.1, or_left _ _ (and_from (eqb one.0 a) (eqb one.1 one.1) parts.0 (eq-eqb one.1 one.1 refl)), parts.1)
+  | inr later ↦
+      let found = leads_parts test arrows a later in
+      (found.0, or_right (eqb one.0 a && eqb one.1 found.0) _ found.1, found.2)
+]
+
 -- ---- a node reaches what is linked behind an arrow
 pub reaches_by : (arrows : List Arrow) (a c b : ℕ) → has_arrow arrows a c ≡ true → linked arrows c b ≡ true → reaches arrows a b ≡ true
-unfolding reaches has_arrow
-reaches_by arrows a c b arrow way = go arrows arrow where
-  go : (few : List Arrow) → has_arrow few a c ≡ true → list_any (λ (one : Arrow). eqb one.0 a && linked arrows one.1 b) few ≡ true
-  go [] h = absurd (false≢true h)
-  go (one ∷ few) h = elim (or_cases (eqb one.0 a && eqb one.1 c) _ h) [
-    | inl here ↦
-        let ends = and_parts (eqb one.0 a) (eqb one.1 c) here in
-        or_left _ _ (and_from _ _ ends.0 (subst (λ n. linked arrows n b ≡ true) (sym (eqb-true one.1 c ends.1)) way))
-    | inr later ↦ or_right (eqb one.0 a && linked arrows one.1 b) _ (go few later)
-  ]
+unfolding reaches
+reaches_by arrows a c b arrow way = leads_by (λ n. linked arrows n b) arrows a c arrow way
 
 pub reach_parts : (arrows : List Arrow) (a b : ℕ) → reaches arrows a b ≡ true → (c : ℕ) × (has_arrow arrows a c ≡ true) × (linked arrows c b ≡ true)
-unfolding reaches has_arrow
-reach_parts arrows a b h = go arrows h where
-  go : (few : List Arrow) → list_any (λ (one : Arrow). eqb one.0 a && linked arrows one.1 b) few ≡ true → (c : ℕ) × (has_arrow few a c ≡ true) × (linked arrows c b ≡ true)
-  go [] h = absurd (false≢true h)
-  go (one ∷ few) h = elim (or_cases (eqb one.0 a && linked arrows one.1 b) _ h) [
-    | inl here ↦
-        let parts = and_parts (eqb one.0 a) (linked arrows one.1 b) here in
-        (one.1, or_left _ _ (and_from (eqb one.0 a) (eqb one.1 one.1) parts.0 (eq-eqb one.1 one.1 refl)), parts.1)
-    | inr later ↦
-        let found = go few later in
-        (found.0, or_right (eqb one.0 a && eqb one.1 found.0) _ found.1, found.2)
-  ]
+unfolding reaches
+reach_parts arrows a b h = leads_parts (λ n. linked arrows n b) arrows a h
 
 pub reach_first : (arrows : List Arrow) (a b : ℕ) → has_arrow arrows a b ≡ true → reaches arrows a b ≡ true
 reach_first arrows a b arrow = reaches_by arrows a b b arrow (linked_refl arrows b)
@@ -49,9 +54,6 @@ reach_on arrows a b c h way =
     let parts = reach_parts arrows a b h in
     reaches_by arrows a parts.0 c parts.1 (linked_trans arrows parts.0 b c parts.2 way)
 
-pub reach_step : (arrows : List Arrow) (a b c : ℕ) → reaches arrows a b ≡ true → has_arrow arrows b c ≡ true → reaches arrows a c ≡ true
-reach_step arrows a b c h arrow = reach_on arrows a b c h (linked_has arrows b c arrow)
-
 pub reach_trans : (arrows : List Arrow) (a b c : ℕ) → reaches arrows a b ≡ true → reaches arrows b c ≡ true → reaches arrows a c ≡ true
 reach_trans arrows a b c g h = reach_on arrows a b c g (reach_linked arrows b c h)
 
@@ -62,12 +64,10 @@ reach_last arrows a b c way arrow = go a b (chain_from_linked arrows a b way) ar
   go a b (stay n) arrow = reach_first arrows a c arrow
   go a b (along m n o first rest) arrow = reaches_by arrows a n c (has_listed arrows a n first) (reach_linked arrows n c (go n b rest arrow))
 
--- what each arrow keeps is kept along the arrows
-pub kept_linked : (test : ℕ → Bool) (arrows : List Arrow) → ((u t : ℕ) → has_arrow arrows u t ≡ true → test u ≡ true → test t ≡ true) → (a b : ℕ) → linked arrows a b ≡ true → test a ≡ true → test b ≡ true
-kept_linked test arrows closed a b way start = go a b (chain_from_linked arrows a b way) start where
-  go : (a b : ℕ) → Chain arrows a b → test a ≡ true → test b ≡ true
-  go a b (stay n) h = h
-  go a b (along m n o first rest) h = go n b rest (closed a n (has_listed arrows a n first) h)
+pub reach_behind : (arrows : List Arrow) (a b c : ℕ) → linked arrows a b ≡ true → reaches arrows b c ≡ true → reaches arrows a c ≡ true
+reach_behind arrows a b c way h =
+    let parts = reach_parts arrows b c h in
+    reach_on arrows a parts.0 c (reach_last arrows a b parts.0 way parts.1) parts.2
 
 -- ---- arrows that are turned round
 -- an arrow leads on where the arrow turned round leads back
@@ -92,6 +92,9 @@ turned_linked arrows a b way = go a b (chain_from_linked arrows a b way) where
   go : (a b : ℕ) → Chain arrows a b → linked (turned arrows) b a ≡ true
   go a b (stay n) = linked_refl (turned arrows) a
   go a b (along m n o first rest) = linked_trans (turned arrows) b n a (go n b rest) (linked_has (turned arrows) n a (turned_leads arrows n a ∙ has_listed arrows a n first))
+
+pub linked_back : (arrows : List Arrow) (a b : ℕ) → linked (turned arrows) a b ≡ linked arrows b a
+linked_back arrows a b = both_follow _ _ (linked_turned arrows a b) (turned_linked arrows b a)
 
 -- what reaches a node is what the node reaches along the arrows turned round
 pub reaches_turned : (arrows : List Arrow) (a b : ℕ) → reaches (turned arrows) a b ≡ reaches arrows b a

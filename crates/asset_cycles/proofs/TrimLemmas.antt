@@ -10,11 +10,11 @@ use Rattle.asset_names.proofs.Arrows.{linked_refl, linked_trans, chain_from_link
 use Rattle.asset_names.proofs.PermitLemmas.{has_listed, linked_has, linked_more, has_among}
 use Rattle.asset_names.proofs.Common.{both_follow}
 use Rattle.asset_names.proofs.ListLemmas.{lists_pushed}
+use Rattle.asset_marks.proofs.WalkLemmas.{met_listed, nothing_listed}
 use Rattle.asset_cycles.specs.Cyclic.{AreBelow, turned, reaches, on_one_cycle, label_below, cycle_labels}
 use Rattle.asset_cycles.specs.Leaving.{end_at}
 use Rattle.asset_cycles.specs.Trimmed.{IsTrimmed, ArePassed}
 use Rattle.asset_cycles.proofs.ReachLemmas.{reaches_by, reach_parts, reaches_turned}
-use Rattle.asset_cycles.proofs.WalkLemmas.{still_met}
 
 -- ---- the same cycles have the same labels
 pub same_labels : (ones others : List Arrow) (count : ℕ) → ((u v : ℕ) → on_one_cycle ones u v ≡ on_one_cycle others u v) → cycle_labels ones count ≡ cycle_labels others count
@@ -95,10 +95,6 @@ same_cycles ones others to back a b = λ m. same a b m && same b a m where
   same : (a b : ℕ) → reaches ones a b ≡ reaches others a b
   same a b = both_follow _ _ (fewer_reach ones others to a b) (fewer_reach others ones back a b)
 
-nothing_listed : (n : ℕ) → lists [] n ≡ false
-unfolding lists
-nothing_listed n = refl
-
 pub none_taken : (arrows : List Arrow) → IsTrimmed arrows []
 none_taken arrows = same_cycles (among (λ n. not (lists [] n)) arrows) arrows
     (λ u v h. (left_parts [] arrows u v h).2)
@@ -141,7 +137,7 @@ more_passed arrows leaving taken passed node more inside before here n i below =
 ]
 
 pub still_passed : (arrows : List Arrow) (leaving : List (List ℕ)) (taken after passed : List ℕ) (node : ℕ) → after ≡ cond (lists taken node) taken (taken ++ node ∷ []) → ArePassed arrows leaving taken passed → ArePassed arrows leaving after passed
-still_passed arrows leaving taken after passed node is before n i below = still_met taken after node (end_at arrows leaving n i) is (before n i below)
+still_passed arrows leaving taken after passed node is before n i below = met_listed taken after node (end_at arrows leaving n i) is (before n i below)
 
 -- ---- the arrows that are left
 pub left_below : (test : ℕ → Bool) (arrows : List Arrow) (count : ℕ) → AreBelow arrows count → AreBelow (among test arrows) count

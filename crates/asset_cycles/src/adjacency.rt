@@ -1,12 +1,12 @@
-//! The arrows of a graph by the nodes from which they lead, and the search along them.
+//! The arrows of a graph by the nodes from which they lead.
 
 ghost use Rattle.std.specs.Prelude.{◌≡◌, List, ◌≤◌, length, map, IfOk};
 ghost use Rattle.asset_names.specs.Arrows.{Arrow};
 ghost use Rattle.asset_buckets.specs.Bucketed.{buckets_of};
 ghost use Rattle.asset_cycles.specs.Cyclic.{AreBelow};
 
-use crate::marks::Marks;
 use asset_buckets::Buckets;
+use asset_marks::{Arrows, Marks};
 use std::alloc::{AllocError, Global};
 
 /// The arrows of a graph, and for each node the indices of the arrows that lead from it.
@@ -30,10 +30,10 @@ fn starts(alloc: Global, arrows: &[(usize, usize)]) -> Result<Vec<usize>, AllocE
 }
 
 impl Adjacency {
-    ghost use Rattle.std.specs.Prelude.{◌≡◌, ℕ, ◌<◌, true, [], length, slice_index_or, IfOk};
-    ghost use Rattle.asset_names.specs.Arrows.{lists, has_arrow};
-    ghost use Rattle.asset_cycles.specs.Cyclic.{AreBelow, reaches};
-    ghost use Rattle.asset_cycles.specs.Marked.{Expands};
+    ghost use Rattle.std.specs.Prelude.{◌≡◌, ℕ, ◌<◌, ◌==◌, ◌&&◌, true, [], length, slice_index_or, IfOk};
+    ghost use Rattle.std.specs.List.{list_any};
+    ghost use Rattle.asset_names.specs.Arrows.{Arrow, lists, has_arrow};
+    ghost use Rattle.asset_cycles.specs.Cyclic.{AreBelow};
     ghost use Rattle.asset_cycles.specs.Leaving.{end_at};
 
     /// Puts the arrows in order of the nodes from which they lead. The nodes are those below the count.
@@ -60,7 +60,6 @@ impl Adjacency {
 
     /// Returns the node to which the arrow at the index leads, among the arrows from the node.
     pub(crate) fn end(&self, node: usize, index: usize) -> usize
-        requires node { node < length self.now.leaving }
         requires index { index < length (slice_index_or self.now.leaving node []) }
         ensures end { result ≡ end_at self.now.arrows.items self.now.leaving node index }
         ensures arrow { has_arrow self.now.arrows.items node result ≡ true }
@@ -72,7 +71,6 @@ impl Adjacency {
     /// Returns the index of the first arrow from the node that leads to a node that is not met, and how many arrows there
     /// are if all lead to nodes that are met. Those before `from` are known to do so.
     pub(crate) fn first_unmet(&self, node: usize, from: usize, marks: &Marks) -> usize
-        requires node { node < length self.now.leaving }
         requires size { marks.now.size ≡ length self.now.leaving }
         requires met { (i : ℕ) → i < from → lists marks.now.nodes (end_at self.now.arrows.items self.now.leaving node i) ≡ true }
         ensures { (i : ℕ) → i < result → lists marks.now.nodes (end_at self.now.arrows.items self.now.leaving node i) ≡ true }
@@ -84,32 +82,26 @@ impl Adjacency {
         index
     }
 
-    /// Meets the nodes to which an arrow leads from this one.
-    fn expand(&self, node: usize, marks: &mut Marks)
-        requires node { node < length self.now.leaving }
-        requires size { marks.old.size ≡ length self.now.leaving }
-        ensures size { marks.new.size ≡ marks.old.size }
-        ensures expanded { Expands self.now.arrows.items node marks.old.nodes marks.new.nodes }
+    /// Returns whether an arrow leads from the node to one that is met.
+    pub(crate) fn leads_to_met(&self, node: usize, marks: &Marks) -> bool
+        requires size { marks.now.size ≡ length self.now.leaving }
+        ensures { result ≡ list_any (λ (arrow : Arrow). arrow.0 == node && lists marks.now.nodes arrow.1) self.now.arrows.items }
     {
         'arrows: for index in 0..self.degree(node) {
-            marks.meet(self.end(node, index));
+            if marks.has(self.end(node, index)) {
+                return true;
+            }
         }
+        false
     }
+}
 
-    /// Meets exactly the nodes that this one reaches. It goes only along the arrows that lead from them and from the node.
-    pub(crate) fn search(&self, from: usize, marks: &mut Marks)
-        requires from { from < length self.now.leaving }
-        requires size { marks.old.size ≡ length self.now.leaving }
-        ensures size { marks.new.size ≡ marks.old.size }
-        ensures met { (n : ℕ) → lists marks.new.nodes n ≡ reaches self.now.arrows.items from n }
-    {
-        marks.clear();
-        self.expand(from, marks);
-        let mut next = 0;
-        'met: while next < marks.len() {
-            let node = marks.node(next);
-            self.expand(node, marks);
-            next += 1;
+impl Arrows for Adjacency {
+    ghost arrows = { λ adjacency. adjacency.arrows.items };
+
+    fn expand(&self, node: usize, marks: &mut Marks) {
+        'arrows: for index in 0..self.degree(node) {
+            marks.meet(self.end(node, index));
         }
     }
 }

@@ -4,6 +4,8 @@ ghost use Rattle.std.specs.Prelude.{◌≡◌, length, IfOk};
 ghost use Rattle.asset_cycles.specs.Cyclic.{turned};
 
 use crate::adjacency::Adjacency;
+use asset_marks::Marks;
+use asset_names::NoMemory;
 use std::alloc::{AllocError, Global};
 
 /// The arrows of a graph, and the same arrows turned round.
@@ -30,7 +32,7 @@ pub(crate) fn turned(
 }
 
 impl Graph {
-    ghost use Rattle.std.specs.Prelude.{◌≡◌, length, IfOk};
+    ghost use Rattle.std.specs.Prelude.{◌≡◌, [], length, IfOk};
     ghost use Rattle.asset_cycles.specs.Cyclic.{AreBelow};
 
     /// Returns the graph of the arrows between the nodes below the count.
@@ -47,5 +49,20 @@ impl Graph {
         let forward = Adjacency::of(alloc, count, arrows)?;
         let backward = Adjacency::of(alloc, count, back)?;
         Ok(Graph { forward, backward })
+    }
+
+    /// Returns marks on the nodes, none of which is met.
+    pub(crate) fn marks(&self, alloc: Global) -> Result<Marks, AllocError>
+        ensures size { IfOk result (λ marks. marks.size ≡ length self.now.forward.leaving) }
+        ensures nodes { IfOk result (λ marks. marks.nodes ≡ []) }
+    {
+        let mut marks = Marks::new(alloc);
+        let count = self.forward.leaving.count();
+        if count > 0 {
+            if let Err(NoMemory) = marks.add(count - 1) {
+                return Err(AllocError);
+            }
+        }
+        Ok(marks)
     }
 }

@@ -5,7 +5,7 @@ ghost use Rattle.asset_names.specs.Arrows.{lists};
 ghost use Rattle.asset_cycles.specs.Cyclic.{AreBelow, on_one_cycle, cycle_labels};
 
 use crate::graph::Graph;
-use crate::marks::Marks;
+use asset_marks::{Marks, spread};
 use std::alloc::{AllocError, Global};
 
 /// A graph, and the nodes that a search forward and one backward have met.
@@ -44,8 +44,8 @@ impl Search {
         ensures count { IfOk result (λ search. length search.graph.forward.leaving ≡ count) }
     {
         let graph = Graph::of(alloc, count, arrows)?;
-        let ahead = Marks::of(alloc, count)?;
-        let behind = Marks::of(alloc, count)?;
+        let ahead = graph.marks(alloc)?;
+        let behind = graph.marks(alloc)?;
         Ok(Search {
             graph,
             ahead,
@@ -62,9 +62,9 @@ impl Search {
             ≡ cond (on_one_cycle self.old.graph.forward.arrows.items node n) (Some node) (slice_index_or labels.old n None) }
     {
         let graph = &self.graph;
-        graph.forward.search(node, &mut self.ahead);
-        if self.ahead.has(node) {
-            graph.backward.search(node, &mut self.behind);
+        spread(&graph.backward, node, &mut self.behind);
+        if graph.forward.leads_to_met(node, &self.behind) {
+            spread(&graph.forward, node, &mut self.ahead);
             label_met(&self.ahead, &self.behind, node, labels);
         }
     }

@@ -7,7 +7,6 @@ mod cycles;
 mod graph;
 mod labelling;
 mod laws;
-mod marks;
 mod trimming;
 
 pub use cycles::Cycles;

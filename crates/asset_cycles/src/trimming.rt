@@ -6,7 +6,7 @@ ghost use Rattle.asset_cycles.specs.Cyclic.{AreBelow, cycle_labels};
 ghost use Rattle.asset_cycles.specs.Trimmed.{IsTrimmed, ArePassed};
 
 use crate::graph::{Graph, turned};
-use crate::marks::Marks;
+use asset_marks::Marks;
 use std::alloc::{AllocError, Global};
 
 /// A graph, and the nodes that are taken away so far. When a node is taken away, all arrows from it lead to nodes that
@@ -62,7 +62,7 @@ impl Trim {
         ensures count { IfOk result (λ trim. length trim.graph.forward.leaving ≡ count) }
     {
         let graph = Graph::of(alloc, count, arrows)?;
-        let taken = Marks::of(alloc, count)?;
+        let taken = graph.marks(alloc)?;
         let passed = vec![in alloc; 0usize; count]?;
         Ok(Trim {
             graph,

@@ -7,8 +7,8 @@ pub index-requires : goal.index-requires
 index-requires c =
     let way = c.args.self.now in
     let row = c.bucket.result.now in
-    let inside : c.args.index < length row = omega (arith, ap (length {A = ℕ}) c.bucket.ensures, c.requires.index) in
-    let leads = row_leads way.arrows.items way.leaving row c.args.node c.args.index way.by_start c.requires.node c.bucket.ensures inside in
+    let inside : c.args.index < length row = omega (arith, ap (length {A = ℕ}) c.bucket.ensures, c.requires) in
+    let leads = row_leads way.arrows.items way.leaving row c.args.node c.args.index way.by_start c.bucket.ensures inside in
     omega (arith, way.arrows.ok.0, leads.0)
 
 pub returns : goal.returns
@@ -17,8 +17,8 @@ returns c =
     let arrows = way.arrows.items in
     let row = c.bucket.result.now in
     let k = get_or row c.args.index 0 in
-    let inside : c.args.index < length row = omega (arith, ap (length {A = ℕ}) c.bucket.ensures, c.requires.index) in
-    let leads = row_leads arrows way.leaving row c.args.node c.args.index way.by_start c.requires.node c.bucket.ensures inside in
+    let inside : c.args.index < length row = omega (arith, ap (length {A = ℕ}) c.bucket.ensures, c.requires) in
+    let leads = row_leads arrows way.leaving row c.args.node c.args.index way.by_start c.bucket.ensures inside in
     let read = read_leads arrows c.args.node k c.index.result.now leads.0 leads.1 c.index.ensures in
     let within = way.below k c.index.result.now leads.0 in
     let end : c.index.result.now.1 ≡ (get_or arrows k c.index.result.now).1 = ap (λ (arrow : Arrow). arrow.1) c.index.ensures in

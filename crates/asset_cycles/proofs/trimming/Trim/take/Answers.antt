@@ -15,7 +15,7 @@ invariant_of-self c =
       taken_size = c.meet.ensures.size ∙ trim.taken_size;
       passed_size = length-set trim.passed.items c.args.node c.first_unmet-passed.result ∙ trim.passed_size;
       trimmed = one_taken way.arrows.items trim.taken.nodes c.meet.new.self.nodes c.args.node trim.trimmed (λ t arrow.
-          let found = row_has way.arrows.items way.leaving c.args.node t way.by_start c.requires arrow in
+          let found = row_has way.arrows.items way.leaving c.args.node t way.by_start way.below arrow in
           subst (λ n. lists trim.taken.nodes n ≡ true) found.2 (c.first_unmet-passed.ensures found.0 (omega (arith, found.1, c.if-passed-degree.true, c.degree.ensures)))) c.meet.ensures.nodes;
       passed_taken = still_passed way.arrows.items way.leaving trim.taken.nodes c.meet.new.self.nodes _ c.args.node c.meet.ensures.nodes passed;
     }

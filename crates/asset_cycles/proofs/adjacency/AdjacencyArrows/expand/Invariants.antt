@@ -1,8 +1,8 @@
 use Rattle.std.proofs.Common.{◌≡◌, ℕ, ◌<◌, true}
 use Rattle.asset_names.specs.Arrows.{lists}
 use Rattle.asset_cycles.specs.Leaving.{end_at}
-use Rattle.asset_cycles.proofs.WalkLemmas.{IsMore}
-use Rattle.asset_cycles.proofs.adjacency.Adjacency.expand.Given as goal
+use Rattle.asset_marks.proofs.WalkLemmas.{IsMore}
+use Rattle.asset_cycles.proofs.adjacency.AdjacencyArrows.expand.Given as goal
 
 -- the ends of the arrows so far are met, and nothing else is new
 abbrev pub invariant-arrows : goal.invariant-arrows
