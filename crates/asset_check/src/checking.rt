@@ -1,11 +1,10 @@
 //! Checks a script without running it.
-ghost use Rattle.std.specs.Prelude.{◌≡◌, ℕ, ◌+◌, ◌^◌, ◌<◌, ◌≤◌, Bool, false, List, ◌∷◌, ◌++◌, Some, is_some, length, IfOk, OnOk, IfErr, string_bytes};
+ghost use Rattle.std.specs.Prelude.{◌≡◌, ℕ, ◌+◌, ◌^◌, ◌<◌, Bool, false, List, ◌∷◌, ◌++◌, Some, is_some, length, IfOk, OnOk, IfErr, string_bytes};
 ghost use Rattle.asset_grammar.specs.Grammar.{line_of};
 ghost use Rattle.asset_grammar.specs.Lines.{lines, Lacks};
 ghost use Rattle.asset_cli.specs.Device.{IsUnused};
-ghost use Rattle.asset_cli.specs.Rendering.{end_at, Renders};
+ghost use Rattle.asset_cli.specs.Rendering.{end_at};
 ghost use Rattle.asset_cli.specs.Runs.{WroteAll, Stops};
-ghost use Rattle.asset_cli.specs.Transfers.{input_limit};
 ghost use Rattle.asset_check.specs.Checked.{check_lines, checked, first_bad, mistake_at, seen_by};
 ghost use Rattle.asset_check.specs.Sentences.{mistake_line};
 ghost use Rattle.asset_check.specs.Checking.{or_this};
@@ -15,7 +14,7 @@ ghost use Rattle.asset_cli.specs.declared.prints.Prints.{Prints};
 use crate::checker::Checker;
 use crate::lines::{Lines, said_of};
 use crate::texts::push_mistake;
-use asset_cli::{Device, RunEnd, ScriptFault, read_all, write_all};
+use asset_cli::{Device, Render, RunEnd, ScriptFault, render_all};
 use asset_names::{Step, Txn};
 use std::alloc::Global;
 use std::io::{Read, Write};
@@ -90,17 +89,25 @@ fn end_at(bad: Option<u64>) -> RunEnd
     }
 }
 
-/// Appends a line for each bad line of a script. Returns how the check ends. After an error a part of the text may have been
-/// appended.
-fn render(alloc: Global, bytes: &[u8], text: &mut String) -> Result<RunEnd, ScriptFault>
-    requires limit { length bytes.now ≤ input_limit }
-    ensures rendered { IfOk result (λ end. Renders (string_bytes text.old) (checked bytes.now) (string_bytes text.new) end) }
-    ensures memory { IfErr result (λ fault. fault ≡ ScriptFault.NoMemory) }
-{
-    let mut checker = Checker::new(alloc);
-    match check_lines(&mut checker, text, bytes) {
-        Ok(bad) => Ok(end_at(bad)),
-        Err(fault) => Err(fault),
+/// The lines that name the bad lines of a script.
+struct Check;
+
+impl Render for Check {
+    ghost use Rattle.asset_check.specs.Checked.{checked};
+
+    ghost transcript = { λ _ bytes. checked bytes };
+
+    fn render(
+        &self,
+        alloc: Global,
+        bytes: &[u8],
+        text: &mut String,
+    ) -> Result<RunEnd, ScriptFault> {
+        let mut checker = Checker::new(alloc);
+        match check_lines(&mut checker, text, bytes) {
+            Ok(bad) => Ok(end_at(bad)),
+            Err(fault) => Err(fault),
+        }
     }
 }
 
@@ -126,9 +133,5 @@ pub fn check_script<R: Read, W: Write>(
     ensures stopped { IfErr result (Stops R.remaining W.contents checked input.old input.new output.old output.new) }
     ensures as_run { (bytes : List ℕ) (prints : Prints) (capacity : ℕ) → EndsAsRun bytes prints capacity }
 {
-    let bytes = read_all(alloc, input)?;
-    let mut text = String::new(alloc);
-    let end = render(alloc, &bytes, &mut text)?;
-    write_all(output, text.as_bytes())?;
-    Ok(end)
+    render_all(alloc, input, output, &Check)
 }

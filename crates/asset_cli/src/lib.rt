@@ -15,6 +15,7 @@ mod reading;
 mod rendering;
 mod reporting;
 mod running;
+mod transfer;
 mod writing;
 
 pub use device::Device;
@@ -30,4 +31,5 @@ pub use running::{
     groups_script, picture_script, prune_script, run_for, run_script, serial_script,
     sources_script, steps_script,
 };
+pub use transfer::{Render, render_all};
 pub use writing::write_all;

@@ -6,12 +6,13 @@ ghost use Rattle.asset_cli.specs.declared.prints.Prints.TheVariants.{Replies, Li
 ghost use Rattle.asset_cli.specs.Transcript.{transcript};
 ghost use Rattle.asset_cli.specs.Rendering.{Renders};
 ghost use Rattle.asset_cli.specs.Playing.{prints_for, traces_for};
-ghost use Rattle.asset_cli.specs.Reporting.{report_of, reported, sourced, transcript_of};
+ghost use Rattle.asset_cli.specs.Reporting.{report_of, reported, sourced};
 
 use crate::ends::RunEnd;
 use crate::faults::ScriptFault;
 use crate::prints::Prints;
 use crate::rendering::{Played, play};
+use crate::transfer::Render;
 use asset_history::History;
 use asset_names::NoMemory;
 use asset_picture::push_picture;
@@ -184,24 +185,31 @@ fn render_listing(
     }
 }
 
-/// Appends what the work gives of a script to the text. Returns how the run ends. After an error a part of it may have been
-/// appended.
-pub(crate) fn render(
-    alloc: Global,
-    bytes: &[u8],
-    capacity: usize,
-    work: Work,
-    text: &mut String,
-) -> Result<RunEnd, ScriptFault>
-    requires capacity { IsCapacity capacity }
-    requires limit { length bytes.now ≤ input_limit }
-    ensures rendered { IfOk result (λ end. Renders (string_bytes text.old) (transcript_of work bytes.now capacity) (string_bytes text.new) end) }
-    ensures memory { IfErr result (λ fault. fault ≡ ScriptFault.NoMemory) }
-{
-    match work {
-        Work::Run => render_run(alloc, bytes, capacity, text),
-        Work::Steps => render_listing(alloc, bytes, capacity, text),
-        Work::Sources => render_sources(alloc, bytes, capacity, text),
-        Work::Report(report) => render_report(alloc, bytes, capacity, report, text),
+/// A run of a script for a work, over a history with room for `capacity` entries.
+#[derive(Drop)]
+pub(crate) struct Run {
+    pub(crate) work: Work,
+    pub(crate) capacity: usize,
+    ghost within: { IsCapacity capacity },
+}
+
+impl Render for Run {
+    ghost use Rattle.asset_cli.specs.Reporting.{transcript_of};
+
+    ghost transcript = { λ run bytes. transcript_of run.work bytes run.capacity };
+
+    fn render(
+        &self,
+        alloc: Global,
+        bytes: &[u8],
+        text: &mut String,
+    ) -> Result<RunEnd, ScriptFault> {
+        let capacity = self.capacity;
+        match self.work {
+            Work::Run => render_run(alloc, bytes, capacity, text),
+            Work::Steps => render_listing(alloc, bytes, capacity, text),
+            Work::Sources => render_sources(alloc, bytes, capacity, text),
+            Work::Report(report) => render_report(alloc, bytes, capacity, report, text),
+        }
     }
 }

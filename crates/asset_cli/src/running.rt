@@ -1,4 +1,4 @@
-//! Runs a script: reads all of it, renders what it is run for, and writes that.
+//! Runs scripts, each for a work.
 ghost use Rattle.std.specs.Prelude.{◌≡◌, ℕ, true, false, List, OnOk, IfOk, IfErr};
 ghost use Rattle.asset_core.specs.OpenFaults.{IsCapacity};
 ghost use Rattle.asset_cli.specs.Device.{IsUnused};
@@ -11,9 +11,8 @@ ghost use Rattle.asset_cli.specs.Again.{PrunedRunsAgain, SerialRunsAgain};
 use crate::device::Device;
 use crate::ends::RunEnd;
 use crate::faults::ScriptFault;
-use crate::reading::read_all;
-use crate::reporting::{Report, Work, render};
-use crate::writing::write_all;
+use crate::reporting::{Report, Run, Work};
+use crate::transfer::render_all;
 use std::alloc::Global;
 use std::io::{Read, Write};
 
@@ -34,11 +33,7 @@ pub fn run_for<R: Read, W: Write>(
     ensures wrote { IfOk result (WroteAll R.remaining W.contents (λ bytes. transcript_of work bytes capacity) input.old input.new output.old output.new) }
     ensures stopped { IfErr result (Stops R.remaining W.contents (λ bytes. transcript_of work bytes capacity) input.old input.new output.old output.new) }
 {
-    let bytes = read_all(alloc, input)?;
-    let mut text = String::new(alloc);
-    let end = render(alloc, &bytes, capacity, work, &mut text)?;
-    write_all(output, text.as_bytes())?;
-    Ok(end)
+    render_all(alloc, input, output, &Run { work, capacity })
 }
 
 /// Runs the script that the reader gives, over a history with room for `capacity` entries, and writes its

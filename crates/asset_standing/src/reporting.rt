@@ -1,16 +1,14 @@
 //! The report of who waits for whom when a script has ended.
-ghost use Rattle.std.specs.Prelude.{◌≡◌, ◌≤◌, ◌++◌, false, length, IfOk, OnOk, IfErr, string_bytes};
+ghost use Rattle.std.specs.Prelude.{◌≡◌, ◌++◌, false, IfOk, OnOk, IfErr, string_bytes};
 ghost use Rattle.asset_core.specs.OpenFaults.{IsCapacity};
 ghost use Rattle.asset_cli.specs.Device.{IsUnused};
-ghost use Rattle.asset_cli.specs.Rendering.{Renders};
 ghost use Rattle.asset_cli.specs.Runs.{WroteAll, Stops};
-ghost use Rattle.asset_cli.specs.Transfers.{input_limit};
 ghost use Rattle.asset_names.specs.Steps.{applied};
 ghost use Rattle.asset_waits.specs.Texts.{report_text};
 ghost use Rattle.asset_standing.specs.Waited.{waited};
 
 use crate::standing::{Stood, stand};
-use asset_cli::{Device, RunEnd, ScriptFault, read_all, write_all};
+use asset_cli::{Device, Render, RunEnd, ScriptFault, render_all};
 use asset_core::Core;
 use asset_grammar::push_bad_line;
 use asset_waits::push_waits;
@@ -32,25 +30,32 @@ fn push_report(alloc: Global, core: Core, text: &mut String) -> Result<RunEnd, S
     }
 }
 
-/// Appends the report on a script, or its bad line if there is one. Returns how the run ends.
-fn render(
-    alloc: Global,
-    bytes: &[u8],
+/// The report of who waits for whom when a script has ended, over a history with room for `capacity` entries.
+#[derive(Drop)]
+struct Waits {
     capacity: usize,
-    text: &mut String,
-) -> Result<RunEnd, ScriptFault>
-    requires capacity { IsCapacity capacity }
-    requires limit { length bytes.now ≤ input_limit }
-    ensures rendered { IfOk result (λ end. Renders (string_bytes text.old) (waited bytes.now capacity) (string_bytes text.new) end) }
-    ensures memory { IfErr result (λ fault. fault ≡ ScriptFault.NoMemory) }
-{
-    match stand(alloc, bytes, capacity) {
-        Ok(Stood::Finished(core)) => push_report(alloc, core, text),
-        Ok(Stood::BadLine(number)) => {
-            push_bad_line(text, number)?;
-            Ok(RunEnd::BadLine(number))
+    ghost within: { IsCapacity capacity },
+}
+
+impl Render for Waits {
+    ghost use Rattle.asset_standing.specs.Waited.{waited};
+
+    ghost transcript = { λ waits bytes. waited bytes waits.capacity };
+
+    fn render(
+        &self,
+        alloc: Global,
+        bytes: &[u8],
+        text: &mut String,
+    ) -> Result<RunEnd, ScriptFault> {
+        match stand(alloc, bytes, self.capacity) {
+            Ok(Stood::Finished(core)) => push_report(alloc, core, text),
+            Ok(Stood::BadLine(number)) => {
+                push_bad_line(text, number)?;
+                Ok(RunEnd::BadLine(number))
+            }
+            Err(fault) => Err(fault),
         }
-        Err(fault) => Err(fault),
     }
 }
 
@@ -79,9 +84,5 @@ pub fn waits_script<R: Read, W: Write>(
     ensures wrote { IfOk result (WroteAll R.remaining W.contents (λ bytes. waited bytes capacity) input.old input.new output.old output.new) }
     ensures stopped { IfErr result (Stops R.remaining W.contents (λ bytes. waited bytes capacity) input.old input.new output.old output.new) }
 {
-    let bytes = read_all(alloc, input)?;
-    let mut text = String::new(alloc);
-    let end = render(alloc, &bytes, capacity, &mut text)?;
-    write_all(output, text.as_bytes())?;
-    Ok(end)
+    render_all(alloc, input, output, &Waits { capacity })
 }

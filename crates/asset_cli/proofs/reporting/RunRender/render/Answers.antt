@@ -1,5 +1,5 @@
 use Rattle.std.proofs.Common.{rules}
-use Rattle.asset_cli.proofs.reporting.render.Goals as goal
+use Rattle.asset_cli.proofs.reporting.RunRender.render.Goals as goal
 
 pub returns-in-Sources : goal.returns-in-Sources
 returns-in-Sources c = search rules

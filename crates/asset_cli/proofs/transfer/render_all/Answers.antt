@@ -1,7 +1,7 @@
 use Rattle.std.proofs.Common.{Err, arith, ap}
 use Rattle.std.proofs.lemmas.Result.{err_from_is_err_and}
 use Rattle.asset_cli.proofs.RunLemmas.{stops_reading, stops_rendering, stops_writing}
-use Rattle.asset_cli.proofs.running.run_for.Goals as goal
+use Rattle.asset_cli.proofs.transfer.render_all.Goals as goal
 
 pub returns-in_err-bytes-clause-stopped : goal.returns-in_err-bytes-clause-stopped
 returns-in_err-bytes-clause-stopped g c =

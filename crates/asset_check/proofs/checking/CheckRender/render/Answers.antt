@@ -2,7 +2,7 @@ use Rattle.std.proofs.Common.{ap, ◌∙◌, arith}
 use Rattle.asset_grammar.proofs.LineLemmas.{length-lines}
 use Rattle.asset_cli.specs.Rendering.{end_at}
 use Rattle.asset_check.specs.Checked.{checked}
-use Rattle.asset_check.proofs.checking.render.Goals as goal
+use Rattle.asset_check.proofs.checking.CheckRender.render.Goals as goal
 
 pub check_lines-requires : goal.check_lines-requires
 check_lines-requires c = omega (arith, length-lines c.args.bytes.now, c.requires)
