@@ -4,3 +4,4 @@ pub mod Deadlocks
 pub mod Words
 pub mod Texts
 pub mod Chains
+pub mod Keepers

@@ -1,7 +1,0 @@
-use Rattle.std.proofs.Common.{◌≡◌, ◌++◌, flat_map, string_bytes, take}
-use Rattle.asset_waits.specs.Texts.{source_line}
-use Rattle.asset_waits.proofs.commits.push_each_source.Given as goal
-
--- the lines of those so far are appended
-abbrev pub invariant-names : goal.invariant-names
-invariant-names l = string_bytes l.text ≡ string_bytes l.fn.text ++ flat_map (source_line l.t.0) (take l.u-index l.names)
