@@ -1,4 +1,4 @@
-use Rattle.std.proofs.Common.{◌≤◌, ◌*◌, eqb, ap, subst, ◌∙◌, arith}
+use Rattle.std.proofs.Common.{◌≤◌, ◌*◌, eqb, ap, subst, ◌∙◌, arith, rules}
 use Rattle.asset_names.specs.declared.names.Txn.{Txn}
 use Rattle.asset_objects.specs.Cells.{ObjectTable, writes_by}
 use Rattle.asset_objects.specs.Placed.{object_table, objects_in}
@@ -19,3 +19,6 @@ returns-in-None-clause-visits c = omega (arith, c.pass_over.ensures.visits)
 pub returns-in-None-clause-reserved : goal.returns-in-None-clause-reserved
 unfolding object_table
 returns-in-None-clause-reserved c = λ reserved. c.pass_over.ensures.reserved ∙ ap (λ (o : ObjectTable). o.reserved) c.self.view_is ∙ reserved
+
+pub returns-in-Some-clause-cells : goal.returns-in-Some-clause-cells
+returns-in-Some-clause-cells c = search rules

@@ -1,4 +1,4 @@
-use Rattle.std.proofs.Common.{sym, ap, ◌∙◌, arith}
+use Rattle.std.proofs.Common.{sym, ap, ◌∙◌, arith, rules}
 use Rattle.std.proofs.lemmas.Bool.{true≢false}
 use Rattle.asset_objects.specs.Cells.{ObjectTable}
 use Rattle.asset_objects.specs.Placed.{object_table}
@@ -23,3 +23,6 @@ invariant_of-self c =
       spare = λ _. omega (arith, room, c.write.ensures.len, c.seat_for-owner.ensures.slots);
       room = λ reserved. absurd (true≢false (sym reserved ∙ c.write.ensures.reserved));
     }
+
+pub returns : goal.returns
+returns c = search rules
