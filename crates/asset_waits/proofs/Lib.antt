@@ -6,3 +6,4 @@ pub mod ArrowLemmas
 pub mod TextLemmas
 pub mod ChainLemmas
 pub mod DeadlockLemmas
+pub mod ExplainedLemmas

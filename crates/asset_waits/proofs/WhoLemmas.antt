@@ -31,7 +31,7 @@ live_listed steps u = both_follow _ _
     (λ h. lists_filter (live steps) (reverse (initiated steps)) u ∙ and_from _ _ h (lists_reverse (initiated steps) u ∙ (live_parts steps u h).0))
 
 -- where only live ones pass a test, those who pass it are listed
-who_listed : (steps : List Step) (test : ℕ → Bool) (u : ℕ) → (test u ≡ true → live steps u ≡ true) → lists (live_who steps test) u ≡ test u
+pub who_listed : (steps : List Step) (test : ℕ → Bool) (u : ℕ) → (test u ≡ true → live steps u ≡ true) → lists (live_who steps test) u ≡ test u
 unfolding live_who
 who_listed steps test u passes =
     rising_lists (filter test (live_names steps)) u

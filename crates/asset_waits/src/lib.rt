@@ -13,5 +13,5 @@ mod requests;
 mod waiters;
 mod waiting;
 
-pub use laws::deadlocks_are_cycles_of_waits;
+pub use laws::{deadlocks_are_cycles_of_waits, waits_are_explained};
 pub use report::push_waits;
