@@ -1,4 +1,4 @@
-//! The way of a script from a reader to a writer: all of it is read, what is made of it is rendered, and all of that is written.
+//! Takes a script from a reader to a writer: reads all of it, makes a text of it, and writes that.
 ghost use Rattle.std.specs.Prelude.{◌≡◌, false, OnOk, IfOk, IfErr};
 ghost use Rattle.asset_cli.specs.Device.{IsUnused};
 ghost use Rattle.asset_cli.specs.Runs.{WroteAll, Stops};
@@ -11,17 +11,18 @@ use crate::writing::write_all;
 use std::alloc::Global;
 use std::io::{Read, Write};
 
-/// What is made of the bytes of a script.
+/// A way to make a text of the bytes of a script.
 pub trait Render {
     ghost use Rattle.std.specs.Prelude.{◌≡◌, ℕ, ◌≤◌, List, length, IfOk, IfErr, string_bytes};
     ghost use Rattle.asset_cli.specs.Rendering.{Renders};
     ghost use Rattle.asset_cli.specs.Transcript.{Transcript};
     ghost use Rattle.asset_cli.specs.Transfers.{input_limit};
 
+    /// The text that is made of bytes, and how the run ends.
     ghost transcript: { Self → List ℕ → Transcript };
 
-    /// Appends what is made of the bytes to the text. Returns how the run ends. Answers `NoMemory` if memory runs out, and no
-    /// other fault; a part may have been appended then.
+    /// Appends what is made of the bytes, at most 67,108,864, to the text. Returns how the run ends. Answers `NoMemory` if memory
+    /// runs out, and no other fault; a part may have been appended then.
     fn render(&self, alloc: Global, bytes: &[u8], text: &mut String) -> Result<RunEnd, ScriptFault>
         requires limit { length bytes.now ≤ input_limit }
         ensures rendered { IfOk result (λ end. Renders (string_bytes text.old) (transcript self.now bytes.now) (string_bytes text.new) end) }

@@ -85,7 +85,8 @@ impl Trim {
         }
     }
 
-    /// Takes nodes away from which an arrow leads to this one.
+    /// Looks at each node from which an arrow leads to this one, and takes it away if all its arrows lead to nodes that are
+    /// taken away.
     fn take_before(&mut self, node: usize)
         requires { node < length self.old.graph.forward.leaving }
         ensures { self.new.graph ≡ self.old.graph }
@@ -122,7 +123,8 @@ fn trimmed(
 }
 
 /// Returns those of the arrows that are left once nodes are taken away, again and again, from which no arrow leads to a
-/// node that is left, and then those to which no arrow leads from a node that is left. Nodes keep their labels.
+/// node that is left, and then those to which no arrow leads from a node that is left. Nodes keep their labels. The arrows
+/// come turned round: each leads from its second node to its first.
 pub(crate) fn trimmed_both_ways(
     alloc: Global,
     count: usize,

@@ -9,13 +9,14 @@ use Rattle.asset_trans.specs.TransRows.{NamedTransRow}
 use Rattle.asset_ends.specs.declared.parts.Parts.{Parts}
 use Rattle.asset_ends.specs.Standing.{AreEnrolled, LiveAreSeated}
 
--- writes, locks, permits and dependencies are those of who have seats
+-- writes, locks, permits and dependencies are those of transactions that have seats
 pub record AreTied (written : Objects.ObjectParts) (table : Locks.LockParts) (given : Permits.PermitTable) (links : Deps.LinkTable) (seating : Seated) : Type 0 where
   pub objects : Objects.IsTied written seating
   pub locks : Locks.IsTied table seating
   pub permits : Permits.IsTied given seating
   pub deps : Deps.IsTied links seating
 
+-- the tables are tied to the seats that stand beside them
 abbrev pub PartsAreTied : Parts → Type 0
 PartsAreTied p = AreTied p.objects p.locks p.permits p.deps p.seats
 
@@ -32,5 +33,6 @@ pub record IsValid (rows : List NamedTransRow) (seating : Seated) (written : Obj
   pub seats : LiveAreSeated rows seating
   pub tied : AreTied written table given links seating
 
+-- the tables and the seats beside them are valid together
 abbrev pub PartsAreValid : Parts → Type 0
 PartsAreValid p = IsValid p.trans p.seats p.objects p.locks p.permits p.deps

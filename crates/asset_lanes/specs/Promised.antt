@@ -12,10 +12,11 @@ use Rattle.asset_lanes.specs.Lanes.{lane_names}
 use Rattle.asset_lanes.specs.Marks.{marks}
 use Rattle.asset_lanes.specs.Arrows.{arrows}
 
--- the marks and the arrows of the picture of entries
+-- the marks of the picture of entries
 unfoldable pub picture_marks : List Entry → List Mark
 picture_marks entries = marks (grouping_of entries) (lane_names (grouping_of entries)) entries
 
+-- the arrows of the picture of entries
 unfoldable pub picture_arrows : List Entry → List Arrow
 picture_arrows entries = arrows (grouping_of entries) (lane_names (grouping_of entries)) entries
 

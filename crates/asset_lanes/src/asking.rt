@@ -94,7 +94,7 @@ pub(crate) fn uses(
 }
 
 /// Returns the numbers of the entries that the transaction asked for, rising, in what `uses` returned for the same names. It is
-/// none if the transaction has no name there.
+/// empty if the transaction is not among the names.
 #[tactic(auto, unfolding(crate::specs::Uses::uses_of))]
 pub(crate) fn uses_of<'a>(names: &IndexSet<u64>, used: &'a Buckets, t: Txn) -> &'a [usize]
     ensures { result.now ≡ uses_of names.now.keys used.now t.0 }

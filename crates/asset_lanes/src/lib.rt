@@ -1,6 +1,5 @@
 //! The lanes of a history, as values: a lane for each transaction, the marks of reads and writes in them, and the arrows between
-//! them; and a summary of each transaction, for a table. `asset_picture` draws them. All stand by the rows of lanes, so the crate
-//! is named after lanes. The one fault is that memory runs out.
+//! them; and a summary of each transaction, for a table. `asset_picture` draws them. The one fault is that memory runs out.
 #![tactic(auto)]
 
 mod asking;

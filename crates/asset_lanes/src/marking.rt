@@ -92,7 +92,8 @@ fn push_mark_at(
     }
 }
 
-/// Returns the marks of all entries, oldest first, or `NoMemory` if memory runs out.
+/// Returns the marks of all entries, oldest first, or `NoMemory` if memory runs out. `groups` are those of the history, and
+/// `rows` what `lane_names` returns for them.
 pub fn marks(
     alloc: Global,
     history: &History,

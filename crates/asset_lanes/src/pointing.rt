@@ -205,8 +205,9 @@ fn arrows_by(
     Ok(found)
 }
 
-/// Returns the arrows of all entries, oldest first, or `NoMemory` if memory runs out. They are from who permits, hands over or is
-/// depended on to the other, and from each read to its source, if that is no opening value.
+/// Returns the arrows of all entries, oldest first, or `NoMemory` if memory runs out. They are from who permits, hands over or
+/// is depended on to the other, and from each read to its source, if that is no opening value. `groups` are those of the
+/// history, and `rows` what `lane_names` returns for them.
 pub fn arrows(
     alloc: Global,
     history: &History,

@@ -30,7 +30,7 @@ pub struct Lane {
     pub t: u64,
     /// The row of the lane, from 0 at the top.
     pub row: usize,
-    /// The number of the transaction's group.
+    /// The number of the transaction's group, and 0 if it is in none.
     pub group: usize,
     /// Whether that group is dead.
     pub is_dead: bool,
@@ -147,8 +147,8 @@ fn push_lane(
     }
 }
 
-/// Returns the lanes of the transactions in these rows, from the top, or `NoMemory` if memory runs out. It goes over the entries
-/// once for each of them.
+/// Returns the lanes of the transactions in these rows, from the top, or `NoMemory` if memory runs out. `groups` are those of
+/// the history, and `rows` what `lane_names` returns for them. It goes over the entries once for each of them.
 #[tactic(auto, unfolding(crate::specs::Lanes::lanes))]
 pub fn lanes(
     alloc: Global,

@@ -22,7 +22,7 @@ use std::alloc::{AllocError, Global};
 pub struct Summary {
     /// The transaction.
     pub t: u64,
-    /// The number of its group.
+    /// The number of its group, and 0 if it is in none.
     pub group: usize,
     /// Whether that group is dead.
     pub is_dead: bool,
@@ -122,8 +122,8 @@ fn summaries_by_names(
     }
 }
 
-/// Returns the summaries of the transactions in these rows, from the top, or `NoMemory` if memory runs out. It takes time that is
-/// nearly in proportion to the entries.
+/// Returns the summaries of the transactions in these rows, from the top, or `NoMemory` if memory runs out. `groups` are those
+/// of the history, and `rows` what `lane_names` returns for them. It takes time that is nearly in proportion to the entries.
 #[tactic(auto, unfolding(crate::specs::Summaries::summaries))]
 pub fn summaries(
     alloc: Global,

@@ -25,7 +25,8 @@ impl LockStore {
     ghost use Rattle.asset_locks.specs.Stored.{name_of, key_blocks, locks_at, number_in, part_for};
     ghost use Rattle.asset_locks.specs.Blocking.{blocks_as, IsGathered};
 
-    /// Returns who has the lock at the key, if the lock blocks the request. It is on the object that is asked for.
+    /// Returns who has the lock at the key, if the lock blocks the request. It is on the object that is asked for. Permits are
+    /// asked by marks from the first lock on, since all locks of the object are looked at.
     fn blocker_at<A: Allows>(
         &self,
         key: usize,

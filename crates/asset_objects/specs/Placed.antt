@@ -84,7 +84,8 @@ pub record IsPlaced (parts : ObjectParts) : Type 0 where
   pub many : length (lists_in parts.records) ≡ length parts.objects
   pub room : parts.reserved ≡ true → has_room parts.records ≡ true
 
--- the table by name: there are more seats than records, each with its column, and one seat more once a write is reserved
+-- the table by name: if there is a record, there are more seats than records; if a write is reserved, at least two more; and
+-- each seat has its column
 pub record IsSpared (parts : ObjectParts) (seats : Seated) : Type 0 where
   pub tied : IsTied parts seats
   pub columns : length seats.slots ≤ length parts.records.columns.chains

@@ -11,8 +11,8 @@ use std::marker::Model;
 /// each object as its base and the writes that stand over it, newest first. Its value is that of the newest
 /// write, or the base if there is none.
 ///
-/// Each transaction with a write has a seat, by which the table is asked. There are more seats than records, so that a
-/// hand-over finds one for the taker.
+/// Each transaction with a write has a seat, by which the table is asked. Once there is a record, there are more seats than
+/// records, so that a hand-over finds one for the taker.
 #[derive(Drop)]
 pub struct Objects {
     seats: Seats,

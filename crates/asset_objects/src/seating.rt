@@ -40,8 +40,8 @@ fn first_unused(table: &SeatedObjects, seats: usize) -> usize
     unreachable!()
 }
 
-/// Returns a seat in whose column there is no record, of more seats than there are records. The seat that is given next is
-/// one, if a seat is free.
+/// Returns a seat in whose column there is no record, of more seats than there are records. If a seat is free, the one that is
+/// given next will do.
 fn unused(seats: &Seats, table: &SeatedObjects) -> usize
     requires { slab_len table.now.records.items < length seats.now.slots }
     ensures within { result < length seats.now.slots }
@@ -91,7 +91,7 @@ pub(crate) fn seat_for(seats: &mut Seats, table: &SeatedObjects, t: Txn) -> Sitt
     Sitter { t, at }
 }
 
-/// Returns whether there are fewer seats than two more than there are records.
+/// Returns whether there are fewer than `records + 2` seats.
 fn are_too_few(seats: usize, records: usize) -> bool
     ensures few { result ≡ true → seats < records + 2 }
     ensures enough { result ≡ false → records + 1 < seats }
@@ -100,7 +100,7 @@ fn are_too_few(seats: usize, records: usize) -> bool
 }
 
 /// Makes sure that there are two seats more than records, each with its column. If memory runs out, nothing that callers see
-/// changes, and nobody's seat does.
+/// changes, and nobody loses a seat.
 pub(crate) fn add_seats(seats: &mut Seats, table: &mut SeatedObjects) -> Result<(), NoMemory>
     requires tied { IsTied table.old seats.old }
     requires columns { length seats.old.slots ≤ length table.old.records.columns.chains }

@@ -9,7 +9,7 @@ use crate::search::{Covered, Search};
 use asset_chains::{Crossed, Side};
 use asset_marks::{Marks, spread};
 
-/// Whom marks stand for: all who allow the transaction in the seat to do the operation on the object.
+/// A question that marks answer: who allows the transaction in the seat to do the operation on the object.
 #[derive(Clone, Copy)]
 pub(crate) struct Question {
     /// The seat of the one who is allowed.
@@ -27,7 +27,7 @@ fn is_same(question: Question, other: Question) -> bool
         && question.covered.op == other.covered.op
 }
 
-/// Returns whether marks that stand for one question, if for any, stand for this one.
+/// Returns whether the marks answer this question. `marked` is the one that they answer, if any.
 fn stand_for(marked: Option<Question>, question: Question) -> bool
     ensures { result ≡ true → marked ≡ Some question }
 {
@@ -37,7 +37,7 @@ fn stand_for(marked: Option<Question>, question: Question) -> bool
     }
 }
 
-/// Marks all for whom the question stands, unless they are marked. It goes from the one who is allowed back along the
+/// Marks all who allow what the question asks, unless they are marked already. It goes from the one who is allowed back along the
 /// permits that cover what the question asks.
 pub(crate) fn mark_allowers(
     permits: &Crossed<Permit>,

@@ -17,8 +17,8 @@ use std::marker::Model;
 /// and the seats are kept elsewhere: each call takes them, and requires that the table is tied to them. None stands twice;
 /// their order means nothing.
 ///
-/// `marked` says whom the marks stand for, if all who allow somebody something are marked. It is `None` once a permit
-/// changes.
+/// `marked` is the question that the marks answer, if they answer one. It is `None` once a permit changes, room is made, or
+/// another search has used the marks.
 #[derive(Drop)]
 pub struct SeatedPermits {
     pub(crate) permits: Crossed<Permit>,
@@ -152,8 +152,9 @@ impl SeatedPermits {
 
     /// Returns whether the giver allows the taker to do `op` on `x`, as `allows` does. No permit changes.
     ///
-    /// It marks all who allow the taker, and while no permit changes, the next such calls for the same taker, object and
-    /// operation look at a mark alone. So it is for who asks about several givers in a row. It takes no memory.
+    /// It marks all who allow the taker. The next such calls for the same taker, object and operation look at a mark alone,
+    /// until a call of another kind changes a permit, makes room or searches. So it is for callers who ask about several
+    /// givers in a row. It takes no memory.
     pub fn is_allower(&mut self, seats: &Seats, giver: Sitter, taker: Sitter, x: Ob, op: Op) -> bool
         requires tied { IsTied self.old seats.now }
         requires giver { HasSeat seats.now giver }

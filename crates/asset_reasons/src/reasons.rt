@@ -91,13 +91,13 @@ pub enum Reason {
     TooManyObjects,
     /// A set has an object twice.
     TwiceInSet,
-    /// It adds an object after the first step.
+    /// It adds an object after the first step. Only a check of a whole script finds it.
     ObjectAfterStep,
-    /// It adds an object that an earlier line has added.
+    /// It adds an object that an earlier line has added. Only a check of a whole script finds it.
     GivenTwice,
 }
 
-/// A reason, and the word of the line that it is about. The word means nothing if the reason is about none.
+/// A reason, and the word of the line that it is about. The word is empty if the reason is about none.
 #[derive(Clone, Copy)]
 pub struct Mistake<'a> {
     /// Why the line is bad.

@@ -4,12 +4,12 @@ ghost use Rattle.asset_reasons.specs.Spelling.{begins_with, ends_with, has_alone
 
 use crate::reasons::Reason;
 
-/// Returns whether the byte stands at this place of a text.
-fn has_at(text: &[u8], place: usize, byte: u8) -> bool
+/// Returns whether the byte stands at this position of a text.
+fn has_at(text: &[u8], position: usize, byte: u8) -> bool
     requires { 0 < byte }
-    ensures { result ≡ (get_or text.now place 0 == byte) }
+    ensures { result ≡ (get_or text.now position 0 == byte) }
 {
-    place < text.len() && text[place] == byte
+    position < text.len() && text[position] == byte
 }
 
 /// Returns whether a line begins with the byte.

@@ -14,40 +14,40 @@ use crate::spelling::spelling;
 /// The most bytes that a line may have.
 const LONGEST_LINE: usize = 4096;
 
-/// The first word of a line.
+/// The first word of a line that adds an object.
 const OBJECT: &[u8] = b"object";
 
-/// The first word of a line.
+/// The first word of a line that initiates a transaction.
 const INITIATE: &[u8] = b"initiate";
 
-/// The first word of a line.
+/// The first word of a line that begins a transaction.
 const BEGIN: &[u8] = b"begin";
 
-/// The first word of a line.
+/// The first word of a line that reads an object.
 const READ: &[u8] = b"read";
 
-/// The first word of a line.
+/// The first word of a line that writes an object.
 const WRITE: &[u8] = b"write";
 
-/// The first word of a line.
+/// The first word of a line that completes a transaction.
 const COMPLETE: &[u8] = b"complete";
 
-/// The first word of a line.
+/// The first word of a line that permits operations.
 const PERMIT: &[u8] = b"permit";
 
-/// The first word of a line.
+/// The first word of a line that commits a transaction.
 const COMMIT: &[u8] = b"commit";
 
-/// The first word of a line.
+/// The first word of a line that aborts a transaction.
 const ABORT: &[u8] = b"abort";
 
-/// The first word of a line.
+/// The first word of a line that waits for a transaction.
 const WAIT: &[u8] = b"wait";
 
-/// The first word of a line.
+/// The first word of a line that delegates objects.
 const DELEGATE: &[u8] = b"delegate";
 
-/// The first word of a line.
+/// The first word of a line that makes a dependency.
 const DEPEND: &[u8] = b"depend";
 
 /// Returns which operands the keyword of a step wants.
@@ -237,7 +237,7 @@ fn words_mistake(line: &[u8]) -> Option<Mistake<'_>>
     }
 }
 
-/// Returns the word after the first one of a line. An empty text if there is none.
+/// Returns the word after the first one of a line. It is empty if there is none.
 #[tactic(auto, unfolding(crate::specs::Mistakes::second_word, asset_grammar::specs::Words::words))]
 pub fn second_word(line: &[u8]) -> &[u8]
     ensures { result.now ≡ second_word (words line.now) }

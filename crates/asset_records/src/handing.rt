@@ -14,6 +14,7 @@ use asset_seats::Sitter;
 pub trait Picks {
     ghost use Rattle.std.specs.Prelude.{◌≡◌, ◌==◌, ℕ, Bool, IfSome};
 
+    /// Whether the records of the object at an index are taken.
     ghost picks: { Self → ℕ → Bool };
 
     /// Returns whether the records of the object at this index are taken.

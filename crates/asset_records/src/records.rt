@@ -12,22 +12,26 @@ use std::marker::Model;
 /// next record of its object, or else the value in place.
 #[derive(Clone, Copy)]
 pub struct Record {
+    /// The transaction whose write it is.
     pub owner: Txn,
+    /// The value that the object had before the write.
     pub before: i64,
 }
 
-/// What a record that was taken back leaves to do: the index of its object, the before-image that becomes the value of
-/// the object if no later record takes it over, and how many records were visited.
+/// What a record that was taken back leaves to do.
 #[derive(Clone, Copy)]
 pub struct Undone {
+    /// The index of the object.
     pub object: usize,
+    /// The before-image that becomes the value of the object; `None` if a later record took it over.
     pub restored: Option<i64>,
+    /// How many records were visited, from 1 to 4.
     pub visited: usize,
 }
 
-/// The records of each object, objects being numbers from 0 on, asked by seat. Each record is in the row of its object and
-/// in the column of its owner's seat, and the seats are kept elsewhere: each call takes them, and requires that the records
-/// are tied to them. Contracts see the rows and columns; `lists_in` says which records each object has, oldest first.
+/// The update records of each object, asked by seat. Objects are numbered from 0 on. Each record is in the row of its object
+/// and in the column of its owner's seat, and the seats are kept elsewhere: each call takes them, and requires that the
+/// records are tied to them. Contracts see the rows and columns; `lists_in` says which records each object has, oldest first.
 #[derive(Drop)]
 pub struct Records {
     records: Crossed<Record>,

@@ -19,7 +19,8 @@ pub fn deadlocks_are_cycles_of_waits()
 {}
 
 /// An object is free for a request exactly if nobody blocks the request, and a live transaction may commit exactly if nobody
-/// keeps it from that. So a report names somebody for each request and for each commit that has to wait.
+/// keeps it from that. So a report names somebody for each pending request that has to wait, and for each transaction that
+/// has completed and has to wait with its commit.
 pub fn waits_are_explained()
     ensures requests { (steps : List Step) (t : ℕ) (x : Ob) (op : Op) → free steps t x.0 op ≡ (length (blockers_of steps t (Some (x, op))) == 0) }
     ensures commits { (steps : List Step) (t : ℕ) → live steps t ≡ true → may_commit steps t ≡ (length (unfinished_of steps t ++ sources_of steps t) == 0) }
