@@ -9,7 +9,10 @@ use Rattle.asset_chains.specs.declared.side.Side.TheVariants.{Row, Column}
 use Rattle.asset_chains.specs.Crossed.{Crossed, IsGrown, Joins, Loses, IsCrossed}
 use Rattle.asset_chains.proofs.SoundLemmas.{no_chain_of}
 use Rattle.asset_seats.specs.Seated.{Seated, seat}
-use Rattle.asset_permits.specs.Descriptors.{Descriptor, same_descriptor, stands}
+use Rattle.asset_marks.specs.Searched.{AreWithin, arrows_along}
+use Rattle.asset_marks.proofs.KeyedLemmas.{item_of_arrow, leads_by}
+use Rattle.asset_names.specs.declared.operations.Op.{Op}
+use Rattle.asset_permits.specs.Descriptors.{Descriptor, covers, same_descriptor, stands}
 use Rattle.asset_permits.specs.Valid.{Parts, parts_of, descriptors_of, is_used, IsNamed, IsValid, PermitTable, IsTied}
 use Rattle.asset_permits.specs.Changes.{Shrinks}
 use Rattle.asset_permits.proofs.SeatLemmas.{home_along, seated_by, used_same}
@@ -60,15 +63,28 @@ found_taken p size valid e to alone result found absent =
     none at.0 (across.end ∙ ap Some (alone across.to across.taker)) at.1))
 
 -- a seat that is a home has its mark
-pub marked_end : (p : Parts) (size : ℕ) → IsValid p size → (k c : ℕ) → home_of p.across k ≡ Some c → c < size
+marked_end : (p : Parts) (size : ℕ) → IsValid p size → (k c : ℕ) → home_of p.across k ≡ Some c → c < size
 marked_end p size valid k c home =
     let found = some_of (get p.permits k) (valid.seated.across k ∙ ap is_some home) in
     (valid.within c (ap is_some (valid.taken k c found.0 found.1 home))).2
 
-pub marked_home : (p : Parts) (size : ℕ) → IsValid p size → (k c : ℕ) → home_of p.along k ≡ Some c → c < size
+marked_home : (p : Parts) (size : ℕ) → IsValid p size → (k c : ℕ) → home_of p.along k ≡ Some c → c < size
 marked_home p size valid k c home =
     let found = some_of (get p.permits k) (valid.seated.along k ∙ ap is_some home) in
     (valid.within c (ap is_some (valid.given k c found.0 found.1 home))).2
+
+-- so the arrows of the permits that cover an operation go between marks, forwards and backwards
+pub forward_within : (p : Parts) (size : ℕ) → IsValid p size → (x : ℕ) (op : Op) → AreWithin (arrows_along (covers x op) p.permits p.along p.across) size
+forward_within p size valid x op u t arrow =
+    let found = item_of_arrow (covers x op) p.permits p.along p.across u t arrow in
+    let item = leads_by (covers x op) _ _ t found.2 in
+    marked_end p size valid found.0 t item.3
+
+pub backward_within : (p : Parts) (size : ℕ) → IsValid p size → (x : ℕ) (op : Op) → AreWithin (arrows_along (covers x op) p.permits p.across p.along) size
+backward_within p size valid x op u t arrow =
+    let found = item_of_arrow (covers x op) p.permits p.across p.along u t arrow in
+    let item = leads_by (covers x op) _ _ t found.2 in
+    marked_home p size valid found.0 t item.3
 
 -- ---- a new table
 pub valid_nothing : (permits : Crossed Descriptor) (seats : Seated) (size : ℕ) → permits.items.slots ≡ [] → IsCrossed permits → ((c : ℕ) → seat seats c ≡ None) → IsValid (parts_of permits seats) size

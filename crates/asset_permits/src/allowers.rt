@@ -10,31 +10,12 @@ use asset_chains::{Crossed, Side};
 use asset_marks::{Marks, spread};
 
 /// A question that marks answer: who allows the transaction in the seat to do the operation on the object.
-#[derive(Clone, Copy)]
+#[derive(Clone, Copy, PartialEq, Eq)]
 pub(crate) struct Question {
     /// The seat of the one who is allowed.
     pub taker: usize,
     /// The object and the operation.
     pub covered: Covered,
-}
-
-/// Returns whether the two are one question.
-fn is_same(question: Question, other: Question) -> bool
-    ensures { result ≡ true → question ≡ other }
-{
-    question.taker == other.taker
-        && question.covered.x == other.covered.x
-        && question.covered.op == other.covered.op
-}
-
-/// Returns whether the marks answer this question. `marked` is the one that they answer, if any.
-fn stand_for(marked: Option<Question>, question: Question) -> bool
-    ensures { result ≡ true → marked ≡ Some question }
-{
-    match marked {
-        Some(other) => is_same(other, question),
-        None => false,
-    }
 }
 
 /// Marks all who allow what the question asks, unless they are marked already. It goes from the one who is allowed back along the
@@ -52,7 +33,7 @@ pub(crate) fn mark_allowers(
     ensures question { marked.new ≡ Some question }
     ensures marked { HasMarked permits.now marks.new.nodes (Some question) }
 {
-    if stand_for(*marked, question) {
+    if *marked == Some(question) {
         return;
     }
     let search = Search {

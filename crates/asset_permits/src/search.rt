@@ -6,7 +6,7 @@ use asset_marks::{Arrows, Marks, Pick, Way, expand_along};
 use asset_names::{Ob, Op};
 
 /// An object and an operation, which a permit covers or not.
-#[derive(Clone, Copy)]
+#[derive(Clone, Copy, PartialEq, Eq)]
 pub(crate) struct Covered {
     pub x: Ob,
     pub op: Op,

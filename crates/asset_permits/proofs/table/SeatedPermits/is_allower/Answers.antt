@@ -1,19 +1,17 @@
 use Rattle.std.proofs.Common.{◌∙◌}
-use Rattle.asset_marks.proofs.KeyedLemmas.{linked_backwards, item_of_arrow, leads_by}
+use Rattle.asset_marks.proofs.KeyedLemmas.{linked_backwards}
 use Rattle.asset_permits.specs.Descriptors.{covers}
 use Rattle.asset_permits.specs.Valid.{parts_of}
 use Rattle.asset_permits.proofs.SearchLemmas.{linked_allows}
-use Rattle.asset_permits.proofs.TableLemmas.{marked_home, tied_inside}
+use Rattle.asset_permits.proofs.TableLemmas.{backward_within, tied_inside}
 use Rattle.asset_permits.proofs.table.SeatedPermits.is_allower.Goals as goal
 
 pub mark_allowers-requires-clause-within : goal.mark_allowers-requires-clause-within
-mark_allowers-requires-clause-within c = λ u t arrow.
+mark_allowers-requires-clause-within c =
     let inside = c.self.inside in
     let seats = c.args.seats.now in
     let tied = tied_inside inside.permits inside.marks.size c.args.self.now seats c.self.view_is c.requires.tied in
-    let found = item_of_arrow (covers c.args.x.0 c.args.op) inside.permits.items inside.permits.columns inside.permits.rows u t arrow in
-    let item = leads_by (covers c.args.x.0 c.args.op) _ _ t found.2 in
-    marked_home (parts_of inside.permits seats) inside.marks.size tied found.0 t item.3
+    backward_within (parts_of inside.permits seats) inside.marks.size tied c.args.x.0 c.args.op
 
 pub returns-clause-allowed : goal.returns-clause-allowed
 returns-clause-allowed c =

@@ -1,28 +1,24 @@
 use Rattle.std.proofs.Common.{◌∙◌}
-use Rattle.asset_marks.proofs.KeyedLemmas.{linked_backwards, item_of_arrow, leads_by}
+use Rattle.asset_marks.proofs.KeyedLemmas.{linked_backwards}
 use Rattle.asset_permits.specs.Descriptors.{covers}
 use Rattle.asset_permits.specs.Valid.{parts_of}
 use Rattle.asset_permits.proofs.SearchLemmas.{linked_allows}
-use Rattle.asset_permits.proofs.TableLemmas.{marked_end, marked_home, tied_inside}
+use Rattle.asset_permits.proofs.TableLemmas.{backward_within, forward_within, tied_inside}
 use Rattle.asset_permits.proofs.table.SeatedPermits.leads.Goals as goal
 
 pub is_linked-requires-clause-within : goal.is_linked-requires-clause-within
-is_linked-requires-clause-within c = λ u t arrow.
+is_linked-requires-clause-within c =
     let inside = c.self.inside in
     let seats = c.args.seats.now in
     let tied = tied_inside inside.permits inside.marks.size c.args.self.now seats c.self.view_is c.requires.tied in
-    let found = item_of_arrow (covers c.args.x.0 c.args.op) inside.permits.items inside.permits.rows inside.permits.columns u t arrow in
-    let item = leads_by (covers c.args.x.0 c.args.op) _ _ t found.2 in
-    marked_end (parts_of inside.permits seats) inside.marks.size tied found.0 t item.3
+    forward_within (parts_of inside.permits seats) inside.marks.size tied c.args.x.0 c.args.op
 
 pub is_linked-requires-else-len-clause-within : goal.is_linked-requires-else-len-clause-within
-is_linked-requires-else-len-clause-within c = λ u t arrow.
+is_linked-requires-else-len-clause-within c =
     let inside = c.self.inside in
     let seats = c.args.seats.now in
     let tied = tied_inside inside.permits inside.marks.size c.args.self.now seats c.self.view_is c.requires.tied in
-    let found = item_of_arrow (covers c.args.x.0 c.args.op) inside.permits.items inside.permits.columns inside.permits.rows u t arrow in
-    let item = leads_by (covers c.args.x.0 c.args.op) _ _ t found.2 in
-    marked_home (parts_of inside.permits seats) inside.marks.size tied found.0 t item.3
+    backward_within (parts_of inside.permits seats) inside.marks.size tied c.args.x.0 c.args.op
 
 pub returns-then-len-clause-leads : goal.returns-then-len-clause-leads
 returns-then-len-clause-leads c =
