@@ -228,7 +228,7 @@ impl SeatedObjects {
         ensures reserved { self.new.reserved ≡ self.old.reserved }
         ensures visits { self.new.visits ≡ 0 }
     {
-        self.placed.records.nobody(seats, t);
+        self.placed.records.has_none(seats, t);
         self.visits = 0;
     }
 

@@ -94,13 +94,6 @@ impl Records {
         add_lines(&mut self.records, Side::Column, c)
     }
 
-    /// Returns how many objects there are.
-    pub fn objects(&self) -> usize
-        ensures { result ≡ length (lists_in self.now) }
-    {
-        self.records.count(Side::Row)
-    }
-
     /// Reserves the memory for one more record, which stands until that record. If memory runs out, no record changes.
     pub fn reserve(&mut self) -> Result<(), NoMemory>
         ensures reserved { OnOk result (has_room self.new ≡ true) }
@@ -251,7 +244,7 @@ impl Records {
     }
 
     /// Says that one who has no seat, or one whose column is empty, has no record, for proofs. It does nothing.
-    pub fn nobody(&self, seats: &Seats, t: Txn)
+    pub fn has_none(&self, seats: &Seats, t: Txn)
         requires tied { IsTied self.now seats.now }
         requires none { (c : ℕ) → seat seats.now c ≡ Some t → first_of (chain_of self.now.columns c) ≡ None }
         ensures { HasNone t.0 (lists_in self.now) }

@@ -14,7 +14,7 @@ returns-clause-undone c =
     let placed = c.self.inside.placed in
     let lists = lists_in placed.records in
     each_changed (undone (λ n. eqb n c.args.t.0)) placed.objects.keys placed.values.items placed.values.items lists lists c.self.inside.reserved c.self.inside.reserved c.self.inside.visits 0
-    (λ i. sym (undone_all c.args.t.0 placed.values.items lists c.nobody.ensures i))
+    (λ i. sym (undone_all c.args.t.0 placed.values.items lists c.has_none.ensures i))
     ∙ ap (λ (p : ObjectParts). change_each (undone (λ n. eqb n c.args.t.0)) (cells (objects_in p))) c.self.view_is
 
 pub returns-clause-settled : goal.returns-clause-settled
@@ -22,7 +22,7 @@ returns-clause-settled c =
     let placed = c.self.inside.placed in
     let lists = lists_in placed.records in
     each_changed (settled (λ n. eqb n c.args.t.0)) placed.objects.keys placed.values.items placed.values.items lists lists c.self.inside.reserved c.self.inside.reserved c.self.inside.visits 0
-    (λ i. sym (settled_all c.args.t.0 placed.values.items lists c.nobody.ensures i))
+    (λ i. sym (settled_all c.args.t.0 placed.values.items lists c.has_none.ensures i))
     ∙ ap (λ (p : ObjectParts). change_each (settled (λ n. eqb n c.args.t.0)) (cells (objects_in p))) c.self.view_is
 
 pub returns-clause-handed : goal.returns-clause-handed
@@ -31,7 +31,7 @@ returns-clause-handed c = λ test taker.
     let placed = c.self.inside.placed in
     let lists = lists_in placed.records in
     where_handed test c.args.t.0 taker placed.objects.keys placed.values.items lists lists c.self.inside.reserved c.self.inside.visits 0
-    (λ y i at. none_given c.args.t.0 taker (test y) (on lists i) (c.nobody.ensures i))
+    (λ y i at. none_given c.args.t.0 taker (test y) (on lists i) (c.has_none.ensures i))
     ∙ ap (λ (p : ObjectParts). change_where test (handed_cell c.args.t.0 taker) (cells (objects_in p))) c.self.view_is
 
 pub returns-clause-standing : goal.returns-clause-standing
@@ -43,4 +43,4 @@ unfolding HasNone
 returns-clause-nothing c = λ x cell there. false_from_ne_true (has_written c.args.t.0 cell) (λ wrote.
     let placed = c.self.inside.placed in
     let found = written_on placed.objects.keys placed.values.items (lists_in placed.records) c.self.inside.reserved c.self.inside.visits (objects_in c.args.self.now) c.args.t.0 x cell (ap objects_in c.self.view_is) there wrote in
-    true≢false (sym found.2 ∙ c.nobody.ensures found.0))
+    true≢false (sym found.2 ∙ c.has_none.ensures found.0))

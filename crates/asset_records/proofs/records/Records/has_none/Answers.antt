@@ -4,7 +4,7 @@ use Rattle.asset_chains.specs.Crossed.{Crossed}
 use Rattle.asset_records.specs.declared.records.Record.{Record}
 use Rattle.asset_records.specs.Listed.{IsTied}
 use Rattle.asset_records.proofs.BackLemmas.{no_record_of}
-use Rattle.asset_records.proofs.records.Records.nobody.Goals as goal
+use Rattle.asset_records.proofs.records.Records.has_none.Goals as goal
 
 -- keys of which none is first are none
 empty_if : (keys : List ℕ) → first_of keys ≡ None → keys ≡ []
