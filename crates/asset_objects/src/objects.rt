@@ -79,6 +79,7 @@ impl Objects {
         ensures reserved { OnOk result (self.new.reserved ≡ true) }
         ensures standing { self.old.reserved ≡ true → IsOk result }
         ensures unchanged { OnErr result (self.new ≡ self.old) }
+        ensures visits { self.new.visits ≡ self.old.visits }
     {
         add_seats(&mut self.seats, &mut self.table)?;
         self.table.reserve_write()
@@ -89,7 +90,9 @@ impl Objects {
     pub fn write(&mut self, t: Txn, x: Ob, v: i64)
         requires exists { has_object (cells self.old) x.0 ≡ true }
         requires reserved { self.old.reserved ≡ true }
-        ensures { cells self.new ≡ change_at x.0 (written t.0 v) (cells self.old) }
+        ensures cells { cells self.new ≡ change_at x.0 (written t.0 v) (cells self.old) }
+        ensures reserved { self.new.reserved ≡ false }
+        ensures visits { self.new.visits ≡ self.old.visits }
     {
         let owner = seat_for(&mut self.seats, &self.table, t);
         self.table.write(&self.seats, owner, x, v);

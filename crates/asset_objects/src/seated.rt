@@ -129,6 +129,7 @@ impl SeatedObjects {
         ensures reserved { OnOk result (self.new.reserved ≡ true) }
         ensures standing { self.old.reserved ≡ true → IsOk result }
         ensures unchanged { OnErr result (objects_in self.new ≡ objects_in self.old) }
+        ensures visits { self.new.visits ≡ self.old.visits }
         ensures few { IsNoMore self.old.records self.new.records }
         ensures tied { (seats : Seated) → IsTied self.old seats → IsTied self.new seats }
     {
@@ -150,6 +151,7 @@ impl SeatedObjects {
         ensures cells { cells (objects_in self.new) ≡ change_at x.0 (written owner.t.0 v) (cells (objects_in self.old)) }
         ensures len { slab_len self.new.records.items ≡ slab_len self.old.records.items + 1 }
         ensures columns { length self.new.records.columns.chains ≡ length self.old.records.columns.chains }
+        ensures visits { self.new.visits ≡ self.old.visits }
         ensures reserved { self.new.reserved ≡ false }
     {
         let i = self.placed.objects.get_index_of(&x).unwrap();

@@ -30,3 +30,7 @@ returns-clause-reserved c = c.reserve_write.ensures.reserved
 pub returns-clause-standing : goal.returns-clause-standing
 unfolding object_table
 returns-clause-standing c = λ reserved. c.reserve_write.ensures.standing (ap (λ (o : ObjectTable). o.reserved) (c.add_seats.ensures.shown ∙ c.self.view_is) ∙ reserved)
+
+pub returns-clause-visits : goal.returns-clause-visits
+unfolding object_table
+returns-clause-visits c = c.reserve_write.ensures.visits ∙ ap (λ (o : ObjectTable). o.visits) (c.add_seats.ensures.shown ∙ c.self.view_is)

@@ -24,5 +24,13 @@ invariant_of-self c =
       room = λ reserved. absurd (true≢false (sym reserved ∙ c.write.ensures.reserved));
     }
 
-pub returns : goal.returns
-returns c = search rules
+pub returns-clause-cells : goal.returns-clause-cells
+returns-clause-cells c = search rules
+
+pub returns-clause-reserved : goal.returns-clause-reserved
+unfolding object_table
+returns-clause-reserved c = c.write.ensures.reserved
+
+pub returns-clause-visits : goal.returns-clause-visits
+unfolding object_table
+returns-clause-visits c = c.write.ensures.visits ∙ ap (λ (o : ObjectTable). o.visits) c.self.view_is
