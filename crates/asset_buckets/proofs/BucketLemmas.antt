@@ -24,6 +24,11 @@ pub all_filled : (numbers : List ℕ) (count : ℕ) → filled numbers count (le
 unfolding filled buckets_of indices_of
 all_filled numbers count = refl
 
+-- the bucket of a number has the indices at which it stands
+pub bucket_at : (numbers : List ℕ) (count g : ℕ) → g < count → get_or (buckets_of numbers count) g [] ≡ indices_of g numbers
+unfolding buckets_of
+bucket_at numbers count g below = get_or-map-range_with_len (λ k. indices_of k numbers) 0 count g g [] below (omega arith)
+
 -- the next index goes into the bucket of its number alone
 pub next_below : (numbers : List ℕ) (number i : ℕ) → indices_below (i + 1) number numbers ≡ indices_below i number numbers ++ cond (eqb (get_or numbers i 0) number) (i ∷ []) []
 unfolding indices_below

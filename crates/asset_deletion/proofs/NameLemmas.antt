@@ -15,6 +15,7 @@ use Rattle.asset_names.specs.Groups.{actor, partner, same_group}
 use Rattle.asset_names.proofs.Common.{eqb-flip}
 use Rattle.asset_names.proofs.ListLemmas.{any_alike}
 use Rattle.asset_history.specs.Acting.{both_of}
+use Rattle.asset_deletion.specs.Grouping.{named}
 use Rattle.asset_deletion.specs.Named.{with_name, names_of, joined}
 use Rattle.asset_deletion.proofs.MeansLemmas.{entry_joins}
 
@@ -73,3 +74,12 @@ entry_there entries i below none = elim (slice_get_cases entries i).1 [
   | inl here ↦ let is : None ≡ option_map both_of (Some here.0) = rw here.2 at none in cc
   | inr past ↦ omega (arith, past.0)
 ]
+
+-- a name that is told is the one at the index
+pub told_name : (found : Option ℕ) (t : Txn) → option_map named found ≡ Some t → found ≡ Some t.0
+told_name (Some n) t is = ap (λ (u : Option Txn). option_map (λ (v : Txn). v.0) u) is
+told_name None t is = absurd cc
+
+pub no_name : (found : Option ℕ) → option_map named found ≡ None → found ≡ None
+no_name (Some n) is = absurd cc
+no_name None is = refl

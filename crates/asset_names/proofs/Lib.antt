@@ -10,6 +10,7 @@ pub mod Sorting
 pub mod AppliedLemmas
 pub mod EndLemmas
 pub mod ListLemmas
+pub mod MoreLemmas
 pub mod DelegateLemmas
 pub mod DependLemmas
 pub mod LegalLemmas

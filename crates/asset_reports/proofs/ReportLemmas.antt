@@ -1,18 +1,11 @@
 -- What one more object or entry adds to a report.
-use Rattle.std.proofs.Common.{◌≡◌, ℕ, ◌+◌, ◌<◌, false, List, [], ◌∷◌, ◌++◌, Some, None, get_or, map, take, reverse, refl, sym, ap, ◌∙◌, append_assoc, append-nil, arith}
-use Rattle.std.specs.Prelude.{ℤ, Option, flat_map, slice_get}
-use Rattle.std.specs.Option.{option_map}
-use Rattle.std.specs.List.{range_with_len}
-use Rattle.std.proofs.lemmas.Grind.{flat_map-append}
-use Rattle.std.proofs.lemmas.List.Folds.{flat_map-map}
-use Rattle.std.proofs.lemmas.List.FromFn.{map-range_with_len_more, get_or-map-range_with_len}
+use Rattle.std.proofs.Common.{◌≡◌, ℕ, ◌+◌, false, List, [], ◌∷◌, ◌++◌, Some, None, take, reverse, refl, sym, ap, ◌∙◌, append_assoc, append-nil}
+use Rattle.std.specs.Prelude.{ℤ, slice_get}
 use Rattle.asset_history.proofs.EntryLemmas.{next_entry}
-use Rattle.asset_names.specs.declared.names.Txn.{Txn}
 use Rattle.asset_names.specs.declared.names.Ob.{Ob}
 use Rattle.asset_names.specs.Steps.{Opening, Entry}
 use Rattle.asset_printing.specs.Printed.{step_text}
-use Rattle.asset_buckets.specs.Bucketed.{indices_of, buckets_of}
-use Rattle.asset_deletion.specs.Grouping.{Grouping, named}
+use Rattle.asset_deletion.specs.Grouping.{Grouping}
 use Rattle.asset_reports.specs.Groups.{is_dead_name, members_are_dead}
 use Rattle.asset_sources.specs.Sourced.{source_at}
 use Rattle.asset_sources.proofs.WalkLemmas.{older_length, source_found}
@@ -31,15 +24,6 @@ steps_more entries i entry at = rw (next_entry entries i entry at) refl
 
 -- ---- groups
 
--- a name that is told is the one at the index
-pub told_name : (found : Option ℕ) (t : Txn) → option_map named found ≡ Some t → found ≡ Some t.0
-told_name (Some n) t is = ap (λ (u : Option Txn). option_map (λ (v : Txn). v.0) u) is
-told_name None t is = absurd cc
-
-pub no_name : (found : Option ℕ) → option_map named found ≡ None → found ≡ None
-no_name (Some n) is = absurd cc
-no_name None is = refl
-
 -- members are dead as the first of them is
 pub first_member : (groups : Grouping) (members : List ℕ) (k : ℕ) → Some k ≡ slice_get members 0 → members_are_dead groups members ≡ is_dead_name groups (slice_get groups.names k)
 unfolding members_are_dead
@@ -50,22 +34,6 @@ pub no_member : (groups : Grouping) (members : List ℕ) → None ≡ slice_get 
 unfolding members_are_dead
 no_member groups [] at = refl
 no_member groups (j ∷ members) at = absurd cc
-
--- the lines of one more group
-pub lines_more : (line : ℕ → List ℕ) (n : ℕ) → flat_map line (range_with_len 0 (n + 1)) ≡ flat_map line (range_with_len 0 n) ++ line n
-lines_more line n =
-    sym (flat_map-map whole line (range_with_len 0 (n + 1)))
-    ∙ ap (flat_map whole) (map-range_with_len_more line 0 n n (omega arith))
-    ∙ flat_map-append whole (map line (range_with_len 0 n)) (line n ∷ [])
-    ∙ ap (λ l. l ++ flat_map whole (line n ∷ [])) (flat_map-map whole line (range_with_len 0 n))
-    ∙ ap (λ l. flat_map line (range_with_len 0 n) ++ l) (append-nil (line n)) where
-      whole : List ℕ → List ℕ
-      whole l = l
-
--- the bucket of a group has the indices of its names
-pub bucket_line : (groups : Grouping) (g : ℕ) → g < groups.count → get_or (buckets_of groups.numbers groups.count) g [] ≡ indices_of g groups.numbers
-unfolding buckets_of
-bucket_line groups g below = get_or-map-range_with_len (λ k. indices_of k groups.numbers) 0 groups.count g g [] below (omega arith)
 
 -- ---- sources
 

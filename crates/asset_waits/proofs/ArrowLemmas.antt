@@ -10,7 +10,7 @@ use Rattle.asset_core.specs.Pending.{Pending}
 use Rattle.asset_cycles.specs.Cyclic.{AreBelow}
 use Rattle.asset_waits.specs.Waiting.{waits_for}
 use Rattle.asset_waits.specs.Deadlocks.{place_of, arrow_to, arrows_from, arrows_before}
-use Rattle.asset_waits.proofs.ListLemmas.{numbers_more}
+use Rattle.asset_names.proofs.MoreLemmas.{numbers_more}
 
 -- a place is below their number, if there are names
 pub place_below : (names : List ℕ) (u : ℕ) → 0 < length names → place_of names u < length names

@@ -20,7 +20,7 @@ use Rattle.asset_ends.proofs.EnrolledLemmas.{lists_filter}
 use Rattle.asset_waits.specs.Waiting.{live_names, live_who, blockers_of, unfinished_of, sources_of, waits_as, waits_for}
 use Rattle.asset_waits.specs.Deadlocks.{place_of, arrow_to, arrows_from, arrows_before}
 use Rattle.asset_waits.specs.Chains.{WaitChain, waits, through}
-use Rattle.asset_waits.proofs.ListLemmas.{numbers_more}
+use Rattle.asset_names.proofs.MoreLemmas.{numbers_more}
 use Rattle.asset_waits.proofs.RisingLemmas.{rising_lists}
 use Rattle.asset_waits.proofs.WhoLemmas.{live_listed}
 

@@ -1,4 +1,3 @@
-pub mod ListLemmas
 pub mod RisingLemmas
 pub mod WhoLemmas
 pub mod LiveLemmas

@@ -1,6 +1,6 @@
 use Rattle.std.proofs.Common.{rules, sym, ◌∙◌, slice_get, append-nil}
 use Rattle.asset_lanes.specs.Lanes.{name_at, name_list}
-use Rattle.asset_lanes.proofs.ListLemmas.{told_name, no_name}
+use Rattle.asset_deletion.proofs.NameLemmas.{told_name, no_name}
 use Rattle.asset_lanes.proofs.rows.push_name.Goals as goal
 
 pub returns-in_ok-push-in-Some : goal.returns-in_ok-push-in-Some

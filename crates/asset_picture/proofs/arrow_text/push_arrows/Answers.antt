@@ -1,7 +1,7 @@
 use Rattle.std.proofs.Common.{string_bytes, sym, append-nil}
 use Rattle.asset_picture.specs.Shapes.{arrow_text}
 use Rattle.asset_picture.specs.Picture.{arrows_text}
-use Rattle.asset_picture.proofs.ListLemmas.{text_more}
+use Rattle.asset_names.proofs.MoreLemmas.{text_more}
 use Rattle.asset_picture.proofs.arrow_text.push_arrows.Goals as goal
 
 pub arrows-init : goal.arrows-init

@@ -1,7 +1,7 @@
 use Rattle.std.proofs.Common.{string_bytes, sym, append-nil}
 use Rattle.asset_picture.specs.Shapes.{lane_text}
 use Rattle.asset_picture.specs.Picture.{lanes_text}
-use Rattle.asset_picture.proofs.ListLemmas.{text_more}
+use Rattle.asset_names.proofs.MoreLemmas.{text_more}
 use Rattle.asset_picture.proofs.lane_text.push_lanes.Goals as goal
 
 pub lanes-init : goal.lanes-init

@@ -1,7 +1,7 @@
 use Rattle.std.proofs.Common.{refl, sym, ◌∙◌}
 use Rattle.std.proofs.lemmas.List.Folds.{list_any_at}
 use Rattle.asset_picture.specs.Layout.{is_long, are_wide}
-use Rattle.asset_picture.proofs.ListLemmas.{none_more}
+use Rattle.asset_names.proofs.MoreLemmas.{none_more}
 use Rattle.asset_picture.proofs.layout.are_wide.Goals as goal
 
 pub marks-init : goal.marks-init

@@ -1,7 +1,7 @@
 use Rattle.std.proofs.Common.{string_bytes, sym, append-nil}
 use Rattle.asset_picture.specs.Shapes.{mark_text}
 use Rattle.asset_picture.specs.Picture.{marks_text}
-use Rattle.asset_picture.proofs.ListLemmas.{text_more}
+use Rattle.asset_names.proofs.MoreLemmas.{text_more}
 use Rattle.asset_picture.proofs.mark_text.push_marks.Goals as goal
 
 pub marks-init : goal.marks-init

@@ -1,6 +1,6 @@
 use Rattle.std.proofs.Common.{string_bytes, sym, append-nil}
 use Rattle.asset_picture.specs.Picture.{step_text, steps_text}
-use Rattle.asset_picture.proofs.ListLemmas.{number_more}
+use Rattle.asset_names.proofs.MoreLemmas.{number_more}
 use Rattle.asset_picture.proofs.opening.push_steps.Goals as goal
 
 pub entries-init : goal.entries-init

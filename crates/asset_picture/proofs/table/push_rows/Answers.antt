@@ -1,6 +1,6 @@
 use Rattle.std.proofs.Common.{string_bytes, sym, append-nil}
 use Rattle.asset_picture.specs.Tables.{row_for, rows_text}
-use Rattle.asset_picture.proofs.ListLemmas.{text_more}
+use Rattle.asset_names.proofs.MoreLemmas.{text_more}
 use Rattle.asset_picture.proofs.table.push_rows.Goals as goal
 
 pub rows-init : goal.rows-init

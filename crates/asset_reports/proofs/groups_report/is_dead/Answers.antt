@@ -1,6 +1,7 @@
 use Rattle.std.proofs.Common.{sym, ap, ◌∙◌, slice_get}
 use Rattle.asset_reports.specs.Groups.{is_dead_name}
-use Rattle.asset_reports.proofs.ReportLemmas.{told_name, no_name, first_member, no_member}
+use Rattle.asset_deletion.proofs.NameLemmas.{told_name, no_name}
+use Rattle.asset_reports.proofs.ReportLemmas.{first_member, no_member}
 use Rattle.asset_reports.proofs.groups_report.is_dead.Goals as goal
 
 pub returns-in-Some-name : goal.returns-in-Some-name

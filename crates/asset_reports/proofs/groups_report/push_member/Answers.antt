@@ -1,6 +1,6 @@
 use Rattle.std.proofs.Common.{sym, ◌∙◌, slice_get, string_bytes, append-nil}
 use Rattle.asset_reports.specs.Groups.{member_word, word_of}
-use Rattle.asset_reports.proofs.ReportLemmas.{told_name, no_name}
+use Rattle.asset_deletion.proofs.NameLemmas.{told_name, no_name}
 use Rattle.asset_reports.proofs.groups_report.push_member.Goals as goal
 
 pub returns-in-Some : goal.returns-in-Some

@@ -1,7 +1,7 @@
 use Rattle.std.proofs.Common.{◌∙◌, refl, sym, append-nil}
 use Rattle.asset_names.specs.Steps.{applied}
 use Rattle.asset_waits.specs.Deadlocks.{arrows_from, arrows_before}
-use Rattle.asset_waits.proofs.ListLemmas.{number_more}
+use Rattle.asset_names.proofs.MoreLemmas.{number_more}
 use Rattle.asset_waits.proofs.arrows.push_all.Goals as goal
 
 pub places-init : goal.places-init

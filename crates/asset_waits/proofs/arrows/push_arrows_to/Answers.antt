@@ -1,6 +1,6 @@
 use Rattle.std.proofs.Common.{sym, append-nil}
 use Rattle.asset_waits.specs.Deadlocks.{arrow_to}
-use Rattle.asset_waits.proofs.ListLemmas.{item_more}
+use Rattle.asset_names.proofs.MoreLemmas.{item_more}
 use Rattle.asset_waits.proofs.arrows.push_arrows_to.Goals as goal
 
 pub waited-init : goal.waited-init

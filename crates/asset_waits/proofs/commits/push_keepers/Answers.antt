@@ -1,6 +1,6 @@
 use Rattle.std.proofs.Common.{string_bytes, sym, append-nil}
 use Rattle.asset_waits.specs.Keepers.{keeper_line}
-use Rattle.asset_waits.proofs.ListLemmas.{text_more}
+use Rattle.asset_names.proofs.MoreLemmas.{text_more}
 use Rattle.asset_waits.proofs.commits.push_keepers.Goals as goal
 
 pub names-init : goal.names-init

@@ -1,7 +1,7 @@
 use Rattle.std.proofs.Common.{◌++◌, ◌∙◌, ℕ, List, ap, flat_map, string_bytes, sym, append-nil}
 use Rattle.std.proofs.lemmas.List.{take_all}
 use Rattle.asset_waits.specs.Texts.{label_line, deadlocks_text}
-use Rattle.asset_waits.proofs.ListLemmas.{text_more}
+use Rattle.asset_names.proofs.MoreLemmas.{text_more}
 use Rattle.asset_waits.proofs.deadlocks.push_cycles.Goals as goal
 
 pub labels-init : goal.labels-init

@@ -1,6 +1,6 @@
 use Rattle.std.proofs.Common.{string_bytes, sym, append-nil}
 use Rattle.asset_waits.specs.Texts.{member_word, members_text}
-use Rattle.asset_waits.proofs.ListLemmas.{text_more}
+use Rattle.asset_names.proofs.MoreLemmas.{text_more}
 use Rattle.asset_waits.proofs.deadlocks.push_members.Goals as goal
 
 pub places-init : goal.places-init

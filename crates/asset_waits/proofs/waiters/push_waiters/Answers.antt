@@ -1,7 +1,7 @@
 use Rattle.std.proofs.Common.{◌∙◌, refl, string_bytes, sym, append-nil}
 use Rattle.asset_names.specs.Steps.{applied}
 use Rattle.asset_waits.specs.Texts.{waiter_text, waiters_text}
-use Rattle.asset_waits.proofs.ListLemmas.{text_more}
+use Rattle.asset_names.proofs.MoreLemmas.{text_more}
 use Rattle.asset_waits.proofs.waiters.push_waiters.Goals as goal
 
 pub names-init : goal.names-init

@@ -1,10 +1,10 @@
--- What one more item adds to a list.
-use Rattle.std.proofs.Common.{◌≡◌, ℕ, ◌+◌, ◌<◌, List, [], ◌∷◌, ◌++◌, get_or, length, map, take, sym, ap, ◌∙◌, append-nil, append_assoc, arith}
+-- What one more item adds to a list or a text.
+use Rattle.std.proofs.Common.{◌≡◌, ℕ, ◌+◌, ◌<◌, Bool, false, List, [], ◌∷◌, ◌++◌, get_or, length, map, take, refl, sym, ap, ◌∙◌, append-nil, append_assoc, arith}
 use Rattle.std.specs.Prelude.{flat_map}
-use Rattle.std.specs.List.{range_with_len}
+use Rattle.std.specs.List.{range_with_len, list_any}
 use Rattle.std.proofs.lemmas.Grind.{flat_map-append}
 use Rattle.std.proofs.lemmas.List.{take_more, flat_map_more, map_more}
-use Rattle.std.proofs.lemmas.List.Folds.{flat_map-map}
+use Rattle.std.proofs.lemmas.List.Folds.{flat_map-map, list_any-append}
 use Rattle.std.proofs.lemmas.List.FromFn.{map-range_with_len_more}
 
 -- the items of one more number
@@ -37,3 +37,8 @@ item_more {A} {B} f items i d before middle now below so_far more =
     ∙ ap (λ (l : List B). l ++ f (get_or items i d) ∷ []) so_far
     ∙ append_assoc before (map f (take i items)) (f (get_or items i d) ∷ [])
     ∙ ap (λ (l : List B). before ++ l) (sym (map_more f items i d below))
+
+-- none of the first items passes, nor does the next one
+pub none_more : {A : Type 0} (test : A → Bool) (items : List A) (i : ℕ) (d : A) → i < length items → list_any test (take i items) ≡ false → test (get_or items i d) ≡ false → list_any test (take (i + 1) items) ≡ false
+none_more test items i d below so_far here =
+    rw (take_more items i d below) (list_any-append test (take i items) (get_or items i d ∷ []) ∙ rw (so_far, here) refl)
