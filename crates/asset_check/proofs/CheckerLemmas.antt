@@ -12,7 +12,7 @@ use Rattle.asset_grammar.specs.Words.{words}
 use Rattle.asset_reasons.specs.declared.reasons.Reason.TheVariants.{GivenTwice}
 use Rattle.asset_check.specs.Checked.{Seen, object_mistake, seen_object}
 use Rattle.asset_check.specs.Checking.{seen_in}
-use Rattle.asset_reasons.specs.Mistakes.{Told, second_word}
+use Rattle.asset_reasons.specs.Mistakes.{Found, second_word}
 
 -- the objects of a checker that shows some
 pub objects_shown : (stepped : Bool) (opening o : Opening) (seen : Seen) → seen_in stepped opening ≡ seen → seen ≡ Some o → seen ≡ Some opening
@@ -50,11 +50,11 @@ said_none (b ∷ text) old lacks is none =
 
 -- an object that is new, and one that is there
 pub added_object : (opening new : Opening) (given : Ob × ℤ) (line : List ℕ) (added : Bool) → added ≡ not (exists opening given.0.0) → OnTrue added (new ≡ opening ++ given ∷ []) → OnFalse added (new ≡ opening)
-    → (object_mistake (Some opening) given.0 line ≡ cond {A = Option Told} added None (Some (GivenTwice, second_word (words line)))) × (Some new ≡ seen_object (Some opening) given)
+    → (object_mistake (Some opening) given.0 line ≡ cond {A = Option Found} added None (Some (GivenTwice, second_word (words line)))) × (Some new ≡ seen_object (Some opening) given)
 unfolding object_mistake seen_object
 added_object opening new given line added is grown kept = go (exists opening given.0.0) added is grown kept where
   go : (there added : Bool) → added ≡ not there → OnTrue added (new ≡ opening ++ given ∷ []) → OnFalse added (new ≡ opening)
-      → (cond {A = Option Told} there (Some (GivenTwice, second_word (words line))) None ≡ cond {A = Option Told} added None (Some (GivenTwice, second_word (words line)))) × (Some new ≡ Some (cond there opening (opening ++ given ∷ [])))
+      → (cond {A = Option Found} there (Some (GivenTwice, second_word (words line))) None ≡ cond {A = Option Found} added None (Some (GivenTwice, second_word (words line)))) × (Some new ≡ Some (cond there opening (opening ++ given ∷ [])))
   go true true is grown kept = absurd (cc)
   go true false is grown kept = (refl, ap Some kept)
   go false true is grown kept = (refl, ap Some grown)

@@ -18,7 +18,7 @@ use Rattle.asset_cli.specs.Transcript.{finished, stopped, with_prefix, joined_by
 use Rattle.asset_check.specs.Checked.{Seen, check_lines, checked, first_bad, mistake_at, mistake_in, object_mistake, seen_by, seen_object}
 use Rattle.asset_reasons.specs.declared.reasons.Reason.TheVariants.{GivenTwice}
 use Rattle.asset_check.specs.Laws.{EndsAsRun, IsQuietIfFinished, NamesFirst}
-use Rattle.asset_reasons.specs.Mistakes.{Told, is_bad, reason_of, second_word}
+use Rattle.asset_reasons.specs.Mistakes.{Found, is_bad, reason_of, second_word}
 use Rattle.asset_check.specs.Sentences.{mistake_line, reason_text}
 use Rattle.asset_reasons.proofs.ReasonLemmas.{has_reason_if_bad}
 use Rattle.asset_cli.specs.declared.prints.Prints.{Prints}
@@ -59,7 +59,7 @@ objects_end prints (line ∷ more) n opening capacity = go (line_of line) refl (
     stepped = rw e refl
   go (Command (Object given)) e later = choose (exists opening given.0.0) where
     choose : (there : Bool) → (cond there (stopped n (opened opening capacity)) (objects_transcript prints more (n + 1) (opening ++ given ∷ []) capacity)).end
-        ≡ end_at (cond (is_some {T = Told} (cond there (Some (GivenTwice, second_word (words line))) None)) (Some n) (first_bad more (n + 1) (Some (cond there opening (opening ++ given ∷ [])))))
+        ≡ end_at (cond (is_some {T = Found} (cond there (Some (GivenTwice, second_word (words line))) None)) (Some n) (first_bad more (n + 1) (Some (cond there opening (opening ++ given ∷ [])))))
     choose true = refl
     choose false = later (opening ++ given ∷ [])
   go Bad e later = rw (bad_has_reason line e) refl
@@ -73,7 +73,7 @@ quiet_lines : (ls : List (List ℕ)) (n : ℕ) (seen : Seen) → first_bad ls n 
 unfolding first_bad check_lines mistake_line
 quiet_lines [] n seen none = refl
 quiet_lines (line ∷ more) n seen none = go (mistake_at seen line) none (quiet_lines more (n + 1) (seen_by seen (line_of line))) where
-  go : (told : Option Told) → cond (is_some told) (Some n) (first_bad more (n + 1) (seen_by seen (line_of line))) ≡ None
+  go : (told : Option Found) → cond (is_some told) (Some n) (first_bad more (n + 1) (seen_by seen (line_of line))) ≡ None
       → (first_bad more (n + 1) (seen_by seen (line_of line)) ≡ None → check_lines more (n + 1) (seen_by seen (line_of line)) ≡ [])
       → mistake_line n told ++ check_lines more (n + 1) (seen_by seen (line_of line)) ≡ []
   go None none later = later none
@@ -96,7 +96,7 @@ regroup : (a b c d e f : List ℕ) → (a ++ b ++ c ++ d ++ e) ++ f ≡ (a ++ b 
 regroup a b c d e f = simp append_assoc
 
 -- a line that names another one begins with its number
-named : (n : ℕ) (told : Told) (later : List ℕ) → mistake_line n (Some told) ++ later ≡ (codes "line " ++ decimal n ++ codes ": ") ++ ((reason_text told ++ line_end) ++ later)
+named : (n : ℕ) (told : Found) (later : List ℕ) → mistake_line n (Some told) ++ later ≡ (codes "line " ++ decimal n ++ codes ": ") ++ ((reason_text told ++ line_end) ++ later)
 unfolding mistake_line
 named n told later = regroup (codes "line ") (decimal n) (codes ": ") (reason_text told) line_end later
 
@@ -108,7 +108,7 @@ first_lines (line ∷ more) n m seen found = go (mistake_at seen line) found (fi
   later_text : List ℕ
   later_text = check_lines more (n + 1) (seen_by seen (line_of line))
 
-  go : (told : Option Told) → cond (is_some told) (Some n) (first_bad more (n + 1) (seen_by seen (line_of line))) ≡ Some m
+  go : (told : Option Found) → cond (is_some told) (Some n) (first_bad more (n + 1) (seen_by seen (line_of line))) ≡ Some m
       → (first_bad more (n + 1) (seen_by seen (line_of line)) ≡ Some m → Begins (check_lines more (n + 1) (seen_by seen (line_of line))) (codes "line " ++ decimal m ++ codes ": "))
       → Begins (mistake_line n told ++ check_lines more (n + 1) (seen_by seen (line_of line))) (codes "line " ++ decimal m ++ codes ": ")
   go None found later = later found

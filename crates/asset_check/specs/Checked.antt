@@ -13,7 +13,7 @@ use Rattle.asset_grammar.specs.Words.{words}
 use Rattle.asset_cli.specs.Rendering.{end_at}
 use Rattle.asset_cli.specs.Transcript.{Transcript}
 use Rattle.asset_reasons.specs.declared.reasons.Reason.TheVariants.{ObjectAfterStep, GivenTwice}
-use Rattle.asset_reasons.specs.Mistakes.{Told, reason_of, second_word}
+use Rattle.asset_reasons.specs.Mistakes.{Found, reason_of, second_word}
 use Rattle.asset_check.specs.Sentences.{mistake_line}
 
 -- what later lines depend on: the objects so far, or nothing once a step was asked for
@@ -21,19 +21,19 @@ abbrev pub Seen : Type 0
 Seen = Option Opening
 
 -- why an object line is bad where it stands: it comes after a step, or an earlier line adds the same object
-unfoldable pub object_mistake : Seen → Ob → List ℕ → Option Told
+unfoldable pub object_mistake : Seen → Ob → List ℕ → Option Found
 object_mistake None x line = Some (ObjectAfterStep, [])
 object_mistake (Some opening) x line = cond (exists opening x.0) (Some (GivenTwice, second_word (words line))) None
 
 -- why a line that says this is bad where it stands, if it is
-unfoldable pub mistake_in : Seen → Line → List ℕ → Option Told
+unfoldable pub mistake_in : Seen → Line → List ℕ → Option Found
 mistake_in seen Blank line = None
 mistake_in seen (Command (Ask step)) line = None
 mistake_in seen (Command (Object given)) line = object_mistake seen given.0 line
 mistake_in seen Bad line = reason_of line
 
 -- why a line is bad where it stands, if it is
-abbrev pub mistake_at : Seen → List ℕ → Option Told
+abbrev pub mistake_at : Seen → List ℕ → Option Found
 mistake_at seen line = mistake_in seen (line_of line) line
 
 -- the objects after an object line, which is not taken if it is bad where it stands

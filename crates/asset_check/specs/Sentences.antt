@@ -6,7 +6,7 @@ use Rattle.asset_reasons.specs.declared.reasons.Reason.{Reason}
 use Rattle.asset_reasons.specs.declared.reasons.Reason.TheVariants as Reason'
 use Rattle.asset_reasons.specs.declared.reasons.Shape.{Shape}
 use Rattle.asset_reasons.specs.declared.reasons.Shape.TheVariants as Shape'
-use Rattle.asset_reasons.specs.Mistakes.{Told}
+use Rattle.asset_reasons.specs.Mistakes.{Found}
 
 -- what stands before the word that a reason is about, whether it has one, and what stands after it
 abbrev pub Words : Type 0
@@ -75,10 +75,10 @@ unfoldable pub said_with : Words → List ℕ → List ℕ
 said_with words word = words.0 ++ cond words.1 (shown word) [] ++ words.2
 
 -- the text of a reason, about its word
-unfoldable pub reason_text : Told → List ℕ
+unfoldable pub reason_text : Found → List ℕ
 reason_text told = said_with (words_of told.0) told.1
 
 -- the line that names a bad line by its number, with its reason; nothing if the line is not bad
-unfoldable pub mistake_line : ℕ → Option Told → List ℕ
+unfoldable pub mistake_line : ℕ → Option Found → List ℕ
 mistake_line number None = []
 mistake_line number (Some told) = codes "line " ++ decimal number ++ codes ": " ++ reason_text told ++ line_end

@@ -1,7 +1,7 @@
 //! What a script has said before a line, as far as later lines depend on it.
 ghost use Rattle.std.specs.Prelude.{cond, Some, None};
 ghost use Rattle.asset_grammar.specs.Words.{words};
-ghost use Rattle.asset_reasons.specs.Mistakes.{Tells, second_word};
+ghost use Rattle.asset_reasons.specs.Mistakes.{Finds, second_word};
 ghost use Rattle.asset_reasons.specs.declared.reasons.Reason.TheVariants.{GivenTwice};
 
 use asset_cli::{OpeningObjects, ScriptFault};
@@ -13,7 +13,7 @@ use std::marker::Model;
 
 /// Returns what is wrong with an object line whose object was added, or was there already.
 fn twice_unless(added: bool, line: &[u8]) -> Option<Mistake<'_>>
-    ensures { Tells result (cond added None (Some (GivenTwice, second_word (words line.now)))) }
+    ensures { Finds result (cond added None (Some (GivenTwice, second_word (words line.now)))) }
 {
     if added {
         None
@@ -54,7 +54,7 @@ impl Checker {
     ghost use Rattle.asset_names.specs.Sets.{HasNoDouble};
     ghost use Rattle.asset_grammar.specs.Grammar.{line_of, said_as};
     ghost use Rattle.asset_check.specs.Checked.{mistake_at, object_mistake, seen_by, seen_object};
-    ghost use Rattle.asset_reasons.specs.Mistakes.{Tells};
+    ghost use Rattle.asset_reasons.specs.Mistakes.{Finds};
 
     /// Returns a checker of the first line. Takes no memory.
     pub fn new(alloc: Global) -> Checker
@@ -85,7 +85,7 @@ impl Checker {
         object: (Ob, i64),
         line: &'a [u8],
     ) -> Result<Option<Mistake<'a>>, ScriptFault>
-        ensures mistake { IfOk result (λ found. Tells found (object_mistake self.old object.0 line.now)) }
+        ensures mistake { IfOk result (λ found. Finds found (object_mistake self.old object.0 line.now)) }
         ensures seen { OnOk result (self.new ≡ seen_object self.old object) }
         ensures unchanged { OnErr result (self.new ≡ self.old) }
         ensures memory { IfErr result (λ fault. fault ≡ ScriptFault.NoMemory) }
@@ -104,7 +104,7 @@ impl Checker {
         line: &'a [u8],
         said: Said,
     ) -> Result<Option<Mistake<'a>>, ScriptFault>
-        ensures mistake { IfOk result (λ found. (step : StepAsked) → line_of line.now ≡ said_as said step → Tells found (mistake_at self.old line.now)) }
+        ensures mistake { IfOk result (λ found. (step : StepAsked) → line_of line.now ≡ said_as said step → Finds found (mistake_at self.old line.now)) }
         ensures seen { OnOk result ((step : StepAsked) → line_of line.now ≡ said_as said step → self.new ≡ seen_by self.old (line_of line.now)) }
         ensures unchanged { OnErr result (self.new ≡ self.old) }
         ensures memory { IfErr result (λ fault. fault ≡ ScriptFault.NoMemory) }

@@ -17,10 +17,10 @@ use Rattle.asset_sources.specs.declared.sourced.Source.TheVariants as Source'
 use Rattle.asset_sources.specs.Sourced.{source_at}
 use Rattle.asset_deletion.specs.Grouping.{Grouping, grouping_of}
 use Rattle.asset_lanes.specs.declared.pointing.Arrow.{Arrow}
-use Rattle.asset_lanes.specs.declared.pointing.Drawn.{Drawn}
-use Rattle.asset_lanes.specs.declared.pointing.Drawn.TheVariants as Drawn'
+use Rattle.asset_lanes.specs.declared.pointing.ArrowKind.{ArrowKind}
+use Rattle.asset_lanes.specs.declared.pointing.ArrowKind.TheVariants as ArrowKind'
 use Rattle.asset_lanes.specs.Lanes.{row_of, lane_names}
-use Rattle.asset_lanes.specs.Arrows.{arrow_to, kind_drawn, arrow_to_entry, source_arrow, arrow_of, arrow_list, arrows_among, arrows}
+use Rattle.asset_lanes.specs.Arrows.{arrow_to, arrow_kind, arrow_to_entry, source_arrow, arrow_of, arrow_list, arrows_among, arrows}
 use Rattle.asset_lanes.specs.Promised.{picture_arrows, GoesToSource}
 use Rattle.asset_lanes.proofs.RowLemmas.{actor_in_lane}
 
@@ -40,12 +40,12 @@ arrow_is (Some first) arrow (zero, below, at) = ap Some at
 arrow_is (Some first) arrow (suc k, below, at) = absurd (omega (arith, below))
 
 -- an arrow of another kind is none of a read
-not_source : (groups : Grouping) (rows : List ℕ) (kind : Drawn) (from : ℕ) (t : Txn) (to : ℕ) (u : Txn) (arrow : Arrow) → Some (arrow_to groups rows kind from t to u) ≡ Some arrow → arrow.kind ≡ Drawn'.Source → kind ≡ Drawn'.Source
+not_source : (groups : Grouping) (rows : List ℕ) (kind : ArrowKind) (from : ℕ) (t : Txn) (to : ℕ) (u : Txn) (arrow : Arrow) → Some (arrow_to groups rows kind from t to u) ≡ Some arrow → arrow.kind ≡ ArrowKind'.Source → kind ≡ ArrowKind'.Source
 unfolding arrow_to
 not_source groups rows kind from t to u arrow is source = ap (λ (a : Arrow). a.kind) (same_Some _ _ is) ∙ source
 
-no_dependency : (kind : Kind) → kind_drawn kind ≡ Drawn'.Source → ⊥
-unfolding kind_drawn
+no_dependency : (kind : Kind) → arrow_kind kind ≡ ArrowKind'.Source → ⊥
+unfolding arrow_kind
 no_dependency Kind'.Cd is = absurd cc
 no_dependency Kind'.Ad is = absurd cc
 no_dependency Kind'.Gc is = absurd cc
@@ -69,7 +69,7 @@ read_arrow groups rows all number t (Some (Source'.Entry to)) arrow is = go (sli
       }
 
 -- the arrow of an entry, if it is a read's
-sourced : (groups : Grouping) (rows : List ℕ) (all : List Entry) (number : ℕ) (step : Step) (reply : Reply) (source : Option Source) (arrow : Arrow) → arrow_of groups rows all number step reply source ≡ Some arrow → arrow.kind ≡ Drawn'.Source
+sourced : (groups : Grouping) (rows : List ℕ) (all : List Entry) (number : ℕ) (step : Step) (reply : Reply) (source : Option Source) (arrow : Arrow) → arrow_of groups rows all number step reply source ≡ Some arrow → arrow.kind ≡ ArrowKind'.Source
     → Sourced rows all number source arrow
 unfolding arrow_of
 sourced groups rows all number (Initiate t parent) reply source arrow is kind = absurd cc
@@ -77,17 +77,17 @@ sourced groups rows all number (Begin t) reply source arrow is kind = absurd cc
 sourced groups rows all number (Read t x) reply source arrow is kind = read_arrow groups rows all number t source arrow is
 sourced groups rows all number (Write t x v) reply source arrow is kind = absurd cc
 sourced groups rows all number (Complete t) reply source arrow is kind = absurd cc
-sourced groups rows all number (Permit giver taker obs ops) Reply'.Done source arrow is kind = let same = not_source groups rows Drawn'.Permit number giver number taker arrow is kind in absurd cc
+sourced groups rows all number (Permit giver taker obs ops) Reply'.Done source arrow is kind = let same = not_source groups rows ArrowKind'.Permit number giver number taker arrow is kind in absurd cc
 sourced groups rows all number (Permit giver taker obs ops) (Reply'.Value w) source arrow is kind = absurd cc
 sourced groups rows all number (Permit giver taker obs ops) Reply'.Committed source arrow is kind = absurd cc
 sourced groups rows all number (Permit giver taker obs ops) Reply'.Aborted source arrow is kind = absurd cc
 sourced groups rows all number (Permit giver taker obs ops) (Reply'.Refused refusal) source arrow is kind = absurd cc
-sourced groups rows all number (Delegate giver taker obs) Reply'.Done source arrow is kind = let same = not_source groups rows Drawn'.Delegate number giver number taker arrow is kind in absurd cc
+sourced groups rows all number (Delegate giver taker obs) Reply'.Done source arrow is kind = let same = not_source groups rows ArrowKind'.Delegate number giver number taker arrow is kind in absurd cc
 sourced groups rows all number (Delegate giver taker obs) (Reply'.Value w) source arrow is kind = absurd cc
 sourced groups rows all number (Delegate giver taker obs) Reply'.Committed source arrow is kind = absurd cc
 sourced groups rows all number (Delegate giver taker obs) Reply'.Aborted source arrow is kind = absurd cc
 sourced groups rows all number (Delegate giver taker obs) (Reply'.Refused refusal) source arrow is kind = absurd cc
-sourced groups rows all number (Depend kin a b) Reply'.Done source arrow is kind = absurd (no_dependency kin (not_source groups rows (kind_drawn kin) number a number b arrow is kind))
+sourced groups rows all number (Depend kin a b) Reply'.Done source arrow is kind = absurd (no_dependency kin (not_source groups rows (arrow_kind kin) number a number b arrow is kind))
 sourced groups rows all number (Depend kin a b) (Reply'.Value w) source arrow is kind = absurd cc
 sourced groups rows all number (Depend kin a b) Reply'.Committed source arrow is kind = absurd cc
 sourced groups rows all number (Depend kin a b) Reply'.Aborted source arrow is kind = absurd cc
@@ -97,7 +97,7 @@ sourced groups rows all number (Abort t) reply source arrow is kind = absurd cc
 sourced groups rows all number (WaitFor t) reply source arrow is kind = absurd cc
 
 -- the arrows among the older of all entries
-among_sourced : (entries : List Entry) (older : List Entry) (arrow : Arrow) → Contains (arrows_among (grouping_of entries) (lane_names (grouping_of entries)) entries older) arrow → arrow.kind ≡ Drawn'.Source → GoesToSource entries arrow
+among_sourced : (entries : List Entry) (older : List Entry) (arrow : Arrow) → Contains (arrows_among (grouping_of entries) (lane_names (grouping_of entries)) entries older) arrow → arrow.kind ≡ ArrowKind'.Source → GoesToSource entries arrow
 unfolding arrows_among
 among_sourced entries [] arrow (k, below, at) kind = absurd (omega (arith, below))
 among_sourced entries (entry ∷ older) arrow there kind =
@@ -115,6 +115,6 @@ among_sourced entries (entry ∷ older) arrow there kind =
           }
     ]
 
-pub each_goes_to_source : (entries : List Entry) (arrow : Arrow) → Contains (picture_arrows entries) arrow → arrow.kind ≡ Drawn'.Source → GoesToSource entries arrow
+pub each_goes_to_source : (entries : List Entry) (arrow : Arrow) → Contains (picture_arrows entries) arrow → arrow.kind ≡ ArrowKind'.Source → GoesToSource entries arrow
 unfolding picture_arrows arrows
 each_goes_to_source entries arrow there kind = among_sourced entries entries arrow there kind

@@ -14,24 +14,24 @@ use Rattle.asset_sources.specs.declared.sourced.Source.TheVariants as Source'
 use Rattle.asset_sources.specs.Sourced.{source_at}
 use Rattle.asset_deletion.specs.Grouping.{Grouping, dead_in}
 use Rattle.asset_lanes.specs.declared.pointing.Arrow.{Arrow}
-use Rattle.asset_lanes.specs.declared.pointing.Drawn.{Drawn}
-use Rattle.asset_lanes.specs.declared.pointing.Drawn.TheVariants as Drawn'
+use Rattle.asset_lanes.specs.declared.pointing.ArrowKind.{ArrowKind}
+use Rattle.asset_lanes.specs.declared.pointing.ArrowKind.TheVariants as ArrowKind'
 use Rattle.asset_lanes.specs.Lanes.{row_of}
 
 -- an arrow from t's lane at one entry to u's lane at another
-unfoldable pub arrow_to : Grouping → List ℕ → Drawn → ℕ → Txn → ℕ → Txn → Arrow
+unfoldable pub arrow_to : Grouping → List ℕ → ArrowKind → ℕ → Txn → ℕ → Txn → Arrow
 arrow_to groups rows kind from t to u = record { kind = kind; from = from; row = row_of rows t.0; to = to; to_row = row_of rows u.0; is_dead = dead_in groups t.0 }
 
 -- how a dependency is drawn
-unfoldable pub kind_drawn : Kind → Drawn
-kind_drawn Kind'.Cd = Drawn'.Cd
-kind_drawn Kind'.Ad = Drawn'.Ad
-kind_drawn Kind'.Gc = Drawn'.Gc
+unfoldable pub arrow_kind : Kind → ArrowKind
+arrow_kind Kind'.Cd = ArrowKind'.Cd
+arrow_kind Kind'.Ad = ArrowKind'.Ad
+arrow_kind Kind'.Gc = ArrowKind'.Gc
 
 -- the arrow of t's read to its source, which is this entry
 unfoldable pub arrow_to_entry : Grouping → List ℕ → ℕ → Txn → ℕ → Option Entry → Option Arrow
 arrow_to_entry groups rows from t to None = None
-arrow_to_entry groups rows from t to (Some entry) = Some (arrow_to groups rows Drawn'.Source from t to (actor entry.0))
+arrow_to_entry groups rows from t to (Some entry) = Some (arrow_to groups rows ArrowKind'.Source from t to (actor entry.0))
 
 -- the arrow of t's read to its source, if that is no opening value
 unfoldable pub source_arrow : Grouping → List ℕ → List Entry → ℕ → Txn → Option Source → Option Arrow
@@ -43,9 +43,9 @@ source_arrow groups rows entries from t (Some (Source'.Entry to)) = arrow_to_ent
 -- from a read to its source.
 unfoldable pub arrow_of : Grouping → List ℕ → List Entry → ℕ → Step → Reply → Option Source → Option Arrow
 arrow_of groups rows entries number (Read t x) reply source = source_arrow groups rows entries number t source
-arrow_of groups rows entries number (Permit giver taker obs ops) Reply'.Done source = Some (arrow_to groups rows Drawn'.Permit number giver number taker)
-arrow_of groups rows entries number (Delegate giver taker obs) Reply'.Done source = Some (arrow_to groups rows Drawn'.Delegate number giver number taker)
-arrow_of groups rows entries number (Depend kind a b) Reply'.Done source = Some (arrow_to groups rows (kind_drawn kind) number a number b)
+arrow_of groups rows entries number (Permit giver taker obs ops) Reply'.Done source = Some (arrow_to groups rows ArrowKind'.Permit number giver number taker)
+arrow_of groups rows entries number (Delegate giver taker obs) Reply'.Done source = Some (arrow_to groups rows ArrowKind'.Delegate number giver number taker)
+arrow_of groups rows entries number (Depend kind a b) Reply'.Done source = Some (arrow_to groups rows (arrow_kind kind) number a number b)
 arrow_of groups rows entries number step reply source = None
 
 -- an arrow, if there is one

@@ -3,7 +3,7 @@
 ghost use Rattle.std.specs.Prelude.{◌≡◌, ℕ, true, false, List, reverse, slice_get, Contains, None, Some};
 ghost use Rattle.asset_names.specs.Steps.{Entry};
 ghost use Rattle.asset_lanes.specs.declared.pointing.Arrow.{Arrow};
-ghost use Rattle.asset_lanes.specs.declared.pointing.Drawn.TheVariants.{Source};
+ghost use Rattle.asset_lanes.specs.declared.pointing.ArrowKind.TheVariants.{Source};
 ghost use Rattle.asset_lanes.specs.Promised.{picture_arrows, operates, HasOneMark, HasNoMark, GoesToSource};
 
 /// A picture has one mark for each read and each write that took effect, in its transaction's lane, and no other. Each

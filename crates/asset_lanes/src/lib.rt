@@ -13,7 +13,7 @@ mod walking;
 
 pub use laws::pictures_mark_operations;
 pub use marking::{Mark, marks};
-pub use pointing::{Arrow, Drawn, arrows};
+pub use pointing::{Arrow, ArrowKind, arrows};
 pub use rows::lane_names;
 pub use spanning::{Lane, Span, lanes};
 pub use summing::{Summary, summaries};

@@ -3,7 +3,7 @@
 ghost use Rattle.std.specs.Prelude.{◌≡◌, ◌++◌, ◌<◌, ℕ, length, reverse, slice_get, Some, IfOk, OnOk};
 ghost use Rattle.asset_names.specs.Steps.{Entry};
 ghost use Rattle.asset_sources.specs.Sourced.{source_at};
-ghost use Rattle.asset_lanes.specs.Arrows.{arrow_to, kind_drawn, arrow_to_entry, source_arrow, arrow_of, arrow_list, arrows};
+ghost use Rattle.asset_lanes.specs.Arrows.{arrow_to, arrow_kind, arrow_to_entry, source_arrow, arrow_of, arrow_list, arrows};
 
 use crate::rows::row_of;
 use asset_deletion::Groups;
@@ -14,7 +14,7 @@ use std::alloc::Global;
 
 /// What an arrow is for.
 #[derive(Clone, Copy)]
-pub enum Drawn {
+pub enum ArrowKind {
     /// From a read to its source.
     Source,
     /// From who permits to whom.
@@ -33,7 +33,7 @@ pub enum Drawn {
 #[derive(Clone, Copy)]
 pub struct Arrow {
     /// What it is for.
-    pub kind: Drawn,
+    pub kind: ArrowKind,
     /// The number of the entry at which it starts.
     pub from: usize,
     /// The row of the lane in which it starts.
@@ -51,7 +51,7 @@ pub struct Arrow {
 fn arrow_to(
     groups: &Groups,
     rows: &[u64],
-    kind: Drawn,
+    kind: ArrowKind,
     from: usize,
     t: Txn,
     to: usize,
@@ -70,14 +70,14 @@ fn arrow_to(
 }
 
 /// Returns how a dependency is drawn.
-#[tactic(auto, unfolding(crate::specs::Arrows::kind_drawn))]
-fn kind_drawn(kind: Kind) -> Drawn
-    ensures { result ≡ kind_drawn kind }
+#[tactic(auto, unfolding(crate::specs::Arrows::arrow_kind))]
+fn arrow_kind(kind: Kind) -> ArrowKind
+    ensures { result ≡ arrow_kind kind }
 {
     match kind {
-        Kind::Cd => Drawn::Cd,
-        Kind::Ad => Drawn::Ad,
-        Kind::Gc => Drawn::Gc,
+        Kind::Cd => ArrowKind::Cd,
+        Kind::Ad => ArrowKind::Ad,
+        Kind::Gc => ArrowKind::Gc,
     }
 }
 
@@ -94,7 +94,7 @@ fn arrow_to_entry(
     ensures { result ≡ arrow_to_entry groups.now rows.now from t to (slice_get (reverse history.now.entries) to) }
 {
     match history.acted_on(to) {
-        Some((u, _)) => Some(arrow_to(groups, rows, Drawn::Source, from, t, to, u)),
+        Some((u, _)) => Some(arrow_to(groups, rows, ArrowKind::Source, from, t, to, u)),
         None => None,
     }
 }
@@ -134,15 +134,15 @@ fn arrow_of(
     match *step {
         Step::Read { t, .. } => source_arrow(history, groups, rows, n, t, source),
         Step::Permit { giver, taker, .. } => match *reply {
-            Reply::Done => Some(arrow_to(groups, rows, Drawn::Permit, n, giver, n, taker)),
+            Reply::Done => Some(arrow_to(groups, rows, ArrowKind::Permit, n, giver, n, taker)),
             _ => None,
         },
         Step::Delegate { giver, taker, .. } => match *reply {
-            Reply::Done => Some(arrow_to(groups, rows, Drawn::Delegate, n, giver, n, taker)),
+            Reply::Done => Some(arrow_to(groups, rows, ArrowKind::Delegate, n, giver, n, taker)),
             _ => None,
         },
         Step::Depend { kind, a, b } => match *reply {
-            Reply::Done => Some(arrow_to(groups, rows, kind_drawn(kind), n, a, n, b)),
+            Reply::Done => Some(arrow_to(groups, rows, arrow_kind(kind), n, a, n, b)),
             _ => None,
         },
         _ => None,

@@ -6,8 +6,8 @@ use Rattle.asset_names.specs.declared.statuses.Status.TheVariants as Status'
 use Rattle.asset_lanes.specs.declared.spanning.Lane.{Lane}
 use Rattle.asset_lanes.specs.declared.marking.Mark.{Mark}
 use Rattle.asset_lanes.specs.declared.pointing.Arrow.{Arrow}
-use Rattle.asset_lanes.specs.declared.pointing.Drawn.{Drawn}
-use Rattle.asset_lanes.specs.declared.pointing.Drawn.TheVariants as Drawn'
+use Rattle.asset_lanes.specs.declared.pointing.ArrowKind.{ArrowKind}
+use Rattle.asset_lanes.specs.declared.pointing.ArrowKind.TheVariants as ArrowKind'
 use Rattle.asset_picture.specs.Layout.{pieces, x_at, y_at, bow_at, pale}
 
 -- the colours on a light screen
@@ -103,13 +103,13 @@ mark_text wide mark = pieces (mark_start_text wide mark ∷ shape_text mark.writ
 -- ---- arrows
 
 -- the kind of an arrow
-unfoldable pub drawn_word : Drawn → List ℕ
-drawn_word Drawn'.Source = codes "source"
-drawn_word Drawn'.Permit = codes "permit"
-drawn_word Drawn'.Delegate = codes "delegate"
-drawn_word Drawn'.Cd = codes "cd"
-drawn_word Drawn'.Ad = codes "ad"
-drawn_word Drawn'.Gc = codes "gc"
+unfoldable pub drawn_word : ArrowKind → List ℕ
+drawn_word ArrowKind'.Source = codes "source"
+drawn_word ArrowKind'.Permit = codes "permit"
+drawn_word ArrowKind'.Delegate = codes "delegate"
+drawn_word ArrowKind'.Cd = codes "cd"
+drawn_word ArrowKind'.Ad = codes "ad"
+drawn_word ArrowKind'.Gc = codes "gc"
 
 -- the bow from a read to its source, but for the last row
 unfoldable pub bow_text : Bool → Arrow → List ℕ
@@ -117,8 +117,8 @@ bow_text wide arrow = pieces (codes "C" ∷ decimal (x_at wide arrow.from) ∷ c
     ∷ codes " " ∷ decimal (x_at wide arrow.to) ∷ codes " " ∷ [])
 
 -- what is between the ends of an arrow: a bow, or a line up or down
-unfoldable pub way_text : Bool → Arrow → Drawn → List ℕ
-way_text wide arrow Drawn'.Source = bow_text wide arrow
+unfoldable pub way_text : Bool → Arrow → ArrowKind → List ℕ
+way_text wide arrow ArrowKind'.Source = bow_text wide arrow
 way_text wide arrow kind = codes "V"
 
 -- the start of an arrow

@@ -5,21 +5,21 @@ ghost use Rattle.asset_picture.specs.Shapes.{drawn_word, bow_text, way_text, arr
 ghost use Rattle.asset_picture.specs.Picture.{arrows_text};
 
 use crate::layout::{bow_at, pale, x_at, y_at};
-use asset_lanes::{Arrow, Drawn};
+use asset_lanes::{Arrow, ArrowKind};
 use std::alloc::AllocError;
 
 /// Returns the word of a kind of arrow.
 #[tactic(auto, unfolding(crate::specs::Shapes::drawn_word))]
-fn drawn_word(kind: Drawn) -> &'static str
+fn drawn_word(kind: ArrowKind) -> &'static str
     ensures { result.now ≡ drawn_word kind }
 {
     match kind {
-        Drawn::Source => "source",
-        Drawn::Permit => "permit",
-        Drawn::Delegate => "delegate",
-        Drawn::Cd => "cd",
-        Drawn::Ad => "ad",
-        Drawn::Gc => "gc",
+        ArrowKind::Source => "source",
+        ArrowKind::Permit => "permit",
+        ArrowKind::Delegate => "delegate",
+        ArrowKind::Cd => "cd",
+        ArrowKind::Ad => "ad",
+        ArrowKind::Gc => "gc",
     }
 }
 
@@ -37,16 +37,16 @@ fn push_bow(text: &mut String, wide: bool, arrow: &Arrow) -> Result<(), AllocErr
 
 /// Appends what is between the ends of an arrow.
 #[tactic(auto, unfolding(crate::specs::Shapes::way_text))]
-fn push_way(text: &mut String, wide: bool, arrow: &Arrow, kind: Drawn) -> Result<(), AllocError>
+fn push_way(text: &mut String, wide: bool, arrow: &Arrow, kind: ArrowKind) -> Result<(), AllocError>
     ensures { OnOk result (string_bytes text.new ≡ string_bytes text.old ++ way_text wide arrow.now kind) }
 {
     match kind {
-        Drawn::Source => push_bow(text, wide, arrow),
-        Drawn::Permit => text.push_str("V"),
-        Drawn::Delegate => text.push_str("V"),
-        Drawn::Cd => text.push_str("V"),
-        Drawn::Ad => text.push_str("V"),
-        Drawn::Gc => text.push_str("V"),
+        ArrowKind::Source => push_bow(text, wide, arrow),
+        ArrowKind::Permit => text.push_str("V"),
+        ArrowKind::Delegate => text.push_str("V"),
+        ArrowKind::Cd => text.push_str("V"),
+        ArrowKind::Ad => text.push_str("V"),
+        ArrowKind::Gc => text.push_str("V"),
     }
 }
 

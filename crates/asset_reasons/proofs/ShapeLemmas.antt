@@ -11,7 +11,7 @@ use Rattle.asset_reasons.specs.declared.reasons.Operand.{Operand}
 use Rattle.asset_reasons.specs.declared.reasons.Operand.TheVariants as Operand'
 use Rattle.asset_reasons.specs.declared.reasons.Shape.{Shape}
 use Rattle.asset_reasons.specs.declared.reasons.Shape.TheVariants.{ObjectAndValue, TxnAndParent, OneTxn, TxnAndObject, TxnObjectAndValue, TxnsOpsAndSet, TxnsAndSet, KindAndTxns}
-use Rattle.asset_reasons.specs.Mistakes.{Told, about, first_mistake, fits, is_single, kind_mistake, number_mistake, operand_mistake, operands_of, ops_mistake, set_mistake, shape_mistake, value_mistake}
+use Rattle.asset_reasons.specs.Mistakes.{Found, about, first_mistake, fits, is_single, kind_mistake, number_mistake, operand_mistake, operands_of, ops_mistake, set_mistake, shape_mistake, value_mistake}
 
 pub some_mapped : {A B : Type 0} (f : A → B) (o : Option A) → is_some (option_map f o) ≡ is_some o
 some_mapped f None = refl
@@ -179,7 +179,7 @@ read_words TxnsOpsAndSet words = read_permit words
 read_words TxnsAndSet words = read_delegate words
 read_words KindAndTxns words = read_depend words
 
-told_unless : (b c : Bool) (a : Option Told) (other : Told) → is_some a ≡ not c → is_some (cond b a (Some other)) ≡ not (b && c)
+told_unless : (b c : Bool) (a : Option Found) (other : Found) → is_some a ≡ not c → is_some (cond b a (Some other)) ≡ not (b && c)
 told_unless true c a other e = e
 told_unless false c a other e = refl
 

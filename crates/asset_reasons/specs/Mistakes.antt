@@ -20,13 +20,13 @@ use Rattle.asset_reasons.specs.declared.reasons.Shape.TheVariants.{ObjectAndValu
 use Rattle.asset_reasons.specs.Spelling.{begins_with, spelling}
 
 -- a reason, and the word that it is about; no word if it is about none
-abbrev pub Told : Type 0
-Told = Reason × List ℕ
+abbrev pub Found : Type 0
+Found = Reason × List ℕ
 
--- what is found is what is told
-abbrev pub Tells : Option Mistake → Option Told → Type 0
-Tells None told = told ≡ None
-Tells (Some mistake) told = told ≡ Some (mistake.reason, mistake.word.now)
+-- a call finds the mistake that the definition finds
+abbrev pub Finds : Option Mistake → Option Found → Type 0
+Finds None found = found ≡ None
+Finds (Some mistake) found = found ≡ Some (mistake.reason, mistake.word.now)
 
 -- a text has a byte, and digits alone
 unfoldable pub has_digits : List ℕ → Bool
@@ -68,7 +68,7 @@ unfoldable pub kind_mistake : List ℕ → Option Reason
 kind_mistake word = cond (is_some (kind_of word)) None (Some NoKind)
 
 -- the first part that is no number, and why
-unfoldable pub part_mistake : List (List ℕ) → Option Told
+unfoldable pub part_mistake : List (List ℕ) → Option Found
 part_mistake [] = None
 part_mistake (part ∷ rest) = cond (is_some (number_of part)) (part_mistake rest) (Some (why_no_number part, part))
 
@@ -78,21 +78,21 @@ has_empty [] = false
 has_empty (part ∷ rest) = cond (length part == 0) true (has_empty rest)
 
 -- why the parts between commas make no set
-unfoldable pub why_no_set : List (List ℕ) → Told
+unfoldable pub why_no_set : List (List ℕ) → Found
 why_no_set objects =
     cond (has_empty objects) (LoneComma, [])
     (unwrap_or (part_mistake objects) (cond (nat_lt 16 (length objects)) (TooManyObjects, []) (TwiceInSet, [])))
 
 -- what is wrong with a word that is to be a set of objects
-unfoldable pub set_mistake : List ℕ → Option Told
+unfoldable pub set_mistake : List ℕ → Option Found
 set_mistake word = cond (is_some (set_of word)) None (Some (why_no_set (parts 44 word)))
 
 -- a reason that is about the word
-abbrev pub about : List ℕ → Reason → Told
+abbrev pub about : List ℕ → Reason → Found
 about word reason = (reason, word)
 
 -- what is wrong with a word that is to be such an operand
-unfoldable pub operand_mistake : Operand → List ℕ → Option Told
+unfoldable pub operand_mistake : Operand → List ℕ → Option Found
 operand_mistake Operand'.Number word = option_map (about word) (number_mistake word)
 operand_mistake Operand'.Value word = option_map (about word) (value_mistake word)
 operand_mistake Operand'.Operations word = option_map (about word) (ops_mistake word)
@@ -107,7 +107,7 @@ fits (operand ∷ operands) [] = false
 fits (operand ∷ operands) (word ∷ words) = fits operands words
 
 -- what is wrong with the first word that is not what it is to be
-unfoldable pub first_mistake : List Operand → List (List ℕ) → Option Told
+unfoldable pub first_mistake : List Operand → List (List ℕ) → Option Found
 first_mistake [] words = None
 first_mistake (operand ∷ operands) [] = None
 first_mistake (operand ∷ operands) (word ∷ words) = cond (is_some (operand_mistake operand word)) (operand_mistake operand word) (first_mistake operands words)
@@ -152,26 +152,26 @@ unfoldable pub why_unknown : List ℕ → Reason
 why_unknown word = cond (list_any is_ascii_uppercase word) CapitalLetter UnknownWord
 
 -- what is wrong with the words after a first word of this shape
-unfoldable pub shape_mistake : List ℕ → Shape → List (List ℕ) → Option Told
+unfoldable pub shape_mistake : List ℕ → Shape → List (List ℕ) → Option Found
 shape_mistake first shape operands =
     cond (fits (operands_of shape (is_single operands)) operands) (first_mistake (operands_of shape (is_single operands)) operands) (Some (Wants shape, first))
 
 -- what is wrong with a first word, or with the words after it if it has a shape
-unfoldable pub mistake_by : Option Shape → List ℕ → List (List ℕ) → Option Told
+unfoldable pub mistake_by : Option Shape → List ℕ → List (List ℕ) → Option Found
 mistake_by None first operands = Some (why_unknown first, first)
 mistake_by (Some shape) first operands = shape_mistake first shape operands
 
 -- what is wrong with the words of a line
-unfoldable pub words_mistake : List (List ℕ) → Option Told
+unfoldable pub words_mistake : List (List ℕ) → Option Found
 words_mistake [] = Some (UnknownWord, [])
 words_mistake (first ∷ operands) = mistake_by (shape_of first) first operands
 
 -- why a line is bad if its words are wrong: its spelling, or else its words
-unfoldable pub spelled : List ℕ → Told → Told
+unfoldable pub spelled : List ℕ → Found → Found
 spelled line told = unwrap_or (option_map (λ reason. (reason, [])) (spelling line)) told
 
 -- Why a line is bad, if it is. One of more than 4,096 bytes is bad, whatever it begins with.
-unfoldable pub reason_of : List ℕ → Option Told
+unfoldable pub reason_of : List ℕ → Option Found
 reason_of line = cond (nat_lt 4096 (length line)) (Some (TooLong, [])) (cond (is_blank line) None (option_map (spelled line) (words_mistake (words line))))
 
 -- whether a line is bad

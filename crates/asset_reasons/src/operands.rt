@@ -2,7 +2,7 @@
 ghost use Rattle.std.specs.Prelude.{◌≡◌, [], cond, nat_lt, length, is_some, option_map, MatchOption, None, Some};
 ghost use Rattle.asset_grammar.specs.Sets.{gathered, is_list, one_more_object, set_of};
 ghost use Rattle.asset_grammar.specs.Words.{parts};
-ghost use Rattle.asset_reasons.specs.Mistakes.{Tells, about, has_empty, kind_mistake, operand_mistake, ops_mistake, part_mistake, set_mistake, why_no_set};
+ghost use Rattle.asset_reasons.specs.Mistakes.{Finds, about, has_empty, kind_mistake, operand_mistake, ops_mistake, part_mistake, set_mistake, why_no_set};
 
 use crate::numbers::{number_mistake, number_of, value_mistake, why_no_number};
 use crate::parts::Parts;
@@ -116,7 +116,7 @@ fn is_set(word: &[u8]) -> bool
 /// Returns the first part that is no number, and why.
 #[tactic(auto, unfolding(crate::specs::Mistakes::part_mistake))]
 fn part_mistake<'a>(parts: &mut Parts<'a>) -> Option<Mistake<'a>>
-    ensures { Tells result (part_mistake parts.old) }
+    ensures { Finds result (part_mistake parts.old) }
 {
     'parts: while let Some(part) = parts.next() {
         match number_of(part) {
@@ -180,7 +180,7 @@ fn why_no_set(word: &[u8]) -> Mistake<'_>
 /// Returns what is wrong with a word that is to be a set of objects.
 #[tactic(auto, unfolding(crate::specs::Mistakes::set_mistake))]
 fn set_mistake(word: &[u8]) -> Option<Mistake<'_>>
-    ensures { Tells result (set_mistake word.now) }
+    ensures { Finds result (set_mistake word.now) }
 {
     if is_set(word) {
         None
@@ -191,7 +191,7 @@ fn set_mistake(word: &[u8]) -> Option<Mistake<'_>>
 
 /// Returns a reason as one that is about the word.
 fn about(word: &[u8], reason: Option<Reason>) -> Option<Mistake<'_>>
-    ensures { Tells result (option_map (about word.now) reason) }
+    ensures { Finds result (option_map (about word.now) reason) }
 {
     match reason {
         Some(reason) => Some(Mistake { reason, word }),
@@ -202,7 +202,7 @@ fn about(word: &[u8], reason: Option<Reason>) -> Option<Mistake<'_>>
 /// Returns what is wrong with a word that is to be such an operand.
 #[tactic(auto, unfolding(crate::specs::Mistakes::operand_mistake))]
 pub(crate) fn operand_mistake(operand: Operand, word: &[u8]) -> Option<Mistake<'_>>
-    ensures { Tells result (operand_mistake operand word.now) }
+    ensures { Finds result (operand_mistake operand word.now) }
 {
     match operand {
         Operand::Number => about(word, number_mistake(word)),

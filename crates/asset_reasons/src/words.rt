@@ -4,7 +4,7 @@ ghost use Rattle.std.specs.Char.{is_ascii_uppercase};
 ghost use Rattle.std.specs.List.{list_any};
 ghost use Rattle.asset_grammar.specs.Grammar.{is_blank};
 ghost use Rattle.asset_grammar.specs.Words.{words};
-ghost use Rattle.asset_reasons.specs.Mistakes.{Tells, first_mistake, fits, is_single, mistake_by, operands_of, reason_of, second_word, shape_mistake, shape_of, step_shape, why_unknown, words_mistake};
+ghost use Rattle.asset_reasons.specs.Mistakes.{Finds, first_mistake, fits, is_single, mistake_by, operands_of, reason_of, second_word, shape_mistake, shape_of, step_shape, why_unknown, words_mistake};
 
 use crate::operands::operand_mistake;
 use crate::parts::Parts;
@@ -157,7 +157,7 @@ fn is_single(words: &mut Parts<'_>) -> bool
 /// Returns what is wrong with the first word that is not what it is to be.
 #[tactic(auto, unfolding(crate::specs::Mistakes::first_mistake))]
 fn first_mistake<'a>(operands: &[Operand], words: &mut Parts<'a>) -> Option<Mistake<'a>>
-    ensures { Tells result (first_mistake operands.now words.old) }
+    ensures { Finds result (first_mistake operands.now words.old) }
 {
     let mut rest = operands;
     'operands: while let Some((operand, more)) = rest.split_first() {
@@ -187,7 +187,7 @@ fn after_first(line: &[u8]) -> Parts<'_>
 /// Returns what is wrong with the words after a first word of this shape.
 #[tactic(auto, unfolding(crate::specs::Mistakes::shape_mistake))]
 fn shape_mistake<'a>(line: &'a [u8], first: &'a [u8], shape: Shape) -> Option<Mistake<'a>>
-    ensures { Tells result (shape_mistake first.now shape (drop 1 (words line.now))) }
+    ensures { Finds result (shape_mistake first.now shape (drop 1 (words line.now))) }
 {
     let single = is_single(&mut after_first(line));
     let operands = operands_of(shape, single);
@@ -222,7 +222,7 @@ fn why_unknown(word: &[u8]) -> Reason
 /// Returns what is wrong with the words of a line.
 #[tactic(auto, unfolding(crate::specs::Mistakes::words_mistake, crate::specs::Mistakes::mistake_by, asset_grammar::specs::Words::words))]
 fn words_mistake(line: &[u8]) -> Option<Mistake<'_>>
-    ensures { Tells result (words_mistake (words line.now)) }
+    ensures { Finds result (words_mistake (words line.now)) }
 {
     let mut words = Parts::new(line, b' ');
     let Some(first) = words.next() else {
@@ -267,7 +267,7 @@ fn is_blank(line: &[u8]) -> bool
 /// bad. Goes over the line some twenty times.
 #[tactic(auto, unfolding(crate::specs::Mistakes::reason_of, crate::specs::Mistakes::spelled))]
 pub fn reason_of(line: &[u8]) -> Option<Mistake<'_>>
-    ensures { Tells result (reason_of line.now) }
+    ensures { Finds result (reason_of line.now) }
 {
     if line.len() > LONGEST_LINE {
         return Some(Mistake::bare(Reason::TooLong));

@@ -14,7 +14,7 @@ use Rattle.asset_grammar.specs.declared.grammar.Said.TheVariants as Said'
 use Rattle.asset_grammar.specs.Grammar.{line_of, said_as}
 use Rattle.asset_shell.specs.Sessions.{outcome_text}
 use Rattle.asset_check.specs.Checked.{Seen, mistake_in, seen_by, seen_object}
-use Rattle.asset_reasons.specs.Mistakes.{Tells, Told}
+use Rattle.asset_reasons.specs.Mistakes.{Finds, Found}
 use Rattle.asset_reasons.specs.declared.reasons.Mistake.{Mistake}
 use Rattle.asset_check.specs.Sentences.{mistake_line}
 use Rattle.asset_shell.specs.Answering.{IsJoint, asks, bad_if, open_history, session_of}
@@ -94,7 +94,7 @@ session_taken None seen seen' capacity line (Said'.Object given) step (opening, 
 session_taken None seen seen' capacity line Said'.Ask step (opening, some) other says later = absurd (cc)
 session_taken None seen seen' capacity line Said'.Bad step (opening, some) other says later = rw (later, says, some) refl
 
-answered : (said : Said) (told : Option Told) (s : Session) (n : ℕ) (step : Step) → asks said ≡ false → answer_if told s n (said_as said step) ≡ bad_if told n
+answered : (said : Said) (told : Option Found) (s : Session) (n : ℕ) (step : Step) → asks said ≡ false → answer_if told s n (said_as said step) ≡ bad_if told n
 unfolding asks said_as answer_if answer_line bad_if
 answered Said'.Blank None s n step other = refl
 answered (Said'.Object given) None s n step other = refl
@@ -121,6 +121,6 @@ asks_ask Said'.Ask step e = refl
 asks_ask Said'.Bad step e = absurd (cc)
 
 -- whether a line is bad
-pub tells_some : (found : Option Mistake) (told : Option Told) → Tells found told → is_some found ≡ is_some told
+pub tells_some : (found : Option Mistake) (told : Option Found) → Finds found told → is_some found ≡ is_some told
 tells_some None told tells = rw tells refl
 tells_some (Some mistake) told tells = rw tells refl

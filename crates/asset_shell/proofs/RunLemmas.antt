@@ -17,7 +17,7 @@ use Rattle.asset_cli.specs.Transcript.{Transcript, finished, stopped, with_prefi
 use Rattle.asset_shell.specs.Sessions.{outcome_text}
 use Rattle.asset_check.specs.Checked.{mistake_in, object_mistake}
 use Rattle.asset_reasons.specs.declared.reasons.Reason.TheVariants.{GivenTwice}
-use Rattle.asset_reasons.specs.Mistakes.{Told, is_bad, reason_of, second_word}
+use Rattle.asset_reasons.specs.Mistakes.{Found, is_bad, reason_of, second_word}
 use Rattle.asset_reasons.proofs.ReasonLemmas.{has_reason_if_bad}
 use Rattle.asset_shell.specs.Laws.{PrintsAsRun}
 use Rattle.asset_shell.specs.Sessions.{Session, answer_if, answer_line, new_session, reply_to, said_of_each, seen_in, session_after, session_by, with_object}
@@ -53,12 +53,12 @@ reason_there : (line : List ℕ) → line_of line ≡ Bad → is_some (reason_of
 unfolding is_bad
 reason_there line e = has_reason_if_bad line ∙ ap is_bad e
 
-bad_answered : (told : Option Told) (s : Session) (n : ℕ) (said : Line) → is_some told ≡ true → answer_if told s n said ≡ bad_line n
+bad_answered : (told : Option Found) (s : Session) (n : ℕ) (said : Line) → is_some told ≡ true → answer_if told s n said ≡ bad_line n
 unfolding answer_if
 bad_answered None s n said some = absurd (cc)
 bad_answered (Some told) s n said some = refl
 
-goes_on_bad : (told : Option Told) (s : Session) (n : ℕ) (said : Line) (h : Recorded) (text : List ℕ) → is_some told ≡ true → Goes (answer_if told s n said ++ text) (stopped n h)
+goes_on_bad : (told : Option Found) (s : Session) (n : ℕ) (said : Line) (h : Recorded) (text : List ℕ) → is_some told ≡ true → Goes (answer_if told s n said ++ text) (stopped n h)
 goes_on_bad told s n said h text some = rw (bad_answered told s n said some) (goes_on n h text)
 
 steps_run : (ls : List (List ℕ)) (n : ℕ) (h : Recorded) → Goes (said_of_each reply_to ls n (stepping h)) (steps_transcript Replies ls n h)
@@ -93,7 +93,7 @@ objects_run (line ∷ more) n opening capacity = go (line_of line) refl (λ late
   go (Command (Ask step)) e later = first_step line more n (opened opening capacity) step e
   go (Command (Object given)) e later = choose (exists opening given.0.0) where
     choose : (there : Bool)
-        → Goes (answer_if (cond {A = Option Told} there (Some (GivenTwice, second_word (words line))) None) (opening_by opening capacity) n (Command (Object given))
+        → Goes (answer_if (cond {A = Option Found} there (Some (GivenTwice, second_word (words line))) None) (opening_by opening capacity) n (Command (Object given))
         ++ said_of_each reply_to more (n + 1) (cond there (opening_by opening capacity) (opening_by (opening ++ given ∷ []) capacity)))
         (cond there (stopped n (opened opening capacity)) (objects_transcript Replies more (n + 1) (opening ++ given ∷ []) capacity))
     choose true = goes_on n (opened opening capacity) _

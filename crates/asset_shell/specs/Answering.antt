@@ -7,7 +7,7 @@ use Rattle.asset_grammar.specs.declared.grammar.Said.{Said}
 use Rattle.asset_grammar.specs.declared.grammar.Said.TheVariants.{Ask}
 use Rattle.asset_grammar.specs.Texts.{bad_line}
 use Rattle.asset_check.specs.Checked.{Seen}
-use Rattle.asset_reasons.specs.Mistakes.{Told}
+use Rattle.asset_reasons.specs.Mistakes.{Found}
 use Rattle.asset_shell.specs.Sessions.{Session, new_session}
 
 -- the session after the lines so far, the number of the next line, and the number of the first bad line
@@ -38,6 +38,6 @@ asks Ask = true
 asks said = false
 
 -- the answer to a bad line, and nothing to another one
-unfoldable pub bad_if : Option Told → ℕ → List ℕ
+unfoldable pub bad_if : Option Found → ℕ → List ℕ
 bad_if None n = []
 bad_if (Some told) n = bad_line n

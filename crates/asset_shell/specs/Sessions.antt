@@ -12,7 +12,7 @@ use Rattle.asset_grammar.specs.Grammar.{line_of}
 use Rattle.asset_grammar.specs.Texts.{bad_line, full_line, outcome_line}
 use Rattle.asset_cli.specs.Transcript.{joined_by}
 use Rattle.asset_check.specs.Checked.{Seen, mistake_at}
-use Rattle.asset_reasons.specs.Mistakes.{Told}
+use Rattle.asset_reasons.specs.Mistakes.{Found}
 use Rattle.asset_check.specs.Sentences.{mistake_line}
 
 -- the history so far, and whether a step was asked for
@@ -29,7 +29,7 @@ unfoldable pub seen_in : Session → Seen
 seen_in session = cond session.stepped None (Some session.history.opening)
 
 -- why a line is bad where it stands, if it is
-abbrev pub mistake_of : Session → List ℕ → Option Told
+abbrev pub mistake_of : Session → List ℕ → Option Found
 mistake_of session line = mistake_at (seen_in session) line
 
 -- the line that answers a step with this outcome: if there is no room for it, the step is not answered
@@ -44,7 +44,7 @@ answer_line session (Command (Object given)) = []
 answer_line session Bad = []
 
 -- what is answered to line n: that it is bad, if it is
-unfoldable pub answer_if : Option Told → Session → ℕ → Line → List ℕ
+unfoldable pub answer_if : Option Found → Session → ℕ → Line → List ℕ
 answer_if None session n said = answer_line session said
 answer_if (Some told) session n said = bad_line n
 

@@ -1,7 +1,7 @@
 //! Answers one line after another.
 ghost use Rattle.std.specs.Prelude.{◌≡◌, ◌++◌, true, Option, None, Some, is_some, OnOk, IfErr, string_bytes};
 ghost use Rattle.asset_core.specs.OpenFaults.{IsCapacity};
-ghost use Rattle.asset_reasons.specs.Mistakes.{Tells, Told};
+ghost use Rattle.asset_reasons.specs.Mistakes.{Finds, Found};
 ghost use Rattle.asset_history.specs.Recorded.{answer_to};
 ghost use Rattle.asset_grammar.specs.Texts.{bad_line};
 ghost use Rattle.asset_cli.specs.Transcript.{joined_by};
@@ -72,8 +72,8 @@ fn say_if_bad(
     number: u64,
     found: Option<Mistake<'_>>,
 ) -> Result<(), ScriptFault>
-    ensures replies { OnOk result ((told : Option Told) → Tells found.entry told → string_bytes answers.new.replies ≡ string_bytes answers.old.replies ++ bad_if told number) }
-    ensures reasons { OnOk result ((told : Option Told) → Tells found.entry told → string_bytes answers.new.reasons ≡ string_bytes answers.old.reasons ++ mistake_line number told) }
+    ensures replies { OnOk result ((told : Option Found) → Finds found.entry told → string_bytes answers.new.replies ≡ string_bytes answers.old.replies ++ bad_if told number) }
+    ensures reasons { OnOk result ((told : Option Found) → Finds found.entry told → string_bytes answers.new.reasons ≡ string_bytes answers.old.reasons ++ mistake_line number told) }
     ensures memory { IfErr result (λ fault. fault ≡ ScriptFault.NoMemory) }
 {
     match found {
