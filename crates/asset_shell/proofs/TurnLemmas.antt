@@ -1,5 +1,8 @@
 -- What is written turn by turn.
-use Rattle.std.proofs.Common.{◌≡◌, ℕ, List, [], ◌++◌, Option, None, refl, sym, ap, ◌∙◌, append_assoc, append-nil}
+use Rattle.std.proofs.Common.{◌≡◌, ℕ, ◌<◌, ◌≤◌, List, [], ◌++◌, Option, None, length, nat_lt, take, refl, sym, ap, ◌∙◌, append_assoc, append-nil, arith}
+use Rattle.std.specs.Bool.{OnTrue}
+use Rattle.std.proofs.lemmas.Bool.{OnTrue_from}
+use Rattle.std.proofs.lemmas.List.{length-take-le}
 use Rattle.std.specs.Io.KnownBytes.{Appends, Consumes, IsAtEnd, Keeps}
 use Rattle.std.proofs.KnownBytes.{Appends-nil, Appends-trans, Consumes-kept, Consumes-nil, Consumes-trans}
 use Rattle.asset_history.specs.Recorded.{opened}
@@ -157,3 +160,13 @@ finished_part start left answers answers' reasons reasons' capacity talk u answe
 pub none_stops : (start : Streams) (capacity : ℕ) → StopsWith start start capacity NoMemory
 unfolding StopsWith
 none_stops start capacity = record { bytes = []; read = Consumes-nil start.left; answers = none_taken start.answers _; reasons = none_taken start.reasons _ }
+
+-- ---- what a turn that goes on was given
+abbrev GaveSome : Option (List ℕ) → Option (List ℕ) → Type 0
+GaveSome before later = (bytes : List ℕ) × (0 < length bytes) × Consumes before later bytes
+
+pub gave_some : (before later : Option (List ℕ)) (count : ℕ) (piece : List ℕ) → count ≤ length piece → Consumes before later (take count piece) → OnTrue (nat_lt 0 count) (GaveSome before later)
+gave_some before later count piece bound gave = OnTrue_from (nat_lt 0 count) (GaveSome before later) (λ some.
+    let positive : 0 < count = grind (arith, some) in
+    let more : 0 < length (take count piece) = omega (arith, positive, length-take-le count piece bound) in
+    (take count piece, more, gave))

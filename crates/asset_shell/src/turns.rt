@@ -1,6 +1,6 @@
 //! One turn of a conversation: a piece of text is asked for, each line that ends in it is answered, and the answers are written.
 ghost use Rattle.std.specs.Prelude.{◌≡◌, ◌≢◌, ◌≤◌, ◌<◌, ◌+◌, ◌^◌, ◌⊎◌, ℕ, Bool, true, false, List, Option, Err, Some, length, take, string_bytes, is_none, ◌||◌, IfSome, IfNone, IfOk, OnOk, IfErr, OnErr};
-ghost use Rattle.std.specs.Bool.{OnFalse};
+ghost use Rattle.std.specs.Bool.{OnFalse, OnTrue};
 ghost use Rattle.std.specs.Io.KnownBytes.{Appends, Consumes, IsAtEnd, Keeps};
 ghost use Rattle.asset_cli.specs.Device.{counted};
 ghost use Rattle.asset_shell.specs.Turns.{HasWrittenAll, IsUpToDate, StopsWith, Streams, TookPart, streams};
@@ -50,7 +50,7 @@ fn ask_reader<R: Read, W: Write, E: Write>(
 
 impl Conversation {
     /// Takes one turn: asks the reader for a piece of text, answers each line that ends in it, and writes the answers, and the
-    /// reasons of bad lines, in full. Returns whether there may be more text.
+    /// reasons of bad lines, in full. Returns whether there may be more text; if so, the reader gave some.
     ///
     /// Answers `Read` only if the reader failed, `Write` only if a writer failed, and `NoMemory` if memory runs out. After
     /// `Read` each complete line was answered; after another fault a prefix of the answers was written. The conversation does
@@ -72,6 +72,7 @@ impl Conversation {
         ensures up_to_date { OnOk result ((start : Streams) (capacity : ℕ) → IsUpToDate start (streams (R.remaining input.old.inner) (W.contents output.old.inner) (E.contents errors.old.inner)) capacity self.old
             → IsUpToDate start (streams (R.remaining input.new.inner) (W.contents output.new.inner) (E.contents errors.new.inner)) capacity self.new) }
         ensures end { IfOk result (λ more. OnFalse more (IsAtEnd (R.remaining input.new.inner))) }
+        ensures gave { IfOk result (λ more. OnTrue more ((bytes : List ℕ) × (0 < length bytes) × Consumes (R.remaining input.old.inner) (R.remaining input.new.inner) bytes)) }
         ensures few { OnOk result (self.new.number ≤ self.old.number + length piece.old) }
         ensures stopped { IfErr result (λ fault. (start : Streams) (capacity : ℕ) → IsUpToDate start (streams (R.remaining input.old.inner) (W.contents output.old.inner) (E.contents errors.old.inner)) capacity self.old
             → StopsWith start (streams (R.remaining input.new.inner) (W.contents output.new.inner) (E.contents errors.new.inner)) capacity fault) }

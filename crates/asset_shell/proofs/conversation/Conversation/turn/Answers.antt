@@ -4,7 +4,7 @@ use Rattle.std.proofs.lemmas.Result.{err_from_is_err_and}
 use Rattle.asset_cli.specs.declared.faults.ScriptFault.TheVariants.{Write, NoMemory}
 use Rattle.asset_shell.specs.Talking.{Talk}
 use Rattle.asset_shell.proofs.TalkLemmas.{number_after}
-use Rattle.asset_shell.proofs.TurnLemmas.{no_memory_is_no_read, none_taken, part_more, part_stops, read_failed, up_to_date_more, write_is_no_read}
+use Rattle.asset_shell.proofs.TurnLemmas.{gave_some, no_memory_is_no_read, none_taken, part_more, part_stops, read_failed, up_to_date_more, write_is_no_read}
 use Rattle.asset_shell.proofs.conversation.Conversation.turn.Goals as goal
 
 pub returns-in_default-clause-stopped : goal.returns-in_default-clause-stopped
@@ -32,3 +32,6 @@ pub returns-clause-few : goal.returns-clause-few
 returns-clause-few g c =
     let piece = take c.in-Some.count c.ask_reader.new.piece in
     omega (arith, ap (λ (t : Talk). t.number) c.in_ok-hear.ensures.heard, number_after c.args.self.now piece, length-take-le c.in-Some.count c.ask_reader.new.piece c.in-Some.ensures.bound, c.in-Some.ensures.bound)
+
+pub returns-clause-gave : goal.returns-clause-gave
+returns-clause-gave g c = gave_some _ _ c.in-Some.count c.ask_reader.new.piece c.in-Some.ensures.bound c.in-Some.ensures.gave
