@@ -25,7 +25,8 @@ use Rattle.asset_names.specs.OpSets.{OpSet}
 use Rattle.asset_names.specs.declared.sets.ObSet.{ObSet}
 use Rattle.asset_names.proofs.DelegateLemmas.{live_delegated}
 use Rattle.asset_names.proofs.ListLemmas.{lists_pushed}
-use Rattle.asset_locks.specs.declared.lock.Lock.{Lock}
+use Rattle.asset_lock_store.specs.declared.lock.Lock.{Lock}
+use Rattle.asset_lock_store.specs.LockRules as Rules
 use Rattle.asset_locks.specs.LockTable as Locks
 use Rattle.asset_locks.specs.Blocking as Blocking
 use Rattle.asset_locks.specs.Blocking.{request_in}
@@ -189,7 +190,7 @@ granted_is : (t : ℕ) (x : Ob) (op : Op) (ops : OpSet) (who : Locks.Enrolled) �
     ≡ cond (eqb (asker_of who).name t) (record (asker_of who) { request = None }) (asker_of who)
 unfolding asker_of Locks.granted_row
 granted_is t x op ops who = go (eqb who.name t) where
-  go : (own : Bool) → asker_of (cond own (record who { pending = None; locks = Locks.granted_own x op who.locks }) (record who { locks = map (Locks.suspended x.0 ops) who.locks }))
+  go : (own : Bool) → asker_of (cond own (record who { pending = None; locks = Rules.granted_own x op who.locks }) (record who { locks = map (Rules.suspended x.0 ops) who.locks }))
       ≡ cond own (record (asker_of who) { request = None }) (asker_of who)
   go true = refl
   go false = refl
@@ -297,7 +298,7 @@ granted_askers : (step : Step) (t : ℕ) (x : Ob) (op : Op) (reply : Reply) (tab
     → map (asker_after step (Answer reply)) (pending_in tables.locks) ≡ pending_requests (Locks.grant_in t x op tables.locks)
 unfolding pending_in Locks.grant_in
 granted_askers step t x op reply tables carried asked =
-    let ops = Locks.ops_with op (Locks.lock_in tables.locks t x.0) in
+    let ops = Rules.ops_with op (Locks.lock_in tables.locks t x.0) in
     sym (askers_changed (Locks.granted_row t x op ops) (asker_after step (Answer reply)) tables.locks
     (λ who. granted_is t x op ops who ∙ sym (asked (asker_of who) ∙ granted_asker step t x op reply (asker_of who) carried)))
 
@@ -306,7 +307,7 @@ askers_handed : (giver taker : ℕ) (set : ObSet) (table : Locks.LockTable) → 
 unfolding Locks.hand_over_in asker_of
 askers_handed giver taker set table = go (eqb giver taker) where
   given : List Lock
-  given = filter (Locks.moved set) (Locks.locks_of table giver)
+  given = filter (Rules.moved set) (Locks.locks_of table giver)
 
   keeps : (who : Locks.Enrolled) → asker_of (Locks.handed_row giver taker set given who) ≡ asker_of who
   keeps who = λ i. record { name = handed_name giver taker set given who i; request = handed_pending giver taker set given who i }

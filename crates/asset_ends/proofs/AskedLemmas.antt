@@ -11,7 +11,7 @@ use Rattle.asset_names.specs.Endings.{live}
 use Rattle.asset_objects.specs.Cells.{Cells, change_at, written}
 use Rattle.asset_deps.specs.Dependencies.{Dependency}
 use Rattle.asset_permits.specs.Descriptors.{Descriptor}
-use Rattle.asset_locks.specs.declared.state.Asked.TheVariants.{Granted, Pending}
+use Rattle.asset_locks.specs.declared.asked.Asked.TheVariants.{Granted, Pending}
 use Rattle.asset_locks.specs.LockTable as Locks
 use Rattle.asset_locks.specs.Valid.{after_ask, answer_where}
 use Rattle.asset_trans.specs.TransRows.{NamedTransRow}

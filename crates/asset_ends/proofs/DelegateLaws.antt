@@ -25,9 +25,11 @@ use Rattle.asset_names.proofs.Common.{eqb-flip}
 use Rattle.asset_names.proofs.EndLemmas.{live_parts}
 use Rattle.asset_names.proofs.DelegateLemmas.{arrows_delegated, live_delegated, delegate_ends, holds_delegated, holds_by_some_op}
 use Rattle.asset_objects.specs.Cells.{Cell, Cells, fresh, written, handed_cell, handed_write, change_where}
-use Rattle.asset_locks.specs.declared.lock.Lock.{Lock}
+use Rattle.asset_lock_store.specs.declared.lock.Lock.{Lock}
+use Rattle.asset_lock_store.specs.LockRules as Rules
+use Rattle.asset_lock_store.specs.LockRules.{is_some_op}
 use Rattle.asset_locks.specs.LockTable as Locks
-use Rattle.asset_locks.specs.Valid.{IsValid, is_some_op}
+use Rattle.asset_locks.specs.Valid.{IsValid}
 use Rattle.asset_locks.proofs.HandLaws.{carries_handed, carries_own, names_handed}
 use Rattle.asset_deps.specs.Dependencies.{Dependency}
 use Rattle.asset_permits.specs.Descriptors.{Descriptor, one_covers}
@@ -138,7 +140,7 @@ carries_given giver taker set table u y op valid enrolled = go (eqb giver taker)
       → Locks.carries (Locks.hand_over_in giver taker set table) u y op ≡ cond (in_set set y) ((eqb u taker && Locks.carries table giver y op) || (not (eqb u giver) && Locks.carries table u y op)) (Locks.carries table u y op)
   go false e = carries_handed giver taker set table u y op valid e enrolled
   go true e =
-      ap (λ b. Locks.carries (cond b table (map (Locks.handed_row giver taker set (filter (Locks.moved set) (Locks.locks_of table giver))) table)) u y op) e
+      ap (λ b. Locks.carries (cond b table (map (Locks.handed_row giver taker set (filter (Rules.moved set) (Locks.locks_of table giver))) table)) u y op) e
       ∙ by_name (in_set set y) (eqb u giver) refl
       ∙ ap (λ n. cond (in_set set y) ((eqb u n && Locks.carries table giver y op) || (not (eqb u giver) && Locks.carries table u y op)) (Locks.carries table u y op)) (eqb-true giver taker e) where
         by_name : (among own : Bool) → eqb u giver ≡ own → Locks.carries table u y op ≡ cond among ((own && Locks.carries table giver y op) || (not own && Locks.carries table u y op)) (Locks.carries table u y op)
@@ -147,15 +149,15 @@ carries_given giver taker set table u y op valid enrolled = go (eqb giver taker)
         by_name true false f = refl
 
 -- a lock carries an operation, so a transaction has one on an object where it carries a read or a write there
-on_carries : (x : ℕ) (locks : List Lock) → ((lock : Lock) → find (Locks.is_on x) locks ≡ Some lock → is_some_op lock.ops ≡ true)
-    → list_any (Locks.is_on x) locks ≡ (list_any (Locks.carries_on x Op'.Read) locks || list_any (Locks.carries_on x Op'.Write) locks)
-unfolding Locks.carries_on is_some_op
+on_carries : (x : ℕ) (locks : List Lock) → ((lock : Lock) → find (Rules.is_on x) locks ≡ Some lock → is_some_op lock.ops ≡ true)
+    → list_any (Rules.is_on x) locks ≡ (list_any (Rules.carries_on x Op'.Read) locks || list_any (Rules.carries_on x Op'.Write) locks)
+unfolding Rules.carries_on is_some_op
 on_carries x [] carry = refl
-on_carries x (lock ∷ locks) carry = go (Locks.is_on x lock) carry (on_carries x locks) where
-  go : (on : Bool) → ((l : Lock) → cond on (Some lock) (find (Locks.is_on x) locks) ≡ Some l → is_some_op l.ops ≡ true)
-      → (((l : Lock) → find (Locks.is_on x) locks ≡ Some l → is_some_op l.ops ≡ true) → list_any (Locks.is_on x) locks ≡ (list_any (Locks.carries_on x Op'.Read) locks || list_any (Locks.carries_on x Op'.Write) locks))
-      → (on || list_any (Locks.is_on x) locks) ≡ ((on && has_op lock.ops Op'.Read || list_any (Locks.carries_on x Op'.Read) locks) || (on && has_op lock.ops Op'.Write || list_any (Locks.carries_on x Op'.Write) locks))
-  go true each rest = some lock.ops.read lock.ops.write (list_any (Locks.carries_on x Op'.Read) locks) (list_any (Locks.carries_on x Op'.Write) locks) (each lock refl) where
+on_carries x (lock ∷ locks) carry = go (Rules.is_on x lock) carry (on_carries x locks) where
+  go : (on : Bool) → ((l : Lock) → cond on (Some lock) (find (Rules.is_on x) locks) ≡ Some l → is_some_op l.ops ≡ true)
+      → (((l : Lock) → find (Rules.is_on x) locks ≡ Some l → is_some_op l.ops ≡ true) → list_any (Rules.is_on x) locks ≡ (list_any (Rules.carries_on x Op'.Read) locks || list_any (Rules.carries_on x Op'.Write) locks))
+      → (on || list_any (Rules.is_on x) locks) ≡ ((on && has_op lock.ops Op'.Read || list_any (Rules.carries_on x Op'.Read) locks) || (on && has_op lock.ops Op'.Write || list_any (Rules.carries_on x Op'.Write) locks))
+  go true each rest = some lock.ops.read lock.ops.write (list_any (Rules.carries_on x Op'.Read) locks) (list_any (Rules.carries_on x Op'.Write) locks) (each lock refl) where
     some : (r w a b : Bool) → (r || w) ≡ true → true ≡ ((r || a) || (w || b))
     some true w a b h = refl
     some false true true b h = refl
@@ -166,7 +168,7 @@ on_carries x (lock ∷ locks) carry = go (Locks.is_on x lock) carry (on_carries 
 -- the objects of the set on which the giver has a lock are those that it hands over
 pub lists_moved : (steps : List Step) (table : Locks.LockTable) (giver : ℕ) (obs : ObSet) → IsValid table → ((t x : ℕ) (op : Op) → Locks.carries table t x op ≡ holds steps t x op) → (x : ℕ)
     → lists (numbers (filter (λ (o : Ob). in_set obs o.0) (Locks.held_in table giver))) x ≡ (in_set obs x && holds_object steps giver x)
-unfolding lists numbers Locks.held_in Locks.lock_in Locks.is_on
+unfolding lists numbers Locks.held_in Locks.lock_in Rules.is_on
 lists_moved steps table giver obs valid same x =
     any_map (λ m. eqb m x) (λ (o : Ob). o.0) (filter (λ (o : Ob). in_set obs o.0) (Locks.held_in table giver))
     ∙ any_filter (λ (o : Ob). eqb o.0 x) (λ (o : Ob). in_set obs o.0) (Locks.held_in table giver)
@@ -177,7 +179,7 @@ lists_moved steps table giver obs valid same x =
       here o true e = ap (λ n. in_set obs n && true) (eqb-true o.0 x e)
       here o false e = grind arith
 
-      own : (op : Op) → list_any (Locks.carries_on x op) (Locks.locks_of table giver) ≡ holds steps giver x op
+      own : (op : Op) → list_any (Rules.carries_on x op) (Locks.locks_of table giver) ≡ holds steps giver x op
       own op = sym (carries_own table giver x op valid.names) ∙ same giver x op
 
       held : list_any (λ (o : Ob). eqb o.0 x) (map (λ (lock : Lock). lock.object) (Locks.locks_of table giver)) ≡ holds_object steps giver x

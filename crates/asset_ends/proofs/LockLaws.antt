@@ -11,8 +11,9 @@ use Rattle.asset_names.specs.declared.operations.Op.TheVariants as Op'
 use Rattle.asset_names.specs.Operations.{conflict, same_op}
 use Rattle.asset_names.specs.OpSets.{has_op, OpSet, only_op, with_op}
 use Rattle.asset_names.proofs.ListLemmas.{any_alike, any_map, any_of_two, any_and}
-use Rattle.asset_locks.specs.declared.lock.Lock.{Lock}
-use Rattle.asset_locks.specs.LockTable.{Enrolled, LockTable, is_on, carries_on, carries, one_conflicts, both_conflict, conflicts_on, blocks, is_free_in, lock_in, ops_with, taken, new_lock, granted_own, suspended, granted_row, grant_in, waiting_row, wait_in, enrol_in, release_in, enrolled_in, names_in}
+use Rattle.asset_lock_store.specs.declared.lock.Lock.{Lock}
+use Rattle.asset_locks.specs.LockTable.{Enrolled, LockTable, carries, is_free_in, lock_in, granted_row, grant_in, waiting_row, wait_in, enrol_in, release_in, enrolled_in, names_in}
+use Rattle.asset_lock_store.specs.LockRules.{is_on, carries_on, one_conflicts, both_conflict, conflicts_on, blocks, ops_with, taken, new_lock, granted_own, suspended}
 use Rattle.asset_locks.specs.Blocking.{is_blocker_in}
 use Rattle.asset_locks.proofs.HandLaws.{any_named, names_changed}
 

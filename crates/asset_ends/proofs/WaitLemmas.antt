@@ -16,7 +16,8 @@ use Rattle.asset_names.specs.Operations.{conflict, holds, allows}
 use Rattle.asset_names.proofs.Common.{both_follow}
 use Rattle.asset_names.proofs.PermitLemmas.{linked_same}
 use Rattle.asset_seats.specs.Seated.{Seated, seat}
-use Rattle.asset_locks.specs.LockTable.{LockTable, carries_on, carries, enrolled_in, names_in}
+use Rattle.asset_locks.specs.LockTable.{LockTable, carries, enrolled_in, names_in}
+use Rattle.asset_lock_store.specs.LockRules.{carries_on}
 use Rattle.asset_locks.specs.Blocking.{is_blocker_in, request_of, request_in}
 use Rattle.asset_permits.specs.Descriptors.{Descriptor, allows_by}
 use Rattle.asset_deps.specs.Dependencies.{Dependency, class_ways, order_ways, class_in, is_outside_of, is_outside_source_in}

@@ -8,7 +8,8 @@ use Rattle.asset_names.specs.declared.operations.Op.{Op}
 use Rattle.asset_names.specs.OpSets.{OpSet}
 use Rattle.asset_names.proofs.Common.{one_txn, some_is_not_none}
 use Rattle.asset_seats.specs.Seated.{Seated, seat}
-use Rattle.asset_locks.specs.LockTable.{Enrolled, LockTable, enrolled_in, enrol_in, release_in, waiting_row, wait_in, ops_with, granted_own, suspended, granted_row, grant_in, lock_in}
+use Rattle.asset_locks.specs.LockTable.{Enrolled, LockTable, enrolled_in, enrol_in, release_in, waiting_row, wait_in, granted_row, grant_in, lock_in}
+use Rattle.asset_lock_store.specs.LockRules.{ops_with, granted_own, suspended}
 use Rattle.asset_locks.specs.Valid.{after_ask}
 use Rattle.asset_locks.specs.Tied.{SittersAreEnrolled}
 use Rattle.asset_locks.proofs.HandLaws.{found_changed}

@@ -14,10 +14,11 @@ use Rattle.asset_names.specs.OpSets.{OpSet, has_op}
 use Rattle.asset_names.proofs.ListLemmas.{any_alike, any_map, any_either, any_and}
 use Rattle.asset_chains.specs.Chained.{lists}
 use Rattle.asset_chains.proofs.KeyLemmas.{distinct_head, distinct_tail}
-use Rattle.asset_locks.specs.declared.lock.Lock.{Lock}
-use Rattle.asset_locks.specs.LockTable.{Enrolled, LockTable, is_on, carries_on, carries, names_in, enrolled_in, locks_or_none, locks_of, waiting_at, waiters_in, moved, both_ops, ops_on, merged, left, with_moved, handed_row, hand_over_in}
+use Rattle.asset_lock_store.specs.declared.lock.Lock.{Lock}
+use Rattle.asset_locks.specs.LockTable.{Enrolled, LockTable, carries, names_in, enrolled_in, locks_or_none, locks_of, waiting_at, waiters_in, handed_row, hand_over_in}
+use Rattle.asset_lock_store.specs.LockRules.{is_on, carries_on, moved, both_ops, ops_on, merged, left, with_moved}
 use Rattle.asset_locks.specs.Valid.{IsValid}
-use Rattle.asset_locks.proofs.MergeLemmas.{merged_here, merged_apart, merged_object, none_carries}
+use Rattle.asset_lock_store.proofs.MergeLemmas.{merged_here, merged_apart, merged_object, none_carries}
 
 -- ---- the locks of one transaction
 has_both : (ops others : OpSet) (op : Op) → has_op (both_ops ops others) op ≡ (has_op ops op || has_op others op)

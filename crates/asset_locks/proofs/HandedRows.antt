@@ -5,9 +5,11 @@ use Rattle.asset_names.specs.declared.names.Txn.{Txn}
 use Rattle.asset_names.specs.declared.sets.ObSet.{ObSet}
 use Rattle.asset_chains.specs.Chained.{Chained, chain_of, home_of, lists, IsSound}
 use Rattle.asset_seats.specs.Seated.{Seated, seat}
-use Rattle.asset_locks.specs.declared.lock.Lock.{Lock}
-use Rattle.asset_locks.specs.LockTable.{LockTable, PendingRequest, moved, left, with_moved, handed_row, hand_over_in, locks_of}
-use Rattle.asset_locks.specs.Stored.{Stored, locks_at, name_or_zero, pending_at, row_at, rows_of, AreSeated}
+use Rattle.asset_lock_store.specs.declared.lock.Lock.{Lock}
+use Rattle.asset_locks.specs.LockTable.{LockTable, PendingRequest, handed_row, hand_over_in, locks_of}
+use Rattle.asset_lock_store.specs.LockRules.{moved, left, with_moved}
+use Rattle.asset_lock_store.specs.Stored.{Stored, locks_at}
+use Rattle.asset_locks.specs.Tied.{name_or_zero, pending_at, row_at, rows_of, AreSeated}
 use Rattle.asset_locks.proofs.TableLemmas.{locks_of_enrolled, other_name, own_name, rows_change}
 
 -- nothing changes if both are one

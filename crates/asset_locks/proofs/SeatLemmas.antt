@@ -7,9 +7,9 @@ use Rattle.asset_chains.specs.Chained.{chain_of, home_of, lists, IsSound}
 use Rattle.asset_chains.proofs.Walks.{map_same}
 use Rattle.asset_seats.specs.Seated.{Seated, seat}
 use Rattle.asset_locks.specs.LockTable.{enrolled_in}
-use Rattle.asset_locks.specs.Stored.{locks_at, name_or_zero, pending_at, row_at, rows_of}
+use Rattle.asset_lock_store.specs.Stored.{locks_at}
+use Rattle.asset_locks.specs.Tied.{name_or_zero, pending_at, row_at, rows_of, LockParts, rows_in, IsTied, HasRoom}
 use Rattle.asset_locks.proofs.TableLemmas.{row_found}
-use Rattle.asset_locks.specs.Tied.{LockParts, rows_in, IsTied, HasRoom}
 
 module _ (table : LockParts) (seats after : Seated) where
   -- the rows are those of seats in the chain of enrolment

@@ -15,15 +15,16 @@ use Rattle.asset_chains.proofs.SoundLemmas.{no_home_of, no_chain_of}
 use Rattle.asset_chains.proofs.KeyLemmas.{distinct_none, without_unlisted}
 use Rattle.asset_chains.proofs.Walks.{homes_without, map_same, find_key, find_none, find_found, any_found, any_from, any_none, distinct_map}
 use Rattle.asset_seats.specs.Seated.{Seated, seat}
-use Rattle.asset_locks.specs.declared.lock.Lock.{Lock}
-use Rattle.asset_locks.specs.LockTable.{Enrolled, LockTable, PendingRequest, is_on, names_in, enrolled_in, locks_or_none, locks_of, lock_in, held_in, both_conflict, blocks, is_free_in, enrol_in, release_in, waiting_row, wait_in, ops_with, granted_own, suspended, granted_row, grant_in, waiting_at, waiters_in}
-use Rattle.asset_locks.specs.Valid.{IsValid, is_some_op}
-use Rattle.asset_locks.specs.Stored.{Stored, lock_at, locks_at, name_or_zero, pending_at, row_at, rows_of, AreSeated, IsStored, IsGrown, IsRoomMade}
+use Rattle.asset_lock_store.specs.declared.lock.Lock.{Lock}
+use Rattle.asset_locks.specs.LockTable.{Enrolled, LockTable, PendingRequest, names_in, enrolled_in, locks_or_none, locks_of, lock_in, held_in, is_free_in, enrol_in, release_in, waiting_row, wait_in, granted_row, grant_in, waiting_at, waiters_in}
+use Rattle.asset_lock_store.specs.LockRules.{is_on, both_conflict, blocks, ops_with, granted_own, suspended, is_some_op}
+use Rattle.asset_locks.specs.Valid.{IsValid}
+use Rattle.asset_lock_store.specs.Stored.{Stored, lock_at, locks_at, IsStored, IsGrown}
+use Rattle.asset_locks.specs.Tied.{name_or_zero, pending_at, row_at, rows_of, AreSeated, IsRoomMade, LockParts, IsTied}
 use Rattle.asset_locks.specs.Blocking.{is_blocker_in, request_of, request_in}
-use Rattle.asset_locks.specs.Tied.{LockParts, IsTied}
-use Rattle.asset_locks.proofs.GrantLemmas.{grown_same}
-use Rattle.asset_locks.proofs.WalkLemmas.{get_first, get_later}
-use Rattle.asset_locks.proofs.LockLemmas.{on_to}
+use Rattle.asset_lock_store.proofs.GrantLemmas.{grown_same}
+use Rattle.asset_lock_store.proofs.WalkLemmas.{get_first, get_later}
+use Rattle.asset_lock_store.proofs.LockLemmas.{on_to}
 
 -- one map after another
 pub fused : {X Y : Type 0} (f : ℕ → X) (g : X → Y) (keys : List ℕ) → map g (map f keys) ≡ map (λ k. g (f k)) keys

@@ -1,17 +1,13 @@
 -- What holds of each table of locks, and what an answer makes of it.
-use Rattle.std.specs.Prelude.{◌≡◌, ℕ, nat_eq, Bool, true, false, ◌&&◌, ◌||◌, map, Some}
+use Rattle.std.specs.Prelude.{◌≡◌, ℕ, nat_eq, Bool, true, false, ◌&&◌, map, Some}
 use Rattle.std.specs.List.{IsDistinct}
 use Rattle.asset_names.specs.declared.names.Ob.{Ob}
 use Rattle.asset_names.specs.declared.operations.Op.{Op}
-use Rattle.asset_names.specs.OpSets.{OpSet}
-use Rattle.asset_locks.specs.declared.lock.Lock.{Lock}
-use Rattle.asset_locks.specs.declared.state.Asked.{Asked}
-use Rattle.asset_locks.specs.declared.state.Asked.TheVariants.{Granted, Pending}
-use Rattle.asset_locks.specs.LockTable.{LockTable, names_in, held_in, lock_in, grant_in, wait_in, both_conflict}
-
--- whether there is an operation among these
-unfoldable pub is_some_op : OpSet → Bool
-is_some_op ops = ops.read || ops.write
+use Rattle.asset_lock_store.specs.declared.lock.Lock.{Lock}
+use Rattle.asset_locks.specs.declared.asked.Asked.{Asked}
+use Rattle.asset_locks.specs.declared.asked.Asked.TheVariants.{Granted, Pending}
+use Rattle.asset_locks.specs.LockTable.{LockTable, names_in, held_in, lock_in, grant_in, wait_in}
+use Rattle.asset_lock_store.specs.LockRules.{is_some_op, both_conflict}
 
 -- the locks are those of enrolled transactions, and no two of them that conflict are granted
 pub record IsValid (table : LockTable) : Type 0 where

@@ -1,9 +1,9 @@
 //! The table of locks by name, and its calls.
 
-use crate::searching::HeldObjects;
+use crate::asked::Asked;
 use crate::seating::{seat_for, sitter_in};
-use crate::state::{Asked, LockState};
 use crate::table::SeatedLocks;
+use asset_lock_store::{HeldObjects, LockState};
 use asset_names::{NoMemory, Ob, ObSet, Op, Txn};
 use asset_permits::Permits;
 use asset_seats::{Seats, Sitter};

@@ -2,7 +2,7 @@
 
 ghost use Rattle.std.specs.Prelude.{◌≡◌, ℕ, ◌<◌, ◌≤◌, length, OnOk};
 ghost use Rattle.asset_chains.specs.Chained.{chain_of, home_of};
-ghost use Rattle.asset_locks.specs.Stored.{pending_at};
+ghost use Rattle.asset_locks.specs.Tied.{pending_at};
 
 use asset_chains::Chains;
 use asset_names::{NoMemory, Ob, Op};

@@ -5,16 +5,12 @@ ghost use Rattle.std.specs.Option.{option_to_list};
 ghost use Rattle.asset_names.specs.declared.names.Txn.{Txn as Name};
 ghost use Rattle.asset_seats.specs.Seated.{seat};
 ghost use Rattle.asset_locks.specs.LockTable.{waiting_at};
-ghost use Rattle.asset_locks.specs.Stored.{pending_at, name_or_zero};
+ghost use Rattle.asset_locks.specs.Tied.{pending_at, name_or_zero};
 
-use crate::allows::Allows;
-use crate::blocking::NameSet;
-use crate::lock::Request;
+use crate::asked::Asked;
 use crate::room::{add_pending, add_to_order};
-use crate::searching::HeldObjects;
-use crate::state::{Asked, LockState};
-use crate::store::LockStore;
 use asset_chains::Chains;
+use asset_lock_store::{Allows, HeldObjects, LockState, LockStore, NameSet, Request};
 use asset_names::{NoMemory, Ob, ObSet, Op, Txn};
 use asset_seats::{Seats, Sitter};
 use std::alloc::Global;
@@ -40,7 +36,7 @@ impl Model for SeatedLocks {
 }
 
 /// Returns who has the seat, with the operation that is asked for, if its pending request is on `x`.
-#[tactic(auto, unfolding(crate::specs::LockTable::waiting_at, crate::specs::Stored::name_or_zero, crate::specs::Stored::pending_at))]
+#[tactic(auto, unfolding(crate::specs::LockTable::waiting_at, crate::specs::Tied::name_or_zero, crate::specs::Tied::pending_at))]
 fn waiter_at(seats: &Seats, pending: &[Option<(Ob, Op)>], c: usize, x: Ob) -> Option<(Txn, Op)>
     ensures { (t : Name) → seat seats.now c ≡ Some t → option_to_list result ≡ waiting_at x.0 t.0 (pending_at pending.now c) }
 {
@@ -52,7 +48,7 @@ fn waiter_at(seats: &Seats, pending: &[Option<(Ob, Op)>], c: usize, x: Ob) -> Op
 }
 
 /// Returns the request of the seat that waits, if there is one.
-#[tactic(auto, unfolding(crate::specs::Stored::pending_at))]
+#[tactic(auto, unfolding(crate::specs::Tied::pending_at))]
 fn request_at(pending: &[Option<(Ob, Op)>], c: usize) -> Option<(Ob, Op)>
     ensures { result ≡ pending_at pending.now c }
 {

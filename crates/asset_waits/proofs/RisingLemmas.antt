@@ -7,7 +7,7 @@ use Rattle.std.specs.declared.cmp.Ordering.TheVariants.{Less, Equal, Greater}
 use Rattle.std.specs.BTreeSet.{insert_key}
 use Rattle.std.proofs.lemmas.Bool.{or_left, or_cases, eqb-true, eqb-false, eq-eqb, ltb-true, ltb-false, false≢true}
 use Rattle.asset_names.specs.Arrows.{lists}
-use Rattle.asset_locks.proofs.BlockingLemmas.{lists_inserted}
+use Rattle.asset_lock_store.proofs.BlockingLemmas.{lists_inserted}
 use Rattle.asset_waits.specs.Waiting.{rising}
 
 -- each name that is listed is greater

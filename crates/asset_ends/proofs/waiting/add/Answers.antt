@@ -1,6 +1,6 @@
 use Rattle.std.proofs.Common.{ℕ, List, ap, ◌∙◌}
 use Rattle.asset_names.specs.Arrows.{lists}
-use Rattle.asset_locks.proofs.BlockingLemmas.{lists_inserted}
+use Rattle.asset_lock_store.proofs.BlockingLemmas.{lists_inserted}
 use Rattle.asset_ends.proofs.waiting.add.Goals as goal
 
 pub returns-in-Ok : goal.returns-in-Ok

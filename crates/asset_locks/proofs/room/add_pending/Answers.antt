@@ -1,7 +1,7 @@
 use Rattle.std.proofs.Common.{◌∷◌, [], None, List, length, ap, ◌∙◌, arith}
 use Rattle.std.proofs.lemmas.List.{length-append}
 use Rattle.asset_locks.specs.LockTable.{PendingRequest}
-use Rattle.asset_locks.specs.Stored.{pending_at}
+use Rattle.asset_locks.specs.Tied.{pending_at}
 use Rattle.asset_locks.proofs.TableLemmas.{pending_more}
 use Rattle.asset_locks.proofs.room.add_pending.Goals as goal
 

@@ -1,5 +1,5 @@
 use Rattle.std.proofs.Common.{◌≡◌, ℕ, ◌+◌, ◌-◌, ◌≤◌, length}
-use Rattle.asset_locks.specs.Stored.{pending_at}
+use Rattle.asset_locks.specs.Tied.{pending_at}
 use Rattle.asset_locks.proofs.room.add_pending.Given as goal
 
 -- places were added, and no request changed

@@ -1,7 +1,7 @@
 use Rattle.std.proofs.Common.{List, map, filter, sym, ap, ◌∙◌}
 use Rattle.asset_names.specs.InSet.{in_set}
 use Rattle.asset_names.specs.declared.names.Ob.{Ob}
-use Rattle.asset_locks.specs.declared.lock.Lock.{Lock}
+use Rattle.asset_lock_store.specs.declared.lock.Lock.{Lock}
 use Rattle.asset_locks.specs.LockTable.{held_in}
 use Rattle.asset_locks.proofs.TableLemmas.{no_locks_of}
 use Rattle.asset_locks.proofs.locks.Locks.held_among.Goals as goal

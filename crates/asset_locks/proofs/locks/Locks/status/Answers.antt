@@ -1,7 +1,8 @@
 use Rattle.std.proofs.Common.{List, sym, ap, ◌∙◌}
 use Rattle.std.specs.Prelude.{option_map, find}
-use Rattle.asset_locks.specs.declared.lock.Lock.{Lock}
-use Rattle.asset_locks.specs.LockTable.{is_on, lock_in, status_in, state_of}
+use Rattle.asset_lock_store.specs.declared.lock.Lock.{Lock}
+use Rattle.asset_lock_store.specs.LockRules.{is_on, state_of}
+use Rattle.asset_locks.specs.LockTable.{lock_in, status_in}
 use Rattle.asset_locks.proofs.TableLemmas.{no_locks_of}
 use Rattle.asset_locks.proofs.locks.Locks.status.Goals as goal
 

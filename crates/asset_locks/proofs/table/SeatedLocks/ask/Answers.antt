@@ -1,11 +1,11 @@
 use Rattle.std.proofs.Common.{◌≡◌, Bool, true, Some, None, is_some, inl, refl, sym, ap, subst, ◌∙◌, arith}
 use Rattle.std.proofs.lemmas.List.{length-set}
 use Rattle.asset_names.proofs.Common.{always_err}
-use Rattle.asset_locks.specs.LockTable.{is_on, enrolled_in}
+use Rattle.asset_lock_store.specs.LockRules.{is_on}
+use Rattle.asset_locks.specs.LockTable.{enrolled_in}
 use Rattle.asset_locks.specs.Valid.{answer_where, after_ask}
-use Rattle.asset_locks.specs.Stored.{rows_of}
-use Rattle.asset_locks.specs.Tied.{LockParts, rows_in}
-use Rattle.asset_locks.proofs.LookLemmas.{noted}
+use Rattle.asset_locks.specs.Tied.{rows_of, LockParts, rows_in}
+use Rattle.asset_lock_store.proofs.LookLemmas.{noted}
 use Rattle.asset_locks.proofs.TableLemmas.{is_blocked_by, is_free_by, waits, grants, rows_kept, find_absent, lock_of_seat, home_if_enrolled, seated_later, tied_inside}
 use Rattle.asset_locks.proofs.table.SeatedLocks.ask.Goals as goal
 

@@ -1,8 +1,8 @@
 use Rattle.std.proofs.Common.{ℕ, ◌≡◌, true, subst}
 use Rattle.asset_names.specs.Arrows.{lists}
 use Rattle.asset_locks.specs.Blocking.{is_blocker_in}
-use Rattle.asset_locks.specs.Stored.{rows_of}
-use Rattle.asset_locks.proofs.BlockingLemmas.{if_ok, named_by}
+use Rattle.asset_locks.specs.Tied.{rows_of}
+use Rattle.asset_lock_store.proofs.BlockingLemmas.{if_ok, named_by}
 use Rattle.asset_locks.proofs.TableLemmas.{is_blocker_by, blocker_is_seated, tied_inside}
 use Rattle.asset_locks.proofs.table.SeatedLocks.blockers.Goals as goal
 

@@ -1,10 +1,10 @@
 use Rattle.std.proofs.Common.{sym, ap, ◌∙◌}
 use Rattle.std.specs.List.{list_any}
 use Rattle.asset_names.specs.OpSets.{has_op}
-use Rattle.asset_locks.specs.declared.lock.Lock.{Lock}
-use Rattle.asset_locks.specs.LockTable.{carries_on}
-use Rattle.asset_locks.specs.Stored.{rows_of}
-use Rattle.asset_locks.proofs.BlockingLemmas.{carries_at, carries_nothing}
+use Rattle.asset_lock_store.specs.declared.lock.Lock.{Lock}
+use Rattle.asset_lock_store.specs.LockRules.{carries_on}
+use Rattle.asset_locks.specs.Tied.{rows_of}
+use Rattle.asset_lock_store.proofs.BlockingLemmas.{carries_at, carries_nothing}
 use Rattle.asset_locks.proofs.HandLaws.{carries_own}
 use Rattle.asset_locks.proofs.TableLemmas.{locks_of_seat, rows_valid, tied_inside}
 use Rattle.asset_locks.proofs.table.SeatedLocks.carries.Goals as goal

@@ -2,7 +2,7 @@ use Rattle.std.proofs.Common.{◌≡◌, List, map, filter, sym, subst}
 use Rattle.std.specs.Prelude.{IfOk}
 use Rattle.asset_names.specs.InSet.{in_set}
 use Rattle.asset_names.specs.declared.names.Ob.{Ob}
-use Rattle.asset_locks.specs.declared.lock.Lock.{Lock}
+use Rattle.asset_lock_store.specs.declared.lock.Lock.{Lock}
 use Rattle.asset_locks.specs.LockTable.{held_in}
 use Rattle.asset_locks.proofs.TableLemmas.{locks_of_seat, tied_inside}
 use Rattle.asset_locks.proofs.table.SeatedLocks.held_among.Goals as goal

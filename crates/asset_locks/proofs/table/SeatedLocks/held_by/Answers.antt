@@ -1,6 +1,6 @@
 use Rattle.std.proofs.Common.{List, map, sym, ap, ◌∙◌}
 use Rattle.std.specs.Prelude.{slice_get}
-use Rattle.asset_locks.specs.declared.lock.Lock.{Lock}
+use Rattle.asset_lock_store.specs.declared.lock.Lock.{Lock}
 use Rattle.asset_locks.specs.LockTable.{held_in}
 use Rattle.asset_locks.proofs.TableLemmas.{locks_of_seat, tied_inside}
 use Rattle.asset_locks.proofs.table.SeatedLocks.held_by.Goals as goal

@@ -1,7 +1,6 @@
 use Rattle.std.proofs.Common.{◌≡◌, true, List, is_some, sym, ap, subst, ◌∙◌}
 use Rattle.asset_locks.specs.LockTable.{PendingRequest, enrolled_in}
-use Rattle.asset_locks.specs.Stored.{pending_at}
-use Rattle.asset_locks.specs.Tied.{LockParts, rows_in}
+use Rattle.asset_locks.specs.Tied.{pending_at, LockParts, rows_in}
 use Rattle.asset_locks.proofs.TableLemmas.{request_of_seat, tied_inside}
 use Rattle.asset_locks.proofs.table.SeatedLocks.pending.Goals as goal
 

@@ -1,8 +1,9 @@
 use Rattle.std.proofs.Common.{Some, sym, ap, ◌∙◌}
 use Rattle.std.specs.Prelude.{option_map}
-use Rattle.asset_locks.specs.LockTable.{status_in, state_of}
+use Rattle.asset_locks.specs.LockTable.{status_in}
+use Rattle.asset_lock_store.specs.LockRules.{state_of}
 use Rattle.asset_locks.proofs.TableLemmas.{lock_of_seat, tied_inside}
-use Rattle.asset_locks.proofs.GrantLemmas.{found_here, none_here}
+use Rattle.asset_lock_store.proofs.GrantLemmas.{found_here, none_here}
 use Rattle.asset_locks.proofs.table.SeatedLocks.status.Goals as goal
 
 pub key_on-requires : goal.key_on-requires

@@ -5,9 +5,8 @@ use Rattle.asset_names.specs.declared.operations.Op.{Op}
 use Rattle.asset_chains.specs.Chained.{chain_of, behind}
 use Rattle.asset_chains.proofs.Walks.{from_key}
 use Rattle.asset_locks.specs.LockTable.{PendingRequest, waiting_at, waiters_in}
-use Rattle.asset_locks.specs.Stored.{pending_at}
-use Rattle.asset_locks.specs.Tied.{LockParts, rows_in}
-use Rattle.asset_locks.proofs.WalkLemmas.{begins, all_left, stays, fewer, left_split}
+use Rattle.asset_locks.specs.Tied.{pending_at, LockParts, rows_in}
+use Rattle.asset_lock_store.proofs.WalkLemmas.{begins, all_left, stays, fewer, left_split}
 use Rattle.asset_locks.proofs.TableLemmas.{tied_inside, sits_at, waiting_seat, waiters_are, waits_there, one_waiter, one_waiter_less, no_waiter}
 use Rattle.asset_locks.proofs.table.SeatedLocks.waiters.Goals.{in-Some-waiter_at+else-before-eq0, in_default-waiter_at}
 use Rattle.asset_locks.proofs.table.SeatedLocks.waiters.Goals as goal

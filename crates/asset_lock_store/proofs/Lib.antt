@@ -1,0 +1,14 @@
+pub mod LockLemmas
+pub mod StoreLemmas
+pub mod WalkLemmas
+pub mod ListLemmas
+pub mod OpsLemmas
+pub mod MergeLemmas
+pub mod SuspendLemmas
+pub mod GrantLemmas
+pub mod HandLemmas
+pub mod PassLemmas
+pub mod OneLemmas
+pub mod BlockLemmas
+pub mod LookLemmas
+pub mod BlockingLemmas

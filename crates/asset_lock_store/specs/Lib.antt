@@ -1,0 +1,4 @@
+pub mod LockRules
+pub mod Stored
+pub mod Looked
+pub mod Gathered

@@ -1,0 +1,64 @@
+//! One lock, and a request for one.
+
+ghost use Rattle.std.specs.Prelude.{◌≡◌};
+ghost use Rattle.asset_lock_store.specs.LockRules.{one_conflicts};
+
+use crate::state::LockState;
+use asset_names::{Ob, Op, Ops};
+use asset_seats::Sitter;
+
+/// A lock: the object that it is on, the operations that it carries, and whether it is granted.
+#[derive(Clone, Copy)]
+pub struct Lock {
+    /// The object that it is on.
+    pub object: Ob,
+    /// The operations that it carries.
+    pub ops: Ops,
+    /// Whether it is granted. Otherwise it is suspended.
+    pub granted: bool,
+}
+
+/// What a transaction asks for: an operation on an object.
+#[derive(Clone, Copy)]
+pub struct Request {
+    /// Who asks.
+    pub asker: Sitter,
+    /// The object.
+    pub x: Ob,
+    /// The operation.
+    pub op: Op,
+}
+
+/// Returns whether any of the operations conflicts with `op`.
+#[tactic(auto, unfolding(crate::specs::LockRules::one_conflicts))]
+pub(crate) fn one_conflicts(ops: Ops, op: Op) -> bool
+    ensures { result ≡ one_conflicts ops op }
+{
+    (ops.has(Op::Read) && Op::Read.conflicts_with(op))
+        || (ops.has(Op::Write) && Op::Write.conflicts_with(op))
+}
+
+impl Lock {
+    ghost use Rattle.std.specs.Prelude.{◌≡◌, ◌&&◌};
+    ghost use Rattle.asset_names.specs.OpSets.{has_op};
+    ghost use Rattle.asset_lock_store.specs.LockRules.{state_of};
+
+    /// Returns whether the lock is granted and carries the operation.
+    pub(crate) fn has(&self, op: Op) -> bool
+        ensures { result ≡ (self.now.granted && has_op self.now.ops op) }
+    {
+        self.granted && self.ops.has(op)
+    }
+
+    /// Returns the state of the lock.
+    #[tactic(auto, unfolding(crate::specs::LockRules::state_of))]
+    pub fn state(&self) -> LockState
+        ensures { result ≡ state_of self.now }
+    {
+        if self.granted {
+            LockState::Granted
+        } else {
+            LockState::Suspended
+        }
+    }
+}

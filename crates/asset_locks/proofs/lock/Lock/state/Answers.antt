@@ -1,7 +1,0 @@
-use Rattle.std.proofs.Common.{rules}
-use Rattle.asset_locks.specs.LockTable.{state_of}
-use Rattle.asset_locks.proofs.lock.Lock.state.Goals as goal
-
-pub returns-else-self : goal.returns-else-self
-unfolding state_of
-returns-else-self c = search rules

@@ -1,5 +1,0 @@
-use Rattle.asset_locks.proofs.StoreLemmas.{stored_nothing}
-use Rattle.asset_locks.proofs.store.LockStore.new.Goals as goal
-
-pub invariant_of-result : goal.invariant_of-result
-invariant_of-result c = stored_nothing _ c.new.ensures.empty c.new-2.ensures.empty c.new-3.ensures.parts c.new-4.ensures.homes
