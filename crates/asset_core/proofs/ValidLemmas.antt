@@ -19,7 +19,7 @@ use Rattle.asset_ends.specs.Standing.{Standing, values_of}
 use Rattle.asset_history.specs.Recorded.{Recorded}
 use Rattle.asset_ends.specs.Shows.{Shows}
 use Rattle.asset_core.specs.Pending.{Pending, asker_after, new_asker}
-use Rattle.asset_ends.specs.Ready.{locks_after}
+use Rattle.asset_steps.specs.Ready.{locks_after}
 use Rattle.asset_core.specs.Tables.{IsValid, pending_in}
 use Rattle.asset_ends.proofs.ShowsLemmas.{owed_shown}
 use Rattle.asset_names.proofs.AppliedLemmas.{applied_with_effect, applied_without_effect}

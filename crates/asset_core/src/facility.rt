@@ -10,6 +10,7 @@ use asset_names::{
     Counts, End, Fault, NoMemory, Ob, Op, Outcome, Reply, Status, Step, Txn, takes_effect,
 };
 use asset_objects::ObjectsFault;
+use asset_steps::{answer, apply, step_at_once, wait};
 use std::alloc::Global;
 use std::marker::Model;
 
@@ -182,7 +183,7 @@ impl Core {
         requires room { length self.old.history.entries + 1 + owed (applied self.old.history.entries) + cond (initiates step.now) 2 0 ≤ self.old.history.capacity }
         ensures { IsStep self.old step.now result self.new }
     {
-        match self.tables.step_at_once(step) {
+        match step_at_once(&mut self.tables, step) {
             Ok(Outcome::Answer(answer)) => {
                 self.history.append_lent(step, answer);
                 Ok(Outcome::Answer(answer))
@@ -212,7 +213,7 @@ impl Core {
         ensures answer { result ≡ answer_to self.old.history step.now }
         ensures same { self.new ≡ self.old }
     {
-        self.tables.answer(step)
+        answer(&mut self.tables, step)
     }
 
     /// Keeps a request that waits as pending.
@@ -222,7 +223,7 @@ impl Core {
         ensures pending { self.new.pending ≡ pending_after self.old step.now Waits }
         ensures still { is_operation step.now ≡ false → self.new ≡ self.old }
     {
-        self.tables.wait(step);
+        wait(&mut self.tables, step);
     }
 
     /// Returns whether the answer is that of a complete, a commit or an abort that changes a status; `effect` says
@@ -297,7 +298,7 @@ impl Core {
         if !self.has_room(step, reply, effect) {
             return Err(Fault::Full);
         }
-        match self.tables.apply(step, reply) {
+        match apply(&mut self.tables, step, reply) {
             Ok(()) => {
                 self.history.append_lent(step, reply);
                 Ok(Outcome::Answer(reply))

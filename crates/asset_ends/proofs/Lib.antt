@@ -12,9 +12,4 @@ pub mod EnrolledLemmas
 pub mod EndingLemmas
 pub mod AskedLemmas
 pub mod StandingLemmas
-pub mod AnswerLemmas
-pub mod ReadyLemmas
-pub mod OperationLemmas
-pub mod WorkLemmas
-pub mod ShareLemmas
 pub mod WaitLemmas

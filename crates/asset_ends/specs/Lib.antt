@@ -3,6 +3,4 @@ pub mod Ended
 pub mod Standing
 pub mod Tied
 pub mod Shown
-pub mod Ready
-pub mod Stepped
 pub mod Waits

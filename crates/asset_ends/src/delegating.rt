@@ -71,14 +71,10 @@ impl Tables {
         self.delegate_at(from, to, obs)
     }
 
-    /// Does what `delegate` does, for transactions whose seats are found.
+    /// Does what `delegate` does, for transactions whose seats are found. Both are live, and the seats are those of their
+    /// rows. If memory runs out, the answer is `NoMemory`, and nothing that any call shows has changed.
     #[inline(always)]
-    pub(crate) fn delegate_at(
-        &mut self,
-        from: Sitter,
-        to: Sitter,
-        obs: &ObSet,
-    ) -> Result<(), NoMemory>
+    pub fn delegate_at(&mut self, from: Sitter, to: Sitter, obs: &ObSet) -> Result<(), NoMemory>
         requires giver { is_live_status (status_in self.old.trans from.t.0) ≡ true }
         requires taker { is_live_status (status_in self.old.trans to.t.0) ≡ true }
         requires giver_seat { from.at ≡ seat_in self.old.trans from.t.0 }

@@ -54,9 +54,11 @@ impl Tables {
         self.depend_at(kind, source, dependent)
     }
 
-    /// Does what `depend` does, for transactions whose seats are found.
+    /// Does what `depend` does, for transactions whose seats are found. Both are live, the seats are those of their rows, and
+    /// the dependency closes no cycle. If memory runs out, the answer is `NoMemory`, and nothing that any call shows has
+    /// changed.
     #[inline(always)]
-    pub(crate) fn depend_at(
+    pub fn depend_at(
         &mut self,
         kind: Kind,
         source: Sitter,

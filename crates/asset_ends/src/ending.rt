@@ -137,8 +137,9 @@ impl Tables {
         self.try_commit_at(one, status)
     }
 
-    /// Does what `try_commit` does, for a transaction whose status and seat are found.
-    pub(crate) fn try_commit_at(&mut self, one: Sitter, status: Status) -> Tried
+    /// Does what `try_commit` does, for a transaction whose status and seat are found. It is live, and both are those of its
+    /// row. It takes no memory.
+    pub fn try_commit_at(&mut self, one: Sitter, status: Status) -> Tried
         requires live { is_live_status (status_in self.old.trans one.t.0) ≡ true }
         requires status { status ≡ status_in self.old.trans one.t.0 }
         requires seat { one.at ≡ seat_in self.old.trans one.t.0 }
@@ -180,8 +181,9 @@ impl Tables {
         self.abort_at(one)
     }
 
-    /// Does what `abort` does, for a transaction whose seat is found.
-    pub(crate) fn abort_at(&mut self, one: Sitter)
+    /// Does what `abort` does, for a transaction whose seat is found. It is live, and the seat is that of its row. It takes no
+    /// memory.
+    pub fn abort_at(&mut self, one: Sitter)
         requires live { is_live_status (status_in self.old.trans one.t.0) ≡ true }
         requires seat { one.at ≡ seat_in self.old.trans one.t.0 }
         ensures stand { ShowsWith self.old (Step.Abort one.t) self.new }

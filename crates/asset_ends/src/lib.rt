@@ -1,17 +1,14 @@
 //! The tables together: objects, locks, permits, transactions and dependencies. Each call that does a step takes tables that
 //! show a history to tables that show it with that step, and one that waits leaves them showing it. A call for one kind of
-//! step requires that no refusal of it applies; `answer` and `step_at_once` find the refusals themselves.
+//! step requires that no refusal of it applies; `asset_steps` finds the refusals.
 #![tactic(auto)]
 
-mod answering;
-mod applying;
 mod asking;
 mod delegating;
 mod depending;
 mod ending;
 mod parts;
 mod seating;
-mod stepping;
 mod tables;
 mod waiting;
 mod working;

@@ -105,9 +105,9 @@ impl Tables {
     }
 
     /// Returns the status of a transaction, and the transaction with the seat that its row says. If it was never initiated,
-    /// these are Unknown and seat 0. It looks for the row once.
+    /// these are Unknown and seat 0. It looks for the row once. The calls that take a seat, such as `read_at`, take it from here.
     #[inline(always)]
-    pub(crate) fn find(&self, t: Txn) -> (Status, Sitter)
+    pub fn find(&self, t: Txn) -> (Status, Sitter)
         ensures status { result.0 ≡ status_in self.now.trans t.0 }
         ensures name { result.1.t ≡ t }
         ensures seat { result.1.at ≡ seat_in self.now.trans t.0 }

@@ -94,9 +94,11 @@ impl Tables {
         self.read_at(one, x, value)
     }
 
-    /// Does what `read` does, for a transaction whose seat is found and an object whose value is.
+    /// Does what `read` does, for a transaction whose seat is found and an object whose value is. The transaction runs, the
+    /// seat is that of its row, and the value is `None` if there is no such object. If memory runs out for the lock, the
+    /// answer is `NoMemory`, and nothing changes.
     #[inline(always)]
-    pub(crate) fn read_at(
+    pub fn read_at(
         &mut self,
         one: Sitter,
         x: Ob,
@@ -134,9 +136,11 @@ impl Tables {
         self.write_at(one, x, v)
     }
 
-    /// Does what `write` does, for a transaction whose seat is found.
+    /// Does what `write` does, for a transaction whose seat is found. The transaction runs, the seat is that of its row, and
+    /// the object exists. If memory runs out for the lock or for the record of a write that is granted, the answer is
+    /// `NoMemory`, and nothing that any call shows has changed.
     #[inline(always)]
-    pub(crate) fn write_at(&mut self, one: Sitter, x: Ob, v: i64) -> Result<bool, NoMemory>
+    pub fn write_at(&mut self, one: Sitter, x: Ob, v: i64) -> Result<bool, NoMemory>
         requires runs { status_in self.old.trans one.t.0 ≡ Status.Running }
         requires seat { one.at ≡ seat_in self.old.trans one.t.0 }
         requires exists { has_object (cells self.old.objects) x.0 ≡ true }
@@ -220,9 +224,10 @@ impl Tables {
         self.permit_at(from, to, obs, ops)
     }
 
-    /// Does what `permit` does, for transactions whose seats are found.
+    /// Does what `permit` does, for transactions whose seats are found. Both are live, and the seats are those of their rows.
+    /// If memory runs out, the answer is `NoMemory`, and nothing changes.
     #[inline(always)]
-    pub(crate) fn permit_at(
+    pub fn permit_at(
         &mut self,
         from: Sitter,
         to: Sitter,

@@ -10,8 +10,8 @@ use Rattle.asset_history.proofs.EntryLemmas.{next_entry}
 use Rattle.asset_ends.specs.Shows.{Shows}
 use Rattle.asset_ends.specs.Shown.{ShowsEntry}
 use Rattle.asset_ends.specs.Standing.{Standing, values_of}
-use Rattle.asset_ends.specs.Ready.{IsReady}
-use Rattle.asset_ends.proofs.ReadyLemmas.{ready}
+use Rattle.asset_steps.specs.Ready.{IsReady}
+use Rattle.asset_steps.proofs.ReadyLemmas.{ready}
 use Rattle.asset_sources.proofs.WalkLemmas.{legal_here, older_length}
 use Rattle.asset_lanes.specs.Walked.{first_entries, ShowsFirst}
 use Rattle.asset_lanes.specs.Lanes.{spanned, span_of}

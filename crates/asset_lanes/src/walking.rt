@@ -9,6 +9,7 @@ ghost use Rattle.asset_lanes.specs.Walked.{ShowsFirst};
 use asset_ends::Tables;
 use asset_history::History;
 use asset_names::NoMemory;
+use asset_steps::apply;
 use std::alloc::Global;
 
 /// Returns tables before the first entry. It answers `NoMemory` if memory runs out.
@@ -25,7 +26,7 @@ pub(crate) fn pass(history: &History, index: usize, tables: &mut Tables) -> Resu
     ensures { OnOk result (ShowsFirst history.now (index + 1) tables.new) }
 {
     match history.entry(index) {
-        Some((step, reply)) => tables.apply(&step, reply),
+        Some((step, reply)) => apply(tables, &step, reply),
         None => Ok(()),
     }
 }

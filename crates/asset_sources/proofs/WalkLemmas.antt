@@ -25,9 +25,9 @@ use Rattle.asset_history.specs.Recorded.{Recorded, objects_of}
 use Rattle.asset_history.proofs.EntryLemmas.{next_entry, between}
 use Rattle.asset_ends.specs.Shows.{Shows}
 use Rattle.asset_ends.specs.Standing.{Standing, values_of}
-use Rattle.asset_ends.specs.Ready.{IsReady}
-use Rattle.asset_ends.proofs.AnswerLemmas.{read_unrefused}
-use Rattle.asset_ends.proofs.ReadyLemmas.{ready}
+use Rattle.asset_steps.specs.Ready.{IsReady}
+use Rattle.asset_steps.proofs.AnswerLemmas.{read_unrefused}
+use Rattle.asset_steps.proofs.ReadyLemmas.{ready}
 use Rattle.asset_sources.specs.Sourced.{source_from, source_of, sources_of, source_at}
 use Rattle.asset_sources.specs.Walked.{first_entries, ShowsFirst}
 

@@ -7,7 +7,7 @@ ghost use Rattle.asset_laws.specs.Renumbered.{writing, renumbered, zeroed};
 ghost use Rattle.asset_ends.specs.Shows.{Shows};
 ghost use Rattle.asset_ends.specs.Standing.{values_of};
 ghost use Rattle.asset_ends.specs.Shown.{ShowsEntry};
-ghost use Rattle.asset_ends.specs.Ready.{IsReady};
+ghost use Rattle.asset_steps.specs.Ready.{IsReady};
 ghost use Rattle.asset_sources.specs.Sourced.{source_of};
 ghost use Rattle.asset_sources.specs.Walked.{first_entries, ShowsFirst};
 
@@ -16,6 +16,7 @@ use crate::sourced::Source;
 use asset_ends::Tables;
 use asset_history::History;
 use asset_names::{NoMemory, Reply, Step};
+use asset_steps::apply;
 use std::alloc::Global;
 
 /// Returns tables with the history's objects, each with the value 0, before the first entry. It answers `NoMemory` if
@@ -40,7 +41,7 @@ fn apply_numbered(
     ensures { OnOk result (ShowsEntry tables.old (writing index step.now, reply) tables.new) }
 {
     let numbered = writing(index, step);
-    tables.apply(&numbered, reply)
+    apply(tables, &numbered, reply)
 }
 
 /// Takes tables past the entry at the index. It answers `NoMemory` if memory runs out, and the tables are of no more use.

@@ -13,7 +13,7 @@ apply-requires c = record {
 pub returns-in-Some : goal.returns-in-Some
 returns-in-Some c =
     on_ok_weaker c.apply.result
-    (entry_passed c.args.history.now c.args.index c.args.tables.now c.apply.new.self (c.in-Some.step, c.in-Some.reply) (sym c.entry.ensures.entry ∙ c.in-Some.is) c.entry.ensures.legal c.requires.stand)
+    (entry_passed c.args.history.now c.args.index c.args.tables.now c.apply.new.tables (c.in-Some.step, c.in-Some.reply) (sym c.entry.ensures.entry ∙ c.in-Some.is) c.entry.ensures.legal c.requires.stand)
     c.apply.ensures.stand
 
 pub returns-in-None : goal.returns-in-None

@@ -5,7 +5,7 @@ use Rattle.asset_names.specs.Answers.{IsLegal}
 use Rattle.asset_history.specs.Recorded.{answer_to, after, with_entry, has_room, is_ending}
 use Rattle.asset_core.specs.Pending.{pending_after}
 use Rattle.asset_core.specs.Tables.{pending_in}
-use Rattle.asset_ends.proofs.ReadyLemmas.{ready}
+use Rattle.asset_steps.proofs.ReadyLemmas.{ready}
 use Rattle.asset_core.proofs.ValidLemmas.{valid_orderly, no_ending, askers_followed}
 use Rattle.asset_core.proofs.PendingLemmas.{pending_requests}
 use Rattle.asset_core.proofs.StepLemmas.{answered_step, full_step, lacking_step}

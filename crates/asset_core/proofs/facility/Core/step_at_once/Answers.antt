@@ -6,7 +6,7 @@ use Rattle.asset_names.specs.Answers.{IsLegal}
 use Rattle.asset_history.specs.Recorded.{answer_to, after, with_entry, has_room, is_ending}
 use Rattle.asset_core.specs.Pending.{pending_after}
 use Rattle.asset_core.specs.Tables.{pending_in}
-use Rattle.asset_ends.specs.Stepped.{ShowsOutcome, locks_with}
+use Rattle.asset_steps.specs.Stepped.{ShowsOutcome, locks_with}
 use Rattle.asset_core.proofs.ValidLemmas.{valid_orderly, no_ending, askers_followed}
 use Rattle.asset_core.proofs.PendingLemmas.{pending_requests, askers_waiting, waits_still}
 use Rattle.asset_core.proofs.PlaceLemmas.{step_room}

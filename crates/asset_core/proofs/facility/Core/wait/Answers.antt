@@ -2,7 +2,7 @@ use Rattle.std.proofs.Common.{◌∙◌, sym, ap}
 use Rattle.asset_history.specs.Recorded.{answer_to, after}
 use Rattle.asset_core.specs.Pending.{pending_after}
 use Rattle.asset_core.specs.Tables.{pending_in}
-use Rattle.asset_ends.proofs.ReadyLemmas.{may_wait}
+use Rattle.asset_steps.proofs.ReadyLemmas.{may_wait}
 use Rattle.asset_core.proofs.PendingLemmas.{pending_requests, askers_waiting, waits_still}
 use Rattle.asset_core.proofs.facility.Core.wait.Goals as goal
 
