@@ -1,5 +1,6 @@
 #!/usr/bin/env python3
-"""Runs the built program from outside: with little memory, and with standard streams that fail, are full or are missing."""
+"""Runs the built program from outside: with little memory, and with standard streams that fail, are full or are missing. It also
+compares the picture that README shows."""
 
 import argparse
 import os
@@ -331,6 +332,17 @@ def are_job_ends(output):
     )
 
 
+def stored_picture(outside):
+    """The picture that README shows is the one that the program draws."""
+    before = outside.so_far()
+    top = os.path.dirname(HERE)
+    with open(os.path.join(top, "examples", "design.asset"), "rb") as script:
+        ran = outside.run(["picture"], script.read())
+    with open(os.path.join(top, "docs", "design.svg"), "rb") as picture:
+        outside.see("docs/design.svg", ran, (0, picture.read(), b""))
+    outside.say("stored picture", before)
+
+
 def options():
     parser = argparse.ArgumentParser(
         description=__doc__, epilog=AFTER_HELP, formatter_class=argparse.RawDescriptionHelpFormatter
@@ -349,6 +361,7 @@ def main():
     with tempfile.TemporaryDirectory() as folder:
         outside = Outside(os.path.abspath(given.program), folder)
         whole_runs(outside, given.objects)
+        stored_picture(outside)
         outputs_that_fail(outside, given.objects)
         inputs_that_fail(outside)
         errors_that_fail(outside)
