@@ -1,5 +1,6 @@
 //! Checks and conversations by the program.
 
+use crate::running::expect;
 use asset_cli::Device;
 use asset_program::{converse, run_check};
 use std::alloc::Global;
@@ -116,4 +117,13 @@ fn conversation_uses_the_capacity(rt: HostRuntime) -> Result<(), Fail> {
 fn capacity_of_a_conversation_is_in_range(rt: HostRuntime) -> Result<(), Fail> {
     let complaint = "asset: a capacity is a number from 1 to 1000000\n";
     expect_talk(&rt, Some(0), b"initiate 7\n", ("", "", complaint), 2)
+}
+
+#[test]
+fn words_check_and_converse(rt: HostRuntime) -> Result<(), Fail> {
+    let lines = b"object 1 100\ninita 7\ninitiate 7\n";
+    let reasons = "line 2: unknown word inita\n";
+    expect(&rt, &["check"], lines, (reasons, "", 2))?;
+    let answers = "line 2: bad command\nok\n";
+    expect(&rt, &["shell"], lines, (answers, "", 2))
 }

@@ -2,7 +2,7 @@
 
 use crate::running::{list, run_over};
 use asset_cli::ScriptFault;
-use asset_program::ArgumentsFault;
+use asset_program::{ArgumentsFault, Next};
 use std::io;
 use std::process::Abort;
 use std::test::Fail;
@@ -35,14 +35,14 @@ fn failing_reader_ends_with_one(rt: HostRuntime) -> Result<(), Fail> {
     let arguments = Ok(list(rt.alloc(), &["run"])?);
     let mut written = Vec::new(rt.alloc());
     let mut complaints = Vec::new(rt.alloc());
-    let status = run_over(
+    let next = run_over(
         rt.alloc(),
         &arguments,
         Failing,
         &mut written,
         &mut complaints,
     );
-    assert_eq!(rt; (status, written.len()), (1, 0));
+    assert_eq!(rt; (next, written.len()), (Next::Exit(1), 0));
     assert_eq!(rt; str::from_utf8(&complaints)?, "asset: read fault\n");
     Ok(())
 }
@@ -56,8 +56,8 @@ fn expect_without_output(
 ) -> Result<(), Fail> {
     let arguments = Ok(list(rt.alloc(), texts)?);
     let mut complaints = Vec::new(rt.alloc());
-    let ended = run_over(rt.alloc(), &arguments, SCRIPT, Failing, &mut complaints);
-    assert_eq!(rt; ended, status, "at {texts:?}");
+    let next = run_over(rt.alloc(), &arguments, SCRIPT, Failing, &mut complaints);
+    assert_eq!(rt; next, Next::Exit(status), "at {texts:?}");
     assert_eq!(rt; str::from_utf8(&complaints)?, errors, "at {texts:?}");
     Ok(())
 }
@@ -82,14 +82,14 @@ fn expect_unread(
     let arguments = Err(fault);
     let mut written = Vec::new(rt.alloc());
     let mut complaints = Vec::new(rt.alloc());
-    let ended = run_over(
+    let next = run_over(
         rt.alloc(),
         &arguments,
         SCRIPT,
         &mut written,
         &mut complaints,
     );
-    assert_eq!(rt; (ended, written.len()), (status, 0));
+    assert_eq!(rt; (next, written.len()), (Next::Exit(status), 0));
     assert_eq!(rt; str::from_utf8(&complaints)?, errors);
     Ok(())
 }

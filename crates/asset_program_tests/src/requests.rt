@@ -1,9 +1,9 @@
 //! What arguments ask for.
 
-use crate::running::list;
+use crate::running::{list, run};
 use asset_cli::{Report, Work};
 use asset_program::{
-    Asked, JobsRequest, Limits, Request, Task, capacity_or_default, limits_of, requested,
+    Asked, JobsRequest, Limits, Next, Request, Task, capacity_or_default, limits_of, requested,
 };
 use std::alloc::{AllocError, Global};
 use std::process::Abort;
@@ -97,6 +97,21 @@ fn arguments_give_the_limits_of_jobs(rt: HostRuntime) {
             "at {texts:?}"
         );
     }
+}
+
+#[test]
+fn jobs_are_handed_back(rt: HostRuntime) {
+    let mut written = Vec::new(rt.alloc());
+    let mut complaints = Vec::new(rt.alloc());
+    let texts = &["jobs", "--cap", "4"];
+    let next = run(rt.alloc(), texts, b"job 1\n", &mut written, &mut complaints);
+    let asked = JobsRequest {
+        capacity: Some(4),
+        workers: Some(2),
+        turns: Some(1_000),
+    };
+    assert_eq!(rt; next, Ok(Next::Jobs(asked)));
+    assert_eq!(rt; (written.len(), complaints.len()), (0, 0));
 }
 
 /// Returns the limits of jobs whose arguments ask for these numbers.

@@ -1,7 +1,7 @@
 //! How a test runs the program.
 
 use asset_cli::Device;
-use asset_program::{Answer, ArgumentsFault, Asked, Request, requested, run_program};
+use asset_program::{ArgumentsFault, Next, do_asked, requested};
 use std::alloc::{AllocError, Global};
 use std::io;
 use std::process::Abort;
@@ -17,41 +17,38 @@ pub(crate) fn list(alloc: Global, texts: &[&str]) -> Result<Vec<String>, AllocEr
     Ok(arguments)
 }
 
-/// Returns what the arguments ask of a script, or what they are answered. Arguments that ask for something else are none of these
-/// tests'.
-fn script_request(
-    alloc: Global,
-    arguments: &Result<Vec<String>, ArgumentsFault>,
-) -> Result<Request, Answer> {
-    match requested(alloc, arguments) {
-        Ok(Asked::Script(request)) => Ok(request),
-        Ok(_) => Err(Answer::Fault(ArgumentsFault::NoMemory)),
-        Err(answer) => Err(answer),
-    }
-}
-
-/// Runs the program over this reader and this writer, and adds what it says to the complaints. Returns the exit status.
+/// Runs the program over this reader and this writer, and adds what it says to the complaints. Drops the reasons of a
+/// conversation. Returns what the caller does next.
 pub(crate) fn run_over<R: io::Read + Drop, W: io::Write + Drop>(
     alloc: Global,
     arguments: &Result<Vec<String>, ArgumentsFault>,
     input: R,
     output: W,
     complaints: &mut Vec<u8>,
-) -> u8 {
-    let request = script_request(alloc, arguments);
+) -> Next {
+    let asked = requested(alloc, arguments);
+    let mut told = Vec::new(alloc);
     let mut input = Device::new(input);
     let mut output = Device::new(output);
-    run_program(alloc, &request, &mut input, &mut output, complaints)
+    let mut reasons = Device::new(&mut told);
+    do_asked(
+        alloc,
+        asked,
+        &mut input,
+        &mut output,
+        &mut reasons,
+        complaints,
+    )
 }
 
-/// Runs the program with these arguments on a script. Returns the exit status, if memory sufficed for the arguments.
-fn run(
+/// Runs the program with these arguments on a script. Returns what the caller does next, if memory sufficed for the arguments.
+pub(crate) fn run(
     alloc: Global,
     texts: &[&str],
     script: &[u8],
     written: &mut Vec<u8>,
     complaints: &mut Vec<u8>,
-) -> Result<u8, AllocError> {
+) -> Result<Next, AllocError> {
     let arguments = Ok(list(alloc, texts)?);
     Ok(run_over(alloc, &arguments, script, written, complaints))
 }
@@ -65,8 +62,8 @@ pub(crate) fn expect(
 ) -> Result<(), Fail> {
     let mut written = Vec::new(rt.alloc());
     let mut complaints = Vec::new(rt.alloc());
-    let ended = run(rt.alloc(), texts, script, &mut written, &mut complaints);
-    assert_eq!(rt; ended, Ok(status), "at {texts:?}");
+    let next = run(rt.alloc(), texts, script, &mut written, &mut complaints);
+    assert_eq!(rt; next, Ok(Next::Exit(status)), "at {texts:?}");
     assert_eq!(rt; str::from_utf8(&complaints)?, errors, "at {texts:?}");
     assert_eq!(rt; str::from_utf8(&written)?, output, "at {texts:?}");
     Ok(())
