@@ -1,12 +1,10 @@
 //! Job scripts, from their bytes to what is written.
 
 use crate::running::run_jobs;
-use asset_bodies::{Body, Tx};
+use asset_bodies::Tx;
 use asset_cli::Device;
 use asset_jobs::do_acts;
-use asset_program::{
-    Begun, JobsRequest, JobsStop, Opened, add_job, begin_jobs, end_jobs, finish_jobs,
-};
+use asset_program::{JobsRequest, JobsStop, add_job, begin_jobs, end_jobs, finish_jobs};
 use asset_runner::Plan;
 use std::test::Fail;
 

@@ -14,50 +14,22 @@ macro_rules! run_jobs {
             turns: None,
         };
         let ended = match begin_jobs(alloc, request, &mut input) {
-            Ok(
-                Begun {
-                    jobs,
-                    names,
-                    opened,
-                    limits,
-                },
-            ) => {
-                let Opened {
-                    manager,
-                    theirs,
-                    session,
-                } = opened;
-                let mut plan = Plan::new(alloc, theirs, session, Some(limits.turns));
-                let mut added = match plan.reserve(names.len()) {
-                    Ok(()) => Ok(()),
-                    Err(_) => Err(JobsStop::NoMemory),
-                };
-                'jobs: for (t, acts) in jobs {
+            Ok(begun) => {
+                let limits = begun.limits;
+                let mut plan = Plan::new(alloc, begun.theirs, begun.session, Some(limits.turns));
+                let room = plan.reserve(begun.names.len());
+                let mut added = room.map_err(|_| JobsStop::NoMemory);
+                'jobs: for (t, acts) in begun.jobs {
                     if added.is_ok() {
                         let operations = acts.len();
-                        let body: Result<Body, JobsStop> = match Box::new(
-                            alloc,
-                            move |tx: Tx| do_acts(&$rt, tx, acts.as_slice()),
-                        ) {
-                            Ok(body) => Ok(body),
-                            Err(_) => Err(JobsStop::NoMemory),
-                        };
-                        added = match body {
+                        added = match Box::new(alloc, move |tx: Tx| do_acts(&$rt, tx, acts.as_slice())) {
                             Ok(body) => add_job(&$rt, &mut plan, t, operations, body),
-                            Err(stop) => Err(stop),
+                            Err(_) => Err(JobsStop::NoMemory),
                         };
                     }
                 }
                 match added {
-                    Ok(()) => finish_jobs(
-                        &$rt,
-                        alloc,
-                        manager,
-                        plan,
-                        &names,
-                        limits.workers,
-                        &mut output,
-                    ),
+                    Ok(()) => finish_jobs(&$rt, begun.manager, plan, &begun.names, limits, &mut output),
                     Err(stop) => Err(stop),
                 }
             }

@@ -29,13 +29,10 @@ use std::thread::Threads;
 
 /// A manager over the objects of a job script, twice, and its first session.
 #[derive(Drop)]
-pub struct Opened {
-    /// The manager, for the caller.
-    pub manager: Arc<Manager, Global>,
-    /// The manager, for the plan of the jobs.
-    pub theirs: Arc<Manager, Global>,
-    /// The session.
-    pub session: Session,
+struct Opened {
+    manager: Arc<Manager, Global>,
+    theirs: Arc<Manager, Global>,
+    session: Session,
 }
 
 /// A job script that was read: its jobs, their names, and where they are to run.
@@ -45,8 +42,12 @@ pub struct Begun {
     pub jobs: Vec<(Txn, Vec<JobAct>)>,
     /// The names of the jobs, in order.
     pub names: Vec<Txn>,
-    /// The manager and its first session.
-    pub opened: Opened,
+    /// The manager, for the caller.
+    pub manager: Arc<Manager, Global>,
+    /// The manager, for the plan of the jobs.
+    pub theirs: Arc<Manager, Global>,
+    /// The first session of the manager.
+    pub session: Session,
     /// Within which limits the jobs are run.
     pub limits: Limits,
 }
@@ -93,19 +94,27 @@ fn open_manager(alloc: Global, opening: &[(Ob, i64)], capacity: usize) -> Result
 
 /// Opens what a script needs that was read.
 fn open_script(alloc: Global, script: JobScript, limits: Limits) -> Result<Begun, JobsStop>
-    ensures of { IfOk result (λ begun. IsOf begun.opened.session.of (arc_value begun.opened.theirs)) }
-    ensures one { IfOk result (λ begun. arc_value begun.opened.theirs ≡ arc_value begun.opened.manager) }
+    ensures of { IfOk result (λ begun. IsOf begun.session.of (arc_value begun.theirs)) }
+    ensures one { IfOk result (λ begun. arc_value begun.theirs ≡ arc_value begun.manager) }
     ensures begun { IfOk result (λ begun. (begun.jobs ≡ script.jobs) × (begun.limits ≡ limits) × (begun.names.items ≡ map (λ job. job.0) script.jobs.items)) }
     ensures stopped { IfErr result (λ stop. stop ≡ Stop.NoMemory) }
 {
     let JobScript { opening, jobs } = script;
     let names = names_of(alloc, &jobs);
     match open_manager(alloc, &opening, limits.capacity) {
-        Ok(opened) => match names {
+        Ok(
+            Opened {
+                manager,
+                theirs,
+                session,
+            },
+        ) => match names {
             Ok(names) => Ok(Begun {
                 jobs,
                 names,
-                opened,
+                manager,
+                theirs,
+                session,
                 limits,
             }),
             Err(_) => Err(JobsStop::NoMemory),
@@ -124,8 +133,8 @@ pub fn begin_jobs<R: Read>(
     input: &mut Device<R>,
 ) -> Result<Begun, JobsStop>
     requires { IsUnused input.old }
-    ensures of { IfOk result (λ begun. IsOf begun.opened.session.of (arc_value begun.opened.theirs)) }
-    ensures one { IfOk result (λ begun. arc_value begun.opened.theirs ≡ arc_value begun.opened.manager) }
+    ensures of { IfOk result (λ begun. IsOf begun.session.of (arc_value begun.theirs)) }
+    ensures one { IfOk result (λ begun. arc_value begun.theirs ≡ arc_value begun.manager) }
     ensures begun { IfOk result (λ begun. BeginsJobs R.remaining request input.old input.new (map named begun.jobs.items) begun.names.items begun.limits) }
     ensures stopped { IfErr result (StopsBefore R.remaining request input.old input.new) }
 {
@@ -244,24 +253,24 @@ fn write_ends<W: Write>(
     }
 }
 
-/// Runs the jobs by `workers` threads, closes the manager, and writes how the jobs of these names ended, in order, and then the
-/// audit, which it returns. The manager is the one of the plan.
+/// Runs the jobs by as many threads as the limits say, closes the manager, and writes how the jobs of these names ended, in order, and
+/// then the audit, which it returns. The manager is the one of the plan.
 ///
 /// It answers `InUse` if somebody else has the manager, `NoMemory` if memory runs out, and `Write` if the writer failed.
-pub fn finish_jobs<R: Threads + Wait + Sync, W: Write>(
+pub fn finish_jobs<R: AllocGlobal + Threads + Wait + Sync, W: Write>(
     rt: &R,
-    alloc: Global,
     manager: Arc<Manager, Global>,
     plan: Plan,
     names: &[Txn],
-    workers: usize,
+    limits: Limits,
     output: &mut Device<W>,
 ) -> Result<Result<(), AuditFault>, JobsStop>
     requires { arc_value plan.manager ≡ arc_value manager }
     ensures finished { IfOk result (λ audit. FinishesJobs W.contents plan.names.items plan.session.list.calls plan.session.seen names.now audit output.old output.new) }
     ensures stopped { IfErr result (StopsAfter W.contents output.old output.new) }
 {
-    match run_plan(rt, &manager, plan, workers) {
+    let alloc = rt.alloc();
+    match run_plan(rt, &manager, plan, limits.workers) {
         Ok(
             Ran {
                 ends,

@@ -20,7 +20,7 @@ pub use conversing::converse;
 pub use doing::{Next, do_asked};
 pub use exit::{status_of_answer, status_of_run};
 pub use jobs_end::{JobsStop, end_jobs};
-pub use jobs_run::{Begun, Opened, add_job, begin_jobs, finish_jobs};
+pub use jobs_run::{Begun, add_job, begin_jobs, finish_jobs};
 pub use limits::{JobsRequest, Limits, limits_of};
 pub use program::{run_check, run_program};
 pub use requests::{Asked, Request, Task, capacity_or_default, requested};

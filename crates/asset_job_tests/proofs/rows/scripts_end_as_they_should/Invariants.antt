@@ -4,4 +4,4 @@ use Rattle.std.specs.Arc.{arc_value}
 use Rattle.asset_job_tests.proofs.rows.scripts_end_as_they_should.Given as goal
 
 abbrev pub invariant-jobs : goal.invariant-jobs
-invariant-jobs g l = arc_value l.plan.manager ≡ arc_value l.manager
+invariant-jobs g l = arc_value l.plan.manager ≡ arc_value l.begun.manager

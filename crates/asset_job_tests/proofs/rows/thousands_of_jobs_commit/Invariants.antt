@@ -4,4 +4,4 @@ use Rattle.std.specs.Arc.{arc_value}
 use Rattle.asset_job_tests.proofs.rows.thousands_of_jobs_commit.Given as goal
 
 abbrev pub invariant-jobs : goal.invariant-jobs
-invariant-jobs g l = arc_value l.plan.manager ≡ arc_value l.manager
+invariant-jobs g l = arc_value l.plan.manager ≡ arc_value l.begun.manager
