@@ -2,6 +2,8 @@
 #![tactic(auto)]
 
 #[cfg(test)]
+mod adds;
+#[cfg(test)]
 mod handing_writes;
 #[cfg(test)]
 mod many_live;

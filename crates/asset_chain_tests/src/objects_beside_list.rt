@@ -1,5 +1,6 @@
-//! Objects beside a plain list of writes that does the same by scanning, and how many records an end or a hand-over visits.
+//! Objects beside a plain list of updates that does the same by scanning, and how many records an end or a hand-over visits.
 
+use crate::adds::add_once;
 use crate::objects::write_once;
 use asset_names::{NoMemory, Ob, ObList, ObSet, Txn};
 use asset_objects::Objects;
@@ -22,60 +23,136 @@ const CALLS: usize = 3_000;
 /// How many writes of another stand on another object.
 const OTHERS: i64 = 1_000;
 
-/// A write of the plain list: its object, its owner and its value.
+/// What an update of the plain list did.
+#[derive(Clone, Copy)]
+enum Did {
+    Wrote(i64),
+    Added(i64),
+}
+
+/// An update of the plain list: its object, its owner unless it is nobody's, and what it did.
 #[derive(Clone, Copy)]
 struct Plain {
     object: u64,
-    owner: u64,
-    value: i64,
+    owner: Option<u64>,
+    did: Did,
 }
 
-/// The plain list: the value below the writes of each object, and the writes that stand, oldest first.
+/// The plain list: the value below the updates of each object, and the updates that stand, oldest first.
 #[derive(Drop)]
 struct PlainObjects {
     bases: Vec<i64>,
-    writes: Vec<Plain>,
+    updates: Vec<Plain>,
 }
 
-/// Returns the value of an object: that of the newest write, or else the one below.
-fn value_of(list: &PlainObjects, object: u64) -> Option<i64> {
-    match list.writes.iter().rposition(|one| one.object == object) {
-        Some(newest) => Some(list.writes.get(newest)?.value),
-        None => list.bases.get(object as usize).copied(),
+/// Returns the value after an update.
+fn after(value: i64, did: Did) -> i64 {
+    match did {
+        Did::Wrote(written) => written,
+        Did::Added(amount) => value.wrapping_add(amount),
     }
 }
 
-/// Takes the writes of the owner away; returns how many there were.
-fn undo_plainly(list: &mut PlainObjects, owner: u64) -> usize {
-    let before = list.writes.len();
-    list.writes.retain(|one| one.owner != owner);
-    before - list.writes.len()
+/// Returns the value of an object: the one below with the updates in order.
+fn value_of(list: &PlainObjects, object: u64) -> Option<i64> {
+    let mut value = list.bases.get(object as usize).copied()?;
+    for one in list.updates.iter() {
+        if one.object == object {
+            value = after(value, one.did);
+        }
+    }
+    Some(value)
 }
 
-/// Makes the newest write of the owner to the object, if there is one, the value below the writes, and drops it with all
-/// before it on the object. Returns how many went.
-fn settle_on(list: &mut PlainObjects, owner: u64, object: u64) -> Option<usize> {
-    let newest = list
-        .writes
+/// Returns how many updates are somebody's.
+fn owned(list: &PlainObjects) -> usize {
+    list.updates
         .iter()
-        .rposition(|one| one.owner == owner && one.object == object)?;
-    *list.bases.get_mut(object as usize)? = list.writes.get(newest)?.value;
-    let before = list.writes.len();
+        .filter(|one| one.owner.is_some())
+        .count()
+}
+
+/// Returns whether an update is nobody's add to the object.
+fn is_nobodys(one: &Plain, object: u64) -> bool {
+    one.object == object && one.owner.is_none()
+}
+
+/// Returns whether an update is a write of the object.
+fn is_write(one: &Plain, object: u64) -> bool {
+    one.object == object && matches!(one.did, Did::Wrote(_))
+}
+
+/// Makes adds of nobody to the object that no write stands before part of the value below.
+fn sink(list: &mut PlainObjects, object: u64) -> Option<()> {
+    let end = list.updates.len();
+    let first = list
+        .updates
+        .iter()
+        .position(|one| is_write(one, object))
+        .unwrap_or(end);
+    let mut base = list.bases.get(object as usize).copied()?;
+    for one in list.updates.iter().take(first) {
+        if is_nobodys(one, object) {
+            base = after(base, one.did);
+        }
+    }
+    *list.bases.get_mut(object as usize)? = base;
     let mut index: usize = 0;
-    list.writes.retain(|one| {
+    list.updates.retain(|one| {
+        let goes = index < first && is_nobodys(one, object);
+        index = index.saturating_add(1);
+        !goes
+    });
+    Some(())
+}
+
+/// Does so on each object.
+fn sink_all(list: &mut PlainObjects) {
+    for object in 0..OPENING.len() {
+        let _ = sink(list, object as u64);
+    }
+}
+
+/// Takes the updates of the owner away; returns how many there were.
+fn undo_plainly(list: &mut PlainObjects, owner: u64) -> usize {
+    let before = list.updates.len();
+    list.updates.retain(|one| one.owner != Some(owner));
+    let gone = before - list.updates.len();
+    sink_all(list);
+    gone
+}
+
+/// Makes the newest write of the owner to the object, if there is one, the value below the updates, and drops it with all
+/// before it on the object.
+fn settle_on(list: &mut PlainObjects, owner: u64, object: u64) -> Option<()> {
+    let newest = list
+        .updates
+        .iter()
+        .rposition(|one| one.owner == Some(owner) && is_write(one, object))?;
+    let written = after(0, list.updates.get(newest)?.did);
+    *list.bases.get_mut(object as usize)? = written;
+    let mut index: usize = 0;
+    list.updates.retain(|one| {
         let goes = index <= newest && one.object == object;
         index = index.saturating_add(1);
         !goes
     });
-    Some(before - list.writes.len())
+    Some(())
 }
 
-/// Settles the writes of the owner on each object; returns how many went.
+/// Settles the updates of the owner on each object; returns how many of somebody went or became nobody's.
 fn settle_plainly(list: &mut PlainObjects, owner: u64) -> usize {
-    let mut gone: usize = 0;
+    let before = owned(list);
     for object in 0..OPENING.len() {
-        gone = gone.saturating_add(settle_on(list, owner, object as u64).unwrap_or(0));
+        let _ = settle_on(list, owner, object as u64);
     }
+    for one in list.updates.iter_mut() {
+        if one.owner == Some(owner) {
+            one.owner = None;
+        }
+    }
+    let gone = before.saturating_sub(owned(list));
+    sink_all(list);
     gone
 }
 
@@ -100,7 +177,7 @@ fn set_of(number: u64, object: u64) -> Result<ObSet, Fail> {
     }
 }
 
-/// Hands the giver's writes on the objects of the set over; returns how many the giver had, and how many went over.
+/// Hands the giver's updates on the objects of the set over; returns how many the giver had, and how many went over.
 fn hand_over_plainly(
     list: &mut PlainObjects,
     giver: u64,
@@ -109,12 +186,12 @@ fn hand_over_plainly(
 ) -> (usize, usize) {
     let mut owned: usize = 0;
     let mut handed: usize = 0;
-    for one in list.writes.iter_mut() {
-        if one.owner == giver {
+    for one in list.updates.iter_mut() {
+        if one.owner == Some(giver) {
             owned = owned.saturating_add(1);
             if objects.has(Ob(one.object)) {
                 handed = handed.saturating_add(1);
-                one.owner = taker;
+                one.owner = Some(taker);
             }
         }
     }
@@ -141,6 +218,13 @@ fn hand_over(
     Ok(giver == taker || within_handed(objects.visits(), plainly))
 }
 
+/// Appends an update to the list.
+fn note(list: &mut PlainObjects, owner: u64, object: u64, did: Did) -> Result<(), Fail> {
+    let owner = Some(owner);
+    list.updates.push(Plain { object, owner, did })?;
+    Ok(())
+}
+
 /// Makes the call that a number stands for, on objects and the list. Returns whether both show the same after it.
 fn call(objects: &mut Objects, list: &mut PlainObjects, number: u64) -> Result<bool, Fail> {
     let owner = (number >> 30) % OWNERS;
@@ -156,13 +240,14 @@ fn call(objects: &mut Objects, list: &mut PlainObjects, number: u64) -> Result<b
             within(objects.visits(), settle_plainly(list, owner))
         }
         2 => hand_over(objects, list, number, owner, object)?,
-        _ => {
+        3 | 4 => {
             write_once(objects, owner, object, value)?;
-            list.writes.push(Plain {
-                object,
-                owner,
-                value,
-            })?;
+            note(list, owner, object, Did::Wrote(value))?;
+            true
+        }
+        _ => {
+            add_once(objects, owner, object, value)?;
+            note(list, owner, object, Did::Added(value))?;
             true
         }
     };
@@ -189,7 +274,7 @@ fn objects_agree_with_a_plain_list(rt: HostRuntime) -> Result<(), Fail> {
     let mut objects = Objects::open(rt.alloc(), &OPENING)?;
     let mut list = PlainObjects {
         bases: Vec::new(rt.alloc()),
-        writes: Vec::new(rt.alloc()),
+        updates: Vec::new(rt.alloc()),
     };
     let difference = first_difference(&mut objects, &mut list);
     drop(objects);

@@ -1,5 +1,5 @@
 -- The cell of an object, as names end and as it is shown.
-use Rattle.std.proofs.Common.{◌≡◌, ℕ, Bool, true, false, cond, not, eqb, List, [], ◌∷◌, refl, ap, Some, None}
+use Rattle.std.proofs.Common.{◌≡◌, ℕ, Bool, true, false, cond, not, eqb, List, [], ◌∷◌, refl, sym, ap, Some, None}
 use Rattle.std.specs.Prelude.{ℤ, pos, Option, option_map, is_some, unwrap_or, ◌&&◌}
 use Rattle.asset_names.specs.declared.statuses.End.{End}
 use Rattle.asset_names.specs.declared.statuses.End.TheVariants as End'
@@ -9,8 +9,9 @@ use Rattle.asset_names.specs.Endings.{end_of}
 use Rattle.asset_names.proofs.EndLemmas.{Ending}
 use Rattle.asset_names.specs.Operations.{Use, Operation, operations, opening_at, opening_value, exists, value_after, after_use, stands, was_aborted, value, value_if_any}
 use Rattle.asset_names.specs.Operations.Use.{reads, writes}
-use Rattle.asset_objects.specs.Cells.{Cell, fresh, shown, newest_or, written, undone, settled, settled_value, newer}
-use Rattle.asset_ends.specs.Shows.{placed, used, cell_after, cell_of}
+use Rattle.asset_objects.specs.Cells.{Effect, Cell, wrote, added, fresh, after, shown, shown_over, updated, placed, placed_anew, ended}
+use Rattle.asset_objects.proofs.UpdateLemmas.{ended_updated, ended_fresh, ended_lasting}
+use Rattle.asset_ends.specs.Shows.{used, cell_after, cell_of}
 
 -- who passes the test of one name
 abbrev pub is_name : ℕ → ℕ → Bool
@@ -22,53 +23,36 @@ unfolding cell_after
 cell_same ends later same x first [] = refl
 cell_same ends later same x first (o ∷ older) = rw (same o.owner, cell_same ends later same x first older)
 
--- one more write, if its owner may be one of those who abort
-undone_write : (test : ℕ → Bool) (u : ℕ) (v : ℤ) (older later : Cell) (gone : Bool) → test u ≡ gone → (end ended : Option End) → ended ≡ cond gone (Some End'.Aborted) end → (gone ≡ true → end ≡ None)
-    → later ≡ undone test older → placed ended u v later ≡ undone test (placed end u v older)
-unfolding placed written undone fresh
-undone_write test u v older later true e end ended is alive ih = rw (is, alive refl, e) ih
-undone_write test u v older later false e (Some End'.Committed) ended is alive ih = rw is refl
-undone_write test u v older later false e (Some End'.Aborted) ended is alive ih = rw is ih
-undone_write test u v older later false e None ended is alive ih = rw (is, e, ih) refl
+-- one more update, if its owner may be one of those who end
+placed_ended : (how : End) (test : ℕ → Bool) (u : ℕ) (effect : Effect) (older later : Cell) (gone : Bool) → test u ≡ gone → (end after : Option End) → after ≡ cond gone (Some how) end → (gone ≡ true → end ≡ None)
+    → later ≡ ended how test older → placed after u effect later ≡ ended how test (placed end u effect older)
+unfolding placed placed_anew
+placed_ended how test u effect older later true e end after is alive ih = rw (is, alive refl, ended_updated how test (Some u) effect older, e, ih) refl
+placed_ended how test u effect older later false e None after is alive ih = rw (is, ended_updated how test (Some u) effect older, e, ih) refl
+placed_ended how test u effect older later false e (Some End'.Aborted) after is alive ih = rw is ih
+placed_ended how test u (wrote v) older later false e (Some End'.Committed) after is alive ih = rw is (sym (ended_fresh how test v))
+placed_ended how test u (added d) older later false e (Some End'.Committed) after is alive ih = rw (is, ih) (sym (ended_lasting how test d older))
 
--- one more write, if its owner may be one of those who commit
-settled_write : (test : ℕ → Bool) (u : ℕ) (v : ℤ) (older later : Cell) (gone : Bool) → test u ≡ gone → (end ended : Option End) → ended ≡ cond gone (Some End'.Committed) end → (gone ≡ true → end ≡ None)
-    → later ≡ settled test older → placed ended u v later ≡ settled test (placed end u v older)
-unfolding placed written settled settled_value newer fresh
-settled_write test u v older later true e end ended is alive ih = rw (is, alive refl, e) refl
-settled_write test u v older later false e (Some End'.Committed) ended is alive ih = rw is refl
-settled_write test u v older later false e (Some End'.Aborted) ended is alive ih = rw is ih
-settled_write test u v older later false e None ended is alive ih = rw (is, e, ih) refl
+-- the cell after some live transactions have ended
+pub cell_ended : (how : End) (test : ℕ → Bool) (ends later : ℕ → Option End) → ((n : ℕ) → test n ≡ true → ends n ≡ None) → Ending test how ends later
+    → (x : ℕ) (first : ℤ) (os : List Operation) → cell_after later x first os ≡ ended how test (cell_after ends x first os)
+unfolding cell_after used
+cell_ended how test ends later alive is x first [] = sym (ended_fresh how test first)
+cell_ended how test ends later alive is x first (o ∷ older) = go (eqb o.object x) o.use_of (cell_ended how test ends later alive is x first older) where
+  one : (effect : Effect) → cell_after later x first older ≡ ended how test (cell_after ends x first older)
+      → placed (later o.owner) o.owner effect (cell_after later x first older) ≡ ended how test (placed (ends o.owner) o.owner effect (cell_after ends x first older))
+  one effect ih = placed_ended how test o.owner effect _ _ (test o.owner) refl (ends o.owner) (later o.owner) (is o.owner) (alive o.owner) ih
 
--- the cell after some live transactions have aborted
-pub cell_undone : (test : ℕ → Bool) (ends later : ℕ → Option End) → ((n : ℕ) → test n ≡ true → ends n ≡ None) → Ending test End'.Aborted ends later
-    → (x : ℕ) (first : ℤ) (os : List Operation) → cell_after later x first os ≡ undone test (cell_after ends x first os)
-unfolding cell_after used fresh undone
-cell_undone test ends later alive is x first [] = refl
-cell_undone test ends later alive is x first (o ∷ older) = go (eqb o.object x) o.use_of (cell_undone test ends later alive is x first older) where
-  go : (here : Bool) (act : Use) → cell_after later x first older ≡ undone test (cell_after ends x first older)
+  go : (here : Bool) (act : Use) → cell_after later x first older ≡ ended how test (cell_after ends x first older)
       → cond here (used (later o.owner) o.owner act (cell_after later x first older)) (cell_after later x first older)
-      ≡ undone test (cond here (used (ends o.owner) o.owner act (cell_after ends x first older)) (cell_after ends x first older))
+      ≡ ended how test (cond here (used (ends o.owner) o.owner act (cell_after ends x first older)) (cell_after ends x first older))
   go false act ih = ih
   go true reads ih = ih
-  go true (writes v) ih = undone_write test o.owner v _ _ (test o.owner) refl (ends o.owner) (later o.owner) (is o.owner) (alive o.owner) ih
-
--- the cell after some live transactions have committed
-pub cell_settled : (test : ℕ → Bool) (ends later : ℕ → Option End) → ((n : ℕ) → test n ≡ true → ends n ≡ None) → Ending test End'.Committed ends later
-    → (x : ℕ) (first : ℤ) (os : List Operation) → cell_after later x first os ≡ settled test (cell_after ends x first os)
-unfolding cell_after used fresh settled settled_value newer
-cell_settled test ends later alive is x first [] = refl
-cell_settled test ends later alive is x first (o ∷ older) = go (eqb o.object x) o.use_of (cell_settled test ends later alive is x first older) where
-  go : (here : Bool) (act : Use) → cell_after later x first older ≡ settled test (cell_after ends x first older)
-      → cond here (used (later o.owner) o.owner act (cell_after later x first older)) (cell_after later x first older)
-      ≡ settled test (cond here (used (ends o.owner) o.owner act (cell_after ends x first older)) (cell_after ends x first older))
-  go false act ih = ih
-  go true reads ih = ih
-  go true (writes v) ih = settled_write test o.owner v _ _ (test o.owner) refl (ends o.owner) (later o.owner) (is o.owner) (alive o.owner) ih
+  go true (writes v) ih = one (wrote v) ih
 
 -- a cell shows the value of the history
 cell_shown : (steps : List Step) (x : ℕ) (first : ℤ) (os : List Operation) → shown (cell_after (end_of steps) x first os) ≡ value_after (stands steps) x first os
-unfolding cell_after used placed written fresh shown newest_or value_after after_use stands was_aborted
+unfolding cell_after used placed updated fresh shown shown_over after value_after after_use stands was_aborted
 cell_shown steps x first [] = refl
 cell_shown steps x first (o ∷ older) = go (eqb o.object x) o.use_of (end_of steps o.owner) (cell_shown steps x first older) where
   go : (here : Bool) (act : Use) (end : Option End) → shown (cell_after (end_of steps) x first older) ≡ value_after (stands steps) x first older

@@ -24,7 +24,8 @@ use Rattle.asset_names.specs.Operations.Use.{reads, writes}
 use Rattle.asset_names.proofs.Common.{eqb-flip}
 use Rattle.asset_names.proofs.EndLemmas.{live_parts}
 use Rattle.asset_names.proofs.DelegateLemmas.{arrows_delegated, live_delegated, delegate_ends, holds_delegated, holds_by_some_op}
-use Rattle.asset_objects.specs.Cells.{Cell, Cells, fresh, written, handed_cell, handed_write, change_where}
+use Rattle.asset_objects.specs.Cells.{Effect, Cell, Cells, wrote, added, fresh, updated, placed, handed_cell, handed_update, change_where}
+use Rattle.asset_objects.proofs.UpdateLemmas.{handed_lasting}
 use Rattle.asset_lock_store.specs.declared.lock.Lock.{Lock}
 use Rattle.asset_lock_store.specs.LockRules as Rules
 use Rattle.asset_lock_store.specs.LockRules.{is_some_op}
@@ -34,7 +35,7 @@ use Rattle.asset_locks.proofs.HandLaws.{carries_handed, carries_own, names_hande
 use Rattle.asset_deps.specs.Dependencies.{Dependency}
 use Rattle.asset_permits.specs.Descriptors.{Descriptor, one_covers}
 use Rattle.asset_trans.specs.TransRows.{NamedTransRow}
-use Rattle.asset_ends.specs.Shows.{Shows, placed, used, cell_after, cell_of, permitted, table_values}
+use Rattle.asset_ends.specs.Shows.{Shows, used, cell_after, cell_of, permitted, table_values}
 use Rattle.asset_ends.proofs.CellLemmas.{cell_same}
 use Rattle.asset_ends.proofs.DependLaws.{depended_quiet}
 use Rattle.asset_ends.proofs.HistoryLemmas.{enrolled_quiet}
@@ -42,19 +43,30 @@ use Rattle.asset_ends.proofs.ShowsLemmas.{status_quiet}
 
 -- ---- cells
 
--- one more operation over a cell whose writes are handed over, of one who is not the giver
+-- one more update over a cell whose updates are handed over, of one who is not the giver
+other_placed : (giver taker owner : ℕ) (effect : Effect) (end : Option End) (cell : Cell) → eqb owner giver ≡ false → placed end owner effect (handed_cell giver taker cell) ≡ handed_cell giver taker (placed end owner effect cell)
+unfolding placed updated fresh handed_cell handed_update
+other_placed giver taker owner effect None cell other = rw other refl
+other_placed giver taker owner effect (Some End'.Aborted) cell other = refl
+other_placed giver taker owner (wrote v) (Some End'.Committed) cell other = refl
+other_placed giver taker owner (added d) (Some End'.Committed) cell other = handed_lasting giver taker d cell
+
+-- and of the giver, which is the taker's then
+giver_placed : (giver taker : ℕ) (effect : Effect) (cell : Cell) → placed None taker effect (handed_cell giver taker cell) ≡ handed_cell giver taker (placed None giver effect cell)
+unfolding placed updated handed_cell handed_update
+giver_placed giver taker effect cell = rw (eq-eqb giver giver refl) refl
+
+-- one more operation over a cell whose updates are handed over, of one who is not the giver
 other_used : (giver taker owner : ℕ) (act : Use) (end : Option End) (cell : Cell) → eqb owner giver ≡ false → used end owner act (handed_cell giver taker cell) ≡ handed_cell giver taker (used end owner act cell)
-unfolding used placed fresh written handed_cell handed_write
+unfolding used
 other_used giver taker owner reads end cell other = refl
-other_used giver taker owner (writes v) (Some End'.Committed) cell other = refl
-other_used giver taker owner (writes v) (Some End'.Aborted) cell other = refl
-other_used giver taker owner (writes v) None cell other = rw other refl
+other_used giver taker owner (writes v) end cell other = other_placed giver taker owner (wrote v) end cell other
 
 -- and of the giver, which is the taker's then
 giver_used : (giver taker : ℕ) (act : Use) (cell : Cell) → used None taker act (handed_cell giver taker cell) ≡ handed_cell giver taker (used None giver act cell)
-unfolding used placed written handed_cell handed_write
+unfolding used
 giver_used giver taker reads cell = refl
-giver_used giver taker (writes v) cell = rw (eq-eqb giver giver refl) refl
+giver_used giver taker (writes v) cell = giver_placed giver taker (wrote v) cell
 
 -- the cell after one more operation, over that of the older ones
 add_used : (ℕ → Option End) → ℕ → Cell → Operation → Cell

@@ -18,7 +18,7 @@ use Rattle.asset_names.specs.Answers.{is_completed, class_completed, may_commit}
 use Rattle.asset_names.proofs.Common.{both_follow, eqb-flip}
 use Rattle.asset_names.proofs.EndLemmas.{commits, aborts}
 use Rattle.asset_names.proofs.ListLemmas.{all_listed, listed_all, lists_pushed}
-use Rattle.asset_objects.specs.Cells.{cells}
+use Rattle.asset_objects.specs.Cells.{cells, ended, change_each}
 use Rattle.asset_objects.specs.Placed.{objects_in}
 use Rattle.asset_locks.specs.LockTable as Locks
 use Rattle.asset_permits.specs.Valid.{permits_in}
@@ -31,7 +31,7 @@ use Rattle.asset_ends.specs.Shows.{Shows, table_values}
 use Rattle.asset_ends.specs.Standing.{Standing, values_of, may_commit_in, AreEnrolled, LiveAreSeated}
 use Rattle.asset_ends.specs.Tied.{PartsAreTied, PartsAreValid}
 use Rattle.asset_ends.specs.declared.parts.Parts.{Parts}
-use Rattle.asset_ends.specs.Ended.{parts, locks_of, marked_by, unless_gone, AreEnded, ended_cell}
+use Rattle.asset_ends.specs.Ended.{parts, locks_of, marked_by, unless_gone, AreEnded}
 use Rattle.asset_ends.proofs.CellLemmas.{is_name}
 use Rattle.asset_ends.proofs.TransLaws.{status_set, seat_set, row_named}
 use Rattle.asset_ends.proofs.LockLaws.{names_released}
@@ -88,9 +88,9 @@ pub record AreEnding (how : End) (start now : Parts) : Type 0 where
   pub live : (n : ℕ) → lists (marked_by now) n ≡ true → is_live_status (status_in now.trans n) ≡ true
   pub tied : PartsAreTied now
 
-pub none_ending : (how : End) (start : Parts) → ((n : ℕ) → lists (marked_by start) n ≡ true → is_live_status (status_in start.trans n) ≡ true) → PartsAreTied start → AreEnding how start start
-none_ending how start alive tied = record {
-  ended = ended_as_test nobody (gone (marked_by start) (marked_by start)) how start start (none_gone (marked_by start)) (ended_none how start);
+pub none_ending : (how : End) (start : Parts) → change_each (ended how nobody) (cells (objects_in start.objects)) ≡ cells (objects_in start.objects) → ((n : ℕ) → lists (marked_by start) n ≡ true → is_live_status (status_in start.trans n) ≡ true) → PartsAreTied start → AreEnding how start start
+none_ending how start same alive tied = record {
+  ended = ended_as_test nobody (gone (marked_by start) (marked_by start)) how start start (none_gone (marked_by start)) (ended_none how start same);
   within = λ n listed. listed;
   live = alive;
   tied = tied;
@@ -149,7 +149,7 @@ pub commit_stands : (opening : Opening) (steps : List Step) (test : ℕ → Bool
     → ((n : ℕ) → test n ≡ class_in (dependencies_in before.deps) t.0 n) → is_live_status (status_in before.trans t.0) ≡ true
     → Shows opening steps (table_values before.trans (cells (objects_in before.objects)) (locks_of before) (permits_in before.permits) (dependencies_in before.deps))
     → Shows opening (Commit t ∷ steps) (table_values later.trans (cells (objects_in later.objects)) (locks_of later) (permits_in later.permits) (dependencies_in later.deps))
-unfolding ended_cell ended_as
+unfolding ended_as
 commit_stands opening steps test before later t ended is alive stand =
     let all = ended_as_test test (commits steps t.0) End'.Committed before later (λ n. is n ∙ commits_shown steps (dependencies_in before.deps) stand.dependencies_stand t.0 (sym (live_shown opening steps _ _ _ _ _ t.0 stand) ∙ alive) n) ended in
     rw (all.rows, all.objects, all.locks) (commit_shows opening steps before.trans (cells (objects_in before.objects)) (locks_of before) (permits_in before.permits) (dependencies_in before.deps) t stand (permits_in later.permits) all.permits (dependencies_in later.deps) all.deps)
@@ -158,7 +158,7 @@ pub abort_stands : (opening : Opening) (steps : List Step) (test : ℕ → Bool)
     → ((n : ℕ) → test n ≡ doomed_in (dependencies_in before.deps) t.0 n) → is_live_status (status_in before.trans t.0) ≡ true
     → Shows opening steps (table_values before.trans (cells (objects_in before.objects)) (locks_of before) (permits_in before.permits) (dependencies_in before.deps))
     → Shows opening (Abort t ∷ steps) (table_values later.trans (cells (objects_in later.objects)) (locks_of later) (permits_in later.permits) (dependencies_in later.deps))
-unfolding ended_cell ended_as
+unfolding ended_as
 abort_stands opening steps test before later t ended is alive stand =
     let all = ended_as_test test (aborts steps t.0) End'.Aborted before later (λ n. is n ∙ aborts_shown steps (dependencies_in before.deps) stand.dependencies_stand t.0 (sym (live_shown opening steps _ _ _ _ _ t.0 stand) ∙ alive) n) ended in
     rw (all.rows, all.objects, all.locks) (abort_shows opening steps before.trans (cells (objects_in before.objects)) (locks_of before) (permits_in before.permits) (dependencies_in before.deps) t stand (permits_in later.permits) all.permits (dependencies_in later.deps) all.deps)

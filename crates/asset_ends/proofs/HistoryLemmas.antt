@@ -8,6 +8,7 @@ use Rattle.asset_names.specs.declared.names.Txn.{Txn}
 use Rattle.asset_names.specs.declared.names.Ob.{Ob}
 use Rattle.asset_names.specs.declared.operations.Op.{Op}
 use Rattle.asset_names.specs.declared.statuses.End.{End}
+use Rattle.asset_names.specs.declared.statuses.End.TheVariants as End'
 use Rattle.asset_names.specs.declared.steps.Kind.{Kind}
 use Rattle.asset_names.specs.declared.steps.Step.{Step}
 use Rattle.asset_names.specs.declared.steps.Step.TheVariants.{Initiate, Begin, Read, Write, Complete, Commit, Abort, WaitFor}
@@ -20,9 +21,9 @@ use Rattle.asset_names.proofs.LiveLemmas.{live_initiate}
 use Rattle.asset_names.proofs.EndLemmas.{live_parts, commits, aborts, commits_live, aborts_live, commit_ends, abort_ends}
 use Rattle.asset_names.proofs.Common.{cond_same, option_or_none}
 use Rattle.asset_names.proofs.ListLemmas.{lists_pushed}
-use Rattle.asset_objects.specs.Cells.{change_at, change_each, written, undone, settled}
-use Rattle.asset_ends.specs.Shows.{placed, used, cell_after, cell_of}
-use Rattle.asset_ends.proofs.CellLemmas.{cell_same, cell_undone, cell_settled}
+use Rattle.asset_objects.specs.Cells.{change_at, change_each, wrote, written, undone, settled, placed}
+use Rattle.asset_ends.specs.Shows.{used, cell_after, cell_of}
+use Rattle.asset_ends.proofs.CellLemmas.{cell_same, cell_ended}
 
 -- filters by tests that agree on what is listed
 pub filter_same : (p q : ℕ → Bool) (names : List ℕ) → ((n : ℕ) → lists names n ≡ true → p n ≡ q n) → filter p names ≡ filter q names
@@ -218,7 +219,7 @@ cell_write opening u y w steps x alive = go (eqb y.0 x) (opening_at opening x) w
 
   go : (here : Bool) (first : Option ℤ)
       → cond here (option_map (written u.0 w) (option_map (λ v. cell_after (end_of steps) x v (operations steps)) first)) (option_map (λ v. cell_after (end_of steps) x v (operations steps)) first)
-      ≡ option_map (λ v. cond here (placed (end_of (Write u y w ∷ steps) u.0) u.0 w (cell_after (end_of (Write u y w ∷ steps)) x v (operations steps))) (cell_after (end_of (Write u y w ∷ steps)) x v (operations steps))) first
+      ≡ option_map (λ v. cond here (placed (end_of (Write u y w ∷ steps) u.0) u.0 (wrote w) (cell_after (end_of (Write u y w ∷ steps)) x v (operations steps))) (cell_after (end_of (Write u y w ∷ steps)) x v (operations steps))) first
   go true None = refl
   go false None = refl
   go true (Some v) = rw (none, cell_same (end_of steps) (end_of (Write u y w ∷ steps)) ends x v (operations steps)) refl
@@ -233,7 +234,7 @@ cell_abort opening t steps x = go (opening_at opening x) where
 
   go : (first : Option ℤ) → option_map (undone (aborts steps t.0)) (option_map (λ v. cell_after (end_of steps) x v (operations steps)) first) ≡ option_map (λ v. cell_after (end_of (Abort t ∷ steps)) x v (operations steps)) first
   go None = refl
-  go (Some v) = ap Some (sym (cell_undone (aborts steps t.0) (end_of steps) (end_of (Abort t ∷ steps)) alive (abort_ends t steps) x v (operations steps)))
+  go (Some v) = ap Some (sym (cell_ended End'.Aborted (aborts steps t.0) (end_of steps) (end_of (Abort t ∷ steps)) alive (abort_ends t steps) x v (operations steps)))
 
 pub cell_commit : (opening : Opening) (t : Txn) (steps : List Step) (x : ℕ) → change_each (settled (commits steps t.0)) (cell_of opening steps) x ≡ cell_of opening (Commit t ∷ steps) x
 unfolding cell_of operations operated change_each
@@ -243,4 +244,4 @@ cell_commit opening t steps x = go (opening_at opening x) where
 
   go : (first : Option ℤ) → option_map (settled (commits steps t.0)) (option_map (λ v. cell_after (end_of steps) x v (operations steps)) first) ≡ option_map (λ v. cell_after (end_of (Commit t ∷ steps)) x v (operations steps)) first
   go None = refl
-  go (Some v) = ap Some (sym (cell_settled (commits steps t.0) (end_of steps) (end_of (Commit t ∷ steps)) alive (commit_ends t steps) x v (operations steps)))
+  go (Some v) = ap Some (sym (cell_ended End'.Committed (commits steps t.0) (end_of steps) (end_of (Commit t ∷ steps)) alive (commit_ends t steps) x v (operations steps)))

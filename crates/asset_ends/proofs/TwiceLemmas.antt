@@ -6,12 +6,13 @@ use Rattle.asset_names.specs.declared.statuses.End.{End}
 use Rattle.asset_names.specs.declared.statuses.End.TheVariants as End'
 use Rattle.asset_names.specs.declared.statuses.Status.{Status}
 use Rattle.asset_objects.specs.Placed.{objects_in}
-use Rattle.asset_objects.specs.Cells.{Written, Cell, Cells, cells, undone, settled, settled_value, newer, change_each}
+use Rattle.asset_objects.specs.Cells.{Effect, Update, Cell, Cells, cells, wrote, added, updated, lasting, placed, placed_anew, ended_over, ended, change_each}
+use Rattle.asset_objects.proofs.UpdateLemmas.{ended_updated, ended_fresh, ended_lasting}
 use Rattle.asset_seats.specs.Seated.{seat}
 use Rattle.asset_locks.specs.LockTable as Locks
 use Rattle.asset_trans.specs.TransRows.{NamedTransRow, set_entry, set_in, ended_as}
 use Rattle.asset_ends.specs.declared.parts.Parts.{Parts}
-use Rattle.asset_ends.specs.Ended.{AreEnded, ended_cell, locks_of, unless_gone}
+use Rattle.asset_ends.specs.Ended.{AreEnded, locks_of, unless_gone}
 
 -- who passes one of two tests
 unfoldable pub either : (ℕ → Bool) → (ℕ → Bool) → ℕ → Bool
@@ -53,65 +54,35 @@ rows_none status [] = refl
 rows_none status (entry ∷ rows) = ap (λ rest. entry ∷ rest) (rows_none status rows)
 
 -- ---- objects
-undone_twice : (p q : ℕ → Bool) (cell : Cell) → undone q (undone p cell) ≡ undone (either p q) cell
-unfolding undone either
-undone_twice p q cell = ap (λ records. record cell { records = records }) (kept_twice (λ (w : Written). p w.owner) (λ (w : Written). q w.owner) cell.records)
+anew_twice : (how : End) (p q : ℕ → Bool) (owner : Option ℕ) (effect : Effect) (cell both : Cell) → ended how q cell ≡ both → ended how q (placed_anew how p owner effect cell) ≡ placed_anew how (either p q) owner effect both
+unfolding placed_anew placed either
+anew_twice how p q None (wrote v) cell both same = ended_fresh how q v
+anew_twice how p q None (added d) cell both same = ended_lasting how q d cell ∙ ap (lasting d) same
+anew_twice how p q (Some n) effect cell both same = go (p n) how refl effect where
+  live : (effect : Effect) → ended how q (updated (Some n) effect cell) ≡ placed (cond (q n) (Some how) None) n effect both
+  live effect = ended_updated how q (Some n) effect cell ∙ ap (placed (cond (q n) (Some how) None) n effect) same
 
-value_twice : (p q : ℕ → Bool) (base : ℤ) (records : List Written) → settled_value q (settled_value p base records) (newer p records) ≡ settled_value (either p q) base records
-unfolding settled_value newer either
-value_twice p q base [] = refl
-value_twice p q base (w ∷ older) = go (p w.owner) refl (value_twice p q base older) where
-  go : (first : Bool) → p w.owner ≡ first → settled_value q (settled_value p base older) (newer p older) ≡ settled_value (either p q) base older
-      → settled_value q (cond first w.value (settled_value p base older)) (cond first [] (w ∷ newer p older)) ≡ cond (first || q w.owner) w.value (settled_value (either p q) base older)
-  go true e ih = refl
-  go false e ih = ap (cond (q w.owner) w.value) ih
+  go : (gone : Bool) (end : End) → end ≡ how → (effect : Effect) → ended how q (placed (cond gone (Some end) None) n effect cell) ≡ placed (cond (gone || q n) (Some end) None) n effect both
+  go true End'.Committed e (wrote v) = ended_fresh how q v
+  go true End'.Committed e (added d) = ended_lasting how q d cell ∙ ap (lasting d) same
+  go true End'.Aborted e effect = same
+  go false end e effect = live effect ∙ ap (λ (h : End). placed (cond (q n) (Some h) None) n effect both) (sym e)
 
-newer_twice : (p q : ℕ → Bool) (records : List Written) → newer q (newer p records) ≡ newer (either p q) records
-unfolding newer either
-newer_twice p q [] = refl
-newer_twice p q (w ∷ older) = go (p w.owner) refl (newer_twice p q older) where
-  go : (first : Bool) → p w.owner ≡ first → newer q (newer p older) ≡ newer (either p q) older
-      → newer q (cond first [] (w ∷ newer p older)) ≡ cond (first || q w.owner) [] (w ∷ newer (either p q) older)
-  go true e ih = refl
-  go false e ih = ap (λ rest. cond (q w.owner) [] (w ∷ rest)) ih
+ended_again : (how : End) (p q : ℕ → Bool) (base : ℤ) (records : List Update) → ended how q (ended_over how p base records) ≡ ended_over how (either p q) base records
+unfolding ended_over
+ended_again how p q base [] = ended_fresh how q base
+ended_again how p q base (first ∷ older) = anew_twice how p q first.owner first.effect (ended_over how p base older) (ended_over how (either p q) base older) (ended_again how p q base older)
 
-settled_twice : (p q : ℕ → Bool) (cell : Cell) → settled q (settled p cell) ≡ settled (either p q) cell
-unfolding settled
-settled_twice p q cell = λ i. record { base = value_twice p q cell.base cell.records i; records = newer_twice p q cell.records i }
+cell_twice : (how : End) (p q : ℕ → Bool) (cell : Cell) → ended how q (ended how p cell) ≡ ended how (either p q) cell
+unfolding ended
+cell_twice how p q cell = ended_again how p q cell.base cell.records
 
-cell_twice : (how : End) (p q : ℕ → Bool) (cell : Cell) → ended_cell how q (ended_cell how p cell) ≡ ended_cell how (either p q) cell
-unfolding ended_cell
-cell_twice End'.Committed p q cell = settled_twice p q cell
-cell_twice End'.Aborted p q cell = undone_twice p q cell
-
-value_none : (base : ℤ) (records : List Written) → settled_value nobody base records ≡ base
-unfolding settled_value nobody
-value_none base [] = refl
-value_none base (w ∷ older) = value_none base older
-
-newer_none : (records : List Written) → newer nobody records ≡ records
-unfolding newer nobody
-newer_none [] = refl
-newer_none (w ∷ older) = ap (λ rest. w ∷ rest) (newer_none older)
-
-cell_none : (how : End) (cell : Cell) → ended_cell how nobody cell ≡ cell
-unfolding ended_cell settled undone nobody
-cell_none End'.Committed cell = λ i. record { base = value_none cell.base cell.records i; records = newer_none cell.records i }
-cell_none End'.Aborted cell = ap (λ records. record cell { records = records }) (kept_all cell.records)
-
-objects_twice : (how : End) (p q : ℕ → Bool) (objects : Cells) → change_each (ended_cell how q) (change_each (ended_cell how p) objects) ≡ change_each (ended_cell how (either p q)) objects
+objects_twice : (how : End) (p q : ℕ → Bool) (objects : Cells) → change_each (ended how q) (change_each (ended how p) objects) ≡ change_each (ended how (either p q)) objects
 unfolding change_each
 objects_twice how p q objects = λ i x. go (objects x) i where
-  go : (cell : Option Cell) → option_map (ended_cell how q) (option_map (ended_cell how p) cell) ≡ option_map (ended_cell how (either p q)) cell
+  go : (cell : Option Cell) → option_map (ended how q) (option_map (ended how p) cell) ≡ option_map (ended how (either p q)) cell
   go None = refl
   go (Some cell) = ap Some (cell_twice how p q cell)
-
-objects_none : (how : End) (objects : Cells) → change_each (ended_cell how nobody) objects ≡ objects
-unfolding change_each
-objects_none how objects = λ i x. go (objects x) i where
-  go : (cell : Option Cell) → option_map (ended_cell how nobody) cell ≡ cell
-  go None = refl
-  go (Some cell) = ap Some (cell_none how cell)
 
 -- ---- locks
 locks_twice : (p q : ℕ → Bool) (table : Locks.LockTable) → Locks.release_in q (Locks.release_in p table) ≡ Locks.release_in (either p q) table
@@ -156,7 +127,7 @@ pub ended_twice : (p q : ℕ → Bool) (how : End) (before now later : Parts) �
 unfolding either
 ended_twice p q how before now later first second = record {
   rows = second.rows ∙ ap (set_in q (ended_as how)) first.rows ∙ rows_twice p q (ended_as how) before.trans;
-  objects = second.objects ∙ ap (change_each (ended_cell how q)) first.objects ∙ objects_twice how p q (cells (objects_in before.objects));
+  objects = second.objects ∙ ap (change_each (ended how q)) first.objects ∙ objects_twice how p q (cells (objects_in before.objects));
   locks = second.locks ∙ ap (Locks.release_in q) first.locks ∙ locks_twice p q (locks_of before);
   permits = λ u n x op. second.permits u n x op ∙ rw (first.permits u n x op) (both_gone _ (p u) (q u) (p n) (q n));
   deps = λ k u v. second.deps k u v ∙ rw (first.deps k u v) (both_gone _ (p u) (q u) (p v) (q v));
@@ -164,11 +135,11 @@ ended_twice p q how before now later first second = record {
 }
 
 -- nobody has ended
-pub ended_none : (how : End) (now : Parts) → AreEnded nobody how now now
+pub ended_none : (how : End) (now : Parts) → change_each (ended how nobody) (cells (objects_in now.objects)) ≡ cells (objects_in now.objects) → AreEnded nobody how now now
 unfolding nobody
-ended_none how now = record {
+ended_none how now same = record {
   rows = sym (rows_none (ended_as how) now.trans);
-  objects = sym (objects_none how (cells (objects_in now.objects)));
+  objects = sym same;
   locks = sym (locks_none (locks_of now));
   permits = λ u n x op. both_kept _;
   deps = λ k u v. both_kept _;

@@ -3,11 +3,10 @@ use Rattle.std.specs.Prelude.{◌≡◌, ℕ, Bool, cond, ◌&&◌, not, List, O
 use Rattle.asset_names.specs.declared.names.Txn.{Txn}
 use Rattle.asset_names.specs.declared.operations.Op.{Op}
 use Rattle.asset_names.specs.declared.statuses.End.{End}
-use Rattle.asset_names.specs.declared.statuses.End.TheVariants as End'
 use Rattle.asset_names.specs.declared.steps.Kind.{Kind}
 use Rattle.asset_names.specs.Arrows.{has_arrow}
 use Rattle.asset_objects.specs.Placed.{ObjectParts, objects_in}
-use Rattle.asset_objects.specs.Cells.{Cell, cells, undone, settled, change_each}
+use Rattle.asset_objects.specs.Cells.{cells, ended, change_each}
 use Rattle.asset_locks.specs.LockTable as Locks
 use Rattle.asset_locks.specs.Tied.{LockParts, rows_in}
 use Rattle.asset_permits.specs.Descriptors.{Descriptor, one_covers}
@@ -43,17 +42,11 @@ unfoldable pub unless_gone : (ℕ → Bool) → Option Txn → Option Txn
 unless_gone test None = None
 unless_gone test (Some t) = cond (test t.0) None (Some t)
 
--- what becomes of an object as those who pass the test end: their writes stand for good after a commit, and are taken away
--- by an abort
-unfoldable pub ended_cell : End → (ℕ → Bool) → Cell → Cell
-ended_cell End'.Committed test = settled test
-ended_cell End'.Aborted test = undone test
-
--- those who pass the test have ended in this way: they have the status, their writes are settled or undone, their locks
+-- those who pass the test have ended in this way: they have the status, their updates stand for good or are taken away, their locks
 -- and permits are gone, they have no dependencies any more, and they have left their seats
 pub record AreEnded (test : ℕ → Bool) (how : End) (before later : Parts) : Type 0 where
   pub rows : later.trans ≡ set_in test (ended_as how) before.trans
-  pub objects : cells (objects_in later.objects) ≡ change_each (ended_cell how test) (cells (objects_in before.objects))
+  pub objects : cells (objects_in later.objects) ≡ change_each (ended how test) (cells (objects_in before.objects))
   pub locks : locks_of later ≡ Locks.release_in test (locks_of before)
   pub permits : IsDropped test (permits_in before.permits) (permits_in later.permits)
   pub deps : AreLeft test (dependencies_in before.deps) (dependencies_in later.deps)

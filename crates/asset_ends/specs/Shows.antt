@@ -1,8 +1,7 @@
 -- When the tables show a history.
-use Rattle.std.specs.Prelude.{◌≡◌, ℕ, ℤ, Bool, cond, ◌==◌, ◌&&◌, List, [], ◌∷◌, filter, reverse, Option, Some, None, option_map}
+use Rattle.std.specs.Prelude.{◌≡◌, ℕ, ℤ, Bool, cond, ◌==◌, ◌&&◌, List, [], ◌∷◌, filter, reverse, Option, option_map}
 use Rattle.asset_names.specs.declared.operations.Op.{Op}
 use Rattle.asset_names.specs.declared.statuses.End.{End}
-use Rattle.asset_names.specs.declared.statuses.End.TheVariants as End'
 use Rattle.asset_names.specs.declared.steps.Kind.{Kind}
 use Rattle.asset_names.specs.declared.steps.Step.{Step}
 use Rattle.asset_names.specs.Steps.{Opening, initiated, parent_of}
@@ -10,23 +9,16 @@ use Rattle.asset_names.specs.Endings.{dependencies, end_of, live, status}
 use Rattle.asset_names.specs.Arrows.{has_arrow}
 use Rattle.asset_names.specs.Operations.{Use, Operation, operations, opening_at, holds, permits}
 use Rattle.asset_names.specs.Operations.Use.{reads, writes}
-use Rattle.asset_objects.specs.Cells.{Cell, Cells, fresh, written}
+use Rattle.asset_objects.specs.Cells.{Cell, Cells, wrote, fresh, placed}
 use Rattle.asset_permits.specs.Descriptors.{Descriptor, one_covers}
 use Rattle.asset_deps.specs.Dependencies.{Dependency, arrows_of}
 use Rattle.asset_locks.specs.LockTable as Locks
 use Rattle.asset_trans.specs.TransRows.{NamedTransRow, names_of, status_in, parent_in}
 
--- What a write makes of an object, by how its owner ended. A committed write has nothing under it, an aborted
--- one has gone, and that of a live transaction stands over what was there before.
-unfoldable pub placed : Option End → ℕ → ℤ → Cell → Cell
-placed (Some End'.Committed) owner v cell = fresh v
-placed (Some End'.Aborted) owner v cell = cell
-placed None owner v cell = written owner v cell
-
--- what an operation makes of its object: a read leaves it
+-- what an operation makes of its object, by how its owner ended: a read leaves it
 unfoldable pub used : Option End → ℕ → Use → Cell → Cell
 used end owner reads cell = cell
-used end owner (writes v) cell = placed end owner v cell
+used end owner (writes v) cell = placed end owner (wrote v) cell
 
 -- the cell of x after the operations, newest first, over its first value; `ends` says how each transaction
 -- ended

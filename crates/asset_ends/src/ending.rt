@@ -5,12 +5,12 @@ ghost use Rattle.std.specs.List.{list_all};
 ghost use Rattle.asset_names.specs.Arrows.{lists};
 ghost use Rattle.asset_names.specs.Answers.{is_completed};
 ghost use Rattle.asset_names.specs.Endings.{is_live_status};
-ghost use Rattle.asset_objects.specs.Cells.{cells, change_each};
+ghost use Rattle.asset_objects.specs.Cells.{cells, ended, change_each};
 ghost use Rattle.asset_objects.specs.Placed.{objects_in, IsTied as AreWritesTied};
 ghost use Rattle.asset_seats.specs.Seated.{Seated, seat, HasSeat};
 ghost use Rattle.asset_deps.specs.Valid.{IsTied};
 ghost use Rattle.asset_trans.specs.TransRows.{status_in};
-ghost use Rattle.asset_ends.specs.Ended.{ended_cell, marked_by, AreEnded};
+ghost use Rattle.asset_ends.specs.Ended.{marked_by, AreEnded};
 ghost use Rattle.asset_ends.specs.Tied.{PartsAreTied};
 
 use crate::parts::Parts;
@@ -28,12 +28,12 @@ pub enum Tried {
     Wait,
 }
 
-/// Makes the writes of the transaction final, or undoes them. The transaction may leave its seat then.
+/// Makes the updates of the transaction final, or undoes them. The transaction may leave its seat then.
 fn end_writes(objects: &mut SeatedObjects, seats: &Seats, one: Sitter, how: End)
     requires tied { AreWritesTied objects.old seats.now }
     requires sits { HasSeat seats.now one }
     ensures leaves { (left : Seated) → ((c : ℕ) → seat left c ≡ cond (c == one.at) None (seat seats.now c)) → AreWritesTied objects.new left }
-    ensures cells { cells (objects_in objects.new) ≡ change_each (ended_cell how (λ n. n == one.t.0)) (cells (objects_in objects.old)) }
+    ensures cells { cells (objects_in objects.new) ≡ change_each (ended how (λ n. n == one.t.0)) (cells (objects_in objects.old)) }
 {
     match how {
         End::Committed => objects.settle(seats, one),
@@ -66,6 +66,7 @@ fn end_marked(parts: &mut Parts, how: End)
     ensures tied { PartsAreTied parts.new }
     ensures ended { AreEnded (lists (marked_by parts.old)) how parts.old parts.new }
 {
+    parts.objects.laws();
     'marked: while let Some(one) = parts.deps.next_marked_sitter(&parts.seats) {
         end_one(parts, one, how);
     }

@@ -1,11 +1,9 @@
--- Writes that become another transaction's.
-use Rattle.std.proofs.Common.{◌≡◌, ℕ, Bool, true, false, cond, eqb, ◌||◌, List, [], ◌∷◌, ◌++◌, map, get_or, Option, Some, None, refl, sym, ap, ◌∙◌}
-use Rattle.std.specs.Prelude.{ℤ}
+-- Updates that become another transaction's.
+use Rattle.std.proofs.Common.{◌≡◌, ℕ, Bool, true, false, cond, eqb, ◌||◌, List, [], ◌∷◌, map, get_or, Option, Some, None, refl, sym, ap, ◌∙◌}
+use Rattle.std.specs.Prelude.{ℤ, ◌+ℤ◌}
 use Rattle.std.specs.Option.{option_map}
 use Rattle.std.specs.List.{list_any}
 use Rattle.std.proofs.lemmas.Bool.{eqb-true, eqb-false, eq-eqb, ne_eqb}
-use Rattle.std.proofs.lemmas.List.{map-append}
-use Rattle.std.proofs.lemmas.List.Folds.{list_any-append}
 use Rattle.std.proofs.lemmas.Option.{slice_get-get_or}
 use Rattle.asset_names.specs.declared.names.Ob.{Ob}
 use Rattle.asset_names.proofs.Common.{eqb-flip}
@@ -15,44 +13,54 @@ use Rattle.asset_names.specs.InSet.{in_set, only_in}
 use Rattle.asset_names.specs.Arrows.{lists}
 use Rattle.asset_names.specs.Sets.{numbers}
 use Rattle.asset_records.specs.declared.records.Record.{Record}
-use Rattle.asset_records.specs.Listed.{on, is_of}
+use Rattle.asset_records.specs.Listed.{on, is_of, is_owned as owned, owner_of}
+use Rattle.asset_records.specs.declared.records.Record.TheVariants.{Write, Add, Lasting}
+use Rattle.asset_names.specs.declared.names.Txn.{Txn}
+use Rattle.std.specs.Int.{w64, int_wrap}
+use Rattle.asset_objects.proofs.UpdateLemmas.{handed_lasting}
 use Rattle.asset_records.specs.Handed.{renamed}
-use Rattle.asset_objects.specs.Cells.{Written, Cell, ObjectTable, cells, has_written, handed_write, handed_cell, change_where}
-use Rattle.asset_objects.specs.Placed.{base_of, write_of, writes_of, recorded_cell, value_at, cell_at, index_of, is_in, is_among, object_table}
+use Rattle.asset_objects.specs.Cells.{Cell, ObjectTable, cells, fresh, wrote, added, has_wrote, is_owned, updated, lasting, has_update, handed_update, handed_cell, change_where}
+use Rattle.asset_objects.specs.Placed.{below, base_of, stood, grown, recorded_cell, value_at, cell_at, index_of, is_in, is_among, object_table}
 use Rattle.asset_objects.proofs.PlacedLemmas.{index_reads, cells_placed}
 
 -- ---- one record
--- it keeps its before-image
-before_kept : (giver taker : ℕ) (one : Record) → (renamed giver taker one).before ≡ one.before
-unfolding renamed
-before_kept giver taker one = go (eqb one.owner.0 giver) where
-  go : (b : Bool) → (cond b (record one { owner = record { 0 = taker } }) one).before ≡ one.before
+below_renamed : (giver taker : ℕ) (value : ℤ) (one : Record) → below value (renamed giver taker one) ≡ below value one
+unfolding renamed below
+below_renamed giver taker value (Write owner before) = refl
+below_renamed giver taker value (Add owner amount) = refl
+below_renamed giver taker value (Lasting amount) = refl
+
+named : (giver taker : ℕ) (owner : Txn) → (cond (eqb owner.0 giver) (record { 0 = taker }) owner).0 ≡ cond (eqb owner.0 giver) taker owner.0
+named giver taker owner = go (eqb owner.0 giver) where
+  go : (b : Bool) → (cond b (record { 0 = taker }) owner).0 ≡ cond b taker owner.0
   go true = refl
   go false = refl
 
-write_renamed : (giver taker : ℕ) (one : Record) (value : ℤ) → write_of (renamed giver taker one) value ≡ handed_write giver taker (write_of one value)
-unfolding renamed write_of handed_write
-write_renamed giver taker one value = go (eqb one.owner.0 giver) where
-  go : (b : Bool) → write_of (cond b (record one { owner = record { 0 = taker } }) one) value ≡ cond b (record (write_of one value) { owner = taker }) (write_of one value)
-  go true = refl
-  go false = refl
+stood_renamed : (giver taker : ℕ) (one : Record) (value : ℤ) (cell : Cell) → stood (renamed giver taker one) value (handed_cell giver taker cell) ≡ handed_cell giver taker (stood one value cell)
+unfolding renamed stood updated handed_cell handed_update
+stood_renamed giver taker (Write owner before) value cell = ap (λ (n : ℕ). updated (Some n) (wrote value) (handed_cell giver taker cell)) (named giver taker owner)
+stood_renamed giver taker (Add owner amount) value cell = ap (λ (n : ℕ). updated (Some n) (added amount) (handed_cell giver taker cell)) (named giver taker owner)
+stood_renamed giver taker (Lasting amount) value cell = handed_lasting giver taker amount cell
 
 -- ---- the cell of an object
 base_renamed : (giver taker : ℕ) (records : List Record) (value : ℤ) → base_of (map (renamed giver taker) records) value ≡ base_of records value
 unfolding base_of
 base_renamed giver taker [] value = refl
-base_renamed giver taker (first ∷ later) value = before_kept giver taker first
+base_renamed giver taker (first ∷ later) value = below_renamed giver taker (base_of (map (renamed giver taker) later) value) first ∙ ap (λ (v : ℤ). below v first) (base_renamed giver taker later value)
 
-writes_renamed : (giver taker : ℕ) (records : List Record) (value : ℤ) → writes_of (map (renamed giver taker) records) value ≡ map (handed_write giver taker) (writes_of records value)
-unfolding writes_of
-writes_renamed giver taker [] value = refl
-writes_renamed giver taker (first ∷ later) value =
-    (λ i. writes_renamed giver taker later value i ++ (ap (write_of (renamed giver taker first)) (base_renamed giver taker later value) ∙ write_renamed giver taker first (base_of later value)) i ∷ [])
-    ∙ sym (map-append (handed_write giver taker) (writes_of later value) (write_of first (base_of later value) ∷ []))
+grown_renamed : (giver taker : ℕ) (cell : Cell) (records : List Record) (value : ℤ) → grown (handed_cell giver taker cell) (map (renamed giver taker) records) value ≡ handed_cell giver taker (grown cell records value)
+unfolding grown
+grown_renamed giver taker cell [] value = refl
+grown_renamed giver taker cell (first ∷ later) value =
+    ap (λ (v : ℤ). grown (stood (renamed giver taker first) v (handed_cell giver taker cell)) (map (renamed giver taker) later) value) (base_renamed giver taker later value)
+    ∙ ap (λ (c : Cell). grown c (map (renamed giver taker) later) value) (stood_renamed giver taker first (base_of later value) cell)
+    ∙ grown_renamed giver taker (stood first (base_of later value) cell) later value
 
 pub cell_renamed : (giver taker : ℕ) (records : List Record) (value : ℤ) → recorded_cell (map (renamed giver taker) records) value ≡ handed_cell giver taker (recorded_cell records value)
-unfolding recorded_cell handed_cell
-cell_renamed giver taker records value = λ i. record { base = base_renamed giver taker records value i; records = writes_renamed giver taker records value i }
+unfolding recorded_cell handed_cell fresh
+cell_renamed giver taker records value =
+    ap (λ (v : ℤ). grown (fresh v) (map (renamed giver taker) records) value) (base_renamed giver taker records value)
+    ∙ grown_renamed giver taker (fresh (base_of records value)) records value
 
 -- ---- an object by its index
 same_index : (objects : List Ob) (x y j i : ℕ) → index_of objects x ≡ Some j → index_of objects y ≡ Some i → eqb j i ≡ eqb x y
@@ -94,25 +102,45 @@ only_is (Listed (z ∷ [])) x y only = let same : z ≡ x = cc only in or_no (eq
   or_no false = refl
 only_is (Listed (z ∷ w ∷ more)) x y only = cc only
 
--- ---- who wrote
-any_written : (t : ℕ) (records : List Record) (value : ℤ) → list_any (λ (write : Written). eqb write.owner t) (writes_of records value) ≡ list_any (is_of t) records
-unfolding writes_of write_of is_of
-any_written t [] value = refl
-any_written t (first ∷ later) value =
-    list_any-append (λ (write : Written). eqb write.owner t) (writes_of later value) (write_of first (base_of later value) ∷ [])
-    ∙ ap (λ (b : Bool). b || (eqb first.owner.0 t || false)) (any_written t later value)
-    ∙ turned (list_any (λ (one : Record). eqb one.owner.0 t) later) (eqb first.owner.0 t) where
-      turned : (a b : Bool) → (a || (b || false)) ≡ (b || a)
-      turned true true = refl
-      turned true false = refl
-      turned false true = refl
-      turned false false = refl
+-- ---- who has an update
+any_lasting : (test : ℕ → Bool) (d : ℤ) (cell : Cell) → list_any (is_owned test) (lasting d cell).records ≡ list_any (is_owned test) cell.records
+unfolding lasting updated
+any_lasting test d cell = go (has_wrote cell) where
+  go : (wrote : Bool) → list_any (is_owned test) (cond wrote (updated None (added d) cell) (record cell { base = int_wrap w64 (cell.base +ℤ d) })).records ≡ list_any (is_owned test) cell.records
+  go true = refl
+  go false = refl
 
--- an object whose cell has a write of the transaction's has a record of it
-pub written_on : (objects : List Ob) (values : List ℤ) (lists : List (List Record)) (reserved : Bool) (visits : ℕ) (table : ObjectTable) (t x : ℕ) (cell : Cell) → object_table objects values lists reserved visits ≡ table → cells table x ≡ Some cell
-    → has_written t cell ≡ true → (i : ℕ) × (index_of objects x ≡ Some i) × (list_any (is_of t) (on lists i) ≡ true)
-unfolding has_written cell_at recorded_cell
-written_on objects values lists reserved visits table t x cell view there wrote = go (index_of objects x) refl where
+any_stood : (test : ℕ → Bool) (one : Record) (value : ℤ) (cell : Cell) → list_any (is_owned test) (stood one value cell).records ≡ (owned test one || list_any (is_owned test) cell.records)
+unfolding stood updated owned owner_of
+any_stood test (Write owner before) value cell = refl
+any_stood test (Add owner amount) value cell = refl
+any_stood test (Lasting amount) value cell = any_lasting test amount cell
+
+any_grown : (test : ℕ → Bool) (cell : Cell) (records : List Record) (value : ℤ) → list_any (is_owned test) (grown cell records value).records ≡ (list_any (owned test) records || list_any (is_owned test) cell.records)
+unfolding grown
+any_grown test cell [] value = refl
+any_grown test cell (first ∷ later) value =
+    any_grown test (stood first (base_of later value) cell) later value
+    ∙ ap (λ (b : Bool). list_any (owned test) later || b) (any_stood test first (base_of later value) cell)
+    ∙ turned (list_any (owned test) later) (owned test first) (list_any (is_owned test) cell.records) where
+      turned : (a b c : Bool) → (a || (b || c)) ≡ ((b || a) || c)
+      turned true true c = refl
+      turned true false c = refl
+      turned false true c = refl
+      turned false false c = refl
+
+any_updated : (t : ℕ) (records : List Record) (value : ℤ) → list_any (is_owned (λ n. eqb n t)) (recorded_cell records value).records ≡ list_any (is_of t) records
+unfolding recorded_cell fresh
+any_updated t records value = any_grown (λ n. eqb n t) (fresh (base_of records value)) records value ∙ or_no (list_any (is_of t) records) where
+  or_no : (b : Bool) → (b || false) ≡ b
+  or_no true = refl
+  or_no false = refl
+
+-- an object whose cell has an update of the transaction's has a record of it
+pub updated_on : (objects : List Ob) (values : List ℤ) (lists : List (List Record)) (reserved : Bool) (visits : ℕ) (table : ObjectTable) (t x : ℕ) (cell : Cell) → object_table objects values lists reserved visits ≡ table → cells table x ≡ Some cell
+    → has_update t cell ≡ true → (i : ℕ) × (index_of objects x ≡ Some i) × (list_any (is_of t) (on lists i) ≡ true)
+unfolding has_update cell_at
+updated_on objects values lists reserved visits table t x cell view there has = go (index_of objects x) refl where
   at : option_map (cell_at values lists) (index_of objects x) ≡ Some cell
   at = sym (cells_placed objects values lists reserved visits x) ∙ ap (λ (table : ObjectTable). cells table x) view ∙ there
 
@@ -121,7 +149,7 @@ written_on objects values lists reserved visits table t x cell view there wrote 
   go (Some i) e =
       let both : Some (cell_at values lists i) ≡ Some cell = ap (option_map (cell_at values lists)) (sym e) ∙ at in
       let is : cell_at values lists i ≡ cell = cc both in
-      (i, e, sym (any_written t (on lists i) (value_at values i)) ∙ ap (λ (c : Cell). list_any (λ (write : Written). eqb write.owner t) c.records) is ∙ wrote)
+      (i, e, sym (any_updated t (on lists i) (value_at values i)) ∙ ap (λ (c : Cell). list_any (is_owned (λ n. eqb n t)) c.records) is ∙ has)
 
 -- ---- what callers see
 pub where_handed : (test : ℕ → Bool) (giver taker : ℕ) (objects : List Ob) (values : List ℤ) (old new : List (List Record)) (reserved : Bool) (visits after : ℕ)

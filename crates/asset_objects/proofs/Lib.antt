@@ -1,3 +1,4 @@
+pub mod UpdateLemmas
 pub mod CellLemmas
 pub mod EndLemmas
 pub mod PlacedLemmas

@@ -1,13 +1,14 @@
 -- The objects by their indexes, and what callers see of them.
-use Rattle.std.proofs.Common.{◌≡◌, ℕ, ◌+◌, ◌<◌, ◌≤◌, suc, zero, Bool, true, false, cond, not, eqb, ltb, ◌||◌, List, [], ◌∷◌, ◌++◌, length, map, find, drop, get_or, set, refl, sym, ap, ◌∙◌, arith, Option, Some, None}
-use Rattle.std.specs.Prelude.{ℤ, pos, unwrap_or, slice_set, is_some}
+use Rattle.std.proofs.Common.{◌≡◌, ℕ, ◌+◌, ◌<◌, ◌≤◌, suc, zero, Bool, true, false, cond, not, eqb, ltb, ◌||◌, List, [], ◌∷◌, ◌++◌, length, map, find, drop, get_or, set, w64, refl, sym, ap, ◌∙◌, arith, Option, Some, None}
+use Rattle.std.specs.Prelude.{ℤ, pos, slice_set, is_some}
 use Rattle.std.specs.Option.{option_map}
 use Rattle.std.specs.List.{list_any, count_by, position, position_or_len}
 use Rattle.std.specs.Bool.{OnTrue}
 use Rattle.std.proofs.lemmas.Bool.{eqb-true, eqb-false, eq-eqb, ne_eqb, ltb-true, ltb-false, lt-ltb, not-true}
-use Rattle.std.proofs.lemmas.List.{append_assoc, append-nil, get_or-set_same, get_or-set_other, get_or_past, length-append, map-append}
+use Rattle.std.proofs.lemmas.List.{get_or-set_same, get_or-set_other, get_or_past, length-append, map-append}
 use Rattle.std.proofs.lemmas.List.Sums.{sum_by-cons, sum_by-drop_more}
 use Rattle.std.proofs.Math.ListN.{drop_of_length-le}
+use Rattle.std.proofs.lemmas.Int.{int_wrap_fits}
 use Rattle.asset_names.specs.declared.names.Ob.{Ob}
 use Rattle.asset_names.specs.Arrows.{lists}
 use Rattle.asset_names.specs.Sets.{numbers, HasNoDouble}
@@ -16,35 +17,25 @@ use Rattle.asset_names.specs.Operations.{opening_at}
 use Rattle.asset_names.proofs.Common.{eqb-flip}
 use Rattle.asset_names.proofs.DoubleLemmas.{no_double_push, lists_numbers}
 use Rattle.asset_records.specs.declared.records.Record.{Record}
-use Rattle.asset_records.specs.Listed.{on, ChangesOn}
+use Rattle.asset_records.specs.Listed.{on, ChangesOn, is_owned as owned}
 use Rattle.asset_records.proofs.ListedLemmas.{read_more}
-use Rattle.asset_objects.specs.Cells.{Written, Cell, ObjectTable, cells, fresh, opened, newest_or, shown, value_in, has_object, written, change_at, change_each, writes_by}
+use Rattle.asset_objects.specs.Cells.{Cell, ObjectTable, cells, fresh, opened, shown, value_in, has_object, is_owned, change_at, change_each, updates_by}
 use Rattle.asset_objects.specs.Faults.{objects_of}
 use Rattle.asset_records.specs.Listed.{records_by}
-use Rattle.asset_objects.specs.Placed.{base_of, write_of, writes_of, recorded_cell, value_at, cell_at, index_of, rows_from, object_table, IsOpened}
-use Rattle.asset_objects.proofs.CellLemmas.{owned_by, writes_count, cell_pushed}
+use Rattle.asset_objects.specs.Placed.{word, base_of, grown, recorded_cell, value_at, cell_at, index_of, rows_from, object_table, IsOpened}
+use Rattle.asset_objects.proofs.UpdateLemmas.{updates_in}
+use Rattle.asset_objects.proofs.CellLemmas.{owned_by, updates_count, shown_in_place}
 
 -- ---- a value in place
-pub value_set : (values : List ℤ) (i : ℕ) (before : ℤ) (restored : Option ℤ) → restored ≡ Some before → i < length values
-    → (j : ℕ) → value_at (slice_set values i before) j ≡ cond (eqb i j) (unwrap_or restored (value_at values j)) (value_at values j)
+pub value_set : (values : List ℤ) (i : ℕ) (value : ℤ) (new : ℤ → ℤ) → value ≡ new (value_at values i) → i < length values
+    → (j : ℕ) → value_at (slice_set values i value) j ≡ cond (eqb i j) (new (value_at values j)) (value_at values j)
 unfolding value_at
-value_set values i before restored is within j = go (eqb i j) refl where
-  go : (b : Bool) → eqb i j ≡ b → get_or (set values i before) j (pos 0) ≡ cond b (unwrap_or restored (get_or values j (pos 0))) (get_or values j (pos 0))
-  go true e = ap (λ (k : ℕ). get_or (set values i before) k (pos 0)) (sym (eqb-true i j e)) ∙ get_or-set_same values i before (pos 0) within ∙ sym (ap (λ (o : Option ℤ). unwrap_or o (get_or values j (pos 0))) is)
-  go false e = get_or-set_other values i j before (pos 0) (λ same. eqb-false i j e (sym same))
-
--- what an object shows is what is in place
-newest_in_place : (first : Record) (later : List Record) (value : ℤ) (rest : List Written) (base : ℤ) → newest_or base (writes_of (first ∷ later) value ++ rest) ≡ value
-unfolding newest_or writes_of write_of base_of
-newest_in_place first [] value rest base = refl
-newest_in_place first (next ∷ later) value rest base =
-    ap (newest_or base) (append_assoc (writes_of (next ∷ later) value) (write_of first next.before ∷ []) rest)
-    ∙ newest_in_place next later value (write_of first next.before ∷ rest) base
-
-pub shown_in_place : (records : List Record) (value : ℤ) → shown (recorded_cell records value) ≡ value
-unfolding shown recorded_cell newest_or writes_of base_of
-shown_in_place [] value = refl
-shown_in_place (first ∷ later) value = ap (newest_or first.before) (sym (append-nil (writes_of (first ∷ later) value))) ∙ newest_in_place first later value [] first.before
+value_set values i value new is within j = go (eqb i j) refl where
+  go : (b : Bool) → eqb i j ≡ b → get_or (set values i value) j (pos 0) ≡ cond b (new (get_or values j (pos 0))) (get_or values j (pos 0))
+  go true e =
+      let here : i ≡ j = eqb-true i j e in
+      ap (λ (k : ℕ). get_or (set values i value) k (pos 0)) (sym here) ∙ get_or-set_same values i value (pos 0) within ∙ is ∙ ap (λ (k : ℕ). new (get_or values k (pos 0))) here
+  go false e = get_or-set_other values i j value (pos 0) (λ same. eqb-false i j e (sym same))
 
 -- ---- an object by its index
 pub index_reads : (objects : List Ob) (x i : ℕ) → index_of objects x ≡ Some i → (i < length objects) × ((none : Ob) → (get_or objects i none).0 ≡ x)
@@ -103,26 +94,35 @@ cells_placed objects values lists reserved visits x = cells_from 0 objects value
   go None = refl
   go (Some j) = ap (λ (n : ℕ). Some (cell_at values lists n)) (omega arith)
 
--- ---- how many writes stand
-cell_writes : (test : ℕ → Bool) (values : List ℤ) (lists : List (List Record)) (i : ℕ) → count_by (λ (write : Written). test write.owner) (cell_at values lists i).records ≡ count_by (λ (one : Record). test one.owner.0) (get_or lists i [])
-unfolding cell_at recorded_cell on owned_by
-cell_writes test values lists i = writes_count test (get_or lists i []) (value_at values i)
+-- ---- how many updates stand
+cell_updates : (test : ℕ → Bool) (values : List ℤ) (lists : List (List Record)) (i : ℕ) → count_by (is_owned test) (cell_at values lists i).records ≡ owned_by test (get_or lists i [])
+unfolding cell_at on updates_in
+cell_updates test values lists i = updates_count test (get_or lists i []) (value_at values i)
 
-writes_from : (test : ℕ → Bool) (i : ℕ) (objects : List Ob) (values : List ℤ) (lists : List (List Record)) → i + length objects ≡ length lists
-    → writes_by test (rows_from i objects values lists) ≡ records_by test (drop i lists)
-unfolding writes_by rows_from records_by
-writes_from test i [] values lists many = sym (ap (records_by test) (drop_of_length-le lists (omega (arith, many))))
-writes_from test i (x ∷ xs) values lists many =
-    sum_by-cons (λ (row : ℕ × Cell). count_by (λ (write : Written). test write.owner) row.1.records) (x.0, cell_at values lists i) (rows_from (i + 1) xs values lists)
-    ∙ (λ k. cell_writes test values lists i k + writes_from test (i + 1) xs values lists (omega (arith, many)) k)
-    ∙ sym (sum_by-drop_more (λ (records : List Record). count_by (λ (one : Record). test one.owner.0) records) lists i [] (omega (arith, many)))
+updates_from : (test : ℕ → Bool) (i : ℕ) (objects : List Ob) (values : List ℤ) (lists : List (List Record)) → i + length objects ≡ length lists
+    → updates_by test (rows_from i objects values lists) ≡ records_by test (drop i lists)
+unfolding updates_by rows_from records_by owned_by
+updates_from test i [] values lists many = sym (ap (records_by test) (drop_of_length-le lists (omega (arith, many))))
+updates_from test i (x ∷ xs) values lists many =
+    sum_by-cons (λ (row : ℕ × Cell). count_by (is_owned test) row.1.records) (x.0, cell_at values lists i) (rows_from (i + 1) xs values lists)
+    ∙ (λ k. cell_updates test values lists i k + updates_from test (i + 1) xs values lists (omega (arith, many)) k)
+    ∙ sym (sum_by-drop_more (λ (records : List Record). count_by (owned test) records) lists i [] (omega (arith, many)))
 
-pub writes_placed : (test : ℕ → Bool) (objects : List Ob) (values : List ℤ) (lists : List (List Record)) (reserved : Bool) (visits : ℕ) → length lists ≡ length objects
-    → writes_by test (object_table objects values lists reserved visits).rows ≡ records_by test lists
+pub updates_placed : (test : ℕ → Bool) (objects : List Ob) (values : List ℤ) (lists : List (List Record)) (reserved : Bool) (visits : ℕ) → length lists ≡ length objects
+    → updates_by test (object_table objects values lists reserved visits).rows ≡ records_by test lists
 unfolding object_table
-writes_placed test objects values lists reserved visits many = writes_from test 0 objects values lists (omega (arith, many))
+updates_placed test objects values lists reserved visits many = updates_from test 0 objects values lists (omega (arith, many))
 
 -- ---- the table of an opening
+-- each of the values is one of 64 bits
+value_fits : (values : List ℤ) → map word values ≡ values → (i : ℕ) → word (value_at values i) ≡ value_at values i
+unfolding value_at
+value_fits [] fits i = zero_word where
+  zero_word : word (pos 0) ≡ pos 0
+  zero_word = int_wrap_fits w64 (pos 0) (omega arith)
+value_fits (v ∷ values) fits zero = cc (ap (λ (l : List ℤ). get_or l 0 (pos 0)) fits)
+value_fits (v ∷ values) fits (suc i) = value_fits values (ap (drop 1) fits) i
+
 opened_value : (opening : Opening) (x : ℕ) → option_map (value_at (map (λ (pair : Ob × ℤ). pair.1) opening)) (index_of (map (λ (pair : Ob × ℤ). pair.0) opening) x) ≡ opening_at opening x
 unfolding opening_at index_of value_at
 opened_value [] x = refl
@@ -136,11 +136,11 @@ opened_value (pair ∷ pairs) x = go (eqb pair.0.0 x) (index_of (map (λ (p : Ob
 
 pub cells_opened : (opening : Opening) (objects : List Ob) (values : List ℤ) (lists : List (List Record)) (reserved : Bool) (visits : ℕ) → IsOpened opening objects values lists
     → cells (object_table objects values lists reserved visits) ≡ opened opening
-unfolding opened fresh cell_at recorded_cell base_of writes_of
+unfolding opened fresh cell_at recorded_cell grown base_of
 cells_opened opening objects values lists reserved visits is = λ i. λ x. each x i where
   go : (x : ℕ) (o : Option ℕ) → option_map (cell_at values lists) o ≡ option_map fresh (option_map (value_at values) o)
   go x None = refl
-  go x (Some j) = ap (λ (records : List Record). Some (recorded_cell records (value_at values j))) (is.none j)
+  go x (Some j) = ap (λ (records : List Record). Some (recorded_cell records (value_at values j))) (is.none j) ∙ ap (λ (v : ℤ). Some (fresh v)) (value_fits values is.fits j)
 
   each : (x : ℕ) → cells (object_table objects values lists reserved visits) x ≡ option_map fresh (opening_at opening x)
   each x =
@@ -206,10 +206,10 @@ pub cell_found : (objects : List Ob) (values : List ℤ) (lists : List (List Rec
 cell_found objects values lists reserved visits table x view = sym (ap (λ (t : ObjectTable). cells t x) view) ∙ cells_placed objects values lists reserved visits x
 
 pub value_found : (objects : List Ob) (values : List ℤ) (lists : List (List Record)) (reserved : Bool) (visits : ℕ) (table : ObjectTable) (x : ℕ) → object_table objects values lists reserved visits ≡ table
-    → value_in (cells table) x ≡ option_map (value_at values) (index_of objects x)
+    → value_in (cells table) x ≡ option_map (λ (i : ℕ). word (value_at values i)) (index_of objects x)
 unfolding value_in cell_at
 value_found objects values lists reserved visits table x view = ap (option_map shown) (cell_found objects values lists reserved visits table x view) ∙ go (index_of objects x) where
-  go : (o : Option ℕ) → option_map shown (option_map (cell_at values lists) o) ≡ option_map (value_at values) o
+  go : (o : Option ℕ) → option_map shown (option_map (cell_at values lists) o) ≡ option_map (λ (i : ℕ). word (value_at values i)) o
   go None = refl
   go (Some j) = ap Some (shown_in_place (on lists j) (value_at values j))
 
@@ -230,19 +230,20 @@ read_value values i value within is = is ∙ go values i within where
   go (first ∷ rest) zero below = refl
   go (first ∷ rest) (suc k) below = go rest k (omega arith)
 
--- a write, object by object
-pub write_cells : (values : List ℤ) (old new : List (List Record)) (i : ℕ) (last : Record) (value : ℤ) → i < length values → last.before ≡ value_at values i → ChangesOn i (on old i ++ last ∷ []) old new
-    → (j : ℕ) → cell_at (slice_set values i value) new j ≡ cond (eqb i j) (written last.owner.0 value (cell_at values old j)) (cell_at values old j)
+-- an update, object by object: one more record on the object, and its value in place
+pub update_cells : (change : Cell → Cell) (values : List ℤ) (old new : List (List Record)) (i : ℕ) (last : Record) (value : ℤ) → i < length values
+    → ((records : List Record) → recorded_cell (records ++ last ∷ []) value ≡ change (recorded_cell records (value_at values i))) → ChangesOn i (on old i ++ last ∷ []) old new
+    → (j : ℕ) → cell_at (slice_set values i value) new j ≡ cond (eqb i j) (change (cell_at values old j)) (cell_at values old j)
 unfolding cell_at value_at ChangesOn
-write_cells values old new i last value within before changes j = go (eqb i j) refl where
-  go : (b : Bool) → eqb i j ≡ b → recorded_cell (on new j) (get_or (set values i value) j (pos 0)) ≡ cond b (written last.owner.0 value (recorded_cell (on old j) (get_or values j (pos 0)))) (recorded_cell (on old j) (get_or values j (pos 0)))
+update_cells change values old new i last value within pushed changes j = go (eqb i j) refl where
+  go : (b : Bool) → eqb i j ≡ b → recorded_cell (on new j) (get_or (set values i value) j (pos 0)) ≡ cond b (change (recorded_cell (on old j) (get_or values j (pos 0)))) (recorded_cell (on old j) (get_or values j (pos 0)))
   go true e =
       let here : i ≡ j = eqb-true i j e in
       let now : on new j ≡ on old j ++ last ∷ [] = changes.1 j ∙ ap (λ (b : Bool). cond b (on old i ++ last ∷ []) (on old j)) e ∙ ap (λ (k : ℕ). on old k ++ last ∷ []) here in
       let put : get_or (set values i value) j (pos 0) ≡ value = ap (λ (k : ℕ). get_or (set values i value) k (pos 0)) (sym here) ∙ get_or-set_same values i value (pos 0) within in
       (λ k. recorded_cell (now k) (put k))
-      ∙ cell_pushed (on old j) last value
-      ∙ ap (λ (v : ℤ). written last.owner.0 value (recorded_cell (on old j) v)) (before ∙ ap (λ (k : ℕ). get_or values k (pos 0)) here)
+      ∙ pushed (on old j)
+      ∙ ap (λ (k : ℕ). change (recorded_cell (on old j) (get_or values k (pos 0)))) here
   go false e =
       let now : on new j ≡ on old j = changes.1 j ∙ ap (λ (b : Bool). cond b (on old i ++ last ∷ []) (on old j)) e in
       λ k. recorded_cell (now k) (get_or-set_other values i j value (pos 0) (λ same. eqb-false i j e (sym same)) k)
@@ -255,9 +256,9 @@ pub visits_shown : (objects : List Ob) (values : List ℤ) (lists : List (List R
 unfolding object_table
 visits_shown objects values lists reserved visits table view = ap (λ (t : ObjectTable). t.visits) view
 
-pub writes_shown : (test : ℕ → Bool) (objects : List Ob) (values : List ℤ) (lists : List (List Record)) (reserved : Bool) (visits : ℕ) (table : ObjectTable) → object_table objects values lists reserved visits ≡ table
-    → length lists ≡ length objects → writes_by test table.rows ≡ records_by test lists
-writes_shown test objects values lists reserved visits table view many = sym (ap (λ (t : ObjectTable). writes_by test t.rows) view) ∙ writes_placed test objects values lists reserved visits many
+pub updates_shown : (test : ℕ → Bool) (objects : List Ob) (values : List ℤ) (lists : List (List Record)) (reserved : Bool) (visits : ℕ) (table : ObjectTable) → object_table objects values lists reserved visits ≡ table
+    → length lists ≡ length objects → updates_by test table.rows ≡ records_by test lists
+updates_shown test objects values lists reserved visits table view many = sym (ap (λ (t : ObjectTable). updates_by test t.rows) view) ∙ updates_placed test objects values lists reserved visits many
 
 -- ---- an opening, pair by pair
 on_past : (lists : List (List Record)) (i : ℕ) → length lists ≤ i → on lists i ≡ []
@@ -272,6 +273,7 @@ pub opened_nothing : (objects : List Ob) (values : List ℤ) (lists : List (List
 opened_nothing objects values lists no_objects no_values no_lists = record {
   named = no_objects;
   valued = no_values;
+  fits = ap (map word) no_values ∙ sym no_values;
   many = ap length no_lists;
   none = λ i. ap (λ (some : List (List Record)). on some i) no_lists ∙ past i;
 } where
@@ -279,10 +281,11 @@ opened_nothing objects values lists no_objects no_values no_lists = record {
   past i = on_past [] i (omega arith)
 
 pub opened_more : (opening : Opening) (pair : Ob × ℤ) (objects more : List Ob) (values grown : List ℤ) (lists longer : List (List Record)) → IsOpened opening objects values lists → more ≡ objects ++ pair.0 ∷ [] → grown ≡ values ++ pair.1 ∷ []
-    → longer ≡ lists ++ [] ∷ [] → IsOpened (opening ++ pair ∷ []) more grown longer
-opened_more opening pair objects more values grown lists longer is object value list = record {
+    → longer ≡ lists ++ [] ∷ [] → word pair.1 ≡ pair.1 → IsOpened (opening ++ pair ∷ []) more grown longer
+opened_more opening pair objects more values grown lists longer is object value list fits = record {
   named = object ∙ ap (λ (some : List Ob). some ++ pair.0 ∷ []) is.named ∙ sym (map-append (λ (p : Ob × ℤ). p.0) opening (pair ∷ []));
   valued = value ∙ ap (λ (some : List ℤ). some ++ pair.1 ∷ []) is.valued ∙ sym (map-append (λ (p : Ob × ℤ). p.1) opening (pair ∷ []));
+  fits = ap (map word) value ∙ map-append word values (pair.1 ∷ []) ∙ (λ i. is.fits i ++ fits i ∷ []) ∙ sym value;
   many = omega (arith, is.many, ap length list, length-append lists ([] ∷ []), length-append opening (pair ∷ []));
   none = λ i. ap (λ (some : List (List Record)). on some i) list ∙ on_more lists i ∙ is.none i;
 }

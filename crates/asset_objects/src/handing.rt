@@ -1,4 +1,4 @@
-//! The writes of one transaction become another's.
+//! The updates of one transaction become another's.
 
 ghost use Rattle.std.specs.Prelude.{◌≡◌, ℕ, ◌==◌, ◌≤◌, ◌*◌, cond, true, false, length, map, Some};
 ghost use Rattle.std.specs.List.{list_any};

@@ -1,6 +1,6 @@
-//! The table of objects: the current values, and the update records by which writes are undone. A table is
-//! opened with the objects that exist. `write` uses room that `reserve_write` reserved before; `undo` and
-//! `settle` do not allocate, and touch only the records that go and those beside them. `hand_over` makes writes
+//! The table of objects: the current values, and the update records by which writes and adds are undone. A table is
+//! opened with the objects that exist. `write` and `add` use room that `reserve_write` reserved before; `undo` and
+//! `settle` do not allocate, and touch only the records that go and those beside them. `hand_over` makes updates
 //! another transaction's, and does not allocate either. `SeatedObjects` is asked by seat, and `Objects` by name.
 #![tactic(auto)]
 

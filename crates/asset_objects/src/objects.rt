@@ -7,11 +7,11 @@ use asset_seats::Seats;
 use std::alloc::Global;
 use std::marker::Model;
 
-/// The objects with their values, and an update record of each write that may still be undone, asked by name. Contracts see
-/// each object as its base and the writes that stand over it, newest first. Its value is that of the newest
-/// write, or the base if there is none.
+/// The objects with their values, and an update record of each write and add that may still be undone, asked by name. Contracts
+/// see each object as its base and the updates that stand over it, newest first. Its value is the base with the updates in
+/// order.
 ///
-/// Each transaction with a write has a seat, by which the table is asked. Once there is a record, there are more seats than
+/// Each transaction with an update has a seat, by which the table is asked. Once there is a record, there are more seats than
 /// records, so that a hand-over finds one for the taker.
 #[derive(Drop)]
 pub struct Objects {
@@ -34,10 +34,10 @@ impl Objects {
     ghost use Rattle.std.specs.Prelude.{◌≡◌, ℕ, ◌==◌, ◌≤◌, ◌+◌, ◌*◌, true, false, Some, is_some, length, IfOk, IfErr, IsOk, OnOk, OnErr};
     ghost use Rattle.asset_names.specs.Sets.{HasNoDouble};
     ghost use Rattle.asset_names.specs.InSet.{in_set};
-    ghost use Rattle.asset_objects.specs.Cells.{Cell, cells, opened, value_in, has_object, has_written, written, undone, settled, handed_cell, change_at, change_each, change_where, writes_by, standing};
+    ghost use Rattle.asset_objects.specs.Cells.{Cell, cells, opened, value_in, has_object, has_update, written, increased, undone, settled, handed_cell, change_at, change_each, change_where, updates_by, standing};
     ghost use Rattle.asset_objects.specs.Faults.{objects_of, IsObjectsFault};
 
-    /// Returns the objects at their opening values, with no write yet.
+    /// Returns the objects at their opening values, with no update yet.
     ///
     /// It answers `DoubleObject` with the least object that is given twice; otherwise `NoMemory` if memory runs out.
     pub fn open(alloc: Global, opening: &[(Ob, i64)]) -> Result<Objects, ObjectsFault>
@@ -51,7 +51,7 @@ impl Objects {
         Ok(Objects { seats, table })
     }
 
-    /// Returns the objects at their opening values, with no write yet, for a caller who knows that none is given
+    /// Returns the objects at their opening values, with no update yet, for a caller who knows that none is given
     /// twice. If memory runs out, it answers at once, while `open` first compares each pair of objects.
     pub fn open_distinct(alloc: Global, opening: &[(Ob, i64)]) -> Result<Objects, NoMemory>
         requires distinct { HasNoDouble (objects_of opening.now) }
@@ -71,7 +71,7 @@ impl Objects {
         self.table.value(x)
     }
 
-    /// Reserves the memory for one more write. The reservation stands until that write.
+    /// Reserves the memory for one more write or add. The reservation stands until then.
     ///
     /// If memory runs out, nothing changes. A reservation that stands already is answered Ok.
     pub fn reserve_write(&mut self) -> Result<(), NoMemory>
@@ -98,11 +98,24 @@ impl Objects {
         self.table.write(&self.seats, owner, x, v);
     }
 
-    /// Takes back the writes of the transaction: each object is as it would be without them. It touches the
-    /// records of the transaction and those beside them.
+    /// Adds the amount to the object, which exists: its value is the sum, which wraps to 64 bits. It uses the memory that
+    /// `reserve_write` reserved. Other objects do not change.
+    pub fn add(&mut self, t: Txn, x: Ob, amount: i64)
+        requires exists { has_object (cells self.old) x.0 ≡ true }
+        requires reserved { self.old.reserved ≡ true }
+        ensures cells { cells self.new ≡ change_at x.0 (increased t.0 amount) (cells self.old) }
+        ensures reserved { self.new.reserved ≡ false }
+        ensures visits { self.new.visits ≡ self.old.visits }
+    {
+        let owner = seat_for(&mut self.seats, &self.table, t);
+        self.table.add(&self.seats, owner, x, amount);
+    }
+
+    /// Takes back the updates of the transaction: each object is as it would be without them. It touches the records of the
+    /// transaction and those beside them, and looks at the adds over them.
     pub fn undo(&mut self, t: Txn)
         ensures cells { cells self.new ≡ change_each (undone (λ n. n == t.0)) (cells self.old) }
-        ensures visits { self.new.visits ≤ 4 * writes_by (λ n. n == t.0) self.old.rows }
+        ensures visits { self.new.visits ≤ 4 * updates_by (λ n. n == t.0) self.old.rows }
         ensures reserved { self.old.reserved ≡ true → self.new.reserved ≡ true }
     {
         match writer(&self.seats, &self.table, t) {
@@ -114,8 +127,9 @@ impl Objects {
         }
     }
 
-    /// Makes the writes of the transaction final: on each object the newest of them becomes the base, and its
-    /// record is dropped together with all before it. It touches the records that go and those beside them.
+    /// Makes the updates of the transaction final: on each object the newest write becomes the base, and its record is dropped
+    /// together with all before it; an add after it becomes part of the base, or an update of nobody over a write that may still
+    /// go. It touches the records that go and those beside them.
     pub fn settle(&mut self, t: Txn)
         ensures cells { cells self.new ≡ change_each (settled (λ n. n == t.0)) (cells self.old) }
         ensures visits { self.new.visits + 4 * standing self.new.rows ≤ 4 * standing self.old.rows }
@@ -130,15 +144,15 @@ impl Objects {
         }
     }
 
-    /// Makes the giver's writes on the objects of the set the taker's. No value changes, and nothing else does. Both may be
+    /// Makes the giver's updates on the objects of the set the taker's. No value changes, and nothing else does. Both may be
     /// one, which changes nothing.
     ///
     /// It takes no memory. It looks at the giver's records, and at those beside the ones that change; for a set that lists
     /// one object, at the records on it if they are fewer. It looks at each seat if the taker has none and none is free.
     pub fn hand_over(&mut self, giver: Txn, taker: Txn, objects: &ObSet)
         ensures cells { cells self.new ≡ change_where (in_set objects.now) (handed_cell giver.0 taker.0) (cells self.old) }
-        ensures counted { (taker.0 == giver.0) ≡ false → (x : ℕ) (cell : Cell) → cells self.old x ≡ Some cell → in_set objects.now x ≡ true → has_written giver.0 cell ≡ true → 1 ≤ self.new.visits }
-        ensures visits { self.new.visits ≤ 4 * writes_by (λ n. n == giver.0) self.old.rows }
+        ensures counted { (taker.0 == giver.0) ≡ false → (x : ℕ) (cell : Cell) → cells self.old x ≡ Some cell → in_set objects.now x ≡ true → has_update giver.0 cell ≡ true → 1 ≤ self.new.visits }
+        ensures visits { self.new.visits ≤ 4 * updates_by (λ n. n == giver.0) self.old.rows }
         ensures reserved { self.old.reserved ≡ true → self.new.reserved ≡ true }
     {
         match writer(&self.seats, &self.table, giver) {

@@ -28,6 +28,7 @@ impl Placed {
     ghost use Rattle.std.specs.Bool.{OnTrue};
     ghost use Rattle.asset_names.specs.Arrows.{lists};
     ghost use Rattle.asset_names.specs.Sets.{numbers};
+    ghost use Rattle.asset_objects.specs.Placed.{word};
 
     /// Adds an object with its value and no record; returns whether it was added. It is not if it is there already or
     /// memory runs out.
@@ -35,6 +36,7 @@ impl Placed {
         ensures objects { OnTrue result (self.new.objects.keys ≡ self.old.objects.keys ++ x ∷ []) }
         ensures values { OnTrue result (self.new.values.items ≡ self.old.values.items ++ value ∷ []) }
         ensures records { OnTrue result (lists_in self.new.records ≡ lists_in self.old.records ++ [] ∷ []) }
+        ensures fits { OnTrue result (word value ≡ value) }
         ensures tied { (seats : Seated) → IsTied self.old.records seats → IsTied self.new.records seats }
         ensures few { IsNoMore self.old.records self.new.records }
         ensures different { OnTrue result (lists (numbers self.old.objects.keys) x.0 ≡ false) }

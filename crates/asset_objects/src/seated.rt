@@ -3,15 +3,15 @@
 use crate::placed::{Placed, place_all};
 use crate::{ending, handing};
 use asset_names::{NoMemory, Ob, ObSet, Txn, least_double};
+use asset_records::Change;
 use asset_seats::{Seats, Sitter};
 use std::alloc::Global;
 use std::marker::Model;
 use thiserror::Error;
 
-/// The objects with their values, and an update record of each write that may still be undone, asked by seat. The seats are
-/// kept elsewhere: each call takes them, and requires that the table is tied to them. `objects_in` says which objects are
-/// shown: each as its base and the writes that stand over it, newest first. Its value is that of the newest write, or the
-/// base if there is none.
+/// The objects with their values, and an update record of each write and add that may still be undone, asked by seat. The seats
+/// are kept elsewhere: each call takes them, and requires that the table is tied to them. `objects_in` says which objects are
+/// shown: each as its base and the updates that stand over it, newest first. Its value is the base with the updates in order.
 #[derive(Drop)]
 pub struct SeatedObjects {
     placed: Placed,
@@ -45,16 +45,17 @@ impl SeatedObjects {
     ghost use Rattle.slab.specs.Slab.{slab_len};
     ghost use Rattle.asset_chains.specs.Chained.{chain_of, first_of};
     ghost use Rattle.asset_names.specs.declared.names.Txn.{Txn as Name};
+    ghost use Rattle.asset_names.specs.declared.statuses.End.{End};
     ghost use Rattle.asset_names.specs.Steps.{Opening};
     ghost use Rattle.asset_names.specs.Sets.{HasNoDouble};
     ghost use Rattle.asset_names.specs.InSet.{in_set};
     ghost use Rattle.asset_seats.specs.Seated.{Seated, seat, HasSeat};
-    ghost use Rattle.asset_records.specs.Listed.{lists_in, HasNone, IsNoMore};
-    ghost use Rattle.asset_objects.specs.Cells.{Cell, cells, opened, value_in, has_object, has_written, written, undone, settled, handed_cell, change_at, change_each, change_where, writes_by, standing};
+    ghost use Rattle.asset_records.specs.Listed.{lists_in, seat_column, HasNone, IsNoMore};
+    ghost use Rattle.asset_objects.specs.Cells.{Cell, cells, opened, value_in, has_object, has_update, written, increased, ended, undone, settled, handed_cell, change_at, change_each, change_where, updates_by, standing};
     ghost use Rattle.asset_objects.specs.Placed.{objects_in, IsOpened, IsTied, HasRoom};
     ghost use Rattle.asset_objects.specs.Faults.{objects_of, IsObjectsFault};
 
-    /// Returns the objects at their opening values, with no write yet.
+    /// Returns the objects at their opening values, with no update yet.
     ///
     /// It answers `DoubleObject` with the least object that is given twice; otherwise `NoMemory` if memory runs out.
     pub fn open(alloc: Global, opening: &[(Ob, i64)]) -> Result<SeatedObjects, ObjectsFault>
@@ -71,7 +72,7 @@ impl SeatedObjects {
         }
     }
 
-    /// Returns the objects at their opening values, with no write yet, for a caller who knows that none is given
+    /// Returns the objects at their opening values, with no update yet, for a caller who knows that none is given
     /// twice. If memory runs out, it answers at once, while `open` first compares each pair of objects.
     pub fn open_distinct(alloc: Global, opening: &[(Ob, i64)]) -> Result<SeatedObjects, NoMemory>
         requires distinct { HasNoDouble (objects_of opening.now) }
@@ -102,7 +103,7 @@ impl SeatedObjects {
         }
     }
 
-    /// Makes room for the writes of the one who is given the seat. If memory runs out, nothing that callers see changes.
+    /// Makes room for the updates of the one who is given the seat. If memory runs out, nothing that callers see changes.
     pub fn make_room(&mut self, c: usize) -> Result<(), NoMemory>
         ensures room { OnOk result (HasRoom self.new c) }
         ensures shown { objects_in self.new ≡ objects_in self.old }
@@ -121,7 +122,7 @@ impl SeatedObjects {
         Some(self.placed.values[i])
     }
 
-    /// Reserves the memory for one more write. The reservation stands until that write.
+    /// Reserves the memory for one more write or add. The reservation stands until then.
     ///
     /// If memory runs out, nothing that callers see changes. A reservation that stands already is answered Ok.
     pub fn reserve_write(&mut self) -> Result<(), NoMemory>
@@ -157,19 +158,42 @@ impl SeatedObjects {
         let i = self.placed.objects.get_index_of(&x).unwrap();
         let before = self.placed.values[i];
         self.placed.values[i] = v;
-        self.placed.records.push(seats, owner, i, before);
+        let change = Change::Wrote { before };
+        self.placed.records.push(seats, owner, i, change);
         self.reserved = false;
     }
 
-    /// Takes back the writes of the transaction: each object is as it would be without them. It touches the
-    /// records of the transaction and those beside them. The transaction may leave its seat then.
+    /// Adds the amount to the object, which exists: its value is the sum, which wraps to 64 bits. It uses the memory that
+    /// `reserve_write` reserved. Other objects do not change.
+    pub fn add(&mut self, seats: &Seats, owner: Sitter, x: Ob, amount: i64)
+        requires tied { IsTied self.old seats.now }
+        requires sits { HasSeat seats.now owner }
+        requires exists { has_object (cells (objects_in self.old)) x.0 ≡ true }
+        requires reserved { self.old.reserved ≡ true }
+        ensures tied { IsTied self.new seats.now }
+        ensures cells { cells (objects_in self.new) ≡ change_at x.0 (increased owner.t.0 amount) (cells (objects_in self.old)) }
+        ensures len { slab_len self.new.records.items ≡ slab_len self.old.records.items + 1 }
+        ensures columns { length self.new.records.columns.chains ≡ length self.old.records.columns.chains }
+        ensures visits { self.new.visits ≡ self.old.visits }
+        ensures reserved { self.new.reserved ≡ false }
+    {
+        let i = self.placed.objects.get_index_of(&x).unwrap();
+        let before = self.placed.values[i];
+        self.placed.values[i] = before.wrapping_add(amount);
+        let change = Change::Added { amount };
+        self.placed.records.push(seats, owner, i, change);
+        self.reserved = false;
+    }
+
+    /// Takes back the updates of the transaction: each object is as it would be without them. It touches the records of the
+    /// transaction and those beside them, and looks at the adds over them. The transaction may leave its seat then.
     pub fn undo(&mut self, seats: &Seats, t: Sitter)
         requires tied { IsTied self.old seats.now }
         requires sits { HasSeat seats.now t }
         ensures tied { IsTied self.new seats.now }
         ensures leaves { (left : Seated) → ((c : ℕ) → seat left c ≡ cond (c == t.at) None (seat seats.now c)) → IsTied self.new left }
         ensures cells { cells (objects_in self.new) ≡ change_each (undone (λ n. n == t.t.0)) (cells (objects_in self.old)) }
-        ensures visits { self.new.visits ≤ 4 * writes_by (λ n. n == t.t.0) (objects_in self.old).rows }
+        ensures visits { self.new.visits ≤ 4 * updates_by (λ n. n == t.t.0) (objects_in self.old).rows }
         ensures reserved { self.new.reserved ≡ self.old.reserved }
         ensures few { IsNoMore self.old.records self.new.records }
     {
@@ -178,9 +202,9 @@ impl SeatedObjects {
         self.placed.records.may_leave(seats, t);
     }
 
-    /// Makes the writes of the transaction final: on each object the newest of them becomes the base, and its
-    /// record is dropped together with all before it. It touches the records that go and those beside them. The transaction
-    /// may leave its seat then.
+    /// Makes the updates of the transaction final: on each object the newest write becomes the base, and its record is dropped
+    /// together with all before it; an add after it becomes part of the base, or an update of nobody over a write that may still
+    /// go. It touches the records that go and those beside them. The transaction may leave its seat then.
     pub fn settle(&mut self, seats: &Seats, t: Sitter)
         requires tied { IsTied self.old seats.now }
         requires sits { HasSeat seats.now t }
@@ -196,7 +220,7 @@ impl SeatedObjects {
         self.placed.records.may_leave(seats, t);
     }
 
-    /// Makes the giver's writes on the objects of the set the taker's. No value changes, and nothing else does. Both may be
+    /// Makes the giver's updates on the objects of the set the taker's. No value changes, and nothing else does. Both may be
     /// one, which changes nothing.
     ///
     /// It takes no memory. It looks at the giver's records, and at those beside the ones that change; for a set that lists
@@ -207,8 +231,8 @@ impl SeatedObjects {
         requires taker { HasSeat seats.now taker }
         ensures tied { IsTied self.new seats.now }
         ensures cells { cells (objects_in self.new) ≡ change_where (in_set objects.now) (handed_cell giver.t.0 taker.t.0) (cells (objects_in self.old)) }
-        ensures counted { (taker.t.0 == giver.t.0) ≡ false → (x : ℕ) (cell : Cell) → cells (objects_in self.old) x ≡ Some cell → in_set objects.now x ≡ true → has_written giver.t.0 cell ≡ true → 1 ≤ self.new.visits }
-        ensures visits { self.new.visits ≤ 4 * writes_by (λ n. n == giver.t.0) (objects_in self.old).rows }
+        ensures counted { (taker.t.0 == giver.t.0) ≡ false → (x : ℕ) (cell : Cell) → cells (objects_in self.old) x ≡ Some cell → in_set objects.now x ≡ true → has_update giver.t.0 cell ≡ true → 1 ≤ self.new.visits }
+        ensures visits { self.new.visits ≤ 4 * updates_by (λ n. n == giver.t.0) (objects_in self.old).rows }
         ensures reserved { self.new.reserved ≡ self.old.reserved }
         ensures few { IsNoMore self.old.records self.new.records }
     {
@@ -217,16 +241,16 @@ impl SeatedObjects {
         self.visits = handing::hand_over(&placed.objects, records, seats, giver, taker, objects);
     }
 
-    /// Passes over a transaction that has no write: an end or a hand-over of it changes nothing, and visits no record.
+    /// Passes over a transaction that has no update: an end or a hand-over of it changes nothing, and visits no record.
     pub(crate) fn pass_over(&mut self, seats: &Seats, t: Txn)
         requires tied { IsTied self.old seats.now }
-        requires none { (c : ℕ) → seat seats.now c ≡ Some t → first_of (chain_of self.old.records.columns c) ≡ None }
+        requires none { (c : ℕ) → seat seats.now c ≡ Some t → first_of (chain_of self.old.records.columns (seat_column c)) ≡ None }
         ensures records { self.new.records ≡ self.old.records }
         ensures undone { cells (objects_in self.new) ≡ change_each (undone (λ n. n == t.0)) (cells (objects_in self.old)) }
         ensures settled { cells (objects_in self.new) ≡ change_each (settled (λ n. n == t.0)) (cells (objects_in self.old)) }
         ensures handed { (test : ℕ → Bool) (taker : ℕ) → cells (objects_in self.new) ≡ change_where test (handed_cell t.0 taker) (cells (objects_in self.old)) }
         ensures standing { standing (objects_in self.new).rows ≡ standing (objects_in self.old).rows }
-        ensures nothing { (x : ℕ) (cell : Cell) → cells (objects_in self.old) x ≡ Some cell → has_written t.0 cell ≡ false }
+        ensures nothing { (x : ℕ) (cell : Cell) → cells (objects_in self.old) x ≡ Some cell → has_update t.0 cell ≡ false }
         ensures reserved { self.new.reserved ≡ self.old.reserved }
         ensures visits { self.new.visits ≡ 0 }
     {
@@ -234,18 +258,18 @@ impl SeatedObjects {
         self.visits = 0;
     }
 
-    /// Says that no more transactions have a write than there are records, for proofs. It does nothing.
+    /// Says that no more transactions have an update than there are records, for proofs. It does nothing.
     pub(crate) fn few_seats(&self)
-        ensures some { (c : ℕ) → is_none (first_of (chain_of self.now.records.columns c)) ≡ false → 1 ≤ slab_len self.now.records.items }
-        ensures few { (n : ℕ) → ((c : ℕ) → c < n → is_none (first_of (chain_of self.now.records.columns c)) ≡ false) → n ≤ slab_len self.now.records.items }
+        ensures some { (c : ℕ) → is_none (first_of (chain_of self.now.records.columns (seat_column c))) ≡ false → 1 ≤ slab_len self.now.records.items }
+        ensures few { (n : ℕ) → ((c : ℕ) → c < n → is_none (first_of (chain_of self.now.records.columns (seat_column c))) ≡ false) → n ≤ slab_len self.now.records.items }
     {
         self.placed.records.few_columns();
     }
 
-    /// Says that one who has no write may leave its seat, for proofs. It does nothing.
+    /// Says that one who has no update may leave its seat, for proofs. It does nothing.
     pub(crate) fn may_clear(&self, seats: &Seats)
         requires { IsTied self.now seats.now }
-        ensures left { (left : Seated) (at : ℕ) → is_none (first_of (chain_of self.now.records.columns at)) ≡ true → ((c : ℕ) → seat left c ≡ cond (c == at) None (seat seats.now c)) → IsTied self.now left }
+        ensures left { (left : Seated) (at : ℕ) → is_none (first_of (chain_of self.now.records.columns (seat_column at))) ≡ true → ((c : ℕ) → seat left c ≡ cond (c == at) None (seat seats.now c)) → IsTied self.now left }
     {
         self.placed.records.may_clear(seats);
     }
@@ -256,6 +280,13 @@ impl SeatedObjects {
         ensures sits { (given : Seated) (at : ℕ) (t : Name) → seat seats.now at ≡ None → HasRoom self.now at → ((c : ℕ) → seat given c ≡ cond (c == at) (Some t) (seat seats.now c)) → IsTied self.now given }
     {
         self.placed.records.may_sit(seats);
+    }
+
+    /// Says that an end of nobody changes nothing, for proofs. It does nothing.
+    pub fn laws(&self)
+        ensures { (how : End) → change_each (ended how (λ n. false)) (cells (objects_in self.now)) ≡ cells (objects_in self.now) }
+    {
+        let _ = &self.placed;
     }
 
     /// Returns how many records the last `undo`, `settle` or `hand_over` visited: each one that it looked at or that went,
@@ -273,9 +304,9 @@ impl SeatedObjects {
         self.placed.records.len()
     }
 
-    /// Returns whether the one who has the seat, if anybody has it, has no write.
+    /// Returns whether the one who has the seat, if anybody has it, has no update.
     pub(crate) fn is_unused(&self, c: usize) -> bool
-        ensures { result ≡ is_none (first_of (chain_of self.now.records.columns c)) }
+        ensures { result ≡ is_none (first_of (chain_of self.now.records.columns (seat_column c))) }
     {
         self.placed.records.is_unused(c)
     }

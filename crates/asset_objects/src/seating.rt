@@ -1,21 +1,21 @@
-//! Seats for those who write, by name.
+//! Seats for those who write or add, by name.
 
 ghost use Rattle.std.specs.Prelude.{◌≡◌, ℕ, ◌+◌, ◌<◌, ◌≤◌, true, false, None, Some, is_none, length, IfSome, IfNone, IsOk, OnOk};
 ghost use Rattle.slab.specs.Slab.{slab_len};
 ghost use Rattle.asset_names.specs.declared.names.Txn.{Txn as Name};
 ghost use Rattle.asset_chains.specs.Chained.{chain_of, first_of};
 ghost use Rattle.asset_seats.specs.Seated.{seat, HasSeat};
-ghost use Rattle.asset_records.specs.Listed.{IsNoMore};
-ghost use Rattle.asset_objects.specs.Placed.{objects_in, IsTied};
+ghost use Rattle.asset_records.specs.Listed.{seat_column, IsNoMore};
+ghost use Rattle.asset_objects.specs.Placed.{objects_in, IsTied, HasRoom};
 
 use crate::seated::SeatedObjects;
 use asset_names::{NoMemory, Txn};
 use asset_seats::{Seats, Sitter};
 
-/// Returns the transaction with its seat if it has a write, and `None` otherwise.
+/// Returns the transaction with its seat if it has an update, and `None` otherwise.
 pub(crate) fn writer(seats: &Seats, table: &SeatedObjects, t: Txn) -> Option<Sitter>
-    ensures found { IfSome result (λ one. HasSeat seats.now one × (one.t ≡ t) × (is_none (first_of (chain_of table.now.records.columns one.at)) ≡ false)) }
-    ensures none { IfNone result ((c : ℕ) → seat seats.now c ≡ Some t → first_of (chain_of table.now.records.columns c) ≡ None) }
+    ensures found { IfSome result (λ one. HasSeat seats.now one × (one.t ≡ t) × (is_none (first_of (chain_of table.now.records.columns (seat_column one.at))) ≡ false)) }
+    ensures none { IfNone result ((c : ℕ) → seat seats.now c ≡ Some t → first_of (chain_of table.now.records.columns (seat_column c)) ≡ None) }
 {
     let at = seats.seat_of(t)?;
     if table.is_unused(at) {
@@ -29,7 +29,7 @@ pub(crate) fn writer(seats: &Seats, table: &SeatedObjects, t: Txn) -> Option<Sit
 fn first_unused(table: &SeatedObjects, seats: usize) -> usize
     requires { slab_len table.now.records.items < seats }
     ensures within { result < seats }
-    ensures unused { is_none (first_of (chain_of table.now.records.columns result)) ≡ true }
+    ensures unused { is_none (first_of (chain_of table.now.records.columns (seat_column result))) ≡ true }
 {
     table.few_seats();
     'seats: for c in 0..seats {
@@ -45,7 +45,7 @@ fn first_unused(table: &SeatedObjects, seats: usize) -> usize
 fn unused(seats: &Seats, table: &SeatedObjects) -> usize
     requires { slab_len table.now.records.items < length seats.now.slots }
     ensures within { result < length seats.now.slots }
-    ensures unused { is_none (first_of (chain_of table.now.records.columns result)) ≡ true }
+    ensures unused { is_none (first_of (chain_of table.now.records.columns (seat_column result))) ≡ true }
 {
     let next = seats.vacant();
     if next < seats.seats() && table.is_unused(next) {
@@ -54,14 +54,14 @@ fn unused(seats: &Seats, table: &SeatedObjects) -> usize
     first_unused(table, seats.seats())
 }
 
-/// Makes sure that a seat is free: if none is, one whose transaction has no write any more leaves its seat.
+/// Makes sure that a seat is free: if none is, one whose transaction has no update any more leaves its seat.
 fn free_seat(seats: &mut Seats, table: &SeatedObjects)
     requires tied { IsTied table.now seats.old }
     requires spare { slab_len table.now.records.items < length seats.old.slots }
     ensures tied { IsTied table.now seats.new }
     ensures room { seats.new.has_room ≡ true }
     ensures nobody { (c : ℕ) (t : Name) → seat seats.new c ≡ Some t → seat seats.old c ≡ Some t }
-    ensures kept { (c : ℕ) → is_none (first_of (chain_of table.now.records.columns c)) ≡ false → seat seats.new c ≡ seat seats.old c }
+    ensures kept { (c : ℕ) → is_none (first_of (chain_of table.now.records.columns (seat_column c))) ≡ false → seat seats.new c ≡ seat seats.old c }
     ensures slots { length seats.new.slots ≡ length seats.old.slots }
 {
     let c = unused(seats, table);
@@ -75,10 +75,10 @@ fn free_seat(seats: &mut Seats, table: &SeatedObjects)
 pub(crate) fn seat_for(seats: &mut Seats, table: &SeatedObjects, t: Txn) -> Sitter
     requires tied { IsTied table.now seats.old }
     requires spare { slab_len table.now.records.items < length seats.old.slots }
-    requires columns { length seats.old.slots ≤ length table.now.records.columns.chains }
+    requires columns { (c : ℕ) → c < length seats.old.slots → HasRoom table.now c }
     ensures tied { IsTied table.now seats.new }
     ensures sits { HasSeat seats.new result × (result.t ≡ t) }
-    ensures kept { (c : ℕ) (u : Name) → is_none (first_of (chain_of table.now.records.columns c)) ≡ false → seat seats.old c ≡ Some u → seat seats.new c ≡ Some u }
+    ensures kept { (c : ℕ) (u : Name) → is_none (first_of (chain_of table.now.records.columns (seat_column c))) ≡ false → seat seats.old c ≡ Some u → seat seats.new c ≡ Some u }
     ensures slots { length seats.new.slots ≡ length seats.old.slots }
 {
     if let Some(at) = seats.seat_of(t) {
@@ -103,9 +103,9 @@ fn are_too_few(seats: usize, records: usize) -> bool
 /// changes, and nobody loses a seat.
 pub(crate) fn add_seats(seats: &mut Seats, table: &mut SeatedObjects) -> Result<(), NoMemory>
     requires tied { IsTied table.old seats.old }
-    requires columns { length seats.old.slots ≤ length table.old.records.columns.chains }
+    requires columns { (c : ℕ) → c < length seats.old.slots → HasRoom table.old c }
     ensures tied { IsTied table.new seats.new }
-    ensures columns { length seats.new.slots ≤ length table.new.records.columns.chains }
+    ensures columns { (c : ℕ) → c < length seats.new.slots → HasRoom table.new c }
     ensures shown { objects_in table.new ≡ objects_in table.old }
     ensures few { IsNoMore table.old.records table.new.records }
     ensures slots { length seats.old.slots ≤ length seats.new.slots }

@@ -12,8 +12,8 @@ use Rattle.asset_chains.specs.Crossed.{Crossed, IsCrossed}
 use Rattle.asset_chains.proofs.KeyLemmas.{distinct_head, distinct_tail, listed_apart, lists-append, split_at_key}
 use Rattle.asset_records.specs.declared.records.Record.{Record}
 use Rattle.asset_seats.specs.Seated.{Seated, seat}
-use Rattle.asset_records.specs.Listed.{record_at, at_keys, records_by, IsTied}
-use Rattle.asset_records.proofs.ListedLemmas.{has_owned}
+use Rattle.asset_records.specs.Listed.{record_at, at_keys, is_of, is_owned, records_by, IsTied}
+use Rattle.asset_records.proofs.ListedLemmas.{has_owned, owned_is}
 use Rattle.asset_records.proofs.DropLemmas.{read_some}
 
 -- how many of the keys pass
@@ -71,39 +71,39 @@ listed_joined [] i k among = absurd (true≢false (sym among))
 listed_joined (keys ∷ rows) zero k among = lists-append keys (joined rows) k ∙ or_left (lists keys k) (lists (joined rows) k) among
 listed_joined (keys ∷ rows) (suc i) k among = lists-append keys (joined rows) k ∙ or_second (lists keys k) (lists (joined rows) k) (listed_joined rows i k among)
 
-owned_in : (records : Slab Record) (test : ℕ → Bool) (keys : List ℕ) → count_by (λ (one : Record). test one.owner.0) (at_keys records keys) ≡ passing (λ k. test (record_at records k).owner.0) keys
+owned_in : (records : Slab Record) (test : ℕ → Bool) (keys : List ℕ) → count_by (is_owned test) (at_keys records keys) ≡ passing (λ k. is_owned test (record_at records k)) keys
 unfolding at_keys
 owned_in records test [] = refl
 owned_in records test (k ∷ keys) =
-    sum_by-cons (λ (one : Record). cond (test one.owner.0) 1 0) (record_at records k) (map (record_at records) keys) ∙ ap (λ (n : ℕ). cond (test (record_at records k).owner.0) 1 0 + n) (owned_in records test keys)
+    sum_by-cons (λ (one : Record). cond (is_owned test one) 1 0) (record_at records k) (map (record_at records) keys) ∙ ap (λ (n : ℕ). cond (is_owned test (record_at records k)) 1 0 + n) (owned_in records test keys)
 
-owned_in_all : (records : Slab Record) (test : ℕ → Bool) (rows : List (List ℕ)) → records_by test (map (at_keys records) rows) ≡ passing (λ k. test (record_at records k).owner.0) (joined rows)
+owned_in_all : (records : Slab Record) (test : ℕ → Bool) (rows : List (List ℕ)) → records_by test (map (at_keys records) rows) ≡ passing (λ k. is_owned test (record_at records k)) (joined rows)
 unfolding records_by
 owned_in_all records test [] = refl
 owned_in_all records test (keys ∷ rows) =
     omega (
       arith,
-      sum_by-cons (λ (list : List Record). count_by (λ (one : Record). test one.owner.0) list) (at_keys records keys) (map (at_keys records) rows),
+      sum_by-cons (λ (list : List Record). count_by (is_owned test) list) (at_keys records keys) (map (at_keys records) rows),
       owned_in records test keys,
       owned_in_all records test rows,
-      passing_append (λ k. test (record_at records k).owner.0) keys (joined rows),
+      passing_append (λ k. is_owned test (record_at records k)) keys (joined rows),
     )
 
 module _ (records : Crossed Record) (seats : Seated) (from : ℕ) (giver : Txn) (tied : IsTied records seats) (crossed : IsCrossed records) (sat : seat seats from ≡ Some giver) where
-  owned_here : (k : ℕ) → lists (chain_of records.columns from) k ≡ true → (lists (joined records.rows.chains) k ≡ true) × (eqb (record_at records.items k).owner.0 giver.0 ≡ true)
+  owned_here : (k : ℕ) → lists (chain_of records.columns (suc from)) k ≡ true → (lists (joined records.rows.chains) k ≡ true) × (is_of giver.0 (record_at records.items k) ≡ true)
   unfolding chain_of
   owned_here k among =
-      let held = has_owned records seats tied k from giver ((crossed.sound Column).at_home from k among) sat in
+      let held = has_owned records seats tied k from giver ((crossed.sound Column).at_home (suc from) k among) sat in
       let place = some_of (home_of records.rows k) (crossed.placed Row k ∙ ap is_some held.1) in (
         listed_joined records.rows.chains place.0 k ((crossed.sound Row).listed place.0 k place.1),
-        ap (λ (one : Record). eqb one.owner.0 giver.0) (read_some records.items k held.0 held.1) ∙ eq-eqb held.0.owner.0 giver.0 (ap (λ (t : Txn). t.0) held.2),
+        ap (is_of giver.0) (read_some records.items k held.0 held.1) ∙ owned_is (λ (n : ℕ). eqb n giver.0) held.0 giver held.2 ∙ eq-eqb giver.0 giver.0 refl,
       )
 
   -- the records in a transaction's column are no more than its records
-  pub column_count : length (chain_of records.columns from) ≤ records_by (λ (n : ℕ). eqb n giver.0) (map (at_keys records.items) records.rows.chains)
+  pub column_count : length (chain_of records.columns (suc from)) ≤ records_by (λ (n : ℕ). eqb n giver.0) (map (at_keys records.items) records.rows.chains)
   column_count =
       omega (
         arith,
-        few_pass (λ k. eqb (record_at records.items k).owner.0 giver.0) (chain_of records.columns from) (joined records.rows.chains) ((crossed.sound Column).once from) owned_here,
+        few_pass (λ k. is_of giver.0 (record_at records.items k)) (chain_of records.columns (suc from)) (joined records.rows.chains) ((crossed.sound Column).once (suc from)) owned_here,
         owned_in_all records.items (λ n. eqb n giver.0) records.rows.chains,
       )

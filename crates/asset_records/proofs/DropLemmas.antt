@@ -1,6 +1,6 @@
 -- A record leaves its row and its column; and what room is.
 use Rattle.std.proofs.Common.{◌≡◌, ℕ, inl, inr, ◌<◌, ◌&&◌, Bool, true, false, cond, eqb, List, Option, Some, None, is_some, length, get_or, set, refl, sym, ap, ◌∙◌, arith}
-use Rattle.std.specs.Prelude.{ℤ, nat_lt, unwrap_or, count_by}
+use Rattle.std.specs.Prelude.{nat_lt, unwrap_or, count_by}
 use Rattle.std.specs.Option.{option_map}
 use Rattle.std.proofs.lemmas.Bool.{eqb-true, eqb-false, cases_lt}
 use Rattle.std.proofs.lemmas.List.{get_or-set_same, get_or-set_other, get_or_past}
@@ -12,8 +12,10 @@ use Rattle.asset_chains.specs.declared.side.Side.TheVariants.{Column}
 use Rattle.asset_chains.specs.Crossed.{Crossed, lines, has_room, Leaves}
 use Rattle.asset_seats.specs.Seated.{Seated}
 use Rattle.asset_records.specs.declared.records.Record.{Record}
-use Rattle.asset_records.specs.Listed.{no_record, record_at, owner_at, IsTied}
-use Rattle.asset_records.specs.Dropped.{handed_at}
+use Rattle.asset_records.specs.Listed.{no_record, record_at, owner_of, owner_at, IsTied}
+use Rattle.asset_records.specs.declared.mending.Mend.{Mend}
+use Rattle.asset_records.specs.Mended.{mended_record}
+use Rattle.asset_records.specs.Dropped.{mended_at}
 
 -- ---- records in a slab
 pub slot_within : (slots : List (Option Record)) (k : ℕ) (one : Record) → get_or slots k None ≡ Some one → k < length slots
@@ -53,17 +55,17 @@ module _ (records fewer : Crossed Record) (k : ℕ) (gone : Updates records.item
     owned = owned;
     within = λ c sat. omega (arith, tied.within c sat, (leaves Column).many);
   } where
-    owned : (j : ℕ) → option_map (λ (one : Record). one.owner) (get fewer.items j) ≡ owner_at seats (home_of fewer.columns j)
-    owned j = ap (option_map (λ (one : Record). one.owner)) (record_is j) ∙ go (eqb j k) refl ∙ sym (ap (owner_at seats) (home_is Column j)) where
-      go : (b : Bool) → eqb j k ≡ b → option_map (λ (one : Record). one.owner) (cond (eqb j k) None (get records.items j)) ≡ owner_at seats (cond (eqb j k) None (home_of records.columns j))
+    owned : (j : ℕ) → option_map owner_of (get fewer.items j) ≡ owner_at seats (home_of fewer.columns j)
+    owned j = ap (option_map owner_of) (record_is j) ∙ go (eqb j k) refl ∙ sym (ap (owner_at seats) (home_is Column j)) where
+      go : (b : Bool) → eqb j k ≡ b → option_map owner_of (cond (eqb j k) None (get records.items j)) ≡ owner_at seats (cond (eqb j k) None (home_of records.columns j))
       go true e =
-          ap (λ (b : Bool). option_map (λ (one : Record). one.owner) (cond b None (get records.items j))) e ∙ sym (ap (λ (b : Bool). owner_at seats (cond b None (home_of records.columns j))) e)
+          ap (λ (b : Bool). option_map owner_of (cond b None (get records.items j))) e ∙ sym (ap (λ (b : Bool). owner_at seats (cond b None (home_of records.columns j))) e)
       go false e =
-          ap (λ (b : Bool). option_map (λ (one : Record). one.owner) (cond b None (get records.items j))) e
+          ap (λ (b : Bool). option_map owner_of (cond b None (get records.items j))) e
           ∙ tied.owned j
           ∙ sym (ap (λ (b : Bool). owner_at seats (cond b None (home_of records.columns j))) e)
 
--- ---- a before-image is handed on
+-- ---- a value is mended
 -- a record is written over another
 pub written_over : (records : Slab Record) (n : ℕ) (old new : Record) → get records n ≡ Some old → (k : ℕ) → get (with_value records n new) k ≡ cond (eqb k n) (Some new) (get records k)
 written_over records n old new there k = go (eqb k n) refl where
@@ -71,21 +73,20 @@ written_over records n old new there k = go (eqb k n) refl where
   go true e = ap (get (with_value records n new)) (eqb-true k n e) ∙ get_or-set_same records.slots n (Some new) None (slot_within records.slots n old there)
   go false e = get_or-set_other records.slots n k (Some new) None (eqb-false k n e)
 
--- the next record gets the before-image
-pub handed_is : (records : Slab Record) (n key : ℕ) (next : Record) (before : ℤ) → get records n ≡ Some next → (record_at records key).before ≡ before
-    → (k : ℕ) → get (with_value records n (record next { before = before })) k ≡ handed_at records (Some n) key k
-unfolding handed_at
-handed_is records n key next before there is k = written_over records n next (record next { before = before }) there k ∙ go (eqb k n) refl where
-  go : (b : Bool) → eqb k n ≡ b
-      → cond b (Some (record next { before = before })) (get records k) ≡ cond b (option_map (λ (one : Record). record one { before = (record_at records key).before }) (get records k)) (get records k)
-  go true e = sym (ap (option_map (λ (one : Record). record one { before = (record_at records key).before })) (ap (get records) (eqb-true k n e) ∙ there) ∙ ap (λ (v : ℤ). Some (record next { before = v })) is)
+-- a write is written over with another before-image
+pub mended_is : (records : Slab Record) (n : ℕ) (mend : Mend) (old new : Record) → get records n ≡ Some old → mended_record mend old ≡ new → (k : ℕ) → get (with_value records n new) k ≡ mended_at records (Some n) mend k
+unfolding mended_at
+mended_is records n mend old new there is k = written_over records n old new there k ∙ go (eqb k n) refl where
+  go : (b : Bool) → eqb k n ≡ b → cond b (Some new) (get records k) ≡ cond b (option_map (mended_record mend) (get records k)) (get records k)
+  go true e = sym (ap (option_map (mended_record mend)) (ap (get records) (eqb-true k n e) ∙ there) ∙ ap Some is)
   go false e = refl
 
-pub handed_none : (records : Slab Record) (n key : ℕ) → get records n ≡ None → (k : ℕ) → get records k ≡ handed_at records (Some n) key k
-unfolding handed_at
-handed_none records n key none k = go (eqb k n) refl where
-  go : (b : Bool) → eqb k n ≡ b → get records k ≡ cond b (option_map (λ (one : Record). record one { before = (record_at records key).before }) (get records k)) (get records k)
-  go true e = let gone : get records k ≡ None = ap (get records) (eqb-true k n e) ∙ none in gone ∙ sym (ap (option_map (λ (one : Record). record one { before = (record_at records key).before })) gone)
+-- what is no write stays
+pub mended_none : (records : Slab Record) (n : ℕ) (mend : Mend) → option_map (mended_record mend) (get records n) ≡ get records n → (k : ℕ) → get records k ≡ mended_at records (Some n) mend k
+unfolding mended_at
+mended_none records n mend same k = go (eqb k n) refl where
+  go : (b : Bool) → eqb k n ≡ b → get records k ≡ cond b (option_map (mended_record mend) (get records k)) (get records k)
+  go true e = rw (eqb-true k n e) (sym same)
   go false e = refl
 
 -- the record at a key

@@ -3,8 +3,10 @@ pub mod DropLemmas
 pub mod PushLemmas
 pub mod BackLemmas
 pub mod ThroughLemmas
+pub mod SettleLemmas
 pub mod HandLemmas
 pub mod WalkLemmas
 pub mod PassLemmas
 pub mod CountLemmas
 pub mod ColumnLemmas
+pub mod ClimbLemmas

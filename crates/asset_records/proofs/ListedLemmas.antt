@@ -1,5 +1,5 @@
 -- Records in their rows and columns, and what a change of one key makes of the lists.
-use Rattle.std.proofs.Common.{◌≡◌, ℕ, suc, Bool, true, false, eqb, ◌||◌, List, [], ◌∷◌, ◌++◌, map, length, Option, Some, None, is_some, refl, sym, ap, ◌∙◌, ◌≤◌, arith}
+use Rattle.std.proofs.Common.{◌≡◌, ℕ, zero, suc, Bool, true, false, eqb, ◌||◌, List, [], ◌∷◌, ◌++◌, map, length, Option, Some, None, is_some, refl, sym, ap, ◌∙◌, ◌≤◌, arith}
 use Rattle.std.specs.Prelude.{slice_index_or, unwrap_or}
 use Rattle.std.specs.Option.{option_map}
 use Rattle.std.specs.List.{list_any}
@@ -15,7 +15,7 @@ use Rattle.asset_chains.specs.declared.side.Side.TheVariants.{Row, Column}
 use Rattle.asset_chains.specs.Crossed.{Crossed, IsCrossed}
 use Rattle.asset_records.specs.declared.records.Record.{Record}
 use Rattle.asset_seats.specs.Seated.{Seated, seat}
-use Rattle.asset_records.specs.Listed.{on, no_record, record_at, at_keys, lists_in, owner_at, IsTied}
+use Rattle.asset_records.specs.Listed.{on, no_record, record_at, at_keys, lists_in, owner_of, owner_at, somebody, owner_passes, is_owned, IsTied}
 
 -- the records of an object are those of its chain
 pub on_chain : (records : Slab Record) (table : Chained) (j : ℕ) → on (map (at_keys records) table.chains) j ≡ at_keys records (chain_of table j)
@@ -73,23 +73,44 @@ none_passes records test (x ∷ keys) none k among = go (none_passes records tes
 
 module _ (records : Crossed Record) (seats : Seated) (tied : IsTied records seats) where
   -- a record's owner has a seat, in whose column the record is
-  pub home_of_owner : (k : ℕ) (one : Record) → get records.items k ≡ Some one → (c : ℕ) × (home_of records.columns k ≡ Some c) × (seat seats c ≡ Some one.owner)
+  pub home_of_owner : (k : ℕ) (one : Record) (t : Txn) → get records.items k ≡ Some one → owner_of one ≡ Some t → (c : ℕ) × (home_of records.columns k ≡ Some (suc c)) × (seat seats c ≡ Some t)
   unfolding owner_at
-  home_of_owner k one there = go (home_of records.columns k) refl where
-    go : (home : Option ℕ) → home_of records.columns k ≡ home → (c : ℕ) × (home_of records.columns k ≡ Some c) × (seat seats c ≡ Some one.owner)
-    go None e = cc (sym (tied.owned k) ∙ ap (option_map (λ (one : Record). one.owner)) there, e, tied.owned k)
-    go (Some c) e = (c, e, sym (tied.owned k ∙ ap (owner_at seats) e) ∙ ap (option_map (λ (one : Record). one.owner)) there)
+  home_of_owner k one t there whose = go (home_of records.columns k) refl where
+    is : owner_at seats (home_of records.columns k) ≡ Some (Some t)
+    is = sym (tied.owned k) ∙ ap (option_map owner_of) there ∙ ap Some whose
+
+    sits : (o : Option Txn) → somebody o ≡ Some (Some t) → o ≡ Some t
+    sits None e = cc e
+    sits (Some u) e = cc e
+
+    go : (home : Option ℕ) → home_of records.columns k ≡ home → (c : ℕ) × (home_of records.columns k ≡ Some (suc c)) × (seat seats c ≡ Some t)
+    go None e = cc (sym (ap (owner_at seats) e) ∙ is)
+    go (Some zero) e = cc (sym (ap (owner_at seats) e) ∙ is)
+    go (Some (suc c)) e = (c, e, sits (seat seats c) (sym (ap (owner_at seats) e) ∙ is))
 
   -- a key in an owner's column has a record of the owner's
-  pub has_owned : (k c : ℕ) (t : Txn) → home_of records.columns k ≡ Some c → seat seats c ≡ Some t → (one : Record) × (get records.items k ≡ Some one) × (one.owner ≡ t)
+  pub has_owned : (k c : ℕ) (t : Txn) → home_of records.columns k ≡ Some (suc c) → seat seats c ≡ Some t → (one : Record) × (get records.items k ≡ Some one) × (owner_of one ≡ Some t)
   unfolding owner_at
   has_owned k c t home whose = go (get records.items k) refl where
-    is : option_map (λ (one : Record). one.owner) (get records.items k) ≡ Some t
-    is = tied.owned k ∙ ap (owner_at seats) home ∙ whose
+    is : option_map owner_of (get records.items k) ≡ Some (Some t)
+    is = tied.owned k ∙ ap (owner_at seats) home ∙ ap somebody whose
 
-    go : (held : Option Record) → get records.items k ≡ held → (one : Record) × (get records.items k ≡ Some one) × (one.owner ≡ t)
-    go None e = cc (sym is ∙ ap (option_map (λ (one : Record). one.owner)) e)
-    go (Some one) e = let same : Some one.owner ≡ Some t = sym (ap (option_map (λ (one : Record). one.owner)) e) ∙ is in (one, e, cc same)
+    go : (held : Option Record) → get records.items k ≡ held → (one : Record) × (get records.items k ≡ Some one) × (owner_of one ≡ Some t)
+    go None e = cc (sym is ∙ ap (option_map owner_of) e)
+    go (Some one) e = let same : Some (owner_of one) ≡ Some (Some t) = sym (ap (option_map owner_of) e) ∙ is in (one, e, cc same)
+
+-- a record with this owner passes the tests that its owner passes
+pub owned_is : (test : ℕ → Bool) (one : Record) (t : Txn) → owner_of one ≡ Some t → is_owned test one ≡ test t.0
+unfolding is_owned
+owned_is test one t whose = ap (owner_passes test) whose
+
+-- a record that passes has an owner, which passes
+pub owner_is : (test : ℕ → Bool) (one : Record) → is_owned test one ≡ true → (t : Txn) × (owner_of one ≡ Some t) × (test t.0 ≡ true)
+unfolding is_owned
+owner_is test one passes = go (owner_of one) refl where
+  go : (o : Option Txn) → owner_of one ≡ o → (t : Txn) × (owner_of one ≡ Some t) × (test t.0 ≡ true)
+  go None e = absurd (true≢false (sym passes ∙ ap (owner_passes test) e))
+  go (Some t) e = (t, e, sym (ap (owner_passes test) e) ∙ passes)
 
 -- a key in a row has a record
 pub has_record : (records : Crossed Record) → IsCrossed records → (k i : ℕ) → home_of records.rows k ≡ Some i → (one : Record) × (get records.items k ≡ Some one)
@@ -100,7 +121,7 @@ has_record records crossed k i home = some_of (get records.items k) (sym (crosse
 pub tied_nothing : (records : Crossed Record) (seats : Seated) → IsCrossed records → records.items.slots ≡ [] → ((c : ℕ) → seat seats c ≡ None) → IsTied records seats
 unfolding owner_at
 tied_nothing records seats crossed none nobody = record {
-  owned = λ k. ap (option_map (λ (one : Record). one.owner)) (no_record_at k) ∙ sym (ap (owner_at seats) (no_home k));
+  owned = λ k. ap (option_map owner_of) (no_record_at k) ∙ sym (ap (owner_at seats) (no_home k));
   within = λ c sat. cc (sym (ap is_some (nobody c)) ∙ sat);
 } where
   no_record_at : (k : ℕ) → get records.items k ≡ None
@@ -113,7 +134,7 @@ tied_nothing records seats crossed none nobody = record {
 pub tied_grown : (records more : Crossed Record) (seats : Seated) → IsTied records seats → more.items.slots ≡ records.items.slots → ((k : ℕ) → home_of more.columns k ≡ home_of records.columns k)
     → length records.columns.chains ≤ length more.columns.chains → IsTied more seats
 tied_grown records more seats tied slots homes many = record {
-  owned = λ k. ap (λ (l : List (Option Record)). option_map (λ (one : Record). one.owner) (slice_index_or l k None)) slots ∙ tied.owned k ∙ sym (ap (owner_at seats) (homes k));
+  owned = λ k. ap (λ (l : List (Option Record)). option_map owner_of (slice_index_or l k None)) slots ∙ tied.owned k ∙ sym (ap (owner_at seats) (homes k));
   within = λ c sat. omega (arith, tied.within c sat, many);
 }
 

@@ -1,5 +1,5 @@
 -- One more record, in the row of its object and in the column of its owner.
-use Rattle.std.proofs.Common.{◌≡◌, ℕ, Bool, true, false, cond, eqb, [], ◌∷◌, ◌++◌, List, map, Option, Some, None, is_some, length, refl, sym, ap, ◌∙◌, arith}
+use Rattle.std.proofs.Common.{◌≡◌, ℕ, suc, Bool, true, false, cond, eqb, [], ◌∷◌, ◌++◌, List, map, Option, Some, None, is_some, length, refl, sym, ap, ◌∙◌, arith}
 use Rattle.std.specs.Prelude.{unwrap_or}
 use Rattle.std.specs.Option.{option_map}
 use Rattle.std.proofs.lemmas.Bool.{eqb-true, eqb-false, true≢false}
@@ -9,9 +9,10 @@ use Rattle.asset_chains.specs.Chained.{chain_of, home_of, lists}
 use Rattle.asset_chains.specs.declared.side.Side.TheVariants.{Row}
 use Rattle.asset_chains.specs.Crossed.{Crossed, Joins, IsCrossed}
 use Rattle.asset_chains.proofs.SoundLemmas.{unlisted}
+use Rattle.asset_names.specs.declared.names.Txn.{Txn}
 use Rattle.asset_records.specs.declared.records.Record.{Record}
 use Rattle.asset_seats.specs.Seated.{Seated, seat}
-use Rattle.asset_records.specs.Listed.{on, no_record, record_at, at_keys, owner_at, IsTied, ChangesOn}
+use Rattle.asset_records.specs.Listed.{on, no_record, record_at, at_keys, owner_of, owner_at, somebody, IsTied, ChangesOn}
 use Rattle.asset_names.proofs.Common.{none_of}
 use Rattle.asset_records.proofs.ListedLemmas.{on_chain, keys_append, keys_same}
 
@@ -24,20 +25,20 @@ read_there : (records more : Slab Record) (k j : ℕ) (update : Record) → Upda
 unfolding record_at
 read_there records more k j update put apart = ap (λ (o : Option Record). unwrap_or o no_record) (put.others j apart)
 
-module _ (records more : Crossed Record) (seats : Seated) (update : Record) (k i c : ℕ)
-    (tied : IsTied records seats) (crossed : IsCrossed records) (sits : seat seats c ≡ Some update.owner) (vacant : get records.items k ≡ None)
-    (put : Updates records.items more.items k (Some update)) (object : Joins i k records.rows more.rows) (owner : Joins c k records.columns more.columns) where
+module _ (records more : Crossed Record) (seats : Seated) (update : Record) (t : Txn) (k i c : ℕ)
+    (tied : IsTied records seats) (crossed : IsCrossed records) (whose : owner_of update ≡ Some t) (sits : seat seats c ≡ Some t) (vacant : get records.items k ≡ None)
+    (put : Updates records.items more.items k (Some update)) (object : Joins i k records.rows more.rows) (owner : Joins (suc c) k records.columns more.columns) where
   pub pushed_tied : IsTied more seats
   unfolding owner_at
   pushed_tied = record {
     owned = owned;
     within = λ d sat. omega (arith, tied.within d sat, owner.many);
   } where
-    owned : (j : ℕ) → option_map (λ (one : Record). one.owner) (get more.items j) ≡ owner_at seats (home_of more.columns j)
+    owned : (j : ℕ) → option_map owner_of (get more.items j) ≡ owner_at seats (home_of more.columns j)
     owned j = go (eqb j k) refl where
-      go : (b : Bool) → eqb j k ≡ b → option_map (λ (one : Record). one.owner) (get more.items j) ≡ owner_at seats (home_of more.columns j)
-      go true e = let here : j ≡ k = eqb-true j k e in rw here (ap (option_map (λ (one : Record). one.owner)) put.changed ∙ sym sits ∙ sym (ap (owner_at seats) owner.home))
-      go false e = ap (option_map (λ (one : Record). one.owner)) (put.others j (eqb-false j k e)) ∙ tied.owned j ∙ sym (ap (owner_at seats) (owner.homes j (eqb-false j k e)))
+      go : (b : Bool) → eqb j k ≡ b → option_map owner_of (get more.items j) ≡ owner_at seats (home_of more.columns j)
+      go true e = let here : j ≡ k = eqb-true j k e in rw here (ap (option_map owner_of) put.changed ∙ ap Some whose ∙ sym (ap somebody sits) ∙ sym (ap (owner_at seats) owner.home))
+      go false e = ap (option_map owner_of) (put.others j (eqb-false j k e)) ∙ tied.owned j ∙ sym (ap (owner_at seats) (owner.homes j (eqb-false j k e)))
 
   -- the records of the object are one more, and those of the others are the same
   pub pushed_lists : ChangesOn i (on (map (at_keys records.items) records.rows.chains) i ++ update ∷ []) (map (at_keys records.items) records.rows.chains) (map (at_keys more.items) more.rows.chains)

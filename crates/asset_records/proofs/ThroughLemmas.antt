@@ -1,5 +1,7 @@
 -- The first record of an object is dropped.
 use Rattle.std.proofs.Common.{◌≡◌, ℕ, ◌+◌, ◌≤◌, suc, Bool, true, false, cond, eqb, List, [], ◌∷◌, ◌++◌, Some, None, is_some, length, refl, sym, ap, ◌∙◌, arith, if◌then◌else◌}
+use Rattle.std.specs.List.{count_by}
+use Rattle.std.proofs.lemmas.List.Sums.{sum_by-cons, count_by-le-length}
 use Rattle.std.proofs.lemmas.Bool.{eqb-false, true≢false, false≢true}
 use Rattle.slab.specs.Slab.{Slab, get}
 use Rattle.asset_chains.specs.Chained.{Chained, chain_of, home_of, first_of, without, ahead, behind, lists, IsSound}
@@ -7,6 +9,10 @@ use Rattle.asset_chains.proofs.Laws.{chain_at_first, chain_without_key}
 use Rattle.asset_chains.proofs.SoundLemmas.{listed_once}
 use Rattle.asset_chains.proofs.KeyLemmas.{without_unlisted}
 use Rattle.asset_records.specs.declared.records.Record.{Record}
+use Rattle.asset_records.specs.Listed.{record_at, at_keys, is_owned, IsNoMore}
+use Rattle.asset_chains.specs.Crossed.{Crossed}
+use Rattle.asset_records.proofs.ListedLemmas.{keys_length}
+use Rattle.asset_records.proofs.BackLemmas.{read_as}
 
 module _ (table less : Chained) (key i : ℕ) (sound : IsSound table) (first : first_of (chain_of table i) ≡ Some key) (chains : (j : ℕ) → chain_of less j ≡ without key (chain_of table j)) where
   pub first_home : home_of table key ≡ Some i
@@ -20,7 +26,7 @@ module _ (table less : Chained) (key i : ℕ) (sound : IsSound table) (first : f
   pub others_are : (j : ℕ) → eqb j i ≡ false → chain_of less j ≡ chain_of table j
   others_are j apart = chains j ∙ without_unlisted key (chain_of table j) (listed_once table sound key i j first_home (eqb-false j i apart))
 
-  chain_is : chain_of table i ≡ key ∷ behind key (chain_of table i)
+  pub chain_is : chain_of table i ≡ key ∷ behind key (chain_of table i)
   chain_is = (chain_at_first key i table sound first).2
 
   pub shorter : length (chain_of less i) + 1 ≡ length (chain_of table i)
@@ -36,10 +42,9 @@ module _ (table less : Chained) (key i : ℕ) (sound : IsSound table) (first : f
   pub behind_same : (last : ℕ) → eqb last key ≡ false → behind last (chain_of less i) ≡ behind last (chain_of table i)
   behind_same last apart = ap (behind last) rest_is ∙ sym (ap (behind last) chain_is ∙ later_behind last (behind key (chain_of table i)) apart)
 
-  -- and one key less stands ahead of it
-  pub ahead_less : (last : ℕ) → eqb last key ≡ false → length (ahead last (chain_of less i)) + 1 ≡ length (ahead last (chain_of table i))
-  ahead_less last apart =
-      omega (arith, ap (λ (keys : List ℕ). length (ahead last keys)) rest_is, ap (λ (keys : List ℕ). length (ahead last keys)) chain_is, ap length (later_ahead last (behind key (chain_of table i)) apart))
+  -- and this one stands ahead of it, before the others
+  pub ahead_is : (last : ℕ) → eqb last key ≡ false → ahead last (chain_of table i) ≡ key ∷ ahead last (chain_of less i)
+  ahead_is last apart = ap (ahead last) chain_is ∙ later_ahead last (behind key (chain_of table i)) apart ∙ sym (ap (λ (keys : List ℕ). key ∷ ahead last keys) rest_is)
 
 -- a record that is still there is as it was
 pub kept_after : (initial now new : Slab Record) (key : ℕ) → ((k : ℕ) → get new k ≡ cond (eqb k key) None (get now k)) → ((k : ℕ) → is_some (get now k) ≡ true → get now k ≡ get initial k)
@@ -54,6 +59,41 @@ kept_after initial now new key drops kept k there = go (eqb k key) refl where
 pub home_after : (table less : Chained) (key last i : ℕ) → ((k : ℕ) → home_of less k ≡ cond (eqb k key) None (home_of table k)) → eqb last key ≡ false → home_of table last ≡ Some i → home_of less last ≡ Some i
 home_after table less key last i homes apart home = homes last ∙ ap (λ (b : Bool). cond b None (home_of table last)) apart ∙ home
 
+-- how many of the records at these keys are somebody's
+pub owned_many : Slab Record → List ℕ → ℕ
+owned_many records keys = count_by (is_owned (λ (n : ℕ). true)) (at_keys records keys)
+
+-- 1 for a record of somebody
+abbrev pub one_if_owned : Record → ℕ
+one_if_owned one = cond (is_owned (λ (n : ℕ). true) one) 1 0
+
+pub owned_more : (records : Slab Record) (key : ℕ) (keys : List ℕ) → owned_many records (key ∷ keys) ≡ one_if_owned (record_at records key) + owned_many records keys
+unfolding owned_many at_keys
+owned_more records key keys = sum_by-cons (λ (one : Record). cond {A = ℕ} (is_owned (λ (n : ℕ). true) one) 1 0) (record_at records key) (at_keys records keys)
+
+pub owned_none : (records : Slab Record) → owned_many records [] ≡ 0
+unfolding owned_many at_keys
+owned_none records = refl
+
+pub one_at_most : (one : Record) → one_if_owned one ≤ 1
+one_at_most one = go (is_owned (λ (n : ℕ). true) one) where
+  go : (b : Bool) → cond {A = ℕ} b 1 0 ≤ 1
+  go true = omega arith
+  go false = omega arith
+
+pub owned_le : (records : Slab Record) (keys : List ℕ) → owned_many records keys ≤ length keys
+unfolding owned_many
+owned_le records keys = omega (arith, count_by-le-length (is_owned (λ (n : ℕ). true)) (at_keys records keys), keys_length records keys)
+
+-- a record that stays is somebody's as before
+pub owned_same : (old new : Slab Record) (key : ℕ) → get new key ≡ get old key → one_if_owned (record_at new key) ≡ one_if_owned (record_at old key)
+owned_same old new key same = ap one_if_owned (read_as new old key same)
+
+-- the record at a key and those at these keys
+pub owned_with : (records : Slab Record) (key : ℕ) (keys : List ℕ) → count_by (is_owned (λ (n : ℕ). true)) (record_at records key ∷ at_keys records keys) ≡ one_if_owned (record_at records key) + owned_many records keys
+unfolding owned_many
+owned_with records key keys = sum_by-cons (λ (one : Record). cond {A = ℕ} (is_owned (λ (n : ℕ). true) one) 1 0) (record_at records key) (at_keys records keys)
+
 -- the keys ahead of one are no more than the keys
 pub ahead_le : (k : ℕ) (keys : List ℕ) → length (ahead k keys) ≤ length keys
 ahead_le k [] = omega arith
@@ -66,3 +106,7 @@ ahead_le k (x ∷ keys) = go (eqb k x) (ahead_le k keys) where
 pub first_there : (keys : List ℕ) (k : ℕ) → first_of keys ≡ None → lists keys k ≡ true → ⊥
 first_there [] k none there = false≢true there
 first_there (x ∷ keys) k none there = cc none
+
+-- no more than no more
+pub no_more : {first second third : Crossed Record} → IsNoMore second third → IsNoMore first second → IsNoMore first third
+no_more later before = record { items = omega (arith, later.items, before.items); columns = omega (arith, later.columns, before.columns) }

@@ -53,20 +53,10 @@ apart_later xs ys k distinct =
       at_end false false h = h
 
 -- ---- one record
-pub moved_one : (old mid new : Crossed Record) (key to : ℕ) (taker : Txn) (one : Record) → IsCrossed old → to < length old.columns.chains → get old.items key ≡ Some one
-    → mid.columns ≡ pushed to key (unlinked key old.columns) → mid.rows ≡ old.rows → mid.items ≡ old.items
-    → new.items ≡ with_value mid.items key (given taker one) → new.rows ≡ mid.rows → new.columns ≡ mid.columns → HandedOne key taker to old new
-moved_one old mid new key to taker one crossed within there moved mid_rows mid_items over rows columns = record {
-  rows = rows ∙ mid_rows;
-  items = item;
-  homes = home;
-  chains = chain;
-  many = ap (λ (table : Chained). length table.chains) columns ∙ push.same_chains ∙ less.same_chains;
-  len = ap (λ (s : Slab Record). slab_len s) put ∙ count_kept old.items.slots key one (given taker one) there;
-  room = room_over old new key one (given taker one) there put;
-} where
-  at : (c : ℕ) × (home_of old.columns key ≡ Some c)
-  at = some_of (home_of old.columns key) (crossed.placed Column key ∙ ap is_some there)
+-- the key is in the column `to`
+module _ (old mid : Crossed Record) (key to : ℕ) (crossed : IsCrossed old) (within : to < length old.columns.chains) (there : is_some (get old.items key) ≡ true) (moved : mid.columns ≡ pushed to key (unlinked key old.columns)) where
+  abbrev at : (c : ℕ) × (home_of old.columns key ≡ Some c)
+  at = some_of (home_of old.columns key) (crossed.placed Column key ∙ there)
 
   less : IsUnlinked at.0 key old.columns (unlinked key old.columns)
   less = unlinks at.0 key old.columns (unlinked key old.columns) at.1 refl
@@ -74,6 +64,30 @@ moved_one old mid new key to taker one crossed within there moved mid_rows mid_i
   push : IsPushed to key (unlinked key old.columns) mid.columns
   push = pushes to key (unlinked key old.columns) mid.columns (omega (arith, within, less.same_chains)) (omega (arith, key_within key at.0 old.columns at.1, less.same_keys)) moved
 
+  pub moved_many : length mid.columns.chains ≡ length old.columns.chains
+  moved_many = push.same_chains ∙ less.same_chains
+
+  pub moved_home : (k : ℕ) → home_of mid.columns k ≡ cond (eqb k key) (Some to) (home_of old.columns k)
+  moved_home k = go (eqb k key) refl where
+    go : (b : Bool) → eqb k key ≡ b → home_of mid.columns k ≡ cond b (Some to) (home_of old.columns k)
+    go true e = ap (home_of mid.columns) (eqb-true k key e) ∙ push.home
+    go false e = push.homes k (eqb-false k key e) ∙ less.homes k (eqb-false k key e)
+
+  pub moved_chain : (c : ℕ) → (c ≡ to → ⊥) → chain_of mid.columns c ≡ without key (chain_of old.columns c)
+  moved_chain c apart = push.chains c apart ∙ chains_without old.columns (unlinked key old.columns) key at.0 (crossed.sound Column) at.1 refl c
+
+pub moved_one : (old mid new : Crossed Record) (key to : ℕ) (taker : Txn) (one : Record) → IsCrossed old → to < length old.columns.chains → get old.items key ≡ Some one
+    → mid.columns ≡ pushed to key (unlinked key old.columns) → mid.rows ≡ old.rows → mid.items ≡ old.items
+    → new.items ≡ with_value mid.items key (given taker one) → new.rows ≡ mid.rows → new.columns ≡ mid.columns → HandedOne key taker to old new
+moved_one old mid new key to taker one crossed within there moved mid_rows mid_items over rows columns = record {
+  rows = rows ∙ mid_rows;
+  items = item;
+  homes = λ k. ap (λ (table : Chained). home_of table k) columns ∙ moved_home old mid key to crossed within (ap is_some there) moved k;
+  chains = λ c apart. ap (λ (table : Chained). chain_of table c) columns ∙ moved_chain old mid key to crossed within (ap is_some there) moved c apart;
+  many = ap (λ (table : Chained). length table.chains) columns ∙ moved_many old mid key to crossed within (ap is_some there) moved;
+  len = ap (λ (s : Slab Record). slab_len s) put ∙ count_kept old.items.slots key one (given taker one) there;
+  room = room_over old new key one (given taker one) there put;
+} where
   put : new.items ≡ with_value old.items key (given taker one)
   put = over ∙ ap (λ (s : Slab Record). with_value s key (given taker one)) mid_items
 
@@ -82,15 +96,6 @@ moved_one old mid new key to taker one crossed within there moved mid_rows mid_i
     go : (b : Bool) → eqb k key ≡ b → cond b (Some (given taker one)) (get old.items k) ≡ cond b (option_map (given taker) (get old.items k)) (get old.items k)
     go true e = sym (ap (option_map (given taker)) (ap (get old.items) (eqb-true k key e) ∙ there))
     go false e = refl
-
-  home : (k : ℕ) → home_of new.columns k ≡ cond (eqb k key) (Some to) (home_of old.columns k)
-  home k = ap (λ (table : Chained). home_of table k) columns ∙ go (eqb k key) refl where
-    go : (b : Bool) → eqb k key ≡ b → home_of mid.columns k ≡ cond b (Some to) (home_of old.columns k)
-    go true e = ap (home_of mid.columns) (eqb-true k key e) ∙ push.home
-    go false e = push.homes k (eqb-false k key e) ∙ less.homes k (eqb-false k key e)
-
-  chain : (c : ℕ) → (c ≡ to → ⊥) → chain_of new.columns c ≡ without key (chain_of old.columns c)
-  chain c apart = ap (λ (table : Chained). chain_of table c) columns ∙ push.chains c apart ∙ chains_without old.columns (unlinked key old.columns) key at.0 (crossed.sound Column) at.1 refl c
 
 -- ---- which records go
 -- with one key more

@@ -5,14 +5,19 @@ use Rattle.asset_chains.specs.Chained.{chain_of, home_of, without, lists}
 use Rattle.asset_chains.specs.Crossed.{Crossed, has_room as has_slot}
 use Rattle.asset_names.specs.declared.names.Txn.{Txn}
 use Rattle.asset_records.specs.declared.records.Record.{Record}
+use Rattle.asset_records.specs.declared.records.Record.TheVariants.{Write, Add, Lasting}
 
 -- the record, which is the taker's if it was the giver's
 unfoldable pub renamed : ℕ → ℕ → Record → Record
-renamed giver taker one = cond (one.owner.0 == giver) (record one { owner = record { 0 = taker } }) one
+renamed giver taker (Write owner before) = Write (cond (owner.0 == giver) (record { 0 = taker }) owner) before
+renamed giver taker (Add owner amount) = Add (cond (owner.0 == giver) (record { 0 = taker }) owner) amount
+renamed giver taker (Lasting amount) = Lasting amount
 
--- the record, which is the taker's now
+-- the record, which is the taker's now unless it is nobody's
 unfoldable pub given : Txn → Record → Record
-given taker one = record one { owner = taker }
+given taker (Write owner before) = Write taker before
+given taker (Add owner amount) = Add taker amount
+given taker (Lasting amount) = Lasting amount
 
 -- whether an object is one of those that are picked; none is not
 abbrev pub is_picked : (ℕ → Bool) → Option ℕ → Bool

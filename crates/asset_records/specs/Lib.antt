@@ -1,3 +1,4 @@
 pub mod Dropped
 pub mod Handed
 pub mod Listed
+pub mod Mended

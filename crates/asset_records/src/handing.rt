@@ -3,11 +3,12 @@
 ghost use Rattle.std.specs.Prelude.{◌≡◌, ℕ, ◌==◌, ◌≤◌, ◌*◌, ◌<◌, true, false, length, is_some, IfSome};
 ghost use Rattle.slab.specs.Slab.{get};
 ghost use Rattle.asset_chains.specs.Chained.{chain_of, home_of};
-ghost use Rattle.asset_records.specs.Handed.{is_picked, is_at, goes, picked_at, stands_in, HandedOne, IsHanded};
+ghost use Rattle.asset_records.specs.Handed.{given, is_picked, is_at, goes, picked_at, stands_in, HandedOne, IsHanded};
 
 use crate::dropping::counted;
 use crate::records::Record;
 use asset_chains::{Crossed, Side};
+use asset_names::Txn;
 use asset_seats::Sitter;
 
 /// The objects whose records a hand-over takes, by their indexes.
@@ -46,6 +47,18 @@ impl Picks for One {
     }
 }
 
+/// Returns the record, which is the taker's now unless it is nobody's.
+fn given(taker: Txn, one: Record) -> Record
+    ensures { result ≡ given taker one }
+{
+    let owner = taker;
+    match one {
+        Record::Write { before, .. } => Record::Write { owner, before },
+        Record::Add { amount, .. } => Record::Add { owner, amount },
+        Record::Lasting { amount } => Record::Lasting { amount },
+    }
+}
+
 /// Moves the record at the key to the column of the taker, whose it is then. Returns how many records were visited beside
 /// it: its neighbours, and the one that was the taker's last.
 fn move_at(records: &mut Crossed<Record>, key: usize, to: Sitter) -> usize
@@ -62,8 +75,7 @@ fn move_at(records: &mut Crossed<Record>, key: usize, to: Sitter) -> usize
     let Some(record) = records.get(key).copied() else {
         unreachable!();
     };
-    let owner = to.t;
-    records.replace(key, Record { owner, ..record });
+    records.replace(key, given(to.t, record));
     beside + after + last
 }
 

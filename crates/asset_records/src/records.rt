@@ -1,21 +1,103 @@
-//! The update records of the writes that stand, each in the row of its object and in the column of its owner.
+//! The update records of the operations that stand, each in the row of its object and in the column of its owner.
 
-use crate::dropping::{counted, drop_at, drop_through, hand_on};
+ghost use Rattle.std.specs.Prelude.{◌≡◌, ◌<◌, ◌^◌};
+ghost use Rattle.asset_records.specs.Listed.{record_of, seat_column};
+
+use crate::dropping::{counted, drop_at};
 use crate::handing::{One, Picks, hand_over_picked};
+use crate::mending::{Mend, mend_write, stands_over};
+use crate::settling::{next_to_settle, settle_at, shed};
 use asset_chains::{Crossed, Side};
 use asset_names::{NoMemory, Txn};
 use asset_seats::{Seats, Sitter, add_lines, reserve_item};
 use std::alloc::Global;
 use std::marker::Model;
 
-/// The update record of a write that stands: its owner and its before-image. What it wrote is the before-image of the
-/// next record of its object, or else the value in place.
+/// The update record of an operation that stands. What a write wrote is what the next write found less the adds between them,
+/// or else the value in place less the adds since.
 #[derive(Clone, Copy)]
-pub struct Record {
-    /// The transaction whose write it is.
-    pub owner: Txn,
-    /// The value that the object had before the write.
-    pub before: i64,
+pub enum Record {
+    /// A write: whose it is, and the value that the object had before.
+    Write { owner: Txn, before: i64 },
+    /// An add: whose it is, and the amount.
+    Add { owner: Txn, amount: i64 },
+    /// An add of nobody, which stands for good over a write that may go: the amount.
+    Lasting { amount: i64 },
+}
+
+impl Record {
+    ghost use Rattle.std.specs.Prelude.{◌≡◌, true, Some};
+    ghost use Rattle.asset_records.specs.Listed.{is_owned};
+    ghost use Rattle.asset_records.specs.Dropped.{added_by};
+    ghost use Rattle.asset_records.specs.Mended.{number_in, mend_by, mended_record};
+
+    /// Returns whether the record is somebody's.
+    pub(crate) fn is_somebodys(self) -> bool
+        ensures { result ≡ is_owned (λ n. true) self }
+    {
+        match self {
+            Record::Write { .. } => true,
+            Record::Add { .. } => true,
+            Record::Lasting { .. } => false,
+        }
+    }
+
+    /// Returns the amount of an add, and `None` for a write.
+    pub(crate) fn added(self) -> Option<i64>
+        ensures { result ≡ added_by (Some self) }
+    {
+        match self {
+            Record::Write { .. } => None,
+            Record::Add { amount, .. } => Some(amount),
+            Record::Lasting { amount } => Some(amount),
+        }
+    }
+
+    /// Returns what a write found, or the amount of an add.
+    pub(crate) fn number(self) -> i64
+        ensures { result ≡ number_in self }
+    {
+        match self {
+            Record::Write { before, .. } => before,
+            Record::Add { amount, .. } => amount,
+            Record::Lasting { amount } => amount,
+        }
+    }
+
+    /// Returns what becomes of the value over the record when it goes, if the adds over it make this value of the one that a
+    /// write found.
+    pub(crate) fn mend(self, value: i64) -> Mend
+        ensures { result ≡ mend_by self value }
+    {
+        match self {
+            Record::Write { .. } => Mend::Set(value),
+            Record::Add { amount, .. } => Mend::Less(amount),
+            Record::Lasting { amount } => Mend::Less(amount),
+        }
+    }
+
+    /// Returns the record, which finds the mended value if it is a write.
+    pub(crate) fn mended(self, mend: Mend) -> Record
+        ensures { result ≡ mended_record mend self }
+    {
+        match self {
+            Record::Write { owner, before } => Record::Write {
+                owner,
+                before: mend.mended(before),
+            },
+            Record::Add { owner, amount } => Record::Add { owner, amount },
+            Record::Lasting { amount } => Record::Lasting { amount },
+        }
+    }
+}
+
+/// An operation that changes an object, of which a record is kept.
+#[derive(Clone, Copy)]
+pub enum Change {
+    /// A write over the value `before`.
+    Wrote { before: i64 },
+    /// An add of the amount.
+    Added { amount: i64 },
 }
 
 /// What a record that was taken back leaves to do.
@@ -23,9 +105,18 @@ pub struct Record {
 pub struct Undone {
     /// The index of the object.
     pub object: usize,
-    /// The before-image that becomes the value of the object; `None` if a later record took it over.
-    pub restored: Option<i64>,
+    /// What becomes of the value in place; `None` if it stays, since a later write found the value that changes.
+    pub restored: Option<Mend>,
     /// How many records were visited, from 1 to 4.
+    pub visited: usize,
+}
+
+/// What became of the records of an object when one of them came to stand for good.
+#[derive(Clone, Copy)]
+pub struct Settled {
+    /// The index of the object.
+    pub object: usize,
+    /// How many records were visited, apart from those of nobody.
     pub visited: usize,
 }
 
@@ -46,6 +137,24 @@ impl Model for Records {
     ghost view = { λ r. r.records };
 }
 
+/// Returns the column of a seat.
+fn column(seat: usize) -> usize
+    requires { seat < 2 ^ 63 }
+    ensures { result ≡ seat_column seat }
+{
+    seat + 1
+}
+
+/// Returns the record of a change.
+fn record_of(owner: Txn, change: Change) -> Record
+    ensures { result ≡ record_of owner change }
+{
+    match change {
+        Change::Wrote { before } => Record::Write { owner, before },
+        Change::Added { amount } => Record::Add { owner, amount },
+    }
+}
+
 impl Records {
     ghost use Rattle.std.specs.Prelude.{◌≡◌, ℕ, ◌<◌, ◌≤◌, ◌+◌, ◌*◌, ◌==◌, cond, true, false, [], ◌∷◌, ◌++◌, None, Some, is_none, length, map, IfSome, IfNone, OnOk, OnErr, IsOk};
     ghost use Rattle.std.specs.List.{list_any};
@@ -54,8 +163,7 @@ impl Records {
     ghost use Rattle.asset_chains.specs.Crossed.{has_room};
     ghost use Rattle.asset_seats.specs.Seated.{Seated, seat, HasSeat};
     ghost use Rattle.asset_names.specs.declared.names.Txn.{Txn as Name};
-    ghost use Rattle.asset_records.specs.declared.records.Record.{Record as Update};
-    ghost use Rattle.asset_records.specs.Listed.{lists_in, on, is_of, records_by, ChangesOn, TakesBack, Settles, HasNone, IsTied, IsNoMore};
+    ghost use Rattle.asset_records.specs.Listed.{lists_in, on, is_of, records_by, record_of, seat_column, ChangesOn, TakesBack, Settles, Sheds, HasNone, IsTied, IsNoMore};
     ghost use Rattle.asset_records.specs.Handed.{renamed};
 
     /// Returns no objects and no records. It does not allocate.
@@ -85,13 +193,16 @@ impl Records {
 
     /// Adds columns until the seat has one. If memory runs out, some may have been added, and no record has changed.
     pub fn make_room(&mut self, c: usize) -> Result<(), NoMemory>
-        ensures room { OnOk result (c < length self.new.columns.chains) }
+        ensures room { OnOk result (seat_column c < length self.new.columns.chains) }
         ensures lists { lists_in self.new ≡ lists_in self.old }
         ensures reserved { has_room self.new ≡ has_room self.old }
         ensures few { IsNoMore self.old self.new }
         ensures tied { (seats : Seated) → IsTied self.old seats → IsTied self.new seats }
     {
-        add_lines(&mut self.records, Side::Column, c)
+        match c.checked_add(1) {
+            Some(column) => add_lines(&mut self.records, Side::Column, column),
+            None => Err(NoMemory),
+        }
     }
 
     /// Reserves the memory for one more record, which stands until that record. If memory runs out, no record changes.
@@ -106,7 +217,7 @@ impl Records {
     }
 
     /// Appends a record of the owner to those of the object. It uses the memory that `reserve` reserved.
-    pub fn push(&mut self, seats: &Seats, owner: Sitter, object: usize, before: i64)
+    pub fn push(&mut self, seats: &Seats, owner: Sitter, object: usize, change: Change)
         requires tied { IsTied self.old seats.now }
         requires sits { HasSeat seats.now owner }
         requires object { object < length (lists_in self.old) }
@@ -114,19 +225,18 @@ impl Records {
         ensures len { slab_len self.new.items ≡ slab_len self.old.items + 1 }
         ensures columns { length self.new.columns.chains ≡ length self.old.columns.chains }
         ensures tied { IsTied self.new seats.now }
-        ensures pushed { ChangesOn object (on (lists_in self.old) object ++ record { owner = owner.t; before = before } ∷ []) (lists_in self.old) (lists_in self.new) }
+        ensures pushed { ChangesOn object (on (lists_in self.old) object ++ record_of owner.t change ∷ []) (lists_in self.old) (lists_in self.new) }
     {
         let _ = seats;
         self.records.laws();
-        let update = Record {
-            owner: owner.t,
-            before,
-        };
-        self.records.insert(object, owner.at, update);
+        let at = column(owner.at);
+        self.records.insert(object, at, record_of(owner.t, change));
     }
 
     /// Takes back the newest record of the transaction, and returns what is left to do; `None` if it has none. That it is
     /// the newest is tested; the contract holds for any of its records.
+    ///
+    /// It looks at the adds over the record, up to the next write.
     pub fn take_back(&mut self, seats: &Seats, t: Sitter) -> Option<Undone>
         requires tied { IsTied self.old seats.now }
         requires sits { HasSeat seats.now t }
@@ -138,12 +248,13 @@ impl Records {
     {
         seats.laws();
         self.records.laws();
-        let key = self.records.last(Side::Column, t.at)?;
+        let at = column(t.at);
+        let key = self.records.last(Side::Column, at)?;
         let object = self.records.home(Side::Row, key)?;
-        let next = self.records.next(Side::Row, key);
-        let beside = counted(self.records.previous(Side::Row, key)) + counted(next);
+        let over = stands_over(&self.records, object, key);
+        let beside = counted(self.records.previous(Side::Row, key)) + counted(over.write);
         let visited = 1 + beside + counted(self.records.previous(Side::Column, key));
-        let restored = hand_on(&mut self.records, next, key);
+        let restored = mend_write(&mut self.records, over.write, over.mend);
         drop_at(&mut self.records, key);
         Some(Undone {
             object,
@@ -152,24 +263,36 @@ impl Records {
         })
     }
 
-    /// Drops the newest record of the transaction with all before it on its object, and returns how many records were
-    /// visited; `None` if it has none. That it is the newest is tested; the contract holds for any of its records.
-    pub fn settle_newest(&mut self, seats: &Seats, t: Sitter) -> Option<usize>
+    /// Makes a record of the transaction stand for good, and returns what became of it; `None` if it has none. A write goes, with
+    /// all before it on its object. An add becomes nobody's, or goes if no record stands before it on its object.
+    pub fn settle_next(&mut self, seats: &Seats, t: Sitter) -> Option<Settled>
         requires tied { IsTied self.old seats.now }
         requires sits { HasSeat seats.now t }
         ensures few { IsNoMore self.old self.new }
         ensures tied { IsTied self.new seats.now }
-        ensures settled { IfSome result (λ visited. Settles t.t.0 visited (lists_in self.old) (lists_in self.new)) }
+        ensures settled { IfSome result (λ settled. Settles t.t.0 settled.object settled.visited (lists_in self.old) (lists_in self.new)) }
         ensures none { IfNone result (HasNone t.t.0 (lists_in self.old) × (self.new ≡ self.old)) }
         ensures reserved { has_room self.old ≡ true → has_room self.new ≡ true }
     {
         seats.laws();
         self.records.laws();
-        let newest = self.records.last(Side::Column, t.at)?;
-        let object = self.records.home(Side::Row, newest)?;
-        let visited = drop_through(&mut self.records, object, newest);
+        let at = column(t.at);
+        let key = next_to_settle(&self.records, at)?;
+        let object = self.records.home(Side::Row, key)?;
+        let visited = settle_at(&mut self.records, object, key);
         self.records.laws();
-        Some(visited)
+        Some(Settled { object, visited })
+    }
+
+    /// Drops the adds of nobody that stand before all other records of the object.
+    pub fn shed(&mut self, object: usize)
+        ensures sheds { Sheds object (lists_in self.old) (lists_in self.new) }
+        ensures few { IsNoMore self.old self.new }
+        ensures tied { (seats : Seated) → IsTied self.old seats → IsTied self.new seats }
+        ensures reserved { has_room self.old ≡ true → has_room self.new ≡ true }
+    {
+        shed(&mut self.records, object);
+        self.records.laws();
     }
 
     /// Makes the giver's records on the objects that are picked the taker's, and changes nothing else. Both may be one,
@@ -201,7 +324,12 @@ impl Records {
         if taker.t.0 == giver.t.0 {
             return 0;
         }
-        let visits = hand_over_picked(&mut self.records, giver.at, taker, picks);
+        let to = Sitter {
+            t: taker.t,
+            at: column(taker.at),
+        };
+        let from = column(giver.at);
+        let visits = hand_over_picked(&mut self.records, from, to, picks);
         self.records.laws();
         visits
     }
@@ -238,15 +366,19 @@ impl Records {
 
     /// Returns whether no record is in the column of the seat.
     pub fn is_unused(&self, c: usize) -> bool
-        ensures { result ≡ is_none (first_of (chain_of self.now.columns c)) }
+        ensures { result ≡ is_none (first_of (chain_of self.now.columns (seat_column c))) }
     {
-        self.records.first(Side::Column, c).is_none()
+        self.records.laws();
+        match c.checked_add(1) {
+            Some(column) => self.records.first(Side::Column, column).is_none(),
+            None => true,
+        }
     }
 
     /// Says that one who has no seat, or one whose column is empty, has no record, for proofs. It does nothing.
     pub fn has_none(&self, seats: &Seats, t: Txn)
         requires tied { IsTied self.now seats.now }
-        requires none { (c : ℕ) → seat seats.now c ≡ Some t → first_of (chain_of self.now.columns c) ≡ None }
+        requires none { (c : ℕ) → seat seats.now c ≡ Some t → first_of (chain_of self.now.columns (seat_column c)) ≡ None }
         ensures { HasNone t.0 (lists_in self.now) }
     {
         let _ = seats;
@@ -255,8 +387,8 @@ impl Records {
 
     /// Says that no more columns have a record than there are records, for proofs. It does nothing.
     pub fn few_columns(&self)
-        ensures some { (c : ℕ) → is_none (first_of (chain_of self.now.columns c)) ≡ false → 1 ≤ slab_len self.now.items }
-        ensures few { (n : ℕ) → ((c : ℕ) → c < n → is_none (first_of (chain_of self.now.columns c)) ≡ false) → n ≤ slab_len self.now.items }
+        ensures some { (c : ℕ) → is_none (first_of (chain_of self.now.columns (seat_column c))) ≡ false → 1 ≤ slab_len self.now.items }
+        ensures few { (n : ℕ) → ((c : ℕ) → c < n → is_none (first_of (chain_of self.now.columns (seat_column c))) ≡ false) → n ≤ slab_len self.now.items }
     {
         self.records.laws();
     }
@@ -264,7 +396,7 @@ impl Records {
     /// Says that whoever has the seat of a column without records may leave it, for proofs. It does nothing.
     pub fn may_clear(&self, seats: &Seats)
         requires { IsTied self.now seats.now }
-        ensures left { (left : Seated) (at : ℕ) → is_none (first_of (chain_of self.now.columns at)) ≡ true → ((c : ℕ) → seat left c ≡ cond (c == at) None (seat seats.now c)) → IsTied self.now left }
+        ensures left { (left : Seated) (at : ℕ) → is_none (first_of (chain_of self.now.columns (seat_column at))) ≡ true → ((c : ℕ) → seat left c ≡ cond (c == at) None (seat seats.now c)) → IsTied self.now left }
     {
         let _ = seats;
         self.records.laws();
@@ -273,7 +405,7 @@ impl Records {
     /// Says that a seat that is free and has a column may be given, for proofs. It does nothing.
     pub fn may_sit(&self, seats: &Seats)
         requires { IsTied self.now seats.now }
-        ensures sits { (given : Seated) (at : ℕ) (t : Name) → seat seats.now at ≡ None → at < length self.now.columns.chains → ((c : ℕ) → seat given c ≡ cond (c == at) (Some t) (seat seats.now c)) → IsTied self.now given }
+        ensures sits { (given : Seated) (at : ℕ) (t : Name) → seat seats.now at ≡ None → seat_column at < length self.now.columns.chains → ((c : ℕ) → seat given c ≡ cond (c == at) (Some t) (seat seats.now c)) → IsTied self.now given }
     {
         let _ = seats;
         self.records.laws();

@@ -1,8 +1,10 @@
+use Rattle.asset_ends.proofs.TwiceLemmas.{nobody}
 use Rattle.asset_ends.proofs.EndingLemmas.{none_ending, next_ending, next_live, all_ended}
 use Rattle.asset_ends.proofs.ending.end_marked.Goals as goal
 
 pub marked-init : goal.marked-init
-marked-init c = none_ending c.args.how _ c.requires.live c.requires.tied
+unfolding nobody
+marked-init c = none_ending c.args.how _ (c.laws.ensures c.args.how) c.requires.live c.requires.tied
 
 pub next_marked_sitter-requires : goal.next_marked_sitter-requires
 next_marked_sitter-requires c = record { tied = c.marked.invariant.tied.deps }

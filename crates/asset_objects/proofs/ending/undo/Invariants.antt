@@ -5,7 +5,7 @@ use Rattle.asset_records.specs.Listed.{lists_in, records_by, IsTied, IsNoMore}
 use Rattle.asset_objects.specs.Placed.{cell_at}
 use Rattle.asset_objects.proofs.ending.undo.Given as goal
 
--- some writes of the transaction are taken back, and each cell is the same without them
+-- some updates of the transaction are taken back, and each cell is the same without them
 abbrev pub invariant-newest : goal.invariant-newest
 invariant-newest l = record {
   values : length l.values.items ≡ length l.initial.values.items;

@@ -1,4 +1,4 @@
-use Rattle.std.proofs.Common.{◌≡◌, pos, get_or, take, refl, sym, subst, w64, to_z, of_z, arith}
+use Rattle.std.proofs.Common.{◌≡◌, pos, get_or, take, refl, sym, ap, ◌∙◌, subst, w64, to_z, of_z, arith}
 use Rattle.std.specs.Prelude.{ℤ}
 use Rattle.std.proofs.lemmas.Int.{to_z-of_z}
 use Rattle.std.proofs.lemmas.List.{take_more}
@@ -7,7 +7,7 @@ use Rattle.asset_names.specs.Steps.{Opening}
 use Rattle.asset_names.specs.Sets.{HasNoDouble, twice}
 use Rattle.asset_records.specs.Listed.{lists_in}
 use Rattle.asset_objects.specs.Faults.{objects_of}
-use Rattle.asset_objects.specs.Placed.{IsOpened}
+use Rattle.asset_objects.specs.Placed.{IsOpened, word}
 use Rattle.asset_objects.proofs.PlacedLemmas.{opened_nothing, opened_more, new_pair}
 use Rattle.asset_objects.proofs.placed.place_all.Goals as goal
 
@@ -24,7 +24,7 @@ pairs-preserved c =
     let more = take_more opening c.pairs.x-index (record { 0 = 0 }, pos 0) (omega arith) in
     record {
       placed = subst (λ (front : Opening). IsOpened front c.add.new.self.objects.keys c.add.new.self.values.items (lists_in c.add.new.self.records)) (sym more)
-          (opened_more (take c.pairs.x-index opening) pair _ c.add.new.self.objects.keys _ c.add.new.self.values.items _ (lists_in c.add.new.self.records) c.pairs.invariant.placed c.if-not-add.ensures.objects added c.if-not-add.ensures.records);
+          (opened_more (take c.pairs.x-index opening) pair _ c.add.new.self.objects.keys _ c.add.new.self.values.items _ (lists_in c.add.new.self.records) c.pairs.invariant.placed c.if-not-add.ensures.objects added c.if-not-add.ensures.records (ap word (sym fits) ∙ c.if-not-add.ensures.fits ∙ fits));
       len = omega (arith, c.if-not-add.ensures.few.items, c.pairs.invariant.len);
       tied = λ seats nobody. c.if-not-add.ensures.tied seats (c.pairs.invariant.tied seats nobody);
       different = subst (λ (front : Opening). HasNoDouble (objects_of front)) (sym more) (new_pair (take c.pairs.x-index opening) pair _ c.pairs.invariant.placed.named c.if-not-add.ensures.different c.pairs.invariant.different);

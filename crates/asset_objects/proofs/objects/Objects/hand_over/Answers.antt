@@ -1,6 +1,6 @@
 use Rattle.std.proofs.Common.{◌≤◌, ◌*◌, eqb, ap, subst, ◌∙◌, arith}
 use Rattle.asset_names.specs.declared.names.Txn.{Txn}
-use Rattle.asset_objects.specs.Cells.{ObjectTable, writes_by}
+use Rattle.asset_objects.specs.Cells.{ObjectTable, updates_by}
 use Rattle.asset_objects.specs.Placed.{object_table, objects_in}
 use Rattle.asset_objects.proofs.objects.Objects.hand_over.Goals as goal
 
@@ -19,7 +19,7 @@ returns-in-Some-clause-counted c =
 pub returns-in-Some-clause-visits : goal.returns-in-Some-clause-visits
 unfolding object_table
 returns-in-Some-clause-visits c =
-    rw (← c.self.view_is) (subst (λ (u : Txn). c.hand_over.new.self.visits ≤ 4 * writes_by (λ n. eqb n u.0) (objects_in c.self.inside.table).rows) c.in-Some.ensures.found.1 c.hand_over.ensures.visits)
+    rw (← c.self.view_is) (subst (λ (u : Txn). c.hand_over.new.self.visits ≤ 4 * updates_by (λ n. eqb n u.0) (objects_in c.self.inside.table).rows) c.in-Some.ensures.found.1 c.hand_over.ensures.visits)
 
 pub returns-in-Some-clause-reserved : goal.returns-in-Some-clause-reserved
 unfolding object_table

@@ -19,7 +19,7 @@ invariant_of-self c =
     let room = spared.room (ap (λ (o : ObjectTable). o.reserved) c.self.view_is ∙ c.requires.reserved) in
     record {
       tied = c.write.ensures.tied;
-      columns = omega (arith, spared.columns, c.write.ensures.columns, c.seat_for-owner.ensures.slots);
+      columns = λ d within. omega (arith, spared.columns d (omega (arith, within, c.seat_for-owner.ensures.slots)), c.write.ensures.columns);
       spare = λ _. omega (arith, room, c.write.ensures.len, c.seat_for-owner.ensures.slots);
       room = λ reserved. absurd (true≢false (sym reserved ∙ c.write.ensures.reserved));
     }

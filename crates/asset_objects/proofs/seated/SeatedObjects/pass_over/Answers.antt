@@ -2,11 +2,11 @@ use Rattle.std.proofs.Common.{eqb, sym, ap, ◌∙◌}
 use Rattle.std.proofs.lemmas.Bool.{true≢false, false_from_ne_true}
 use Rattle.asset_records.specs.Listed.{lists_in, on, HasNone}
 use Rattle.asset_records.proofs.HandLemmas.{none_given}
-use Rattle.asset_objects.specs.Cells.{cells, undone, settled, handed_cell, change_each, change_where, has_written, standing}
+use Rattle.asset_objects.specs.Cells.{cells, undone, settled, handed_cell, change_each, change_where, has_update, standing}
 use Rattle.asset_objects.specs.Placed.{ObjectParts, object_table, objects_in}
 use Rattle.asset_objects.proofs.EndLemmas.{undone_all, settled_all}
 use Rattle.asset_objects.proofs.PlacedLemmas.{each_changed}
-use Rattle.asset_objects.proofs.HandLemmas.{where_handed, written_on}
+use Rattle.asset_objects.proofs.HandLemmas.{where_handed, updated_on}
 use Rattle.asset_objects.proofs.seated.SeatedObjects.pass_over.Goals as goal
 
 pub returns-clause-undone : goal.returns-clause-undone
@@ -40,7 +40,7 @@ returns-clause-standing c = ap (λ (p : ObjectParts). standing (objects_in p).ro
 
 pub returns-clause-nothing : goal.returns-clause-nothing
 unfolding HasNone
-returns-clause-nothing c = λ x cell there. false_from_ne_true (has_written c.args.t.0 cell) (λ wrote.
+returns-clause-nothing c = λ x cell there. false_from_ne_true (has_update c.args.t.0 cell) (λ wrote.
     let placed = c.self.inside.placed in
-    let found = written_on placed.objects.keys placed.values.items (lists_in placed.records) c.self.inside.reserved c.self.inside.visits (objects_in c.args.self.now) c.args.t.0 x cell (ap objects_in c.self.view_is) there wrote in
+    let found = updated_on placed.objects.keys placed.values.items (lists_in placed.records) c.self.inside.reserved c.self.inside.visits (objects_in c.args.self.now) c.args.t.0 x cell (ap objects_in c.self.view_is) there wrote in
     true≢false (sym found.2 ∙ c.has_none.ensures found.0))

@@ -2,7 +2,7 @@ use Rattle.std.proofs.Common.{eqb, ap, ◌∙◌, arith}
 use Rattle.asset_records.specs.Listed.{lists_in}
 use Rattle.asset_objects.specs.Cells.{cells, undone, change_each}
 use Rattle.asset_objects.specs.Placed.{object_table, objects_in}
-use Rattle.asset_objects.proofs.PlacedLemmas.{each_changed, writes_shown}
+use Rattle.asset_objects.proofs.PlacedLemmas.{each_changed, updates_shown}
 use Rattle.asset_objects.proofs.seated.SeatedObjects.undo.Goals as goal
 
 pub returns-clause-cells : goal.returns-clause-cells
@@ -16,5 +16,5 @@ pub returns-clause-visits : goal.returns-clause-visits
 unfolding object_table
 returns-clause-visits c =
     let placed = c.self.inside.placed in
-    let shown = writes_shown (λ n. eqb n c.args.t.t.0) placed.objects.keys placed.values.items (lists_in placed.records) c.self.inside.reserved c.self.inside.visits (objects_in c.args.self.now) (ap objects_in c.self.view_is) c.self.invariant.many in
+    let shown = updates_shown (λ n. eqb n c.args.t.t.0) placed.objects.keys placed.values.items (lists_in placed.records) c.self.inside.reserved c.self.inside.visits (objects_in c.args.self.now) (ap objects_in c.self.view_is) c.self.invariant.many in
     omega (arith, shown, c.undo-self-inside.ensures.visits)

@@ -1,14 +1,16 @@
 use Rattle.std.proofs.Common.{◌≡◌, ◌<◌, ◌++◌, [], ◌∷◌, Some, false, length, is_some, refl, sym, ap, ◌∙◌, w64, to_z, of_z, arith}
 use Rattle.std.specs.Prelude.{slice_set}
 use Rattle.std.proofs.lemmas.Bool.{false≢true}
-use Rattle.std.proofs.lemmas.Int.{to_z-of_z}
+use Rattle.std.proofs.lemmas.Int.{to_z-of_z, int_wrap_fits}
 use Rattle.std.proofs.lemmas.List.{length-set}
 use Rattle.asset_records.specs.declared.records.Record.{Record}
-use Rattle.asset_records.specs.Listed.{on, ChangesOn}
+use Rattle.asset_records.specs.declared.records.Record.TheVariants.{Write}
+use Rattle.asset_records.specs.Listed.{on, ChangesOn, record_of}
 use Rattle.asset_records.specs.Listed.{lists_in}
 use Rattle.asset_objects.specs.Cells.{cells, written, change_at}
-use Rattle.asset_objects.specs.Placed.{index_of, ObjectParts, objects_in}
-use Rattle.asset_objects.proofs.PlacedLemmas.{index_found, index_reads, has_index, read_value, write_cells, one_changed}
+use Rattle.asset_objects.specs.Placed.{word, index_of, value_at, recorded_cell, ObjectParts, objects_in}
+use Rattle.asset_objects.proofs.CellLemmas.{cell_written}
+use Rattle.asset_objects.proofs.PlacedLemmas.{index_found, index_reads, has_index, read_value, update_cells, one_changed}
 use Rattle.asset_objects.proofs.seated.SeatedObjects.write.Goals as goal
 
 pub unwrap-i-requires : goal.unwrap-i-requires
@@ -32,17 +34,22 @@ invariant_of-self c =
     }
 
 pub returns-clause-cells : goal.returns-clause-cells
+unfolding record_of
 returns-clause-cells c =
     let placed = c.self.inside.placed in
     let i = c.unwrap-i.result in
     let there : index_of placed.objects.keys c.args.x.0 ≡ Some i = sym (index_found _ c.args.x.0 (λ y. refl) placed.objects.keys) ∙ sym c.get_index_of.ensures.index ∙ c.unwrap-i.ensures in
     let within : i < length placed.values.items = omega (arith, (index_reads placed.objects.keys c.args.x.0 i there).0, c.self.invariant.valued) in
     let before = c.index-before.result.now in
-    let fits : to_z w64 (of_z w64 before) ≡ before = grind (arith, to_z-of_z) in
+    let at : before ≡ value_at placed.values.items i = read_value placed.values.items i before within c.index-before.ensures in
+    let small : to_z w64 (of_z w64 before) ≡ before = grind (arith, to_z-of_z) in
+    let fits : word c.args.v ≡ c.args.v = int_wrap_fits w64 c.args.v c.ranges.v in
     let wrote = to_z-of_z w64 c.args.v c.ranges.v in
-    let last : Record = record { owner = c.args.owner.t; before = before } in
-    let pushed : ChangesOn i (on (lists_in placed.records) i ++ last ∷ []) (lists_in placed.records) (lists_in c.push.new.self) = rw fits at c.push.ensures.pushed in
-    rw wrote (one_changed (written c.args.owner.t.0 c.args.v) c.args.x.0 i placed.objects.keys placed.values.items (slice_set placed.values.items i c.args.v) (lists_in placed.records) (lists_in c.push.new.self)
+    let last : Record = Write c.args.owner.t before in
+    let pushed : ChangesOn i (on (lists_in placed.records) i ++ last ∷ []) (lists_in placed.records) (lists_in c.push.new.self) = rw small at c.push.ensures.pushed in
+    let change = written c.args.owner.t.0 c.args.v in
+    rw wrote (one_changed change c.args.x.0 i placed.objects.keys placed.values.items (slice_set placed.values.items i c.args.v) (lists_in placed.records) (lists_in c.push.new.self)
     c.self.inside.reserved false c.self.inside.visits c.self.inside.visits there
-    (write_cells placed.values.items (lists_in placed.records) (lists_in c.push.new.self) i last c.args.v within (read_value placed.values.items i before within c.index-before.ensures) pushed)
-    ∙ ap (λ table. change_at c.args.x.0 (written c.args.owner.t.0 c.args.v) (cells table)) (ap objects_in c.self.view_is))
+    (update_cells change placed.values.items (lists_in placed.records) (lists_in c.push.new.self) i last c.args.v within
+    (λ records. cell_written records c.args.owner.t before c.args.v ∙ (λ k. written c.args.owner.t.0 (fits k) (recorded_cell records (at k)))) pushed)
+    ∙ ap (λ table. change_at c.args.x.0 change (cells table)) (ap objects_in c.self.view_is))

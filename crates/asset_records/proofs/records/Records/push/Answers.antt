@@ -1,12 +1,24 @@
-use Rattle.std.proofs.Common.{◌≡◌, Some, length, ap, subst, sym, w64, to_z, of_z, arith}
-use Rattle.std.proofs.lemmas.Int.{to_z-of_z}
+use Rattle.std.proofs.Common.{◌≡◌, ℕ, Some, is_some, length, refl, ap, subst, sym, ◌∙◌, arith}
 use Rattle.std.proofs.lemmas.List.{length-map}
-use Rattle.slab.specs.Slab.{Updates}
-use Rattle.asset_chains.specs.Crossed.{Crossed}
+use Rattle.asset_chains.specs.declared.side.Side.TheVariants.{Column}
+use Rattle.asset_chains.specs.Crossed.{Crossed, Joins}
 use Rattle.asset_records.specs.declared.records.Record.{Record}
-use Rattle.asset_records.specs.Listed.{at_keys, lists_in, IsTied}
+use Rattle.asset_records.specs.Listed.{at_keys, lists_in, owner_of, record_of, IsTied}
+use Rattle.asset_names.specs.declared.names.Txn.{Txn}
+use Rattle.asset_records.specs.declared.records.Change.{Change}
+use Rattle.asset_records.specs.declared.records.Change.TheVariants.{Wrote, Added}
 use Rattle.asset_records.proofs.PushLemmas.{pushed_tied, pushed_lists}
 use Rattle.asset_records.proofs.records.Records.push.Goals as goal
+
+whose : (t : Txn) (change : Change) → owner_of (record_of t change) ≡ Some t
+unfolding owner_of record_of
+whose t (Wrote before) = refl
+whose t (Added amount) = refl
+
+pub column-at-requires : goal.column-at-requires
+column-at-requires c =
+    let tied = subst (λ (r : Crossed Record). IsTied r c.args.seats.now) (sym c.self.view_is) c.requires.tied in
+    omega (arith, tied.within c.args.owner.at (ap is_some c.requires.sits), c.laws.ensures.few Column)
 
 pub insert-requires-clause-row : goal.insert-requires-clause-row
 insert-requires-clause-row c =
@@ -18,15 +30,14 @@ returns-clause-tied c =
     let records = c.self.inside.records in
     let seats = c.args.seats.now in
     let tied = subst (λ (r : Crossed Record). IsTied r seats) (sym c.self.view_is) c.requires.tied in
-    pushed_tied records c.insert.new.self seats _ c.insert.result c.args.object c.args.owner.at tied c.laws.ensures.crossed c.requires.sits c.insert.ensures.vacant c.insert.ensures.items c.insert.ensures.rows c.insert.ensures.columns
+    pushed_tied records c.insert.new.self seats c.record_of.result c.args.owner.t c.insert.result c.args.object c.args.owner.at tied c.laws.ensures.crossed (ap owner_of c.record_of.ensures ∙ whose c.args.owner.t c.args.change) c.requires.sits c.insert.ensures.vacant c.insert.ensures.items c.insert.ensures.rows
+    (subst (λ (n : ℕ). Joins n c.insert.result records.columns c.insert.new.self.columns) c.column-at.ensures c.insert.ensures.columns)
 
 pub returns-clause-pushed : goal.returns-clause-pushed
 returns-clause-pushed c =
     let records = c.self.inside.records in
     let seats = c.args.seats.now in
     let tied = subst (λ (r : Crossed Record). IsTied r seats) (sym c.self.view_is) c.requires.tied in
-    let update : Record = record { owner = c.args.owner.t; before = c.args.before } in
-    let fits : to_z w64 (of_z w64 c.args.before) ≡ c.args.before = grind (arith, to_z-of_z) in
-    let put : Updates records.items c.insert.new.self.items c.insert.result (Some update) = subst (λ v. Updates records.items c.insert.new.self.items c.insert.result (Some (record { owner = c.args.owner.t; before = v }))) fits c.insert.ensures.items in
-    rw (← c.self.view_is)
-    (pushed_lists records c.insert.new.self seats update c.insert.result c.args.object c.args.owner.at tied c.laws.ensures.crossed c.requires.sits c.insert.ensures.vacant put c.insert.ensures.rows c.insert.ensures.columns)
+    rw (← c.self.view_is, ← c.record_of.ensures)
+    (pushed_lists records c.insert.new.self seats c.record_of.result c.args.owner.t c.insert.result c.args.object c.args.owner.at tied c.laws.ensures.crossed (ap owner_of c.record_of.ensures ∙ whose c.args.owner.t c.args.change) c.requires.sits c.insert.ensures.vacant c.insert.ensures.items c.insert.ensures.rows
+    (subst (λ (n : ℕ). Joins n c.insert.result records.columns c.insert.new.self.columns) c.column-at.ensures c.insert.ensures.columns))
