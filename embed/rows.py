@@ -53,8 +53,10 @@ def lines_of(name, capacity, script, replies):
 
 
 def example_rows():
-    """Returns the rows of the examples."""
+    """Returns the rows of the examples. That of mistakes is for `asset check`: its lines are bad."""
     for path in sorted((TOP / "examples").glob("*.asset")):
+        if path.stem == "mistakes":
+            continue
         yield path.stem, CAPACITY, path.read_text(), path.with_suffix(".out").read_text()
 
 

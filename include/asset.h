@@ -64,14 +64,15 @@ enum {
     ASSET_DEPEND = 8,    /* Makes `second` depend on its source `first`; detail says how. */
     ASSET_COMMIT = 9,    /* Commits `first`, with all that group commits join to it. */
     ASSET_ABORT = 10,    /* Aborts `first`, with its class and all that depend on it by abort dependencies. */
-    ASSET_WAIT_FOR = 11  /* Asks whether `first` has completed or ended. */
+    ASSET_WAIT_FOR = 11, /* Asks whether `first` has completed or ended. */
+    ASSET_ADD = 12       /* `first` adds `value` to object `second`; the sum wraps to 64 bits. */
 };
 
 /* The detail of an initiate: whether it names a parent. */
 enum { ASSET_NO_PARENT = 0, ASSET_PARENT = 1 };
 
-/* The detail of a permit, and the operation that a waiter asked for (never both). */
-enum { ASSET_TO_READ = 1, ASSET_TO_WRITE = 2, ASSET_TO_READ_AND_WRITE = 3 };
+/* The detail of a permit, which is one of these or a sum of different ones, and the operation that a waiter asked for, which is one. */
+enum { ASSET_TO_READ = 1, ASSET_TO_WRITE = 2, ASSET_TO_READ_AND_WRITE = 3, ASSET_TO_ADD = 4 };
 
 /* The detail of a dependency. */
 enum { ASSET_COMMIT_DEPENDENCY = 1, ASSET_ABORT_DEPENDENCY = 2, ASSET_GROUP_COMMIT = 3 };

@@ -30,6 +30,7 @@ static const struct keyword keywords[] = {
     {"initiate", ASSET_INITIATE}, {"begin", ASSET_BEGIN},       {"read", ASSET_READ},     {"write", ASSET_WRITE},
     {"complete", ASSET_COMPLETE}, {"permit", ASSET_PERMIT},     {"delegate", ASSET_DELEGATE}, {"depend", ASSET_DEPEND},
     {"commit", ASSET_COMMIT},     {"abort", ASSET_ABORT},       {"wait", ASSET_WAIT_FOR},
+    {"add", ASSET_ADD},
 };
 
 static const char *const refusals[] = {"unknown", "ended", "not running", "taken", "begun", "no object", "same", "cycle", "too late"};
@@ -49,9 +50,9 @@ static void read_set(struct asset_step *step, char *word) {
     }
 }
 
-/* Reads operations: `r`, `w` or `rw`. */
+/* Reads operations: letters of `rwa`. */
 static uint32_t read_ops(const char *word) {
-    return (strchr(word, 'r') ? ASSET_TO_READ : 0) + (strchr(word, 'w') ? ASSET_TO_WRITE : 0);
+    return (strchr(word, 'r') ? ASSET_TO_READ : 0) + (strchr(word, 'w') ? ASSET_TO_WRITE : 0) + (strchr(word, 'a') ? ASSET_TO_ADD : 0);
 }
 
 /* Reads a kind of dependency: `cd`, `ad` or `gc`. */
@@ -67,7 +68,8 @@ static void read_operands(struct asset_step *step, char **words, int count) {
         step->detail = count == 3 ? ASSET_PARENT : ASSET_NO_PARENT;
         if (count == 3) step->second = number(words[2]);
         return;
-    case ASSET_WRITE: step->value = strtoll(words[3], NULL, 10); /* and its object */ /* fall through */
+    case ASSET_WRITE:
+    case ASSET_ADD: step->value = strtoll(words[3], NULL, 10); /* and its object */ /* fall through */
     case ASSET_READ: step->second = number(words[2]); return;
     case ASSET_PERMIT:
         step->second = number(words[2]);
@@ -224,7 +226,7 @@ static void expect_fault(struct asset *asset, struct asset_step step, uint32_t c
 static void wrong_steps(struct asset *asset) {
     struct asset_step permit = {.kind = ASSET_PERMIT, .detail = ASSET_TO_READ, .first = 7, .second = 8, .count = 1, .objects = {1}};
     struct asset_step step = permit;
-    const uint32_t kinds[] = {0, 12, 13, 99, 256 + ASSET_BEGIN, INT32_MAX, UINT32_MAX};
+    const uint32_t kinds[] = {0, 13, 14, 99, 256 + ASSET_BEGIN, INT32_MAX, UINT32_MAX};
     for (size_t i = 0; i < sizeof kinds / sizeof *kinds; i++)
         expect_fault(asset, (struct asset_step){.kind = kinds[i], .first = 7}, ASSET_BAD_ARGUMENT);
     expect_fault(asset, (struct asset_step){.kind = ASSET_INITIATE, .detail = 2, .first = 9}, ASSET_BAD_ARGUMENT);
@@ -232,7 +234,7 @@ static void wrong_steps(struct asset *asset) {
     expect_fault(asset, (struct asset_step){.kind = ASSET_DEPEND, .detail = 4, .first = 7, .second = 8}, ASSET_BAD_ARGUMENT);
     step.detail = 0;
     expect_fault(asset, step, ASSET_BAD_ARGUMENT);
-    step.detail = 4;
+    step.detail = 8;
     expect_fault(asset, step, ASSET_BAD_ARGUMENT);
     const uint64_t counts[] = {0, 17, 18, 256 + 1, (uint64_t)1 << 32, ASSET_ALL - 1};
     for (size_t i = 0; i < sizeof counts / sizeof *counts; i++) {

@@ -24,7 +24,15 @@ from asset import (
 from asset.library import Handle, PlainAnswer, PlainStep, library
 
 ROWS = ""
-OPERATIONS = {"r": Operations.READ, "w": Operations.WRITE, "rw": Operations.READ_AND_WRITE}
+OPERATIONS = {
+    "r": Operations.READ,
+    "w": Operations.WRITE,
+    "rw": Operations.READ_AND_WRITE,
+    "a": Operations.ADD,
+    "ra": Operations.READ_AND_ADD,
+    "wa": Operations.WRITE_AND_ADD,
+    "rwa": Operations.ALL,
+}
 TIES = {"cd": Tie.COMMIT_DEPENDENCY, "ad": Tie.ABORT_DEPENDENCY, "gc": Tie.GROUP_COMMIT}
 WORDS = {1: "ok", 3: "committed", 4: "aborted", 5: "wait", 22: "refused same", 23: "refused cycle"}
 
@@ -61,9 +69,9 @@ def line_of(asset: Asset, index: int) -> Tuple[str, str]:
     objects = "all" if entry.objects is None else ",".join(map(str, entry.objects))
     operations = {number: word for word, number in OPERATIONS.items()}
     words = ["wait" if entry.kind == StepKind.WAIT_FOR else entry.kind.name.lower(), str(entry.first)]
-    if entry.kind in (StepKind.READ, StepKind.WRITE, StepKind.PERMIT, StepKind.DELEGATE) or entry.kind == 1 and entry.detail:
+    if entry.kind in (StepKind.READ, StepKind.WRITE, StepKind.ADD, StepKind.PERMIT, StepKind.DELEGATE) or entry.kind == 1 and entry.detail:
         words.append(str(entry.second))
-    if entry.kind == StepKind.WRITE:
+    if entry.kind in (StepKind.WRITE, StepKind.ADD):
         words.append(str(entry.value))
     if entry.kind == StepKind.PERMIT:
         words += [operations[entry.detail], objects]
@@ -119,7 +127,7 @@ class Calls(unittest.TestCase):
 
     def test_wrong_steps(self) -> None:
         with Asset({1: 100}, 100) as asset:
-            for kind in (0, 12, 99, 2**32 - 1, 2**32 + 2, -1):
+            for kind in (0, 13, 99, 2**32 - 1, 2**32 + 2, -1):
                 with self.assertRaises(BadArgumentError):
                     asset.ask(kind, 7)
             for objects in ([], [1] * 17, list(range(17)), [1, 1], [-1], [2**64]):

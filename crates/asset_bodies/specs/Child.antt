@@ -14,7 +14,7 @@ initiates parent child = Initiate child (Some parent) ∷ []
 
 -- then it may do whatever conflicts with its parent, and begins
 abbrev pub begins : Txn → Txn → List Step
-begins parent child = Permit parent child All (op_set true true) ∷ Begin child ∷ []
+begins parent child = Permit parent child All (op_set true true true) ∷ Begin child ∷ []
 
 -- each step before the body was answered `Done`
 pub record Begun (parent child : Txn) (before later : List Call) : Type 0 where

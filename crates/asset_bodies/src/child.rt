@@ -11,7 +11,7 @@ ghost use Rattle.asset_bodies.specs.Run.{RunsChild};
 use crate::agent::{Agent, is_done};
 use crate::ends::{JobEnd, job_end};
 use crate::tx::{Finished, Tx};
-use asset_names::{Fault, ObSet, Op, Ops, Outcome, Step, Txn};
+use asset_names::{Fault, ObSet, Ops, Outcome, Step, Txn};
 use std::sync::Wait;
 
 /// What a transaction does. It is called at most once, with the transaction, and answers it ended. Its promise is that
@@ -57,11 +57,10 @@ fn begin_child<R: Wait>(rt: &R, agent: &mut Agent, parent: Txn, child: Txn) -> b
 }
 
 /// Returns the set of all operations.
-#[tactic(auto, unfolding(asset_names::specs::OpSets::only_op, asset_names::specs::OpSets::with_op))]
 fn all_operations() -> Ops
-    ensures { result ≡ op_set true true }
+    ensures { result ≡ op_set true true true }
 {
-    Ops::only(Op::Read).with(Op::Write)
+    Ops::with_add(true, true)
 }
 
 /// Permits the child all operations on all objects, and begins it; returns whether both were answered `Done`.

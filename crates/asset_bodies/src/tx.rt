@@ -134,6 +134,16 @@ impl Tx {
         self.ask(rt, &Step::Write { t: self.name, x, v })
     }
 
+    /// Adds the amount to an object; the sum wraps. The faults are those of `read`.
+    pub fn add<R: Wait>(&mut self, rt: &R, x: Ob, d: i64) -> Result<Outcome, Fault>
+        ensures same { IsSame self.old self.new }
+        ensures asked { IsListed self.old.list.calls (Step.Add self.old.name x d) result self.new.list.calls }
+        ensures room { OnOk result (HasRoom self.new) }
+        ensures kept { HasRoom self.old → HasRoom self.new }
+    {
+        self.ask(rt, &Step::Add { t: self.name, x, d })
+    }
+
     /// Lets the taker do the operations on the objects although they conflict with its own. The faults are those of
     /// `read`.
     pub fn permit<R: Wait>(

@@ -51,6 +51,7 @@ fn wanted(shape: Shape) -> &'static str
         Shape::OneTxn => " wants t",
         Shape::TxnAndObject => " wants t x",
         Shape::TxnObjectAndValue => " wants t x v",
+        Shape::TxnObjectAndAmount => " wants t x d",
         Shape::TxnsOpsAndSet => " wants t u ops set",
         Shape::TxnsAndSet => " wants t u set",
         Shape::KindAndTxns => " wants kind t u",

@@ -11,7 +11,7 @@ use std::io;
 const SCRIPTS: usize = 200;
 
 /// Lines and parts of lines.
-const LINES: [&[u8]; 24] = [
+const LINES: [&[u8]; 26] = [
     b"object 1 100",
     b"object 2 -5",
     b"object 2 7",
@@ -20,6 +20,8 @@ const LINES: [&[u8]; 24] = [
     b"begin 7",
     b"read 7 1",
     b"write 7 1 50",
+    b"add 7 1 -20",
+    b"add 7 1 +20",
     b"complete 7",
     b"permit 7 8 rw 3,1,2",
     b"delegate 7 8 all",

@@ -6,7 +6,7 @@ use asset_cli::RunEnd;
 use std::alloc::Global;
 
 /// Lines with what is printed of each if it is the only one.
-const BAD: [(&[u8], &str); 56] = [
+const BAD: [(&[u8], &str); 62] = [
     (b"inita 7", "line 1: unknown word inita\n"),
     (b"Read 7 1", "line 1: capital letter in Read\n"),
     (b"read 7", "line 1: read wants t x\n"),
@@ -15,6 +15,8 @@ const BAD: [(&[u8], &str); 56] = [
     (b"initiate", "line 1: initiate wants t or t p\n"),
     (b"initiate 1 2 3", "line 1: initiate wants t or t p\n"),
     (b"write 7 1", "line 1: write wants t x v\n"),
+    (b"add 7 1", "line 1: add wants t x d\n"),
+    (b"adds 7 1 2", "line 1: unknown word adds\n"),
     (b"permit 7 8 r", "line 1: permit wants t u ops set\n"),
     (b"delegate 7 8", "line 1: delegate wants t u set\n"),
     (b"depend 7 8", "line 1: depend wants kind t u\n"),
@@ -40,6 +42,8 @@ const BAD: [(&[u8], &str); 56] = [
     (b"permit 7 8 r 1, 2", "line 1: space beside a comma\n"),
     (b"permit 7 8 r 1 ,2", "line 1: space beside a comma\n"),
     (b"permit 7 8 wr 1", "line 1: wr is written rw\n"),
+    (b"permit 7 8 ar 1", "line 1: unknown operations ar\n"),
+    (b"permit 7 8 rwaa 1", "line 1: unknown operations rwaa\n"),
     (b"permit 7 8 rx 1", "line 1: unknown operations rx\n"),
     (b"depend CD 7 8", "line 1: unknown kind CD\n"),
     (b"depend cd 7 x", "line 1: not a number: x\n"),
@@ -53,6 +57,8 @@ const BAD: [(&[u8], &str); 56] = [
     ),
     (b"object 1 -0", "line 1: zero with a minus sign\n"),
     (b"write 7 1 +5", "line 1: plus sign in +5\n"),
+    (b"add 7 1 +5", "line 1: plus sign in +5\n"),
+    (b"add 7 1 -0", "line 1: zero with a minus sign\n"),
     (b"write 7 1 -07", "line 1: leading zero in -07\n"),
     (
         b"write 7 1 9223372036854775808",
@@ -93,7 +99,7 @@ const BAD: [(&[u8], &str); 56] = [
 ];
 
 /// Lines that are not bad.
-const GOOD: [&[u8]; 14] = [
+const GOOD: [&[u8]; 18] = [
     b"",
     b"# any text\r",
     b"#\t",
@@ -103,7 +109,11 @@ const GOOD: [&[u8]; 14] = [
     b"initiate 7 8",
     b"read 7 0",
     b"write 7 1 -1",
+    b"add 7 1 -1",
+    b"add 7 18446744073709551615 9223372036854775807",
     b"permit 7 8 rw all",
+    b"permit 7 8 a 1",
+    b"permit 7 8 rwa 1,2",
     b"delegate 7 8 16,15,14,13,12,11,10,9,8,7,6,5,4,3",
     b"delegate 7 8 1,2,3,4,5,6,7,8,9,10,11,12,13,14,15,16",
     b"depend gc 7 8",

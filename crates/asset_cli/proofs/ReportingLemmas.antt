@@ -1,5 +1,5 @@
 -- A report after what was played.
-use Rattle.std.proofs.Common.{◌≡◌, ℕ, Bool, true, false, List, ◌++◌, refl, sym, append_assoc}
+use Rattle.std.proofs.Common.{◌≡◌, ℕ, List, ◌++◌, refl, sym, append_assoc}
 use Rattle.asset_history.specs.Recorded.{Recorded}
 use Rattle.asset_cli.specs.declared.ends.RunEnd.{RunEnd}
 use Rattle.asset_cli.specs.declared.ends.RunEnd.TheVariants as RunEnd'
@@ -17,44 +17,23 @@ report_renders before mid after report bytes capacity left end text finished sam
     rw (wrote, ends, text, same, finished) (record { text = append_assoc before _ _; ends = refl })
 
 -- so after a history
-pub history_renders : (before mid after : List ℕ) (report : Recorded → Reported) (bytes : List ℕ) (capacity : ℕ) (left : Recorded) (end : RunEnd) → Plays before (transcript Nothing bytes capacity) mid false (Played'.Finished left)
+pub history_renders : (before mid after : List ℕ) (report : Recorded → Reported) (bytes : List ℕ) (capacity : ℕ) (left : Recorded) (end : RunEnd) → Plays before (transcript Nothing bytes capacity) mid (Played'.Finished left)
     → after ≡ mid ++ (report left).text → end ≡ (report left).end → Renders before (reported report bytes capacity) after end
 unfolding IsLeftBy
 history_renders before mid after report bytes capacity left end plays wrote ends = report_renders before mid after report bytes capacity left end plays.text plays.left.0 plays.left.1 wrote ends
 
--- and after a history with sources
-pub trace_renders : (before mid after : List ℕ) (report : Recorded → Reported) (bytes : List ℕ) (capacity : ℕ) (left : Recorded) (end : RunEnd) → Plays before (transcript Nothing bytes capacity) mid true (Played'.Traced left)
-    → after ≡ mid ++ (report left).text → end ≡ (report left).end → Renders before (reported report bytes capacity) after end
-unfolding IsLeftBy
-trace_renders before mid after report bytes capacity left end plays wrote ends = report_renders before mid after report bytes capacity left end plays.text plays.left.0 plays.left.1 wrote ends
-
--- how a bad line ends
-bad_ends : (before after : List ℕ) (all : Transcript) (traces : Bool) (n : ℕ) → Plays before all after traces (Played'.BadLine n) → all.end ≡ RunEnd'.BadLine n
-unfolding IsLeftBy
-bad_ends before after all true n plays = plays.left
-bad_ends before after all false n plays = plays.left
-
 -- a line was bad, and no report is made
-pub bad_line_renders : (before after : List ℕ) (report : Recorded → Reported) (bytes : List ℕ) (capacity n : ℕ) (traces : Bool) → Plays before (transcript Nothing bytes capacity) after traces (Played'.BadLine n)
+pub bad_line_renders : (before after : List ℕ) (report : Recorded → Reported) (bytes : List ℕ) (capacity n : ℕ) → Plays before (transcript Nothing bytes capacity) after (Played'.BadLine n)
     → Renders before (reported report bytes capacity) after (RunEnd'.BadLine n)
-unfolding reported with_report
-bad_line_renders before after report bytes capacity n traces plays = rw (bad_ends before after (transcript Nothing bytes capacity) traces n plays) (record { text = plays.text; ends = refl })
+unfolding reported with_report IsLeftBy
+bad_line_renders before after report bytes capacity n plays = rw plays.left (record { text = plays.text; ends = refl })
 
 -- every line was looked at
-pub run_renders : (before after : List ℕ) (all : Transcript) (left : Recorded) → Plays before all after false (Played'.Finished left) → Renders before all after RunEnd'.Finished
+pub run_renders : (before after : List ℕ) (all : Transcript) (left : Recorded) → Plays before all after (Played'.Finished left) → Renders before all after RunEnd'.Finished
 unfolding IsLeftBy
 run_renders before after all left plays = record { text = plays.text; ends = sym plays.left.0 }
 
 -- a line was bad
-pub bad_run_renders : (before after : List ℕ) (all : Transcript) (n : ℕ) → Plays before all after false (Played'.BadLine n) → Renders before all after (RunEnd'.BadLine n)
-bad_run_renders before after all n plays = record { text = plays.text; ends = sym (bad_ends before after all false n plays) }
-
--- a history with sources is not left by a run that keeps none
-pub none_traced : (before after : List ℕ) (all : Transcript) (left : Recorded) → Plays before all after false (Played'.Traced left) → ⊥
+pub bad_run_renders : (before after : List ℕ) (all : Transcript) (n : ℕ) → Plays before all after (Played'.BadLine n) → Renders before all after (RunEnd'.BadLine n)
 unfolding IsLeftBy
-none_traced before after all left plays = plays.left
-
--- nor one without by a run that keeps them
-pub none_finished : (before after : List ℕ) (all : Transcript) (left : Recorded) → Plays before all after true (Played'.Finished left) → ⊥
-unfolding IsLeftBy
-none_finished before after all left plays = plays.left
+bad_run_renders before after all n plays = record { text = plays.text; ends = sym plays.left }

@@ -10,32 +10,11 @@ use Rattle.asset_cli.specs.declared.ends.RunEnd.{RunEnd}
 use Rattle.asset_grammar.specs.Grammar.{line_of}
 use Rattle.asset_grammar.specs.Texts.{bad_line}
 use Rattle.asset_cli.specs.Transcript.{Transcript, answered_text, joined_by, steps_from, steps_transcript, step_line, printed, with_prefix, finished, stopped}
-use Rattle.asset_cli.specs.declared.player.Player.{Player}
-use Rattle.asset_cli.specs.declared.player.Player.TheVariants as Player'
 use Rattle.asset_cli.specs.declared.rendering.Played.TheVariants as Played'
-use Rattle.asset_cli.specs.Playing.{history_of, traces_in, left_of, prints_for, traces_for}
-use Rattle.asset_cli.specs.declared.reporting.Work.{Work}
-use Rattle.asset_cli.specs.declared.reporting.Work.TheVariants as Work'
 use Rattle.asset_names.specs.declared.replies.Outcome.{Outcome}
 use Rattle.asset_cli.specs.Rendering.{GoesOn, Ends, IsLeftBy, Plays, end_at, played_of}
 use Rattle.asset_cli.specs.declared.prints.Prints.{Prints}
 use Rattle.asset_cli.specs.declared.prints.Prints.TheVariants.{Nothing, Replies, Listing}
-
--- only a listing says which entry a step becomes
-pub answered_at : (prints : Prints) (n place next : ℕ) (step : Step) (outcome : Outcome) → (prints ≡ Listing → place ≡ next)
-    → answered_text prints n place step outcome ≡ answered_text prints n next step outcome
-unfolding answered_text
-answered_at Nothing n place next step outcome same = refl
-answered_at Replies n place next step outcome same = refl
-answered_at Listing n place next step outcome same = rw (same refl) refl
-
--- no sources are kept for a listing
-pub listing_plain : (work : Work) → prints_for work ≡ Listing → traces_for work ≡ false
-unfolding prints_for traces_for
-listing_plain Work'.Run e = refl
-listing_plain Work'.Steps e = refl
-listing_plain Work'.Sources e = absurd (cc)
-listing_plain (Work'.Report report) e = refl
 
 pub blank_goes_on : (prints : Prints) (before line : List ℕ) (more : List (List ℕ)) (n : ℕ) (h : Recorded) → line_of line ≡ Blank
     → GoesOn before (steps_transcript prints (line ∷ more) n h) before (steps_transcript prints more (n + 1) h)
@@ -78,20 +57,17 @@ unfolding steps_transcript finished end_at
 none_ends prints before n h = record { text = sym (append-nil before); ends = refl; history = refl }
 
 -- a bad line ends the run before the first step
-pub stopped_plays : (before after : List ℕ) (traces : Bool) (n : ℕ) (history : Recorded) → after ≡ before ++ bad_line n → Plays before (stopped n history) after traces (Played'.BadLine n)
+pub stopped_plays : (before after : List ℕ) (n : ℕ) (history : Recorded) → after ≡ before ++ bad_line n → Plays before (stopped n history) after (Played'.BadLine n)
 unfolding stopped IsLeftBy
-stopped_plays before after true n history wrote = record { text = wrote; left = refl }
-stopped_plays before after false n history wrote = record { text = wrote; left = refl }
+stopped_plays before after n history wrote = record { text = wrote; left = refl }
 
 -- the steps end, with every line looked at or at a bad line
-pub ended_plays : (before after : List ℕ) (all : Transcript) (player : Player) (bad : Option ℕ) → Ends before all after (end_at bad) (history_of player) → Plays before all after (traces_in player) (played_of (left_of player) bad)
-unfolding IsLeftBy end_at played_of history_of traces_in left_of
-ended_plays before after all (Player'.Plain core) None ends = record { text = ends.text; left = (sym ends.ends, ends.history) }
-ended_plays before after all (Player'.Tracing tracer) None ends = record { text = ends.text; left = (sym ends.ends, ends.history) }
-ended_plays before after all (Player'.Plain core) (Some n) ends = record { text = ends.text; left = sym ends.ends }
-ended_plays before after all (Player'.Tracing tracer) (Some n) ends = record { text = ends.text; left = sym ends.ends }
+pub ended_plays : (before after : List ℕ) (all : Transcript) (history : Recorded) (bad : Option ℕ) → Ends before all after (end_at bad) history → Plays before all after (played_of history bad)
+unfolding IsLeftBy end_at played_of
+ended_plays before after all history None ends = record { text = ends.text; left = (sym ends.ends, ends.history) }
+ended_plays before after all history (Some n) ends = record { text = ends.text; left = sym ends.ends }
 
 -- no step is there
-pub finished_plays : (before : List ℕ) (history : Recorded) (player : Player) → history_of player ≡ history → Plays before (finished history) before (traces_in player) (played_of (left_of player) None)
+pub finished_plays : (before : List ℕ) (history left : Recorded) → left ≡ history → Plays before (finished history) before (played_of left None)
 unfolding finished end_at
-finished_plays before history player e = ended_plays before before (finished history) player None (record { text = sym (append-nil before); ends = refl; history = e })
+finished_plays before history left e = ended_plays before before (finished history) left None (record { text = sym (append-nil before); ends = refl; history = e })

@@ -8,7 +8,6 @@ mod faults;
 mod laws;
 mod listing;
 mod opening_objects;
-mod player;
 mod preamble;
 mod prints;
 mod reading;

@@ -10,20 +10,18 @@ ghost use Rattle.asset_cli.specs.Transfers.{input_limit};
 ghost use Rattle.asset_cli.specs.Transcript.{answered_text, full_text, printed, joined_by, steps_from, steps_transcript, transcript};
 ghost use Rattle.asset_cli.specs.Rendering.{GoesOn, Ends, Plays, end_at, played_of};
 ghost use Rattle.asset_cli.specs.Preamble.{transcript_from};
-ghost use Rattle.asset_cli.specs.Playing.{history_of, traces_in, prints_for, traces_for};
-ghost use Rattle.asset_cli.specs.declared.prints.Prints.TheVariants.{Listing};
+ghost use Rattle.asset_cli.specs.Playing.{prints_for};
 
 use crate::faults::ScriptFault;
 use crate::listing::{entry_of, push_columns};
 use crate::opening_objects::OpeningObjects;
-use crate::player::{Left, Player, end_player, next_entry, open_player, play_step};
 use crate::preamble::{ObjectLine, Preamble, take_objects};
 use crate::prints::Prints;
 use crate::reporting::Work;
+use asset_core::Core;
 use asset_grammar::{Said, ScriptLines, push_bad_line, push_full, push_outcome};
 use asset_history::History;
 use asset_names::{Fault, Ob, Outcome, Step};
-use asset_sources::Trace;
 use std::alloc::{AllocError, Global};
 
 /// What is left of a script that was played.
@@ -31,22 +29,17 @@ use std::alloc::{AllocError, Global};
 pub(crate) enum Played {
     /// Every line was looked at, and this is the history.
     Finished(History),
-    /// Every line was looked at, and this is the history with the sources of what was read.
-    Traced(Trace),
     /// The line of this number is bad, and those after it were not looked at.
     BadLine(u64),
 }
 
 /// Returns what is left when steps end, at the bad line of this number if there is one.
 #[tactic(auto, unfolding(crate::specs::Rendering::played_of))]
-fn end_play(left: Left, bad: Option<u64>) -> Played
-    ensures { result ≡ played_of left bad }
+fn end_play(history: History, bad: Option<u64>) -> Played
+    ensures { result ≡ played_of history bad }
 {
     match bad {
-        None => match left {
-            Left::History(history) => Played::Finished(history),
-            Left::Trace(trace) => Played::Traced(trace),
-        },
+        None => Played::Finished(history),
         Some(number) => Played::BadLine(number),
     }
 }
@@ -94,24 +87,22 @@ fn push_unanswered(
     }
 }
 
-/// Asks one step on the line `number`, and appends what it prints to the text. For a listing the player keeps no sources.
+/// Asks one step on the line `number`, and appends what it prints to the text.
 #[inline(always)]
-#[tactic(auto, unfolding(crate::specs::Transcript::printed, crate::specs::Transcript::joined_by), using(crate::proofs::TranscriptLemmas::answered_at))]
+#[tactic(auto, unfolding(crate::specs::Transcript::printed, crate::specs::Transcript::joined_by))]
 fn ask(
-    player: &mut Player,
+    core: &mut Core,
     text: &mut String,
     step: &Step,
     number: u64,
     prints: Prints,
 ) -> Result<(), ScriptFault>
-    requires plain { prints ≡ Listing → traces_in player.old ≡ false }
-    ensures text { OnOk result (string_bytes text.new ≡ string_bytes text.old ++ printed prints number (history_of player.old) step.now (answer_to (history_of player.old) step.now)) }
-    ensures history { OnOk result (history_of player.new ≡ joined_by (history_of player.old) step.now (answer_to (history_of player.old) step.now)) }
-    ensures same { traces_in player.new ≡ traces_in player.old }
+    ensures text { OnOk result (string_bytes text.new ≡ string_bytes text.old ++ printed prints number core.old.history step.now (answer_to core.old.history step.now)) }
+    ensures history { OnOk result (core.new.history ≡ joined_by core.old.history step.now (answer_to core.old.history step.now)) }
     ensures memory { IfErr result (λ fault. fault ≡ ScriptFault.NoMemory) }
 {
-    let place = next_entry(player);
-    match play_step(player, step) {
+    let place = core.history().len();
+    match core.step_lent(step) {
         Ok(outcome) => Ok(push_answered(text, prints, number, place, step, outcome)?),
         Err(Fault::Full) => Ok(push_unanswered(text, prints, number, step)?),
         Err(Fault::NoMemory) => Err(ScriptFault::NoMemory),
@@ -120,25 +111,23 @@ fn ask(
 
 /// Renders one line among the steps, whose step is in the slot if it asks for one. Returns whether the run goes on.
 fn render_line(
-    player: &mut Player,
+    core: &mut Core,
     text: &mut String,
     said: Said,
     step: &Step,
     number: u64,
     prints: Prints,
 ) -> Result<bool, ScriptFault>
-    requires plain { prints ≡ Listing → traces_in player.old ≡ false }
     ensures goes_on { IfOk result (λ goes_on. OnTrue goes_on ((line : List ℕ) (more : List (List ℕ)) → line_of line ≡ said_as said step.now →
-        GoesOn (string_bytes text.old) (steps_transcript prints (line ∷ more) number (history_of player.old)) (string_bytes text.new) (steps_transcript prints more (number + 1) (history_of player.new)))) }
+        GoesOn (string_bytes text.old) (steps_transcript prints (line ∷ more) number core.old.history) (string_bytes text.new) (steps_transcript prints more (number + 1) core.new.history))) }
     ensures stops { IfOk result (λ goes_on. OnFalse goes_on ((line : List ℕ) (more : List (List ℕ)) → line_of line ≡ said_as said step.now →
-        Ends (string_bytes text.old) (steps_transcript prints (line ∷ more) number (history_of player.old)) (string_bytes text.new) (end_at (Some number)) (history_of player.new))) }
-    ensures same { traces_in player.new ≡ traces_in player.old }
+        Ends (string_bytes text.old) (steps_transcript prints (line ∷ more) number core.old.history) (string_bytes text.new) (end_at (Some number)) core.new.history)) }
     ensures memory { IfErr result (λ fault. fault ≡ ScriptFault.NoMemory) }
 {
     match said {
         Said::Blank => Ok(true),
         Said::Ask => {
-            ask(player, text, step, number, prints)?;
+            ask(core, text, step, number, prints)?;
             Ok(true)
         }
         Said::Object(_) => {
@@ -155,7 +144,7 @@ fn render_line(
 /// Renders the first step, which is in the slot and stands on the line `number`, and the lines after it. Returns the number of
 /// the bad line at which they end, if there is one.
 fn render_steps(
-    player: &mut Player,
+    core: &mut Core,
     text: &mut String,
     step: &mut Step,
     number: u64,
@@ -163,15 +152,13 @@ fn render_steps(
     prints: Prints,
 ) -> Result<Option<u64>, ScriptFault>
     requires few { number + length rest.old + 1 < 2 ^ 64 }
-    requires plain { prints ≡ Listing → traces_in player.old ≡ false }
-    ensures rendered { IfOk result (λ bad. Ends (string_bytes text.old) (steps_from prints step.old rest.old number (history_of player.old)) (string_bytes text.new) (end_at bad) (history_of player.new)) }
-    ensures same { traces_in player.new ≡ traces_in player.old }
+    ensures rendered { IfOk result (λ bad. Ends (string_bytes text.old) (steps_from prints step.old rest.old number core.old.history) (string_bytes text.new) (end_at bad) core.new.history) }
     ensures memory { IfErr result (λ fault. fault ≡ ScriptFault.NoMemory) }
 {
-    ask(player, text, step, number, prints)?;
+    ask(core, text, step, number, prints)?;
     let mut line_number = number + 1;
     'lines: while let Some(said) = rest.next_line(step) {
-        if !render_line(player, text, said, step, line_number, prints)? {
+        if !render_line(core, text, said, step, line_number, prints)? {
             return Ok(Some(line_number));
         }
         line_number += 1;
@@ -179,33 +166,32 @@ fn render_steps(
     Ok(None)
 }
 
-/// Renders the first step and the lines after it by a new player. Returns what is left.
+/// Renders the first step and the lines after it by a new facility. Returns what is left.
 fn play_steps(
-    player: Player,
+    core: Core,
     text: &mut String,
     preamble: Preamble<'_>,
     prints: Prints,
 ) -> Result<Played, ScriptFault>
     requires few { preamble.number + length preamble.rest + 1 < 2 ^ 64 }
-    requires plain { prints ≡ Listing → traces_in player ≡ false }
-    ensures played { IfOk result (λ played. Plays (string_bytes text.old) (steps_from prints preamble.entry.step preamble.entry.rest preamble.entry.number (history_of player)) (string_bytes text.new) (traces_in player) played) }
+    ensures played { IfOk result (λ played. Plays (string_bytes text.old) (steps_from prints preamble.entry.step preamble.entry.rest preamble.entry.number core.history) (string_bytes text.new) played) }
     ensures memory { IfErr result (λ fault. fault ≡ ScriptFault.NoMemory) }
 {
-    let mut player = player;
+    let mut core = core;
     let mut step = preamble.step;
     let mut rest = preamble.rest;
     let bad = render_steps(
-        &mut player,
+        &mut core,
         text,
         &mut step,
         preamble.number,
         &mut rest,
         prints,
     );
-    // Drops the tables in that call, so that what is left alone is here.
-    let left = end_player(player);
+    // Drops the tables in that call, so that the history alone is here.
+    let history = core.into_history();
     match bad {
-        Ok(bad) => Ok(end_play(left, bad)),
+        Ok(bad) => Ok(end_play(history, bad)),
         Err(fault) => Err(fault),
     }
 }
@@ -222,19 +208,19 @@ fn play_from(
     requires capacity { IsCapacity capacity }
     requires different { HasNoDouble (objects_of opening.now) }
     requires few { preamble.number + length preamble.rest + 1 < 2 ^ 64 }
-    ensures played { IfOk result (λ played. Plays (string_bytes text.old) (transcript_from (prints_for work) preamble.entry.line preamble.entry.step preamble.entry.rest preamble.entry.number opening.now capacity) (string_bytes text.new) (traces_for work) played) }
+    ensures played { IfOk result (λ played. Plays (string_bytes text.old) (transcript_from (prints_for work) preamble.entry.line preamble.entry.step preamble.entry.rest preamble.entry.number opening.now capacity) (string_bytes text.new) played) }
     ensures memory { IfErr result (λ fault. fault ≡ ScriptFault.NoMemory) }
 {
     if let ObjectLine::Bad = preamble.line {
         push_bad_line(text, preamble.number)?;
         return Ok(Played::BadLine(preamble.number));
     }
-    let Ok(player) = open_player(alloc, opening, capacity, work.traces()) else {
+    let Ok(core) = Core::open_distinct(alloc, opening, capacity) else {
         return Err(ScriptFault::NoMemory);
     };
     match preamble.line {
-        ObjectLine::First => play_steps(player, text, preamble, work.prints()),
-        _ => Ok(end_play(end_player(player), None)),
+        ObjectLine::First => play_steps(core, text, preamble, work.prints()),
+        _ => Ok(end_play(core.into_history(), None)),
     }
 }
 
@@ -249,7 +235,7 @@ pub(crate) fn play(
 ) -> Result<Played, ScriptFault>
     requires capacity { IsCapacity capacity }
     requires limit { length bytes.now ≤ input_limit }
-    ensures played { IfOk result (λ played. Plays (string_bytes text.old) (transcript (prints_for work) bytes.now capacity) (string_bytes text.new) (traces_for work) played) }
+    ensures played { IfOk result (λ played. Plays (string_bytes text.old) (transcript (prints_for work) bytes.now capacity) (string_bytes text.new) played) }
     ensures memory { IfErr result (λ fault. fault ≡ ScriptFault.NoMemory) }
 {
     let mut opening = OpeningObjects::new(alloc);

@@ -1,11 +1,11 @@
 //! What scripts are run for: their transcript, or a report on the history that they leave.
-ghost use Rattle.std.specs.Prelude.{◌≡◌, true, cond, ◌++◌, ◌≤◌, length, IfOk, IfErr, string_bytes};
+ghost use Rattle.std.specs.Prelude.{◌≡◌, true, cond, ◌++◌, ◌≤◌, length, OnOk, IfOk, IfErr, string_bytes};
 ghost use Rattle.asset_core.specs.OpenFaults.{IsCapacity};
 ghost use Rattle.asset_cli.specs.Transfers.{input_limit};
 ghost use Rattle.asset_cli.specs.declared.prints.Prints.TheVariants.{Replies, Listing};
 ghost use Rattle.asset_cli.specs.Transcript.{transcript};
 ghost use Rattle.asset_cli.specs.Rendering.{Renders};
-ghost use Rattle.asset_cli.specs.Playing.{prints_for, traces_for};
+ghost use Rattle.asset_cli.specs.Playing.{prints_for};
 ghost use Rattle.asset_cli.specs.Reporting.{report_of, reported, sourced};
 
 use crate::ends::RunEnd;
@@ -17,6 +17,7 @@ use asset_history::History;
 use asset_names::NoMemory;
 use asset_picture::push_picture;
 use asset_reports::{push_groups, push_pruned, push_serial, push_sources};
+use asset_sources::Trace;
 use std::alloc::Global;
 
 /// A report that is made of the history that a script leaves.
@@ -57,14 +58,6 @@ impl Work {
             Work::Sources => Prints::Nothing,
             Work::Report(_) => Prints::Nothing,
         }
-    }
-
-    /// Returns whether sources are to be kept.
-    #[tactic(auto, unfolding(crate::specs::Playing::traces_for))]
-    pub(crate) fn traces(self) -> bool
-        ensures { result ≡ traces_for self }
-    {
-        matches!(self, Work::Sources)
     }
 }
 
@@ -116,10 +109,17 @@ fn render_report(
             Ok(end) => Ok(end),
             Err(NoMemory) => Err(ScriptFault::NoMemory),
         },
-        Ok(Played::Traced(_)) => unreachable!(),
         Ok(Played::BadLine(number)) => Ok(RunEnd::BadLine(number)),
         Err(fault) => Err(fault),
     }
+}
+
+/// Finds the sources of what was read in a history, and appends them.
+fn push_found(alloc: Global, history: History, text: &mut String) -> Result<(), NoMemory>
+    ensures { OnOk result (string_bytes text.new ≡ string_bytes text.old ++ (sourced history).text) }
+{
+    let trace = Trace::of(alloc, history)?;
+    push_sources(&trace, text)
 }
 
 /// Appends the sources of what was read, unless a line is bad.
@@ -135,11 +135,10 @@ fn render_sources(
     ensures memory { IfErr result (λ fault. fault ≡ ScriptFault.NoMemory) }
 {
     match play(alloc, bytes, capacity, text, Work::Sources) {
-        Ok(Played::Traced(trace)) => match push_sources(&trace, text) {
+        Ok(Played::Finished(history)) => match push_found(alloc, history, text) {
             Ok(()) => Ok(RunEnd::Finished),
             Err(NoMemory) => Err(ScriptFault::NoMemory),
         },
-        Ok(Played::Finished(_)) => unreachable!(),
         Ok(Played::BadLine(number)) => Ok(RunEnd::BadLine(number)),
         Err(fault) => Err(fault),
     }
@@ -159,7 +158,6 @@ fn render_run(
 {
     match play(alloc, bytes, capacity, text, Work::Run) {
         Ok(Played::Finished(_)) => Ok(RunEnd::Finished),
-        Ok(Played::Traced(_)) => unreachable!(),
         Ok(Played::BadLine(number)) => Ok(RunEnd::BadLine(number)),
         Err(fault) => Err(fault),
     }
@@ -179,7 +177,6 @@ fn render_listing(
 {
     match play(alloc, bytes, capacity, text, Work::Steps) {
         Ok(Played::Finished(_)) => Ok(RunEnd::Finished),
-        Ok(Played::Traced(_)) => unreachable!(),
         Ok(Played::BadLine(number)) => Ok(RunEnd::BadLine(number)),
         Err(fault) => Err(fault),
     }

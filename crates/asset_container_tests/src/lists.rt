@@ -1,6 +1,6 @@
 //! Lists of keys beside a plain table of their parts, past the keys that lie in a list itself.
 
-use asset_lists::{KeyLists, Part};
+use asset_lists::{KeyLists, Part, Section};
 use asset_test_tools::next;
 use std::alloc::AllocError;
 
@@ -11,13 +11,25 @@ const LISTS: usize = 3;
 
 const CALLS: usize = 3_000;
 
-/// Where a key is in the plain table: its list, and whether it is in the front part.
-type Place = Option<(usize, bool)>;
+/// The parts of a list.
+const SECTIONS: [Section; 3] = [Section::Front, Section::Middle, Section::Back];
+
+/// Where a key is in the plain table: its list, and the number of its part there.
+type Place = Option<(usize, usize)>;
+
+/// Returns the number of a part of a list.
+fn number_of(section: Section) -> usize {
+    match section {
+        Section::Front => 0,
+        Section::Middle => 1,
+        Section::Back => 2,
+    }
+}
 
 /// Returns whether the plain table has the key in the part.
 fn is_in(places: &[Place], key: usize, part: Part) -> bool {
     match places.get(key) {
-        Some(Some((list, front))) => *list == part.list && *front == part.front,
+        Some(Some((list, section))) => *list == part.list && *section == number_of(part.section),
         _ => false,
     }
 }
@@ -41,8 +53,8 @@ fn has_keys(table: &KeyLists, places: &[Place], part: Part) -> bool {
 /// Returns whether lists and plain table agree, also past the last list and the last key.
 fn agrees(table: &KeyLists, places: &[Place]) -> bool {
     for list in 0..=LISTS {
-        for front in [false, true] {
-            if !has_keys(table, places, Part { list, front }) {
+        for section in SECTIONS {
+            if !has_keys(table, places, Part { list, section }) {
                 return false;
             }
         }
@@ -80,7 +92,7 @@ fn push(
         Err(AllocError) if agrees(table, places) => table.push(part, key)?,
         pushed => pushed?,
     }
-    set(places, key, Some((part.list, part.front)));
+    set(places, key, Some((part.list, number_of(part.section))));
     Ok(())
 }
 
@@ -88,7 +100,7 @@ fn push(
 fn advance(table: &mut KeyLists, places: &mut [Place], key: usize) {
     table.advance(key);
     if let Some(Some((list, _))) = places.get(key).copied() {
-        set(places, key, Some((list, true)));
+        set(places, key, Some((list, number_of(Section::Front))));
     }
 }
 
@@ -118,11 +130,11 @@ fn add_list(table: &mut KeyLists, places: &[Place]) -> Result<(), AllocError> {
 fn call(table: &mut KeyLists, places: &mut [Place], number: u64) -> Result<(), AllocError> {
     let list = (number >> 40) as usize % LISTS;
     let key = (number >> 30) as usize % KEYS;
-    let front = (number >> 45) % 2 == 0;
+    let section = SECTIONS[(number >> 45) as usize % SECTIONS.len()];
     match (number >> 50) % 16 {
         0 | 1 if table.key_count() < KEYS => add_key(table, places)?,
         2 if table.list_count() < LISTS => add_list(table, places)?,
-        3..=10 => push(table, places, Part { list, front }, key)?,
+        3..=10 => push(table, places, Part { list, section }, key)?,
         11 | 12 => advance(table, places, key),
         _ => remove(table, places, key),
     }
@@ -156,13 +168,13 @@ fn lists_agree_with_a_plain_table(rt: HostRuntime) {
     assert!(rt; full);
 }
 
-/// Puts all keys into the first list, each second one into its front part, and takes them out again.
+/// Puts all keys into the first list, by turns into its three parts, and takes them out again.
 fn fill_and_empty(table: &mut KeyLists, places: &mut [Place]) -> Result<bool, AllocError> {
     table.add_lists(0)?;
     table.add_keys(KEYS - 1)?;
     for key in 0..KEYS {
-        let front = key % 2 == 0;
-        push(table, places, Part { list: 0, front }, key)?;
+        let section = SECTIONS[key % SECTIONS.len()];
+        push(table, places, Part { list: 0, section }, key)?;
     }
     let filled = agrees(table, places);
     for key in 0..KEYS {

@@ -8,7 +8,7 @@ use Rattle.asset_names.specs.declared.names.Ob.{Ob}
 use Rattle.asset_names.specs.declared.operations.Op.{Op}
 use Rattle.asset_names.specs.declared.operations.Op.TheVariants as Op'
 use Rattle.asset_names.specs.declared.steps.Step.{Step}
-use Rattle.asset_names.specs.declared.steps.Step.TheVariants.{Initiate, Begin, Read, Write, Complete, Permit, Delegate, Depend, Commit, Abort, WaitFor}
+use Rattle.asset_names.specs.declared.steps.Step.TheVariants.{Initiate, Begin, Read, Write, Add, Complete, Permit, Delegate, Depend, Commit, Abort, WaitFor}
 use Rattle.asset_names.specs.declared.replies.Reply.{Reply}
 use Rattle.asset_names.specs.declared.replies.Outcome.{Outcome}
 use Rattle.asset_names.specs.declared.replies.Outcome.TheVariants.{Answer, Wait}
@@ -37,7 +37,7 @@ use Rattle.asset_history.specs.Recorded.{after}
 use Rattle.asset_core.specs.Pending.{Pending, asker_after, request_after, request_of, pending_of, new_asker, waiter_of, waiting_for}
 use Rattle.asset_steps.specs.Ready.{locks_after, locks_waiting, released}
 use Rattle.asset_core.specs.Tables.{asker_of, pending_in}
-use Rattle.asset_ends.proofs.HistoryLemmas.{live_quiet, begin_quiet, complete_quiet, read_ends, write_ends}
+use Rattle.asset_ends.proofs.HistoryLemmas.{live_quiet, begin_quiet, complete_quiet, read_ends, write_ends, add_ends}
 use Rattle.asset_ends.proofs.PermitLaws.{permit_ends}
 use Rattle.asset_ends.proofs.ShowsLemmas.{live_shown}
 use Rattle.asset_ends.specs.Shows.{Shows}
@@ -106,6 +106,10 @@ asker_keeps (Write t x v) outcome asker = go (eqb asker.name t.0) where
   go : (own : Bool) → (cond own (record asker { request = request_after (Write t x v) x Op'.Write outcome asker.request }) asker).name ≡ asker.name
   go true = refl
   go false = refl
+asker_keeps (Add t x v) outcome asker = go (eqb asker.name t.0) where
+  go : (own : Bool) → (cond own (record asker { request = request_after (Add t x v) x Op'.Add outcome asker.request }) asker).name ≡ asker.name
+  go true = refl
+  go false = refl
 asker_keeps (Initiate t parent) outcome asker = refl
 asker_keeps (Begin t) outcome asker = refl
 asker_keeps (Complete t) outcome asker = refl
@@ -140,6 +144,10 @@ asker_unchanged (Write t x v) reply asker none = rw none (go (eqb asker.name t.0
   go : (own : Bool) → cond own asker asker ≡ asker
   go true = refl
   go false = refl
+asker_unchanged (Add t x v) reply asker none = rw none (go (eqb asker.name t.0)) where
+  go : (own : Bool) → cond own asker asker ≡ asker
+  go true = refl
+  go false = refl
 asker_unchanged (Initiate t parent) reply asker none = refl
 asker_unchanged (Begin t) reply asker none = refl
 asker_unchanged (Complete t) reply asker none = refl
@@ -156,6 +164,7 @@ new_unchanged (Initiate t parent) reply none = rw none refl
 new_unchanged (Begin t) reply none = refl
 new_unchanged (Read t x) reply none = refl
 new_unchanged (Write t x v) reply none = refl
+new_unchanged (Add t x v) reply none = refl
 new_unchanged (Complete t) reply none = refl
 new_unchanged (Permit giver taker obs ops) reply none = refl
 new_unchanged (Delegate giver taker obs) reply none = refl
@@ -199,6 +208,7 @@ waiting_askers : (step : Step) (tables : Standing) → map (asker_after step Wai
 unfolding pending_in locks_waiting Locks.wait_in asker_after request_after
 waiting_askers (Read t x) tables = sym (askers_changed (Locks.waiting_row t.0 x Op'.Read) (asker_after (Read t x) Wait) tables.locks (waiting_is t.0 x Op'.Read))
 waiting_askers (Write t x v) tables = sym (askers_changed (Locks.waiting_row t.0 x Op'.Write) (asker_after (Write t x v) Wait) tables.locks (waiting_is t.0 x Op'.Write))
+waiting_askers (Add t x v) tables = sym (askers_changed (Locks.waiting_row t.0 x Op'.Add) (asker_after (Add t x v) Wait) tables.locks (waiting_is t.0 x Op'.Add))
 waiting_askers (Initiate t parent) tables = same_askers _ _ (λ asker. refl)
 waiting_askers (Begin t) tables = same_askers _ _ (λ asker. refl)
 waiting_askers (Complete t) tables = same_askers _ _ (λ asker. refl)
@@ -220,6 +230,7 @@ askers_waiting opening steps tables step stand =
       none (Begin t) = refl
       none (Read t x) = refl
       none (Write t x v) = refl
+      none (Add t x v) = refl
       none (Complete t) = refl
       none (Permit giver taker obs ops) = refl
       none (Delegate giver taker obs) = refl
@@ -334,6 +345,9 @@ askers_carried opening steps tables (Read t x) reply stand carried new =
 askers_carried opening steps tables (Write t x v) reply stand carried new =
     nobody_ended (Write t x v ∷ steps) steps (Write t x v) (Answer reply) (pending_in tables.locks) (λ n listed. live_quiet (Write t x v ∷ steps) steps refl (write_ends t x v steps) n ∙ asker_live opening steps tables stand n listed) refl
     ∙ granted_askers (Write t x v) t.0 x Op'.Write reply tables carried (λ asker. refl)
+askers_carried opening steps tables (Add t x v) reply stand carried new =
+    nobody_ended (Add t x v ∷ steps) steps (Add t x v) (Answer reply) (pending_in tables.locks) (λ n listed. live_quiet (Add t x v ∷ steps) steps refl (add_ends t x v steps) n ∙ asker_live opening steps tables stand n listed) refl
+    ∙ granted_askers (Add t x v) t.0 x Op'.Add reply tables carried (λ asker. refl)
 askers_carried opening steps tables (Permit giver taker obs ops) reply stand carried new =
     nobody_ended (Permit giver taker obs ops ∷ steps) steps (Permit giver taker obs ops) (Answer reply) (pending_in tables.locks) (λ n listed. live_quiet (Permit giver taker obs ops ∷ steps) steps refl (permit_ends giver taker obs ops steps) n ∙ asker_live opening steps tables stand n listed) refl
     ∙ same_askers _ _ (λ asker. refl)
@@ -362,13 +376,14 @@ waiters_as x kept = go kept where
   go [] = refl
   go (who ∷ everyone) = rw (one who.name who.pending, go everyone)
 
--- a wait of a step that is no read or write leaves the locks
+-- a wait of a step that is no operation leaves the locks
 pub waits_still : (step : Step) (tables : Standing) → is_operation step ≡ false → locks_waiting step tables ≡ tables.locks
 unfolding is_operation locks_waiting
 waits_still (Initiate t parent) tables none = refl
 waits_still (Begin t) tables none = refl
 waits_still (Read t x) tables none = absurd (false≢true (sym none))
 waits_still (Write t x v) tables none = absurd (false≢true (sym none))
+waits_still (Add t x v) tables none = absurd (false≢true (sym none))
 waits_still (Complete t) tables none = refl
 waits_still (Permit giver taker obs ops) tables none = refl
 waits_still (Delegate giver taker obs) tables none = refl

@@ -5,7 +5,7 @@ use Rattle.asset_names.specs.declared.names.Ob.{Ob}
 use Rattle.asset_names.specs.declared.operations.Op.{Op}
 use Rattle.asset_names.specs.declared.operations.Op.TheVariants as Op'
 use Rattle.asset_names.specs.declared.steps.Step.{Step}
-use Rattle.asset_names.specs.declared.steps.Step.TheVariants.{Initiate, Read, Write}
+use Rattle.asset_names.specs.declared.steps.Step.TheVariants.{Initiate, Read, Write, Add}
 use Rattle.asset_names.specs.declared.replies.Outcome.{Outcome}
 use Rattle.asset_names.specs.declared.replies.Outcome.TheVariants.{Answer, Wait}
 use Rattle.asset_names.specs.Steps.{Opening, takes_effect, applied}
@@ -33,10 +33,11 @@ unfoldable pub request_after : Step → Ob → Op → Outcome → Option (Ob × 
 request_after step x op Wait before = Some (x, op)
 request_after step x op (Answer reply) before = cond (takes_effect step reply) None before
 
--- a read or a write changes the pending request of its own transaction, and no other step changes one
+-- an operation changes the pending request of its own transaction, and no other step changes one
 unfoldable pub asker_after : Step → Outcome → Pending → Pending
 asker_after (Read t x) outcome asker = cond (asker.name == t.0) (record asker { request = request_after (Read t x) x Op'.Read outcome asker.request }) asker
 asker_after (Write t x v) outcome asker = cond (asker.name == t.0) (record asker { request = request_after (Write t x v) x Op'.Write outcome asker.request }) asker
+asker_after (Add t x v) outcome asker = cond (asker.name == t.0) (record asker { request = request_after (Add t x v) x Op'.Add outcome asker.request }) asker
 asker_after step outcome asker = asker
 
 -- a new transaction comes last, and nothing of it is pending

@@ -11,7 +11,7 @@ use Rattle.asset_history.specs.Recorded.{answer_to, after, has_room, is_ending}
 use Rattle.asset_core.specs.Pending.{Facility, pending_after}
 
 -- The outcome is the answer to the step. A reply is one entry more, and a wait is none; pending requests change as
--- `pending_after` says, and a wait of a step that is no read or write changes nothing. The answer is Full exactly if there
+-- `pending_after` says, and a wait of a step that is no read, write or add changes nothing. The answer is Full exactly if there
 -- is no room. NoMemory comes only if a step that may need memory takes effect. An ending that changes a status meets
 -- neither. After a fault nothing has changed.
 pub record IsStep (before : Facility) (step : Step) (result : Result Outcome Fault) (later : Facility) : Type 0 where

@@ -140,14 +140,14 @@ impl Core {
     }
 
     /// Asks for one step. An answered step, refused or not, becomes an entry of the history. A step that waits
-    /// does not, and may be asked again: a read or a write that waits becomes its transaction's pending
+    /// does not, and may be asked again: a read, a write or an add that waits becomes its transaction's pending
     /// request, until the next one that is granted.
     ///
     /// It answers `Full` exactly if the entries with this one, together with those that live transactions are
     /// owed after it, exceed the capacity. A complete, a commit or an abort that changes a status always finds
-    /// room. `NoMemory` can come only if an initiate, a read, a write, a permit, a delegation or a dependency would take
-    /// effect. After `Full` and `NoMemory` nothing has changed; nor has anything after a wait of a step that is no read or
-    /// write.
+    /// room. `NoMemory` can come only if an initiate, a read, a write, an add, a permit, a delegation or a dependency
+    /// would take effect. After `Full` and `NoMemory` nothing has changed; nor has anything after a wait of a step that is
+    /// no read, write or add.
     #[inline(always)]
     pub fn step(&mut self, step: Step) -> Result<Outcome, Fault>
         ensures { IsStep self.old step result self.new }
@@ -241,6 +241,7 @@ impl Core {
             Step::Begin { .. } => false,
             Step::Read { .. } => false,
             Step::Write { .. } => false,
+            Step::Add { .. } => false,
             Step::Permit { .. } => false,
             Step::Delegate { .. } => false,
             Step::Depend { .. } => false,

@@ -5,9 +5,10 @@ ghost use Rattle.std.specs.Prelude.{◌<◌};
 
 use crate::opening::ROOM;
 use crate::reference::first_difference;
-use asset_names::{Ob, Step};
+use asset_names::{Ob, Ops, Step};
 use asset_test_tools::{
-    abort, begin, commit, complete, delegate, initiate, next, permit, read, wait, write,
+    abort, add, begin, commit, complete, delegate, initiate, next, permit, permit_ops, read, wait,
+    write,
 };
 use std::alloc::Global;
 use std::test::Fail;
@@ -74,7 +75,8 @@ fn shared(number: u64, first: u64, count: u64, objects: u64) -> Step
     let x = ((number >> 20) % objects).saturating_add(1);
     let y = ((number >> 10) % objects).saturating_add(1);
     let ops = (number % 3 != 0, number % 3 != 1);
-    match (number >> 50) % 32 {
+    let with_add = Ops::with_add(number % 2 == 0, number % 3 == 0);
+    match (number >> 50) % 40 {
         0..=7 => read(t, x),
         8..=15 => write(t, x, (number % 1000) as i64),
         16..=20 => permit(t, taker, &[Ob(x)], ops),
@@ -84,7 +86,9 @@ fn shared(number: u64, first: u64, count: u64, objects: u64) -> Step
         28 => delegate(t, taker, &[]),
         29 => complete(t),
         30 => commit(t),
-        _ => abort(t),
+        31 => abort(t),
+        32..=36 => add(t, x, (number % 1000) as i64 - 500),
+        _ => permit_ops(t, taker, &[Ob(x)], with_add),
     }
 }
 

@@ -4,10 +4,11 @@ use crate::again::{ask, opened};
 use crate::opening::{ROOM, THREE};
 use crate::script::step_of;
 use asset_core::Core;
-use asset_names::{Fault, Ob, Outcome, Reply, Step, Txn};
+use asset_names::{Fault, Ob, Ops, Outcome, Reply, Step, Txn};
 use asset_reference::{answer, status_after, value_if_any};
 use asset_test_tools::{
-    abort, begin, commit, complete, delegate, initiate, next, permit, read, wait, write,
+    abort, add, begin, commit, complete, delegate, initiate, next, permit, permit_ops, read, wait,
+    write,
 };
 use std::alloc::Global;
 use std::test::Fail;
@@ -127,7 +128,7 @@ fn drawn(number: u64) -> Step {
     let t = 5 + (number >> 40) % 5;
     let x = 1 + (number >> 20) % 4;
     let taker = 5 + (number >> 30) % 5;
-    match (number >> 50) % 17 {
+    match (number >> 50) % 20 {
         0 | 1 => initiate(t),
         2 | 3 => begin(t),
         4 | 5 => read(t, x),
@@ -137,6 +138,13 @@ fn drawn(number: u64) -> Step {
         10 => abort(t),
         11 => wait(t),
         12 | 13 => permit(t, taker, &[Ob(x)], (number % 3 != 0, number % 3 != 1)),
+        17 | 18 => add(t, x, (number % 1000) as i64 - 500),
+        19 => permit_ops(
+            t,
+            taker,
+            &[Ob(x)],
+            Ops::with_add(number % 2 == 0, number % 3 == 0),
+        ),
         14 => permit(t, taker, &[], (true, true)),
         15 => delegate(t, taker, &[Ob(x)]),
         _ => delegate(t, taker, &[]),

@@ -1,6 +1,7 @@
 -- The cell of an object, as names end and as it is shown.
-use Rattle.std.proofs.Common.{◌≡◌, ℕ, Bool, true, false, cond, not, eqb, List, [], ◌∷◌, refl, sym, ap, Some, None}
-use Rattle.std.specs.Prelude.{ℤ, pos, Option, option_map, is_some, unwrap_or, ◌&&◌}
+use Rattle.std.proofs.Common.{◌≡◌, ◌∙◌, ℕ, Bool, true, false, cond, not, eqb, List, [], ◌∷◌, refl, sym, ap, Some, None}
+use Rattle.std.specs.Int.{w64, int_wrap}
+use Rattle.std.specs.Prelude.{ℤ, ◌+ℤ◌, pos, Option, option_map, is_some, unwrap_or, ◌&&◌}
 use Rattle.asset_names.specs.declared.statuses.End.{End}
 use Rattle.asset_names.specs.declared.statuses.End.TheVariants as End'
 use Rattle.asset_names.specs.declared.steps.Step.{Step}
@@ -8,9 +9,9 @@ use Rattle.asset_names.specs.Steps.{Opening}
 use Rattle.asset_names.specs.Endings.{end_of}
 use Rattle.asset_names.proofs.EndLemmas.{Ending}
 use Rattle.asset_names.specs.Operations.{Use, Operation, operations, opening_at, opening_value, exists, value_after, after_use, stands, was_aborted, value, value_if_any}
-use Rattle.asset_names.specs.Operations.Use.{reads, writes}
+use Rattle.asset_names.specs.Operations.Use.{reads, writes, adds}
 use Rattle.asset_objects.specs.Cells.{Effect, Cell, wrote, added, fresh, after, shown, shown_over, updated, placed, placed_anew, ended}
-use Rattle.asset_objects.proofs.UpdateLemmas.{ended_updated, ended_fresh, ended_lasting}
+use Rattle.asset_objects.proofs.UpdateLemmas.{shown_lasting, ended_updated, ended_fresh, ended_lasting}
 use Rattle.asset_ends.specs.Shows.{used, cell_after, cell_of}
 
 -- who passes the test of one name
@@ -49,6 +50,7 @@ cell_ended how test ends later alive is x first (o ∷ older) = go (eqb o.object
   go false act ih = ih
   go true reads ih = ih
   go true (writes v) ih = one (wrote v) ih
+  go true (adds d) ih = one (added d) ih
 
 -- a cell shows the value of the history
 cell_shown : (steps : List Step) (x : ℕ) (first : ℤ) (os : List Operation) → shown (cell_after (end_of steps) x first os) ≡ value_after (stands steps) x first os
@@ -65,6 +67,9 @@ cell_shown steps x first (o ∷ older) = go (eqb o.object x) o.use_of (end_of st
   go true (writes v) (Some End'.Committed) ih = refl
   go true (writes v) (Some End'.Aborted) ih = ih
   go true (writes v) None ih = refl
+  go true (adds d) (Some End'.Committed) ih = shown_lasting d (cell_after (end_of steps) x first older) ∙ ap (λ (v : ℤ). int_wrap w64 (v +ℤ d)) ih
+  go true (adds d) (Some End'.Aborted) ih = ih
+  go true (adds d) None ih = ap (λ (v : ℤ). int_wrap w64 (v +ℤ d)) ih
 
 -- the value that the cells show is that of the history
 pub value_shown : (opening : Opening) (steps : List Step) (x : ℕ) → option_map shown (cell_of opening steps x) ≡ value_if_any opening steps x

@@ -20,7 +20,7 @@ use Rattle.asset_names.specs.OpSets.{has_op}
 use Rattle.asset_names.specs.Steps.{Opening, initiated, initiated_by, begun, begun_by, completed, completed_by, parent_of, parent_by}
 use Rattle.asset_names.specs.Endings.{dependencies, dependency_by, live, end_of}
 use Rattle.asset_names.specs.Operations.{Use, Operation, operations, operated, opening_at, handed_over, holds, holds_object, permits}
-use Rattle.asset_names.specs.Operations.Use.{reads, writes}
+use Rattle.asset_names.specs.Operations.Use.{reads, writes, adds}
 use Rattle.asset_names.proofs.Common.{eqb-flip}
 use Rattle.asset_names.proofs.EndLemmas.{live_parts}
 use Rattle.asset_names.proofs.DelegateLemmas.{arrows_delegated, live_delegated, delegate_ends, holds_delegated, holds_by_some_op}
@@ -61,12 +61,14 @@ other_used : (giver taker owner : ℕ) (act : Use) (end : Option End) (cell : Ce
 unfolding used
 other_used giver taker owner reads end cell other = refl
 other_used giver taker owner (writes v) end cell other = other_placed giver taker owner (wrote v) end cell other
+other_used giver taker owner (adds d) end cell other = other_placed giver taker owner (added d) end cell other
 
 -- and of the giver, which is the taker's then
 giver_used : (giver taker : ℕ) (act : Use) (cell : Cell) → used None taker act (handed_cell giver taker cell) ≡ handed_cell giver taker (used None giver act cell)
 unfolding used
 giver_used giver taker reads cell = refl
 giver_used giver taker (writes v) cell = giver_placed giver taker (wrote v) cell
+giver_used giver taker (adds d) cell = giver_placed giver taker (added d) cell
 
 -- the cell after one more operation, over that of the older ones
 add_used : (ℕ → Option End) → ℕ → Cell → Operation → Cell
@@ -160,21 +162,19 @@ carries_given giver taker set table u y op valid enrolled = go (eqb giver taker)
         by_name true true f = ap (λ n. Locks.carries table n y op) (eqb-true u giver f) ∙ grind arith
         by_name true false f = refl
 
--- a lock carries an operation, so a transaction has one on an object where it carries a read or a write there
+-- a lock carries an operation, so a transaction has one on an object where it carries a read, a write or an add there
 on_carries : (x : ℕ) (locks : List Lock) → ((lock : Lock) → find (Rules.is_on x) locks ≡ Some lock → is_some_op lock.ops ≡ true)
-    → list_any (Rules.is_on x) locks ≡ (list_any (Rules.carries_on x Op'.Read) locks || list_any (Rules.carries_on x Op'.Write) locks)
+    → list_any (Rules.is_on x) locks ≡ (list_any (Rules.carries_on x Op'.Read) locks || (list_any (Rules.carries_on x Op'.Write) locks || list_any (Rules.carries_on x Op'.Add) locks))
 unfolding Rules.carries_on is_some_op
 on_carries x [] carry = refl
 on_carries x (lock ∷ locks) carry = go (Rules.is_on x lock) carry (on_carries x locks) where
   go : (on : Bool) → ((l : Lock) → cond on (Some lock) (find (Rules.is_on x) locks) ≡ Some l → is_some_op l.ops ≡ true)
-      → (((l : Lock) → find (Rules.is_on x) locks ≡ Some l → is_some_op l.ops ≡ true) → list_any (Rules.is_on x) locks ≡ (list_any (Rules.carries_on x Op'.Read) locks || list_any (Rules.carries_on x Op'.Write) locks))
-      → (on || list_any (Rules.is_on x) locks) ≡ ((on && has_op lock.ops Op'.Read || list_any (Rules.carries_on x Op'.Read) locks) || (on && has_op lock.ops Op'.Write || list_any (Rules.carries_on x Op'.Write) locks))
-  go true each rest = some lock.ops.read lock.ops.write (list_any (Rules.carries_on x Op'.Read) locks) (list_any (Rules.carries_on x Op'.Write) locks) (each lock refl) where
-    some : (r w a b : Bool) → (r || w) ≡ true → true ≡ ((r || a) || (w || b))
-    some true w a b h = refl
-    some false true true b h = refl
-    some false true false b h = refl
-    some false false a b h = absurd (true≢false (sym h))
+      → (((l : Lock) → find (Rules.is_on x) locks ≡ Some l → is_some_op l.ops ≡ true) → list_any (Rules.is_on x) locks ≡ (list_any (Rules.carries_on x Op'.Read) locks || (list_any (Rules.carries_on x Op'.Write) locks || list_any (Rules.carries_on x Op'.Add) locks)))
+      → (on || list_any (Rules.is_on x) locks)
+      ≡ ((on && has_op lock.ops Op'.Read || list_any (Rules.carries_on x Op'.Read) locks) || ((on && has_op lock.ops Op'.Write || list_any (Rules.carries_on x Op'.Write) locks) || (on && has_op lock.ops Op'.Add || list_any (Rules.carries_on x Op'.Add) locks)))
+  go true each rest = some lock.ops.read lock.ops.write lock.ops.add (list_any (Rules.carries_on x Op'.Read) locks) (list_any (Rules.carries_on x Op'.Write) locks) (list_any (Rules.carries_on x Op'.Add) locks) (each lock refl) where
+    some : (r w a b c d : Bool) → (r || w || a) ≡ true → true ≡ ((r || b) || ((w || c) || (a || d)))
+    some r w a b c d h = grind (arith, h)
   go false each rest = rest each
 
 -- the objects of the set on which the giver has a lock are those that it hands over
@@ -198,7 +198,7 @@ lists_moved steps table giver obs valid same x =
       held =
           any_map (λ (o : Ob). eqb o.0 x) (λ (lock : Lock). lock.object) (Locks.locks_of table giver)
           ∙ on_carries x (Locks.locks_of table giver) (valid.carry giver x)
-          ∙ (λ i. own Op'.Read i || own Op'.Write i)
+          ∙ (λ i. own Op'.Read i || (own Op'.Write i || own Op'.Add i))
           ∙ sym (holds_by_some_op steps giver x)
 
 -- ---- permits

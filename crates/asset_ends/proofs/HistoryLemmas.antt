@@ -11,7 +11,7 @@ use Rattle.asset_names.specs.declared.statuses.End.{End}
 use Rattle.asset_names.specs.declared.statuses.End.TheVariants as End'
 use Rattle.asset_names.specs.declared.steps.Kind.{Kind}
 use Rattle.asset_names.specs.declared.steps.Step.{Step}
-use Rattle.asset_names.specs.declared.steps.Step.TheVariants.{Initiate, Begin, Read, Write, Complete, Commit, Abort, WaitFor}
+use Rattle.asset_names.specs.declared.steps.Step.TheVariants.{Initiate, Begin, Read, Write, Add, Complete, Commit, Abort, WaitFor}
 use Rattle.asset_names.specs.Arrows.{lists}
 use Rattle.asset_names.specs.Steps.{Opening, initiated, initiated_by}
 use Rattle.asset_names.specs.Endings.{dependencies, dependency_by, live, end_of, ended_by}
@@ -21,7 +21,7 @@ use Rattle.asset_names.proofs.LiveLemmas.{live_initiate}
 use Rattle.asset_names.proofs.EndLemmas.{live_parts, commits, aborts, commits_live, aborts_live, commit_ends, abort_ends}
 use Rattle.asset_names.proofs.Common.{cond_same, option_or_none}
 use Rattle.asset_names.proofs.ListLemmas.{lists_pushed}
-use Rattle.asset_objects.specs.Cells.{change_at, change_each, wrote, written, undone, settled, placed}
+use Rattle.asset_objects.specs.Cells.{Effect, Cell, change_at, change_each, updated, undone, settled}
 use Rattle.asset_ends.specs.Shows.{used, cell_after, cell_of}
 use Rattle.asset_ends.proofs.CellLemmas.{cell_same, cell_ended}
 
@@ -180,7 +180,7 @@ enrolled_end later steps test names alive =
     rw names (filter_twice (λ n. not (test n)) (live steps) (reverse (initiated steps))
     ∙ filter_same (λ n. not (test n) && live steps n) (live later) (reverse (initiated steps)) (λ n listed. sym (alive n)))
 
--- reads and writes end nobody
+-- reads, writes and adds end nobody
 pub read_ends : (u : Txn) (y : Ob) (steps : List Step) (n : ℕ) → end_of (Read u y ∷ steps) n ≡ end_of steps n
 unfolding end_of ended_by
 read_ends u y steps n = option_or_none (end_of steps n)
@@ -192,6 +192,10 @@ wait_ends u steps n = option_or_none (end_of steps n)
 pub write_ends : (u : Txn) (y : Ob) (w : ℤ) (steps : List Step) (n : ℕ) → end_of (Write u y w ∷ steps) n ≡ end_of steps n
 unfolding end_of ended_by
 write_ends u y w steps n = option_or_none (end_of steps n)
+
+pub add_ends : (u : Txn) (y : Ob) (d : ℤ) (steps : List Step) (n : ℕ) → end_of (Add u y d ∷ steps) n ≡ end_of steps n
+unfolding end_of ended_by
+add_ends u y d steps n = option_or_none (end_of steps n)
 
 -- the cell of an object after a read: it is as it was
 pub cell_read : (opening : Opening) (u : Txn) (y : Ob) (steps : List Step) (x : ℕ) → cell_of opening (Read u y ∷ steps) x ≡ cell_of opening steps x
@@ -206,24 +210,22 @@ cell_read opening u y steps x = go (opening_at opening x) where
   go None = refl
   go (Some v) = ap Some (cond_same (eqb y.0 x) _ ∙ cell_same (end_of steps) (end_of (Read u y ∷ steps)) ends x v (operations steps))
 
--- the cell of an object after a write of a live transaction: one more write stands
-pub cell_write : (opening : Opening) (u : Txn) (y : Ob) (w : ℤ) (steps : List Step) (x : ℕ) → live steps u.0 ≡ true
-    → change_at y.0 (written u.0 w) (cell_of opening steps) x ≡ cell_of opening (Write u y w ∷ steps) x
-unfolding cell_of operations operated cell_after used placed change_at
-cell_write opening u y w steps x alive = go (eqb y.0 x) (opening_at opening x) where
-  ends : (n : ℕ) → end_of (Write u y w ∷ steps) n ≡ end_of steps n
-  ends n = write_ends u y w steps n
-
-  none : end_of (Write u y w ∷ steps) u.0 ≡ None
-  none = ends u.0 ∙ (live_parts steps u.0 alive).1
+-- the cell of an object after a step of a live transaction that changes it: one more update stands
+pub cell_updated : (opening : Opening) (step : Step) (u y : ℕ) (act : Use) (effect : Effect) (steps : List Step) (x : ℕ) → operations (step ∷ steps) ≡ record { owner = u; object = y; use_of = act } ∷ operations steps
+    → ((n : ℕ) → end_of (step ∷ steps) n ≡ end_of steps n) → ((cell : Cell) → used None u act cell ≡ updated (Some u) effect cell) → live steps u ≡ true
+    → change_at y (updated (Some u) effect) (cell_of opening steps) x ≡ cell_of opening (step ∷ steps) x
+unfolding cell_of cell_after change_at
+cell_updated opening step u y act effect steps x applied ends does alive = rw applied (go (eqb y x) (opening_at opening x)) where
+  none : end_of (step ∷ steps) u ≡ None
+  none = ends u ∙ (live_parts steps u alive).1
 
   go : (here : Bool) (first : Option ℤ)
-      → cond here (option_map (written u.0 w) (option_map (λ v. cell_after (end_of steps) x v (operations steps)) first)) (option_map (λ v. cell_after (end_of steps) x v (operations steps)) first)
-      ≡ option_map (λ v. cond here (placed (end_of (Write u y w ∷ steps) u.0) u.0 (wrote w) (cell_after (end_of (Write u y w ∷ steps)) x v (operations steps))) (cell_after (end_of (Write u y w ∷ steps)) x v (operations steps))) first
+      → cond here (option_map (updated (Some u) effect) (option_map (λ v. cell_after (end_of steps) x v (operations steps)) first)) (option_map (λ v. cell_after (end_of steps) x v (operations steps)) first)
+      ≡ option_map (λ v. cond here (used (end_of (step ∷ steps) u) u act (cell_after (end_of (step ∷ steps)) x v (operations steps))) (cell_after (end_of (step ∷ steps)) x v (operations steps))) first
   go true None = refl
   go false None = refl
-  go true (Some v) = rw (none, cell_same (end_of steps) (end_of (Write u y w ∷ steps)) ends x v (operations steps)) refl
-  go false (Some v) = rw (cell_same (end_of steps) (end_of (Write u y w ∷ steps)) ends x v (operations steps)) refl
+  go true (Some v) = ap Some (sym (does (cell_after (end_of steps) x v (operations steps))) ∙ rw (none, cell_same (end_of steps) (end_of (step ∷ steps)) ends x v (operations steps)) refl)
+  go false (Some v) = rw (cell_same (end_of steps) (end_of (step ∷ steps)) ends x v (operations steps)) refl
 
 -- the cell of an object after an end
 pub cell_abort : (opening : Opening) (t : Txn) (steps : List Step) (x : ℕ) → change_each (undone (aborts steps t.0)) (cell_of opening steps) x ≡ cell_of opening (Abort t ∷ steps) x

@@ -24,6 +24,11 @@ has_with_op Op'.Read Op'.Read ops = refl
 has_with_op Op'.Read Op'.Write ops = refl
 has_with_op Op'.Write Op'.Read ops = refl
 has_with_op Op'.Write Op'.Write ops = refl
+has_with_op Op'.Read Op'.Add ops = refl
+has_with_op Op'.Write Op'.Add ops = refl
+has_with_op Op'.Add Op'.Read ops = refl
+has_with_op Op'.Add Op'.Write ops = refl
+has_with_op Op'.Add Op'.Add ops = refl
 
 has_only : (o op : Op) → has_op (only_op o) op ≡ same_op o op
 unfolding only_op same_op
@@ -31,6 +36,11 @@ has_only Op'.Read Op'.Read = refl
 has_only Op'.Read Op'.Write = refl
 has_only Op'.Write Op'.Read = refl
 has_only Op'.Write Op'.Write = refl
+has_only Op'.Read Op'.Add = refl
+has_only Op'.Write Op'.Add = refl
+has_only Op'.Add Op'.Read = refl
+has_only Op'.Add Op'.Write = refl
+has_only Op'.Add Op'.Add = refl
 
 -- ---- the locks of one transaction after a grant
 taken_carries : (y : ℕ) (o : Op) (x : ℕ) (op : Op) (lock : Lock) → carries_on x op (taken y o lock) ≡ ((is_on y lock && (eqb y x && same_op o op)) || carries_on x op lock)
@@ -151,15 +161,19 @@ names_released test table = go table where
 -- one of the operations conflicts with op
 conflicts_by : (ops : OpSet) (other op : Op) → has_op ops other ≡ true → conflict other op ≡ true → one_conflicts ops op ≡ true
 unfolding one_conflicts
-conflicts_by ops Op'.Read op has conflicts = or_left _ _ (and_from _ _ has conflicts)
-conflicts_by ops Op'.Write op has conflicts = or_right _ _ (and_from _ _ has conflicts)
+conflicts_by ops Op'.Read op has conflicts = or_left _ _ (or_left _ _ (and_from _ _ has conflicts))
+conflicts_by ops Op'.Write op has conflicts = or_left _ _ (or_right _ _ (and_from _ _ has conflicts))
+conflicts_by ops Op'.Add op has conflicts = or_right _ _ (and_from _ _ has conflicts)
 
 -- an operation of the lock that conflicts
-conflicting_op : (ops : OpSet) (op : Op) → one_conflicts ops op ≡ true → ((has_op ops Op'.Read ≡ true) × (conflict Op'.Read op ≡ true)) ⊎ ((has_op ops Op'.Write ≡ true) × (conflict Op'.Write op ≡ true))
+conflicting_op : (ops : OpSet) (op : Op) → one_conflicts ops op ≡ true → (other : Op) × (has_op ops other ≡ true) × (conflict other op ≡ true)
 unfolding one_conflicts
 conflicting_op ops op h = elim (or_cases _ _ h) [
-  | inl reading ↦ inl (and_parts _ _ reading)
-  | inr writing ↦ inr (and_parts _ _ writing)
+  | inl other ↦ elim (or_cases _ _ other) [
+    | inl reading ↦ let both = and_parts _ _ reading in (Op'.Read, both.0, both.1)
+    | inr writing ↦ let both = and_parts _ _ writing in (Op'.Write, both.0, both.1)
+  ]
+  | inr adding ↦ let both = and_parts _ _ adding in (Op'.Add, both.0, both.1)
 ]
 
 -- locks that carry an operation in conflict conflict
@@ -178,10 +192,8 @@ conflict_carried x op [] h = absurd (false≢true h)
 conflict_carried x op (lock ∷ locks) h = elim (or_cases (conflicts_on x op lock) _ h) [
   | inl here ↦
       let parts = and_parts (is_on x lock) (one_conflicts lock.ops op) here in
-      elim (conflicting_op lock.ops op parts.1) [
-        | inl reading ↦ (Op'.Read, or_left _ _ (and_from _ _ parts.0 reading.0), reading.1)
-        | inr writing ↦ (Op'.Write, or_left _ _ (and_from _ _ parts.0 writing.0), writing.1)
-      ]
+      let found = conflicting_op lock.ops op parts.1 in
+      (found.0, or_left _ _ (and_from _ _ parts.0 found.1), found.2)
   | inr later ↦ let found = conflict_carried x op locks later in (found.0, or_right (carries_on x found.0 lock) _ found.1, found.2)
 ]
 

@@ -14,13 +14,14 @@ use Rattle.asset_names.specs.declared.statuses.End.{End}
 use Rattle.asset_names.specs.Counted.{ended_count}
 use Rattle.asset_names.specs.declared.steps.Kind.{Kind}
 use Rattle.asset_names.specs.declared.steps.Step.{Step}
-use Rattle.asset_names.specs.declared.steps.Step.TheVariants.{Initiate, Begin, Read, Write, Complete, Permit, Depend, Commit, Abort, WaitFor}
+use Rattle.asset_names.specs.declared.steps.Step.TheVariants.{Initiate, Begin, Read, Write, Add, Complete, Permit, Depend, Commit, Abort, WaitFor}
 use Rattle.asset_names.specs.Arrows.{lists, has_arrow}
 use Rattle.asset_names.specs.Steps.{Opening, initiated, initiated_by, begun, begun_by, completed, completed_by, parent_of, parent_by}
 use Rattle.asset_names.specs.Endings.{dependencies, dependency_by, live, end_of, status, status_of, is_live_status}
 use Rattle.asset_names.specs.Operations.{operations, operated, op_of, holds, permits, permitted_by, allows, free, exists, value, value_if_any}
 use Rattle.asset_names.specs.OpSets.{OpSet}
-use Rattle.asset_names.specs.Operations.Use.{reads, writes}
+use Rattle.asset_names.specs.Operations.{Use}
+use Rattle.asset_names.specs.Operations.Use.{reads, writes, adds}
 use Rattle.asset_names.specs.Answers.{is_unknown}
 use Rattle.asset_names.specs.Room.{owed, owed_to}
 use Rattle.asset_names.specs.Orderly.{IsOrderly, Distinct}
@@ -34,11 +35,15 @@ use Rattle.asset_names.proofs.Common.{eqb-flip, both_follow}
 use Rattle.asset_names.proofs.ListLemmas.{distinct_pushed}
 use Rattle.asset_deps.specs.Dependencies.{Dependency, arrows_of}
 use Rattle.asset_permits.specs.Descriptors.{Descriptor, allows_by, one_covers, arrows_for}
-use Rattle.asset_objects.specs.Cells.{Cell, Cells, opened, shown, value_in, written, undone, settled, change_at, change_each}
+use Rattle.asset_objects.specs.Cells.{Effect, Cell, Cells, opened, wrote, added, updated, placed, shown, value_in, undone, settled, change_at, change_each}
 use Rattle.asset_locks.specs.LockTable as Locks
 use Rattle.asset_trans.specs.declared.row.TransRow.{TransRow}
 use Rattle.asset_trans.specs.TransRows.{NamedTransRow, names_of, row_in, status_in, status_or_unknown, parent_in, parent_or_none, initiate_in, set_in, owed_in, one_if_ended, ended_in}
-use Rattle.asset_ends.specs.Shows.{Shows, cell_of, cell_after, permitted, depended, table_values}
+use Rattle.asset_ends.specs.declared.updating.Update.{Update}
+use Rattle.asset_ends.specs.declared.updating.Update.TheVariants as Update'
+use Rattle.asset_ends.specs.Updates as Updates
+use Rattle.asset_ends.specs.Updates.{step_of, effect_of}
+use Rattle.asset_ends.specs.Shows.{Shows, used, cell_of, cell_after, permitted, depended, table_values}
 use Rattle.asset_permits.proofs.ArrowLaws.{arrows_stand}
 use Rattle.asset_ends.specs.Ended.{IsDropped, AreLeft}
 use Rattle.asset_ends.proofs.PermitLaws.{IsAdded, permitted_quiet, permitted_initiate, permitted_end, permitted_permit, permit_ends}
@@ -46,7 +51,7 @@ use Rattle.asset_ends.proofs.DependLaws.{IsJoined, depended_quiet, depended_init
 use Rattle.asset_ends.proofs.CellLemmas.{is_name, value_shown}
 use Rattle.asset_ends.proofs.TransLaws.{names_set, status_set, parent_set, names_initiate, status_initiate_in, parent_initiate_in, row_named, row_absent, sum_by_names}
 use Rattle.asset_ends.proofs.LockLaws.{carries_granted, carries_released, carries_enrolled, names_granted, names_waiting, carries_waiting, names_enrolled, names_released, free_by_locks, locks_by_free}
-use Rattle.asset_ends.proofs.HistoryLemmas.{IsQuiet, lists_reverse, reverse-cons, cell_quiet, cell_same_steps, holds_quiet, holds_same_steps, enrolled_quiet, begin_quiet, complete_quiet, enrolled_initiate, cell_initiate, holds_initiate, holds_operation, holds_end, enrolled_end, read_ends, write_ends, wait_ends, cell_read, cell_write, cell_abort, cell_commit}
+use Rattle.asset_ends.proofs.HistoryLemmas.{IsQuiet, lists_reverse, reverse-cons, cell_quiet, cell_same_steps, holds_quiet, holds_same_steps, enrolled_quiet, begin_quiet, complete_quiet, enrolled_initiate, cell_initiate, holds_initiate, holds_operation, holds_end, enrolled_end, read_ends, write_ends, add_ends, wait_ends, cell_read, cell_updated, cell_abort, cell_commit}
 
 -- who is not unknown has a row
 pub row_known : (rows : List NamedTransRow) (t : ℕ) → is_unknown (status_in rows t) ≡ false → is_some (row_in rows t) ≡ true
@@ -145,20 +150,33 @@ read_shows opening steps rows objects table descriptors deps t y shows alive dif
   dependencies_stand = λ k m n. shows.dependencies_stand k m n ∙ sym (depended_quiet (Read t y ∷ steps) steps refl (read_ends t y steps) (λ y. refl) k m n);
 }
 
--- a write
-pub write_shows : (opening : Opening) (steps : List Step) (rows : List NamedTransRow) (objects : Cells) (table : Locks.LockTable) (descriptors : List Descriptor) (deps : List Dependency) (t : Txn) (y : Ob) (v : ℤ) → Shows opening steps (table_values rows objects table descriptors deps)
-    → live steps t.0 ≡ true → is_some (Locks.enrolled_in table t.0) ≡ true → Shows opening (Write t y v ∷ steps) (table_values rows (change_at y.0 (written t.0 v) objects) (Locks.grant_in t.0 y Op'.Write table) descriptors deps)
-unfolding initiated initiated_by begun begun_by completed completed_by parent_of parent_by operations operated op_of permits permitted_by dependencies dependency_by
-write_shows opening steps rows objects table descriptors deps t y v shows alive different = record {
-  names = shows.names;
-  statuses = λ n. shows.statuses n ∙ sym (status_quiet (Write t y v) steps refl refl refl (write_ends t y v steps) n);
-  parents = shows.parents;
-  cells = λ x. changed_at y.0 (written t.0 v) objects (cell_of opening steps) x (shows.cells x) ∙ cell_write opening t y v steps x alive;
-  enrolled = names_granted t.0 y Op'.Write table ∙ shows.enrolled ∙ sym (enrolled_quiet (Write t y v ∷ steps) steps refl (write_ends t y v steps));
-  locks = λ n x op. carries_granted t.0 y Op'.Write table n x op different ∙ rw (shows.locks n x op) (sym (holds_operation (Write t y v) steps t.0 y.0 (writes v) refl refl (write_ends t y v steps) alive n x op));
-  permits_stand = λ u n x op. shows.permits_stand u n x op ∙ sym (permitted_quiet (Write t y v ∷ steps) steps refl (write_ends t y v steps) (λ y o. refl) u n x op);
-  dependencies_stand = λ k m n. shows.dependencies_stand k m n ∙ sym (depended_quiet (Write t y v ∷ steps) steps refl (write_ends t y v steps) (λ y. refl) k m n);
+-- a step of a live transaction that changes an object, and nothing beside its cell and the locks
+changed_shows : (opening : Opening) (steps : List Step) (rows : List NamedTransRow) (objects : Cells) (table : Locks.LockTable) (descriptors : List Descriptor) (deps : List Dependency) (t : Txn) (y : Ob) (step : Step) (act : Use) (effect : Effect) → Shows opening steps (table_values rows objects table descriptors deps)
+    → live steps t.0 ≡ true → is_some (Locks.enrolled_in table t.0) ≡ true
+    → operations (step ∷ steps) ≡ record { owner = t.0; object = y.0; use_of = act } ∷ operations steps → ((cell : Cell) → used None t.0 act cell ≡ updated (Some t.0) effect cell) → ((n : ℕ) → end_of (step ∷ steps) n ≡ end_of steps n)
+    → initiated (step ∷ steps) ≡ initiated steps → begun (step ∷ steps) ≡ begun steps → completed (step ∷ steps) ≡ completed steps → ((n : ℕ) → parent_of (step ∷ steps) n ≡ parent_of steps n)
+    → ((x : ℕ) (op : Op) → permits (step ∷ steps) x op ≡ permits steps x op) → ((k : Kind) → dependencies k (step ∷ steps) ≡ dependencies k steps)
+    → Shows opening (step ∷ steps) (table_values rows (change_at y.0 (updated (Some t.0) effect) objects) (Locks.grant_in t.0 y (op_of act) table) descriptors deps)
+changed_shows opening steps rows objects table descriptors deps t y step act effect shows alive different applied does ends initiates begins completes parents permitting depending = record {
+  names = shows.names ∙ ap reverse (sym initiates);
+  statuses = λ n. shows.statuses n ∙ sym (status_quiet step steps initiates begins completes ends n);
+  parents = λ n. shows.parents n ∙ sym (parents n);
+  cells = λ x. changed_at y.0 (updated (Some t.0) effect) objects (cell_of opening steps) x (shows.cells x) ∙ cell_updated opening step t.0 y.0 act effect steps x applied ends does alive;
+  enrolled = names_granted t.0 y (op_of act) table ∙ shows.enrolled ∙ sym (enrolled_quiet (step ∷ steps) steps initiates ends);
+  locks = λ n x op. carries_granted t.0 y (op_of act) table n x op different ∙ rw (shows.locks n x op) (sym (holds_operation step steps t.0 y.0 act applied initiates ends alive n x op));
+  permits_stand = λ u n x op. shows.permits_stand u n x op ∙ sym (permitted_quiet (step ∷ steps) steps initiates ends permitting u n x op);
+  dependencies_stand = λ k m n. shows.dependencies_stand k m n ∙ sym (depended_quiet (step ∷ steps) steps initiates ends depending k m n);
 }
+
+-- a write or an add
+pub update_shows : (opening : Opening) (steps : List Step) (rows : List NamedTransRow) (objects : Cells) (table : Locks.LockTable) (descriptors : List Descriptor) (deps : List Dependency) (t : Txn) (y : Ob) (update : Update) (v : ℤ) → Shows opening steps (table_values rows objects table descriptors deps)
+    → live steps t.0 ≡ true → is_some (Locks.enrolled_in table t.0) ≡ true
+    → Shows opening (step_of update t y v ∷ steps) (table_values rows (change_at y.0 (updated (Some t.0) (effect_of update v)) objects) (Locks.grant_in t.0 y (Updates.op_of update) table) descriptors deps)
+unfolding step_of effect_of Updates.op_of op_of used placed initiated initiated_by begun begun_by completed completed_by parent_of parent_by operations operated permits permitted_by dependencies dependency_by
+update_shows opening steps rows objects table descriptors deps t y Update'.Write v shows alive different =
+    changed_shows opening steps rows objects table descriptors deps t y (Write t y v) (writes v) (wrote v) shows alive different refl (λ cell. refl) (write_ends t y v steps) refl refl refl (λ n. refl) (λ x op. refl) (λ k. refl)
+update_shows opening steps rows objects table descriptors deps t y Update'.Add d shows alive different =
+    changed_shows opening steps rows objects table descriptors deps t y (Add t y d) (adds d) (added d) shows alive different refl (λ cell. refl) (add_ends t y d steps) refl refl refl (λ n. refl) (λ x op. refl) (λ k. refl)
 
 -- some live transactions get a status
 set_known : (test : ℕ → Bool) (after : Status) (rows : List NamedTransRow) (steps : List Step) → ((n : ℕ) → test n ≡ true → live steps n ≡ true) → (n : ℕ) → status_in rows n ≡ status steps n
@@ -238,14 +256,14 @@ abort_again_shows opening steps rows objects table descriptors deps t shows dead
 pub permit_shows : (opening : Opening) (steps : List Step) (rows : List NamedTransRow) (objects : Cells) (table : Locks.LockTable) (descriptors : List Descriptor) (deps : List Dependency) (giver taker : Txn) (obs : ObSet) (ops : OpSet) → Shows opening steps (table_values rows objects table descriptors deps)
     → live steps giver.0 ≡ true → live steps taker.0 ≡ true → (later : List Descriptor) → IsAdded giver.0 taker.0 obs ops descriptors later → Shows opening (Permit giver taker obs ops ∷ steps) (table_values rows objects table later deps)
 unfolding initiated initiated_by begun begun_by completed completed_by parent_of parent_by operations operated dependencies dependency_by
-permit_shows opening steps rows objects table descriptors deps giver taker obs ops shows gives takes later added = record {
+permit_shows opening steps rows objects table descriptors deps giver taker obs ops shows gives takes later grown = record {
   names = shows.names;
   statuses = λ n. shows.statuses n ∙ sym (status_quiet (Permit giver taker obs ops) steps refl refl refl (permit_ends giver taker obs ops steps) n);
   parents = shows.parents;
   cells = λ x. shows.cells x ∙ sym (cell_same_steps opening (Permit giver taker obs ops ∷ steps) steps refl (permit_ends giver taker obs ops steps) x);
   enrolled = shows.enrolled ∙ sym (enrolled_quiet (Permit giver taker obs ops ∷ steps) steps refl (permit_ends giver taker obs ops steps));
   locks = λ n x op. shows.locks n x op ∙ sym (holds_same_steps (Permit giver taker obs ops ∷ steps) steps refl refl (permit_ends giver taker obs ops steps) n x op);
-  permits_stand = λ u n x op. added u n x op ∙ rw (shows.permits_stand u n x op) (sym (permitted_permit giver taker obs ops steps gives takes u n x op));
+  permits_stand = λ u n x op. grown u n x op ∙ rw (shows.permits_stand u n x op) (sym (permitted_permit giver taker obs ops steps gives takes u n x op));
   dependencies_stand = λ k m n. shows.dependencies_stand k m n ∙ sym (depended_quiet (Permit giver taker obs ops ∷ steps) steps refl (permit_ends giver taker obs ops steps) (λ y. refl) k m n);
 }
 

@@ -96,14 +96,18 @@ carries_no_more rows seats table t x op enrolled seated absent = go (carries tab
 -- by whom the object is carried, and by whom held
 held_one : (table : LockTable) (steps : List Step) (u x : ℕ) (op other : Op) → ((o : Op) → carries table u x o ≡ holds steps u x o) → carries table u x other ≡ true → conflict other op ≡ true → holds_against steps u x op ≡ true
 unfolding holds_against
-held_one table steps u x op Op'.Read same held conflicts = or_left _ _ (and_from _ _ (sym (same Op'.Read) ∙ held) conflicts)
-held_one table steps u x op Op'.Write same held conflicts = or_right _ _ (and_from _ _ (sym (same Op'.Write) ∙ held) conflicts)
+held_one table steps u x op Op'.Read same held conflicts = or_left _ _ (or_left _ _ (and_from _ _ (sym (same Op'.Read) ∙ held) conflicts))
+held_one table steps u x op Op'.Write same held conflicts = or_left _ _ (or_right _ _ (and_from _ _ (sym (same Op'.Write) ∙ held) conflicts))
+held_one table steps u x op Op'.Add same held conflicts = or_right _ _ (and_from _ _ (sym (same Op'.Add) ∙ held) conflicts)
 
 one_held : (table : LockTable) (steps : List Step) (u x : ℕ) (op : Op) → ((o : Op) → carries table u x o ≡ holds steps u x o) → holds_against steps u x op ≡ true → (other : Op) × (carries table u x other ≡ true) × (conflict other op ≡ true)
 unfolding holds_against
 one_held table steps u x op same h = elim (or_cases _ _ h) [
-  | inl reading ↦ let both = and_parts _ _ reading in (Op'.Read, same Op'.Read ∙ both.0, both.1)
-  | inr writing ↦ let both = and_parts _ _ writing in (Op'.Write, same Op'.Write ∙ both.0, both.1)
+  | inl other ↦ elim (or_cases _ _ other) [
+    | inl reading ↦ let both = and_parts _ _ reading in (Op'.Read, same Op'.Read ∙ both.0, both.1)
+    | inr writing ↦ let both = and_parts _ _ writing in (Op'.Write, same Op'.Write ∙ both.0, both.1)
+  ]
+  | inr adding ↦ let both = and_parts _ _ adding in (Op'.Add, same Op'.Add ∙ both.0, both.1)
 ]
 
 -- who blocks by the tables blocks by the history

@@ -4,3 +4,4 @@ pub mod Standing
 pub mod Tied
 pub mod Shown
 pub mod Waits
+pub mod Updates

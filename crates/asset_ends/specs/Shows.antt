@@ -8,8 +8,8 @@ use Rattle.asset_names.specs.Steps.{Opening, initiated, parent_of}
 use Rattle.asset_names.specs.Endings.{dependencies, end_of, live, status}
 use Rattle.asset_names.specs.Arrows.{has_arrow}
 use Rattle.asset_names.specs.Operations.{Use, Operation, operations, opening_at, holds, permits}
-use Rattle.asset_names.specs.Operations.Use.{reads, writes}
-use Rattle.asset_objects.specs.Cells.{Cell, Cells, wrote, fresh, placed}
+use Rattle.asset_names.specs.Operations.Use.{reads, writes, adds}
+use Rattle.asset_objects.specs.Cells.{Cell, Cells, wrote, added, fresh, placed}
 use Rattle.asset_permits.specs.Descriptors.{Descriptor, one_covers}
 use Rattle.asset_deps.specs.Dependencies.{Dependency, arrows_of}
 use Rattle.asset_locks.specs.LockTable as Locks
@@ -19,6 +19,7 @@ use Rattle.asset_trans.specs.TransRows.{NamedTransRow, names_of, status_in, pare
 unfoldable pub used : Option End → ℕ → Use → Cell → Cell
 used end owner reads cell = cell
 used end owner (writes v) cell = placed end owner (wrote v) cell
+used end owner (adds d) cell = placed end owner (added d) cell
 
 -- the cell of x after the operations, newest first, over its first value; `ends` says how each transaction
 -- ended

@@ -14,7 +14,7 @@ use Rattle.asset_ends.specs.declared.waiting.Who.TheVariants.{All, Unfinished}
 
 -- whether u holds x by an operation in conflict with op
 unfoldable pub holds_against : List Step → ℕ → ℕ → Op → Bool
-holds_against steps u x op = holds steps u x Op'.Read && conflict Op'.Read op || holds steps u x Op'.Write && conflict Op'.Write op
+holds_against steps u x op = holds steps u x Op'.Read && conflict Op'.Read op || holds steps u x Op'.Write && conflict Op'.Write op || holds steps u x Op'.Add && conflict Op'.Add op
 
 -- whether u blocks t from op on x: it is another, which holds x by an operation in conflict and does not allow t
 unfoldable pub is_blocker : List Step → ℕ → ℕ → Op → ℕ → Bool

@@ -10,9 +10,11 @@ mod ending;
 mod parts;
 mod seating;
 mod tables;
+mod updating;
 mod waiting;
 mod working;
 
 pub use asset_locks::NameSet;
 pub use ending::Tried;
 pub use tables::Tables;
+pub use updating::Update;

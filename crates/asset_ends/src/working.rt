@@ -12,7 +12,7 @@ impl Tables {
     ghost use Rattle.asset_names.specs.declared.operations.Op.{Op as Operation};
     ghost use Rattle.asset_names.specs.declared.statuses.Status.{Status};
     ghost use Rattle.asset_names.specs.Endings.{is_live_status};
-    ghost use Rattle.asset_objects.specs.Cells.{cells, value_in, has_object, change_at, written};
+    ghost use Rattle.asset_objects.specs.Cells.{cells, value_in};
     ghost use Rattle.asset_locks.specs.LockTable.{enrol_in, enrolled_in};
     ghost use Rattle.asset_locks.specs.Valid.{after_ask};
     ghost use Rattle.asset_trans.specs.TransRows.{status_in, seat_in};
@@ -55,7 +55,7 @@ impl Tables {
     /// operation from then on. If the object is not free, the request is pending, which takes no memory. If memory runs out
     /// for the lock, nothing changes.
     #[inline(always)]
-    fn hold(&mut self, one: Sitter, x: Ob, op: Op) -> Result<bool, NoMemory>
+    pub(crate) fn hold(&mut self, one: Sitter, x: Ob, op: Op) -> Result<bool, NoMemory>
         requires runs { status_in self.old.trans one.t.0 ≡ Status.Running }
         requires seat { one.at ≡ seat_in self.old.trans one.t.0 }
         ensures enrolled { is_some (enrolled_in self.old.locks one.t.0) ≡ true }
@@ -118,87 +118,6 @@ impl Tables {
         } else {
             Ok(None)
         }
-    }
-
-    /// Writes an object for a transaction that runs, which holds it by a write from then on. If the object is not free,
-    /// the answer is false, and the request is pending. That does not fail; if memory runs out for the lock or for the
-    /// record, nothing that any call shows has changed.
-    pub fn write(&mut self, t: Txn, x: Ob, v: i64) -> Result<bool, NoMemory>
-        requires runs { status_in self.old.trans t.0 ≡ Status.Running }
-        requires exists { has_object (cells self.old.objects) x.0 ≡ true }
-        ensures answer { IfOk result (λ written. written ≡ is_free_for self.old t.0 x.0 Operation.Write) }
-        ensures stand { OnOk result (ShowsWithIf self.old (is_free_for self.old t.0 x.0 Operation.Write) (Step.Write t x v) self.new) }
-        ensures locks { OnOk result (self.new.locks ≡ after_ask (is_free_for self.old t.0 x.0 Operation.Write) t.0 x Operation.Write self.old.locks) }
-        ensures memory { IsErr result → is_free_for self.old t.0 x.0 Operation.Write ≡ true }
-        ensures unchanged { OnErr result (SameView self.new self.old) }
-    {
-        let (_, one) = self.find(t);
-        self.write_at(one, x, v)
-    }
-
-    /// Does what `write` does, for a transaction whose seat is found. The transaction runs, the seat is that of its row, and
-    /// the object exists. If memory runs out for the lock or for the record of a write that is granted, the answer is
-    /// `NoMemory`, and nothing that any call shows has changed.
-    #[inline(always)]
-    pub fn write_at(&mut self, one: Sitter, x: Ob, v: i64) -> Result<bool, NoMemory>
-        requires runs { status_in self.old.trans one.t.0 ≡ Status.Running }
-        requires seat { one.at ≡ seat_in self.old.trans one.t.0 }
-        requires exists { has_object (cells self.old.objects) x.0 ≡ true }
-        ensures answer { IfOk result (λ written. written ≡ is_free_for self.old one.t.0 x.0 Operation.Write) }
-        ensures stand { OnOk result (ShowsWithIf self.old (is_free_for self.old one.t.0 x.0 Operation.Write) (Step.Write one.t x v) self.new) }
-        ensures locks { OnOk result (self.new.locks ≡ after_ask (is_free_for self.old one.t.0 x.0 Operation.Write) one.t.0 x Operation.Write self.old.locks) }
-        ensures memory { IsErr result → is_free_for self.old one.t.0 x.0 Operation.Write ≡ true }
-        ensures unchanged { OnErr result (SameView self.new self.old) }
-    {
-        match self.parts.objects.reserve_write() {
-            Ok(()) => self.write_reserved(one, x, v),
-            Err(fault) => self.wait_unless_free(one, x, fault),
-        }
-    }
-
-    /// Writes an object with the memory for its record, which is reserved. If the object is not free, the request is
-    /// pending. If memory runs out for the lock, nothing changes.
-    fn write_reserved(&mut self, one: Sitter, x: Ob, v: i64) -> Result<bool, NoMemory>
-        requires runs { status_in self.old.trans one.t.0 ≡ Status.Running }
-        requires seat { one.at ≡ seat_in self.old.trans one.t.0 }
-        requires exists { has_object (cells self.old.objects) x.0 ≡ true }
-        requires reserved { self.old.objects.reserved ≡ true }
-        ensures answer { IfOk result (λ written. written ≡ is_free_for self.old one.t.0 x.0 Operation.Write) }
-        ensures rows { self.new.trans ≡ self.old.trans }
-        ensures permits { self.new.permits ≡ self.old.permits }
-        ensures deps { self.new.deps ≡ self.old.deps }
-        ensures objects { OnOk result (cells self.new.objects ≡ cond (is_free_for self.old one.t.0 x.0 Operation.Write) (change_at x.0 (written one.t.0 v) (cells self.old.objects)) (cells self.old.objects)) }
-        ensures locks { OnOk result (self.new.locks ≡ after_ask (is_free_for self.old one.t.0 x.0 Operation.Write) one.t.0 x Operation.Write self.old.locks) }
-        ensures memory { IsErr result → is_free_for self.old one.t.0 x.0 Operation.Write ≡ true }
-        ensures unchanged { OnErr result (self.new ≡ self.old) }
-    {
-        if self.hold(one, x, Op::Write)? {
-            self.parts.objects.write(&self.parts.seats, one, x, v);
-            Ok(true)
-        } else {
-            Ok(false)
-        }
-    }
-
-    /// Makes a write pending if its object is not free, and answers the fault if it is, when there is no memory for its
-    /// record.
-    fn wait_unless_free(&mut self, one: Sitter, x: Ob, fault: NoMemory) -> Result<bool, NoMemory>
-        requires runs { status_in self.old.trans one.t.0 ≡ Status.Running }
-        requires seat { one.at ≡ seat_in self.old.trans one.t.0 }
-        ensures answer { IfOk result (λ written. written ≡ is_free_for self.old one.t.0 x.0 Operation.Write) }
-        ensures blocked { OnOk result (is_free_for self.old one.t.0 x.0 Operation.Write ≡ false) }
-        ensures rows { self.new.trans ≡ self.old.trans }
-        ensures permits { self.new.permits ≡ self.old.permits }
-        ensures deps { self.new.deps ≡ self.old.deps }
-        ensures objects { self.new.objects ≡ self.old.objects }
-        ensures locks { OnOk result (self.new.locks ≡ after_ask (is_free_for self.old one.t.0 x.0 Operation.Write) one.t.0 x Operation.Write self.old.locks) }
-        ensures memory { IsErr result → is_free_for self.old one.t.0 x.0 Operation.Write ≡ true }
-        ensures unchanged { OnErr result (self.new ≡ self.old) }
-    {
-        if self.is_free(one.t, x, Op::Write) {
-            return Err(fault);
-        }
-        self.hold(one, x, Op::Write)
     }
 
     /// Completes a transaction that runs.

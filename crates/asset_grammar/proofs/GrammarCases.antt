@@ -91,6 +91,10 @@ write_line : line_of (codes "write 7 1 50") ≡ Line'.Command (Ask (Step'.Write 
 unfolding line_of line_by is_blank command_of command_from step_command step_by words parts keyword_of keyword_text all_keywords txn_object_and_value all_three txn_of ob_of value_of positive_value number_of is_numeral
 write_line = refl
 
+add_line : line_of (codes "add 7 1 -5") ≡ Line'.Command (Ask (Step'.Add (txn 7) (ob 1) (negsuc 4)))
+unfolding line_of line_by is_blank command_of command_from step_command step_by words parts keyword_of keyword_text all_keywords txn_object_and_value all_three txn_of ob_of value_of negative_value number_of is_numeral
+add_line = refl
+
 two_spaces : line_of (codes "begin  7") ≡ Line'.Bad
 unfolding line_of line_by is_blank command_of command_from step_command step_by words parts keyword_of keyword_text all_keywords one_txn txn_of number_of is_numeral
 two_spaces = refl
@@ -128,11 +132,11 @@ unfolding line_of is_blank
 remark_that_is_too_long = refl
 
 -- a permit's objects stand in any order, and are kept in rising order
-permit_line : line_of (codes "permit 7 8 rw 3,1,2") ≡ Line'.Command (Ask (Step'.Permit (txn 7) (txn 8) (Listed (ob 1 ∷ ob 2 ∷ ob 3 ∷ [])) (op_set true true)))
+permit_line : line_of (codes "permit 7 8 rw 3,1,2") ≡ Line'.Command (Ask (Step'.Permit (txn 7) (txn 8) (Listed (ob 1 ∷ ob 2 ∷ ob 3 ∷ [])) (op_set true true false)))
 unfolding line_of line_by is_blank command_of command_from step_command step_by words parts keyword_of keyword_text all_keywords txns_ops_and_set both txn_of ob_of number_of is_numeral ops_of set_of gathered one_more_object listed is_list numbers twice rising put_in
 permit_line = refl
 
-permit_of_all : line_of (codes "permit 7 8 r all") ≡ Line'.Command (Ask (Step'.Permit (txn 7) (txn 8) All (op_set true false)))
+permit_of_all : line_of (codes "permit 7 8 r all") ≡ Line'.Command (Ask (Step'.Permit (txn 7) (txn 8) All (op_set true false false)))
 unfolding line_of line_by is_blank command_of command_from step_command step_by words parts keyword_of keyword_text all_keywords txns_ops_and_set both txn_of number_of is_numeral ops_of set_of
 permit_of_all = refl
 
@@ -147,6 +151,14 @@ permit_of_nothing = refl
 permit_of_other_operations : line_of (codes "permit 7 8 wr 1") ≡ Line'.Bad
 unfolding line_of line_by is_blank command_of command_from step_command step_by words parts keyword_of keyword_text all_keywords txns_ops_and_set both txn_of ob_of number_of is_numeral ops_of set_of gathered one_more_object listed is_list numbers twice
 permit_of_other_operations = refl
+
+permit_to_add : line_of (codes "permit 7 8 rwa all") ≡ Line'.Command (Ask (Step'.Permit (txn 7) (txn 8) All (op_set true true true)))
+unfolding line_of line_by is_blank command_of command_from step_command step_by words parts keyword_of keyword_text all_keywords txns_ops_and_set both txn_of number_of is_numeral ops_of set_of
+permit_to_add = refl
+
+permit_of_turned_operations : line_of (codes "permit 7 8 aw 1") ≡ Line'.Bad
+unfolding line_of line_by is_blank command_of command_from step_command step_by words parts keyword_of keyword_text all_keywords txns_ops_and_set both txn_of ob_of number_of is_numeral ops_of set_of gathered one_more_object listed is_list numbers twice
+permit_of_turned_operations = refl
 
 -- a delegation's objects stand in any order too, and it names no operations
 delegate_line : line_of (codes "delegate 7 8 2,1") ≡ Line'.Command (Ask (Step'.Delegate (txn 7) (txn 8) (Listed (ob 1 ∷ ob 2 ∷ []))))

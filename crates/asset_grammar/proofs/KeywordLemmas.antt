@@ -9,7 +9,7 @@ use Rattle.std.proofs.lemmas.Slice.Eq.{bytes_eq-Decides}
 use Rattle.asset_grammar.specs.declared.grammar.Command.{Command}
 use Rattle.asset_grammar.specs.declared.grammar.Command.TheVariants.{Ask}
 use Rattle.asset_grammar.specs.declared.keywords.Keyword.{Keyword}
-use Rattle.asset_grammar.specs.declared.keywords.Keyword.TheVariants.{Initiate, Begin, Read, Write, Complete, Permit, Delegate, Depend, Commit, Abort, Wait}
+use Rattle.asset_grammar.specs.declared.keywords.Keyword.TheVariants.{Initiate, Begin, Read, Write, Add, Complete, Permit, Delegate, Depend, Commit, Abort, Wait}
 use Rattle.asset_grammar.specs.Grammar.{command_from, object_command, step_by, step_command}
 use Rattle.asset_grammar.specs.Keywords.{all_keywords, keyword_of, keyword_text, likely_keyword}
 use Rattle.asset_grammar.specs.Lines.{first_line, Lacks}
@@ -24,6 +24,7 @@ small_letters Initiate = refl
 small_letters Begin = refl
 small_letters Read = refl
 small_letters Write = refl
+small_letters Add = refl
 small_letters Complete = refl
 small_letters Permit = refl
 small_letters Delegate = refl
@@ -42,6 +43,7 @@ begins Initiate rest = refl
 begins Begin rest = refl
 begins Read rest = refl
 begins Write rest = refl
+begins Add rest = refl
 begins Complete rest = refl
 begins Permit rest = refl
 begins Delegate rest = refl
@@ -131,6 +133,7 @@ keyword_asks Initiate operands = refl
 keyword_asks Begin operands = refl
 keyword_asks Read operands = refl
 keyword_asks Write operands = refl
+keyword_asks Add operands = refl
 keyword_asks Complete operands = refl
 keyword_asks Permit operands = refl
 keyword_asks Delegate operands = refl

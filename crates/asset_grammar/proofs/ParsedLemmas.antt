@@ -10,10 +10,10 @@ use Rattle.asset_names.specs.declared.names.Ob.{Ob}
 use Rattle.asset_names.specs.declared.sets.ObSet.TheVariants.{All, Listed}
 use Rattle.asset_names.specs.declared.steps.Kind.{Kind}
 use Rattle.asset_names.specs.declared.steps.Step.{Step}
-use Rattle.asset_names.specs.OpSets.{op_set}
+use Rattle.asset_names.specs.OpSets.{OpSet}
 use Rattle.asset_names.specs.Sets.{numbers, twice, rising}
 use Rattle.asset_grammar.specs.declared.keywords.Keyword.{Keyword}
-use Rattle.asset_grammar.specs.declared.keywords.Keyword.TheVariants.{Initiate, Begin, Read, Write, Complete, Permit, Delegate, Depend, Commit, Abort, Wait}
+use Rattle.asset_grammar.specs.declared.keywords.Keyword.TheVariants.{Initiate, Begin, Read, Write, Add, Complete, Permit, Delegate, Depend, Commit, Abort, Wait}
 use Rattle.asset_grammar.specs.declared.grammar.Command.{Command}
 use Rattle.asset_grammar.specs.declared.grammar.Command.TheVariants.{Ask, Object}
 use Rattle.asset_grammar.specs.declared.grammar.Line.{Line}
@@ -99,12 +99,18 @@ value_parsed (first ∷ rest) = go (first == 45) where
 -- operations
 ops_parsed : (word : List ℕ) → IfSome (ops_of word) HasOp
 unfolding ops_of
-ops_parsed word = go (bytes_eq word (codes "r")) (bytes_eq word (codes "w")) (bytes_eq word (codes "rw")) where
-  go : (r w rw' : Bool) → IfSome (cond r (Some (op_set true false)) (cond w (Some (op_set false true)) (cond rw' (Some (op_set true true)) None))) HasOp
-  go true w rw' = refl
-  go false true rw' = refl
-  go false false true = refl
-  go false false false = tt
+ops_parsed word =
+    either (bytes_eq word (codes "r")) _ _ refl
+    (either (bytes_eq word (codes "w")) _ _ refl
+    (either (bytes_eq word (codes "rw")) _ _ refl
+    (either (bytes_eq word (codes "a")) _ _ refl
+    (either (bytes_eq word (codes "ra")) _ _ refl
+    (either (bytes_eq word (codes "wa")) _ _ refl
+    (either (bytes_eq word (codes "rwa")) _ _ refl tt))))))
+  where
+    either : (test : Bool) (ops : OpSet) (rest : Option OpSet) → HasOp ops → IfSome rest HasOp → IfSome (cond test (Some ops) rest) HasOp
+    either true ops rest here later = here
+    either false ops rest here later = later
 
 -- a set
 one_more_parsed : (objects : List Ob) (x : Option Ob) → AreObjects objects → IfSome x IsObject → IfSome (one_more_object objects x) AreObjects
@@ -167,6 +173,7 @@ object_operand_parsed (t ∷ []) = tt
 object_operand_parsed (t ∷ x ∷ []) = if_both IsName IsObject (txn_of t) (ob_of x) (txn_parsed t) (ob_parsed x)
 object_operand_parsed (t ∷ x ∷ v ∷ rest) = tt
 
+-- of a write, and of an add
 write_parsed : (operands : List (List ℕ)) → IfSome (txn_object_and_value operands) (λ p. IsName p.0 × IsObject p.1 × IsValue p.2)
 unfolding txn_object_and_value
 write_parsed [] = tt
@@ -220,6 +227,7 @@ step_parsed Initiate operands = if_mapped IsWritable _ (txn_and_parent operands)
 step_parsed Begin operands = if_mapped IsWritable _ (one_txn operands) (one_parsed operands)
 step_parsed Read operands = if_mapped IsWritable _ (txn_and_object operands) (object_operand_parsed operands)
 step_parsed Write operands = if_mapped IsWritable _ (txn_object_and_value operands) (write_parsed operands)
+step_parsed Add operands = if_mapped IsWritable _ (txn_object_and_value operands) (write_parsed operands)
 step_parsed Complete operands = if_mapped IsWritable _ (one_txn operands) (one_parsed operands)
 step_parsed Permit operands = if_mapped IsWritable _ (txns_ops_and_set operands) (if_weaker _ _ (txns_ops_and_set operands) (permit_parsed operands) (λ p h. (h.0.0, h.0.1, h.1.1, h.1.0)))
 step_parsed Delegate operands = if_mapped IsWritable _ (txns_and_set operands) (if_weaker _ _ (txns_and_set operands) (delegate_parsed operands) (λ p h. (h.0.0, h.0.1, h.1)))

@@ -9,7 +9,7 @@ use Rattle.asset_names.specs.declared.steps.Kind.{Kind}
 use Rattle.asset_names.specs.declared.steps.Step.{Step}
 use Rattle.asset_names.specs.declared.steps.Step.TheVariants as Step'
 use Rattle.asset_grammar.specs.declared.keywords.Keyword.{Keyword}
-use Rattle.asset_grammar.specs.declared.keywords.Keyword.TheVariants.{Initiate, Begin, Read, Write, Complete, Permit, Delegate, Depend, Commit, Abort, Wait}
+use Rattle.asset_grammar.specs.declared.keywords.Keyword.TheVariants.{Initiate, Begin, Read, Write, Add, Complete, Permit, Delegate, Depend, Commit, Abort, Wait}
 use Rattle.asset_grammar.specs.declared.grammar.Command.{Command}
 use Rattle.asset_grammar.specs.declared.grammar.Command.TheVariants.{Object, Ask}
 use Rattle.asset_grammar.specs.declared.grammar.Line.{Line}
@@ -28,6 +28,7 @@ step_by Initiate operands = option_map (λ (a : Txn × Option Txn). Step'.Initia
 step_by Begin operands = option_map Step'.Begin (one_txn operands)
 step_by Read operands = option_map (λ (a : Txn × Ob). Step'.Read a.0 a.1) (txn_and_object operands)
 step_by Write operands = option_map (λ (a : Txn × Ob × ℤ). Step'.Write a.0 a.1 a.2) (txn_object_and_value operands)
+step_by Add operands = option_map (λ (a : Txn × Ob × ℤ). Step'.Add a.0 a.1 a.2) (txn_object_and_value operands)
 step_by Complete operands = option_map Step'.Complete (one_txn operands)
 step_by Permit operands = option_map (λ (a : (Txn × Txn) × (OpSet × ObSet)). Step'.Permit a.0.0 a.0.1 a.1.1 a.1.0) (txns_ops_and_set operands)
 step_by Delegate operands = option_map (λ (a : (Txn × Txn) × ObSet). Step'.Delegate a.0.0 a.0.1 a.1) (txns_and_set operands)

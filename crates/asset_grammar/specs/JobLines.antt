@@ -3,7 +3,7 @@ use Rattle.std.specs.Prelude.{◌≡◌, ℕ, cond, nat_lt, List, [], ◌∷◌,
 use Rattle.std.specs.Str.{bytes_eq}
 use Rattle.asset_names.specs.declared.names.Ob.{Ob}
 use Rattle.asset_grammar.specs.declared.job_lines.JobAct.{JobAct}
-use Rattle.asset_grammar.specs.declared.job_lines.JobAct.TheVariants.{Read, Write, GiveUp}
+use Rattle.asset_grammar.specs.declared.job_lines.JobAct.TheVariants.{Read, Write, Add, GiveUp}
 use Rattle.asset_grammar.specs.declared.job_lines.JobLine.{JobLine}
 use Rattle.asset_grammar.specs.declared.job_lines.JobLine.TheVariants.{Blank, Object, Job, Act, Bad}
 use Rattle.asset_grammar.specs.Grammar.{is_blank}
@@ -20,7 +20,8 @@ unfoldable pub act_by : List ℕ → List (List ℕ) → Option JobAct
 act_by word operands =
     cond (bytes_eq word (codes "read")) (option_map Read (one_object operands))
     (cond (bytes_eq word (codes "write")) (option_map (λ (a : Ob × ℤ). Write a.0 a.1) (object_and_value operands))
-    (cond (bytes_eq word (codes "give")) (give_up operands) None))
+    (cond (bytes_eq word (codes "add")) (option_map (λ (a : Ob × ℤ). Add a.0 a.1) (object_and_value operands))
+    (cond (bytes_eq word (codes "give")) (give_up operands) None)))
 
 -- What the words of a line say. The first one tells object lines, the lines that begin a job, and acts.
 unfoldable pub job_line_from : List (List ℕ) → Option JobLine

@@ -2,7 +2,7 @@
 use Rattle.std.specs.Prelude.{◌≡◌, ℕ, ◌==◌, cond, List, [], ◌∷◌, get_or, Option, None, Some, find, codes}
 use Rattle.std.specs.Str.{bytes_eq}
 use Rattle.asset_grammar.specs.declared.keywords.Keyword.{Keyword}
-use Rattle.asset_grammar.specs.declared.keywords.Keyword.TheVariants.{Initiate, Begin, Read, Write, Complete, Permit, Delegate, Depend, Commit, Abort, Wait}
+use Rattle.asset_grammar.specs.declared.keywords.Keyword.TheVariants.{Initiate, Begin, Read, Write, Add, Complete, Permit, Delegate, Depend, Commit, Abort, Wait}
 use Rattle.asset_grammar.specs.Words.{taken, LineLeft}
 
 -- how a keyword is written
@@ -11,6 +11,7 @@ keyword_text Initiate = codes "initiate"
 keyword_text Begin = codes "begin"
 keyword_text Read = codes "read"
 keyword_text Write = codes "write"
+keyword_text Add = codes "add"
 keyword_text Complete = codes "complete"
 keyword_text Permit = codes "permit"
 keyword_text Delegate = codes "delegate"
@@ -21,7 +22,7 @@ keyword_text Wait = codes "wait"
 
 -- every keyword
 unfoldable pub all_keywords : List Keyword
-all_keywords = Initiate ∷ Begin ∷ Read ∷ Write ∷ Complete ∷ Permit ∷ Commit ∷ Abort ∷ Wait ∷ Delegate ∷ Depend ∷ []
+all_keywords = Initiate ∷ Begin ∷ Read ∷ Write ∷ Add ∷ Complete ∷ Permit ∷ Commit ∷ Abort ∷ Wait ∷ Delegate ∷ Depend ∷ []
 
 -- the keyword that a word writes
 unfoldable pub keyword_of : List ℕ → Option Keyword
@@ -35,7 +36,7 @@ likely_keyword text =
     (cond (get_or text 0 0 == 99) (cond (get_or text 3 0 == 109) (Some Commit) (Some Complete))
     (cond (get_or text 0 0 == 98) (Some Begin)
     (cond (get_or text 0 0 == 105) (Some Initiate)
-    (cond (get_or text 0 0 == 97) (Some Abort)
+    (cond (get_or text 0 0 == 97) (cond (get_or text 1 0 == 100) (Some Add) (Some Abort))
     (cond (get_or text 0 0 == 112) (Some Permit)
     (cond (get_or text 0 0 == 100) (cond (get_or text 2 0 == 112) (Some Depend) (Some Delegate)) None)))))))
 

@@ -10,9 +10,16 @@ use Rattle.asset_names.specs.OpSets.{OpSet, op_set}
 use Rattle.asset_grammar.specs.Operands.{ob_of}
 use Rattle.asset_grammar.specs.Words.{parts}
 
--- the operations that a word writes: whether it has Read, and whether it has Write
+-- the operations that a word writes: Read, Write and Add by one letter each, in this order
 unfoldable pub ops_of : List ℕ → Option OpSet
-ops_of word = cond (bytes_eq word (codes "r")) (Some (op_set true false)) (cond (bytes_eq word (codes "w")) (Some (op_set false true)) (cond (bytes_eq word (codes "rw")) (Some (op_set true true)) None))
+ops_of word =
+    cond (bytes_eq word (codes "r")) (Some (op_set true false false))
+    (cond (bytes_eq word (codes "w")) (Some (op_set false true false))
+    (cond (bytes_eq word (codes "rw")) (Some (op_set true true false))
+    (cond (bytes_eq word (codes "a")) (Some (op_set false false true))
+    (cond (bytes_eq word (codes "ra")) (Some (op_set true false true))
+    (cond (bytes_eq word (codes "wa")) (Some (op_set false true true))
+    (cond (bytes_eq word (codes "rwa")) (Some (op_set true true true)) None))))))
 
 -- one more object, if there is room for it among 16
 unfoldable pub one_more_object : List Ob → Option Ob → Option (List Ob)

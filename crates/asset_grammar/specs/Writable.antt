@@ -7,7 +7,7 @@ use Rattle.asset_names.specs.declared.names.Ob.{Ob}
 use Rattle.asset_names.specs.declared.sets.ObSet.{ObSet}
 use Rattle.asset_names.specs.declared.sets.ObSet.TheVariants.{All, Listed}
 use Rattle.asset_names.specs.declared.steps.Step.{Step}
-use Rattle.asset_names.specs.declared.steps.Step.TheVariants.{Initiate, Begin, Read, Write, Complete, Permit, Delegate, Depend, Commit, Abort, WaitFor}
+use Rattle.asset_names.specs.declared.steps.Step.TheVariants.{Initiate, Begin, Read, Write, Add, Complete, Permit, Delegate, Depend, Commit, Abort, WaitFor}
 use Rattle.asset_names.specs.OpSets.{OpSet}
 use Rattle.asset_names.specs.Sets.{numbers}
 
@@ -26,9 +26,9 @@ AreObjects objects = Each IsObject objects
 abbrev pub IsValue : ℤ → Type 0
 IsValue v = mag v < 2 ^ 63
 
--- an operation or both
+-- an operation or more
 abbrev pub HasOp : OpSet → Type 0
-HasOp ops = (ops.read || ops.write) ≡ true
+HasOp ops = (ops.read || ops.write || ops.add) ≡ true
 
 -- a set of objects: all of them, or 1 to 16 in rising order
 abbrev pub IsSet : ObSet → Type 0
@@ -41,6 +41,7 @@ IsWritable (Initiate t parent) = IsName t × IfSome parent IsName
 IsWritable (Begin t) = IsName t
 IsWritable (Read t x) = IsName t × IsObject x
 IsWritable (Write t x v) = IsName t × IsObject x × IsValue v
+IsWritable (Add t x d) = IsName t × IsObject x × IsValue d
 IsWritable (Complete t) = IsName t
 IsWritable (Permit giver taker obs ops) = IsName giver × IsName taker × IsSet obs × HasOp ops
 IsWritable (Delegate giver taker obs) = IsName giver × IsName taker × IsSet obs

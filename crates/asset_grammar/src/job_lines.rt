@@ -18,6 +18,9 @@ const READ: &[u8] = b"read";
 /// The first word of an act that writes.
 const WRITE: &[u8] = b"write";
 
+/// The first word of an act that adds.
+const ADD: &[u8] = b"add";
+
 /// The first word of the act that gives up.
 const GIVE: &[u8] = b"give";
 
@@ -31,6 +34,8 @@ pub enum JobAct {
     Read(Ob),
     /// It writes the value to the object.
     Write(Ob, i64),
+    /// It adds the amount to the object.
+    Add(Ob, i64),
     /// It gives up.
     GiveUp,
 }
@@ -65,6 +70,9 @@ impl JobAct {
         } else if word == WRITE {
             let (x, v) = operands.object_and_value()?;
             Some(JobAct::Write(x, v))
+        } else if word == ADD {
+            let (x, d) = operands.object_and_value()?;
+            Some(JobAct::Add(x, d))
         } else if word == GIVE {
             give_up(operands)
         } else {

@@ -15,6 +15,7 @@ pub(crate) enum Keyword {
     Begin,
     Read,
     Write,
+    Add,
     Complete,
     Permit,
     Delegate,
@@ -49,7 +50,11 @@ fn likely_keyword(text: &[u8]) -> Option<Keyword>
     } else if has_at(text, 0, b'i') {
         Some(Keyword::Initiate)
     } else if has_at(text, 0, b'a') {
-        Some(Keyword::Abort)
+        Some(if has_at(text, 1, b'd') {
+            Keyword::Add
+        } else {
+            Keyword::Abort
+        })
     } else if has_at(text, 0, b'p') {
         Some(Keyword::Permit)
     } else if has_at(text, 0, b'd') {
@@ -142,6 +147,7 @@ impl Keyword {
             Keyword::Begin => b"begin",
             Keyword::Read => b"read",
             Keyword::Write => b"write",
+            Keyword::Add => b"add",
             Keyword::Complete => b"complete",
             Keyword::Permit => b"permit",
             Keyword::Delegate => b"delegate",
@@ -173,6 +179,11 @@ impl Keyword {
             Keyword::Write => {
                 let (t, x, v) = operands.txn_object_and_value()?;
                 *step = Step::Write { t, x, v };
+                Some(())
+            }
+            Keyword::Add => {
+                let (t, x, d) = operands.txn_object_and_value()?;
+                *step = Step::Add { t, x, d };
                 Some(())
             }
             Keyword::Complete => {

@@ -18,6 +18,18 @@ const WRITE: &[u8] = b"w";
 /// The word for reading and writing.
 const BOTH: &[u8] = b"rw";
 
+/// The word for adding.
+const ADD: &[u8] = b"a";
+
+/// The word for reading and adding.
+const READ_ADD: &[u8] = b"ra";
+
+/// The word for writing and adding.
+const WRITE_ADD: &[u8] = b"wa";
+
+/// The word for all three operations.
+const THREE: &[u8] = b"rwa";
+
 /// The word for all objects.
 const ALL: &[u8] = b"all";
 
@@ -32,6 +44,14 @@ fn parse_ops(word: &[u8]) -> Option<Ops>
         Ops::new(false, true)
     } else if word == BOTH {
         Ops::new(true, true)
+    } else if word == ADD {
+        Some(Ops::with_add(false, false))
+    } else if word == READ_ADD {
+        Some(Ops::with_add(true, false))
+    } else if word == WRITE_ADD {
+        Some(Ops::with_add(false, true))
+    } else if word == THREE {
+        Some(Ops::with_add(true, true))
     } else {
         None
     }

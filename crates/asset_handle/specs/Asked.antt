@@ -7,7 +7,7 @@ use Rattle.asset_names.specs.OpSets.{OpSet, op_set}
 use Rattle.asset_names.specs.declared.steps.Kind.{Kind}
 use Rattle.asset_names.specs.declared.steps.Kind.TheVariants.{Cd, Ad, Gc}
 use Rattle.asset_names.specs.declared.steps.Step.{Step}
-use Rattle.asset_names.specs.declared.steps.Step.TheVariants.{Initiate, Begin, Read, Write, Complete, Permit, Delegate, Depend, Commit, Abort, WaitFor}
+use Rattle.asset_names.specs.declared.steps.Step.TheVariants.{Initiate, Begin, Read, Write, Add, Complete, Permit, Delegate, Depend, Commit, Abort, WaitFor}
 use Rattle.asset_handle.specs.declared.plain.PlainStep.{PlainStep}
 use Rattle.asset_handle.specs.Listed.{set_in}
 
@@ -17,9 +17,16 @@ txn n = record { 0 = n }
 abbrev pub ob : ℕ → Ob
 ob n = record { 0 = n }
 
--- the operations of a permit: 1 is Read, 2 is Write, 3 is both
+-- the operations of a permit: 1 is Read, 2 is Write, 4 is Add, and a sum is all of its terms
 unfoldable pub ops_in : ℕ → Option OpSet
-ops_in n = cond (n == 1) (Some (op_set true false)) (cond (n == 2) (Some (op_set false true)) (cond (n == 3) (Some (op_set true true)) None))
+ops_in n =
+    cond (n == 1) (Some (op_set true false false)) (
+    cond (n == 2) (Some (op_set false true false)) (
+    cond (n == 3) (Some (op_set true true false)) (
+    cond (n == 4) (Some (op_set false false true)) (
+    cond (n == 5) (Some (op_set true false true)) (
+    cond (n == 6) (Some (op_set false true true)) (
+    cond (n == 7) (Some (op_set true true true)) None))))))
 
 -- the kind of a dependency
 unfoldable pub kind_in : ℕ → Option Kind
@@ -55,4 +62,5 @@ step_in p =
     cond (p.kind == 8) (depend_in p) (
     cond (p.kind == 9) (Some (Commit (txn p.first))) (
     cond (p.kind == 10) (Some (Abort (txn p.first))) (
-    cond (p.kind == 11) (Some (WaitFor (txn p.first))) None))))))))))
+    cond (p.kind == 11) (Some (WaitFor (txn p.first))) (
+    cond (p.kind == 12) (Some (Add (txn p.first) (ob p.second) p.value)) None)))))))))))

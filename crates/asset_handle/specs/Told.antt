@@ -50,6 +50,7 @@ status_number Status'.Aborted = 5
 unfoldable pub op_number : Op → ℕ
 op_number Op'.Read = 1
 op_number Op'.Write = 2
+op_number Op'.Add = 4
 
 -- a plain step that lists nothing
 unfoldable pub bare : ℕ → ℕ → ℕ → ℕ → PlainStep

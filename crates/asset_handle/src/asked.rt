@@ -5,10 +5,10 @@ ghost use Rattle.asset_handle.specs.Asked.{delegate_in, depend_in, initiate_in, 
 ghost use Rattle.asset_handle.specs.Listed.{objects_named, set_in, set_of_listed};
 
 use crate::plain::{ALL, PlainStep, SLOTS};
-use asset_names::{Kind, Ob, ObList, ObSet, Ops, Step, Txn};
+use asset_names::{Kind, Ob, ObList, ObSet, Op, Ops, Step, Txn};
 
 /// Returns the operations of this number.
-#[tactic(auto, unfolding(crate::specs::Asked::ops_in))]
+#[tactic(auto, unfolding(crate::specs::Asked::ops_in, asset_names::specs::OpSets::only_op))]
 fn ops_of(number: u32) -> Option<Ops>
     ensures { result ≡ ops_in number }
 {
@@ -16,6 +16,10 @@ fn ops_of(number: u32) -> Option<Ops>
         1 => Ops::new(true, false),
         2 => Ops::new(false, true),
         3 => Ops::new(true, true),
+        4 => Some(Ops::only(Op::Add)),
+        5 => Some(Ops::with_add(true, false)),
+        6 => Some(Ops::with_add(false, true)),
+        7 => Some(Ops::with_add(true, true)),
         _ => None,
     }
 }
@@ -195,6 +199,14 @@ pub(crate) fn put_step(asked: &PlainStep, slot: &mut Step) -> bool
         }
         11 => {
             *slot = Step::WaitFor { t };
+            true
+        }
+        12 => {
+            *slot = Step::Add {
+                t,
+                x,
+                d: asked.value,
+            };
             true
         }
         _ => false,

@@ -3,7 +3,7 @@
 ghost use Rattle.std.specs.Prelude.{◌≡◌, ◌≤◌, length, take, Some};
 ghost use Rattle.asset_names.specs.Sets.{numbers};
 ghost use Rattle.asset_names.specs.declared.sets.ObSet.TheVariants.{Listed};
-ghost use Rattle.asset_names.specs.declared.steps.Step.TheVariants.{Delegate, Depend, Initiate, Permit, Write};
+ghost use Rattle.asset_names.specs.declared.steps.Step.TheVariants.{Add, Delegate, Depend, Initiate, Permit, Write};
 ghost use Rattle.asset_handle.specs.Asked.{kind_in, ops_in, step_in};
 ghost use Rattle.asset_handle.specs.Listed.{set_in};
 ghost use Rattle.asset_handle.specs.Told.{about, bare, op_number, status_number, told, told_refusal};
@@ -79,7 +79,7 @@ pub(crate) fn status_number(status: Status) -> u32
     }
 }
 
-/// Returns the number of an operation: 1 of a read, and 2 of a write.
+/// Returns the number of an operation: 1 of a read, 2 of a write, and 4 of an add.
 #[tactic(auto, unfolding(crate::specs::Told::op_number))]
 pub(crate) fn op_number(op: Op) -> u32
     ensures { result ≡ op_number op }
@@ -87,19 +87,24 @@ pub(crate) fn op_number(op: Op) -> u32
     match op {
         Op::Read => 1,
         Op::Write => 2,
+        Op::Add => 4,
     }
 }
 
-/// Returns the number of operations: 1 to read, 2 to write, and 3 for both.
+/// Returns the number of operations: the sum of 1 to read, 2 to write, and 4 to add.
 #[tactic(auto, unfolding(crate::specs::Asked::ops_in))]
 fn ops_number(ops: Ops) -> u32
     ensures { ops_in result ≡ Some ops }
 {
     ops.laws();
-    if ops.has(Op::Read) {
-        if ops.has(Op::Write) { 3 } else { 1 }
-    } else {
-        2
+    match (ops.has(Op::Read), ops.has(Op::Write), ops.has(Op::Add)) {
+        (true, true, true) => 7,
+        (true, true, false) => 3,
+        (true, false, true) => 5,
+        (true, false, false) => 1,
+        (false, true, true) => 6,
+        (false, true, false) => 2,
+        (false, false, _) => 4,
     }
 }
 
@@ -221,6 +226,17 @@ fn plain_write(t: Txn, x: Ob, value: i64) -> PlainStep
     }
 }
 
+/// Returns the plain step of an add.
+#[tactic(auto, unfolding(crate::specs::Asked::step_in, crate::specs::Told::bare))]
+fn plain_add(t: Txn, x: Ob, value: i64) -> PlainStep
+    ensures { step_in result ≡ Some (Add t x value) }
+{
+    PlainStep {
+        value,
+        ..bare(12, 0, t.0, x.0)
+    }
+}
+
 /// Returns a plain step that asks for this step.
 #[tactic(auto, unfolding(asset_names::specs::Steps::value_asked, crate::specs::Asked::step_in, crate::specs::Told::bare))]
 pub(crate) fn plain_step(step: &Step) -> PlainStep
@@ -231,6 +247,7 @@ pub(crate) fn plain_step(step: &Step) -> PlainStep
         Step::Begin { t } => bare(2, 0, t.0, 0),
         Step::Read { t, x } => bare(3, 0, t.0, x.0),
         Step::Write { t, x, .. } => plain_write(t, x, value_asked(step)),
+        Step::Add { t, x, .. } => plain_add(t, x, value_asked(step)),
         Step::Complete { t } => bare(5, 0, t.0, 0),
         Step::Permit {
             giver,

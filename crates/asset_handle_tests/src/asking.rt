@@ -43,6 +43,14 @@ pub(crate) fn write(t: u64, x: u64, value: i64) -> PlainStep {
     }
 }
 
+/// Returns a plain step that adds.
+pub(crate) fn add(t: u64, x: u64, value: i64) -> PlainStep {
+    PlainStep {
+        value,
+        ..plain(12, 0, t, x)
+    }
+}
+
 /// Returns the plain step with a list of one object.
 pub(crate) fn on_object(step: PlainStep, x: u64) -> PlainStep {
     let mut objects = [0; SLOTS];

@@ -1,5 +1,5 @@
 //! Worked rows: the steps of scripts, with the answers that these print.
-use crate::asking::{begin, expect, expect_closed, on_object, opened, plain, write};
+use crate::asking::{add, begin, expect, expect_closed, on_object, opened, plain, write};
 use std::test::Fail;
 
 /// The script `delegation.asset` of the folder `examples`.
@@ -28,6 +28,29 @@ fn delegation(rt: HostRuntime) -> Result<(), Fail> {
     begin(&rt, &mut handle, &[10]);
     expect(&rt, &mut handle, &plain(3, 0, 10, 1), (2, 0, 55));
     expect_closed(&rt, &mut handle, 22);
+    Ok(())
+}
+
+/// Two add to one object at once, and one of them lets the third read and add.
+#[test]
+fn adds(rt: HostRuntime) -> Result<(), Fail> {
+    let mut handle = opened(&rt);
+    begin(&rt, &mut handle, &[7, 8, 9]);
+    for (step, answer) in [
+        (add(7, 1, 5), (1, 0, 0)),
+        (add(8, 1, 7), (1, 0, 0)),
+        (plain(3, 0, 9, 1), (5, 0, 0)),
+        (plain(5, 0, 8, 0), (1, 0, 0)),
+        (plain(9, 0, 8, 0), (3, 0, 0)),
+        (on_object(plain(6, 5, 7, 9), 1), (1, 0, 0)),
+        (plain(3, 0, 9, 1), (2, 0, 112)),
+        (add(9, 1, -2), (1, 0, 0)),
+        (plain(10, 0, 7, 0), (4, 0, 0)),
+        (plain(3, 0, 9, 1), (2, 0, 105)),
+    ] {
+        expect(&rt, &mut handle, &step, answer);
+    }
+    expect_closed(&rt, &mut handle, 15);
     Ok(())
 }
 

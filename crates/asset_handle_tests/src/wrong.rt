@@ -10,11 +10,11 @@ fn unknown_kinds(rt: HostRuntime) -> Result<(), Fail> {
     let mut handle = opened(&rt);
     for (kind, detail) in [
         (0, 0),
-        (12, 0),
+        (13, 0),
         (u32::MAX, 0),
         (1, 2),
         (6, 0),
-        (6, 4),
+        (6, 8),
         (8, 0),
         (8, 4),
     ] {

@@ -4,7 +4,7 @@ use Rattle.std.proofs.lemmas.Bool.{and_parts, eqb-true, false≢true}
 use Rattle.asset_names.specs.declared.names.Txn.{Txn}
 use Rattle.asset_names.specs.declared.names.Ob.{Ob}
 use Rattle.asset_names.specs.declared.steps.Step.{Step}
-use Rattle.asset_names.specs.declared.steps.Step.TheVariants.{Initiate, Begin, Read, Write, Complete, Permit, Delegate, Depend, Commit, Abort, WaitFor}
+use Rattle.asset_names.specs.declared.steps.Step.TheVariants.{Initiate, Begin, Read, Write, Add, Complete, Permit, Delegate, Depend, Commit, Abort, WaitFor}
 use Rattle.asset_names.specs.declared.sets.ObSet.{ObSet}
 use Rattle.asset_names.specs.declared.sets.ObSet.TheVariants.{All, Listed}
 use Rattle.asset_names.specs.declared.replies.Reply.{Reply}
@@ -75,6 +75,7 @@ same_permit giver taker obs ops (Initiate t parent) h = absurd (false≢true h)
 same_permit giver taker obs ops (Begin t) h = absurd (false≢true h)
 same_permit giver taker obs ops (Read t x) h = absurd (false≢true h)
 same_permit giver taker obs ops (Write t x v) h = absurd (false≢true h)
+same_permit giver taker obs ops (Add t x d) h = absurd (false≢true h)
 same_permit giver taker obs ops (Complete t) h = absurd (false≢true h)
 same_permit giver taker obs ops (Permit g u o p) h =
     let one = and_parts (eqb giver.0 g.0) _ h in
@@ -92,6 +93,7 @@ same_delegate giver taker obs (Initiate t parent) h = absurd (false≢true h)
 same_delegate giver taker obs (Begin t) h = absurd (false≢true h)
 same_delegate giver taker obs (Read t x) h = absurd (false≢true h)
 same_delegate giver taker obs (Write t x v) h = absurd (false≢true h)
+same_delegate giver taker obs (Add t x d) h = absurd (false≢true h)
 same_delegate giver taker obs (Complete t) h = absurd (false≢true h)
 same_delegate giver taker obs (Permit g u o p) h = absurd (false≢true h)
 same_delegate giver taker obs (Delegate g u o) h =
@@ -108,6 +110,7 @@ same_step (Initiate t parent) b h = search rules
 same_step (Begin t) b h = search rules
 same_step (Read t x) b h = search rules
 same_step (Write t x v) b h = search rules
+same_step (Add t x d) b h = search rules
 same_step (Complete t) b h = search rules
 same_step (Permit giver taker obs ops) b h = same_permit giver taker obs ops b h
 same_step (Delegate giver taker obs) b h = same_delegate giver taker obs b h

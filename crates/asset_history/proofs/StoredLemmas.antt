@@ -7,7 +7,7 @@ use Rattle.std.proofs.lemmas.List.Folds.{list_all-append}
 use Rattle.std.proofs.Math.Seq.{get_or-append_seam}
 use Rattle.std.proofs.lemmas.Option.{slice_get-get_or, slice_get-map}
 use Rattle.asset_names.specs.declared.steps.Step.{Step}
-use Rattle.asset_names.specs.declared.steps.Step.TheVariants.{Initiate, Begin, Read, Write, Complete, Permit, Delegate, Depend, Commit, Abort, WaitFor}
+use Rattle.asset_names.specs.declared.steps.Step.TheVariants.{Initiate, Begin, Read, Write, Add, Complete, Permit, Delegate, Depend, Commit, Abort, WaitFor}
 use Rattle.asset_names.specs.declared.replies.Reply.{Reply}
 use Rattle.asset_history.specs.StoredSets.{StoredSet, set_or_all}
 use Rattle.asset_history.specs.declared.stored.Stored.{Stored}
@@ -35,6 +35,7 @@ entry_before sets set (Stored'.Initiate tag t parent) there = refl
 entry_before sets set (Stored'.Begin tag t) there = refl
 entry_before sets set (Stored'.Read tag t x v) there = refl
 entry_before sets set (Stored'.Write tag t x v) there = refl
+entry_before sets set (Stored'.Add tag t x d) there = refl
 entry_before sets set (Stored'.Complete tag t) there = refl
 entry_before sets set (Stored'.Permit tag missing ops index giver taker) there = ap (λ found. permit_entry tag missing ops giver taker (set_or_all found)) (found_before sets set index (ltb-true index (length sets) there))
 entry_before sets set (Stored'.Delegate tag missing index giver taker) there = ap (λ found. delegate_entry tag missing giver taker (set_or_all found)) (found_before sets set index (ltb-true index (length sets) there))
@@ -60,6 +61,7 @@ entries_after (Initiate t parent) sets entries there = refl
 entries_after (Begin t) sets entries there = refl
 entries_after (Read t x) sets entries there = refl
 entries_after (Write t x v) sets entries there = refl
+entries_after (Add t x d) sets entries there = refl
 entries_after (Complete t) sets entries there = refl
 entries_after (Depend kind a b) sets entries there = refl
 entries_after (Commit t) sets entries there = refl
@@ -73,6 +75,7 @@ entry_again (Initiate t parent) reply sets = refl
 entry_again (Begin t) reply sets = refl
 entry_again (Read t x) reply sets = refl
 entry_again (Write t x v) reply sets = refl
+entry_again (Add t x d) reply sets = refl
 entry_again (Complete t) reply sets = refl
 entry_again (Permit giver taker obs ops) reply sets = ap (λ found. permit_entry (tag_of_two giver reply) (missing_at obs reply) ops giver taker (set_or_all found)) (found_last sets (record { obs = obs }))
 entry_again (Delegate giver taker obs) reply sets = ap (λ found. delegate_entry (tag_of_two giver reply) (missing_at obs reply) giver taker (set_or_all found)) (found_last sets (record { obs = obs }))
@@ -107,6 +110,7 @@ sets_more (Initiate t parent) sets = (omega arith, omega arith)
 sets_more (Begin t) sets = (omega arith, omega arith)
 sets_more (Read t x) sets = (omega arith, omega arith)
 sets_more (Write t x v) sets = (omega arith, omega arith)
+sets_more (Add t x d) sets = (omega arith, omega arith)
 sets_more (Complete t) sets = (omega arith, omega arith)
 sets_more (Depend kind a b) sets = (omega arith, omega arith)
 sets_more (Commit t) sets = (omega arith, omega arith)
@@ -122,6 +126,7 @@ there_more fewer more (Stored'.Initiate tag t parent) le there = refl
 there_more fewer more (Stored'.Begin tag t) le there = refl
 there_more fewer more (Stored'.Read tag t x v) le there = refl
 there_more fewer more (Stored'.Write tag t x v) le there = refl
+there_more fewer more (Stored'.Add tag t x d) le there = refl
 there_more fewer more (Stored'.Complete tag t) le there = refl
 there_more fewer more (Stored'.Depend tag kind a b) le there = refl
 there_more fewer more (Stored'.Commit tag t) le there = refl
@@ -144,6 +149,7 @@ last_there (Initiate t parent) reply sets = refl
 last_there (Begin t) reply sets = refl
 last_there (Read t x) reply sets = refl
 last_there (Write t x v) reply sets = refl
+last_there (Add t x d) reply sets = refl
 last_there (Complete t) reply sets = refl
 last_there (Depend kind a b) reply sets = refl
 last_there (Commit t) reply sets = refl
@@ -173,6 +179,7 @@ entry_moved others sets (Stored'.Initiate tag t parent) = refl
 entry_moved others sets (Stored'.Begin tag t) = refl
 entry_moved others sets (Stored'.Read tag t x v) = refl
 entry_moved others sets (Stored'.Write tag t x v) = refl
+entry_moved others sets (Stored'.Add tag t x d) = refl
 entry_moved others sets (Stored'.Complete tag t) = refl
 entry_moved others sets (Stored'.Depend tag kind a b) = refl
 entry_moved others sets (Stored'.Commit tag t) = refl
@@ -201,6 +208,7 @@ copied_there others sets (Stored'.Initiate tag t parent) = refl
 copied_there others sets (Stored'.Begin tag t) = refl
 copied_there others sets (Stored'.Read tag t x v) = refl
 copied_there others sets (Stored'.Write tag t x v) = refl
+copied_there others sets (Stored'.Add tag t x d) = refl
 copied_there others sets (Stored'.Complete tag t) = refl
 copied_there others sets (Stored'.Depend tag kind a b) = refl
 copied_there others sets (Stored'.Commit tag t) = refl

@@ -7,7 +7,7 @@ use Rattle.asset_names.specs.declared.operations.Op.TheVariants as Op'
 use Rattle.asset_names.specs.declared.statuses.Status.{Status}
 use Rattle.asset_names.specs.declared.statuses.Status.TheVariants as Status'
 use Rattle.asset_names.specs.declared.steps.Step.{Step}
-use Rattle.asset_names.specs.declared.steps.Step.TheVariants.{Initiate, Begin, Read, Write, Complete, Permit, Delegate, Depend, Commit, Abort, WaitFor}
+use Rattle.asset_names.specs.declared.steps.Step.TheVariants.{Initiate, Begin, Read, Write, Add, Complete, Permit, Delegate, Depend, Commit, Abort, WaitFor}
 use Rattle.asset_names.specs.declared.replies.Reply.{Reply}
 use Rattle.asset_names.specs.declared.replies.Reply.TheVariants as Reply'
 use Rattle.asset_names.specs.declared.replies.Outcome.{Outcome}
@@ -35,6 +35,7 @@ again (Initiate t parent) reply = reply_of_name t (tag_of reply)
 again (Begin t) reply = reply_of_name t (tag_of reply)
 again (Read t x) reply = reply_about t x (value_read reply) (tag_of reply)
 again (Write t x v) reply = reply_about t x (pos 0) (tag_of reply)
+again (Add t x d) reply = reply_about t x (pos 0) (tag_of reply)
 again (Complete t) reply = reply_of_name t (tag_of reply)
 again (Permit giver taker obs ops) reply = again_of_two giver taker obs reply
 again (Delegate giver taker obs) reply = again_of_two giver taker obs reply
@@ -136,6 +137,7 @@ refusals_same opening steps (Initiate t parent) = (λ _. refl, tt)
 refusals_same opening steps (Begin t) = (λ _. refl, (λ _. refl, (λ _. refl, tt)))
 refusals_same opening steps (Read t x) = (λ _. refl, (λ _. refl, (λ _. refl, (λ _. refl, tt))))
 refusals_same opening steps (Write t x v) = (λ _. refl, (λ _. refl, (λ _. refl, (λ _. refl, tt))))
+refusals_same opening steps (Add t x d) = (λ _. refl, (λ _. refl, (λ _. refl, (λ _. refl, tt))))
 refusals_same opening steps (Complete t) = (λ _. refl, (λ _. refl, (λ _. refl, tt)))
 refusals_same opening steps (Permit giver taker obs ops) = two_same opening steps giver taker obs
 refusals_same opening steps (Delegate giver taker obs) = two_same opening steps giver taker obs
@@ -183,6 +185,7 @@ unrefused_same opening steps (Initiate t parent) = refl
 unrefused_same opening steps (Begin t) = refl
 unrefused_same opening steps (Read t x) = same_if _ (free steps t.0 x.0 Op'.Read) (Reply'.Value (value opening steps x.0)) refl
 unrefused_same opening steps (Write t x v) = same_if _ (free steps t.0 x.0 Op'.Write) Reply'.Done refl
+unrefused_same opening steps (Add t x d) = same_if _ (free steps t.0 x.0 Op'.Add) Reply'.Done refl
 unrefused_same opening steps (Complete t) = refl
 unrefused_same opening steps (Permit giver taker obs ops) = refl
 unrefused_same opening steps (Delegate giver taker obs) = refl

@@ -7,7 +7,7 @@ use Rattle.asset_names.specs.declared.names.Ob.{Ob}
 use Rattle.asset_names.specs.declared.sets.ObSet.{ObSet}
 use Rattle.asset_names.specs.declared.sets.ObSet.TheVariants.{All, Listed}
 use Rattle.asset_names.specs.declared.steps.Step.{Step}
-use Rattle.asset_names.specs.declared.steps.Step.TheVariants.{Initiate, Begin, Read, Write, Complete, Permit, Delegate, Depend, Commit, Abort, WaitFor}
+use Rattle.asset_names.specs.declared.steps.Step.TheVariants.{Initiate, Begin, Read, Write, Add, Complete, Permit, Delegate, Depend, Commit, Abort, WaitFor}
 use Rattle.asset_names.specs.declared.replies.Refusal.TheVariants as Refusal'
 use Rattle.asset_names.specs.declared.replies.Reply.{Reply}
 use Rattle.asset_names.specs.declared.replies.Reply.TheVariants as Reply'
@@ -98,6 +98,7 @@ stored_as count (Initiate t parent) reply = Stored'.Initiate (tag_of reply) t pa
 stored_as count (Begin t) reply = Stored'.Begin (tag_of reply) t
 stored_as count (Read t x) reply = Stored'.Read (tag_of reply) t x (value_read reply)
 stored_as count (Write t x v) reply = Stored'.Write (tag_of reply) t x v
+stored_as count (Add t x d) reply = Stored'.Add (tag_of reply) t x d
 stored_as count (Complete t) reply = Stored'.Complete (tag_of reply) t
 stored_as count (Permit giver taker obs ops) reply = Stored'.Permit (tag_of_two giver reply) (missing_at obs reply) ops count giver taker
 stored_as count (Delegate giver taker obs) reply = Stored'.Delegate (tag_of_two giver reply) (missing_at obs reply) count giver taker
@@ -126,6 +127,7 @@ entry_of sets (Stored'.Initiate tag t parent) = (Initiate t parent, reply_of_nam
 entry_of sets (Stored'.Begin tag t) = (Begin t, reply_of_name t tag)
 entry_of sets (Stored'.Read tag t x v) = (Read t x, reply_about t x v tag)
 entry_of sets (Stored'.Write tag t x v) = (Write t x v, reply_about t x (pos 0) tag)
+entry_of sets (Stored'.Add tag t x d) = (Add t x d, reply_about t x (pos 0) tag)
 entry_of sets (Stored'.Complete tag t) = (Complete t, reply_of_name t tag)
 entry_of sets (Stored'.Permit tag missing ops set giver taker) = permit_entry tag missing ops giver taker (set_or_all (slice_get sets set))
 entry_of sets (Stored'.Delegate tag missing set giver taker) = delegate_entry tag missing giver taker (set_or_all (slice_get sets set))
@@ -140,10 +142,11 @@ moved count (Stored'.Permit tag missing ops set giver taker) = Stored'.Permit ta
 moved count (Stored'.Delegate tag missing set giver taker) = Stored'.Delegate tag missing count giver taker
 moved count stored = stored
 
--- the value that a stored entry reads or writes, and 0 for any other
+-- the value that a stored entry reads, writes or adds, and 0 for any other
 unfoldable pub value_stored : Stored → ℤ
 value_stored (Stored'.Read tag t x v) = v
 value_stored (Stored'.Write tag t x v) = v
+value_stored (Stored'.Add tag t x d) = d
 value_stored stored = pos 0
 
 -- the entries, newest first

@@ -40,6 +40,9 @@ impl Stored {
             (Stored::Write { tag, t, x, v }, Step::Write { t: u, x: y, v: w }) => {
                 t == u && x == y && v == w && tag.about(*t, *x, 0) == reply
             }
+            (Stored::Add { tag, t, x, d }, Step::Add { t: u, x: y, d: e }) => {
+                t == u && x == y && d == e && tag.about(*t, *x, 0) == reply
+            }
             (Stored::Complete { tag, t }, Step::Complete { t: u }) => {
                 is_of_name(*tag, *t, *u, reply)
             }

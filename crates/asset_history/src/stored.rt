@@ -32,6 +32,12 @@ pub(crate) enum Stored {
         x: Ob,
         v: i64,
     },
+    Add {
+        tag: ReplyTag,
+        t: Txn,
+        x: Ob,
+        d: i64,
+    },
     Complete {
         tag: ReplyTag,
         t: Txn,
@@ -104,6 +110,12 @@ impl Stored {
                 x,
                 v: value_asked(step),
             },
+            Step::Add { t, x, .. } => Stored::Add {
+                tag,
+                t,
+                x,
+                d: value_asked(step),
+            },
             Step::Complete { t } => Stored::Complete { tag, t },
             Step::Permit {
                 giver,
@@ -171,6 +183,11 @@ impl Stored {
             Stored::Write { tag, t, x, .. } => {
                 let v = self.value();
                 *step = Step::Write { t, x, v };
+                tag.about(t, x, 0)
+            }
+            Stored::Add { tag, t, x, .. } => {
+                let d = self.value();
+                *step = Step::Add { t, x, d };
                 tag.about(t, x, 0)
             }
             Stored::Complete { tag, t } => {
@@ -276,6 +293,7 @@ impl Stored {
             Stored::Begin { t, .. } => (t, t),
             Stored::Read { t, .. } => (t, t),
             Stored::Write { t, .. } => (t, t),
+            Stored::Add { t, .. } => (t, t),
             Stored::Complete { t, .. } => (t, t),
             Stored::Permit { giver, taker, .. } => (giver, taker),
             Stored::Delegate { giver, taker, .. } => (giver, taker),
@@ -286,7 +304,7 @@ impl Stored {
         }
     }
 
-    /// Returns the value that a stored entry reads or writes, and 0 for any other.
+    /// Returns the value that a stored entry reads, writes or adds, and 0 for any other.
     #[tactic(auto, unfolding(crate::specs::Stored::value_stored))]
     fn value(&self) -> i64
         ensures { result ≡ value_stored self.now }
@@ -294,6 +312,7 @@ impl Stored {
         match *self {
             Stored::Read { v, .. } => v,
             Stored::Write { v, .. } => v,
+            Stored::Add { d, .. } => d,
             _ => 0,
         }
     }

@@ -5,9 +5,9 @@ use asset_core::Core;
 use asset_core_tests::ask;
 use asset_deletion::{without, without_dead};
 use asset_history::History;
-use asset_names::{Kind, NoMemory, Ob, ObSet, Op, Ops, Step, Txn};
+use asset_names::{Kind, NoMemory, Ob, ObSet, Ops, Step, Txn};
 use asset_test_tools::{
-    abort, begin, commit, complete, delegate, depend, initiate, next, read, write,
+    abort, add, begin, commit, complete, delegate, depend, initiate, next, read, write,
 };
 use std::alloc::Global;
 use std::test::Fail;
@@ -91,11 +91,12 @@ fn drawn(number: u64) -> Step {
     let t = (number >> 40) % NAMES;
     let u = t / 3 * 3 + (number >> 30) % 3;
     let x = 1 + (number >> 20) % 3;
-    match (number >> 50) % 10 {
+    match (number >> 50) % 12 {
         0 => initiate(u),
         1 => commit(t),
         2 => read(t, x),
         3 => write(t, x, (number >> 44) as i64),
+        10 | 11 => add(t, x, (number >> 44) as i64),
         4 => complete(t),
         5 => commit(t),
         6 => abort(t),
@@ -104,7 +105,7 @@ fn drawn(number: u64) -> Step {
             giver: Txn(t),
             taker: Txn(u),
             obs: ObSet::All,
-            ops: Ops::only(Op::Write),
+            ops: Ops::with_add(false, number % 2 == 0),
         },
         _ => delegate(t, u, &[]),
     }

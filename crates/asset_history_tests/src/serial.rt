@@ -8,7 +8,7 @@ use asset_core_tests::{ask, opened};
 use asset_history::History;
 use asset_names::{NoMemory, Ob, Reply, Step, Txn};
 use asset_serial::{committed_share_nothing, serial};
-use asset_test_tools::{abort, begin, commit, complete, initiate, next, read, write};
+use asset_test_tools::{abort, add, begin, commit, complete, initiate, next, read, write};
 use std::alloc::Global;
 use std::test::Fail;
 
@@ -67,21 +67,24 @@ fn first_committed_at(history: &History, index: usize) -> Option<Txn> {
     found
 }
 
-/// Returns the value that the transaction writes to the object at the index, if it does.
-fn written_at(history: &History, index: usize, writer: Txn, object: Ob) -> Option<i64> {
+/// Returns the value of an object after the entry at the index, of which only a write or an add of the transaction counts.
+fn value_after(history: &History, index: usize, writer: Txn, object: Ob, before: i64) -> i64 {
     match history.entry(index) {
-        Some((Step::Write { t, x, v }, Reply::Done)) if t == writer && x == object => Some(v),
-        _ => None,
+        Some((Step::Write { t, x, v }, Reply::Done)) if t == writer && x == object => v,
+        Some((Step::Add { t, x, d }, Reply::Done)) if t == writer && x == object => {
+            before.wrapping_add(d)
+        }
+        _ => before,
     }
 }
 
-/// Returns the last value that the transaction writes to the object, if it writes any.
-fn last_written(history: &History, writer: Txn, object: Ob) -> Option<i64> {
-    let mut last = None;
+/// Returns the value that the transaction alone leaves in the object.
+fn left_alone(history: &History, writer: Txn, object: Ob, before: i64) -> i64 {
+    let mut value = before;
     for i in 0..history.len() {
-        last = written_at(history, i, writer, object).or(last);
+        value = value_after(history, i, writer, object, value);
     }
-    last
+    value
 }
 
 /// Returns the value of an object that those who committed left, in the order of their commits.
@@ -89,7 +92,7 @@ fn committed_value(history: &History, object: Ob, opening: i64) -> i64 {
     let mut value = opening;
     for i in 0..history.len() {
         value = match first_committed_at(history, i) {
-            Some(t) => last_written(history, t, object).unwrap_or(value),
+            Some(t) => left_alone(history, t, object, value),
             None => value,
         };
     }
@@ -181,11 +184,12 @@ fn refused_permit_is_sharing(rt: HostRuntime) -> Result<(), Fail> {
 fn drawn(number: u64) -> Step {
     let t = (number >> 40) % NAMES;
     let x = 1 + (number >> 20) % 3;
-    match (number >> 50) % 12 {
+    match (number >> 50) % 15 {
         0 => initiate(t),
         1 => begin(t),
         2 | 3 => read(t, x),
         4 | 5 | 6 => write(t, x, (number >> 44) as i64),
+        11 | 12 | 13 => add(t, x, (number >> 44) as i64),
         7 | 8 => complete(t),
         9 | 10 => commit(t),
         _ => abort(t),

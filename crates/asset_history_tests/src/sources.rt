@@ -7,7 +7,7 @@ use asset_history::History;
 use asset_names::{NoMemory, Ob, Reply, Step};
 use asset_sources::{Source, source, sources};
 use asset_test_tools::{
-    abort, begin, commit, complete, delegate, initiate, next, permit, read, write,
+    abort, add, begin, commit, complete, delegate, initiate, next, permit, read, write,
 };
 use std::alloc::Global;
 use std::test::Fail;
@@ -19,8 +19,8 @@ const LIFE: u32 = 30;
 
 pub(crate) const DRAWN_ROOM: usize = 1_000;
 
-/// Each drawn write writes the number of its draw above this, which no object has at first.
-const FIRST_VALUE: i64 = 1_000;
+/// Each drawn write writes its own multiple of this, which no object has at first. All drawn adds together add less.
+const SPAN: i64 = 1_000_000;
 
 /// Returns the sources of all entries. If memory runs out once, they are looked for again.
 pub(crate) fn all_sources(
@@ -224,11 +224,12 @@ fn history_without_entries_has_no_sources(rt: HostRuntime) -> Result<(), Fail> {
 /// Returns the step that `t` asks amid its life, as a number says. Each draw that writes has a value of its own.
 fn drawn(t: u64, draw: u32, number: u64) -> Step {
     let x = 1 + (number >> 20) % 3;
-    match (number >> 50) % 12 {
+    match (number >> 50) % 14 {
         0 => abort(t),
         1 => delegate(t, t / 3 * 3, &[Ob(x)]),
         2 => permit(t, t / 3 * 3, &[Ob(x)], (true, true)),
-        3 | 4 | 5 | 6 => write(t, x, FIRST_VALUE + i64::from(draw)),
+        3 | 4 | 5 | 6 => write(t, x, SPAN * (i64::from(draw) + 1)),
+        12 | 13 => add(t, x, 1),
         _ => read(t, x),
     }
 }
@@ -257,11 +258,11 @@ fn steps_are_drawn(core: &mut Core) -> Option<u64> {
     None
 }
 
-/// Returns the entry that wrote the value, or the opening if none did.
+/// Returns the entry that wrote the value below the adds in it, or the opening if none did.
 fn writer_of(history: &History, value: i64) -> Source {
     for i in 0..history.len() {
         if let Some((Step::Write { v, .. }, Reply::Done)) = history.entry(i) {
-            if v == value {
+            if v / SPAN == value / SPAN {
                 return Source::Entry(i);
             }
         }
@@ -269,7 +270,7 @@ fn writer_of(history: &History, value: i64) -> Source {
     Source::Opening
 }
 
-/// Returns the source of the entry by the value that it read, as no two entries write the same.
+/// Returns the source of the entry by the value that it read, as no two entries write the same multiple.
 fn source_by_value(history: &History, index: usize) -> Option<Source> {
     match history.entry(index) {
         Some((Step::Read { .. }, Reply::Value(v))) => Some(writer_of(history, v)),

@@ -14,7 +14,7 @@ fn read(alloc: Global, script: &[u8]) -> Result<JobScript, JobsFault> {
 
 /// Two jobs over one object, between lines that say nothing.
 const TWO_JOBS: &[u8] =
-    b"# two jobs\nobject 1 100\n\njob 7\nread 1\nwrite 1 -5\njob 8\n# it gives up at once\ngive up\nread 2";
+    b"# two jobs\nobject 1 100\n\njob 7\nread 1\nwrite 1 -5\nadd 1 -3\njob 8\n# it gives up at once\ngive up\nread 2";
 
 #[test]
 fn script_says_its_objects_and_jobs(rt: HostRuntime) -> Result<(), Fail> {
@@ -24,7 +24,12 @@ fn script_says_its_objects_and_jobs(rt: HostRuntime) -> Result<(), Fail> {
     assert_eq!(rt; script.jobs[0].0, Txn(7));
     assert_eq!(rt;
         script.jobs[0].1.as_slice(),
-        [JobAct::Read(Ob(1)), JobAct::Write(Ob(1), -5)].as_slice()
+        [
+            JobAct::Read(Ob(1)),
+            JobAct::Write(Ob(1), -5),
+            JobAct::Add(Ob(1), -3)
+        ]
+        .as_slice()
     );
     assert_eq!(rt; script.jobs[1].0, Txn(8));
     assert_eq!(rt;

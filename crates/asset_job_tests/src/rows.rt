@@ -63,10 +63,18 @@ job 103 aborted
 audit ok entries 22 committed 1 aborted 2
 ";
 
-const ROWS: [Row<'static>; 8] = [
+const ROWS: [Row<'static>; 9] = [
     // Two jobs that share nothing.
     Row {
         script: "object 1 100\nobject 2 200\njob 7\nwrite 1 150\njob 8\nwrite 2 250\n",
+        capacity: 10_000,
+        workers: 2,
+        text: "job 7 committed\njob 8 committed\naudit ok entries 10 committed 2 aborted 0\n",
+        status: 0,
+    },
+    // Two jobs that add to one object at once.
+    Row {
+        script: "object 1 100\njob 7\nadd 1 5\njob 8\nadd 1 -7\n",
         capacity: 10_000,
         workers: 2,
         text: "job 7 committed\njob 8 committed\naudit ok entries 10 committed 2 aborted 0\n",

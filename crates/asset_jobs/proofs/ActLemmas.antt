@@ -10,7 +10,7 @@ use Rattle.asset_names.specs.declared.replies.Fault.{Fault}
 use Rattle.asset_audit.specs.Audited.{Call}
 use Rattle.asset_manager.specs.Listed.{IsListed}
 use Rattle.asset_grammar.specs.declared.job_lines.JobAct.{JobAct}
-use Rattle.asset_grammar.specs.declared.job_lines.JobAct.TheVariants.{Read, Write, GiveUp}
+use Rattle.asset_grammar.specs.declared.job_lines.JobAct.TheVariants.{Read, Write, Add, GiveUp}
 use Rattle.asset_jobs.specs.Acts.{goes_on, AsksThen, DoesActs}
 
 true_is_false : {A : Type 0} → true ≡ false → A
@@ -31,6 +31,10 @@ pub writes_alone : (t : Txn) (x : Ob) (v w : ℤ) (before later : List Call) (me
 unfolding DoesActs
 writes_alone t x v w before later met all same listed e = asks_alone _ before later met all (subst (λ u. IsListed before (Step'.Write t x u) met later) same listed) e
 
+pub adds_alone : (t : Txn) (x : Ob) (v w : ℤ) (before later : List Call) (met : Result Outcome Fault) (all : Bool) → w ≡ v → IsListed before (Step'.Add t x w) met later → all ≡ goes_on met → DoesActs t (Add x v ∷ []) before all later
+unfolding DoesActs
+adds_alone t x v w before later met all same listed e = asks_alone _ before later met all (subst (λ u. IsListed before (Step'.Add t x u) met later) same listed) e
+
 -- a step after which the rest is more
 asks_more : (step : Step) (before mid later : List Call) (rest more : List Call → Type 0) (all : Bool) → AsksThen step before rest true mid → ((between : List Call) → rest between → more between) → AsksThen step before more all later
 unfolding AsksThen
@@ -43,6 +47,7 @@ unfolding DoesActs
 does_then t [] then before mid later all h g = subst (λ calls. DoesActs t then calls all later) h.1 g
 does_then t (Read x ∷ first) then before mid later all h g = asks_more _ before mid later _ _ all h (λ between rest. does_then t first then between mid later all rest g)
 does_then t (Write x v ∷ first) then before mid later all h g = asks_more _ before mid later _ _ all h (λ between rest. does_then t first then between mid later all rest g)
+does_then t (Add x d ∷ first) then before mid later all h g = asks_more _ before mid later _ _ all h (λ between rest. does_then t first then between mid later all rest g)
 does_then t (GiveUp ∷ first) then before mid later all h g = true_is_false h.0
 
 -- an act after which a job does not go on is the last that is done
@@ -56,6 +61,7 @@ unfolding DoesActs
 does_last t [] then before later h = true_is_false (sym h.0)
 does_last t (Read x ∷ first) then before later h = asks_last _ before later _ _ h (λ between rest. does_last t first then between later rest)
 does_last t (Write x v ∷ first) then before later h = asks_last _ before later _ _ h (λ between rest. does_last t first then between later rest)
+does_last t (Add x d ∷ first) then before later h = asks_last _ before later _ _ h (λ between rest. does_last t first then between later rest)
 does_last t (GiveUp ∷ first) then before later h = h
 
 -- the acts before the one at i were done, and that one is the last

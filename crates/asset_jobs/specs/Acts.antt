@@ -12,7 +12,7 @@ use Rattle.asset_manager.specs.Listed.{IsListed}
 use Rattle.asset_bodies.specs.Asked.{IsAsked}
 use Rattle.asset_bodies.specs.Working.{Working, Worked}
 use Rattle.asset_grammar.specs.declared.job_lines.JobAct.{JobAct}
-use Rattle.asset_grammar.specs.declared.job_lines.JobAct.TheVariants.{Read, Write, GiveUp}
+use Rattle.asset_grammar.specs.declared.job_lines.JobAct.TheVariants.{Read, Write, Add, GiveUp}
 
 -- a job goes on after an act that is answered `Done` or with a value
 unfoldable pub goes_on : Result Outcome Fault → Bool
@@ -20,10 +20,11 @@ goes_on (Ok (Answer Done)) = true
 goes_on (Ok (Answer (Value v))) = true
 goes_on met = false
 
--- the value that an act writes, and 0 for any other act
-unfoldable pub value_written : JobAct → ℤ
-value_written (Write x v) = v
-value_written act = pos 0
+-- the value that an act writes or the amount that it adds, and 0 for any other act
+unfoldable pub act_value : JobAct → ℤ
+act_value (Write x v) = v
+act_value (Add x d) = d
+act_value act = pos 0
 
 -- a step was asked; the job goes on so after it, or ends there
 unfoldable pub AsksThen : Step → List Call → (List Call → Type 0) → Bool → List Call → Type 0
@@ -36,6 +37,7 @@ unfoldable pub DoesActs : Txn → List JobAct → List Call → Bool → List Ca
 DoesActs t [] before all later = (all ≡ true) × (later ≡ before)
 DoesActs t (Read x ∷ acts) before all later = AsksThen (Step'.Read t x) before (λ between. DoesActs t acts between all later) all later
 DoesActs t (Write x v ∷ acts) before all later = AsksThen (Step'.Write t x v) before (λ between. DoesActs t acts between all later) all later
+DoesActs t (Add x d ∷ acts) before all later = AsksThen (Step'.Add t x d) before (λ between. DoesActs t acts between all later) all later
 DoesActs t (GiveUp ∷ acts) before all later = (all ≡ false) × (later ≡ before)
 
 -- the last step of a job: to complete if all acts were done, and else to abort

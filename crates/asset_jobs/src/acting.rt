@@ -2,7 +2,7 @@
 
 ghost use Rattle.std.specs.Prelude.{◌≡◌, ◌∷◌, [], Some};
 ghost use Rattle.asset_bodies.specs.Working.{IsSame};
-ghost use Rattle.asset_jobs.specs.Acts.{DidActs, DoesActs, goes_on, value_written};
+ghost use Rattle.asset_jobs.specs.Acts.{DidActs, DoesActs, goes_on, act_value};
 
 use asset_bodies::{Finished, Tx};
 use asset_grammar::JobAct;
@@ -21,14 +21,15 @@ fn goes_on(met: Result<Outcome, Fault>) -> bool
     }
 }
 
-/// Returns the value that an act writes, and 0 for any other act. A signed number from an act is passed on as the result of
+/// Returns the value that an act writes or the amount that it adds, and 0 for any other act. A signed number from an act is passed on as the result of
 /// a call, so that the proof knows its range.
-#[tactic(auto, unfolding(crate::specs::Acts::value_written))]
-fn value_written(act: JobAct) -> i64
-    ensures { result ≡ value_written act }
+#[tactic(auto, unfolding(crate::specs::Acts::act_value))]
+fn act_value(act: JobAct) -> i64
+    ensures { result ≡ act_value act }
 {
     match act {
         JobAct::Write(_, v) => v,
+        JobAct::Add(_, d) => d,
         _ => 0,
     }
 }
@@ -40,7 +41,8 @@ fn act<R: Wait>(rt: &R, tx: &mut Tx, act: JobAct) -> bool
 {
     match act {
         JobAct::Read(x) => goes_on(tx.read(rt, x)),
-        JobAct::Write(x, _) => goes_on(tx.write(rt, x, value_written(act))),
+        JobAct::Write(x, _) => goes_on(tx.write(rt, x, act_value(act))),
+        JobAct::Add(x, _) => goes_on(tx.add(rt, x, act_value(act))),
         JobAct::GiveUp => false,
     }
 }

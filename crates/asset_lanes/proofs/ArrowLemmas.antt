@@ -7,7 +7,7 @@ use Rattle.asset_names.specs.declared.names.Txn.{Txn}
 use Rattle.asset_names.specs.declared.steps.Kind.{Kind}
 use Rattle.asset_names.specs.declared.steps.Kind.TheVariants as Kind'
 use Rattle.asset_names.specs.declared.steps.Step.{Step}
-use Rattle.asset_names.specs.declared.steps.Step.TheVariants.{Initiate, Begin, Read, Write, Complete, Permit, Delegate, Depend, Commit, Abort, WaitFor}
+use Rattle.asset_names.specs.declared.steps.Step.TheVariants.{Initiate, Begin, Read, Write, Add, Complete, Permit, Delegate, Depend, Commit, Abort, WaitFor}
 use Rattle.asset_names.specs.declared.replies.Reply.{Reply}
 use Rattle.asset_names.specs.declared.replies.Reply.TheVariants as Reply'
 use Rattle.asset_names.specs.Steps.{Entry}
@@ -76,6 +76,7 @@ sourced groups rows all number (Initiate t parent) reply source arrow is kind = 
 sourced groups rows all number (Begin t) reply source arrow is kind = absurd cc
 sourced groups rows all number (Read t x) reply source arrow is kind = read_arrow groups rows all number t source arrow is
 sourced groups rows all number (Write t x v) reply source arrow is kind = absurd cc
+sourced groups rows all number (Add t x v) reply source arrow is kind = absurd cc
 sourced groups rows all number (Complete t) reply source arrow is kind = absurd cc
 sourced groups rows all number (Permit giver taker obs ops) Reply'.Done source arrow is kind = let same = not_source groups rows ArrowKind'.Permit number giver number taker arrow is kind in absurd cc
 sourced groups rows all number (Permit giver taker obs ops) (Reply'.Value w) source arrow is kind = absurd cc

@@ -5,8 +5,9 @@ use Rattle.std.proofs.lemmas.Bool.{eq-eqb, ne_eqb, false≢true}
 use Rattle.std.proofs.lemmas.List.{length-append, length-reverse}
 use Rattle.std.proofs.lemmas.List.Elements.{filter-append}
 use Rattle.std.proofs.lemmas.Option.{same_Some, none-some, slice_get_cases}
+use Rattle.asset_names.specs.declared.operations.Op.TheVariants as Op'
 use Rattle.asset_names.specs.declared.steps.Step.{Step}
-use Rattle.asset_names.specs.declared.steps.Step.TheVariants.{Initiate, Begin, Read, Write, Complete, Permit, Delegate, Depend, Commit, Abort, WaitFor}
+use Rattle.asset_names.specs.declared.steps.Step.TheVariants.{Initiate, Begin, Read, Write, Add, Complete, Permit, Delegate, Depend, Commit, Abort, WaitFor}
 use Rattle.asset_names.specs.declared.replies.Reply.{Reply}
 use Rattle.asset_names.specs.declared.replies.Reply.TheVariants as Reply'
 use Rattle.asset_names.specs.Steps.{Entry, takes_effect}
@@ -38,10 +39,15 @@ mark_number groups rows number (Read t x) Reply'.Committed mark is = absurd cc
 mark_number groups rows number (Read t x) Reply'.Aborted mark is = absurd cc
 mark_number groups rows number (Read t x) (Reply'.Refused refusal) mark is = absurd cc
 mark_number groups rows number (Write t x v) Reply'.Done mark is = sym (ap (λ (m : Mark). m.number) (same_Some _ _ is))
+mark_number groups rows number (Add t x v) Reply'.Done mark is = sym (ap (λ (m : Mark). m.number) (same_Some _ _ is))
 mark_number groups rows number (Write t x v) (Reply'.Value w) mark is = absurd cc
+mark_number groups rows number (Add t x v) (Reply'.Value w) mark is = absurd cc
 mark_number groups rows number (Write t x v) Reply'.Committed mark is = absurd cc
+mark_number groups rows number (Add t x v) Reply'.Committed mark is = absurd cc
 mark_number groups rows number (Write t x v) Reply'.Aborted mark is = absurd cc
+mark_number groups rows number (Add t x v) Reply'.Aborted mark is = absurd cc
 mark_number groups rows number (Write t x v) (Reply'.Refused refusal) mark is = absurd cc
+mark_number groups rows number (Add t x v) (Reply'.Refused refusal) mark is = absurd cc
 mark_number groups rows number (Complete t) reply mark is = absurd cc
 mark_number groups rows number (Permit giver taker obs ops) reply mark is = absurd cc
 mark_number groups rows number (Delegate giver taker obs) reply mark is = absurd cc
@@ -70,15 +76,20 @@ unfolding takes_effect is_operation actor mark_list mark_of marked
 one_mark groups rows number (Initiate t parent) reply operating = absurd (and_false_true (takes_effect (Initiate t parent) reply) operating)
 one_mark groups rows number (Begin t) reply operating = absurd (and_false_true (takes_effect (Begin t) reply) operating)
 one_mark groups rows number (Read t x) Reply'.Done operating = absurd (false≢true operating)
-one_mark groups rows number (Read t x) (Reply'.Value w) operating = (marked groups rows number false t x w, refl, refl)
+one_mark groups rows number (Read t x) (Reply'.Value w) operating = (marked groups rows number Op'.Read t x w, refl, refl)
 one_mark groups rows number (Read t x) Reply'.Committed operating = absurd (false≢true operating)
 one_mark groups rows number (Read t x) Reply'.Aborted operating = absurd (false≢true operating)
 one_mark groups rows number (Read t x) (Reply'.Refused refusal) operating = absurd (false≢true operating)
-one_mark groups rows number (Write t x v) Reply'.Done operating = (marked groups rows number true t x v, refl, refl)
+one_mark groups rows number (Write t x v) Reply'.Done operating = (marked groups rows number Op'.Write t x v, refl, refl)
+one_mark groups rows number (Add t x v) Reply'.Done operating = (marked groups rows number Op'.Add t x v, refl, refl)
 one_mark groups rows number (Write t x v) (Reply'.Value w) operating = absurd (false≢true operating)
+one_mark groups rows number (Add t x v) (Reply'.Value w) operating = absurd (false≢true operating)
 one_mark groups rows number (Write t x v) Reply'.Committed operating = absurd (false≢true operating)
+one_mark groups rows number (Add t x v) Reply'.Committed operating = absurd (false≢true operating)
 one_mark groups rows number (Write t x v) Reply'.Aborted operating = absurd (false≢true operating)
+one_mark groups rows number (Add t x v) Reply'.Aborted operating = absurd (false≢true operating)
 one_mark groups rows number (Write t x v) (Reply'.Refused refusal) operating = absurd (false≢true operating)
+one_mark groups rows number (Add t x v) (Reply'.Refused refusal) operating = absurd (false≢true operating)
 one_mark groups rows number (Complete t) reply operating = absurd (and_false_true (takes_effect (Complete t) reply) operating)
 one_mark groups rows number (Permit giver taker obs ops) reply operating = absurd (and_false_true (takes_effect (Permit giver taker obs ops) reply) operating)
 one_mark groups rows number (Delegate giver taker obs) reply operating = absurd (and_false_true (takes_effect (Delegate giver taker obs) reply) operating)
@@ -98,10 +109,15 @@ no_mark groups rows number (Read t x) Reply'.Committed operating = refl
 no_mark groups rows number (Read t x) Reply'.Aborted operating = refl
 no_mark groups rows number (Read t x) (Reply'.Refused refusal) operating = refl
 no_mark groups rows number (Write t x v) Reply'.Done operating = absurd (false≢true (sym operating))
+no_mark groups rows number (Add t x v) Reply'.Done operating = absurd (false≢true (sym operating))
 no_mark groups rows number (Write t x v) (Reply'.Value w) operating = refl
+no_mark groups rows number (Add t x v) (Reply'.Value w) operating = refl
 no_mark groups rows number (Write t x v) Reply'.Committed operating = refl
+no_mark groups rows number (Add t x v) Reply'.Committed operating = refl
 no_mark groups rows number (Write t x v) Reply'.Aborted operating = refl
+no_mark groups rows number (Add t x v) Reply'.Aborted operating = refl
 no_mark groups rows number (Write t x v) (Reply'.Refused refusal) operating = refl
+no_mark groups rows number (Add t x v) (Reply'.Refused refusal) operating = refl
 no_mark groups rows number (Complete t) reply operating = refl
 no_mark groups rows number (Permit giver taker obs ops) reply operating = refl
 no_mark groups rows number (Delegate giver taker obs) reply operating = refl

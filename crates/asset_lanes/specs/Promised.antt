@@ -24,7 +24,7 @@ picture_arrows entries = arrows (grouping_of entries) (lane_names (grouping_of e
 unfoldable pub marks_numbered : ℕ → List Mark → List Mark
 marks_numbered number marks = filter (λ (mark : Mark). mark.number == number) marks
 
--- whether an entry is a read or a write that took effect
+-- whether an entry is an operation that took effect
 unfoldable pub operates : Entry → Bool
 operates entry = takes_effect entry.0 entry.1 && is_operation entry.0
 

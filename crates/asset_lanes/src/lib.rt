@@ -1,4 +1,4 @@
-//! The lanes of a history, as values: a lane for each transaction, the marks of reads and writes in them, and the arrows between
+//! The lanes of a history, as values: a lane for each transaction, the marks of operations in them, and the arrows between
 //! them; and a summary of each transaction, for a table. `asset_picture` draws them. The one fault is that memory runs out.
 #![tactic(auto)]
 

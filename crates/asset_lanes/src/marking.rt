@@ -1,4 +1,4 @@
-//! The marks of reads and writes.
+//! The marks of reads, writes and adds.
 
 ghost use Rattle.std.specs.Prelude.{◌≡◌, ◌++◌, reverse, slice_get, Some, IfOk, OnOk};
 ghost use Rattle.asset_names.specs.Steps.{Entry};
@@ -7,10 +7,10 @@ ghost use Rattle.asset_lanes.specs.Marks.{marked, mark_of, mark_list, marks};
 use crate::rows::row_of;
 use asset_deletion::Groups;
 use asset_history::History;
-use asset_names::{NoMemory, Ob, Reply, Step, Txn, value_asked};
+use asset_names::{NoMemory, Ob, Op, Reply, Step, Txn, value_asked};
 use std::alloc::Global;
 
-/// The mark of a read or a write.
+/// The mark of an operation.
 #[derive(Clone, Copy)]
 pub struct Mark {
     /// The number of its entry.
@@ -19,41 +19,45 @@ pub struct Mark {
     pub row: usize,
     /// Whether the transaction's group is dead.
     pub is_dead: bool,
-    /// Whether it is a write.
-    pub writes: bool,
+    /// What it does.
+    pub op: Op,
     /// The object.
     pub x: u64,
-    /// The value that was read or written.
+    /// The value that was read or written, or the amount that was added.
     pub v: i64,
 }
 
 /// Returns the mark of an operation, in its transaction's lane.
 #[tactic(auto, unfolding(crate::specs::Marks::marked))]
-fn marked(groups: &Groups, rows: &[u64], number: usize, writes: bool, t: Txn, x: Ob, v: i64) -> Mark
-    ensures { result ≡ marked groups.now rows.now number writes t x v }
+fn marked(groups: &Groups, rows: &[u64], number: usize, op: Op, t: Txn, x: Ob, v: i64) -> Mark
+    ensures { result ≡ marked groups.now rows.now number op t x v }
 {
     Mark {
         number,
         row: row_of(rows, t),
         is_dead: groups.is_dead(t),
-        writes,
+        op,
         x: x.0,
         v,
     }
 }
 
-/// Returns the mark of an entry, if it is a read or a write that took effect.
+/// Returns the mark of an entry, if it is an operation that took effect.
 #[tactic(auto, unfolding(crate::specs::Marks::mark_of, asset_names::specs::Steps::value_asked))]
 fn mark_of(groups: &Groups, rows: &[u64], number: usize, step: &Step, reply: &Reply) -> Option<Mark>
     ensures { result ≡ mark_of groups.now rows.now number step.now reply.now }
 {
     match *step {
         Step::Read { t, x } => match *reply {
-            Reply::Value(v) => Some(marked(groups, rows, number, false, t, x, v)),
+            Reply::Value(v) => Some(marked(groups, rows, number, Op::Read, t, x, v)),
             _ => None,
         },
         Step::Write { t, x, .. } => match *reply {
-            Reply::Done => Some(marked(groups, rows, number, true, t, x, value_asked(step))),
+            Reply::Done => Some(marked(groups, rows, number, Op::Write, t, x, value_asked(step))),
+            _ => None,
+        },
+        Step::Add { t, x, .. } => match *reply {
+            Reply::Done => Some(marked(groups, rows, number, Op::Add, t, x, value_asked(step))),
             _ => None,
         },
         _ => None,

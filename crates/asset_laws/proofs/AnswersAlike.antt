@@ -7,7 +7,7 @@ use Rattle.asset_names.specs.declared.operations.Op.TheVariants as Op'
 use Rattle.asset_names.specs.declared.statuses.End.{End}
 use Rattle.asset_names.specs.declared.statuses.End.TheVariants as End'
 use Rattle.asset_names.specs.declared.steps.Step.{Step}
-use Rattle.asset_names.specs.declared.steps.Step.TheVariants.{Initiate, Begin, Read, Write, Complete, Permit, Delegate, Depend, Commit, Abort, WaitFor}
+use Rattle.asset_names.specs.declared.steps.Step.TheVariants.{Initiate, Begin, Read, Write, Add, Complete, Permit, Delegate, Depend, Commit, Abort, WaitFor}
 use Rattle.asset_names.specs.declared.replies.Refusal.{Refusal}
 use Rattle.asset_names.specs.declared.replies.Reply.{Reply}
 use Rattle.asset_names.specs.declared.replies.Outcome.{Outcome}
@@ -16,7 +16,7 @@ use Rattle.asset_names.specs.Arrows.{lists}
 use Rattle.asset_names.specs.Steps.{Opening, initiated}
 use Rattle.asset_names.specs.Endings.{end_of, live}
 use Rattle.asset_names.specs.Groups.{actor, partner, was_committed}
-use Rattle.asset_names.specs.Operations.{Use, reads, writes, Operation, op_of, conflict, operations, allows, blocks, free, was_aborted, stands, opening_value, after_use, value_after, value}
+use Rattle.asset_names.specs.Operations.{Use, reads, writes, adds, Operation, op_of, conflict, operations, allows, blocks, free, was_aborted, stands, opening_value, after_use, value_after, value}
 use Rattle.asset_names.specs.Answers.{unknown, ended, not_running, taken, begun_before, too_late, cycle, rules_for, first_refusal, unrefused, outcome_unless, answer}
 use Rattle.asset_names.specs.Orderly.{IsOrderly}
 use Rattle.asset_names.proofs.Common.{cond_same}
@@ -29,11 +29,11 @@ Uncommitted keep steps = (n : ℕ) → keep n ≡ false → was_committed (end_o
 
 -- ---- values
 
--- a write of a transaction that is not kept, on an object that is free for a kept one to read, has been undone
-undone : (keep : ℕ → Bool) (some all : List Step) → IsAlike keep some all → Uncommitted keep all → (t x : ℕ) → keep t ≡ true → (o : Operation) (v : ℤ) → o.use_of ≡ writes v
+-- a write or an add of a transaction that is not kept, on an object that is free for a kept one to read, has been undone
+undone : (keep : ℕ → Bool) (some all : List Step) → IsAlike keep some all → Uncommitted keep all → (t x : ℕ) → keep t ≡ true → (o : Operation) → conflict (op_of o.use_of) Op'.Read ≡ true
     → keep o.owner ≡ false → eqb o.object x ≡ true → blocks all t x Op'.Read o ≡ false → lists (initiated all) o.owner ≡ true → stands all o ≡ false
-unfolding blocks stands live op_of conflict was_aborted was_committed
-undone keep some all alike uncommitted t x stays o v is gone here clear known =
+unfolding blocks stands live was_aborted was_committed
+undone keep some all alike uncommitted t x stays o conflicts gone here clear known =
     by (end_of all o.owner) refl (uncommitted o.owner gone) where
       not_allowed : allows all o.owner t x Op'.Read ≡ false
       not_allowed = go (allows all o.owner t x Op'.Read) refl where
@@ -42,7 +42,7 @@ undone keep some all alike uncommitted t x stays o v is gone here clear known =
         go true e = absurd (false≢true (sym gone ∙ allows_keeps keep all x Op'.Read (alike.permits_keep x Op'.Read) o.owner t e ∙ stays))
 
       by : (end : Option End) → end_of all o.owner ≡ end → was_committed end ≡ false → not (was_aborted end) ≡ false
-      by None e none = absurd (false≢true (sym clear ∙ rw (here, is, other_name keep o.owner t gone stays, known, e, not_allowed) refl))
+      by None e none = absurd (false≢true (sym clear ∙ rw (here, conflicts, other_name keep o.owner t gone stays, known, e, not_allowed) refl))
       by (Some End'.Committed) e none = absurd (false≢true (sym none))
       by (Some End'.Aborted) e none = refl
 
@@ -54,7 +54,7 @@ stands_alike keep some all alike o stays = rw (alike.ends_alike o.owner stays) r
 value_filtered : (keep : ℕ → Bool) (some all : List Step) → IsAlike keep some all → Uncommitted keep all → (t x : ℕ) → keep t ≡ true → (first : ℤ) (os : List Operation)
     → list_any (blocks all t x Op'.Read) os ≡ false → ((n : ℕ) → list_any (λ (o : Operation). eqb o.owner n) os ≡ true → lists (initiated all) n ≡ true)
     → value_after (stands some) x first (filter (owned keep) os) ≡ value_after (stands all) x first os
-unfolding owned value_after after_use
+unfolding owned value_after after_use op_of conflict
 value_filtered keep some all alike uncommitted t x stays first [] clear known = refl
 value_filtered keep some all alike uncommitted t x stays first (o ∷ os) clear known =
     go (keep o.owner) refl (value_filtered keep some all alike uncommitted t x stays first os parts.1 (λ n owns. known n (or_right (eqb o.owner n) _ owns))) where
@@ -68,7 +68,8 @@ value_filtered keep some all alike uncommitted t x stays first (o ∷ os) clear 
           → cond (on && stands all o) (after_use how (value_after (stands all) x first os)) (value_after (stands all) x first os) ≡ value_after (stands all) x first os
       skipped false e gone how is = refl
       skipped true e gone reads is = cond_same (stands all o) (value_after (stands all) x first os)
-      skipped true e gone (writes v) is = rw (undone keep some all alike uncommitted t x stays o v is gone e parts.0 (known o.owner (or_left _ _ (eq-eqb o.owner o.owner refl)))) refl
+      skipped true e gone (writes v) is = rw (undone keep some all alike uncommitted t x stays o (rw (is) refl) gone e parts.0 (known o.owner (or_left _ _ (eq-eqb o.owner o.owner refl)))) refl
+      skipped true e gone (adds d) is = rw (undone keep some all alike uncommitted t x stays o (rw (is) refl) gone e parts.0 (known o.owner (or_left _ _ (eq-eqb o.owner o.owner refl)))) refl
 
       go : (here : Bool) → keep o.owner ≡ here → Ih → value_after (stands some) x first (cond here (o ∷ filter (owned keep) os) (filter (owned keep) os)) ≡ value_after (stands all) x first (o ∷ os)
       go true e ih = rw (stands_alike keep some all alike o e, ih) refl
@@ -90,6 +91,7 @@ rules_alike keep some all alike opening (Initiate t parent) one other = rw (stat
 rules_alike keep some all alike opening (Begin t) one other = rw (status_alike keep some all alike t.0 one) refl
 rules_alike keep some all alike opening (Read t x) one other = rw (status_alike keep some all alike t.0 one) refl
 rules_alike keep some all alike opening (Write t x v) one other = rw (status_alike keep some all alike t.0 one) refl
+rules_alike keep some all alike opening (Add t x d) one other = rw (status_alike keep some all alike t.0 one) refl
 rules_alike keep some all alike opening (Complete t) one other = rw (status_alike keep some all alike t.0 one) refl
 rules_alike keep some all alike opening (Permit giver taker obs ops) one other = rw (status_alike keep some all alike giver.0 one, status_alike keep some all alike taker.0 other) refl
 rules_alike keep some all alike opening (Delegate giver taker obs) one other = rw (status_alike keep some all alike giver.0 one, status_alike keep some all alike taker.0 other) refl
@@ -116,6 +118,9 @@ unrefused_alike keep some all alike uncommitted orderly opening (Read t x) reply
 unrefused_alike keep some all alike uncommitted orderly opening (Write t x v) reply stays is =
     let is_free = not_waiting (free all t.0 x.0 Op'.Write) _ reply is in
     rw (free_alike keep some all alike t.0 x.0 Op'.Write is_free) (rw is_free at is)
+unrefused_alike keep some all alike uncommitted orderly opening (Add t x d) reply stays is =
+    let is_free = not_waiting (free all t.0 x.0 Op'.Add) _ reply is in
+    rw (free_alike keep some all alike t.0 x.0 Op'.Add is_free) (rw is_free at is)
 unrefused_alike keep some all alike uncommitted orderly opening (Complete t) reply stays is = is
 unrefused_alike keep some all alike uncommitted orderly opening (Permit giver taker obs ops) reply stays is = is
 unrefused_alike keep some all alike uncommitted orderly opening (Delegate giver taker obs) reply stays is = is

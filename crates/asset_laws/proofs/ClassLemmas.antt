@@ -7,7 +7,7 @@ use Rattle.asset_names.specs.declared.statuses.End.{End}
 use Rattle.asset_names.specs.declared.statuses.End.TheVariants as End'
 use Rattle.asset_names.specs.declared.steps.Kind.TheVariants.{Ad, Gc}
 use Rattle.asset_names.specs.declared.steps.Step.{Step}
-use Rattle.asset_names.specs.declared.steps.Step.TheVariants.{Initiate, Begin, Read, Write, Complete, Permit, Delegate, Depend, Commit, Abort, WaitFor}
+use Rattle.asset_names.specs.declared.steps.Step.TheVariants.{Initiate, Begin, Read, Write, Add, Complete, Permit, Delegate, Depend, Commit, Abort, WaitFor}
 use Rattle.asset_names.specs.Arrows.{linked, has_arrow, among}
 use Rattle.asset_names.specs.Endings.{dependencies, class_arrows, doom_arrows, ended_by, end_of, live, same_class}
 use Rattle.asset_names.proofs.Arrows.{linked_trans}
@@ -64,6 +64,7 @@ never_split step steps a b one other same = by step where
   by (Begin t) = quiet (Begin t) (λ l o n. refl)
   by (Read t x) = quiet (Read t x) (λ l o n. refl)
   by (Write t x v) = quiet (Write t x v) (λ l o n. refl)
+  by (Add t x d) = quiet (Add t x d) (λ l o n. refl)
   by (Complete t) = quiet (Complete t) (λ l o n. refl)
   by (Permit giver taker obs ops) = quiet (Permit giver taker obs ops) (λ l o n. refl)
   by (Delegate giver taker obs) = quiet (Delegate giver taker obs) (λ l o n. refl)

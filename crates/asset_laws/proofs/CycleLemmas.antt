@@ -10,7 +10,7 @@ use Rattle.asset_names.specs.declared.replies.Outcome.TheVariants.{Answer}
 use Rattle.asset_names.specs.declared.steps.Kind.{Kind}
 use Rattle.asset_names.specs.declared.steps.Kind.TheVariants.{Cd, Ad, Gc}
 use Rattle.asset_names.specs.declared.steps.Step.{Step}
-use Rattle.asset_names.specs.declared.steps.Step.TheVariants.{Initiate, Begin, Read, Write, Complete, Permit, Delegate, Depend, Commit, Abort, WaitFor}
+use Rattle.asset_names.specs.declared.steps.Step.TheVariants.{Initiate, Begin, Read, Write, Add, Complete, Permit, Delegate, Depend, Commit, Abort, WaitFor}
 use Rattle.asset_names.specs.Arrows.{Arrow, lists, linked, has_arrow, among}
 use Rattle.asset_names.specs.Paths.{same_kind, both_ways, leads, closes_cycle}
 use Rattle.asset_names.specs.Steps.{Opening, Entry, takes_effect, applied, initiated}
@@ -263,6 +263,7 @@ one_more opening (Initiate t parent) steps reply is effect orderly = no_dependen
 one_more opening (Begin t) steps reply is effect orderly = no_dependency (Begin t) steps refl refl orderly
 one_more opening (Read t x) steps reply is effect orderly = no_dependency (Read t x) steps refl refl orderly
 one_more opening (Write t x v) steps reply is effect orderly = no_dependency (Write t x v) steps refl refl orderly
+one_more opening (Add t x d) steps reply is effect orderly = no_dependency (Add t x d) steps refl refl orderly
 one_more opening (Complete t) steps reply is effect orderly = no_dependency (Complete t) steps refl refl orderly
 one_more opening (Permit giver taker obs ops) steps reply is effect orderly = no_dependency (Permit giver taker obs ops) steps refl refl orderly
 one_more opening (Delegate giver taker obs) steps reply is effect orderly = no_dependency (Delegate giver taker obs) steps refl refl orderly

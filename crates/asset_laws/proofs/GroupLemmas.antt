@@ -6,7 +6,7 @@ use Rattle.std.proofs.lemmas.Bool.{or_cases, or_left, or_right, and_parts, and_f
 use Rattle.asset_names.specs.declared.statuses.End.{End}
 use Rattle.asset_names.specs.declared.statuses.End.TheVariants as End'
 use Rattle.asset_names.specs.declared.steps.Step.{Step}
-use Rattle.asset_names.specs.declared.steps.Step.TheVariants.{Initiate, Begin, Read, Write, Complete, Permit, Delegate, Depend, Commit, Abort, WaitFor}
+use Rattle.asset_names.specs.declared.steps.Step.TheVariants.{Initiate, Begin, Read, Write, Add, Complete, Permit, Delegate, Depend, Commit, Abort, WaitFor}
 use Rattle.asset_names.specs.declared.replies.Outcome.TheVariants.{Answer}
 use Rattle.asset_names.specs.Arrows.{lists, has_arrow}
 use Rattle.asset_names.specs.Paths.{both_ways}
@@ -94,6 +94,7 @@ initiated_actor (Initiate t parent) names n h = elim (or_cases (eqb t.0 n) _ h) 
 initiated_actor (Begin t) names n h = inr h
 initiated_actor (Read t x) names n h = inr h
 initiated_actor (Write t x v) names n h = inr h
+initiated_actor (Add t x d) names n h = inr h
 initiated_actor (Complete t) names n h = inr h
 initiated_actor (Permit giver taker obs ops) names n h = inr h
 initiated_actor (Delegate giver taker obs) names n h = inr h

@@ -6,7 +6,7 @@ use Rattle.asset_names.specs.declared.operations.Op.{Op}
 use Rattle.asset_names.specs.declared.sets.ObSet.{ObSet}
 use Rattle.asset_names.specs.declared.steps.Kind.{Kind}
 use Rattle.asset_names.specs.declared.steps.Step.{Step}
-use Rattle.asset_names.specs.declared.steps.Step.TheVariants.{Initiate, Begin, Read, Write, Complete, Permit, Delegate, Depend, Commit, Abort, WaitFor}
+use Rattle.asset_names.specs.declared.steps.Step.TheVariants.{Initiate, Begin, Read, Write, Add, Complete, Permit, Delegate, Depend, Commit, Abort, WaitFor}
 use Rattle.asset_names.specs.InSet.{in_set}
 use Rattle.asset_names.specs.Arrows.{Arrow, has_arrow}
 use Rattle.asset_names.specs.Paths.{same_kind}
@@ -45,6 +45,7 @@ stranger_dependencies keep steps (Initiate t parent) one other kind u v stays = 
 stranger_dependencies keep steps (Begin t) one other kind u v stays = refl
 stranger_dependencies keep steps (Read t x) one other kind u v stays = refl
 stranger_dependencies keep steps (Write t x w) one other kind u v stays = refl
+stranger_dependencies keep steps (Add t x d) one other kind u v stays = refl
 stranger_dependencies keep steps (Complete t) one other kind u v stays = refl
 stranger_dependencies keep steps (Permit giver taker obs ops) one other kind u v stays = refl
 stranger_dependencies keep steps (Delegate giver taker obs) one other kind u v stays = refl
@@ -65,6 +66,7 @@ more_dependencies_keep keep steps (Initiate t parent) same kind keeps = keeps
 more_dependencies_keep keep steps (Begin t) same kind keeps = keeps
 more_dependencies_keep keep steps (Read t x) same kind keeps = keeps
 more_dependencies_keep keep steps (Write t x v) same kind keeps = keeps
+more_dependencies_keep keep steps (Add t x d) same kind keeps = keeps
 more_dependencies_keep keep steps (Complete t) same kind keeps = keeps
 more_dependencies_keep keep steps (Permit giver taker obs ops) same kind keeps = keeps
 more_dependencies_keep keep steps (Delegate giver taker obs) same kind keeps = keeps
@@ -119,6 +121,7 @@ kept_operations keep some all (Initiate t parent) one other same = same
 kept_operations keep some all (Begin t) one other same = same
 kept_operations keep some all (Read t x) one other same = rw (one, same) refl
 kept_operations keep some all (Write t x v) one other same = rw (one, same) refl
+kept_operations keep some all (Add t x d) one other same = rw (one, same) refl
 kept_operations keep some all (Complete t) one other same = same
 kept_operations keep some all (Permit giver taker obs ops) one other same = same
 kept_operations keep some all (Delegate giver taker obs) one other same = rw (same) (handed_filtered keep giver.0 taker.0 obs (one ∙ sym other) (operations all))
@@ -134,6 +137,7 @@ stranger_operations keep some all (Initiate t parent) one other same = same
 stranger_operations keep some all (Begin t) one other same = same
 stranger_operations keep some all (Read t x) one other same = rw (one) same
 stranger_operations keep some all (Write t x v) one other same = rw (one) same
+stranger_operations keep some all (Add t x d) one other same = rw (one) same
 stranger_operations keep some all (Complete t) one other same = same
 stranger_operations keep some all (Permit giver taker obs ops) one other same = same
 stranger_operations keep some all (Delegate giver taker obs) one other same =
@@ -157,6 +161,7 @@ kept_permits keep some all alike step = by step where
   by (Begin t) one x op u v stays = alike.permits_alike x op u v stays
   by (Read t y) one x op u v stays = alike.permits_alike x op u v stays
   by (Write t y w) one x op u v stays = alike.permits_alike x op u v stays
+  by (Add t y d) one x op u v stays = alike.permits_alike x op u v stays
   by (Complete t) one x op u v stays = alike.permits_alike x op u v stays
   by (Permit giver taker obs ops) one x op u v stays =
       arrows_permitted giver taker obs ops some x op u v ∙ rw (alike.permits_alike x op u v stays) refl ∙ sym (arrows_permitted giver taker obs ops all x op u v)
@@ -176,6 +181,7 @@ stranger_permits keep steps (Initiate t parent) one other x op u v stays = refl
 stranger_permits keep steps (Begin t) one other x op u v stays = refl
 stranger_permits keep steps (Read t y) one other x op u v stays = refl
 stranger_permits keep steps (Write t y w) one other x op u v stays = refl
+stranger_permits keep steps (Add t y d) one other x op u v stays = refl
 stranger_permits keep steps (Complete t) one other x op u v stays = refl
 stranger_permits keep steps (Permit giver taker obs ops) one other x op u v stays = arrows_permitted giver taker obs ops steps x op u v ∙ rw (other_name keep giver.0 u one stays) refl
 stranger_permits keep steps (Delegate giver taker obs) one other x op u v stays = arrows_delegated giver taker obs steps x op u v ∙ rw (other_name keep taker.0 u other stays) refl
@@ -191,6 +197,7 @@ more_permits_keep keep steps (Initiate t parent) same x op keeps = keeps
 more_permits_keep keep steps (Begin t) same x op keeps = keeps
 more_permits_keep keep steps (Read t y) same x op keeps = keeps
 more_permits_keep keep steps (Write t y w) same x op keeps = keeps
+more_permits_keep keep steps (Add t y d) same x op keeps = keeps
 more_permits_keep keep steps (Complete t) same x op keeps = keeps
 more_permits_keep keep steps (Permit giver taker obs ops) same x op keeps = λ u v h.
     elim (or_cases _ (has_arrow (permits steps x op) u v) (sym (arrows_permitted giver taker obs ops steps x op u v) ∙ h)) [

@@ -2,7 +2,7 @@
 use Rattle.std.proofs.Common.{◌≡◌, ℕ, Bool, true, false, eqb, ◌||◌, List, [], ◌∷◌, ◌++◌, filter, refl, sym, ◌∙◌, ap}
 use Rattle.std.proofs.lemmas.Bool.{or_parts, false≢true}
 use Rattle.asset_names.specs.declared.steps.Step.{Step}
-use Rattle.asset_names.specs.declared.steps.Step.TheVariants.{Initiate, Begin, Read, Write, Complete, Permit, Delegate, Depend, Commit, Abort, WaitFor}
+use Rattle.asset_names.specs.declared.steps.Step.TheVariants.{Initiate, Begin, Read, Write, Add, Complete, Permit, Delegate, Depend, Commit, Abort, WaitFor}
 use Rattle.asset_names.specs.Arrows.{lists}
 use Rattle.asset_names.specs.Steps.{initiated_by, begun_by, completed_by}
 use Rattle.asset_names.specs.Endings.{ended_by, end_of}
@@ -38,6 +38,7 @@ stranger_adds keep (Begin t) n gone stays = (refl, rw (other_name keep t.0 n gon
 stranger_adds keep (Complete t) n gone stays = (refl, refl, rw (other_name keep t.0 n gone stays) refl)
 stranger_adds keep (Read t x) n gone stays = (refl, refl, refl)
 stranger_adds keep (Write t x v) n gone stays = (refl, refl, refl)
+stranger_adds keep (Add t x d) n gone stays = (refl, refl, refl)
 stranger_adds keep (Permit giver taker obs ops) n gone stays = (refl, refl, refl)
 stranger_adds keep (Delegate giver taker obs) n gone stays = (refl, refl, refl)
 stranger_adds keep (Depend kind a b) n gone stays = (refl, refl, refl)
@@ -65,6 +66,7 @@ kept_ends keep some all alike step = by step where
   by (Begin t) one n stays = quiet (Begin t) (λ l o m. refl) n stays
   by (Read t x) one n stays = quiet (Read t x) (λ l o m. refl) n stays
   by (Write t x v) one n stays = quiet (Write t x v) (λ l o m. refl) n stays
+  by (Add t x d) one n stays = quiet (Add t x d) (λ l o m. refl) n stays
   by (Complete t) one n stays = quiet (Complete t) (λ l o m. refl) n stays
   by (Permit giver taker obs ops) one n stays = quiet (Permit giver taker obs ops) (λ l o m. refl) n stays
   by (Delegate giver taker obs) one n stays = quiet (Delegate giver taker obs) (λ l o m. refl) n stays
@@ -87,6 +89,7 @@ stranger_ends keep some all alike step = by step where
   by (Begin t) gone n stays = end_same (Begin t) all n (λ l o m. refl)
   by (Read t x) gone n stays = end_same (Read t x) all n (λ l o m. refl)
   by (Write t x v) gone n stays = end_same (Write t x v) all n (λ l o m. refl)
+  by (Add t x d) gone n stays = end_same (Add t x d) all n (λ l o m. refl)
   by (Complete t) gone n stays = end_same (Complete t) all n (λ l o m. refl)
   by (Permit giver taker obs ops) gone n stays = end_same (Permit giver taker obs ops) all n (λ l o m. refl)
   by (Delegate giver taker obs) gone n stays = end_same (Delegate giver taker obs) all n (λ l o m. refl)

@@ -1,9 +1,10 @@
 -- Why the laws have their premises: worked rows, computed on the definitions, in which a law without one of them fails.
+use Rattle.std.specs.Int.{int_wrap}
 use Rattle.std.specs.Prelude.{◌≡◌, pos, true, false, List, [], ◌∷◌, ◌++◌, None, Some, reverse, refl}
 use Rattle.asset_names.specs.declared.operations.Op.TheVariants as Op'
 use Rattle.asset_names.specs.declared.sets.ObSet.TheVariants.{Listed}
 use Rattle.asset_names.specs.declared.steps.Step.{Step}
-use Rattle.asset_names.specs.declared.steps.Step.TheVariants.{Initiate, Begin, Read, Write, Complete, Permit, Commit}
+use Rattle.asset_names.specs.declared.steps.Step.TheVariants.{Initiate, Begin, Read, Write, Add, Complete, Permit, Commit}
 use Rattle.asset_names.specs.declared.replies.Reply.TheVariants.{Done, Value, Committed}
 use Rattle.asset_names.specs.declared.replies.Outcome.TheVariants.{Answer}
 use Rattle.asset_names.specs.Arrows.{lists, linked, among}
@@ -87,3 +88,14 @@ StrangerFirst = Case (stranger ++ group_before ++ group_after)
 in_parts_row : CommitInParts × GroupFirst × StrangerFirst
 unfolding answer rules_for unrefused first_refusal outcome_unless unknown ended not_running taken begun_before too_late no_object one_name missing_in missing_rule no_object_of is_unknown has_ended is_running is_completed is_committed has_begun may_commit class_completed commit_outcome free blocks allows permits permitted_by in_set numbers conflict op_of operations operated value value_after after_use was_aborted stands opening_value opening_at exists status status_of end_of ended_by live same_class has_outside_source has_outside class_arrows order_arrows doom_arrows dependencies dependency_by both_ways initiated begun completed initiated_by begun_by completed_by applied takes_effect among linked lists same_kind
 in_parts_row = (refl, refl, refl)
+
+-- A live transaction that adds to an object, and holds it by no write, changes the value that those who committed left in it.
+abbrev one_adds : List Entry
+one_adds = reverse (done (Initiate (t 7) None) ∷ done (Begin (t 7)) ∷ done (Add (t 7) (x 1) (pos 5)) ∷ [])
+
+abbrev LiveAddIsNotSettled : Type 0
+LiveAddIsNotSettled = (holds (applied one_adds) 7 1 Op'.Write ≡ false) × (value three (applied one_adds) 1 ≡ pos 105) × (value three (applied (serial one_adds)) 1 ≡ pos 100)
+
+live_add_row : LiveAddIsNotSettled
+unfolding holds same_op op_of operations operated value value_after after_use int_wrap was_aborted stands opening_value opening_at live end_of ended_by initiated initiated_by applied takes_effect lists serial entries_of committed_names committed_by actor
+live_add_row = (refl, refl, refl)

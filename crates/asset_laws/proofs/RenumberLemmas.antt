@@ -1,12 +1,16 @@
 -- A legal history with the numbers of entries in place of values is legal, and each object has the number of its source.
-use Rattle.std.proofs.Common.{◌≡◌, ℕ, suc, ℤ, pos, Bool, true, false, cond, not, eqb, ◌&&◌, List, [], ◌∷◌, map, length, refl, sym, ◌∙◌, ap, None, Some}
+use Rattle.std.proofs.Common.{◌≡◌, ℕ, suc, ℤ, pos, ◌+ℤ◌, w64, Bool, true, false, cond, not, eqb, ◌&&◌, ◌<◌, ◌^◌, List, [], ◌∷◌, map, length, refl, sym, ◌∙◌, ap, arith, None, Some}
 use Rattle.std.specs.Prelude.{Option, ◌+◌, find, zip, is_some, nat_le, option_map, sum_by, unwrap_or}
+use Rattle.std.specs.Int.{int_wrap}
+use Rattle.std.specs.Int.RustNames.{FitsSigned}
+use Rattle.std.proofs.lemmas.Int.{int_wrap_fits, fits_signed_from_abs}
+use Rattle.std.proofs.Math.IntN.{+ℤ_idr}
 use Rattle.asset_names.specs.declared.names.Ob.{Ob}
 use Rattle.asset_names.specs.declared.operations.Op.TheVariants as Op'
 use Rattle.asset_names.specs.declared.sets.ObSet.{ObSet}
 use Rattle.asset_names.specs.declared.sets.ObSet.TheVariants.{All, Listed}
 use Rattle.asset_names.specs.declared.steps.Step.{Step}
-use Rattle.asset_names.specs.declared.steps.Step.TheVariants.{Initiate, Begin, Read, Write, Complete, Permit, Delegate, Depend, Commit, Abort, WaitFor}
+use Rattle.asset_names.specs.declared.steps.Step.TheVariants.{Initiate, Begin, Read, Write, Add, Complete, Permit, Delegate, Depend, Commit, Abort, WaitFor}
 use Rattle.asset_names.specs.declared.replies.Refusal.{Refusal}
 use Rattle.asset_names.specs.declared.replies.Reply.{Reply}
 use Rattle.asset_names.specs.declared.replies.Reply.TheVariants as Reply'
@@ -15,7 +19,7 @@ use Rattle.asset_names.specs.declared.replies.Outcome.TheVariants.{Answer, Wait}
 use Rattle.asset_names.specs.InSet.{in_set}
 use Rattle.asset_names.specs.Steps.{Opening, Entry, takes_effect, applied}
 use Rattle.asset_names.specs.Endings.{end_of}
-use Rattle.asset_names.specs.Operations.{Use, reads, writes, Operation, handed_over, operated, operations, free, was_aborted, stands, exists, opening_at, opening_value, after_use, value_after, value}
+use Rattle.asset_names.specs.Operations.{Use, reads, writes, adds, Operation, handed_over, operated, operations, free, was_aborted, stands, exists, opening_at, opening_value, after_use, value_after, value}
 use Rattle.asset_names.specs.Answers.{unknown, ended, not_running, taken, begun_before, too_late, no_object, cycle, missing_in, missing_rule, no_object_of, rules_for, first_refusal, unrefused, outcome_unless, answer, IsLegal}
 use Rattle.asset_names.specs.Room.{owed_to, owed, fits}
 use Rattle.asset_names.specs.Sources.{Numbered, is_operation, is_write, operation_numbers, numbered, stands_on, source}
@@ -77,6 +81,13 @@ effect_same n older (Write t x v) reply = by reply where
   by Reply'.Committed = refl
   by Reply'.Aborted = refl
   by (Reply'.Refused refusal) = refl
+effect_same n older (Add t x d) reply = by reply where
+  by : (reply : Reply) → takes_effect (Add t x (pos 0)) reply ≡ takes_effect (Add t x d) reply
+  by Reply'.Done = refl
+  by (Reply'.Value w) = refl
+  by Reply'.Committed = refl
+  by Reply'.Aborted = refl
+  by (Reply'.Refused refusal) = refl
 effect_same n older (Complete t) reply = refl
 effect_same n older (Permit giver taker obs ops) reply = refl
 effect_same n older (Delegate giver taker obs) reply = refl
@@ -101,10 +112,11 @@ renumbered_same (entry ∷ older) = rw (effect_same (length older) older entry.0
 
 -- ---- operations
 
--- what a use becomes, and an operation: a write writes its number
+-- what a use becomes, and an operation: a write writes its number, and an add adds 0
 renumbered_use : ℕ → Use → Use
 renumbered_use m reads = reads
 renumbered_use m (writes v) = writes (pos (suc m))
+renumbered_use m (adds d) = adds (pos 0)
 
 as_number : Numbered → Operation
 as_number found = record { owner = found.1.owner; object = found.1.object; use_of = renumbered_use found.0 found.1.use_of }
@@ -132,6 +144,7 @@ numbered_operations (entry ∷ older) = rw (effect_same (length older) older ent
   by (Begin t) rest = rest
   by (Read t x) rest = ap (λ os. record { owner = t.0; object = x.0; use_of = reads } ∷ os) rest
   by (Write t x v) rest = ap (λ os. record { owner = t.0; object = x.0; use_of = writes (pos (suc (length older))) } ∷ os) rest
+  by (Add t x d) rest = ap (λ os. record { owner = t.0; object = x.0; use_of = adds (pos 0) } ∷ os) rest
   by (Complete t) rest = rest
   by (Permit giver taker obs ops) rest = rest
   by (Delegate giver taker obs) rest = ap (map (handed_over giver.0 taker.0 obs)) rest ∙ handed_numbers giver.0 taker.0 obs (operation_numbers older) (operations (applied older))
@@ -147,13 +160,39 @@ numbered_operations (entry ∷ older) = rw (effect_same (length older) older ent
 
 -- ---- values
 
+-- each number is that of an entry of a history that is not too long
+unfoldable AllSmall : List ℕ → Type 0
+AllSmall [] = Unit {0}
+AllSmall (m ∷ numbers) = (suc m < 2 ^ 63) × AllSmall numbers
+
+numbers_small : (entries : List Entry) → length entries < 2 ^ 63 → AllSmall (operation_numbers entries)
+unfolding AllSmall operation_numbers
+numbers_small [] short = tt
+numbers_small (entry ∷ older) short = go (takes_effect entry.0 entry.1 && is_operation entry.0) (numbers_small older (omega (arith, short))) where
+  go : (operates : Bool) → AllSmall (operation_numbers older) → AllSmall (cond operates (length older ∷ operation_numbers older) (operation_numbers older))
+  go true rest = (omega (arith, short), rest)
+  go false rest = rest
+
+-- the number of a source is an i64, so that adding 0 leaves it
+source_fits : (test : Numbered → Bool) (numbers : List ℕ) (os : List Operation) → AllSmall numbers → FitsSigned w64 (source_number (find test (zip numbers os)))
+unfolding AllSmall source_number
+source_fits test [] os small = fits_signed_from_abs w64 (pos 0) (omega arith)
+source_fits test (m ∷ numbers) [] small = fits_signed_from_abs w64 (pos 0) (omega arith)
+source_fits test (m ∷ numbers) (o ∷ os) small = go (test (m, o)) (source_fits test numbers os small.1) where
+  go : (here : Bool) → FitsSigned w64 (source_number (find test (zip numbers os))) → FitsSigned w64 (source_number (cond here (Some (m, o)) (find test (zip numbers os))))
+  go true rest = fits_signed_from_abs w64 (pos (suc m)) (let fits = small.0 in omega (arith, fits))
+  go false rest = rest
+
+adding_none : (v : ℤ) → FitsSigned w64 v → int_wrap w64 (v +ℤ pos 0) ≡ v
+adding_none v fits = ap (int_wrap w64) (+ℤ_idr v) ∙ int_wrap_fits w64 v fits
+
 -- the value after numbered operations is the number of the first write that stands
-number_found : (entries : List Entry) (ones : List Step) → ((n : ℕ) → end_of ones n ≡ end_of (applied entries) n) → (x : ℕ) (numbers : List ℕ) (os : List Operation)
+number_found : (entries : List Entry) (ones : List Step) → ((n : ℕ) → end_of ones n ≡ end_of (applied entries) n) → (x : ℕ) (numbers : List ℕ) (os : List Operation) → AllSmall numbers
     → value_after (stands ones) x (pos 0) (map as_number (zip numbers os)) ≡ source_number (find (stands_on entries x) (zip numbers os))
-unfolding value_after source_number stands_on stands is_write after_use as_number renumbered_use
-number_found entries ones ends x [] os = refl
-number_found entries ones ends x (m ∷ numbers) [] = refl
-number_found entries ones ends x (m ∷ numbers) (o ∷ os) = rw (ends o.owner) (go (eqb o.object x) (not (was_aborted (end_of (applied entries) o.owner))) o.use_of (number_found entries ones ends x numbers os)) where
+unfolding value_after source_number stands_on stands is_write after_use as_number renumbered_use AllSmall
+number_found entries ones ends x [] os small = refl
+number_found entries ones ends x (m ∷ numbers) [] small = refl
+number_found entries ones ends x (m ∷ numbers) (o ∷ os) small = rw (ends o.owner) (go (eqb o.object x) (not (was_aborted (end_of (applied entries) o.owner))) o.use_of (number_found entries ones ends x numbers os small.1)) where
   Rest : Type 0
   Rest = value_after (stands ones) x (pos 0) (map as_number (zip numbers os)) ≡ source_number (find (stands_on entries x) (zip numbers os))
 
@@ -161,17 +200,19 @@ number_found entries ones ends x (m ∷ numbers) (o ∷ os) = rw (ends o.owner) 
       → cond (here && up) (after_use (renumbered_use m how) (value_after (stands ones) x (pos 0) (map as_number (zip numbers os)))) (value_after (stands ones) x (pos 0) (map as_number (zip numbers os)))
       ≡ source_number (cond (here && is_write how && up) (Some (m, o)) (find (stands_on entries x) (zip numbers os)))
   go true true (writes v) rest = refl
+  go true true (adds d) rest = ap (λ v. int_wrap w64 (v +ℤ pos 0)) rest ∙ adding_none (source_number (find (stands_on entries x) (zip numbers os))) (source_fits (stands_on entries x) numbers os small.1)
   go true true reads rest = rest
   go true false (writes v) rest = rest
+  go true false (adds d) rest = rest
   go true false reads rest = rest
   go false up how rest = rest
 
 -- each object has the number of its source
-pub value_is_source : (opening : Opening) (entries : List Entry) (x : ℕ) → value (zeroed opening) (applied (renumbered entries)) x ≡ source_number (source entries x)
+pub value_is_source : (opening : Opening) (entries : List Entry) → length entries < 2 ^ 63 → (x : ℕ) → value (zeroed opening) (applied (renumbered entries)) x ≡ source_number (source entries x)
 unfolding value source numbered
-value_is_source opening entries x =
+value_is_source opening entries short x =
     rw (value_zeroed opening x, numbered_operations entries)
-    (number_found entries (applied (renumbered entries)) (renumbered_same entries).ends_same x (operation_numbers entries) (operations (applied entries)))
+    (number_found entries (applied (renumbered entries)) (renumbered_same entries).ends_same x (operation_numbers entries) (operations (applied entries)) (numbers_small entries short))
 
 -- ---- answers
 
@@ -181,6 +222,7 @@ rules_same opening ones others same n (Initiate t parent) = rw (status_same ones
 rules_same opening ones others same n (Begin t) = rw (status_same ones others same t.0) refl
 rules_same opening ones others same n (Read t x) = rw (status_same ones others same t.0, ap (λ e. e x.0) (exists_zeroed opening)) refl
 rules_same opening ones others same n (Write t x v) = rw (status_same ones others same t.0, ap (λ e. e x.0) (exists_zeroed opening)) refl
+rules_same opening ones others same n (Add t x d) = rw (status_same ones others same t.0, ap (λ e. e x.0) (exists_zeroed opening)) refl
 rules_same opening ones others same n (Complete t) = rw (status_same ones others same t.0) refl
 rules_same opening ones others same n (Permit giver taker obs ops) = rw (status_same ones others same giver.0, status_same ones others same taker.0, missing_zeroed opening obs) refl
 rules_same opening ones others same n (Delegate giver taker obs) = rw (status_same ones others same giver.0, status_same ones others same taker.0, missing_zeroed opening obs) refl
@@ -196,6 +238,7 @@ reading_refused older (Initiate t parent) refusal = refl
 reading_refused older (Begin t) refusal = refl
 reading_refused older (Read t x) refusal = refl
 reading_refused older (Write t x v) refusal = refl
+reading_refused older (Add t x d) refusal = refl
 reading_refused older (Complete t) refusal = refl
 reading_refused older (Permit giver taker obs ops) refusal = refl
 reading_refused older (Delegate giver taker obs) refusal = refl
@@ -223,6 +266,10 @@ unrefused_read opening ones older same sources n (Write t x v) = rw (free_same o
   by : (is_free : Bool) → cond is_free (Answer Reply'.Done) Wait ≡ outcome_read older (Write t x v) (cond is_free (Answer Reply'.Done) Wait)
   by true = refl
   by false = refl
+unrefused_read opening ones older same sources n (Add t x d) = rw (free_same ones (applied older) same t.0 x.0 Op'.Add) (by (free (applied older) t.0 x.0 Op'.Add)) where
+  by : (is_free : Bool) → cond is_free (Answer Reply'.Done) Wait ≡ outcome_read older (Add t x d) (cond is_free (Answer Reply'.Done) Wait)
+  by true = refl
+  by false = refl
 unrefused_read opening ones older same sources n (Complete t) = refl
 unrefused_read opening ones older same sources n (Permit giver taker obs ops) = refl
 unrefused_read opening ones older same sources n (Delegate giver taker obs) = refl
@@ -232,20 +279,20 @@ unrefused_read opening ones older same sources n (Abort t) = refl
 unrefused_read opening ones older same sources n (WaitFor t) = rw (status_same ones (applied older) same t.0) (outcome_stays older (WaitFor t) (λ reply. refl) _)
 
 -- a step with its number has the outcome of the step, but that a read reads the number of its source
-pub outcome_renumbered : (opening : Opening) (older : List Entry) (step : Step)
+pub outcome_renumbered : (opening : Opening) (older : List Entry) → length older < 2 ^ 63 → (step : Step)
     → answer (zeroed opening) (applied (renumbered older)) (writing (length older) step) ≡ outcome_read older step (answer opening (applied older) step)
 unfolding answer outcome_unless outcome_read
-outcome_renumbered opening older step =
+outcome_renumbered opening older short step =
     rw (rules_same opening (applied (renumbered older)) (applied older) (renumbered_same older) (length older) step) (go (first_refusal (rules_for opening (applied older) step))) where
       go : (first : Option Refusal) → outcome_unless first (unrefused (zeroed opening) (applied (renumbered older)) (writing (length older) step))
           ≡ outcome_read older step (outcome_unless first (unrefused opening (applied older) step))
-      go None = unrefused_read opening (applied (renumbered older)) older (renumbered_same older) (value_is_source opening older) (length older) step
+      go None = unrefused_read opening (applied (renumbered older)) older (renumbered_same older) (value_is_source opening older short) (length older) step
       go (Some refusal) = ap Answer (sym (reading_refused older step refusal))
 
-renumbered_answer : (opening : Opening) (entry : Entry) (older : List Entry) → answer opening (applied older) entry.0 ≡ Answer entry.1
+renumbered_answer : (opening : Opening) (entry : Entry) (older : List Entry) → length older < 2 ^ 63 → answer opening (applied older) entry.0 ≡ Answer entry.1
     → answer (zeroed opening) (applied (renumbered older)) (writing (length older) entry.0) ≡ Answer (reading older entry.0 entry.1)
 unfolding outcome_read
-renumbered_answer opening entry older is = outcome_renumbered opening older entry.0 ∙ ap (outcome_read older entry.0) is
+renumbered_answer opening entry older short is = outcome_renumbered opening older short entry.0 ∙ ap (outcome_read older entry.0) is
 
 -- ---- room
 
@@ -257,7 +304,7 @@ room_renumbered entries count capacity =
     λ i. nat_le (count + sum_by (λ n. owed_to (status_same (applied (renumbered entries)) (applied entries) same n i)) (same.initiated_same i)) capacity
 
 -- the history with numbers in place of values is legal
-pub renumbered_legal : (opening : Opening) (entries : List Entry) → IsLegal opening entries → IsLegal (zeroed opening) (renumbered entries)
+pub renumbered_legal : (opening : Opening) (entries : List Entry) → length entries < 2 ^ 63 → IsLegal opening entries → IsLegal (zeroed opening) (renumbered entries)
 unfolding IsLegal renumbered
-renumbered_legal opening [] legal = legal
-renumbered_legal opening (entry ∷ older) legal = (renumbered_answer opening entry older legal.0, renumbered_legal opening older legal.1)
+renumbered_legal opening [] short legal = legal
+renumbered_legal opening (entry ∷ older) short legal = let less : length older < 2 ^ 63 = omega (arith, short) in (renumbered_answer opening entry older less legal.0, renumbered_legal opening older less legal.1)

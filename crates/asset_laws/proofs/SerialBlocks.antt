@@ -11,18 +11,19 @@ use Rattle.asset_names.specs.declared.operations.Op.{Op}
 use Rattle.asset_names.specs.declared.operations.Op.TheVariants as Op'
 use Rattle.asset_names.specs.declared.statuses.End.{End}
 use Rattle.asset_names.specs.declared.steps.Step.{Step}
-use Rattle.asset_names.specs.declared.steps.Step.TheVariants.{Initiate, Begin, Read, Write, Complete, Permit, Delegate, Depend, Commit, Abort, WaitFor}
+use Rattle.asset_names.specs.declared.steps.Step.TheVariants.{Initiate, Begin, Read, Write, Add, Complete, Permit, Delegate, Depend, Commit, Abort, WaitFor}
 use Rattle.asset_names.specs.declared.replies.Outcome.TheVariants.{Answer}
 use Rattle.asset_names.specs.Steps.{Opening, Entry, takes_effect, applied}
 use Rattle.asset_names.specs.Endings.{end_of, live}
 use Rattle.asset_names.specs.Groups.{actor, partner}
 use Rattle.asset_names.specs.Operations.{Operation, op_of, conflict, operated, operations, allows, blocks, free, was_aborted, opening_value, value_after, value}
 use Rattle.asset_names.specs.Answers.{answer, IsLegal}
+use Rattle.asset_names.specs.Sources.{is_add}
 use Rattle.asset_names.proofs.Common.{eqb-flip}
 use Rattle.asset_laws.specs.Serial.{entries_of}
 use Rattle.asset_laws.proofs.GroupLemmas.{legal_rest}
 use Rattle.asset_laws.proofs.SerialPlain.{plain, AllPlain, AllSingle, IsOwn, own_refl, own_trans, own_live, own_step, other_step, answer_own, effect_plain, legal_plain}
-use Rattle.asset_laws.proofs.SerialValues.{always, own_of, others_of, uses, value_append, NobodyAborted, value_always, OwnLast, own_last, ComesLast, comes_rest, Left, others_stay}
+use Rattle.asset_laws.proofs.SerialValues.{always, own_of, others_of, claims, value_append, NobodyAborted, value_always, OwnLast, own_last, ComesLast, comes_rest, Left, others_stay}
 
 -- ---- operations of a block
 
@@ -32,6 +33,7 @@ own_operated n (Initiate t parent) os fine is = refl
 own_operated n (Begin t) os fine is = refl
 own_operated n (Read t x) os fine is = rw (eq-eqb t.0 n is) refl
 own_operated n (Write t x v) os fine is = rw (eq-eqb t.0 n is) refl
+own_operated n (Add t x d) os fine is = rw (eq-eqb t.0 n is) refl
 own_operated n (Complete t) os fine is = refl
 own_operated n (Permit giver taker obs ops) os fine is = absurd (false≢true fine)
 own_operated n (Delegate giver taker obs) os fine is = absurd (false≢true fine)
@@ -46,6 +48,7 @@ other_operated n (Initiate t parent) os fine other = refl
 other_operated n (Begin t) os fine other = refl
 other_operated n (Read t x) os fine other = rw (other) refl
 other_operated n (Write t x v) os fine other = rw (other) refl
+other_operated n (Add t x d) os fine other = rw (other) refl
 other_operated n (Complete t) os fine other = refl
 other_operated n (Permit giver taker obs ops) os fine other = absurd (false≢true fine)
 other_operated n (Delegate giver taker obs) os fine other = absurd (false≢true fine)
@@ -60,6 +63,7 @@ appended_operated (Initiate t parent) newer older fine = refl
 appended_operated (Begin t) newer older fine = refl
 appended_operated (Read t x) newer older fine = refl
 appended_operated (Write t x v) newer older fine = refl
+appended_operated (Add t x d) newer older fine = refl
 appended_operated (Complete t) newer older fine = refl
 appended_operated (Permit giver taker obs ops) newer older fine = refl
 appended_operated (Delegate giver taker obs) newer older fine = absurd (false≢true fine)
@@ -111,11 +115,11 @@ alone_free : (steps : List Step) (t : ℕ) → ((u : ℕ) → eqb u t ≡ false 
 unfolding free
 alone_free steps t alone x op = not_from_false _ (any_never (blocks steps t x op) (operations steps) (never_blocks steps t alone x op))
 
--- who reads x uses it, and leaves what others left
+-- who reads x claims it, and leaves what others left
 read_left : (t : ℕ) (u : Txn) (x : Ob) (entry : Entry) (older : List Entry) (first : ℤ) → entry.0 ≡ Read u x → u.0 ≡ t → takes_effect entry.0 entry.1 ≡ true
     → Left t x.0 first (value_after always x.0 first (others_of t (operations (applied older)))) (operations (applied (entry ∷ older)))
-unfolding applied operations operated Left uses others_of
-read_left t u x entry older first is own effect = rw (effect, is, eq-eqb u.0 t own) (or_left (eqb x.0 x.0) _ (eq-eqb x.0 x.0 refl), refl)
+unfolding applied operations operated Left claims is_add others_of
+read_left t u x entry older first is own effect = rw (effect, is, eq-eqb u.0 t own) (or_left (eqb x.0 x.0 && true) _ (rw (eq-eqb x.0 x.0 refl) refl), refl)
 
 -- ---- the block
 

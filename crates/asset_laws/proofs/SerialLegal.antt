@@ -6,7 +6,7 @@ use Rattle.std.proofs.lemmas.Bool.{or_cases, or_left, or_right, eqb-true, false�
 use Rattle.asset_names.specs.declared.statuses.End.{End}
 use Rattle.asset_names.specs.declared.statuses.End.TheVariants as End'
 use Rattle.asset_names.specs.declared.steps.Step.{Step}
-use Rattle.asset_names.specs.declared.steps.Step.TheVariants.{Initiate, Begin, Read, Write, Complete, Permit, Delegate, Depend, Commit, Abort, WaitFor}
+use Rattle.asset_names.specs.declared.steps.Step.TheVariants.{Initiate, Begin, Read, Write, Add, Complete, Permit, Delegate, Depend, Commit, Abort, WaitFor}
 use Rattle.asset_names.specs.declared.replies.Refusal.{Refusal}
 use Rattle.asset_names.specs.declared.replies.Reply.{Reply}
 use Rattle.asset_names.specs.declared.replies.Outcome.TheVariants.{Answer}
@@ -46,6 +46,10 @@ idle_unrefused keep some all alike opening (Read t x) reply stays idle none is =
     let second = first_none (ended all t) _ first.1 in
     absurd (false≢true (sym idle ∙ not-false _ ((first_none (not_running all t) _ second.1).0)))
 idle_unrefused keep some all alike opening (Write t x v) reply stays idle none is =
+    let first = first_none (unknown all t) _ none in
+    let second = first_none (ended all t) _ first.1 in
+    absurd (false≢true (sym idle ∙ not-false _ ((first_none (not_running all t) _ second.1).0)))
+idle_unrefused keep some all alike opening (Add t x d) reply stays idle none is =
     let first = first_none (unknown all t) _ none in
     let second = first_none (ended all t) _ first.1 in
     absurd (false≢true (sym idle ∙ not-false _ ((first_none (not_running all t) _ second.1).0)))
@@ -118,6 +122,7 @@ named_more (Initiate t parent) older n h before = end_stays (Initiate t parent) 
 named_more (Begin t) older n h before = end_stays (Begin t) older n End'.Committed (before h)
 named_more (Read t x) older n h before = end_stays (Read t x) older n End'.Committed (before h)
 named_more (Write t x v) older n h before = end_stays (Write t x v) older n End'.Committed (before h)
+named_more (Add t x d) older n h before = end_stays (Add t x d) older n End'.Committed (before h)
 named_more (Complete t) older n h before = end_stays (Complete t) older n End'.Committed (before h)
 named_more (Permit giver taker obs ops) older n h before = end_stays (Permit giver taker obs ops) older n End'.Committed (before h)
 named_more (Delegate giver taker obs) older n h before = end_stays (Delegate giver taker obs) older n End'.Committed (before h)
@@ -141,6 +146,7 @@ committed_more (Initiate t parent) older all n is before = before (sym (end_same
 committed_more (Begin t) older all n is before = before (sym (end_same (Begin t) older n (λ l o m. refl)) ∙ is)
 committed_more (Read t x) older all n is before = before (sym (end_same (Read t x) older n (λ l o m. refl)) ∙ is)
 committed_more (Write t x v) older all n is before = before (sym (end_same (Write t x v) older n (λ l o m. refl)) ∙ is)
+committed_more (Add t x d) older all n is before = before (sym (end_same (Add t x d) older n (λ l o m. refl)) ∙ is)
 committed_more (Complete t) older all n is before = before (sym (end_same (Complete t) older n (λ l o m. refl)) ∙ is)
 committed_more (Permit giver taker obs ops) older all n is before = before (sym (end_same (Permit giver taker obs ops) older n (λ l o m. refl)) ∙ is)
 committed_more (Delegate giver taker obs) older all n is before = before (sym (end_same (Delegate giver taker obs) older n (λ l o m. refl)) ∙ is)
@@ -172,6 +178,7 @@ named_once (Initiate t parent ∷ older) = named_once older
 named_once (Begin t ∷ older) = named_once older
 named_once (Read t x ∷ older) = named_once older
 named_once (Write t x v ∷ older) = named_once older
+named_once (Add t x d ∷ older) = named_once older
 named_once (Complete t ∷ older) = named_once older
 named_once (Permit giver taker obs ops ∷ older) = named_once older
 named_once (Delegate giver taker obs ∷ older) = named_once older
@@ -204,6 +211,7 @@ settled_more (Initiate t parent) older n names ended is = refl
 settled_more (Begin t) older n names ended is = refl
 settled_more (Read t x) older n names ended is = refl
 settled_more (Write t x v) older n names ended is = refl
+settled_more (Add t x d) older n names ended is = refl
 settled_more (Complete t) older n names ended is = refl
 settled_more (Permit giver taker obs ops) older n names ended is = refl
 settled_more (Delegate giver taker obs) older n names ended is = refl

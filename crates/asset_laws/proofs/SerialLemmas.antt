@@ -5,7 +5,7 @@ use Rattle.std.proofs.lemmas.Bool.{or_left, or_right, and_from, eqb-true, eq-eqb
 use Rattle.asset_names.specs.declared.statuses.End.{End}
 use Rattle.asset_names.specs.declared.statuses.End.TheVariants as End'
 use Rattle.asset_names.specs.declared.steps.Step.{Step}
-use Rattle.asset_names.specs.declared.steps.Step.TheVariants.{Initiate, Begin, Read, Write, Complete, Permit, Delegate, Depend, Commit, Abort, WaitFor}
+use Rattle.asset_names.specs.declared.steps.Step.TheVariants.{Initiate, Begin, Read, Write, Add, Complete, Permit, Delegate, Depend, Commit, Abort, WaitFor}
 use Rattle.asset_names.specs.Arrows.{lists, has_arrow}
 use Rattle.asset_names.specs.Steps.{Opening, Entry, takes_effect, applied}
 use Rattle.asset_names.specs.Endings.{end_of, live}
@@ -72,6 +72,7 @@ names_more keep (Initiate t parent) some all alike stays same = same
 names_more keep (Begin t) some all alike stays same = same
 names_more keep (Read t x) some all alike stays same = same
 names_more keep (Write t x v) some all alike stays same = same
+names_more keep (Add t x d) some all alike stays same = same
 names_more keep (Complete t) some all alike stays same = same
 names_more keep (Permit giver taker obs ops) some all alike stays same = same
 names_more keep (Delegate giver taker obs) some all alike stays same = same
@@ -86,6 +87,7 @@ names_gone keep (Initiate t parent) all committed gone = refl
 names_gone keep (Begin t) all committed gone = refl
 names_gone keep (Read t x) all committed gone = refl
 names_gone keep (Write t x v) all committed gone = refl
+names_gone keep (Add t x d) all committed gone = refl
 names_gone keep (Complete t) all committed gone = refl
 names_gone keep (Permit giver taker obs ops) all committed gone = refl
 names_gone keep (Delegate giver taker obs) all committed gone = refl

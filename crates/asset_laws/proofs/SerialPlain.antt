@@ -10,7 +10,7 @@ use Rattle.asset_names.specs.declared.operations.Op.TheVariants as Op'
 use Rattle.asset_names.specs.declared.steps.Kind.{Kind}
 use Rattle.asset_names.specs.declared.steps.Kind.TheVariants.{Cd, Ad, Gc}
 use Rattle.asset_names.specs.declared.steps.Step.{Step}
-use Rattle.asset_names.specs.declared.steps.Step.TheVariants.{Initiate, Begin, Read, Write, Complete, Permit, Delegate, Depend, Commit, Abort, WaitFor}
+use Rattle.asset_names.specs.declared.steps.Step.TheVariants.{Initiate, Begin, Read, Write, Add, Complete, Permit, Delegate, Depend, Commit, Abort, WaitFor}
 use Rattle.asset_names.specs.declared.replies.Refusal.{Refusal}
 use Rattle.asset_names.specs.declared.replies.Reply.{Reply}
 use Rattle.asset_names.specs.declared.replies.Reply.TheVariants.{Done, Value, Committed, Aborted, Refused}
@@ -36,6 +36,7 @@ plain (Initiate t parent) = true
 plain (Begin t) = true
 plain (Read t x) = true
 plain (Write t x v) = true
+plain (Add t x d) = true
 plain (Complete t) = true
 plain (Permit giver taker obs ops) = false
 plain (Delegate giver taker obs) = false
@@ -56,6 +57,7 @@ no_dependency (Initiate t parent) is kind = refl
 no_dependency (Begin t) is kind = refl
 no_dependency (Read t x) is kind = refl
 no_dependency (Write t x v) is kind = refl
+no_dependency (Add t x d) is kind = refl
 no_dependency (Complete t) is kind = refl
 no_dependency (Permit giver taker obs ops) is kind = refl
 no_dependency (Delegate giver taker obs) is kind = refl
@@ -75,6 +77,7 @@ no_permit (Initiate t parent) is older arrows y op = refl
 no_permit (Begin t) is older arrows y op = refl
 no_permit (Read t x) is older arrows y op = refl
 no_permit (Write t x v) is older arrows y op = refl
+no_permit (Add t x d) is older arrows y op = refl
 no_permit (Complete t) is older arrows y op = refl
 no_permit (Permit giver taker obs ops) is older arrows y op = absurd (false≢true is)
 no_permit (Delegate giver taker obs) is older arrows y op = absurd (false≢true is)
@@ -174,6 +177,7 @@ own_ends n some all own one other = by where
   by (Begin t) is = quiet (Begin t) (λ l o m. refl)
   by (Read t x) is = quiet (Read t x) (λ l o m. refl)
   by (Write t x v) is = quiet (Write t x v) (λ l o m. refl)
+  by (Add t x d) is = quiet (Add t x d) (λ l o m. refl)
   by (Complete t) is = quiet (Complete t) (λ l o m. refl)
   by (Permit giver taker obs ops) is = quiet (Permit giver taker obs ops) (λ l o m. refl)
   by (Delegate giver taker obs) is = quiet (Delegate giver taker obs) (λ l o m. refl)
@@ -204,6 +208,7 @@ other_ends n steps all = by where
   by (Begin t) other = end_same (Begin t) steps n (λ l o m. refl)
   by (Read t x) other = end_same (Read t x) steps n (λ l o m. refl)
   by (Write t x v) other = end_same (Write t x v) steps n (λ l o m. refl)
+  by (Add t x d) other = end_same (Add t x d) steps n (λ l o m. refl)
   by (Complete t) other = end_same (Complete t) steps n (λ l o m. refl)
   by (Permit giver taker obs ops) other = end_same (Permit giver taker obs ops) steps n (λ l o m. refl)
   by (Delegate giver taker obs) other = end_same (Delegate giver taker obs) steps n (λ l o m. refl)
@@ -232,6 +237,7 @@ first_own opening some all (Initiate t parent) own same = rw (own_status t.0 som
 first_own opening some all (Begin t) own same = rw (own_status t.0 some all own) refl
 first_own opening some all (Read t x) own same = rw (own_status t.0 some all own) refl
 first_own opening some all (Write t x v) own same = rw (own_status t.0 some all own) refl
+first_own opening some all (Add t x d) own same = rw (own_status t.0 some all own) refl
 first_own opening some all (Complete t) own same = rw (own_status t.0 some all own) refl
 first_own opening some all (Permit giver taker obs ops) own same = rw (eq-eqb giver.0 taker.0 same) refl
 first_own opening some all (Delegate giver taker obs) own same = rw (eq-eqb giver.0 taker.0 same) refl
@@ -258,6 +264,7 @@ unrefused_own opening some all one other (Read t x) own none frees reply reads i
       read_done Aborted h = cc
       read_done (Refused refusal) h = cc
 unrefused_own opening some all one other (Write t x v) own none frees reply reads is = rw (frees x.0 Op'.Write) (rw (not_waiting (free all t.0 x.0 Op'.Write) _ reply is) at is)
+unrefused_own opening some all one other (Add t x d) own none frees reply reads is = rw (frees x.0 Op'.Add) (rw (not_waiting (free all t.0 x.0 Op'.Add) _ reply is) at is)
 unrefused_own opening some all one other (Complete t) own none frees reply reads is = is
 unrefused_own opening some all one other (Permit giver taker obs ops) own none frees reply reads is = is
 unrefused_own opening some all one other (Delegate giver taker obs) own none frees reply reads is = is
@@ -291,6 +298,7 @@ effect_plain opening steps (Initiate t parent) reply is effect same = refl
 effect_plain opening steps (Begin t) reply is effect same = refl
 effect_plain opening steps (Read t x) reply is effect same = refl
 effect_plain opening steps (Write t x v) reply is effect same = refl
+effect_plain opening steps (Add t x d) reply is effect same = refl
 effect_plain opening steps (Complete t) reply is effect same = refl
 effect_plain opening steps (Permit giver taker obs ops) reply is effect same = absurd (false≢true (sym (first_none (one_name giver taker) _ (effect_unrefused opening steps (Permit giver taker obs ops) reply is effect)).0 ∙ eq-eqb giver.0 taker.0 same))
 effect_plain opening steps (Delegate giver taker obs) reply is effect same = absurd (false≢true (sym (first_none (one_name giver taker) _ (effect_unrefused opening steps (Delegate giver taker obs) reply is effect)).0 ∙ eq-eqb giver.0 taker.0 same))

@@ -6,7 +6,7 @@ use Rattle.std.proofs.lemmas.Bool.{or_cases, or_left, or_right, or_parts, eqb-tr
 use Rattle.asset_names.specs.declared.statuses.End.{End}
 use Rattle.asset_names.specs.declared.statuses.End.TheVariants as End'
 use Rattle.asset_names.specs.declared.steps.Step.{Step}
-use Rattle.asset_names.specs.declared.steps.Step.TheVariants.{Initiate, Begin, Read, Write, Complete, Permit, Delegate, Depend, Commit, Abort, WaitFor}
+use Rattle.asset_names.specs.declared.steps.Step.TheVariants.{Initiate, Begin, Read, Write, Add, Complete, Permit, Delegate, Depend, Commit, Abort, WaitFor}
 use Rattle.asset_names.specs.Arrows.{lists}
 use Rattle.asset_names.specs.Orderly.{Distinct}
 use Rattle.asset_names.specs.Steps.{Opening, Entry, takes_effect, applied, initiated}
@@ -45,6 +45,7 @@ but_more n (Initiate t parent) some all alike stays same = same
 but_more n (Begin t) some all alike stays same = same
 but_more n (Read t x) some all alike stays same = same
 but_more n (Write t x v) some all alike stays same = same
+but_more n (Add t x d) some all alike stays same = same
 but_more n (Complete t) some all alike stays same = same
 but_more n (Permit giver taker obs ops) some all alike stays same = same
 but_more n (Delegate giver taker obs) some all alike stays same = same
@@ -59,6 +60,7 @@ but_gone n (Initiate t parent) all gone = refl
 but_gone n (Begin t) all gone = refl
 but_gone n (Read t x) all gone = refl
 but_gone n (Write t x v) all gone = refl
+but_gone n (Add t x d) all gone = refl
 but_gone n (Complete t) all gone = refl
 but_gone n (Permit giver taker obs ops) all gone = refl
 but_gone n (Delegate giver taker obs) all gone = refl

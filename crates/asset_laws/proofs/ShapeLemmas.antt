@@ -11,14 +11,14 @@ use Rattle.asset_names.specs.declared.sets.ObSet.{ObSet}
 use Rattle.asset_names.specs.declared.steps.Kind.{Kind}
 use Rattle.asset_names.specs.declared.steps.Kind.TheVariants.{Cd, Ad, Gc}
 use Rattle.asset_names.specs.declared.steps.Step.{Step}
-use Rattle.asset_names.specs.declared.steps.Step.TheVariants.{Initiate, Begin, Read, Write, Complete, Permit, Delegate, Depend, Commit, Abort, WaitFor}
+use Rattle.asset_names.specs.declared.steps.Step.TheVariants.{Initiate, Begin, Read, Write, Add, Complete, Permit, Delegate, Depend, Commit, Abort, WaitFor}
 use Rattle.asset_names.specs.declared.statuses.End.TheVariants as End'
 use Rattle.asset_names.specs.InSet.{in_set}
 use Rattle.asset_names.specs.Arrows.{Arrow, lists, linked, among}
 use Rattle.asset_names.specs.Paths.{both_ways, closes_cycle, has_outside}
 use Rattle.asset_names.specs.Steps.{initiated, initiated_by, begun, begun_by, completed, completed_by}
 use Rattle.asset_names.specs.Endings.{dependencies, dependency_by, class_arrows, order_arrows, doom_arrows, ended_by, end_of, live, status, status_of, same_class, has_outside_source, would_cycle}
-use Rattle.asset_names.specs.Operations.{reads, writes, Operation, op_of, conflict, handed_over, operated, operations, holds_object, copied, permits, permitted_by, allows, blocks, free}
+use Rattle.asset_names.specs.Operations.{reads, writes, adds, Operation, op_of, conflict, handed_over, operated, operations, holds_object, copied, permits, permitted_by, allows, blocks, free}
 use Rattle.asset_names.specs.Answers.{is_completed, class_completed, may_commit}
 use Rattle.asset_names.proofs.ListLemmas.{any_map}
 use Rattle.asset_laws.specs.Renumbered.{writing}
@@ -104,6 +104,7 @@ ended_same ones others same (Commit t) n = λ i. cond (live_same ones others sam
 ended_same ones others same (Abort t) n = λ i. cond (live_same ones others same i t.0 && linked (among (live_same ones others same i) (dooms_same ones others same i)) t.0 n) (Some End'.Aborted) None
 ended_same ones others same (WaitFor t) n = refl
 ended_same ones others same (Write t x v) n = refl
+ended_same ones others same (Add t x d) n = refl
 
 -- which permits it adds
 permitted_same : (ones others : List Step) → IsSameShape ones others → (step : Step) (x : ℕ) (op : Op) → permitted_by step ones (permits ones x op) x op ≡ permitted_by step others (permits others x op) x op
@@ -119,6 +120,7 @@ permitted_same ones others same (Commit t) x op = refl
 permitted_same ones others same (Abort t) x op = refl
 permitted_same ones others same (WaitFor t) x op = refl
 permitted_same ones others same (Write t y v) x op = refl
+permitted_same ones others same (Add t y d) x op = refl
 
 -- which operations it leaves
 handed_shape : ℕ → ℕ → ObSet → ℕ × ℕ × Op → ℕ × ℕ × Op
@@ -146,6 +148,7 @@ operated_same ones others same (Commit t) = same.shapes_same
 operated_same ones others same (Abort t) = same.shapes_same
 operated_same ones others same (WaitFor t) = same.shapes_same
 operated_same ones others same (Write t x v) = ap (λ shapes. (t.0, x.0, op_of (writes v)) ∷ shapes) same.shapes_same
+operated_same ones others same (Add t x d) = ap (λ shapes. (t.0, x.0, op_of (adds d)) ∷ shapes) same.shapes_same
 
 -- ---- one more step
 
@@ -175,9 +178,23 @@ write_more ones others same t x v w = record {
   permits_same = λ y op. same.permits_same y op;
 }
 
+-- an add of another number adds the same
+add_more : (ones others : List Step) → IsSameShape ones others → (t : Txn) (x : Ob) (d e : ℤ) → IsSameShape (Add t x d ∷ ones) (Add t x e ∷ others)
+unfolding initiated initiated_by begun begun_by completed completed_by dependencies dependency_by permits permitted_by end_of ended_by operations operated shape op_of
+add_more ones others same t x d e = record {
+  initiated_same = same.initiated_same;
+  begun_same = same.begun_same;
+  completed_same = same.completed_same;
+  ends_same = λ n. λ i. option_or (same.ends_same n i) None;
+  dependencies_same = λ kind. same.dependencies_same kind;
+  shapes_same = ap (λ shapes. (t.0, x.0, Op'.Add) ∷ shapes) same.shapes_same;
+  permits_same = λ y op. same.permits_same y op;
+}
+
 pub same_more : (ones others : List Step) → IsSameShape ones others → (n : ℕ) (step : Step) → IsSameShape (writing n step ∷ ones) (step ∷ others)
 unfolding writing
 same_more ones others same n (Write t x v) = write_more ones others same t x _ v
+same_more ones others same n (Add t x d) = add_more ones others same t x _ d
 same_more ones others same n (Initiate t parent) = step_more ones others same (Initiate t parent)
 same_more ones others same n (Begin t) = step_more ones others same (Begin t)
 same_more ones others same n (Read t x) = step_more ones others same (Read t x)

@@ -10,7 +10,7 @@ use Rattle.asset_names.specs.declared.operations.Op.TheVariants as Op'
 use Rattle.asset_names.specs.declared.sets.ObSet.{ObSet}
 use Rattle.asset_names.specs.declared.statuses.End.{End}
 use Rattle.asset_names.specs.declared.steps.Step.{Step}
-use Rattle.asset_names.specs.declared.steps.Step.TheVariants.{Initiate, Begin, Read, Write, Complete, Permit, Delegate, Depend, Commit, Abort, WaitFor}
+use Rattle.asset_names.specs.declared.steps.Step.TheVariants.{Initiate, Begin, Read, Write, Add, Complete, Permit, Delegate, Depend, Commit, Abort, WaitFor}
 use Rattle.asset_names.specs.declared.replies.Refusal.{Refusal}
 use Rattle.asset_names.specs.declared.replies.Reply.{Reply}
 use Rattle.asset_names.specs.declared.replies.Outcome.TheVariants.{Answer}
@@ -19,7 +19,7 @@ use Rattle.asset_names.specs.InSet.{in_set}
 use Rattle.asset_names.specs.Steps.{Opening, Entry, takes_effect, applied, initiated}
 use Rattle.asset_names.specs.Endings.{end_of, live}
 use Rattle.asset_names.specs.Groups.{actor, partner, same_group}
-use Rattle.asset_names.specs.Operations.{reads, writes, Operation, op_of, same_op, conflict, operated, operations, holds, permits, free}
+use Rattle.asset_names.specs.Operations.{reads, writes, adds, Operation, op_of, same_op, conflict, operated, operations, holds, permits, free}
 use Rattle.asset_names.specs.Answers.{rules_for, first_refusal, unrefused, outcome_unless, answer, IsLegal}
 use Rattle.asset_names.specs.Orderly.{IsOrderly}
 use Rattle.asset_names.proofs.EndLemmas.{live_parts}
@@ -40,8 +40,13 @@ conflict_flip : (a b : Op) → conflict a b ≡ true → conflict b a ≡ true
 unfolding conflict
 conflict_flip Op'.Read Op'.Read h = h
 conflict_flip Op'.Read Op'.Write h = refl
+conflict_flip Op'.Read Op'.Add h = refl
 conflict_flip Op'.Write Op'.Read h = refl
 conflict_flip Op'.Write Op'.Write h = refl
+conflict_flip Op'.Write Op'.Add h = refl
+conflict_flip Op'.Add Op'.Read h = refl
+conflict_flip Op'.Add Op'.Write h = refl
+conflict_flip Op'.Add Op'.Add h = h
 
 -- a step that takes effect is answered as one that is not refused
 pub effect_answer : (opening : Opening) (steps : List Step) (step : Step) (reply : Reply) → answer opening steps step ≡ Answer reply → takes_effect step reply ≡ true → unrefused opening steps step ≡ Answer reply
@@ -129,6 +134,8 @@ holder keep opening (Read t y) steps reply is effect orderly same =
     holder_new keep (Read t y) steps orderly (record { owner = t.0; object = y.0; use_of = reads }) refl refl (not_waiting (free steps t.0 y.0 Op'.Read) _ reply (effect_answer opening steps (Read t y) reply is effect))
 holder keep opening (Write t y v) steps reply is effect orderly same =
     holder_new keep (Write t y v) steps orderly (record { owner = t.0; object = y.0; use_of = writes v }) refl refl (not_waiting (free steps t.0 y.0 Op'.Write) _ reply (effect_answer opening steps (Write t y v) reply is effect))
+holder keep opening (Add t y d) steps reply is effect orderly same =
+    holder_new keep (Add t y d) steps orderly (record { owner = t.0; object = y.0; use_of = adds d }) refl refl (not_waiting (free steps t.0 y.0 Op'.Add) _ reply (effect_answer opening steps (Add t y d) reply is effect))
 holder keep opening (Complete t) steps reply is effect orderly same = holder_same keep (Complete t) steps orderly refl
 holder keep opening (Permit giver taker obs ops) steps reply is effect orderly same = holder_same keep (Permit giver taker obs ops) steps orderly refl
 holder keep opening (Delegate giver taker obs) steps reply is effect orderly same =

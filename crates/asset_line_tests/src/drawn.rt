@@ -14,12 +14,13 @@ const MOST: usize = 160;
 type Drawn = ArrayVec<u8, MOST>;
 
 /// Words that stand in lines, and words that look like them.
-const WORDS: [&[u8]; 48] = [
+const WORDS: [&[u8]; 52] = [
     b"object",
     b"initiate",
     b"begin",
     b"read",
     b"write",
+    b"add",
     b"complete",
     b"permit",
     b"delegate",
@@ -45,6 +46,9 @@ const WORDS: [&[u8]; 48] = [
     b"r",
     b"w",
     b"rw",
+    b"ra",
+    b"wa",
+    b"rwa",
     b"all",
     b"1,2",
     b"2,1",
@@ -66,7 +70,7 @@ const WORDS: [&[u8]; 48] = [
 ];
 
 /// Lines that ask for something.
-const FORMS: [&[u8]; 16] = [
+const FORMS: [&[u8]; 18] = [
     b"object 1 100",
     b"object 2 -5",
     b"initiate 7",
@@ -75,9 +79,11 @@ const FORMS: [&[u8]; 16] = [
     b"read 7 1",
     b"write 7 1 50",
     b"write 7 12 -345",
+    b"add 7 1 -20",
     b"complete 7",
     b"permit 7 8 rw 3,1,2",
     b"permit 7 8 r all",
+    b"permit 7 8 rwa 1,2",
     b"delegate 7 8 10,20,30",
     b"depend ad 7 8",
     b"commit 7",

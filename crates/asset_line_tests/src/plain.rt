@@ -42,6 +42,7 @@ fn step(word: &[u8], words: Words<'_>) -> Option<Step> {
         b"initiate" => operands::initiate(words),
         b"read" => operands::read(words),
         b"write" => operands::write(words),
+        b"add" => operands::add(words),
         b"permit" => operands::permit(words),
         b"delegate" => operands::delegate(words),
         b"depend" => operands::depend(words),

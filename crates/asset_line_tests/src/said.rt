@@ -100,6 +100,33 @@ fn reads_and_writes(rt: HostRuntime) {
 }
 
 #[test]
+fn adds_are_read(rt: HostRuntime) {
+    let t = Txn(7);
+    assert!(rt; asks(b"add 7 1 50", &Step::Add { t, x: Ob(1), d: 50 }));
+    assert!(rt; asks(b"add 7 1 -2", &Step::Add { t, x: Ob(1), d: -2 }));
+    assert!(rt;
+        asks(
+            b"add 7 18446744073709551615 -9223372036854775808",
+            &Step::Add {
+                t,
+                x: Ob(GREATEST),
+                d: i64::MIN
+            }
+        )
+    );
+    assert!(rt;
+        asks(
+            b"add 0 0 9223372036854775807",
+            &Step::Add {
+                t: Txn(0),
+                x: Ob(0),
+                d: i64::MAX
+            }
+        )
+    );
+}
+
+#[test]
 fn dependencies(rt: HostRuntime) {
     let (a, b) = (Txn(7), Txn(8));
     assert!(rt;
@@ -135,8 +162,8 @@ fn dependencies(rt: HostRuntime) {
 }
 
 /// Returns whether the line lends operations of 7 to 8 on the set.
-fn permits(line: &[u8], read: bool, write: bool, obs: ObSet) -> bool {
-    match Ops::new(read, write) {
+fn permits(line: &[u8], ops: Option<Ops>, obs: ObSet) -> bool {
+    match ops {
         Some(ops) => asks(
             line,
             &Step::Permit {
@@ -152,10 +179,41 @@ fn permits(line: &[u8], read: bool, write: bool, obs: ObSet) -> bool {
 
 #[test]
 fn permits_are_read(rt: HostRuntime) {
-    assert!(rt; permits(b"permit 7 8 r all", true, false, ObSet::All));
-    assert!(rt; permits(b"permit 7 8 w 5", false, true, set_of(&[5])));
-    assert!(rt; permits(b"permit 7 8 rw 3,1,2", true, true, set_of(&[1, 2, 3])));
-    assert!(rt; permits(b"permit 7 8 rw 2,1,0", true, true, set_of(&[0, 1, 2])));
+    assert!(rt; permits(b"permit 7 8 r all", Ops::new(true, false), ObSet::All));
+    assert!(rt; permits(b"permit 7 8 w 5", Ops::new(false, true), set_of(&[5])));
+    assert!(rt;
+        permits(
+            b"permit 7 8 rw 3,1,2",
+            Ops::new(true, true),
+            set_of(&[1, 2, 3])
+        )
+    );
+    assert!(rt;
+        permits(
+            b"permit 7 8 rw 2,1,0",
+            Ops::new(true, true),
+            set_of(&[0, 1, 2])
+        )
+    );
+}
+
+/// Returns operations that have Add.
+fn adding(read: bool, write: bool) -> Option<Ops> {
+    Some(Ops::with_add(read, write))
+}
+
+#[test]
+fn permits_to_add_are_read(rt: HostRuntime) {
+    assert!(rt; permits(b"permit 7 8 a 5", adding(false, false), set_of(&[5])));
+    assert!(rt; permits(b"permit 7 8 ra 2,1", adding(true, false), set_of(&[1, 2])));
+    assert!(rt; permits(b"permit 7 8 wa all", adding(false, true), ObSet::All));
+    assert!(rt;
+        permits(
+            b"permit 7 8 rwa 3,1,2",
+            adding(true, true),
+            set_of(&[1, 2, 3])
+        )
+    );
 }
 
 /// Returns whether the line hands the set of 7 over to 8.

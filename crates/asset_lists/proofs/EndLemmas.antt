@@ -1,19 +1,21 @@
 -- A key that comes at the end of a list, or goes from there, as it is read and written.
-use Rattle.std.proofs.Common.{◌≡◌, ℕ, ◌+◌, ◌-◌, ◌<◌, ◌≤◌, ◌^◌, Bool, false, List, [], ◌∷◌, ◌++◌, length, take, set, get_or, None, sym, ap, subst, ◌∙◌, arith, suc}
+use Rattle.std.proofs.Common.{◌≡◌, ℕ, ◌+◌, ◌-◌, ◌<◌, ◌≤◌, ◌^◌, false, List, [], ◌∷◌, ◌++◌, length, take, set, get_or, None, sym, ap, subst, ◌∙◌, arith, suc}
 use Rattle.std.specs.Prelude.{Result, Ok, Err, OnOk}
 use Rattle.std.specs.Result.{is_err}
-use Rattle.std.proofs.lemmas.Bool.{le-ltb, true≢false}
+use Rattle.std.proofs.lemmas.Bool.{true≢false}
 use Rattle.std.proofs.lemmas.List.{get_or_read, length-set, length-append, length-take-le, get_or-set_same, get_or-set_other}
+use Rattle.asset_lists.specs.declared.part.Section.TheVariants.{Back}
 use Rattle.asset_lists.specs.declared.rows.Row.{Row}
 use Rattle.asset_lists.specs.declared.rows.Place.{Place}
 use Rattle.asset_lists.specs.Parted.{part_of, IsAt, IsChangedAt}
-use Rattle.asset_lists.specs.Placed.{no_row, no_place, row_at, keys_of, front_of, place_at, part_in, seen, IsValid}
+use Rattle.asset_lists.specs.Placed.{no_row, no_place, row_at, keys_of, section_in, section_at, place_at, part_in, seen, IsSplit, IsValid}
 use Rattle.asset_lists.proofs.AtLemmas.{at_take, take_at}
+use Rattle.asset_lists.proofs.SectionLemmas.{back_in}
 use Rattle.asset_lists.proofs.RowLemmas.{some_part, row_set, IsRowSet, valid_in, valid_out, changed_place, free_home}
 
 -- ---- a key comes
 module _ (rows : List Row) (places : List Place) (valid : IsValid rows places) (key x : ℕ) (list_in : x < length rows) (key_in : key < length places) (free : part_of (seen rows places) key ≡ None)
-    (row : Row) (row_is : row ≡ get_or rows x row) (new : Row) (there : new.keys.items ≡ row.keys.items ++ key ∷ []) (border : new.front ≡ row.front)
+    (row : Row) (row_is : row ≡ get_or rows x row) (new : Row) (there : new.keys.items ≡ row.keys.items ++ key ∷ []) (front_is : new.front ≡ row.front) (back_is : new.back ≡ row.back)
     (position : ℕ) (position_is : position ≡ length row.keys.items) (few : position < 2 ^ 32 - 1) where
   row_read : row ≡ row_at rows x
   row_read = get_or_read rows x row list_in row_is no_row
@@ -30,8 +32,11 @@ module _ (rows : List Row) (places : List Place) (valid : IsValid rows places) (
   others : (k : ℕ) → (k ≡ key → ⊥) → place_at (set places key place_now) k ≡ place_at places k
   others k apart = get_or-set_other places key k place_now no_place apart
 
-  within : row.front ≤ length row.keys.items
-  within = subst (λ (r : Row). r.front ≤ length r.keys.items) (sym row_read) (valid.fronts x)
+  within : IsSplit row
+  within = subst IsSplit (sym row_read) (valid.split x)
+
+  same : (p : ℕ) → section_at new p ≡ section_at (row_at rows x) p
+  same p = (λ i. section_in (front_is i) (back_is i) p) ∙ ap (λ (r : Row). section_at r p) row_read
 
   longer : length new.keys.items ≡ length row.keys.items + 1
   longer = ap (λ (l : List ℕ). length l) there ∙ length-append row.keys.items (key ∷ [])
@@ -40,18 +45,18 @@ module _ (rows : List Row) (places : List Place) (valid : IsValid rows places) (
   valid_pushed =
       valid_in rows places valid x new (set rows x new) (set places key place_now) (row_set rows x new list_in) (length-set places key place_now) key
       (free_home rows places valid key free) (there ∙ ap (λ (r : Row). r.keys.items ++ key ∷ []) row_read) place_is others
-      (omega (arith, longer, border, within)) (omega (arith, longer, position_is, few))
+      (record { middle = omega (arith, front_is, back_is, within.middle); end = omega (arith, longer, back_is, within.end) }) (omega (arith, longer, position_is, few))
 
-  pub changed_pushed : IsChangedAt key (some_part x false) (seen rows places) (seen (set rows x new) (set places key place_now))
+  pub changed_pushed : IsChangedAt key (some_part x Back) (seen rows places) (seen (set rows x new) (set places key place_now))
   changed_pushed =
-      changed_place rows places valid x new (set rows x new) (set places key place_now) (row_set rows x new list_in) (length-set places key place_now) key (some_part x false)
-      (border ∙ ap (λ (r : Row). r.front) row_read) others
-      (ap (λ (l : Place). part_in (front_of rows) l.home l.position) place_is ∙ ap (λ (b : Bool). some_part x b) (le-ltb (length (keys_of rows x)) (front_of rows x) (valid.fronts x)))
+      changed_place rows places valid x new (set rows x new) (set places key place_now) (row_set rows x new list_in) (length-set places key place_now) key (some_part x Back)
+      same others
+      (ap (λ (l : Place). part_in (row_at rows) l.home l.position) place_is ∙ ap (some_part x) (back_in (row_at rows x).front (row_at rows x).back (length (keys_of rows x)) (omega (arith, (valid.split x).middle, (valid.split x).end)) (valid.split x).end))
 
 -- ---- the last key goes, which is in the back part
 module _ (rows : List Row) (places : List Place) (valid : IsValid rows places) (key x : ℕ) (list_in : x < length rows) (key_in : key < length places)
-    (last : ℕ) (there : IsAt (keys_of rows x) last key) (end : last + 1 ≡ length (keys_of rows x)) (back : front_of rows x ≤ last)
-    (r : Row) (items : r.keys.items ≡ take last (keys_of rows x)) (border : r.front ≡ front_of rows x) (new : List Row) (put : IsRowSet x r rows new) where
+    (last : ℕ) (there : IsAt (keys_of rows x) last key) (end : last + 1 ≡ length (keys_of rows x)) (back : (row_at rows x).back ≤ last)
+    (r : Row) (items : r.keys.items ≡ take last (keys_of rows x)) (front_is : r.front ≡ (row_at rows x).front) (back_is : r.back ≡ (row_at rows x).back) (new : List Row) (put : IsRowSet x r rows new) where
   gone_others : (k : ℕ) → (k ≡ key → ⊥) → place_at (set places key no_place) k ≡ place_at places k
   gone_others k apart = get_or-set_other places key k no_place no_place apart
 
@@ -66,12 +71,12 @@ module _ (rows : List Row) (places : List Place) (valid : IsValid rows places) (
       valid_out rows places valid x r new (set places key no_place) put (length-set places key no_place) key last there
       (λ i k at. at_take last (keys_of rows x) i k (omega (arith, end)) (subst (λ (l : List ℕ). IsAt l i k) items at))
       (λ i k at apart. subst (λ (l : List ℕ). IsAt l i k) (sym items) (take_at last (keys_of rows x) i k (omega (arith, end)) at (omega (arith, at.within, end, apart))))
-      gone gone_others (omega (arith, shorter, border, back)) (omega (arith, shorter, end, valid.short x))
+      gone gone_others (record { middle = omega (arith, front_is, back_is, (valid.split x).middle); end = omega (arith, shorter, back_is, back) }) (omega (arith, shorter, end, valid.short x))
 
   pub changed_popped : IsChangedAt key None (seen rows places) (seen new (set places key no_place))
   changed_popped =
-      changed_place rows places valid x r new (set places key no_place) put (length-set places key no_place) key None border gone_others
-      (ap (λ (l : Place). part_in (front_of rows) l.home l.position) gone)
+      changed_place rows places valid x r new (set places key no_place) put (length-set places key no_place) key None (λ p i. section_in (front_is i) (back_is i) p) gone_others
+      (ap (λ (l : Place). part_in (row_at rows) l.home l.position) gone)
 
 -- what holds of a result that is Ok
 pub if_ok : {T E P : Type 0} (r : Result T E) → is_err r ≡ false → OnOk r P → P

@@ -1,5 +1,6 @@
 pub mod AtLemmas
 pub mod PlacedLemmas
+pub mod SectionLemmas
 pub mod RowLemmas
 pub mod SwapLemmas
 pub mod EndLemmas

@@ -1,6 +1,7 @@
 -- Keys in lists, as callers see them.
-use Rattle.std.specs.Prelude.{◌≡◌, ℕ, ◌<◌, ◌+◌, true, List, [], ◌∷◌, ◌++◌, length, Option, None, Some, slice_index, slice_index_or}
+use Rattle.std.specs.Prelude.{◌≡◌, ℕ, ◌<◌, ◌+◌, List, [], ◌∷◌, ◌++◌, length, Option, None, Some, slice_index, slice_index_or}
 use Rattle.asset_lists.specs.declared.part.Part.{Part}
+use Rattle.asset_lists.specs.declared.part.Section.TheVariants.{Front}
 
 -- keys and lists are numbers from 0 on; each key is in one part at most
 pub record Parted : Type 0 where
@@ -27,7 +28,7 @@ pub record AreKeys (table : Parted) (part : Part) (keys : List ℕ) : Type 0 whe
 -- the front part of the list that a key is in
 unfoldable pub advanced : Option Part → Option Part
 advanced None = None
-advanced (Some part) = Some (record part { front = true })
+advanced (Some part) = Some (record part { section = Front })
 
 -- the key is in this part, or in none, and nothing else changes
 pub record IsChangedAt (key : ℕ) (part : Option Part) (old new : Parted) : Type 0 where

@@ -1,14 +1,16 @@
--- How lists of keys are stored: of each list its keys, those of the front part first, and of each key its list, as the
+-- How lists of keys are stored: of each list its keys, those of the front part first and those of the back part last, and of each key its list, as the
 -- number of the list and 1, or 0 for none, and its position there.
 use Rattle.std.specs.Prelude.{◌≡◌, ℕ, ◌==◌, ◌<◌, ◌≤◌, ◌^◌, nat_lt, suc, zero, cond, List, [], Option, None, Some, length, map, slice_index_or}
 use Rattle.asset_lists.specs.declared.part.Part.{Part}
+use Rattle.asset_lists.specs.declared.part.Section.{Section}
+use Rattle.asset_lists.specs.declared.part.Section.TheVariants.{Front, Middle, Back}
 use Rattle.asset_lists.specs.declared.rows.Row.{Row}
 use Rattle.asset_lists.specs.declared.rows.Place.{Place}
 use Rattle.asset_lists.specs.Parted.{Parted, IsAt}
 
 -- a list without keys
 abbrev pub no_row : Row
-no_row = record { keys = record { items = []; capacity = 0 }; front = 0 }
+no_row = record { keys = record { items = []; capacity = 0 }; front = 0; back = 0 }
 
 -- the place of a key in no list
 abbrev pub no_place : Place
@@ -22,24 +24,27 @@ row_at rows x = slice_index_or rows x no_row
 abbrev pub keys_of : List Row → ℕ → List ℕ
 keys_of rows x = (row_at rows x).keys.items
 
--- how many keys are in the front part of a list
-abbrev pub front_of : List Row → ℕ → ℕ
-front_of rows x = (row_at rows x).front
+-- the part of a list that a position is in, where the front part ends here and the back part begins there
+unfoldable pub section_in : ℕ → ℕ → ℕ → Section
+section_in front back position = cond (nat_lt position front) Front (cond (nat_lt position back) Middle Back)
+
+abbrev pub section_at : Row → ℕ → Section
+section_at row position = section_in row.front row.back position
 
 -- the place of a key, past the last of which there is none
 abbrev pub place_at : List Place → ℕ → Place
 place_at places k = slice_index_or places k no_place
 
--- the part of a stored home and a position there, where the lists have front parts of these lengths
-abbrev pub part_in : (ℕ → ℕ) → ℕ → ℕ → Option Part
-part_in front zero position = None
-part_in front (suc x) position = Some (record { list = x; front = nat_lt position (front x) })
+-- the part of a stored home and a position there, where these are the lists
+abbrev pub part_in : (ℕ → Row) → ℕ → ℕ → Option Part
+part_in row zero position = None
+part_in row (suc x) position = Some (record { list = x; section = section_at (row x) position })
 
 -- what is seen of rows and places
 abbrev pub seen : List Row → List Place → Parted
 seen rows places = record {
   lists = length rows;
-  parts = map (λ (place : Place). part_in (front_of rows) place.home place.position) places;
+  parts = map (λ (place : Place). part_in (row_at rows) place.home place.position) places;
 }
 
 -- each key of a list has its position as its place, and stands at its place
@@ -47,10 +52,15 @@ pub record IsPlaced (row : ℕ → List ℕ) (place : ℕ → Place) : Type 0 wh
   pub listed : (x q k : ℕ) → IsAt (row x) q k → place k ≡ record { home = suc x; position = q }
   pub placed : (k x : ℕ) → (place k).home ≡ suc x → IsAt (row x) (place k).position k
 
+-- the parts of a list are in order, and end within it
+pub record IsSplit (row : Row) : Type 0 where
+  pub middle : row.front ≤ row.back
+  pub end : row.back ≤ length row.keys.items
+
 -- rows and places agree, and numbers fit
 pub record IsValid (rows : List Row) (places : List Place) : Type 0 where
   pub placed : IsPlaced (keys_of rows) (place_at places)
-  pub fronts : (x : ℕ) → front_of rows x ≤ length (keys_of rows x)
+  pub split : (x : ℕ) → IsSplit (row_at rows x)
   pub short : (x : ℕ) → length (keys_of rows x) < 2 ^ 32
   pub few_keys : length places < 2 ^ 32
   pub few_lists : length rows < 2 ^ 32

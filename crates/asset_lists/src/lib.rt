@@ -1,5 +1,5 @@
-//! Keys in lists, which stand beside a slab. A key is in one list at most, in the front part of it or in the back part,
-//! and is taken out of it in constant time. The keys of a part are in no order that a caller may rely on.
+//! Keys in lists, which stand beside a slab. A key is in one list at most, in one of its three parts, and is taken out of
+//! it in constant time. The keys of a part are in no order that a caller may rely on.
 #![tactic(auto)]
 
 mod moves;
@@ -8,5 +8,5 @@ mod room;
 mod rows;
 mod table;
 
-pub use part::Part;
+pub use part::{Part, Section};
 pub use table::KeyLists;

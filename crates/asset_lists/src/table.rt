@@ -1,14 +1,17 @@
 //! The lists and their calls.
 
+ghost use Rattle.std.specs.Prelude.{◌≡◌};
+ghost use Rattle.asset_lists.specs.Placed.{section_at};
+
 use crate::moves::swap;
-use crate::part::Part;
+use crate::part::{Part, Section};
 use crate::rows::{Place, Row};
 use smallvec::SmallVec;
 use std::alloc::{AllocError, Global};
 use std::marker::Model;
 
-/// Keys in lists. Keys and lists are numbers from 0 on, such as a slab gives, and each key is in one list at most, in its
-/// front part or in its back part. Contracts see the part of each key, and no order among the keys of a part.
+/// Keys in lists. Keys and lists are numbers from 0 on, such as a slab gives, and each key is in one list at most, in one
+/// of its three parts. Contracts see the part of each key, and no order among the keys of a part.
 ///
 /// A key takes 8 bytes, and 4 more while it is in a list. A list stores up to four keys in itself, and more of them in
 /// memory of its own. Only `push` and the calls that add keys or lists take memory; each other call takes constant time.
@@ -30,8 +33,23 @@ impl Model for KeyLists {
     ghost invariant = { λ table. IsValid table.rows.items table.places.items };
 }
 
+/// Returns the part of a list that the position is in.
+#[tactic(auto, unfolding(crate::specs::Placed::section_in))]
+fn section_at(row: &Row, position: usize) -> Section
+    ensures { result ≡ section_at row.now position }
+{
+    if position < row.front {
+        Section::Front
+    } else if position < row.back {
+        Section::Middle
+    } else {
+        Section::Back
+    }
+}
+
 impl KeyLists {
-    ghost use Rattle.std.specs.Prelude.{◌≡◌, ℕ, ◌<◌, ◌^◌, [], length, true, false, None, Some, OnOk, OnErr};
+    ghost use Rattle.std.specs.Prelude.{◌≡◌, ℕ, ◌<◌, ◌^◌, [], length, None, Some, OnOk, OnErr};
+    ghost use Rattle.asset_lists.specs.declared.part.Section.TheVariants.{Front, Middle, Back};
     ghost use Rattle.asset_lists.specs.Parted.{part_of, advanced, one_key_more, one_list_more, AreKeys, IsChangedAt};
 
     /// Returns no lists and no keys. It does not allocate.
@@ -69,6 +87,7 @@ impl KeyLists {
         let row = Row {
             keys: SmallVec::new(self.alloc),
             front: 0,
+            back: 0,
         };
         if self.rows.len() >= u32::MAX as usize || self.rows.push(row).is_err() {
             return Err(AllocError);
@@ -90,8 +109,13 @@ impl KeyLists {
             Ok(()) => {}
             Err(_) => return Err(AllocError),
         }
-        if part.front {
-            self.raise(key, part.list);
+        match part.section {
+            Section::Front => {
+                self.raise(key, part.list);
+                self.raise_again(key, part.list);
+            }
+            Section::Middle => self.raise(key, part.list),
+            Section::Back => {}
         }
         Ok(())
     }
@@ -101,8 +125,13 @@ impl KeyLists {
         ensures { IsChangedAt key (advanced (part_of self.old key)) self.old self.new }
     {
         if let Some(part) = self.part(key) {
-            if !part.front {
-                self.raise(key, part.list);
+            match part.section {
+                Section::Front => {}
+                Section::Middle => self.raise_again(key, part.list),
+                Section::Back => {
+                    self.raise(key, part.list);
+                    self.raise_again(key, part.list);
+                }
             }
         }
     }
@@ -112,9 +141,7 @@ impl KeyLists {
         ensures { IsChangedAt key None self.old self.new }
     {
         if let Some(part) = self.part(key) {
-            if part.front {
-                self.lower(key, part.list);
-            }
+            self.lower_to_back(key, part);
             self.cut(key, part.list);
         }
     }
@@ -131,10 +158,8 @@ impl KeyLists {
             return None;
         }
         let list = place.home as usize - 1;
-        Some(Part {
-            list,
-            front: (place.position as usize) < self.rows[list].front,
-        })
+        let section = section_at(&self.rows[list], place.position as usize);
+        Some(Part { list, section })
     }
 
     /// Returns the keys of a part, each once, in no order that a caller may rely on. Past the last list there are none.
@@ -145,10 +170,11 @@ impl KeyLists {
             return &[];
         }
         let row = &self.rows[part.list];
-        if part.front {
-            &row.keys.as_slice()[..row.front]
-        } else {
-            &row.keys.as_slice()[row.front..]
+        let keys = row.keys.as_slice();
+        match part.section {
+            Section::Front => &keys[..row.front],
+            Section::Middle => &keys[row.front..row.back],
+            Section::Back => &keys[row.back..],
         }
     }
 
@@ -171,7 +197,7 @@ impl KeyLists {
         requires list { list < self.old.lists }
         requires key { key < length self.old.parts }
         requires free { part_of self.old key ≡ None }
-        ensures pushed { OnOk result (IsChangedAt key (Some (record { list = list; front = false })) self.old self.new) }
+        ensures pushed { OnOk result (IsChangedAt key (Some (record { list = list; section = Back })) self.old self.new) }
         ensures unchanged { OnErr result (self.new ≡ self.old) }
     {
         let row = &mut self.rows[list];
@@ -186,10 +212,22 @@ impl KeyLists {
         Ok(())
     }
 
-    /// Moves a key from the back part of its list to the front part.
+    /// Moves a key from the back part of its list to the middle part.
     fn raise(&mut self, key: usize, list: usize)
-        requires { part_of self.old key ≡ Some (record { list = list; front = false }) }
-        ensures { IsChangedAt key (Some (record { list = list; front = true })) self.old self.new }
+        requires { part_of self.old key ≡ Some (record { list = list; section = Back }) }
+        ensures { IsChangedAt key (Some (record { list = list; section = Middle })) self.old self.new }
+    {
+        let position = self.places[key].position as usize;
+        let row = &mut self.rows[list];
+        let back = row.back;
+        swap(row.keys.as_mut_slice(), &mut self.places, position, back);
+        row.back = back + 1;
+    }
+
+    /// Moves a key from the middle part of its list to the front part.
+    fn raise_again(&mut self, key: usize, list: usize)
+        requires { part_of self.old key ≡ Some (record { list = list; section = Middle }) }
+        ensures { IsChangedAt key (Some (record { list = list; section = Front })) self.old self.new }
     {
         let position = self.places[key].position as usize;
         let row = &mut self.rows[list];
@@ -198,10 +236,25 @@ impl KeyLists {
         row.front = front + 1;
     }
 
-    /// Moves a key from the front part of its list to the back part.
+    /// Moves a key from its part to the back part of its list.
+    fn lower_to_back(&mut self, key: usize, part: Part)
+        requires { part_of self.old key ≡ Some part }
+        ensures { IsChangedAt key (Some (record { list = part.list; section = Back })) self.old self.new }
+    {
+        match part.section {
+            Section::Front => {
+                self.lower(key, part.list);
+                self.lower_again(key, part.list);
+            }
+            Section::Middle => self.lower_again(key, part.list),
+            Section::Back => {}
+        }
+    }
+
+    /// Moves a key from the front part of its list to the middle part.
     fn lower(&mut self, key: usize, list: usize)
-        requires { part_of self.old key ≡ Some (record { list = list; front = true }) }
-        ensures { IsChangedAt key (Some (record { list = list; front = false })) self.old self.new }
+        requires { part_of self.old key ≡ Some (record { list = list; section = Front }) }
+        ensures { IsChangedAt key (Some (record { list = list; section = Middle })) self.old self.new }
     {
         let position = self.places[key].position as usize;
         let row = &mut self.rows[list];
@@ -210,9 +263,21 @@ impl KeyLists {
         row.front = last;
     }
 
+    /// Moves a key from the middle part of its list to the back part.
+    fn lower_again(&mut self, key: usize, list: usize)
+        requires { part_of self.old key ≡ Some (record { list = list; section = Middle }) }
+        ensures { IsChangedAt key (Some (record { list = list; section = Back })) self.old self.new }
+    {
+        let position = self.places[key].position as usize;
+        let row = &mut self.rows[list];
+        let last = row.back - 1;
+        swap(row.keys.as_mut_slice(), &mut self.places, position, last);
+        row.back = last;
+    }
+
     /// Takes a key out of the back part of its list. The last key of the list takes its position.
     fn cut(&mut self, key: usize, list: usize)
-        requires { part_of self.old key ≡ Some (record { list = list; front = false }) }
+        requires { part_of self.old key ≡ Some (record { list = list; section = Back }) }
         ensures { IsChangedAt key None self.old self.new }
     {
         let position = self.places[key].position as usize;

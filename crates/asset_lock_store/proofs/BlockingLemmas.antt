@@ -7,21 +7,22 @@ use Rattle.std.specs.declared.cmp.Ordering.TheVariants.{Less, Equal, Greater}
 use Rattle.std.specs.BTreeSet.{insert_key}
 use Rattle.asset_names.specs.declared.names.Txn.{Txn}
 use Rattle.asset_names.specs.declared.operations.Op.{Op}
-use Rattle.asset_names.specs.declared.operations.Op.TheVariants as Op'
 use Rattle.asset_names.specs.Arrows.{lists}
-use Rattle.asset_names.specs.OpSets.{has_op, only_op}
+use Rattle.asset_names.specs.OpSets.{has_op}
 use Rattle.std.specs.List.{list_any}
 use Rattle.asset_chains.specs.Chained.{chain_of, home_of, IsSound}
 use Rattle.asset_chains.proofs.Walks.{any_from, any_none}
 use Rattle.asset_lists.specs.declared.part.Part.{Part}
+use Rattle.asset_lists.specs.declared.part.Section.{Section}
+use Rattle.asset_lists.specs.declared.part.Section.TheVariants.{Front}
 use Rattle.asset_lists.specs.Parted.{Parted, part_of, IsAt, AreKeys}
 use Rattle.asset_seats.specs.Seated.{Seated, seat}
 use Rattle.asset_lock_store.specs.LockRules.{is_on, carries_on, blocks}
 use Rattle.asset_lock_store.specs.Stored.{Stored, lock_at, locks_at, number_in, part_for, name_of, key_blocks, IsStored}
-use Rattle.asset_lock_store.specs.Looked.{is_named, key_named}
+use Rattle.asset_lock_store.specs.Looked.{looks_at, is_named, key_named}
 use Rattle.asset_lock_store.specs.Gathered.{blocks_as, IsGathered}
 use Rattle.asset_lock_store.proofs.LockLemmas.{on_to}
-use Rattle.asset_lock_store.proofs.WalkLemmas.{only_writers}
+use Rattle.asset_lock_store.proofs.WalkLemmas.{looks_in_front}
 use Rattle.asset_lock_store.proofs.BlockLemmas.{blocker_by_key, key_of_blocker}
 
 pub none_as : {X P : Type 0} (o : Option X) → P → IfNone o P
@@ -134,32 +135,45 @@ module _ (belongs : ℕ → ℕ → Bool) where
       found
 
   -- ---- the parts of an object
-  module _ (table : Parted) (op : Op) (number : ℕ) (writers : Part) (is_writers : writers ≡ part_for number true) where
-    -- for a read those that write
-    pub gathered_writers : (a b : List ℕ) → op ≡ Op'.Read → IsGathered belongs (λ k. part_of table k ≡ Some writers) a b
-        → IsGathered belongs (λ k. (w : Bool) × (part_of table k ≡ Some (part_for number w)) × ((w || has_op (only_op op) Op'.Write) ≡ true)) a b
-    gathered_writers a b reads found =
-        gathered_as (λ k. part_of table k ≡ Some writers) (λ k. (w : Bool) × (part_of table k ≡ Some (part_for number w)) × ((w || has_op (only_op op) Op'.Write) ≡ true)) a b
-        (λ k at. (true, at ∙ ap Some is_writers, refl))
-        (λ k h. h.1 ∙ ap (λ (w : Bool). Some (part_for number w)) (only_writers h.0 op reads h.2) ∙ ap Some (sym is_writers))
-        found
+  module _ (table : Parted) (op : Op) (number : ℕ) (front : Part) (is_front : front ≡ part_for number Front) (second : Section) (other : Part) (is_other : other ≡ part_for number second) (looks : looks_at op second ≡ true) where
+    in_two : (k : ℕ) → (part_of table k ≡ Some front) ⊎ (part_of table k ≡ Some other) → (w : Section) × (part_of table k ≡ Some (part_for number w)) × (looks_at op w ≡ true)
+    in_two k h = elim h [
+      | inl at ↦ (Front, at ∙ ap Some is_front, looks_in_front op)
+      | inr at ↦ (second, at ∙ ap Some is_other, looks)
+    ]
 
-    -- for a write all
-    pub gathered_both : (readers : Part) → readers ≡ part_for number false → (a b c : List ℕ) → op ≡ Op'.Write → IsGathered belongs (λ k. part_of table k ≡ Some writers) a b
-        → IsGathered belongs (λ k. part_of table k ≡ Some readers) b c
-        → IsGathered belongs (λ k. (w : Bool) × (part_of table k ≡ Some (part_for number w)) × ((w || has_op (only_op op) Op'.Write) ≡ true)) a c
-    unfolding only_op
-    gathered_both readers is_readers a b c writes first second =
-        gathered_as (λ k. (part_of table k ≡ Some writers) ⊎ (part_of table k ≡ Some readers)) (λ k. (w : Bool) × (part_of table k ≡ Some (part_for number w)) × ((w || has_op (only_op op) Op'.Write) ≡ true)) a c
+    from_two : (k : ℕ) (w : Section) → part_of table k ≡ Some (part_for number w) → (w ≡ Front) ⊎ (w ≡ second) → (part_of table k ≡ Some front) ⊎ (part_of table k ≡ Some other)
+    from_two k w at which = elim which [
+      | inl is ↦ inl (at ∙ ap (λ (w : Section). Some (part_for number w)) is ∙ ap Some (sym is_front))
+      | inr is ↦ inr (at ∙ ap (λ (w : Section). Some (part_for number w)) is ∙ ap Some (sym is_other))
+    ]
+
+    -- these two are all that are looked at
+    pub gathered_two : ((w : Section) → looks_at op w ≡ true → (w ≡ Front) ⊎ (w ≡ second)) → (a b c : List ℕ) → IsGathered belongs (λ k. part_of table k ≡ Some front) a b
+        → IsGathered belongs (λ k. part_of table k ≡ Some other) b c
+        → IsGathered belongs (λ k. (w : Section) × (part_of table k ≡ Some (part_for number w)) × (looks_at op w ≡ true)) a c
+    gathered_two covers a b c one two =
+        gathered_as (λ k. (part_of table k ≡ Some front) ⊎ (part_of table k ≡ Some other)) (λ k. (w : Section) × (part_of table k ≡ Some (part_for number w)) × (looks_at op w ≡ true)) a c
+        in_two
+        (λ k h. from_two k h.0 h.1 (covers h.0 h.2))
+        (gathered_more (λ k. part_of table k ≡ Some front) (λ k. part_of table k ≡ Some other) a b c one two)
+
+    -- all three are
+    pub gathered_three : (third : Section) (last : Part) → last ≡ part_for number third → looks_at op third ≡ true → ((w : Section) → ((w ≡ Front) ⊎ (w ≡ second)) ⊎ (w ≡ third)) → (a b c d : List ℕ) → IsGathered belongs (λ k. part_of table k ≡ Some front) a b
+        → IsGathered belongs (λ k. part_of table k ≡ Some other) b c
+        → IsGathered belongs (λ k. part_of table k ≡ Some last) c d
+        → IsGathered belongs (λ k. (w : Section) × (part_of table k ≡ Some (part_for number w)) × (looks_at op w ≡ true)) a d
+    gathered_three third last is_last looks_too covers a b c d one two three =
+        gathered_as (λ k. ((part_of table k ≡ Some front) ⊎ (part_of table k ≡ Some other)) ⊎ (part_of table k ≡ Some last)) (λ k. (w : Section) × (part_of table k ≡ Some (part_for number w)) × (looks_at op w ≡ true)) a d
         (λ k h. elim h [
-          | inl at ↦ (true, at ∙ ap Some is_writers, refl)
-          | inr at ↦ (false, at ∙ ap Some is_readers, ap (λ (o : Op). has_op (only_op o) Op'.Write) writes)
+          | inl before ↦ in_two k before
+          | inr at ↦ (third, at ∙ ap Some is_last, looks_too)
         ])
-        (λ k h. either k h.0 h.1)
-        (gathered_more (λ k. part_of table k ≡ Some writers) (λ k. part_of table k ≡ Some readers) a b c first second) where
-          either : (k : ℕ) (w : Bool) → part_of table k ≡ Some (part_for number w) → (part_of table k ≡ Some writers) ⊎ (part_of table k ≡ Some readers)
-          either k true at = inl (at ∙ ap Some (sym is_writers))
-          either k false at = inr (at ∙ ap Some (sym is_readers))
+        (λ k h. elim (covers h.0) [
+          | inl before ↦ inl (from_two k h.0 h.1 before)
+          | inr is ↦ inr (h.1 ∙ ap (λ (w : Section). Some (part_for number w)) is ∙ ap Some (sym is_last))
+        ])
+        (gathered_more (λ k. (part_of table k ≡ Some front) ⊎ (part_of table k ≡ Some other)) (λ k. part_of table k ≡ Some last) a c d (gathered_more (λ k. part_of table k ≡ Some front) (λ k. part_of table k ≡ Some other) a b c one two) three)
 
 -- ---- whose a lock is that blocks
 module _ (store : Stored) (seats : Seated) (allows : ℕ → Bool) (t : ℕ) (op : Op) (k : ℕ) where
@@ -178,7 +192,7 @@ module _ (store : Stored) (seats : Seated) (allows : ℕ → Bool) (t : ℕ) (op
 -- the names that are gathered from the locks on an object are those of who blocks
 module _ (store : Stored) (stored : IsStored store) (of_owner : IsSound store.by_owner) (seats : Seated) (allows : ℕ → Bool) (t x : ℕ) (op : Op) where
   module _ (number : ℕ) (numbered : number_in store.objects x ≡ Some number) (names : List ℕ)
-      (found : IsGathered (blocks_as store seats allows t op) (λ k. (w : Bool) × (part_of store.by_object k ≡ Some (part_for number w)) × ((w || has_op (only_op op) Op'.Write) ≡ true)) [] names) where
+      (found : IsGathered (blocks_as store seats allows t op) (λ k. (w : Section) × (part_of store.by_object k ≡ Some (part_for number w)) × (looks_at op w ≡ true)) [] names) where
     pub all_blockers : (c : ℕ) (u : Txn) → seat seats c ≡ Some u → blocks allows t x op u.0 (locks_at store c) ≡ true → lists names u.0 ≡ true
     all_blockers c u sits h =
         let by = key_of_blocker store stored of_owner seats allows t x op number numbered c u sits h in

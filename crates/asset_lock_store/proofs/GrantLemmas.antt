@@ -17,7 +17,7 @@ use Rattle.asset_chains.proofs.KeyLemmas.{without_unlisted}
 use Rattle.asset_lists.specs.Parted.{part_of, IsChangedAt}
 use Rattle.asset_lock_store.specs.declared.lock.Lock.{Lock}
 use Rattle.asset_lock_store.specs.LockRules.{is_on, one_conflicts, both_conflict, conflicts_on, suspended, taken, granted_own, new_lock, ops_with, is_some_op}
-use Rattle.asset_lock_store.specs.Stored.{Stored, lock_at, locks_at, number_in, part_for, IsPlaced, IsStored, IsSuspended, IsAdded, IsDropped, IsGrown}
+use Rattle.asset_lock_store.specs.Stored.{Stored, lock_at, locks_at, number_in, part_for, class_of, IsPlaced, IsStored, IsSuspended, IsAdded, IsDropped, IsGrown}
 use Rattle.asset_lock_store.proofs.StoreLemmas.{stored_changed, same_lock}
 use Rattle.asset_lock_store.proofs.OpsLemmas.{some_with, with_same, with_only, conflict_swapped, conflict_before, conflict_only}
 use Rattle.asset_lock_store.proofs.LockLemmas.{on_to, on_from, off_from}
@@ -29,7 +29,7 @@ with_grant op lock = record lock { ops = with_op op lock.ops; granted = true }
 -- op is granted to the lock at a key, which may move to another chain of its object
 pub stored_granted : (old new : Stored) (key number : ℕ) (op : Op) → IsStored old → number_in old.objects (lock_at old.locks key).object.0 ≡ Some number
     → ((k : ℕ) → lock_at new.locks k ≡ cond (eqb k key) (with_grant op (lock_at old.locks key)) (lock_at old.locks k)) → ((k : ℕ) → is_some (get new.locks k) ≡ is_some (get old.locks k))
-    → IsChangedAt key (Some (part_for number (with_op op (lock_at old.locks key).ops).write)) old.by_object new.by_object → is_some (part_of old.by_object key) ≡ true → new.by_owner ≡ old.by_owner → new.objects ≡ old.objects
+    → IsChangedAt key (Some (part_for number (class_of (with_op op (lock_at old.locks key).ops)))) old.by_object new.by_object → is_some (part_of old.by_object key) ≡ true → new.by_owner ≡ old.by_owner → new.objects ≡ old.objects
     → ((j c d : ℕ) → home_of old.by_owner key ≡ Some c → home_of old.by_owner j ≡ Some d → (d ≡ c → ⊥) → (lock_at old.locks j).object.0 ≡ (lock_at old.locks key).object.0
     → both_conflict (lock_at old.locks j).ops (with_op op (lock_at old.locks key).ops) ≡ true → (lock_at old.locks j).granted ≡ false)
     → IsStored new
@@ -45,7 +45,7 @@ stored_granted old new key number op stored numbered locks keys change there of_
       | inl here ↦ subst (IsPlaced new) (sym (eqb-true k key here)) (record {
         number = number;
         numbered = ap (λ l. number_in l (lock_at new.locks key).object.0) objects ∙ ap (number_in old.objects) (object key) ∙ numbered;
-        part = change.here ∙ ap (λ (l : Lock). Some (part_for number l.ops.write)) (sym at_key);
+        part = change.here ∙ ap (λ (l : Lock). Some (part_for number (class_of l.ops))) (sym at_key);
       })
       | inr apart ↦
           let placed = stored.placed k c at in
@@ -53,7 +53,7 @@ stored_granted old new key number op stored numbered locks keys change there of_
           record {
             number = placed.number;
             numbered = ap (λ l. number_in l (lock_at new.locks k).object.0) objects ∙ ap (number_in old.objects) (object k) ∙ placed.numbered;
-            part = change.others k (eqb-false k key apart) ∙ placed.part ∙ ap (λ (l : Lock). Some (part_for placed.number l.ops.write)) (sym same);
+            part = change.others k (eqb-false k key apart) ∙ placed.part ∙ ap (λ (l : Lock). Some (part_for placed.number (class_of l.ops))) (sym same);
           }
     ])
     object

@@ -1,5 +1,5 @@
 -- A lock that becomes another seat's, and what is stored then.
-use Rattle.std.proofs.Common.{◌≡◌, ℕ, ◌<◌, ◌≤◌, Bool, true, false, eqb, cond, ◌&&◌, ◌||◌, List, [], ◌∷◌, ◌++◌, map, length, Option, Some, None, is_some, refl, sym, ap, subst, ◌∙◌, inl, inr}
+use Rattle.std.proofs.Common.{◌≡◌, ℕ, ◌<◌, ◌≤◌, Bool, true, false, eqb, cond, ◌&&◌, ◌||◌, List, [], ◌∷◌, ◌++◌, map, length, Option, Some, None, is_some, refl, sym, ap, subst, ◌∙◌, inl, inr, arith}
 use Rattle.std.proofs.lemmas.Bool.{eqb-true, eqb-false, eq-eqb, ne_eqb, cases_Bool, cases_eq, both_ways, true≢false}
 use Rattle.std.proofs.lemmas.List.{map-append}
 use Rattle.slab.specs.Slab.{Slab, get, with_value}
@@ -13,7 +13,7 @@ use Rattle.asset_chains.proofs.KeyLemmas.{without_unlisted}
 use Rattle.asset_lists.specs.Parted.{part_of, IsChangedAt}
 use Rattle.asset_lock_store.specs.declared.lock.Lock.{Lock}
 use Rattle.asset_lock_store.specs.LockRules.{is_on, both_conflict, both_ops, merged, is_some_op}
-use Rattle.asset_lock_store.specs.Stored.{Stored, lock_at, locks_at, number_in, part_for, IsPlaced, IsStored, IsDropped, IsMoved, IsHanded}
+use Rattle.asset_lock_store.specs.Stored.{Stored, lock_at, locks_at, number_in, part_for, class_of, IsPlaced, IsStored, IsDropped, IsMoved, IsHanded}
 use Rattle.asset_lock_store.proofs.StoreLemmas.{stored_changed, written, read_lock}
 use Rattle.asset_lock_store.proofs.GrantLemmas.{found_here, none_here, seat_one}
 use Rattle.asset_lock_store.proofs.MergeLemmas.{with_ops, merged_here, merged_apart, ops_one, moved_here, moved_alone}
@@ -115,35 +115,17 @@ module _ (old : Stored) (table : Chained) (key to : ℕ) (stored : IsStored old)
         ];
   }
 
-or_true : (b : Bool) → (b || true) ≡ true
-or_true true = refl
-or_true false = refl
-
--- whether both write
-pub both_write : (own ops : OpSet) → ops.write ≡ true → (both_ops own ops).write ≡ true
-unfolding both_ops
-both_write own ops writes = ap (λ (b : Bool). own.write || b) writes ∙ or_true own.write
-
-pub both_read : (own ops : OpSet) → ops.write ≡ false → (both_ops own ops).write ≡ own.write
-unfolding both_ops
-both_read own ops reads = ap (λ (b : Bool). own.write || b) reads ∙ or_none own.write where
-  or_none : (b : Bool) → (b || false) ≡ b
-  or_none true = refl
-  or_none false = refl
-
 -- a set and another has an operation if the set has one
 some_both : (own ops : OpSet) → is_some_op own ≡ true → is_some_op (both_ops own ops) ≡ true
 unfolding is_some_op both_ops
-some_both own ops some = go own.read own.write some where
-  go : (r w : Bool) → (r || w) ≡ true → ((r || ops.read) || (w || ops.write)) ≡ true
-  go true w h = refl
-  go false true h = or_true ops.read
-  go false false h = absurd (true≢false (sym h))
+some_both own ops some = go own.read own.write own.add ops.read ops.write ops.add some where
+  go : (r w a read write add : Bool) → ((r || w) || a) ≡ true → (((r || read) || (w || write)) || (a || add)) ≡ true
+  go r w a read write add some = grind arith
 
 -- a lock gets the operations of another, and is suspended
 pub stored_merged : (old new : Stored) (key number : ℕ) (ops : OpSet) → IsStored old → number_in old.objects (lock_at old.locks key).object.0 ≡ Some number
     → ((k : ℕ) → lock_at new.locks k ≡ cond (eqb k key) (with_ops ops (lock_at old.locks key)) (lock_at old.locks k)) → ((k : ℕ) → is_some (get new.locks k) ≡ is_some (get old.locks k))
-    → IsChangedAt key (Some (part_for number (both_ops (lock_at old.locks key).ops ops).write)) old.by_object new.by_object → is_some (part_of old.by_object key) ≡ true → new.by_owner ≡ old.by_owner → new.objects ≡ old.objects → IsStored new
+    → IsChangedAt key (Some (part_for number (class_of (both_ops (lock_at old.locks key).ops ops)))) old.by_object new.by_object → is_some (part_of old.by_object key) ≡ true → new.by_owner ≡ old.by_owner → new.objects ≡ old.objects → IsStored new
 stored_merged old new key number ops stored numbered locks keys change there of_owner objects =
     stored_changed old new stored keys
     (λ k. elim (cases_Bool (eqb k key)) [
@@ -156,7 +138,7 @@ stored_merged old new key number ops stored numbered locks keys change there of_
       | inl here ↦ subst (IsPlaced new) (sym (eqb-true k key here)) (record {
         number = number;
         numbered = ap (λ l. number_in l (lock_at new.locks key).object.0) objects ∙ ap (number_in old.objects) (object key) ∙ numbered;
-        part = change.here ∙ ap (λ (l : Lock). Some (part_for number l.ops.write)) (sym at_key);
+        part = change.here ∙ ap (λ (l : Lock). Some (part_for number (class_of l.ops))) (sym at_key);
       })
       | inr apart ↦
           let placed = stored.placed k c at in
@@ -164,7 +146,7 @@ stored_merged old new key number ops stored numbered locks keys change there of_
           record {
             number = placed.number;
             numbered = ap (λ l. number_in l (lock_at new.locks k).object.0) objects ∙ ap (number_in old.objects) (object k) ∙ placed.numbered;
-            part = change.others k (eqb-false k key apart) ∙ placed.part ∙ ap (λ (l : Lock). Some (part_for placed.number l.ops.write)) (sym same);
+            part = change.others k (eqb-false k key apart) ∙ placed.part ∙ ap (λ (l : Lock). Some (part_for placed.number (class_of l.ops))) (sym same);
           }
     ])
     object

@@ -5,21 +5,21 @@ use Rattle.std.specs.Option.{option_or}
 use Rattle.std.proofs.lemmas.Bool.{eqb-true, eq-eqb, ne_eqb, cases_eq, true≢false, and_parts, or_parts, both_ways, false_from_ne_true}
 use Rattle.asset_names.specs.declared.names.Txn.{Txn}
 use Rattle.asset_names.specs.declared.operations.Op.{Op}
-use Rattle.asset_names.specs.declared.operations.Op.TheVariants as Op'
-use Rattle.asset_names.specs.OpSets.{has_op, only_op}
 use Rattle.asset_names.proofs.Common.{one_txn, some_of, some_is_not_none}
 use Rattle.asset_chains.specs.Chained.{home_of}
 use Rattle.asset_lists.specs.declared.part.Part.{Part}
+use Rattle.asset_lists.specs.declared.part.Section.{Section}
+use Rattle.asset_lists.specs.declared.part.Section.TheVariants.{Front}
 use Rattle.asset_lists.specs.Parted.{part_of, IsAt, AreKeys}
 use Rattle.asset_seats.specs.Seated.{Seated, seat}
 use Rattle.asset_lock_store.specs.declared.looking.Look.{Look}
 use Rattle.asset_lock_store.specs.LockRules.{is_on, one_conflicts, conflicts_on}
-use Rattle.asset_lock_store.specs.Stored.{Stored, lock_at, number_in, part_for, name_of, key_blocks, IsStored}
-use Rattle.asset_lock_store.specs.Looked.{look_with, is_named, name_conflicts, key_named, key_conflicts, is_looked_at, IsSeen, IsLook, IsLookedAt, IsNoted}
+use Rattle.asset_lock_store.specs.Stored.{Stored, lock_at, number_in, part_for, name_of, key_blocks, class_of, IsStored}
+use Rattle.asset_lock_store.specs.Looked.{look_with, is_named, name_conflicts, key_named, key_conflicts, looks_at, is_looked_at, IsSeen, IsLook, IsLookedAt, IsNoted}
 use Rattle.asset_lock_store.proofs.BlockLemmas.{if_some, absent_unnumbered, looked_at}
 use Rattle.asset_lock_store.proofs.SuspendLemmas.{on_object, in_list}
 use Rattle.asset_lock_store.proofs.LockLemmas.{on_to, on_from}
-use Rattle.asset_lock_store.proofs.WalkLemmas.{only_writers, blocked_by, blocked_by_none, first_false, two_true, second_false}
+use Rattle.asset_lock_store.proofs.WalkLemmas.{looks_in_front, blocked_by, blocked_by_none, first_false, two_true, second_false}
 
 -- ---- one look after another
 own_both : {F G H : ℕ → Type 0} (a b : Option ℕ) → IfSome a F → IfSome b G → ((k : ℕ) → F k → H k) → ((k : ℕ) → G k → H k) → IfSome (option_or a b) H
@@ -86,32 +86,53 @@ module _ (store : Stored) (seats : Seated) (allows : ℕ → Bool) (t : ℕ) (op
       found
 
   -- ---- a look at the parts of an object
-  module _ (number : ℕ) (writers : Part) (is_writers : writers ≡ part_for number true) where
-    -- those that write are all that are looked at for a read; if one of them blocks, there may be more
-    pub look_writers : (look : Look) → (look.blocked ≡ false → op ≡ Op'.Read) → IsLook store seats allows t op (λ k. part_of store.by_object k ≡ Some writers) look
-        → IsLook store seats allows t op (λ k. (w : Bool) × (part_of store.by_object k ≡ Some (part_for number w)) × ((w || has_op (only_op op) Op'.Write) ≡ true)) look
-    look_writers look reads found =
-        look_as (λ k. part_of store.by_object k ≡ Some writers) (λ k. (w : Bool) × (part_of store.by_object k ≡ Some (part_for number w)) × ((w || has_op (only_op op) Op'.Write) ≡ true)) look
-        (λ k at. (true, at ∙ ap Some is_writers, refl))
-        (λ free k h. h.1 ∙ ap (λ (w : Bool). Some (part_for number w)) (only_writers h.0 op (reads free) h.2) ∙ ap Some (sym is_writers))
+  module _ (number : ℕ) (front : Part) (is_front : front ≡ part_for number Front) where
+    -- a lock of the front part blocks
+    pub look_front : (look : Look) → look.blocked ≡ true → IsLook store seats allows t op (λ k. part_of store.by_object k ≡ Some front) look
+        → IsLook store seats allows t op (λ k. (w : Section) × (part_of store.by_object k ≡ Some (part_for number w)) × (looks_at op w ≡ true)) look
+    look_front look blocks found =
+        look_as (λ k. part_of store.by_object k ≡ Some front) (λ k. (w : Section) × (part_of store.by_object k ≡ Some (part_for number w)) × (looks_at op w ≡ true)) look
+        (λ k at. (Front, at ∙ ap Some is_front, looks_in_front op))
+        (λ free. absurd (true≢false (sym blocks ∙ free)))
         found
 
-    -- for a write all are
-    pub look_both : (readers : Part) → readers ≡ part_for number false → (look more : Look) → look.blocked ≡ false → op ≡ Op'.Write → IsLook store seats allows t op (λ k. part_of store.by_object k ≡ Some writers) look
-        → IsLook store seats allows t op (λ k. part_of store.by_object k ≡ Some readers) more
-        → IsLook store seats allows t op (λ k. (w : Bool) × (part_of store.by_object k ≡ Some (part_for number w)) × ((w || has_op (only_op op) Op'.Write) ≡ true)) (look_with look more)
-    unfolding only_op
-    look_both readers is_readers look more free writes first second =
-        look_as (λ k. (part_of store.by_object k ≡ Some writers) ⊎ (part_of store.by_object k ≡ Some readers)) (λ k. (w : Bool) × (part_of store.by_object k ≡ Some (part_for number w)) × ((w || has_op (only_op op) Op'.Write) ≡ true)) (look_with look more)
-        (λ k h. elim h [
-          | inl at ↦ (true, at ∙ ap Some is_writers, refl)
-          | inr at ↦ (false, at ∙ ap Some is_readers, ap (λ (o : Op). has_op (only_op o) Op'.Write) writes)
-        ])
-        (λ _ k h. either k h.0 h.1)
-        (look_more (λ k. part_of store.by_object k ≡ Some writers) (λ k. part_of store.by_object k ≡ Some readers) look more first free second) where
-          either : (k : ℕ) (w : Bool) → part_of store.by_object k ≡ Some (part_for number w) → (part_of store.by_object k ≡ Some writers) ⊎ (part_of store.by_object k ≡ Some readers)
-          either k true at = inl (at ∙ ap Some (sym is_writers))
-          either k false at = inr (at ∙ ap Some (sym is_readers))
+    -- these two parts are all that are looked at, or a lock of theirs blocks
+    module _ (second : Section) (other : Part) (is_other : other ≡ part_for number second) (looks : looks_at op second ≡ true) where
+      in_two : (k : ℕ) → (part_of store.by_object k ≡ Some front) ⊎ (part_of store.by_object k ≡ Some other) → (w : Section) × (part_of store.by_object k ≡ Some (part_for number w)) × (looks_at op w ≡ true)
+      in_two k h = elim h [
+        | inl at ↦ (Front, at ∙ ap Some is_front, looks_in_front op)
+        | inr at ↦ (second, at ∙ ap Some is_other, looks)
+      ]
+
+      from_two : (k : ℕ) (w : Section) → part_of store.by_object k ≡ Some (part_for number w) → (w ≡ Front) ⊎ (w ≡ second) → (part_of store.by_object k ≡ Some front) ⊎ (part_of store.by_object k ≡ Some other)
+      from_two k w at which = elim which [
+        | inl is ↦ inl (at ∙ ap (λ (w : Section). Some (part_for number w)) is ∙ ap Some (sym is_front))
+        | inr is ↦ inr (at ∙ ap (λ (w : Section). Some (part_for number w)) is ∙ ap Some (sym is_other))
+      ]
+
+      pub look_two : (look : Look) → (look.blocked ≡ false → (w : Section) → looks_at op w ≡ true → (w ≡ Front) ⊎ (w ≡ second)) → IsLook store seats allows t op (λ k. (part_of store.by_object k ≡ Some front) ⊎ (part_of store.by_object k ≡ Some other)) look
+          → IsLook store seats allows t op (λ k. (w : Section) × (part_of store.by_object k ≡ Some (part_for number w)) × (looks_at op w ≡ true)) look
+      look_two look covers found =
+          look_as (λ k. (part_of store.by_object k ≡ Some front) ⊎ (part_of store.by_object k ≡ Some other)) (λ k. (w : Section) × (part_of store.by_object k ≡ Some (part_for number w)) × (looks_at op w ≡ true)) look
+          in_two
+          (λ free k h. from_two k h.0 h.1 (covers free h.0 h.2))
+          found
+
+      -- all three are looked at
+      pub look_three : (third : Section) (last : Part) → last ≡ part_for number third → looks_at op third ≡ true → ((w : Section) → ((w ≡ Front) ⊎ (w ≡ second)) ⊎ (w ≡ third)) → (look : Look)
+          → IsLook store seats allows t op (λ k. ((part_of store.by_object k ≡ Some front) ⊎ (part_of store.by_object k ≡ Some other)) ⊎ (part_of store.by_object k ≡ Some last)) look
+          → IsLook store seats allows t op (λ k. (w : Section) × (part_of store.by_object k ≡ Some (part_for number w)) × (looks_at op w ≡ true)) look
+      look_three third last is_last looks_too covers look found =
+          look_as (λ k. ((part_of store.by_object k ≡ Some front) ⊎ (part_of store.by_object k ≡ Some other)) ⊎ (part_of store.by_object k ≡ Some last)) (λ k. (w : Section) × (part_of store.by_object k ≡ Some (part_for number w)) × (looks_at op w ≡ true)) look
+          (λ k h. elim h [
+            | inl two ↦ in_two k two
+            | inr at ↦ (third, at ∙ ap Some is_last, looks_too)
+          ])
+          (λ _ k h. elim (covers h.0) [
+            | inl two ↦ inl (from_two k h.0 h.1 two)
+            | inr is ↦ inr (h.1 ∙ ap (λ (w : Section). Some (part_for number w)) is ∙ ap Some (sym is_last))
+          ])
+          found
 
   -- ---- a look at one lock
   pub look_one : (key : ℕ) (look : Look) → IfSome look.own (λ k. (k ≡ key) × (key_named store seats t k ≡ true)) → (look.own ≡ None → key_named store seats t key ≡ false)
@@ -163,16 +184,16 @@ module _ (store : Stored) (seats : Seated) (allows : ℕ → Bool) (t : ℕ) (op
 -- ---- a look at an object
 module _ (store : Stored) (stored : IsStored store) (x number : ℕ) (op : Op) (numbered : number_in store.objects x ≡ Some number) where
   -- the keys of the parts that are looked at are those of the locks on the object that are
-  pub looked_in : (k : ℕ) → (w : Bool) × (part_of store.by_object k ≡ Some (part_for number w)) × ((w || has_op (only_op op) Op'.Write) ≡ true) → IsLookedAt store x op k
+  pub looked_in : (k : ℕ) → (w : Section) × (part_of store.by_object k ≡ Some (part_for number w)) × (looks_at op w ≡ true) → IsLookedAt store x op k
   unfolding is_looked_at
   looked_in k h =
       let here = some_of (home_of store.by_owner k) (stored.held k ∙ sym (stored.listed k) ∙ ap is_some h.1) in
       let is = on_object store stored x number numbered k here.0 h.0 here.1 h.1 in
-      record { seat = here.0; home = here.1; on = on_from x _ is.0; at = ap (λ (w : Bool). w || has_op (only_op op) Op'.Write) is.1 ∙ h.2 }
+      record { seat = here.0; home = here.1; on = on_from x _ is.0; at = ap (looks_at op) is.1 ∙ h.2 }
 
-  pub looked_from : (k : ℕ) → IsLookedAt store x op k → (w : Bool) × (part_of store.by_object k ≡ Some (part_for number w)) × ((w || has_op (only_op op) Op'.Write) ≡ true)
+  pub looked_from : (k : ℕ) → IsLookedAt store x op k → (w : Section) × (part_of store.by_object k ≡ Some (part_for number w)) × (looks_at op w ≡ true)
   unfolding is_looked_at
-  looked_from k h = ((lock_at store.locks k).ops.write, in_list store stored x number numbered k h.seat h.home (on_to x _ h.on), h.at)
+  looked_from k h = (class_of (lock_at store.locks k).ops, in_list store stored x number numbered k h.seat h.home (on_to x _ h.on), h.at)
 
 pub unlooked : (store : Stored) → IsStored store → (x : ℕ) (op : Op) → number_in store.objects x ≡ None → (k : ℕ) → IsLookedAt store x op k → ⊥
 unlooked store stored x op none k h = true≢false (sym h.on ∙ absent_unnumbered store stored x none k h.seat h.home)
@@ -222,13 +243,12 @@ module _ (store : Stored) (c x : ℕ) (op : Op) (look : Look) (noted : IsNoted s
     go None is p = p
     go (Some k) is p = absurd (some_is_not_none k is)
 
-  -- it only reads, after a look for a read
-  pub unmet_reads : op ≡ Op'.Read → (k : ℕ) → home_of store.by_owner k ≡ Some c → is_on x (lock_at store.locks k) ≡ true → (lock_at store.locks k).ops.write ≡ false
+  -- it is in a part that is not looked at
+  pub unmet_in : (section : Section) → ((w : Section) → looks_at op w ≡ false → w ≡ section) → (k : ℕ) → home_of store.by_owner k ≡ Some c → is_on x (lock_at store.locks k) ≡ true → class_of (lock_at store.locks k).ops ≡ section
   unfolding is_looked_at
-  unmet_reads reads k home on = (or_parts (lock_at store.locks k).ops.write (has_op (only_op op) Op'.Write) (others k home on)).0
+  unmet_in section misses k home on = misses (class_of (lock_at store.locks k).ops) (others k home on)
 
-  -- there is none, after a look for a write
-  pub unmet_is_not_there : op ≡ Op'.Write → (k : ℕ) → home_of store.by_owner k ≡ Some c → is_on x (lock_at store.locks k) ≡ false
-  unfolding is_looked_at only_op
-  unmet_is_not_there writes k home = false_from_ne_true _ (λ on.
-      true≢false (sym (ap (λ (o : Op). has_op (only_op o) Op'.Write) writes) ∙ (or_parts (lock_at store.locks k).ops.write (has_op (only_op op) Op'.Write) (others k home on)).1))
+  -- there is none, after a look at all parts
+  pub unmet_is_not_there : ((w : Section) → looks_at op w ≡ true) → (k : ℕ) → home_of store.by_owner k ≡ Some c → is_on x (lock_at store.locks k) ≡ false
+  unfolding is_looked_at
+  unmet_is_not_there all k home = false_from_ne_true _ (λ on. true≢false (sym (all (class_of (lock_at store.locks k).ops)) ∙ others k home on))

@@ -27,17 +27,17 @@ none_carries x op (l ∷ locks) none =
 -- a lock that comes first carries nothing on another object
 ops_off : (x : ℕ) (l : Lock) (locks : List Lock) → is_on x l ≡ false → ops_on x (l ∷ locks) ≡ ops_on x locks
 unfolding ops_on carries_on
-ops_off x l locks off = λ i. op_set ((off i && has_op l.ops Op'.Read) || list_any (carries_on x Op'.Read) locks) ((off i && has_op l.ops Op'.Write) || list_any (carries_on x Op'.Write) locks)
+ops_off x l locks off = λ i. op_set ((off i && has_op l.ops Op'.Read) || list_any (carries_on x Op'.Read) locks) ((off i && has_op l.ops Op'.Write) || list_any (carries_on x Op'.Write) locks) ((off i && has_op l.ops Op'.Add) || list_any (carries_on x Op'.Add) locks)
 
 -- and all on its own, if the others are on other objects
 ops_first : (x : ℕ) (l : Lock) (locks : List Lock) → list_any (is_on x) locks ≡ false → ops_on x (l ∷ locks) ≡ ops_on x (l ∷ [])
 unfolding ops_on
-ops_first x l locks none = λ i. op_set (carries_on x Op'.Read l || none_carries x Op'.Read locks none i) (carries_on x Op'.Write l || none_carries x Op'.Write locks none i)
+ops_first x l locks none = λ i. op_set (carries_on x Op'.Read l || none_carries x Op'.Read locks none i) (carries_on x Op'.Write l || none_carries x Op'.Write locks none i) (carries_on x Op'.Add l || none_carries x Op'.Add locks none i)
 
 -- the operations of the one lock that comes on the object
 pub ops_one : (x : ℕ) (l : Lock) → is_on x l ≡ true → ops_on x (l ∷ []) ≡ l.ops
 unfolding ops_on carries_on
-ops_one x l on = λ i. op_set (go l.ops.read i) (go l.ops.write i) where
+ops_one x l on = λ i. op_set (go l.ops.read i) (go l.ops.write i) (go l.ops.add i) where
   go : (b : Bool) → ((is_on x l && b) || false) ≡ b
   go b = or_false (is_on x l && b) ∙ ap (λ (a : Bool). a && b) on
 

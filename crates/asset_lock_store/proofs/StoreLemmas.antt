@@ -12,17 +12,19 @@ use Rattle.slab.specs.Slab.{Slab, get, with_value, Updates, ContainsKey}
 use Rattle.slab.proofs.SlabLemmas.{Updates-with_value}
 use Rattle.asset_names.specs.declared.names.Ob.{Ob}
 use Rattle.asset_names.specs.declared.operations.Op.{Op}
-use Rattle.asset_names.specs.OpSets.{with_op}
+use Rattle.asset_names.specs.OpSets.{OpSet, with_op}
 use Rattle.asset_names.proofs.Common.{some_is_not_none}
 use Rattle.asset_chains.specs.Chained.{Chained, home_of}
 use Rattle.asset_chains.proofs.Laws.{IsPushed}
 use Rattle.asset_lists.specs.declared.part.Part.{Part}
+use Rattle.asset_lists.specs.declared.part.Section.{Section}
+use Rattle.asset_lists.specs.declared.part.Section.TheVariants.{Front}
 use Rattle.asset_lists.specs.Parted.{Parted, part_of, advanced, IsChangedAt}
 use Rattle.asset_lists.proofs.Laws.{no_part_of}
 use Rattle.asset_chains.proofs.SoundLemmas.{no_home_of}
 use Rattle.asset_lock_store.specs.declared.lock.Lock.{Lock}
-use Rattle.asset_lock_store.specs.LockRules.{is_on, both_conflict, is_some_op}
-use Rattle.asset_lock_store.specs.Stored.{Stored, no_lock, lock_at, number_in, part_for, IsPlaced, IsStored}
+use Rattle.asset_lock_store.specs.LockRules.{is_on, both_conflict, is_some_op, paused}
+use Rattle.asset_lock_store.specs.Stored.{Stored, no_lock, lock_at, number_in, part_for, class_of, IsPlaced, IsStored}
 use Rattle.asset_lock_store.proofs.OpsLemmas.{conflict_swapped}
 
 -- ---- reads and writes of the slab
@@ -52,21 +54,31 @@ written locks key old new there k = updated locks (with_value locks key new) key
   contains : get locks key ≡ Some old → ContainsKey locks key
   contains there = search there
 
--- the lock at a key is suspended
-pub suspended_some : (locks : Slab Lock) (key : ℕ) (lock : Lock) → get locks key ≡ Some lock → (k : ℕ)
-    → lock_at (with_value locks key (record lock { granted = false })) k ≡ cond (eqb k key) (record (lock_at locks k) { granted = false }) (lock_at locks k)
-suspended_some locks key lock there k = written locks key lock (record lock { granted = false }) there k ∙ elim (cases_Bool (eqb k key)) [
-  | inl here ↦ ap (λ (b : Bool). cond b (record lock { granted = false }) (lock_at locks k)) here ∙ ap (λ (l : Lock). record l { granted = false }) (sym (ap (lock_at locks) (eqb-true k key here) ∙ read_lock locks key lock there))
-      ∙ sym (ap (λ (b : Bool). cond b (record (lock_at locks k) { granted = false }) (lock_at locks k)) here)
-  | inr apart ↦ ap (λ (b : Bool). cond b (record lock { granted = false }) (lock_at locks k)) apart ∙ sym (ap (λ (b : Bool). cond b (record (lock_at locks k) { granted = false }) (lock_at locks k)) apart)
+-- a lock that conflicts is suspended, and another is not
+pub paused_conflict : (ops : OpSet) (lock : Lock) → both_conflict lock.ops ops ≡ true → record lock { granted = false } ≡ paused ops lock
+unfolding paused
+paused_conflict ops lock conflicts = ap (λ (b : Bool). cond b (record lock { granted = false }) lock) (sym conflicts)
+
+pub paused_apart : (ops : OpSet) (lock : Lock) → both_conflict lock.ops ops ≡ false → lock ≡ paused ops lock
+unfolding paused
+paused_apart ops lock apart = ap (λ (b : Bool). cond b (record lock { granted = false }) lock) (sym apart)
+
+-- the lock at a key is suspended if it conflicts
+pub suspended_some : (locks : Slab Lock) (key : ℕ) (ops : OpSet) (lock now : Lock) → get locks key ≡ Some lock → now ≡ paused ops lock → (k : ℕ) → lock_at (with_value locks key now) k ≡ cond (eqb k key) (paused ops (lock_at locks k)) (lock_at locks k)
+suspended_some locks key ops lock now there is k = written locks key lock now there k ∙ elim (cases_Bool (eqb k key)) [
+  | inl here ↦ ap (λ (b : Bool). cond b now (lock_at locks k)) here ∙ is ∙ ap (paused ops) (sym (ap (lock_at locks) (eqb-true k key here) ∙ read_lock locks key lock there)) ∙ sym (ap (λ (b : Bool). cond b (paused ops (lock_at locks k)) (lock_at locks k)) here)
+  | inr apart ↦ ap (λ (b : Bool). cond b now (lock_at locks k)) apart ∙ sym (ap (λ (b : Bool). cond b (paused ops (lock_at locks k)) (lock_at locks k)) apart)
 ]
 
-pub suspended_none : (locks : Slab Lock) (key : ℕ) → get locks key ≡ None → (k : ℕ) → lock_at locks k ≡ cond (eqb k key) (record (lock_at locks k) { granted = false }) (lock_at locks k)
-unfolding no_lock
-suspended_none locks key none k = elim (cases_Bool (eqb k key)) [
-  | inl here ↦ let is = ap (lock_at locks) (eqb-true k key here) ∙ read_none locks key none in is ∙ ap (λ (l : Lock). record l { granted = false }) (sym is) ∙ sym (ap (λ (b : Bool). cond b (record (lock_at locks k) { granted = false }) (lock_at locks k)) here)
-  | inr apart ↦ sym (ap (λ (b : Bool). cond b (record (lock_at locks k) { granted = false }) (lock_at locks k)) apart)
-]
+pub suspended_none : (locks : Slab Lock) (key : ℕ) (ops : OpSet) → get locks key ≡ None → (k : ℕ) → lock_at locks k ≡ cond (eqb k key) (paused ops (lock_at locks k)) (lock_at locks k)
+unfolding paused no_lock
+suspended_none locks key ops none k = elim (cases_Bool (eqb k key)) [
+  | inl here ↦ let is = ap (lock_at locks) (eqb-true k key here) ∙ read_none locks key none in is ∙ go (both_conflict no_lock.ops ops) ∙ ap (paused ops) (sym is) ∙ sym (ap (λ (b : Bool). cond b (paused ops (lock_at locks k)) (lock_at locks k)) here)
+  | inr apart ↦ sym (ap (λ (b : Bool). cond b (paused ops (lock_at locks k)) (lock_at locks k)) apart)
+] where
+  go : (b : Bool) → no_lock ≡ cond b (record no_lock { granted = false }) no_lock
+  go true = refl
+  go false = refl
 
 -- op is granted to the lock at a key
 pub granted_some : (locks : Slab Lock) (key : ℕ) (op : Op) (lock : Lock) → get locks key ≡ Some lock → (k : ℕ)
@@ -81,7 +93,7 @@ pub placed_as : (old new : Stored) (k : ℕ) → IsPlaced old k → ((x n : ℕ)
 placed_as old new k placed numbers lock part = record {
   number = placed.number;
   numbered = ap (λ (l : Lock). number_in new.objects l.object.0) lock ∙ numbers _ _ placed.numbered;
-  part = part ∙ placed.part ∙ ap (λ (l : Lock). Some (part_for placed.number l.ops.write)) (sym lock);
+  part = part ∙ placed.part ∙ ap (λ (l : Lock). Some (part_for placed.number (class_of l.ops))) (sym lock);
 }
 
 -- more room, or one more object with a number
@@ -152,7 +164,7 @@ stored_dropped old new key stored gone of_object of_owner objects = record {
 
 -- one more lock is in the slab, in its object's list and in its owner's chain
 pub stored_added : (old new : Stored) (key c number : ℕ) (lock : Lock) → IsStored old → get old.locks key ≡ None → Updates old.locks new.locks key (Some lock)
-    → IsChangedAt key (Some (part_for number lock.ops.write)) old.by_object new.by_object → IsPushed c key old.by_owner new.by_owner → new.objects ≡ old.objects → number_in old.objects lock.object.0 ≡ Some number
+    → IsChangedAt key (Some (part_for number (class_of lock.ops))) old.by_object new.by_object → IsPushed c key old.by_owner new.by_owner → new.objects ≡ old.objects → number_in old.objects lock.object.0 ≡ Some number
     → ((k : ℕ) → home_of old.by_owner k ≡ Some c → is_on lock.object.0 (lock_at old.locks k) ≡ false)
     → (lock.granted ≡ true → (k d : ℕ) → home_of old.by_owner k ≡ Some d → (d ≡ c → ⊥) → (lock_at old.locks k).object.0 ≡ lock.object.0 → both_conflict (lock_at old.locks k).ops lock.ops ≡ false) → is_some_op lock.ops ≡ true → IsStored new
 unfolding is_on
@@ -169,7 +181,7 @@ stored_added old new key c number lock stored vacant added of_object of_owner ob
     | inl here ↦ subst (IsPlaced new) (sym (eqb-true k key here)) (record {
       number = number;
       numbered = ap (λ (l : Lock). number_in new.objects l.object.0) at_key ∙ ap (λ (l : List Ob). number_in l lock.object.0) objects ∙ numbered;
-      part = of_object.here ∙ ap (λ (l : Lock). Some (part_for number l.ops.write)) (sym at_key);
+      part = of_object.here ∙ ap (λ (l : Lock). Some (part_for number (class_of l.ops))) (sym at_key);
     })
     | inr apart ↦
         let differ = eqb-false k key apart in
@@ -361,17 +373,17 @@ unnumbered objects y none = unlisted_at (λ (o : Ob). eqb y.0 o.0) objects (abse
 pub list_there : (store : Stored) → IsStored store → (x n : ℕ) → number_in store.objects x ≡ Some n → n < store.by_object.lists
 list_there store stored x n is = omega (arith, number_within store.objects x n is, stored.lists)
 
--- two parts are of one object, and both are of its writers or neither
-pub parts_one : (n m : ℕ) (w v : Bool) → part_for n w ≡ part_for m v → (n ≡ m) × (w ≡ v)
+-- two parts are of one object, and one part of its list
+pub parts_one : (n m : ℕ) (w v : Section) → part_for n w ≡ part_for m v → (n ≡ m) × (w ≡ v)
 unfolding part_for
-parts_one n m w v e = (ap (λ (p : Part). p.list) e, ap (λ (p : Part). p.front) e)
+parts_one n m w v e = (ap (λ (p : Part). p.list) e, ap (λ (p : Part). p.section) e)
 
 -- the number of the object, by the part of a lock on it
-pub list_of : (n : ℕ) (w : Bool) → (part_for n w).list ≡ n
+pub list_of : (n : ℕ) (w : Section) → (part_for n w).list ≡ n
 unfolding part_for
 list_of n w = refl
 
--- a lock that is moved to the front part is among those that write
-pub part_advanced : (table : Parted) (k n : ℕ) (w : Bool) → part_of table k ≡ Some (part_for n w) → advanced (part_of table k) ≡ Some (part_for n true)
+-- a lock that is moved to the front part
+pub part_advanced : (table : Parted) (k n : ℕ) (w : Section) → part_of table k ≡ Some (part_for n w) → advanced (part_of table k) ≡ Some (part_for n Front)
 unfolding advanced part_for
 part_advanced table k n w is = ap advanced is

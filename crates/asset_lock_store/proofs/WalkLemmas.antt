@@ -1,23 +1,26 @@
 -- Walks along the locks of a seat, and what is asked of each lock.
-use Rattle.std.proofs.Common.{zero, suc, ◌-◌, map, [], arith, ◌≡◌, ℕ, ◌<◌, ◌⊎◌, length, subst, Bool, true, false, eqb, cond, not, ◌&&◌, ◌||◌, List, ◌∷◌, Option, Some, None, refl, sym, ap, ◌∙◌, inl}
+use Rattle.std.proofs.Common.{zero, suc, ◌-◌, map, [], arith, ◌≡◌, ℕ, ◌<◌, ◌⊎◌, length, subst, Bool, true, false, eqb, cond, not, ◌&&◌, List, ◌∷◌, Option, Some, None, refl, sym, ap, ◌∙◌, inl, inr}
 use Rattle.std.specs.Prelude.{slice_get}
 use Rattle.std.proofs.lemmas.Bool.{eqb-true, eq-eqb, ne_eqb, true≢false, not-false}
 use Rattle.asset_chains.specs.Chained.{Chained, IsSound, chain_of, home_of, first_of, behind, lists}
 use Rattle.asset_chains.proofs.Laws.{chain_at_first}
 use Rattle.asset_chains.proofs.Walks.{from_key, from_first, from_next, next_home, walk_more, walk_ends, walk_less}
+use Rattle.asset_lists.specs.declared.part.Section.{Section}
+use Rattle.asset_lists.specs.declared.part.Section.TheVariants.{Front, Middle, Back}
 use Rattle.asset_lock_store.specs.declared.lock.Lock.{Lock}
 use Rattle.asset_names.specs.declared.names.Ob.{Ob}
 use Rattle.asset_names.specs.declared.names.Txn.{Txn}
 use Rattle.asset_names.specs.declared.operations.Op.{Op}
 use Rattle.asset_names.specs.declared.operations.Op.TheVariants as Op'
-use Rattle.asset_names.specs.OpSets.{has_op, only_op}
+use Rattle.asset_names.specs.OpSets.{OpSet, only_op}
 use Rattle.asset_seats.specs.Seated.{Seated}
-use Rattle.asset_lock_store.specs.LockRules.{one_conflicts}
-use Rattle.asset_lock_store.specs.Stored.{Stored, lock_at, locks_at, is_others, name_of, name_blocks, key_blocks}
+use Rattle.asset_lock_store.specs.LockRules.{one_conflicts, paused}
+use Rattle.asset_lock_store.specs.Stored.{Stored, lock_at, locks_at, is_others, name_of, name_blocks, key_blocks, meets}
+use Rattle.asset_lock_store.specs.Looked.{looks_at}
 
--- the lock, suspended if a walk has passed it and it is another's
-abbrev pub passed_lock : Bool → Lock → Lock
-passed_lock b lock = cond b (record lock { granted = false }) lock
+-- the lock, suspended if a walk has passed it, it is another's, and it conflicts
+abbrev pub passed_lock : OpSet → Bool → Lock → Lock
+passed_lock ops b lock = cond b (paused ops lock) lock
 
 -- ---- a walk along a chain of a table, which is read as another that is equal
 module _ (read shown : Chained) (same : read ≡ shown) (sound : IsSound read) (c : ℕ) where
@@ -121,10 +124,63 @@ two_true a b c p q = sym (λ i. not (p i) && q i && c)
 pub second_false : (a b c : Bool) → a ≡ false → b ≡ false → false ≡ (not a && b && c)
 second_false a b c p q = sym (λ i. not (p i) && q i && c)
 
--- a part that is looked at for a read has the locks that write
-pub only_writers : (w : Bool) (op : Op) → op ≡ Op'.Read → (w || has_op (only_op op) Op'.Write) ≡ true → w ≡ true
-unfolding only_op
-only_writers w op is looked = or_false w (sym (ap (λ (o : Op). w || has_op (only_op o) Op'.Write) is) ∙ looked) where
-  or_false : (w : Bool) → (w || false) ≡ true → w ≡ true
-  or_false true h = refl
-  or_false false h = h
+-- ---- the parts that are looked at
+pub looks_in_front : (op : Op) → looks_at op Front ≡ true
+unfolding looks_at meets
+looks_in_front op = refl
+
+-- for a read the front part and the middle part
+pub looks_for_read : (op : Op) → op ≡ Op'.Read → looks_at op Middle ≡ true
+unfolding looks_at meets only_op
+looks_for_read op is = ap (λ (o : Op). looks_at o Middle) is
+
+pub covers_read : (op : Op) → op ≡ Op'.Read → (w : Section) → looks_at op w ≡ true → (w ≡ Front) ⊎ (w ≡ Middle)
+unfolding looks_at meets only_op
+covers_read op is w looks = go w (sym (ap (λ (o : Op). looks_at o w) is) ∙ looks) where
+  go : (w : Section) → looks_at Op'.Read w ≡ true → (w ≡ Front) ⊎ (w ≡ Middle)
+  go Front h = inl refl
+  go Middle h = inr refl
+  go Back h = absurd (true≢false (sym h))
+
+pub misses_read : (op : Op) → op ≡ Op'.Read → (w : Section) → looks_at op w ≡ false → w ≡ Back
+unfolding looks_at meets only_op
+misses_read op is w misses = go w (sym (ap (λ (o : Op). looks_at o w) is) ∙ misses) where
+  go : (w : Section) → looks_at Op'.Read w ≡ false → w ≡ Back
+  go Front h = absurd (true≢false h)
+  go Middle h = absurd (true≢false h)
+  go Back h = refl
+
+-- for an add the front part and the back part
+pub looks_for_add : (op : Op) → op ≡ Op'.Add → looks_at op Back ≡ true
+unfolding looks_at meets only_op
+looks_for_add op is = ap (λ (o : Op). looks_at o Back) is
+
+pub covers_add : (op : Op) → op ≡ Op'.Add → (w : Section) → looks_at op w ≡ true → (w ≡ Front) ⊎ (w ≡ Back)
+unfolding looks_at meets only_op
+covers_add op is w looks = go w (sym (ap (λ (o : Op). looks_at o w) is) ∙ looks) where
+  go : (w : Section) → looks_at Op'.Add w ≡ true → (w ≡ Front) ⊎ (w ≡ Back)
+  go Front h = inl refl
+  go Middle h = absurd (true≢false (sym h))
+  go Back h = inr refl
+
+pub misses_add : (op : Op) → op ≡ Op'.Add → (w : Section) → looks_at op w ≡ false → w ≡ Middle
+unfolding looks_at meets only_op
+misses_add op is w misses = go w (sym (ap (λ (o : Op). looks_at o w) is) ∙ misses) where
+  go : (w : Section) → looks_at Op'.Add w ≡ false → w ≡ Middle
+  go Front h = absurd (true≢false h)
+  go Middle h = refl
+  go Back h = absurd (true≢false h)
+
+-- for a write all
+pub looks_for_write : (op : Op) → op ≡ Op'.Write → (w : Section) → looks_at op w ≡ true
+unfolding looks_at meets only_op
+looks_for_write op is w = ap (λ (o : Op). looks_at o w) is ∙ go w where
+  go : (w : Section) → looks_at Op'.Write w ≡ true
+  go Front = refl
+  go Middle = refl
+  go Back = refl
+
+pub covers_all : (w : Section) → ((w ≡ Front) ⊎ (w ≡ Middle)) ⊎ (w ≡ Back)
+covers_all Front = inl (inl refl)
+covers_all Middle = inl (inr refl)
+covers_all Back = inr refl

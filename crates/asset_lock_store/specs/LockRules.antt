@@ -23,15 +23,19 @@ carries_on x op lock = is_on x lock && has_op lock.ops op
 
 -- whether any of the operations conflicts with op
 unfoldable pub one_conflicts : OpSet → Op → Bool
-one_conflicts ops op = has_op ops Op'.Read && conflict Op'.Read op || has_op ops Op'.Write && conflict Op'.Write op
+one_conflicts ops op = (has_op ops Op'.Read && conflict Op'.Read op || has_op ops Op'.Write && conflict Op'.Write op) || has_op ops Op'.Add && conflict Op'.Add op
 
 -- whether any of the operations conflicts with any of the others
 unfoldable pub both_conflict : OpSet → OpSet → Bool
-both_conflict ops others = has_op others Op'.Read && one_conflicts ops Op'.Read || has_op others Op'.Write && one_conflicts ops Op'.Write
+both_conflict ops others = (has_op others Op'.Read && one_conflicts ops Op'.Read || has_op others Op'.Write && one_conflicts ops Op'.Write) || has_op others Op'.Add && one_conflicts ops Op'.Add
 
 -- whether there is an operation among these
 unfoldable pub is_some_op : OpSet → Bool
-is_some_op ops = ops.read || ops.write
+is_some_op ops = (ops.read || ops.write) || ops.add
+
+-- whether the operations conflict with each operation: they write, or read and add
+unfoldable pub excludes : OpSet → Bool
+excludes ops = ops.write || ops.read && ops.add
 
 -- whether the lock is on x and carries an operation in conflict with op
 unfoldable pub conflicts_on : ℕ → Op → Lock → Bool
@@ -68,6 +72,10 @@ granted_own x op locks = cond (list_any (is_on x.0) locks) (map (taken x.0 op) l
 unfoldable pub suspended : ℕ → OpSet → Lock → Lock
 suspended x ops lock = cond (is_on x lock && both_conflict lock.ops ops) (record lock { granted = false }) lock
 
+-- another's lock on an object after one with these operations is granted on it: if they conflict, it is suspended
+unfoldable pub paused : OpSet → Lock → Lock
+paused ops lock = cond (both_conflict lock.ops ops) (record lock { granted = false }) lock
+
 -- ---- what a hand-over changes
 -- whether the lock is on an object of the set
 unfoldable pub moved : ObSet → Lock → Bool
@@ -75,11 +83,11 @@ moved set lock = in_set set lock.object.0
 
 -- the operations of both
 unfoldable pub both_ops : OpSet → OpSet → OpSet
-both_ops ops others = op_set (ops.read || others.read) (ops.write || others.write)
+both_ops ops others = op_set (ops.read || others.read) (ops.write || others.write) (ops.add || others.add)
 
 -- the operations that these locks carry on x
 unfoldable pub ops_on : ℕ → List Lock → OpSet
-ops_on x locks = op_set (list_any (carries_on x Op'.Read) locks) (list_any (carries_on x Op'.Write) locks)
+ops_on x locks = op_set (list_any (carries_on x Op'.Read) locks) (list_any (carries_on x Op'.Write) locks) (list_any (carries_on x Op'.Add) locks)
 
 -- a lock of the taker's after the giver's locks came: if one of them is on its object, it carries the operations of
 -- both, and is suspended

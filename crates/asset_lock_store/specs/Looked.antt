@@ -3,14 +3,14 @@ use Rattle.std.specs.Prelude.{◌≡◌, ℕ, Bool, true, false, not, ◌==◌, 
 use Rattle.std.specs.Option.{option_or}
 use Rattle.asset_names.specs.declared.names.Txn.{Txn}
 use Rattle.asset_names.specs.declared.operations.Op.{Op}
-use Rattle.asset_names.specs.declared.operations.Op.TheVariants as Op'
-use Rattle.asset_names.specs.OpSets.{has_op, only_op}
+use Rattle.asset_names.specs.OpSets.{only_op}
 use Rattle.asset_chains.specs.Chained.{home_of}
+use Rattle.asset_lists.specs.declared.part.Section.{Section}
 use Rattle.asset_seats.specs.Seated.{Seated}
 use Rattle.asset_lock_store.specs.declared.lock.Lock.{Lock}
 use Rattle.asset_lock_store.specs.declared.looking.Look.{Look}
 use Rattle.asset_lock_store.specs.LockRules.{is_on, one_conflicts, conflicts_on}
-use Rattle.asset_lock_store.specs.Stored.{Stored, lock_at, name_of, key_blocks}
+use Rattle.asset_lock_store.specs.Stored.{Stored, lock_at, name_of, key_blocks, class_of, meets}
 
 -- what both looks find; the own lock is that of the first, if it met one
 unfoldable pub look_with : Look → Look → Look
@@ -46,9 +46,13 @@ pub record IsLook (store : Stored) (seats : Seated) (allows : ℕ → Bool) (t :
   pub blocked : look.blocked ≡ true → (k : ℕ) × looked k × (key_blocks store seats allows t op k ≡ true)
   pub seen : look.blocked ≡ false → (k : ℕ) → looked k → IsSeen store seats allows t op look k
 
--- whether a look for op is at a lock: for a read it is at those that write
+-- whether a look for op is at the locks of a part: at those that may conflict with it
+unfoldable pub looks_at : Op → Section → Bool
+looks_at op section = meets section (only_op op)
+
+-- whether a look for op is at a lock
 unfoldable pub is_looked_at : Op → Lock → Bool
-is_looked_at op lock = lock.ops.write || has_op (only_op op) Op'.Write
+is_looked_at op lock = looks_at op (class_of lock.ops)
 
 -- somebody's lock on x, at which a look for op is
 pub record IsLookedAt (store : Stored) (x : ℕ) (op : Op) (k : ℕ) : Type 0 where

@@ -1,8 +1,10 @@
 -- How locks are stored: in a slab, beside lists of its keys by object, and chains of them by the seat of the owner.
-use Rattle.std.specs.Prelude.{◌≡◌, ℕ, ◌<◌, ◌≤◌, Bool, true, false, cond, not, ◌==◌, ◌&&◌, ◌⊎◌, List, [], ◌∷◌, ◌++◌, length, map, position, Option, Some, None, is_some, unwrap_or}
+use Rattle.std.specs.Prelude.{◌≡◌, ℕ, ◌<◌, ◌≤◌, Bool, true, false, cond, not, ◌==◌, ◌&&◌, ◌||◌, ◌⊎◌, List, [], ◌∷◌, ◌++◌, length, map, position, Option, Some, None, is_some, unwrap_or}
 use Rattle.slab.specs.Slab.{Slab, get, HasRoomFor}
 use Rattle.asset_chains.specs.Chained.{Chained, chain_of, home_of, without}
 use Rattle.asset_lists.specs.declared.part.Part.{Part}
+use Rattle.asset_lists.specs.declared.part.Section.{Section}
+use Rattle.asset_lists.specs.declared.part.Section.TheVariants.{Front, Middle, Back}
 use Rattle.asset_lists.specs.Parted.{Parted, part_of}
 use Rattle.asset_names.specs.declared.names.Txn.{Txn}
 use Rattle.asset_names.specs.declared.names.Ob.{Ob}
@@ -10,21 +12,21 @@ use Rattle.asset_names.specs.declared.operations.Op.{Op}
 use Rattle.asset_seats.specs.Seated.{Seated, seat}
 use Rattle.asset_lock_store.specs.declared.lock.Lock.{Lock}
 use Rattle.asset_names.specs.OpSets.{OpSet}
-use Rattle.asset_lock_store.specs.LockRules.{suspended, with_moved, is_some_op, both_conflict, one_conflicts}
+use Rattle.asset_lock_store.specs.LockRules.{suspended, with_moved, is_some_op, both_conflict, one_conflicts, excludes}
 
 pub record Stored : Type 0 where
   -- the locks, by key
   pub locks : Slab Lock
   -- the objects that ever had a lock
   pub objects : List Ob
-  -- of each object the keys of its locks, those that write in the front part of its list
+  -- of each object the keys of its locks, by the part that `class_of` says
   pub by_object : Parted
   -- of each seat the keys of its locks, in order of first grant
   pub by_owner : Chained
 
 -- a lock, if there is none at a key
 unfoldable pub no_lock : Lock
-no_lock = record { object = record { 0 = 0 }; ops = record { read = true; write = false }; granted = false }
+no_lock = record { object = record { 0 = 0 }; ops = record { read = true; write = false; add = false }; granted = false }
 
 -- the lock at a key
 unfoldable pub lock_at : Slab Lock → ℕ → Lock
@@ -38,26 +40,38 @@ locks_at store c = map (lock_at store.locks) (chain_of store.by_owner c)
 unfoldable pub number_in : List Ob → ℕ → Option ℕ
 number_in objects x = position (λ (y : Ob). x == y.0) objects
 
--- the part of the locks on an object that write, or of those that only read
-unfoldable pub part_for : ℕ → Bool → Part
-part_for number writes = record { list = number; front = writes }
+-- the part of its object's list that a lock with these operations is in: those that only read are in the back part, those
+-- that only add in the middle part, and in the front part those that conflict with each other lock
+unfoldable pub class_of : OpSet → Section
+class_of ops = cond (excludes ops) Front (cond ops.add Middle Back)
 
--- whether two flags are the same
-abbrev pub same_flag : Bool → Bool → Bool
-same_flag true b = b
-same_flag false true = false
-same_flag false false = true
+-- whether a lock of this part may conflict with these operations
+unfoldable pub meets : Section → OpSet → Bool
+meets Front ops = true
+meets Middle ops = ops.read || ops.write
+meets Back ops = ops.write || ops.add
+
+-- a part of the locks on an object
+unfoldable pub part_for : ℕ → Section → Part
+part_for number section = record { list = number; section = section }
+
+-- whether two parts of a list are the same
+abbrev pub same_section : Section → Section → Bool
+same_section Front Front = true
+same_section Middle Middle = true
+same_section Back Back = true
+same_section section other = false
 
 -- whether a key whose part is given is in this one
 abbrev pub is_in : Part → Option Part → Bool
 is_in part None = false
-is_in part (Some other) = other.list == part.list && same_flag part.front other.front
+is_in part (Some other) = other.list == part.list && same_section part.section other.section
 
 -- a key is in the list of the object that its lock is on
 pub record IsPlaced (store : Stored) (k : ℕ) : Type 0 where
   pub number : ℕ
   pub numbered : number_in store.objects (lock_at store.locks k).object.0 ≡ Some number
-  pub part : part_of store.by_object k ≡ Some (part_for number (lock_at store.locks k).ops.write)
+  pub part : part_of store.by_object k ≡ Some (part_for number (class_of (lock_at store.locks k).ops))
 
 -- each lock is in the list of its object and in the chain of an owner, and nothing else is in a list or a chain
 pub record IsStored (store : Stored) : Type 0 where

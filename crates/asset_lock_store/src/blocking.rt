@@ -2,7 +2,7 @@
 
 use crate::allows::Allows;
 use crate::lock::Request;
-use crate::store::{LockStore, readers_of, writers_of};
+use crate::store::{LockStore, adders_of, excluders_of, readers_of};
 use asset_lists::Part;
 use asset_names::{NoMemory, Op, Txn};
 use asset_seats::Seats;
@@ -13,16 +13,16 @@ use std::collections::BTreeSet;
 pub type NameSet = BTreeSet<u64>;
 
 impl LockStore {
-    ghost use Rattle.std.specs.Prelude.{◌≡◌, ℕ, ◌||◌, Bool, true, false, Some, OnOk, IfOk, IfSome, IfNone};
+    ghost use Rattle.std.specs.Prelude.{◌≡◌, ℕ, true, false, Some, OnOk, IfOk, IfSome, IfNone};
     ghost use Rattle.asset_names.specs.Arrows.{lists};
-    ghost use Rattle.asset_names.specs.OpSets.{has_op, only_op};
-    ghost use Rattle.asset_names.specs.declared.operations.Op.TheVariants as Op';
     ghost use Rattle.asset_names.specs.declared.names.Txn.{Txn as Name};
     ghost use Rattle.asset_chains.specs.Chained.{home_of};
+    ghost use Rattle.asset_lists.specs.declared.part.Section.{Section};
     ghost use Rattle.asset_lists.specs.Parted.{part_of};
     ghost use Rattle.asset_seats.specs.Seated.{seat};
     ghost use Rattle.asset_lock_store.specs.LockRules.{blocks};
     ghost use Rattle.asset_lock_store.specs.Stored.{name_of, key_blocks, locks_at, number_in, part_for};
+    ghost use Rattle.asset_lock_store.specs.Looked.{looks_at};
     ghost use Rattle.asset_lock_store.specs.Gathered.{blocks_as, IsGathered};
 
     /// Returns who has the lock at the key, if the lock blocks the request. It is on the object that is asked for. Permits are
@@ -102,13 +102,17 @@ impl LockStore {
         found: &mut NameSet,
     ) -> Result<(), NoMemory>
         requires { A.can_ask permits.old seats.now request.asker }
-        ensures gathered { OnOk result (IsGathered (blocks_as self.now seats.now (λ n. A.allows permits.old n request.asker.t.0 request.x.0 request.op) request.asker.t.0 request.op) (λ (k : ℕ). (w : Bool) × (part_of self.now.by_object k ≡ Some (part_for number w)) × ((w || has_op (only_op request.op) Op'.Write) ≡ true)) found.old.keys found.new.keys) }
+        ensures gathered { OnOk result (IsGathered (blocks_as self.now seats.now (λ n. A.allows permits.old n request.asker.t.0 request.x.0 request.op) request.asker.t.0 request.op) (λ (k : ℕ). (w : Section) × (part_of self.now.by_object k ≡ Some (part_for number w)) × (looks_at request.op w ≡ true)) found.old.keys found.new.keys) }
         ensures permits { permits.new ≡ permits.old }
     {
-        self.gather_in(writers_of(number), request, seats, permits, found)?;
+        self.gather_in(excluders_of(number), request, seats, permits, found)?;
         match request.op {
-            Op::Read => Ok(()),
-            Op::Write => self.gather_in(readers_of(number), request, seats, permits, found),
+            Op::Read => self.gather_in(adders_of(number), request, seats, permits, found),
+            Op::Write => {
+                self.gather_in(adders_of(number), request, seats, permits, found)?;
+                self.gather_in(readers_of(number), request, seats, permits, found)
+            }
+            Op::Add => self.gather_in(readers_of(number), request, seats, permits, found),
         }
     }
 

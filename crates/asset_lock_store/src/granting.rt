@@ -5,7 +5,7 @@ ghost use Rattle.slab.specs.Slab.{get};
 ghost use Rattle.asset_names.specs.OpSets.{with_op};
 ghost use Rattle.asset_lock_store.specs.Stored.{lock_at};
 
-use crate::lock::Lock;
+use crate::lock::{Lock, excludes};
 use crate::looking::Look;
 use crate::store::{LockStore, part_of};
 use asset_names::{NoMemory, Ob, Op, Ops};
@@ -121,10 +121,10 @@ impl LockStore {
         ensures by_owner { self.new.by_owner ≡ self.old.by_owner }
     {
         self.laws();
+        let ops = self.lock(key).ops.with(op);
         grant_to(&mut self.locks, key, op);
-        match op {
-            Op::Read => {}
-            Op::Write => self.by_object.advance(key),
+        if excludes(ops) {
+            self.by_object.advance(key);
         }
     }
 

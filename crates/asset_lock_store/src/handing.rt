@@ -2,29 +2,30 @@
 
 ghost use Rattle.std.specs.Prelude.{◌≡◌, ◌==◌, ℕ, cond, true, false, is_some};
 ghost use Rattle.slab.specs.Slab.{get};
+ghost use Rattle.asset_names.specs.OpSets.{has_op, with_op};
 ghost use Rattle.asset_lock_store.specs.LockRules.{both_ops};
 ghost use Rattle.asset_lock_store.specs.Stored.{lock_at};
 
-use crate::lock::Lock;
+use crate::lock::{Lock, excludes};
 use crate::store::LockStore;
 use asset_names::{Ob, ObSet, Op, Ops};
 use slab::Slab;
+
+/// Returns the operations with `op`, if the others have it.
+fn with_if(ops: Ops, others: Ops, op: Op) -> Ops
+    ensures { result ≡ cond (has_op others op) (with_op op ops) ops }
+{
+    if others.has(op) { ops.with(op) } else { ops }
+}
 
 /// Returns the operations of both.
 #[tactic(auto, unfolding(crate::specs::LockRules::both_ops, asset_names::specs::OpSets::with_op))]
 fn both(ops: Ops, others: Ops) -> Ops
     ensures { result ≡ both_ops ops others }
 {
-    let reads = if others.has(Op::Read) {
-        ops.with(Op::Read)
-    } else {
-        ops
-    };
-    if others.has(Op::Write) {
-        reads.with(Op::Write)
-    } else {
-        reads
-    }
+    let reads = with_if(ops, others, Op::Read);
+    let writes = with_if(reads, others, Op::Write);
+    with_if(writes, others, Op::Add)
 }
 
 /// Adds the operations to the lock at the key, and suspends it.
@@ -139,8 +140,9 @@ impl LockStore {
         ensures by_owner { self.new.by_owner ≡ self.old.by_owner }
     {
         self.laws();
+        let all = both(self.lock(key).ops, ops);
         add_ops(&mut self.locks, key, ops);
-        if ops.has(Op::Write) {
+        if excludes(all) {
             self.by_object.advance(key);
         }
     }

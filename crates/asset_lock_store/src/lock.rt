@@ -1,7 +1,7 @@
 //! One lock, and a request for one.
 
 ghost use Rattle.std.specs.Prelude.{◌≡◌};
-ghost use Rattle.asset_lock_store.specs.LockRules.{one_conflicts};
+ghost use Rattle.asset_lock_store.specs.LockRules.{both_conflict, excludes, one_conflicts};
 
 use crate::state::LockState;
 use asset_names::{Ob, Op, Ops};
@@ -36,6 +36,25 @@ pub(crate) fn one_conflicts(ops: Ops, op: Op) -> bool
 {
     (ops.has(Op::Read) && Op::Read.conflicts_with(op))
         || (ops.has(Op::Write) && Op::Write.conflicts_with(op))
+        || (ops.has(Op::Add) && Op::Add.conflicts_with(op))
+}
+
+/// Returns whether any of the operations conflicts with any of the others.
+#[tactic(auto, unfolding(crate::specs::LockRules::both_conflict))]
+pub(crate) fn both_conflict(ops: Ops, others: Ops) -> bool
+    ensures { result ≡ both_conflict ops others }
+{
+    (others.has(Op::Read) && one_conflicts(ops, Op::Read))
+        || (others.has(Op::Write) && one_conflicts(ops, Op::Write))
+        || (others.has(Op::Add) && one_conflicts(ops, Op::Add))
+}
+
+/// Returns whether the operations conflict with each operation: they write, or read and add.
+#[tactic(auto, unfolding(crate::specs::LockRules::excludes))]
+pub(crate) fn excludes(ops: Ops) -> bool
+    ensures { result ≡ excludes ops }
+{
+    ops.has(Op::Write) || (ops.has(Op::Read) && ops.has(Op::Add))
 }
 
 impl Lock {

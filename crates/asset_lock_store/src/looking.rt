@@ -5,7 +5,7 @@ ghost use Rattle.asset_lock_store.specs.Looked.{look_with};
 
 use crate::allows::Allows;
 use crate::lock::{Request, one_conflicts};
-use crate::store::{LockStore, readers_of, writers_of};
+use crate::store::{LockStore, adders_of, excluders_of, readers_of};
 use asset_lists::Part;
 use asset_names::Op;
 use asset_seats::{Seats, Sitter};
@@ -43,16 +43,15 @@ impl Look {
 }
 
 impl LockStore {
-    ghost use Rattle.std.specs.Prelude.{◌≡◌, ℕ, ◌||◌, Bool, true, false, Some, IfSome, IfNone, None};
-    ghost use Rattle.asset_names.specs.OpSets.{has_op, only_op};
-    ghost use Rattle.asset_names.specs.declared.operations.Op.TheVariants as Op';
+    ghost use Rattle.std.specs.Prelude.{◌≡◌, ℕ, true, false, Some, IfSome, IfNone, None};
     ghost use Rattle.asset_names.specs.declared.names.Txn.{Txn};
     ghost use Rattle.asset_chains.specs.Chained.{home_of};
+    ghost use Rattle.asset_lists.specs.declared.part.Section.{Section};
     ghost use Rattle.asset_lists.specs.Parted.{part_of};
     ghost use Rattle.asset_seats.specs.Seated.{seat, HasSeat};
     ghost use Rattle.asset_lock_store.specs.LockRules.{blocks};
     ghost use Rattle.asset_lock_store.specs.Stored.{name_of, locks_at, number_in, part_for};
-    ghost use Rattle.asset_lock_store.specs.Looked.{IsLook, IsLookedAt};
+    ghost use Rattle.asset_lock_store.specs.Looked.{looks_at, IsLook, IsLookedAt};
 
     /// Returns who has the lock at the key, if anybody has it.
     #[tactic(auto, unfolding(crate::specs::Stored::name_of))]
@@ -125,8 +124,8 @@ impl LockStore {
         look
     }
 
-    /// Looks at the locks on the object of this number, which is the one that is asked for: for a read at those that
-    /// write, and for a write at all.
+    /// Looks at the locks on the object of this number, which is the one that is asked for: for a read at those that do
+    /// not only read, for an add at those that do not only add, and for a write at all.
     fn look_on<A: Allows>(
         &self,
         number: usize,
@@ -135,16 +134,23 @@ impl LockStore {
         permits: &mut A,
     ) -> Look
         requires { A.can_ask permits.old seats.now request.asker }
-        ensures look { IsLook self.now seats.now (λ u. A.allows permits.old u request.asker.t.0 request.x.0 request.op) request.asker.t.0 request.op (λ (k : ℕ). (w : Bool) × (part_of self.now.by_object k ≡ Some (part_for number w)) × ((w || has_op (only_op request.op) Op'.Write) ≡ true)) result }
+        ensures look { IsLook self.now seats.now (λ u. A.allows permits.old u request.asker.t.0 request.x.0 request.op) request.asker.t.0 request.op (λ (k : ℕ). (w : Section) × (part_of self.now.by_object k ≡ Some (part_for number w)) × (looks_at request.op w ≡ true)) result }
         ensures permits { permits.new ≡ permits.old }
     {
-        let writers = self.look_in(writers_of(number), request, seats, permits);
-        if writers.blocked {
-            return writers;
+        let excluders = self.look_in(excluders_of(number), request, seats, permits);
+        if excluders.blocked {
+            return excluders;
         }
         match request.op {
-            Op::Read => writers,
-            Op::Write => writers.with(self.look_in(readers_of(number), request, seats, permits)),
+            Op::Read => excluders.with(self.look_in(adders_of(number), request, seats, permits)),
+            Op::Write => {
+                let more = excluders.with(self.look_in(adders_of(number), request, seats, permits));
+                if more.blocked {
+                    return more;
+                }
+                more.with(self.look_in(readers_of(number), request, seats, permits))
+            }
+            Op::Add => excluders.with(self.look_in(readers_of(number), request, seats, permits)),
         }
     }
 

@@ -5,9 +5,9 @@ ghost use Rattle.asset_chains.specs.Chained.{home_of};
 ghost use Rattle.asset_lock_store.specs.Stored.{is_others};
 
 use crate::looking::Look;
-use crate::store::{LockStore, readers_of, writers_of};
+use crate::store::{LockStore, adders_of, excluders_of, readers_of};
 use asset_chains::Chains;
-use asset_lists::Part;
+use asset_lists::{Part, Section};
 use asset_names::{NoMemory, Ob, ObSet, Op};
 use smallvec::SmallVec;
 use std::alloc::Global;
@@ -27,14 +27,15 @@ pub(crate) fn is_others(by_owner: &Chains, key: usize, c: usize) -> bool
 }
 
 impl LockStore {
-    ghost use Rattle.std.specs.Prelude.{◌≡◌, ℕ, Bool, true, false, Some, map, filter, slice_get, ◌++◌, IfOk, OnOk, IfSome, IfNone};
+    ghost use Rattle.std.specs.Prelude.{◌≡◌, ℕ, true, false, Some, map, filter, slice_get, ◌++◌, IfOk, OnOk, IfSome, IfNone};
     ghost use Rattle.asset_names.specs.declared.sets.ObSet.{ObSet as ObjectSet};
     ghost use Rattle.asset_names.specs.InSet.{in_set, only_in};
     ghost use Rattle.asset_chains.specs.Chained.{home_of};
+    ghost use Rattle.asset_lists.specs.declared.part.Section.{Section as Third};
     ghost use Rattle.asset_lists.specs.Parted.{part_of};
     ghost use Rattle.asset_lock_store.specs.declared.lock.Lock.{Lock as Held};
     ghost use Rattle.asset_lock_store.specs.LockRules.{is_on};
-    ghost use Rattle.asset_lock_store.specs.Stored.{lock_at, locks_at, number_in, part_for, is_others};
+    ghost use Rattle.asset_lock_store.specs.Stored.{class_of, lock_at, locks_at, number_in, part_for, is_others};
     ghost use Rattle.asset_lock_store.specs.Looked.{IsNoted};
 
     /// Returns the key of a lock of the part that is the seat's, if there is one.
@@ -69,12 +70,15 @@ impl LockStore {
 
     /// Returns the key of the lock of the seat on the object of this number, if it has one, by the locks on the object.
     fn find_on(&self, number: usize, c: usize) -> Option<usize>
-        ensures found { IfSome result (λ k. ((w : Bool) × part_of self.now.by_object k ≡ Some (part_for number w)) × home_of self.now.by_owner k ≡ Some c) }
-        ensures none { IfNone result ((k : ℕ) (w : Bool) → part_of self.now.by_object k ≡ Some (part_for number w) → is_others c (home_of self.now.by_owner k) ≡ true) }
+        ensures found { IfSome result (λ k. ((w : Third) × part_of self.now.by_object k ≡ Some (part_for number w)) × home_of self.now.by_owner k ≡ Some c) }
+        ensures none { IfNone result ((k : ℕ) (w : Third) → part_of self.now.by_object k ≡ Some (part_for number w) → is_others c (home_of self.now.by_owner k) ≡ true) }
     {
-        match self.find_in(writers_of(number), c) {
+        match self.find_in(excluders_of(number), c) {
             Some(key) => Some(key),
-            None => self.find_in(readers_of(number), c),
+            None => match self.find_in(adders_of(number), c) {
+                Some(key) => Some(key),
+                None => self.find_in(readers_of(number), c),
+            },
         }
     }
 
@@ -89,8 +93,9 @@ impl LockStore {
         match number {
             Some(number) => {
                 let readers = self.by_object.keys(readers_of(number)).len();
-                let writers = self.by_object.keys(writers_of(number)).len();
-                let on_object = readers.saturating_add(writers);
+                let adders = self.by_object.keys(adders_of(number)).len();
+                let excluders = self.by_object.keys(excluders_of(number)).len();
+                let on_object = readers.saturating_add(adders).saturating_add(excluders);
                 if self.by_owner.len(c) <= on_object {
                     self.find_by_owner(c, x)
                 } else {
@@ -101,22 +106,22 @@ impl LockStore {
         }
     }
 
-    /// Returns the key of the lock of the seat on `x`, whose number is given, if it has one. That lock does not write. It
-    /// looks at the locks of the seat or at those on the object that only read, whichever are fewer.
-    fn reader_on(&self, number: Option<usize>, c: usize, x: Ob) -> Option<usize>
+    /// Returns the key of the lock of the seat on `x`, whose number is given, if it has one. That lock is in this part of the
+    /// list of `x`. It looks at the locks of the seat or at those of the part, whichever are fewer.
+    fn key_among(&self, section: Section, number: Option<usize>, c: usize, x: Ob) -> Option<usize>
         requires number { number ≡ number_in self.now.objects x.0 }
-        requires reads { (k : ℕ) → home_of self.now.by_owner k ≡ Some c → is_on x.0 (lock_at self.now.locks k) ≡ true → (lock_at self.now.locks k).ops.write ≡ false }
+        requires class { (k : ℕ) → home_of self.now.by_owner k ≡ Some c → is_on x.0 (lock_at self.now.locks k) ≡ true → class_of (lock_at self.now.locks k).ops ≡ section }
         ensures found { IfSome result (λ k. home_of self.now.by_owner k ≡ Some c × is_on x.0 (lock_at self.now.locks k) ≡ true) }
         ensures none { IfNone result ((k : ℕ) → home_of self.now.by_owner k ≡ Some c → is_on x.0 (lock_at self.now.locks k) ≡ false) }
     {
         self.laws();
         match number {
-            Some(number) => {
-                let readers = readers_of(number);
-                if self.by_owner.len(c) <= self.by_object.keys(readers).len() {
+            Some(list) => {
+                let part = Part { list, section };
+                if self.by_owner.len(c) <= self.by_object.keys(part).len() {
                     self.find_by_owner(c, x)
                 } else {
-                    self.find_in(readers, c)
+                    self.find_in(part, c)
                 }
             }
             None => None,
@@ -124,7 +129,8 @@ impl LockStore {
     }
 
     /// Returns the key of the lock of the seat on `x`, whose number is given, if it has one, after a look for `op`. If the
-    /// look met none, there is none after a look for a write, and at most one that does not write after one for a read.
+    /// look met none, there is none after a look for a write, and at most one that only reads after one for a read, or
+    /// that only adds after one for an add.
     pub(crate) fn own_key(
         &self,
         look: Look,
@@ -141,8 +147,9 @@ impl LockStore {
         match look.own {
             Some(key) => Some(key),
             None => match op {
-                Op::Read => self.reader_on(number, c, x),
+                Op::Read => self.key_among(Section::Back, number, c, x),
                 Op::Write => None,
+                Op::Add => self.key_among(Section::Middle, number, c, x),
             },
         }
     }

@@ -1,11 +1,12 @@
 //! The locks, each in the list of its object and in the chain of its owner's seat.
 
-ghost use Rattle.std.specs.Prelude.{◌≡◌, true, false};
-ghost use Rattle.asset_lock_store.specs.Stored.{part_for};
+ghost use Rattle.std.specs.Prelude.{◌≡◌};
+ghost use Rattle.asset_lists.specs.declared.part.Section.TheVariants.{Front, Middle, Back};
+ghost use Rattle.asset_lock_store.specs.Stored.{class_of, meets, part_for};
 
-use crate::lock::Lock;
+use crate::lock::{Lock, excludes};
 use asset_chains::Chains;
-use asset_lists::{KeyLists, Part};
+use asset_lists::{KeyLists, Part, Section};
 use asset_names::{NoMemory, Ob, Op, Ops};
 use asset_seats::add_chains;
 use indexmap::IndexSet;
@@ -33,36 +34,62 @@ impl Model for LockStore {
     ghost invariant = { λ s. IsStored (record { locks = s.locks; objects = s.objects.keys; by_object = s.by_object; by_owner = s.by_owner }) };
 }
 
-/// Returns the part of the locks that only read, in the list of the object of this number.
+/// Returns the part of the locks that conflict with each other lock, in the list of the object of this number.
 #[tactic(auto, unfolding(crate::specs::Stored::part_for))]
-pub(crate) fn readers_of(number: usize) -> Part
-    ensures { result ≡ part_for number false }
+pub(crate) fn excluders_of(number: usize) -> Part
+    ensures { result ≡ part_for number Front }
 {
     Part {
         list: number,
-        front: false,
+        section: Section::Front,
     }
 }
 
-/// Returns the part of the locks that write, in the list of the object of this number.
+/// Returns the part of the locks that only add, in the list of the object of this number.
 #[tactic(auto, unfolding(crate::specs::Stored::part_for))]
-pub(crate) fn writers_of(number: usize) -> Part
-    ensures { result ≡ part_for number true }
+pub(crate) fn adders_of(number: usize) -> Part
+    ensures { result ≡ part_for number Middle }
 {
     Part {
         list: number,
-        front: true,
+        section: Section::Middle,
+    }
+}
+
+/// Returns the part of the locks that only read, in the list of the object of this number.
+#[tactic(auto, unfolding(crate::specs::Stored::part_for))]
+pub(crate) fn readers_of(number: usize) -> Part
+    ensures { result ≡ part_for number Back }
+{
+    Part {
+        list: number,
+        section: Section::Back,
     }
 }
 
 /// Returns the part of the locks with these operations, in the list of the object of this number.
+#[tactic(auto, unfolding(crate::specs::Stored::class_of))]
 pub(crate) fn part_of(number: usize, ops: Ops) -> Part
-    ensures { result ≡ part_for number ops.write }
+    ensures { result ≡ part_for number (class_of ops) }
 {
-    if ops.has(Op::Write) {
-        writers_of(number)
+    if excludes(ops) {
+        excluders_of(number)
+    } else if ops.has(Op::Add) {
+        adders_of(number)
     } else {
         readers_of(number)
+    }
+}
+
+/// Returns whether a lock of this part of a list may conflict with these operations.
+#[tactic(auto, unfolding(crate::specs::Stored::meets))]
+pub(crate) fn meets(section: Section, ops: Ops) -> bool
+    ensures { result ≡ meets section ops }
+{
+    match section {
+        Section::Front => true,
+        Section::Middle => ops.has(Op::Read) || ops.has(Op::Write),
+        Section::Back => ops.has(Op::Write) || ops.has(Op::Add),
     }
 }
 

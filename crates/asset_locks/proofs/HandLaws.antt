@@ -25,11 +25,13 @@ has_both : (ops others : OpSet) (op : Op) → has_op (both_ops ops others) op �
 unfolding both_ops
 has_both ops others Op'.Read = refl
 has_both ops others Op'.Write = refl
+has_both ops others Op'.Add = refl
 
 has_on : (x : ℕ) (locks : List Lock) (op : Op) → has_op (ops_on x locks) op ≡ list_any (carries_on x op) locks
 unfolding ops_on
 has_on x locks Op'.Read = refl
 has_on x locks Op'.Write = refl
+has_on x locks Op'.Add = refl
 
 -- a lock that is merged carries the operations of both
 has_merged : (given : List Lock) (lock : Lock) (op : Op) → has_op (merged given lock).ops op ≡ (has_op lock.ops op || list_any (carries_on lock.object.0 op) given)

@@ -66,8 +66,8 @@ impl Locks {
     }
 
     /// Returns whether `x` is free for `t` to do `op`: each lock on `x` that conflicts with `op`, granted or suspended,
-    /// is its own or belongs to a transaction that allows it. For a read it looks at the locks on `x` that write, and
-    /// for a write at all locks on `x`.
+    /// is its own or belongs to a transaction that allows it. It does not look at locks on `x` that only read if
+    /// `op` is a read, nor at those that only add if it is an add.
     pub fn is_free(&self, t: Txn, x: Ob, op: Op, permits: &mut Permits) -> bool
         ensures free { result ≡ is_free_in self.now (λ u. allows_by permits.old u t.0 x.0 op) t.0 x.0 op }
         ensures valid { IsValid self.now }
@@ -83,8 +83,8 @@ impl Locks {
     /// the request becomes the pending request of `t`.
     ///
     /// Only the first grant to `t` on `x` can answer `NoMemory`, and then nothing changes. It looks at the locks at which
-    /// `is_free` looks, and again only to suspend some. If a read meets no lock of `t` among them, it searches for one
-    /// among those of `t` or those on `x` that only read, whichever are fewer.
+    /// `is_free` looks, and again only to suspend some. If a read or an add meets no lock of `t` among them, it
+    /// searches for one among those of `t` or those on `x` at which it did not look, whichever are fewer.
     pub fn ask(&mut self, t: Txn, x: Ob, op: Op, permits: &mut Permits) -> Result<Asked, NoMemory>
         requires enrolled { is_some (enrolled_in self.old t.0) ≡ true }
         ensures answer { IfOk result (λ asked. asked ≡ answer_where (is_free_in self.old (λ u. allows_by permits.old u t.0 x.0 op) t.0 x.0 op)) }

@@ -115,8 +115,8 @@ impl SeatedLocks {
     }
 
     /// Returns whether `x` is free for `t` to do `op`: each lock on `x` that conflicts with `op`, granted or suspended,
-    /// is its own or belongs to a transaction that allows it. For a read it looks at the locks on `x` that write, and
-    /// for a write at all locks on `x`. The seat of `t` matters only to the permits.
+    /// is its own or belongs to a transaction that allows it. It does not look at locks on `x` that only read if
+    /// `op` is a read, nor at those that only add if it is an add. The seat of `t` matters only to the permits.
     pub fn is_free<A: Allows>(
         &self,
         seats: &Seats,
@@ -144,8 +144,8 @@ impl SeatedLocks {
     /// the request becomes the pending request of `t`.
     ///
     /// Only the first grant to `t` on `x` can answer `NoMemory`, and then nothing changes. It looks at the locks at which
-    /// `is_free` looks, and again only to suspend some. If a read meets no lock of `t` among them, it searches for one
-    /// among those of `t` or those on `x` that only read, whichever are fewer.
+    /// `is_free` looks, and again only to suspend some. If a read or an add meets no lock of `t` among them, it
+    /// searches for one among those of `t` or those on `x` at which it did not look, whichever are fewer.
     pub fn ask<A: Allows>(
         &mut self,
         seats: &Seats,

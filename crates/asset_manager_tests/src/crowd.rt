@@ -11,7 +11,7 @@ use asset_core::{Core, History};
 use asset_core_tests::opened as opened_core;
 use asset_manager::{AuditFault, Counts, Manager, Session};
 use asset_names::{Fault, Ob, Outcome, Reply, Step};
-use asset_test_tools::{abort, begin, commit, complete, initiate, next, read, write};
+use asset_test_tools::{abort, add, begin, commit, complete, initiate, next, read, write};
 use std::alloc::Global;
 use std::sync::Wait;
 use std::test::Fail;
@@ -32,10 +32,10 @@ const OPERATIONS: u64 = 3;
 /// Returns the operation of `t` that a number stands for.
 fn drawn(t: u64, number: u64) -> Step {
     let x = 1 + (number >> 20) % 4;
-    if (number >> 40) % 2 == 0 {
-        read(t, x)
-    } else {
-        write(t, x, (number % 1_000) as i64)
+    match (number >> 40) % 3 {
+        0 => read(t, x),
+        1 => add(t, x, (number % 1_000) as i64),
+        _ => write(t, x, (number % 1_000) as i64),
     }
 }
 

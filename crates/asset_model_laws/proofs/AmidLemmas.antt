@@ -8,7 +8,7 @@ use Rattle.asset_names.specs.declared.statuses.End.TheVariants as End'
 use Rattle.asset_names.specs.declared.statuses.Status.{Status}
 use Rattle.asset_names.specs.declared.statuses.Status.TheVariants as Status'
 use Rattle.asset_names.specs.declared.steps.Step.{Step}
-use Rattle.asset_names.specs.declared.steps.Step.TheVariants.{Read, Write, Complete, Commit, Abort}
+use Rattle.asset_names.specs.declared.steps.Step.TheVariants.{Read, Write, Add, Complete, Commit, Abort}
 use Rattle.asset_names.specs.declared.replies.Fault.{Fault}
 use Rattle.asset_names.specs.declared.replies.Reply.{Reply}
 use Rattle.asset_names.specs.declared.replies.Reply.TheVariants as Reply'
@@ -130,6 +130,7 @@ act_amid : (test : Entry → Bool) (p : ℕ) (t : Txn) (act : Act) (done failed 
 unfolding act_course initiated_by lists
 act_amid test p t (Act'.Read x) done failed made old calls new result run = operation_amid test p (Read t x) done failed made old calls new result (λ u h. absurd (false≢true h)) run
 act_amid test p t (Act'.Write x v) done failed made old calls new result run = operation_amid test p (Write t x v) done failed made old calls new result (λ u h. absurd (false≢true h)) run
+act_amid test p t (Act'.Add x d) done failed made old calls new result run = operation_amid test p (Add t x d) done failed made old calls new result (λ u h. absurd (false≢true h)) run
 act_amid test p t Act'.GiveUp done failed made old calls new result run = one_failed made old (only_same p made made refl) run
 
 pub own_amid : (test : Entry → Bool) (p : ℕ) (t : Txn) (acts : List Act) (done : Course) (failed : Txn → Course) (made old calls new : List Entry) (result : Result ModelEnd Fault)

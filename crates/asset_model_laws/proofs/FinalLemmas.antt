@@ -5,7 +5,7 @@ use Rattle.std.proofs.lemmas.Bool.{false≢true}
 use Rattle.asset_names.specs.declared.names.Txn.{Txn}
 use Rattle.asset_names.specs.declared.statuses.End.TheVariants as End'
 use Rattle.asset_names.specs.declared.steps.Step.{Step}
-use Rattle.asset_names.specs.declared.steps.Step.TheVariants.{Read, Write, Complete, Commit, Abort}
+use Rattle.asset_names.specs.declared.steps.Step.TheVariants.{Read, Write, Add, Complete, Commit, Abort}
 use Rattle.asset_names.specs.declared.replies.Fault.{Fault}
 use Rattle.asset_names.specs.declared.replies.Refusal.{Refusal}
 use Rattle.asset_names.specs.declared.replies.Reply.{Reply}
@@ -119,6 +119,7 @@ act_onto : (test : Entry → Bool) (t : Txn) (act : Act) (done failed : Course) 
 unfolding act_course committed_by
 act_onto test t (Act'.Read x) done failed made old calls new end final run = operation_onto test (Read t x) done failed made old calls new end final (λ reply. refl) run
 act_onto test t (Act'.Write x v) done failed made old calls new end final run = operation_onto test (Write t x v) done failed made old calls new end final (λ reply. refl) run
+act_onto test t (Act'.Add x d) done failed made old calls new end final run = operation_onto test (Add t x d) done failed made old calls new end final (λ reply. refl) run
 act_onto test t Act'.GiveUp done failed made old calls new end final run = inr (record { made = made; old = old; same = refl; run = run })
 
 -- each act is of somebody of whom this holds

@@ -16,7 +16,7 @@ use Rattle.asset_history.specs.Committing.{committed_by}
 use Rattle.asset_models.specs.declared.parts.Part.{Part}
 use Rattle.asset_models.specs.declared.parts.ModelEnd.{ModelEnd}
 use Rattle.asset_models.specs.declared.parts.ModelEnd.TheVariants as ModelEnd'
-use Rattle.asset_models.specs.Courses.{Course, IsRun, is_refusal, must_course, must_each_course, starts, commit_course, acts_course, acts_of, read_write, child_course, children_course, give_up, last_commit, nested_course}
+use Rattle.asset_models.specs.Courses.{Course, IsRun, is_refusal, must_course, must_each_course, starts, commit_course, acts_course, acts_of, all_operations, child_course, children_course, give_up, last_commit, nested_course}
 use Rattle.asset_models.specs.Courses.Course.{ends}
 use Rattle.asset_model_laws.specs.Amid.{IsAmid}
 use Rattle.asset_model_laws.specs.Nested.{HandsOver, AllHandOver}
@@ -64,7 +64,7 @@ child_onto opening test t child next made old calls new end legal final run =
           (goes_on told.0, inr (ap (λ (u : Txn). end_of (applied new) u.0) (sym failing.is) ∙ aborted_so opening failing.t new legal told.1))
     ] where
       starting : List Step
-      starting = Initiate child.name (Some t) ∷ Permit t child.name All read_write ∷ Begin child.name ∷ []
+      starting = Initiate child.name (Some t) ∷ Permit t child.name All all_operations ∷ Begin child.name ∷ []
 
       completing : List Step
       completing = Complete child.name ∷ Delegate child.name t All ∷ []

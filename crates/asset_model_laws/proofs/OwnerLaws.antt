@@ -7,7 +7,7 @@ use Rattle.asset_names.specs.declared.sets.ObSet.{ObSet}
 use Rattle.asset_names.specs.declared.sets.ObSet.TheVariants.{All}
 use Rattle.asset_names.specs.declared.statuses.End.{End}
 use Rattle.asset_names.specs.declared.steps.Step.{Step}
-use Rattle.asset_names.specs.declared.steps.Step.TheVariants.{Initiate, Begin, Read, Write, Complete, Permit, Delegate, Depend, Commit, Abort, WaitFor}
+use Rattle.asset_names.specs.declared.steps.Step.TheVariants.{Initiate, Begin, Read, Write, Add, Complete, Permit, Delegate, Depend, Commit, Abort, WaitFor}
 use Rattle.asset_names.specs.declared.replies.Reply.{Reply}
 use Rattle.asset_names.specs.declared.replies.Reply.TheVariants as Reply'
 use Rattle.asset_names.specs.declared.replies.Outcome.TheVariants.{Answer}
@@ -92,6 +92,7 @@ responsible_step opening steps (Initiate u parent) reply n t end is effect ended
 responsible_step opening steps (Begin u) reply n t end is effect ended own = own
 responsible_step opening steps (Read u x) reply n t end is effect ended own = owner_later _ (operations steps) n t own
 responsible_step opening steps (Write u x v) reply n t end is effect ended own = owner_later _ (operations steps) n t own
+responsible_step opening steps (Add u x v) reply n t end is effect ended own = owner_later _ (operations steps) n t own
 responsible_step opening steps (Complete u) reply n t end is effect ended own = own
 responsible_step opening steps (Permit giver taker obs ops) reply n t end is effect ended own = own
 responsible_step opening steps (Delegate giver taker obs) reply n t end is effect ended own =

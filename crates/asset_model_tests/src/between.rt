@@ -134,16 +134,19 @@ fn left_by_committed(
 ) -> Option<i64> {
     let mut value = before;
     for index in from..core.history().len() {
-        if let Some((Step::Write { t, x: y, v }, Reply::Done)) = core.history().entry(index) {
-            if y == x && stands(core, t, family) {
-                value = Some(v);
+        value = match core.history().entry(index) {
+            Some((Step::Write { t, x: y, v }, Reply::Done)) if y == x && stands(core, t, family) =>
+                { Some(v) }
+            Some((Step::Add { t, x: y, d }, Reply::Done)) if y == x && stands(core, t, family) => {
+                value.map(|before| before.wrapping_add(d))
             }
-        }
+            _ => value,
+        };
     }
     value
 }
 
-/// Returns whether what a transaction wrote stands.
+/// Returns whether what a transaction wrote and added stands.
 fn stands(core: &Core, t: Txn, family: Option<(Txn, Txn)>) -> bool {
     let owner = match family {
         Some((parent, child)) if child == t => core.status(parent),

@@ -8,7 +8,7 @@ use asset_models::{
     Act, ModelEnd, Part, atomic, contingent, cooperating, distributed, nested, saga,
 };
 use asset_names::{Fault, Ob, Status, Txn};
-use asset_test_tools::{abort, begin, commit, complete, initiate, listed, next, read, write};
+use asset_test_tools::{abort, add, begin, commit, complete, initiate, listed, next, read, write};
 use std::alloc::Global;
 use std::test::Fail;
 
@@ -21,9 +21,10 @@ const MUCH_ROOM: usize = 100_000;
 /// Returns the act that a number stands for. Object 4 does not exist.
 fn drawn_act(number: u64) -> Act {
     let x = Ob(1 + (number >> 20) % 4);
-    match (number >> 40) % 8 {
+    match (number >> 40) % 10 {
         0 => Act::GiveUp,
         1 | 2 | 3 => Act::Read(x),
+        4 | 5 => Act::Add(x, (number % 1_000) as i64 - 500),
         _ => Act::Write(x, (number % 1_000) as i64),
     }
 }
@@ -39,15 +40,15 @@ pub(crate) fn values(core: &Core) -> [Option<i64>; 3] {
     [core.value(Ob(1)), core.value(Ob(2)), core.value(Ob(3))]
 }
 
-/// Lets another client's transaction read or write an object, and commit or go on.
+/// Lets another client's transaction read, write or add to an object, and commit or go on.
 pub(crate) fn other_acts(core: &mut Core, t: u64, number: u64) {
     let x = 1 + (number >> 24) % 3;
     let _initiated = core.step(initiate(t));
     let _begun = core.step(begin(t));
-    let _asked = if (number >> 32) % 2 == 0 {
-        core.step(read(t, x))
-    } else {
-        core.step(write(t, x, (number % 500) as i64))
+    let _asked = match (number >> 32) % 3 {
+        0 => core.step(read(t, x)),
+        1 => core.step(add(t, x, (number % 500) as i64)),
+        _ => core.step(write(t, x, (number % 500) as i64)),
     };
     if (number >> 36) % 2 == 0 {
         let _completed = core.step(complete(t));
@@ -59,11 +60,11 @@ pub(crate) fn other_acts(core: &mut Core, t: u64, number: u64) {
 fn left_by(acts: &[Act], x: Ob, before: Option<i64>) -> Option<i64> {
     let mut value = before;
     for act in acts {
-        if let Act::Write(y, v) = *act {
-            if y == x {
-                value = Some(v);
-            }
-        }
+        value = match *act {
+            Act::Write(y, v) if y == x => Some(v),
+            Act::Add(y, d) if y == x => value.map(|v| v.wrapping_add(d)),
+            _ => value,
+        };
     }
     value
 }

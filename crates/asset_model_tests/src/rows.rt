@@ -16,7 +16,7 @@ use std::test::Fail;
 
 /// The row of a parent and its child.
 pub(crate) const NESTED: &str =
-    "initiate 7: ok\nbegin 7: ok\nwrite 7 1 50: ok\ninitiate 8 7: ok\npermit 7 8 rw all: ok\nbegin 8: ok\nread 8 1: 50\nwrite 8 2 80: ok\ncomplete 8: ok\ndelegate 8 7 all: ok\ncommit 8: committed\ncomplete 7: ok\ncommit 7: committed\n";
+    "initiate 7: ok\nbegin 7: ok\nwrite 7 1 50: ok\ninitiate 8 7: ok\npermit 7 8 rwa all: ok\nbegin 8: ok\nread 8 1: 50\nwrite 8 2 80: ok\ncomplete 8: ok\ndelegate 8 7 all: ok\ncommit 8: committed\ncomplete 7: ok\ncommit 7: committed\n";
 
 /// The row of a saga of two pairs, whose second transaction gives up.
 pub(crate) const SAGA: &str =
@@ -45,6 +45,50 @@ fn child_reads_and_hands_over_to_its_parent(rt: HostRuntime) -> Result<(), Fail>
     }
     assert_eq!(rt; (row.end, row.missing), (Ok(ModelEnd::Committed), Some(0)));
     assert_eq!(rt; row.values, [Some(50), Some(80), Some(300)]);
+    Ok(())
+}
+
+/// Runs one transaction that adds.
+fn atomic_add_row(alloc: Global) -> Result<Row, OpenFault> {
+    let mut core = opened(alloc, &THREE, ROOM)?;
+    let only = part(alloc, 7, &[Act::Add(Ob(1), 5)]);
+    let end = atomic(&mut core, &only, 2);
+    let lines = "initiate 7: ok\nbegin 7: ok\nadd 7 1 5: ok\ncomplete 7: ok\ncommit 7: committed\n";
+    Ok(row_of(alloc, core, end, lines, [7, 8, 9]))
+}
+
+#[test]
+fn one_transaction_adds(rt: HostRuntime) -> Result<(), Fail> {
+    let alloc: Global = rt.alloc();
+    let mut row = atomic_add_row(alloc)?;
+    if ran_out(&row) {
+        row = atomic_add_row(alloc)?;
+    }
+    assert_eq!(rt; (row.end, row.missing), (Ok(ModelEnd::Committed), Some(0)));
+    assert_eq!(rt; row.values[0], Some(105));
+    Ok(())
+}
+
+/// Runs a parent that writes and its child, which adds to what it wrote.
+fn nested_add_row(alloc: Global) -> Result<Row, OpenFault> {
+    let mut core = opened(alloc, &THREE, ROOM)?;
+    let parent = part(alloc, 7, &[Act::Write(Ob(1), 50)]);
+    let child = part(alloc, 8, &[Act::Add(Ob(1), 5)]);
+    let end = nested(&mut core, &parent, &[child], 2);
+    let lines =
+        "initiate 7: ok\nbegin 7: ok\nwrite 7 1 50: ok\ninitiate 8 7: ok\npermit 7 8 rwa all: ok\nbegin 8: ok\nadd 8 1 5: ok\ncomplete 8: ok\ndelegate 8 7 all: ok\ncommit 8: committed\ncomplete 7: ok\ncommit 7: committed\n";
+    Ok(row_of(alloc, core, end, lines, [7, 8, 9]))
+}
+
+#[test]
+fn child_adds_to_what_its_parent_wrote(rt: HostRuntime) -> Result<(), Fail> {
+    let alloc: Global = rt.alloc();
+    let mut row = nested_add_row(alloc)?;
+    if ran_out(&row) {
+        row = nested_add_row(alloc)?;
+    }
+    assert_eq!(rt; (row.end, row.missing), (Ok(ModelEnd::Committed), Some(0)));
+    assert_eq!(rt; row.values[0], Some(55));
     Ok(())
 }
 
@@ -186,7 +230,7 @@ fn cooperating_row(alloc: Global) -> Result<Row, OpenFault> {
     let second = part(alloc, 8, &[Act::Write(Ob(1), 60)]);
     let end = cooperating(&mut core, &first, &second, listed(&[Ob(1)]), 2);
     let lines =
-        "initiate 7: ok\nbegin 7: ok\ninitiate 8: ok\nbegin 8: ok\npermit 7 8 rw 1: ok\npermit 8 7 rw 1: ok\ndepend gc 7 8: ok\nwrite 7 1 50: ok\nwrite 8 1 60: ok\nread 7 1: 60\ncomplete 7: ok\ncomplete 8: ok\ncommit 7: committed\n";
+        "initiate 7: ok\nbegin 7: ok\ninitiate 8: ok\nbegin 8: ok\npermit 7 8 rwa 1: ok\npermit 8 7 rwa 1: ok\ndepend gc 7 8: ok\nwrite 7 1 50: ok\nwrite 8 1 60: ok\nread 7 1: 60\ncomplete 7: ok\ncomplete 8: ok\ncommit 7: committed\n";
     Ok(row_of(alloc, core, end, lines, [7, 8, 9]))
 }
 

@@ -13,7 +13,7 @@ use Rattle.asset_names.specs.declared.replies.Reply.TheVariants as Reply'
 use Rattle.asset_names.specs.declared.replies.Fault.{Fault}
 use Rattle.asset_names.specs.Steps.{Entry}
 use Rattle.asset_models.specs.declared.parts.Act.{Act}
-use Rattle.asset_models.specs.declared.parts.Act.TheVariants.{Read, Write, GiveUp}
+use Rattle.asset_models.specs.declared.parts.Act.TheVariants.{Read, Write, Add, GiveUp}
 use Rattle.asset_models.specs.declared.parts.Part.{Part}
 use Rattle.asset_models.specs.declared.parts.ModelEnd.{ModelEnd}
 use Rattle.asset_models.specs.declared.parts.ModelEnd.TheVariants as End'
@@ -63,19 +63,21 @@ by_commit t reply committed aborted = aborted
 unfoldable pub commit_course : Txn → Course → Course → Course
 commit_course t committed aborted = asks (Commit t) (λ reply. by_commit t reply committed aborted)
 
--- a read or a write as an act, and what comes after it if it is done and if it is refused
+-- an operation as an act, and what comes after it if it is done and if it is refused
 unfoldable pub operation_course : Step → Course → Course → Course
 operation_course step done failed = asks step (λ reply. cond (is_refusal reply) failed done)
 
--- the value that an act writes, and 0 of another act
-unfoldable pub value_written : Act → ℤ
-value_written (Write x v) = v
-value_written act = pos 0
+-- the value that an act writes or the amount that it adds, and 0 of another act
+unfoldable pub act_value : Act → ℤ
+act_value (Write x v) = v
+act_value (Add x d) = d
+act_value act = pos 0
 
 -- an act of t, and what comes after it if it is done and if it fails
 unfoldable pub act_course : Txn → Act → Course → Course → Course
 act_course t (Read x) done failed = operation_course (Step'.Read t x) done failed
 act_course t (Write x v) done failed = operation_course (Step'.Write t x v) done failed
+act_course t (Add x d) done failed = operation_course (Step'.Add t x d) done failed
 act_course t GiveUp done failed = failed
 
 -- acts in order up to the first that fails, and what comes after them if all are done and if one of t fails
@@ -104,14 +106,14 @@ unfoldable pub contingent_course : List Part → Course
 contingent_course [] = ends End'.Aborted
 contingent_course (p ∷ parts) = part_course p (ends End'.Committed) (λ step. contingent_course parts)
 
--- reads and writes
-unfoldable pub read_write : OpSet
-read_write = op_set true true
+-- all operations
+unfoldable pub all_operations : OpSet
+all_operations = op_set true true true
 
 -- a child of t, and what comes after it, whether it commits or aborts
 unfoldable pub child_course : Txn → Part → Course → Course
 child_course t child next =
-    must_each_course (Initiate child.name (Some t) ∷ Permit t child.name All read_write ∷ Begin child.name ∷ [])
+    must_each_course (Initiate child.name (Some t) ∷ Permit t child.name All all_operations ∷ Begin child.name ∷ [])
     (acts_course (acts_of child.name child.acts.items)
     (must_each_course (Complete child.name ∷ Delegate child.name t All ∷ []) (commit_course child.name next next))
     (λ u. must_course (Abort u) next))
@@ -161,9 +163,9 @@ turns t u [] others = acts_of u others
 turns t u (act ∷ acts) [] = acts_of t (act ∷ acts)
 turns t u (act ∷ acts) (other ∷ others) = (t, act) ∷ (u, other) ∷ turns t u acts others
 
--- the steps by which two transactions let each other read and write the objects, and come to commit together
+-- the steps by which two transactions let each other read, write and add to the objects, and come to commit together
 unfoldable pub joins : Txn → Txn → ObSet → List Step
-joins t u obs = Permit t u obs read_write ∷ Permit u t obs read_write ∷ Depend Gc t u ∷ []
+joins t u obs = Permit t u obs all_operations ∷ Permit u t obs all_operations ∷ Depend Gc t u ∷ []
 
 -- the course of `cooperating`
 unfoldable pub cooperating_course : Part → Part → ObSet → Course

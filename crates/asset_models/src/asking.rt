@@ -2,7 +2,7 @@
 
 ghost use Rattle.std.specs.Prelude.{◌≡◌, ◌∷◌, cond, MatchOption, OnOk, OnErr, IfOk, IfErr};
 ghost use Rattle.asset_names.specs.declared.names.Txn.{Txn};
-ghost use Rattle.asset_models.specs.Courses.{Course, IsRun, IsCut, is_refusal, must_course, must_each_course, value_written, commit_course, operation_course, act_course, acts_course, acts_of};
+ghost use Rattle.asset_models.specs.Courses.{Course, IsRun, IsCut, is_refusal, must_course, must_each_course, act_value, commit_course, operation_course, act_course, acts_course, acts_of};
 ghost use Rattle.asset_models.specs.Follows.{Follows, cut_end};
 
 use crate::calls::Asset;
@@ -113,14 +113,15 @@ fn operate<A: Asset>(asset: &mut A, step: &Step, tries: u32) -> Result<bool, Cut
     }
 }
 
-/// Returns the value that an act writes, and 0 for another act. A signed number from an act is passed on as the result of a
+/// Returns the value that an act writes or the amount that it adds, and 0 for another act. A signed number from an act is passed on as the result of a
 /// call, so that the proof knows its range.
-#[tactic(auto, unfolding(crate::specs::Courses::value_written))]
-fn value_written(act: &Act) -> i64
-    ensures { result ≡ value_written act.now }
+#[tactic(auto, unfolding(crate::specs::Courses::act_value))]
+fn act_value(act: &Act) -> i64
+    ensures { result ≡ act_value act.now }
 {
     match *act {
         Act::Write(_, v) => v,
+        Act::Add(_, d) => d,
         _ => 0,
     }
 }
@@ -133,8 +134,12 @@ pub(crate) fn do_act<A: Asset>(asset: &mut A, t: Txn, act: &Act, tries: u32) -> 
     match *act {
         Act::Read(x) => operate(asset, &Step::Read { t, x }, tries),
         Act::Write(x, _) => {
-            let v = value_written(act);
+            let v = act_value(act);
             operate(asset, &Step::Write { t, x, v }, tries)
+        }
+        Act::Add(x, _) => {
+            let d = act_value(act);
+            operate(asset, &Step::Add { t, x, d }, tries)
         }
         Act::GiveUp => Ok(false),
     }

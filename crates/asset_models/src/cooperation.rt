@@ -3,13 +3,13 @@
 ghost use Rattle.std.specs.Prelude.{IfOk, IfErr, OnOk};
 ghost use Rattle.asset_names.specs.declared.names.Txn.{Txn};
 ghost use Rattle.asset_names.specs.declared.steps.Step.TheVariants.{Permit};
-ghost use Rattle.asset_models.specs.Courses.{Course, IsRun, acts_course, acts_of, turns, read_write, must_course, must_each_course, joins, cooperating_course};
+ghost use Rattle.asset_models.specs.Courses.{Course, IsRun, acts_course, acts_of, turns, all_operations, must_course, must_each_course, joins, cooperating_course};
 ghost use Rattle.asset_models.specs.Follows.{Follows, after_acts, cut_end, model_end};
 
 use crate::asking::{do_act, do_acts, must, must_each};
 use crate::calls::Asset;
 use crate::ending::{give_up, last_commit};
-use crate::nesting::read_write;
+use crate::nesting::all_operations;
 use crate::parts::{Act, Cut, ModelEnd, Part, model_end};
 use asset_names::{Fault, Kind, ObSet, Step, Txn};
 
@@ -78,14 +78,14 @@ fn permit_on<A: Asset>(
     obs: &ObSet,
     tries: u32,
 ) -> Result<(), Cut>
-    ensures follows { OnOk result ((next : Course) → Follows (must_course (Permit giver taker obs.now read_write) next) (A.calls asset.old) next (A.calls asset.new)) }
-    ensures cut { IfErr result (λ cut. (next : Course) → IsRun (must_course (Permit giver taker obs.now read_write) next) (A.calls asset.old) (A.calls asset.new) (cut_end cut)) }
+    ensures follows { OnOk result ((next : Course) → Follows (must_course (Permit giver taker obs.now all_operations) next) (A.calls asset.old) next (A.calls asset.new)) }
+    ensures cut { IfErr result (λ cut. (next : Course) → IsRun (must_course (Permit giver taker obs.now all_operations) next) (A.calls asset.old) (A.calls asset.new) (cut_end cut)) }
 {
     let step = Step::Permit {
         giver,
         taker,
         obs: *obs,
-        ops: read_write(),
+        ops: all_operations(),
     };
     must(asset, &step, tries)
 }

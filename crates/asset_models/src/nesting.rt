@@ -2,21 +2,21 @@
 
 ghost use Rattle.std.specs.Prelude.{◌≡◌, OnOk, IfErr};
 ghost use Rattle.asset_names.specs.OpSets.{OpSet};
-ghost use Rattle.asset_models.specs.Courses.{Course, IsRun, read_write, child_course, children_course, nested_course};
+ghost use Rattle.asset_models.specs.Courses.{Course, IsRun, all_operations, child_course, children_course, nested_course};
 ghost use Rattle.asset_models.specs.Follows.{Follows, cut_end, model_end};
 
 use crate::asking::{commit, do_part, must, must_each};
 use crate::calls::Asset;
 use crate::ending::{give_up, last_commit};
 use crate::parts::{Cut, ModelEnd, Part, model_end};
-use asset_names::{Fault, ObSet, Op, Ops, Step, Txn};
+use asset_names::{Fault, ObSet, Ops, Step, Txn};
 
-/// Returns the set of reads and writes.
-#[tactic(auto, unfolding(crate::specs::Courses::read_write, asset_names::specs::OpSets::only_op, asset_names::specs::OpSets::with_op))]
-pub(crate) fn read_write() -> Ops
-    ensures { result ≡ read_write }
+/// Returns the set of all operations.
+#[tactic(auto, unfolding(crate::specs::Courses::all_operations))]
+pub(crate) fn all_operations() -> Ops
+    ensures { result ≡ all_operations }
 {
-    Ops::only(Op::Read).with(Op::Write)
+    Ops::with_add(true, true)
 }
 
 /// Runs a child of `t`.
@@ -25,7 +25,7 @@ fn run_child<A: Asset>(asset: &mut A, t: Txn, child: &Part, tries: u32) -> Resul
     ensures cut { IfErr result (λ cut. (next : Course) → IsRun (child_course t child.now next) (A.calls asset.old) (A.calls asset.new) (cut_end cut)) }
 {
     let c = child.name;
-    let ops = read_write();
+    let ops = all_operations();
     must_each(
         asset,
         &[

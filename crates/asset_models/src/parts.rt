@@ -12,6 +12,8 @@ pub enum Act {
     Read(Ob),
     /// Writes the value to the object.
     Write(Ob, i64),
+    /// Adds the amount to the object; the sum wraps.
+    Add(Ob, i64),
     /// Gives up: asks for nothing, and fails.
     GiveUp,
 }

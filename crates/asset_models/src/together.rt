@@ -11,7 +11,7 @@ ghost use Rattle.asset_models.specs.Follows.{Follows, after_acts, cut_end, model
 use crate::asking::{do_act, do_acts, do_part, must, must_each};
 use crate::calls::Asset;
 use crate::ending::{give_up, last_commit};
-use crate::nesting::read_write;
+use crate::nesting::all_operations;
 use crate::parts::{Act, Cut, ModelEnd, Part, model_end};
 use asset_names::{Fault, Kind, ObSet, Step, Txn};
 

@@ -6,7 +6,7 @@ use Rattle.std.specs.List.{count_by}
 use Rattle.std.proofs.lemmas.Bool.{false≢true, and_parts, and_from, or_right}
 use Rattle.std.proofs.lemmas.List.Sums.{sum_by-cons, count_by-le-length}
 use Rattle.asset_names.specs.declared.steps.Step.{Step}
-use Rattle.asset_names.specs.declared.steps.Step.TheVariants.{Initiate, Begin, Read, Write, Complete, Permit, Delegate, Depend, Commit, Abort, WaitFor}
+use Rattle.asset_names.specs.declared.steps.Step.TheVariants.{Initiate, Begin, Read, Write, Add, Complete, Permit, Delegate, Depend, Commit, Abort, WaitFor}
 use Rattle.asset_names.specs.declared.statuses.End.{End}
 use Rattle.asset_names.specs.declared.statuses.End.TheVariants as End'
 use Rattle.asset_names.specs.Arrows.{lists}
@@ -51,6 +51,7 @@ initiated_stays (Initiate t parent) steps n h = or_right _ _ h
 initiated_stays (Begin t) steps n h = h
 initiated_stays (Read t x) steps n h = h
 initiated_stays (Write t x v) steps n h = h
+initiated_stays (Add t x v) steps n h = h
 initiated_stays (Complete t) steps n h = h
 initiated_stays (Permit giver taker obs ops) steps n h = h
 initiated_stays (Delegate giver taker obs) steps n h = h
@@ -92,6 +93,7 @@ ended_grows how step steps = le_trans (count_more _ (λ n. has_end how (status (
   go (Begin t) f = le_refl _
   go (Read t x) f = le_refl _
   go (Write t x v) f = le_refl _
+  go (Add t x v) f = le_refl _
   go (Complete t) f = le_refl _
   go (Permit giver taker obs ops) f = le_refl _
   go (Delegate giver taker obs) f = le_refl _
@@ -108,6 +110,7 @@ initiated_most (Initiate t parent ∷ steps) = omega (arith, initiated_most step
 initiated_most (Begin t ∷ steps) = omega (arith, initiated_most steps)
 initiated_most (Read t x ∷ steps) = omega (arith, initiated_most steps)
 initiated_most (Write t x v ∷ steps) = omega (arith, initiated_most steps)
+initiated_most (Add t x v ∷ steps) = omega (arith, initiated_most steps)
 initiated_most (Complete t ∷ steps) = omega (arith, initiated_most steps)
 initiated_most (Permit giver taker obs ops ∷ steps) = omega (arith, initiated_most steps)
 initiated_most (Delegate giver taker obs ∷ steps) = omega (arith, initiated_most steps)

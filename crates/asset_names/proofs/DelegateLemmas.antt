@@ -140,25 +140,27 @@ holds_delegated giver taker obs steps gives takes u y op =
       go true true e = rw (ap (live steps) (eqb-true u taker.0 e) ∙ takes) (grind arith)
       go true false e = grind arith
 
--- a transaction holds an object where it holds it by reading or by writing
-pub holds_by_some_op : (steps : List Step) (t x : ℕ) → holds_object steps t x ≡ (holds steps t x Op'.Read || holds steps t x Op'.Write)
+-- a transaction holds an object where it holds it by reading, by writing or by adding
+pub holds_by_some_op : (steps : List Step) (t x : ℕ) → holds_object steps t x ≡ (holds steps t x Op'.Read || (holds steps t x Op'.Write || holds steps t x Op'.Add))
 unfolding holds_object holds same_op
 holds_by_some_op steps t x =
     ap (λ b. live steps t && b)
-    (any_alike (λ (o : Operation). eqb o.owner t && eqb o.object x) (λ (o : Operation). held_by t x Op'.Read o || held_by t x Op'.Write o) (operations steps) one
-    ∙ any_either (held_by t x Op'.Read) (held_by t x Op'.Write) (operations steps))
-    ∙ both (live steps t) (list_any (held_by t x Op'.Read) (operations steps)) (list_any (held_by t x Op'.Write) (operations steps)) where
-      kinds : (op : Op) → (same_op op Op'.Read || same_op op Op'.Write) ≡ true
+    (any_alike (λ (o : Operation). eqb o.owner t && eqb o.object x) (λ (o : Operation). held_by t x Op'.Read o || (held_by t x Op'.Write o || held_by t x Op'.Add o)) (operations steps) one
+    ∙ any_either (held_by t x Op'.Read) (λ (o : Operation). held_by t x Op'.Write o || held_by t x Op'.Add o) (operations steps)
+    ∙ ap (λ b. list_any (held_by t x Op'.Read) (operations steps) || b) (any_either (held_by t x Op'.Write) (held_by t x Op'.Add) (operations steps)))
+    ∙ both (live steps t) (list_any (held_by t x Op'.Read) (operations steps)) (list_any (held_by t x Op'.Write) (operations steps)) (list_any (held_by t x Op'.Add) (operations steps)) where
+      kinds : (op : Op) → (same_op op Op'.Read || (same_op op Op'.Write || same_op op Op'.Add)) ≡ true
       kinds Op'.Read = refl
       kinds Op'.Write = refl
+      kinds Op'.Add = refl
 
-      spread : (on reads writes : Bool) → (reads || writes) ≡ true → on ≡ ((on && reads) || (on && writes))
-      spread true reads writes h = sym h
-      spread false reads writes h = refl
+      spread : (on reads writes adds : Bool) → (reads || (writes || adds)) ≡ true → on ≡ ((on && reads) || ((on && writes) || (on && adds)))
+      spread true reads writes adds h = sym h
+      spread false reads writes adds h = refl
 
-      one : (o : Operation) → (eqb o.owner t && eqb o.object x) ≡ (held_by t x Op'.Read o || held_by t x Op'.Write o)
-      one o = spread (eqb o.owner t && eqb o.object x) (same_op (op_of o.use_of) Op'.Read) (same_op (op_of o.use_of) Op'.Write) (kinds (op_of o.use_of))
+      one : (o : Operation) → (eqb o.owner t && eqb o.object x) ≡ (held_by t x Op'.Read o || (held_by t x Op'.Write o || held_by t x Op'.Add o))
+      one o = spread (eqb o.owner t && eqb o.object x) (same_op (op_of o.use_of) Op'.Read) (same_op (op_of o.use_of) Op'.Write) (same_op (op_of o.use_of) Op'.Add) (kinds (op_of o.use_of))
 
-      both : (a b c : Bool) → (a && (b || c)) ≡ ((a && b) || (a && c))
-      both true b c = refl
-      both false b c = refl
+      both : (a b c d : Bool) → (a && (b || (c || d))) ≡ ((a && b) || ((a && c) || (a && d)))
+      both true b c d = refl
+      both false b c d = refl

@@ -13,13 +13,19 @@ pub same_op-true : (a b : Op) → same_op a b ≡ true → a ≡ b
 unfolding same_op
 same_op-true Op'.Read Op'.Read h = refl
 same_op-true Op'.Write Op'.Write h = refl
+same_op-true Op'.Add Op'.Add h = refl
 same_op-true Op'.Read Op'.Write h = absurd (false≢true h)
+same_op-true Op'.Read Op'.Add h = absurd (false≢true h)
 same_op-true Op'.Write Op'.Read h = absurd (false≢true h)
+same_op-true Op'.Write Op'.Add h = absurd (false≢true h)
+same_op-true Op'.Add Op'.Read h = absurd (false≢true h)
+same_op-true Op'.Add Op'.Write h = absurd (false≢true h)
 
 same_op-refl : (a : Op) → same_op a a ≡ true
 unfolding same_op
 same_op-refl Op'.Read = refl
 same_op-refl Op'.Write = refl
+same_op-refl Op'.Add = refl
 
 -- whether the operation is one on x by which u holds it
 abbrev pub held_by : ℕ → ℕ → Op → Operation → Bool

@@ -14,7 +14,7 @@ use Rattle.asset_names.specs.declared.statuses.End.{End}
 use Rattle.asset_names.specs.declared.statuses.End.TheVariants as End'
 use Rattle.asset_names.specs.declared.steps.Kind.{Kind}
 use Rattle.asset_names.specs.declared.steps.Step.{Step}
-use Rattle.asset_names.specs.declared.steps.Step.TheVariants.{Initiate, Begin, Read, Write, Complete, Permit, Delegate, Depend, Commit, Abort, WaitFor}
+use Rattle.asset_names.specs.declared.steps.Step.TheVariants.{Initiate, Begin, Read, Write, Add, Complete, Permit, Delegate, Depend, Commit, Abort, WaitFor}
 use Rattle.asset_names.specs.declared.replies.Refusal.{Refusal}
 use Rattle.asset_names.specs.declared.replies.Reply.{Reply}
 use Rattle.asset_names.specs.declared.replies.Reply.TheVariants as Reply'
@@ -39,6 +39,7 @@ effect_unrefused opening steps step reply is carried = go (first_refusal (rules_
   never (Begin t) refusal = refl
   never (Read t x) refusal = refl
   never (Write t x v) refusal = refl
+  never (Add t x d) refusal = refl
   never (Complete t) refusal = refl
   never (Permit giver taker obs ops) refusal = refl
   never (Delegate giver taker obs) refusal = refl
@@ -115,7 +116,7 @@ unfolding rules_for unknown
 begin_known opening steps t reply is carried =
     known_initiated steps t.0 (first_none (unknown steps t) _ (effect_unrefused opening steps (Begin t) reply is carried)).0
 
--- a transaction reads and writes only where it was initiated
+-- a transaction reads, writes and adds only where it was initiated
 pub read_known : (opening : Opening) (steps : List Step) (t : Txn) (x : Ob) (reply : Reply) → answer opening steps (Read t x) ≡ Answer reply → takes_effect (Read t x) reply ≡ true
     → lists (initiated steps) t.0 ≡ true
 unfolding rules_for unknown
@@ -127,6 +128,12 @@ pub write_known : (opening : Opening) (steps : List Step) (t : Txn) (x : Ob) (v 
 unfolding rules_for unknown
 write_known opening steps t x v reply is carried =
     known_initiated steps t.0 (first_none (unknown steps t) _ (effect_unrefused opening steps (Write t x v) reply is carried)).0
+
+pub add_known : (opening : Opening) (steps : List Step) (t : Txn) (x : Ob) (d : ℤ) (reply : Reply) → answer opening steps (Add t x d) ≡ Answer reply → takes_effect (Add t x d) reply ≡ true
+    → lists (initiated steps) t.0 ≡ true
+unfolding rules_for unknown
+add_known opening steps t x d reply is carried =
+    known_initiated steps t.0 (first_none (unknown steps t) _ (effect_unrefused opening steps (Add t x d) reply is carried)).0
 
 -- who is live was initiated
 live_known : (steps : List Step) (t : ℕ) → live steps t ≡ true → lists (initiated steps) t ≡ true
@@ -235,6 +242,17 @@ orderly_more opening (Write t x v) steps reply is carried orderly = record {
   permits_known = orderly.permits_known;
   dependencies_known = orderly.dependencies_known;
 }
+orderly_more opening (Add t x d) steps reply is carried orderly = record {
+  different = orderly.different;
+  begun_known = orderly.begun_known;
+  owners_known = λ n owns. elim (or_cases (eqb t.0 n) _ owns) [
+    | inl here ↦ subst (λ m. lists (initiated steps) m ≡ true) (eqb-true t.0 n here) (add_known opening steps t x d reply is carried)
+    | inr before ↦ orderly.owners_known n before
+  ];
+  completed_known = orderly.completed_known;
+  permits_known = orderly.permits_known;
+  dependencies_known = orderly.dependencies_known;
+}
 orderly_more opening (Complete t) steps reply is carried orderly = record {
   different = orderly.different;
   begun_known = orderly.begun_known;
@@ -316,6 +334,7 @@ ended_initiated (Initiate t parent ∷ steps) n h = or_right (eqb t.0 n) _ (ende
 ended_initiated (Begin t ∷ steps) n h = ended_initiated steps n (subst (λ (e : Option End). is_some e ≡ true) (option_or_none (end_of steps n)) h)
 ended_initiated (Read t x ∷ steps) n h = ended_initiated steps n (subst (λ (e : Option End). is_some e ≡ true) (option_or_none (end_of steps n)) h)
 ended_initiated (Write t x v ∷ steps) n h = ended_initiated steps n (subst (λ (e : Option End). is_some e ≡ true) (option_or_none (end_of steps n)) h)
+ended_initiated (Add t x d ∷ steps) n h = ended_initiated steps n (subst (λ (e : Option End). is_some e ≡ true) (option_or_none (end_of steps n)) h)
 ended_initiated (Complete t ∷ steps) n h = ended_initiated steps n (subst (λ (e : Option End). is_some e ≡ true) (option_or_none (end_of steps n)) h)
 ended_initiated (Permit giver taker obs ops ∷ steps) n h = ended_initiated steps n (subst (λ (e : Option End). is_some e ≡ true) (option_or_none (end_of steps n)) h)
 ended_initiated (Delegate giver taker obs ∷ steps) n h = ended_initiated steps n (subst (λ (e : Option End). is_some e ≡ true) (option_or_none (end_of steps n)) h)

@@ -6,6 +6,7 @@ pub mod Cases
 pub mod PermitCases
 pub mod DelegateCases
 pub mod DependCases
+pub mod AddCases
 pub mod Sorting
 pub mod AppliedLemmas
 pub mod EndLemmas

@@ -20,10 +20,10 @@ use Rattle.asset_names.proofs.Cases.{t, x, Case, ok, refused}
 
 -- read and write, and read alone
 abbrev pub read_and_write : OpSet
-read_and_write = op_set true true
+read_and_write = op_set true true false
 
 abbrev pub read_only : OpSet
-read_only = op_set true false
+read_only = op_set true false false
 
 -- three names run
 abbrev pub three_run : List Step

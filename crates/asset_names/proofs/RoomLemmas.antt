@@ -7,7 +7,7 @@ use Rattle.asset_names.specs.declared.statuses.End.{End}
 use Rattle.asset_names.specs.declared.statuses.End.TheVariants as End'
 use Rattle.asset_names.specs.declared.names.Txn.{Txn}
 use Rattle.asset_names.specs.declared.steps.Step.{Step}
-use Rattle.asset_names.specs.declared.steps.Step.TheVariants.{Initiate, Begin, Read, Write, Complete, Permit, Delegate, Depend, Commit, Abort, WaitFor}
+use Rattle.asset_names.specs.declared.steps.Step.TheVariants.{Initiate, Begin, Read, Write, Add, Complete, Permit, Delegate, Depend, Commit, Abort, WaitFor}
 use Rattle.asset_names.specs.Arrows.{lists}
 use Rattle.asset_names.specs.Steps.{Opening, Entry, takes_effect, applied, initiated, initiated_by, begun, completed, completed_by}
 use Rattle.asset_names.specs.Endings.{ended_by, end_of, live, status, status_of}
@@ -81,6 +81,10 @@ owed_read t x steps = sum_same _ _ (initiated steps) (λ n listed. same_parts st
 pub owed_write : (t : Txn) (x : _) (v : _) (steps : List Step) → owed (Write t x v ∷ steps) ≡ owed steps
 unfolding owed initiated initiated_by completed completed_by end_of ended_by
 owed_write t x v steps = sum_same _ _ (initiated steps) (λ n listed. same_parts steps (Write t x v ∷ steps) n refl refl (option_or_none (end_of steps n)))
+
+pub owed_add : (t : Txn) (x : _) (d : _) (steps : List Step) → owed (Add t x d ∷ steps) ≡ owed steps
+unfolding owed initiated initiated_by completed completed_by end_of ended_by
+owed_add t x d steps = sum_same _ _ (initiated steps) (λ n listed. same_parts steps (Add t x d ∷ steps) n refl refl (option_or_none (end_of steps n)))
 
 pub owed_permit : (giver taker : Txn) (obs : _) (ops : _) (steps : List Step) → owed (Permit giver taker obs ops ∷ steps) ≡ owed steps
 unfolding owed initiated initiated_by completed completed_by end_of ended_by
@@ -204,6 +208,7 @@ owed_new opening steps (Initiate t parent) reply orderly is effect new = owed_in
 owed_new opening steps (Begin t) reply orderly is effect new = absurd (false≢true new)
 owed_new opening steps (Read t x) reply orderly is effect new = absurd (false≢true new)
 owed_new opening steps (Write t x v) reply orderly is effect new = absurd (false≢true new)
+owed_new opening steps (Add t x d) reply orderly is effect new = absurd (false≢true new)
 owed_new opening steps (Complete t) reply orderly is effect new = absurd (false≢true new)
 owed_new opening steps (Permit giver taker obs ops) reply orderly is effect new = absurd (false≢true new)
 owed_new opening steps (Delegate giver taker obs) reply orderly is effect new = absurd (false≢true new)
@@ -219,6 +224,7 @@ owed_stays steps (Initiate t parent) reply orderly effect quiet other = absurd (
 owed_stays steps (Begin t) reply orderly effect quiet other = owed_begin t steps
 owed_stays steps (Read t x) reply orderly effect quiet other = owed_read t x steps
 owed_stays steps (Write t x v) reply orderly effect quiet other = owed_write t x v steps
+owed_stays steps (Add t x d) reply orderly effect quiet other = owed_add t x d steps
 owed_stays steps (Complete t) reply orderly effect quiet other = absurd (true≢false (sym effect ∙ quiet))
 owed_stays steps (Permit giver taker obs ops) reply orderly effect quiet other = owed_permit giver taker obs ops steps
 owed_stays steps (Delegate giver taker obs) reply orderly effect quiet other = owed_delegate giver taker obs steps
@@ -245,6 +251,7 @@ owed_less opening steps (Initiate t parent) reply orderly is changes = absurd (f
 owed_less opening steps (Begin t) reply orderly is changes = absurd (false≢true changes)
 owed_less opening steps (Read t x) reply orderly is changes = absurd (false≢true changes)
 owed_less opening steps (Write t x v) reply orderly is changes = absurd (false≢true changes)
+owed_less opening steps (Add t x d) reply orderly is changes = absurd (false≢true changes)
 owed_less opening steps (Permit giver taker obs ops) reply orderly is changes = absurd (false≢true changes)
 owed_less opening steps (Delegate giver taker obs) reply orderly is changes = absurd (false≢true changes)
 owed_less opening steps (Depend kind a b) reply orderly is changes = absurd (false≢true changes)

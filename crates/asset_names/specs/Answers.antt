@@ -6,7 +6,7 @@ use Rattle.asset_names.specs.declared.names.Ob.{Ob}
 use Rattle.asset_names.specs.declared.operations.Op.TheVariants as Op'
 use Rattle.asset_names.specs.declared.steps.Kind.{Kind}
 use Rattle.asset_names.specs.declared.steps.Step.{Step}
-use Rattle.asset_names.specs.declared.steps.Step.TheVariants.{Initiate, Begin, Read, Write, Complete, Permit, Delegate, Depend, Commit, Abort, WaitFor}
+use Rattle.asset_names.specs.declared.steps.Step.TheVariants.{Initiate, Begin, Read, Write, Add, Complete, Permit, Delegate, Depend, Commit, Abort, WaitFor}
 use Rattle.asset_names.specs.declared.sets.ObSet.{ObSet}
 use Rattle.asset_names.specs.declared.sets.ObSet.TheVariants.{All, Listed}
 use Rattle.asset_names.specs.Sets.{no_object_name}
@@ -112,6 +112,7 @@ rules_for opening steps (Initiate t parent) = taken steps t ∷ []
 rules_for opening steps (Begin t) = unknown steps t ∷ ended steps t ∷ begun_before steps t ∷ []
 rules_for opening steps (Read t x) = unknown steps t ∷ ended steps t ∷ not_running steps t ∷ no_object opening x ∷ []
 rules_for opening steps (Write t x v) = unknown steps t ∷ ended steps t ∷ not_running steps t ∷ no_object opening x ∷ []
+rules_for opening steps (Add t x d) = unknown steps t ∷ ended steps t ∷ not_running steps t ∷ no_object opening x ∷ []
 rules_for opening steps (Complete t) = unknown steps t ∷ ended steps t ∷ not_running steps t ∷ []
 rules_for opening steps (Permit giver taker obs ops) = one_name giver taker ∷ unknown steps giver ∷ unknown steps taker ∷ ended steps giver ∷ ended steps taker ∷ no_object_of opening obs ∷ []
 rules_for opening steps (Delegate giver taker obs) = one_name giver taker ∷ unknown steps giver ∷ unknown steps taker ∷ ended steps giver ∷ ended steps taker ∷ no_object_of opening obs ∷ []
@@ -153,6 +154,7 @@ unrefused opening steps (Initiate t parent) = Answer Reply'.Done
 unrefused opening steps (Begin t) = Answer Reply'.Done
 unrefused opening steps (Read t x) = cond (free steps t.0 x.0 Op'.Read) (Answer (Reply'.Value (value opening steps x.0))) Wait
 unrefused opening steps (Write t x v) = cond (free steps t.0 x.0 Op'.Write) (Answer Reply'.Done) Wait
+unrefused opening steps (Add t x d) = cond (free steps t.0 x.0 Op'.Add) (Answer Reply'.Done) Wait
 unrefused opening steps (Complete t) = Answer Reply'.Done
 unrefused opening steps (Permit giver taker obs ops) = Answer Reply'.Done
 unrefused opening steps (Delegate giver taker obs) = Answer Reply'.Done
@@ -174,6 +176,7 @@ unfoldable pub takes_memory : Step → Bool
 takes_memory (Initiate t parent) = true
 takes_memory (Read t x) = true
 takes_memory (Write t x v) = true
+takes_memory (Add t x d) = true
 takes_memory (Permit giver taker obs ops) = true
 takes_memory (Delegate giver taker obs) = true
 takes_memory (Depend kind a b) = true

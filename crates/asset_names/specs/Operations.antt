@@ -1,12 +1,13 @@
 -- Operations, who is responsible for them, who holds what, permits and who allows whom, and the value of an object.
-use Rattle.std.specs.Prelude.{ℕ, ℤ, pos, Bool, true, false, cond, not, ◌==◌, ◌&&◌, List, [], ◌∷◌, ◌++◌, map, filter, Option, Some, None, is_some, unwrap_or, option_map, find}
+use Rattle.std.specs.Prelude.{ℕ, ℤ, pos, ◌+ℤ◌, Bool, true, false, cond, not, ◌==◌, ◌&&◌, List, [], ◌∷◌, ◌++◌, map, filter, Option, Some, None, is_some, unwrap_or, option_map, find}
 use Rattle.std.specs.List.{list_any}
+use Rattle.std.specs.Int.{w64, int_wrap}
 use Rattle.asset_names.specs.declared.names.Ob.{Ob}
 use Rattle.asset_names.specs.declared.operations.Op.{Op}
 use Rattle.asset_names.specs.declared.operations.Op.TheVariants as Op'
 use Rattle.asset_names.specs.declared.sets.ObSet.{ObSet}
 use Rattle.asset_names.specs.declared.steps.Step.{Step}
-use Rattle.asset_names.specs.declared.steps.Step.TheVariants.{Read, Write, Permit, Delegate}
+use Rattle.asset_names.specs.declared.steps.Step.TheVariants.{Read, Write, Add, Permit, Delegate}
 use Rattle.asset_names.specs.Arrows.{Arrow, linked, among}
 use Rattle.asset_names.specs.OpSets.{has_op}
 use Rattle.asset_names.specs.InSet.{in_set}
@@ -19,6 +20,7 @@ use Rattle.asset_names.specs.Endings.{live, end_of}
 pub data Use : Type 0 where
   reads : Use
   writes : ℤ → Use
+  adds : ℤ → Use
 
 -- an operation: who is responsible for it, on which object, and what it does
 pub record Operation : Type 0 where
@@ -30,30 +32,31 @@ pub record Operation : Type 0 where
 unfoldable pub op_of : Use → Op
 op_of reads = Op'.Read
 op_of (writes v) = Op'.Write
+op_of (adds d) = Op'.Add
 
 -- whether two operations are one
 unfoldable pub same_op : Op → Op → Bool
 same_op Op'.Read Op'.Read = true
 same_op Op'.Write Op'.Write = true
-same_op Op'.Read Op'.Write = false
-same_op Op'.Write Op'.Read = false
+same_op Op'.Add Op'.Add = true
+same_op op other = false
 
--- whether two operations conflict: reads go together, and nothing else does
+-- whether two operations conflict: reads go together, adds go together, and nothing else does
 unfoldable pub conflict : Op → Op → Bool
 conflict Op'.Read Op'.Read = false
-conflict Op'.Read Op'.Write = true
-conflict Op'.Write Op'.Read = true
-conflict Op'.Write Op'.Write = true
+conflict Op'.Add Op'.Add = false
+conflict op other = true
 
 -- the operation after a delegation: on an object of the set, the taker is responsible for it in place of the giver
 unfoldable pub handed_over : ℕ → ℕ → ObSet → Operation → Operation
 handed_over giver taker obs o = cond (o.owner == giver && in_set obs o.object) (record o { owner = taker }) o
 
--- the operations after a step that took effect, newest first: a read or a write adds one, for
+-- the operations after a step that took effect, newest first: a read, a write or an add is one more, for
 -- which its transaction is responsible; a delegation hands over the giver's on the objects of its set
 unfoldable pub operated : Step → List Operation → List Operation
 operated (Read t x) older = record { owner = t.0; object = x.0; use_of = reads } ∷ older
 operated (Write t x v) older = record { owner = t.0; object = x.0; use_of = writes v } ∷ older
+operated (Add t x d) older = record { owner = t.0; object = x.0; use_of = adds d } ∷ older
 operated (Delegate giver taker obs) older = map (handed_over giver.0 taker.0 obs) older
 operated step older = older
 
@@ -121,17 +124,18 @@ exists opening x = is_some (opening_at opening x)
 unfoldable pub opening_value : Opening → ℕ → ℤ
 opening_value opening x = unwrap_or (opening_at opening x) (pos 0)
 
--- the value that a use leaves, over the value before it
+-- the value that a use leaves, over the value before it; what an add leaves wraps into an i64
 unfoldable pub after_use : Use → ℤ → ℤ
 after_use reads before = before
 after_use (writes v) before = v
+after_use (adds d) before = int_wrap w64 (before +ℤ d)
 
 -- the value of x after the operations that count, newest first, over the first value
 unfoldable pub value_after : (Operation → Bool) → ℕ → ℤ → List Operation → ℤ
 value_after counts x first [] = first
 value_after counts x first (o ∷ older) = cond (o.object == x && counts o) (after_use o.use_of (value_after counts x first older)) (value_after counts x first older)
 
--- the value of an object: its last write that stands, else its opening value
+-- the value of an object: its last write that stands, else its opening value, plus all adds after it that stand
 unfoldable pub value : Opening → List Step → ℕ → ℤ
 value opening steps x = value_after (stands steps) x (opening_value opening x) (operations steps)
 

@@ -3,7 +3,7 @@ use Rattle.std.specs.Prelude.{ℕ, ℤ, pos, Bool, true, false, cond, ◌==◌, 
 use Rattle.asset_names.specs.declared.names.Txn.{Txn}
 use Rattle.asset_names.specs.declared.names.Ob.{Ob}
 use Rattle.asset_names.specs.declared.steps.Step.{Step}
-use Rattle.asset_names.specs.declared.steps.Step.TheVariants.{Initiate, Begin, Read, Write, Complete, Permit, Delegate, Depend, Commit, Abort}
+use Rattle.asset_names.specs.declared.steps.Step.TheVariants.{Initiate, Begin, Read, Write, Add, Complete, Permit, Delegate, Depend, Commit, Abort}
 use Rattle.asset_names.specs.declared.replies.Reply.{Reply}
 use Rattle.asset_names.specs.declared.replies.Reply.TheVariants as Reply'
 
@@ -21,6 +21,7 @@ takes_effect (Initiate t parent) Reply'.Done = true
 takes_effect (Begin t) Reply'.Done = true
 takes_effect (Read t x) (Reply'.Value v) = true
 takes_effect (Write t x v) Reply'.Done = true
+takes_effect (Add t x d) Reply'.Done = true
 takes_effect (Complete t) Reply'.Done = true
 takes_effect (Permit giver taker obs ops) Reply'.Done = true
 takes_effect (Delegate giver taker obs) Reply'.Done = true
@@ -29,9 +30,10 @@ takes_effect (Commit t) Reply'.Committed = true
 takes_effect (Abort t) Reply'.Aborted = true
 takes_effect step reply = false
 
--- the value that a write asks for, and 0 of another step
+-- the value that a write asks for or that an add adds, and 0 of another step
 unfoldable pub value_asked : Step → ℤ
 value_asked (Write t x v) = v
+value_asked (Add t x d) = d
 value_asked step = pos 0
 
 -- the steps that took effect, newest first as the entries are

@@ -16,6 +16,7 @@ pub fn actor(step: &Step) -> Txn
         Step::Begin { t } => *t,
         Step::Read { t, .. } => *t,
         Step::Write { t, .. } => *t,
+        Step::Add { t, .. } => *t,
         Step::Complete { t } => *t,
         Step::Permit { giver, .. } => *giver,
         Step::Delegate { giver, .. } => *giver,

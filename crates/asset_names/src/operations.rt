@@ -4,14 +4,16 @@ ghost use Rattle.std.specs.Prelude.{◌≡◌, ◌||◌, ◌↔◌, false, true,
 
 use std::marker::Model;
 
-/// What a transaction does to an object: it reads or writes the whole value. A write conflicts with reads and
-/// with other writes; two reads do not conflict.
+/// What a transaction does to an object: it reads or writes the whole value, or adds to it. Two reads do not conflict,
+/// nor do two adds; any other two operations do.
 #[derive(Clone, Copy, Debug, PartialEq, Eq)]
 pub enum Op {
     /// Reads the value.
     Read,
     /// Replaces the value.
     Write,
+    /// Adds to the value; the sum wraps.
+    Add,
 }
 
 impl Op {
@@ -23,7 +25,7 @@ impl Op {
     pub fn conflicts_with(self, other: Op) -> bool
         ensures { result ≡ conflict self other }
     {
-        self == Op::Write || other == Op::Write
+        self == Op::Write || self != other
     }
 }
 
@@ -32,6 +34,7 @@ impl Op {
 pub struct Ops {
     read: bool,
     write: bool,
+    add: bool,
 }
 
 impl Model for Ops {
@@ -40,11 +43,11 @@ impl Model for Ops {
 
     ghost Value = { OpSet };
 
-    ghost view = { λ ops. record { read = ops.read; write = ops.write } };
+    ghost view = { λ ops. record { read = ops.read; write = ops.write; add = ops.add } };
 
-    ghost invariant = { λ ops. IsTrue (ops.read || ops.write) };
+    ghost invariant = { λ ops. IsTrue (ops.read || ops.write || ops.add) };
 
-    ghost inverse = { λ shown. record { read = shown.read; write = shown.write } };
+    ghost inverse = { λ shown. record { read = shown.read; write = shown.write; add = shown.add } };
 }
 
 impl Ops {
@@ -52,13 +55,28 @@ impl Ops {
 
     /// Returns the set of the operations whose flag is true, and `None` if both are false.
     pub fn new(read: bool, write: bool) -> Option<Ops>
-        ensures some { IfSome result (λ ops. ops ≡ op_set read write) }
+        ensures some { IfSome result (λ ops. ops ≡ op_set read write false) }
         ensures none { IsNone result ↔ ((read || write) ≡ false) }
     {
         if read || write {
-            Some(Ops { read, write })
+            Some(Ops {
+                read,
+                write,
+                add: false,
+            })
         } else {
             None
+        }
+    }
+
+    /// Returns the set of Add and of the operations whose flag is true.
+    pub fn with_add(read: bool, write: bool) -> Ops
+        ensures { result ≡ op_set read write true }
+    {
+        Ops {
+            read,
+            write,
+            add: true,
         }
     }
 
@@ -67,15 +85,10 @@ impl Ops {
     pub fn only(op: Op) -> Ops
         ensures { result ≡ only_op op }
     {
-        match op {
-            Op::Read => Ops {
-                read: true,
-                write: false,
-            },
-            Op::Write => Ops {
-                read: false,
-                write: true,
-            },
+        Ops {
+            read: op == Op::Read,
+            write: op == Op::Write,
+            add: op == Op::Add,
         }
     }
 
@@ -87,6 +100,7 @@ impl Ops {
         Ops {
             read: self.read || op == Op::Read,
             write: self.write || op == Op::Write,
+            add: self.add || op == Op::Add,
         }
     }
 
@@ -97,12 +111,13 @@ impl Ops {
         match op {
             Op::Read => self.read,
             Op::Write => self.write,
+            Op::Add => self.add,
         }
     }
 
     /// Says what holds of all sets, for proofs. It does nothing.
     pub fn laws(self)
-        ensures { (self.read || self.write) ≡ true }
+        ensures { (self.read || self.write || self.add) ≡ true }
     {
         let _ = self.read;
     }

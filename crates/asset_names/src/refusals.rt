@@ -47,7 +47,7 @@ pub fn refusal_to_work(t: Txn, status: Status) -> Option<Refusal>
     }
 }
 
-/// Returns why a transaction with this status may not read or write the object: the refusal of
+/// Returns why a transaction with this status may not read, write or add to the object: the refusal of
 /// `refusal_to_work`, otherwise NoObject if the object does not exist.
 #[tactic(auto, unfolding(crate::specs::Answers::first_refusal, crate::specs::Answers::is_unknown, crate::specs::Answers::has_ended, crate::specs::Answers::is_running))]
 pub fn refusal_to_operate(t: Txn, status: Status, x: Ob, exists: bool) -> Option<Refusal>

@@ -7,7 +7,7 @@ pub enum Status {
     Unknown,
     /// It is registered and not started.
     Initiated,
-    /// It is started, and may read and write.
+    /// It is started, and may read, write and add.
     Running,
     /// It has done its work and has not ended.
     Completed,

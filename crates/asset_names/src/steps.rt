@@ -41,6 +41,12 @@ pub enum Step {
         x: Ob,
         v: i64,
     },
+    /// Locks `x` for adding and adds `d` to it; the sum wraps.
+    Add {
+        t: Txn,
+        x: Ob,
+        d: i64,
+    },
     /// Says that `t` has done its work.
     Complete {
         t: Txn,
@@ -80,7 +86,7 @@ pub enum Step {
     },
 }
 
-/// Returns the value that a write asks for, and 0 for any other step. A signed number from a step is passed on
+/// Returns the value that a write asks for or that an add adds, and 0 for any other step. A signed number from a step is passed on
 /// as the result of a call, so that the proof knows its range.
 #[tactic(auto, unfolding(crate::specs::Steps::value_asked))]
 pub fn value_asked(step: &Step) -> i64
@@ -88,6 +94,7 @@ pub fn value_asked(step: &Step) -> i64
 {
     match *step {
         Step::Write { v, .. } => v,
+        Step::Add { d, .. } => d,
         _ => 0,
     }
 }

@@ -3,6 +3,7 @@
 
 use asset_names::{NoMemory, Ob, ObList, ObSet, Op, Ops, SetFault, Txn};
 use asset_permits::Permits;
+use asset_test_tools::ops_of;
 use std::alloc::Global;
 use std::test::Fail;
 
@@ -208,15 +209,14 @@ struct Plain {
     giver: u64,
     taker: u64,
     objects: Option<(u64, u64)>,
-    reads: bool,
-    writes: bool,
+    ops: Ops,
 }
 
 impl Plain {
     /// Returns whether the two are the same.
     fn is_same(&self, other: &Plain) -> bool {
         (self.giver, self.taker, self.objects) == (other.giver, other.taker, other.objects)
-            && (self.reads, self.writes) == (other.reads, other.writes)
+            && self.ops == other.ops
     }
 
     /// Returns whether the permit has the object.
@@ -229,11 +229,7 @@ impl Plain {
 
     /// Returns whether the permit has the object and the operation.
     fn covers(&self, x: u64, op: Op) -> bool {
-        let has_op = match op {
-            Op::Read => self.reads,
-            Op::Write => self.writes,
-        };
-        has_op && self.has(x)
+        self.ops.has(op) && self.has(x)
     }
 
     /// Returns the copy that the receiver gives on one object.
@@ -242,8 +238,7 @@ impl Plain {
             giver: receiver,
             taker: self.taker,
             objects: Some((x, x)),
-            reads: self.reads,
-            writes: self.writes,
+            ops: self.ops,
         }
     }
 
@@ -253,15 +248,6 @@ impl Plain {
             None => Ok(ObSet::All),
             Some((low, high)) if low == high => Ok(ObSet::Listed(ObList::one(Ob(low)))),
             Some((low, high)) => two(low, high),
-        }
-    }
-
-    /// Returns the operations of the permit.
-    fn ops(&self) -> Ops {
-        match (self.reads, self.writes) {
-            (true, true) => Ops::only(Op::Read).with(Op::Write),
-            (false, true) => Ops::only(Op::Write),
-            _ => Ops::only(Op::Read),
         }
     }
 }
@@ -276,12 +262,7 @@ fn push_new(list: &mut Vec<Plain>, plain: Plain) -> Result<(), Fail> {
 
 /// Adds a permit to permits and to the list.
 fn give(permits: &mut Permits, list: &mut Vec<Plain>, plain: Plain) -> Result<(), Fail> {
-    permits.add(
-        Txn(plain.giver),
-        Txn(plain.taker),
-        plain.set()?,
-        plain.ops(),
-    )?;
+    permits.add(Txn(plain.giver), Txn(plain.taker), plain.set()?, plain.ops)?;
     push_new(list, plain)
 }
 
@@ -296,8 +277,7 @@ fn given(giver: u64, number: u64) -> Plain {
         } else {
             Some((one.min(other), one.max(other)))
         },
-        reads: number % 3 != 1,
-        writes: number % 3 != 0,
+        ops: ops_of(number),
     }
 }
 
@@ -363,7 +343,8 @@ fn first_difference(permits: &mut Permits, list: &[Plain]) -> Option<u64> {
         for u in 0..NAMES {
             let read = agrees_from(permits, list, u, x, Op::Read);
             let write = agrees_from(permits, list, u, x, Op::Write);
-            if !read || !write {
+            let add = agrees_from(permits, list, u, x, Op::Add);
+            if !read || !write || !add {
                 return Some(x);
             }
         }

@@ -2,7 +2,7 @@
 
 use asset_names::{NoMemory, Ob, ObList, ObSet, Op, Ops, SetFault, Txn};
 use asset_permits::Permits;
-use asset_test_tools::next;
+use asset_test_tools::{next, ops_of};
 use std::test::Fail;
 
 /// How many transactions and objects there are beside the plain list, and how many calls are drawn.
@@ -10,7 +10,7 @@ const NAMES: u64 = 5;
 
 const OBJECTS: u64 = 3;
 
-const CALLS: usize = 3_000;
+const CALLS: usize = 1_000;
 
 /// Returns the set of two objects.
 fn two(first: u64, second: u64) -> Result<ObSet, SetFault> {
@@ -136,15 +136,14 @@ struct Plain {
     giver: u64,
     taker: u64,
     set: u64,
-    reads: bool,
-    writes: bool,
+    ops: Ops,
 }
 
 impl Plain {
     /// Returns whether the two are the same.
     fn is_same(&self, other: &Plain) -> bool {
         (self.giver, self.taker, self.set) == (other.giver, other.taker, other.set)
-            && (self.reads, self.writes) == (other.reads, other.writes)
+            && self.ops == other.ops
     }
 
     /// Returns whether the permit has the object and the operation.
@@ -155,11 +154,7 @@ impl Plain {
             2 => x == 2,
             _ => x < 3,
         };
-        let has_op = match op {
-            Op::Read => self.reads,
-            Op::Write => self.writes,
-        };
-        has_object && has_op
+        has_object && self.ops.has(op)
     }
 }
 
@@ -177,15 +172,6 @@ fn set_of(number: u64) -> Result<ObSet, NoMemory> {
     }
 }
 
-/// Returns the operations of a permit.
-fn ops_of(plain: &Plain) -> Ops {
-    match (plain.reads, plain.writes) {
-        (true, true) => Ops::only(Op::Read).with(Op::Write),
-        (false, true) => Ops::only(Op::Write),
-        _ => Ops::only(Op::Read),
-    }
-}
-
 /// Returns who allows whom to do the operation on the object, a bit for each pair.
 fn shown_for(permits: &mut Permits, x: u64, op: Op) -> u64 {
     let mut bits: u64 = 0;
@@ -198,7 +184,7 @@ fn shown_for(permits: &mut Permits, x: u64, op: Op) -> u64 {
 }
 
 /// Returns all that permits show of the transactions and objects in play.
-fn shown(permits: &mut Permits) -> [u64; 6] {
+fn shown(permits: &mut Permits) -> [u64; 9] {
     [
         shown_for(permits, 1, Op::Read),
         shown_for(permits, 2, Op::Read),
@@ -206,6 +192,9 @@ fn shown(permits: &mut Permits) -> [u64; 6] {
         shown_for(permits, 1, Op::Write),
         shown_for(permits, 2, Op::Write),
         shown_for(permits, OBJECTS, Op::Write),
+        shown_for(permits, 1, Op::Add),
+        shown_for(permits, 2, Op::Add),
+        shown_for(permits, OBJECTS, Op::Add),
     ]
 }
 
@@ -244,13 +233,16 @@ fn agrees(permits: &mut Permits, list: &[Plain]) -> bool {
             plain_for(list, 1, Op::Write),
             plain_for(list, 2, Op::Write),
             plain_for(list, OBJECTS, Op::Write),
+            plain_for(list, 1, Op::Add),
+            plain_for(list, 2, Op::Add),
+            plain_for(list, OBJECTS, Op::Add),
         ]
 }
 
 /// Adds a permit. If memory runs out, nothing that shows has changed, and the same call is made again.
 fn add_plain(permits: &mut Permits, plain: &Plain) -> Result<(), NoMemory> {
     let (giver, taker) = (Txn(plain.giver), Txn(plain.taker));
-    let (objects, ops) = (set_of(plain.set)?, ops_of(plain));
+    let (objects, ops) = (set_of(plain.set)?, plain.ops);
     let before = shown(permits);
     match permits.add(giver, taker, objects, ops) {
         Err(NoMemory) if shown(permits) == before => permits.add(giver, taker, objects, ops),
@@ -270,8 +262,7 @@ fn call(permits: &mut Permits, list: &mut Vec<Plain>, number: u64) -> Result<(),
         giver,
         taker: (number >> 30) % NAMES,
         set: (number >> 36) % 4,
-        reads: (number >> 38) % 3 != 0,
-        writes: (number >> 38) % 3 != 1,
+        ops: ops_of(number >> 38),
     };
     add_plain(permits, &plain)?;
     if !list.iter().any(|one| one.is_same(&plain)) {

@@ -53,8 +53,9 @@ objects_self (Listed xs) = lists_self xs
 ops_are : (p q : OpSet) → same_ops p q ≡ true → p ≡ q
 unfolding same_ops
 ops_are p q h =
-    let parts = and_parts (beq p.read q.read) (beq p.write q.write) h in
-    λ i. record { read = beq-true p.read q.read parts.0 i; write = beq-true p.write q.write parts.1 i }
+    let all = and_parts _ _ h in
+    let parts = and_parts _ _ all.0 in
+    λ i. record { read = beq-true p.read q.read parts.0 i; write = beq-true p.write q.write parts.1 i; add = beq-true p.add q.add all.1 i }
 
 pub same_is : (d e : Descriptor) → same_descriptor d e ≡ true → d ≡ e
 unfolding same_descriptor
@@ -71,7 +72,7 @@ same_is d e h =
 pub same_self : (d : Descriptor) → same_descriptor d d ≡ true
 unfolding same_descriptor same_ops
 same_self d =
-    and_from _ _ (and_from _ _ (and_from _ _ (eq-eqb d.giver d.giver refl) (eq-eqb d.taker d.taker refl)) (objects_self d.objects)) (and_from _ _ (beq_self d.ops.read) (beq_self d.ops.write))
+    and_from _ _ (and_from _ _ (and_from _ _ (eq-eqb d.giver d.giver refl) (eq-eqb d.taker d.taker refl)) (objects_self d.objects)) (and_from _ _ (and_from _ _ (beq_self d.ops.read) (beq_self d.ops.write)) (beq_self d.ops.add))
 
 -- ---- who is let, as callers say it
 

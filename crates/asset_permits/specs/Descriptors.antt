@@ -27,7 +27,7 @@ same_objects (Listed objects) (Listed others) = pointwise (λ (x y : Ob). x.0 ==
 
 -- whether the two are the same operations
 unfoldable pub same_ops : OpSet → OpSet → Bool
-same_ops ops others = beq ops.read others.read && beq ops.write others.write
+same_ops ops others = beq ops.read others.read && beq ops.write others.write && beq ops.add others.add
 
 -- whether the two say the same
 unfoldable pub same_descriptor : Descriptor → Descriptor → Bool

@@ -101,5 +101,7 @@ ghost use Rattle.asset_permits.specs.Descriptors.{same_ops};
 fn same_ops(ops: Ops, others: Ops) -> bool
     ensures { result ≡ same_ops ops others }
 {
-    ops.has(Op::Read) == others.has(Op::Read) && ops.has(Op::Write) == others.has(Op::Write)
+    ops.has(Op::Read) == others.has(Op::Read)
+        && ops.has(Op::Write) == others.has(Op::Write)
+        && ops.has(Op::Add) == others.has(Op::Add)
 }

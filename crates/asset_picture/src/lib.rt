@@ -1,4 +1,4 @@
-//! A history as a picture: an SVG document with a lane for each transaction, marks for reads and writes, and arrows. The one
+//! A history as a picture: an SVG document with a lane for each transaction, marks for operations, and arrows. The one
 //! fault is that memory runs out; a part of the text may have been appended then.
 #![tactic(auto)]
 

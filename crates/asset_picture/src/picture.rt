@@ -167,7 +167,7 @@ fn push_grouped(
 }
 
 /// Appends a history as a picture: an SVG 1.1 document without scripts. It has a lane for each transaction, from the entry
-/// that initiated it to the one that ended it; a mark for each read and each write that took effect; and arrows for permits,
+/// that initiated it to the one that ended it; a mark for each operation that took effect; and arrows for permits,
 /// delegations and dependencies that were made, and from each read to its source, if that is no opening value. A history of
 /// more than 200 entries is a table of its transactions.
 ///

@@ -13,7 +13,7 @@ text{font:11px ui-monospace,Menlo,Consolas,'DejaVu Sans Mono',monospace;fill:#1f
 .note,.key,.row{text-anchor:start}.object{font-weight:bold}
 .lane{fill:none;stroke-width:5;stroke:#818b98}
 .committed .lane{stroke:#2da44e}.aborted .lane{stroke:#e5534b}.live .lane{stroke:#539bf5}
-.read circle{fill:#ffffff;stroke:#1f2328;stroke-width:2}.write rect{fill:#1f2328}
+.read circle{fill:#ffffff;stroke:#1f2328;stroke-width:2}.write rect{fill:#1f2328}.add path{fill:none;stroke:#1f2328;stroke-width:3}
 .arrow{fill:none;stroke-width:1.5}.source{stroke:#818b98;stroke-width:1;stroke-opacity:.7;marker-end:url(#s)}
 .permit{stroke:#8250df;marker-end:url(#p)}.delegate{stroke:#bc4c00;stroke-width:2.5;marker-end:url(#d)}
 .cd,.ad,.gc{stroke:#0e8a93;marker-end:url(#t)}.cd{stroke-dasharray:4 3}.gc{marker-start:url(#u)}
@@ -23,7 +23,7 @@ text{font:11px ui-monospace,Menlo,Consolas,'DejaVu Sans Mono',monospace;fill:#1f
 const DARK: &str = "\
 @media (prefers-color-scheme:dark){
 .page{fill:#0d1117}.even{fill:#171d26}.odd{fill:#1f2733}text{fill:#e6edf3}.note,.step{fill:#9198a1}
-.read circle{fill:#0d1117;stroke:#e6edf3}.write rect{fill:#e6edf3}.permit{stroke:#a475f9}
+.read circle{fill:#0d1117;stroke:#e6edf3}.write rect{fill:#e6edf3}.add path{stroke:#e6edf3}.permit{stroke:#a475f9}
 }
 </style>
 ";
@@ -45,7 +45,8 @@ const LEGEND: &str = "\
 <g class='live'><path class='lane' d='M250 22H280'/></g><text class='key' x='286' y='26'>live</text>
 <g class='read' transform='translate(345 22)'><circle r='5'/></g><text class='key' x='356' y='26'>read</text>
 <g class='write' transform='translate(415 22)'><rect x='-5' y='-5' width='10' height='10'/></g><text class='key' x='426' y='26'>write</text>
-<text class='note' x='480' y='26'>below a mark: object, value; pale: dead group</text>
+<g class='add' transform='translate(475 22)'><path d='M-6 0H6M0-6V6'/></g><text class='key' x='486' y='26'>add</text>
+<text class='note' x='522' y='26'>below a mark: object, value; pale: dead group</text>
 <path class='arrow source' d='M20 44H50'/><text class='key' x='56' y='48'>read to its source</text>
 <path class='arrow permit' d='M200 44H230'/><text class='key' x='236' y='48'>permit</text>
 <path class='arrow delegate' d='M300 44H330'/><text class='key' x='336' y='48'>delegate</text>

@@ -7,7 +7,7 @@ use asset_history::History;
 use asset_names::{Kind, NoMemory, Ob, Reply, Step, Txn};
 use asset_sources::{Source, source};
 use asset_test_tools::{
-    abort, begin, commit, complete, delegate, depend, initiate, next, permit, read, write,
+    abort, add, begin, commit, complete, delegate, depend, initiate, next, permit, read, write,
 };
 use std::alloc::Global;
 use std::test::Fail;
@@ -22,7 +22,7 @@ fn step_of(number: u64) -> Step {
     let t = (number >> 40) % NAMES;
     let u = (number >> 30) % NAMES;
     let x = (number >> 20) % 3 + 1;
-    match (number >> 10) % 12 {
+    match (number >> 10) % 13 {
         0 => initiate(t),
         1 => begin(t),
         2 => complete(t),
@@ -32,6 +32,7 @@ fn step_of(number: u64) -> Step {
         6 => delegate(t, u, &[Ob(x)]),
         7 => depend(Kind::Ad, t, u),
         8 => write(t, x, x as i64),
+        12 => add(t, x, x as i64),
         9 => depend(Kind::Cd, t, u),
         _ => read(t, x),
     }
@@ -54,15 +55,16 @@ fn steps_are_drawn(core: &mut Core) -> Option<u64> {
     None
 }
 
-/// Returns which of lanes, reads, writes and arrows an entry has, and whether its source is an entry.
-fn row_of(step: &Step, reply: &Reply, from_entry: bool) -> [usize; 3] {
+/// Returns how many reads, writes, adds and arrows an entry has; a read has an arrow if its source is an entry.
+fn row_of(step: &Step, reply: &Reply, from_entry: bool) -> [usize; 4] {
     match (step, reply) {
-        (Step::Read { .. }, Reply::Value(_)) => [1, 0, usize::from(from_entry)],
-        (Step::Write { .. }, Reply::Done) => [0, 1, 0],
-        (Step::Permit { .. }, Reply::Done) => [0, 0, 1],
-        (Step::Delegate { .. }, Reply::Done) => [0, 0, 1],
-        (Step::Depend { .. }, Reply::Done) => [0, 0, 1],
-        _ => [0, 0, 0],
+        (Step::Read { .. }, Reply::Value(_)) => [1, 0, 0, usize::from(from_entry)],
+        (Step::Write { .. }, Reply::Done) => [0, 1, 0, 0],
+        (Step::Add { .. }, Reply::Done) => [0, 0, 1, 0],
+        (Step::Permit { .. }, Reply::Done) => [0, 0, 0, 1],
+        (Step::Delegate { .. }, Reply::Done) => [0, 0, 0, 1],
+        (Step::Depend { .. }, Reply::Done) => [0, 0, 0, 1],
+        _ => [0, 0, 0, 0],
     }
 }
 
@@ -78,15 +80,16 @@ fn has_source(alloc: Global, history: &History, index: usize) -> bool {
     }
 }
 
-/// Returns how many reads, writes and arrows the picture of a history has, by a plain search.
-fn searched(alloc: Global, history: &History) -> [usize; 3] {
-    let mut all = [0; 3];
+/// Returns how many reads, writes, adds and arrows the picture of a history has, by a plain search.
+fn searched(alloc: Global, history: &History) -> [usize; 4] {
+    let mut all = [0; 4];
     for i in 0..history.len() {
         if let Some((step, reply)) = history.entry(i) {
             let row = row_of(&step, &reply, has_source(alloc, history, i));
             all[0] = usize::saturating_add(all[0], row[0]);
             all[1] = usize::saturating_add(all[1], row[1]);
             all[2] = usize::saturating_add(all[2], row[2]);
+            all[3] = usize::saturating_add(all[3], row[3]);
         }
     }
     all
@@ -115,14 +118,15 @@ fn is_used(history: &History, t: Txn) -> bool {
     false
 }
 
-/// Returns how many reads, writes and arrows a picture has, and how many lanes.
-fn shown(picture: &Result<String, NoMemory>) -> Option<([usize; 3], usize)> {
+/// Returns how many reads, writes, adds and arrows a picture has, and how many lanes.
+fn shown(picture: &Result<String, NoMemory>) -> Option<([usize; 4], usize)> {
     match picture {
         Ok(picture) => {
             let (_, shapes) = parts(picture)?;
             let row = [
                 count(shapes, "<circle r='5'/>"),
                 count(shapes, "<rect x='-5'"),
+                count(shapes, "<path d='M-6 0H6M0-6V6'"),
                 count(shapes, "<path class='arrow"),
             ];
             Some((row, count(shapes, "<text class='name'")))

@@ -15,7 +15,7 @@ use Rattle.asset_names.specs.declared.sets.ObSet.TheVariants.{All, Listed}
 use Rattle.asset_names.specs.declared.steps.Kind.{Kind}
 use Rattle.asset_names.specs.declared.steps.Kind.TheVariants.{Cd, Ad, Gc}
 use Rattle.asset_names.specs.declared.steps.Step.{Step}
-use Rattle.asset_names.specs.declared.steps.Step.TheVariants.{Initiate, Begin, Read, Write, Complete, Permit, Delegate, Depend, Commit, Abort, WaitFor}
+use Rattle.asset_names.specs.declared.steps.Step.TheVariants.{Initiate, Begin, Read, Write, Add, Complete, Permit, Delegate, Depend, Commit, Abort, WaitFor}
 use Rattle.asset_names.specs.OpSets.{OpSet}
 use Rattle.asset_grammar.specs.Lines.{Lacks}
 use Rattle.asset_printing.specs.Printed.{AreNumbers, kind_text, list_text, more_text, object_text, ops_text, parent_words, set_text, step_text, step_words}
@@ -93,11 +93,16 @@ plain_set (Listed objects) set = plain_list objects set.1 set.3
 
 plain_ops : (ops : OpSet) → IsPlain (ops_text ops)
 unfolding ops_text
-plain_ops ops = go ops.read ops.write refl refl where
-  go : (read write : Bool) → ops.read ≡ read → ops.write ≡ write → IsPlain (ops_text ops)
-  go true true r w = rw (r, w) (plain_text (codes "rw") refl refl)
-  go true false r w = rw (r, w) (plain_text (codes "r") refl refl)
-  go false write r w = rw r (plain_text (codes "w") refl refl)
+plain_ops ops = go ops.read ops.write ops.add refl refl refl where
+  go : (read write add : Bool) → ops.read ≡ read → ops.write ≡ write → ops.add ≡ add → IsPlain (ops_text ops)
+  go true true true r w a = rw (r, w, a) (plain_text (codes "rwa") refl refl)
+  go true true false r w a = rw (r, w, a) (plain_text (codes "rw") refl refl)
+  go true false true r w a = rw (r, w, a) (plain_text (codes "ra") refl refl)
+  go true false false r w a = rw (r, w, a) (plain_text (codes "r") refl refl)
+  go false true true r w a = rw (r, w, a) (plain_text (codes "wa") refl refl)
+  go false true false r w a = rw (r, w, a) (plain_text (codes "w") refl refl)
+  go false false true r w a = rw (r, w, a) (plain_text (codes "a") refl refl)
+  go false false false r w a = rw (r, w, a) (plain_text (codes "") refl refl)
 
 plain_kind : (kind : Kind) → IsPlain (kind_text kind)
 unfolding kind_text
@@ -117,6 +122,7 @@ plain_words (Initiate t parent) h = (plain_text (codes "initiate") refl refl, (p
 plain_words (Begin t) h = (plain_text (codes "begin") refl refl, (plain_number t.0 h, tt))
 plain_words (Read t x) h = (plain_text (codes "read") refl refl, (plain_number t.0 h.0, (plain_number x.0 h.1, tt)))
 plain_words (Write t x v) h = (plain_text (codes "write") refl refl, (plain_number t.0 h.0, (plain_number x.0 h.1, (plain_value v h.2, tt))))
+plain_words (Add t x d) h = (plain_text (codes "add") refl refl, (plain_number t.0 h.0, (plain_number x.0 h.1, (plain_value d h.2, tt))))
 plain_words (Complete t) h = (plain_text (codes "complete") refl refl, (plain_number t.0 h, tt))
 plain_words (Permit giver taker obs ops) h = (plain_text (codes "permit") refl refl, (plain_number giver.0 h.0, (plain_number taker.0 h.1, (plain_ops ops, (plain_set obs h.2, tt)))))
 plain_words (Delegate giver taker obs) h = (plain_text (codes "delegate") refl refl, (plain_number giver.0 h.0, (plain_number taker.0 h.1, (plain_set obs h.2, tt))))
@@ -133,6 +139,7 @@ few_words (Initiate t (Some parent)) = omega arith
 few_words (Begin t) = omega arith
 few_words (Read t x) = omega arith
 few_words (Write t x v) = omega arith
+few_words (Add t x d) = omega arith
 few_words (Complete t) = omega arith
 few_words (Permit giver taker obs ops) = omega arith
 few_words (Delegate giver taker obs) = omega arith

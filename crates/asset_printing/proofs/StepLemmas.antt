@@ -108,6 +108,16 @@ write_reads t x v t_small x_small fits =
       value_of-signed_decimal v fits,
     ) refl
 
+pub add_reads : (t : Txn) (x : Ob) (d : ℤ) → t.0 < 2 ^ 64 → x.0 < 2 ^ 64 → mag d < 2 ^ 63 → command_of (step_text (Step'.Add t x d)) ≡ Some (Ask (Step'.Add t x d))
+unfolding step_text step_words command_of words command_from step_command step_by keyword_of keyword_text all_keywords txn_of txn_object_and_value all_three ob_of
+add_reads t x d t_small x_small fits =
+    rw (
+      cut_again 32 (codes "add") (decimal t.0 ∷ decimal x.0 ∷ signed_decimal d ∷ []) (text_lacks 32 (codes "add") refl) (number_lacks 32 t.0 refl t_small, (number_lacks 32 x.0 refl x_small, (value_lacks d fits, tt))),
+      number_of-decimal t.0 t_small,
+      number_of-decimal x.0 x_small,
+      value_of-signed_decimal d fits,
+    ) refl
+
 pub delegate_reads : (giver taker : Txn) (obs : ObSet) → giver.0 < 2 ^ 64 → taker.0 < 2 ^ 64 → set_of (set_text obs) ≡ Some obs → Lacks 32 (set_text obs) → command_of (step_text (Step'.Delegate giver taker obs)) ≡ Some (Ask (Step'.Delegate giver taker obs))
 unfolding step_text step_words command_of words command_from step_command step_by keyword_of keyword_text all_keywords txn_of txns_and_set both
 delegate_reads giver taker obs giver_small taker_small back lacks =
@@ -119,24 +129,33 @@ delegate_reads giver taker obs giver_small taker_small back lacks =
     ) refl
 
 -- a set of operations reads back
-pub ops_read : (ops : OpSet) → (ops.read || ops.write) ≡ true → ops_of (ops_text ops) ≡ Some ops
+pub ops_read : (ops : OpSet) → (ops.read || ops.write || ops.add) ≡ true → ops_of (ops_text ops) ≡ Some ops
 unfolding ops_of ops_text
-ops_read ops some = go ops.read ops.write refl refl some where
-  go : (read write : Bool) → ops.read ≡ read → ops.write ≡ write → (read || write) ≡ true → ops_of (ops_text ops) ≡ Some ops
-  go true true r w h = rw (r, w) refl
-  go true false r w h = rw (r, w) refl
-  go false true r w h = rw (r, w) refl
-  go false false r w h = absurd (cc)
+ops_read ops some = go ops.read ops.write ops.add refl refl refl some where
+  go : (read write add : Bool) → ops.read ≡ read → ops.write ≡ write → ops.add ≡ add → (read || write || add) ≡ true → ops_of (ops_text ops) ≡ Some ops
+  go true true true r w a h = rw (r, w, a) refl
+  go true true false r w a h = rw (r, w, a) refl
+  go true false true r w a h = rw (r, w, a) refl
+  go true false false r w a h = rw (r, w, a) refl
+  go false true true r w a h = rw (r, w, a) refl
+  go false true false r w a h = rw (r, w, a) refl
+  go false false true r w a h = rw (r, w, a) refl
+  go false false false r w a h = absurd (cc)
 
 pub ops_lack : (ops : OpSet) → Lacks 32 (ops_text ops)
 unfolding ops_text
-ops_lack ops = go ops.read ops.write refl refl where
-  go : (read write : Bool) → ops.read ≡ read → ops.write ≡ write → Lacks 32 (ops_text ops)
-  go true true r w = rw (r, w) (text_lacks 32 (codes "rw") refl)
-  go true false r w = rw (r, w) (text_lacks 32 (codes "r") refl)
-  go false write r w = rw r (text_lacks 32 (codes "w") refl)
+ops_lack ops = go ops.read ops.write ops.add refl refl refl where
+  go : (read write add : Bool) → ops.read ≡ read → ops.write ≡ write → ops.add ≡ add → Lacks 32 (ops_text ops)
+  go true true true r w a = rw (r, w, a) (text_lacks 32 (codes "rwa") refl)
+  go true true false r w a = rw (r, w, a) (text_lacks 32 (codes "rw") refl)
+  go true false true r w a = rw (r, w, a) (text_lacks 32 (codes "ra") refl)
+  go true false false r w a = rw (r, w, a) (text_lacks 32 (codes "r") refl)
+  go false true true r w a = rw (r, w, a) (text_lacks 32 (codes "wa") refl)
+  go false true false r w a = rw (r, w, a) (text_lacks 32 (codes "w") refl)
+  go false false true r w a = rw (r, w, a) (text_lacks 32 (codes "a") refl)
+  go false false false r w a = rw (r, w, a) (text_lacks 32 (codes "") refl)
 
-pub permit_reads : (giver taker : Txn) (obs : ObSet) (ops : OpSet) → giver.0 < 2 ^ 64 → taker.0 < 2 ^ 64 → (ops.read || ops.write) ≡ true → set_of (set_text obs) ≡ Some obs → Lacks 32 (set_text obs) → command_of (step_text (Step'.Permit giver taker obs ops)) ≡ Some (Ask (Step'.Permit giver taker obs ops))
+pub permit_reads : (giver taker : Txn) (obs : ObSet) (ops : OpSet) → giver.0 < 2 ^ 64 → taker.0 < 2 ^ 64 → (ops.read || ops.write || ops.add) ≡ true → set_of (set_text obs) ≡ Some obs → Lacks 32 (set_text obs) → command_of (step_text (Step'.Permit giver taker obs ops)) ≡ Some (Ask (Step'.Permit giver taker obs ops))
 unfolding step_text step_words command_of words command_from step_command step_by keyword_of keyword_text all_keywords txn_of txns_ops_and_set both
 permit_reads giver taker obs ops giver_small taker_small some back lacks =
     rw (

@@ -9,7 +9,7 @@ use Rattle.asset_names.specs.declared.sets.ObSet.TheVariants.{All, Listed}
 use Rattle.asset_names.specs.declared.steps.Kind.{Kind}
 use Rattle.asset_names.specs.declared.steps.Kind.TheVariants.{Cd, Ad, Gc}
 use Rattle.asset_names.specs.declared.steps.Step.{Step}
-use Rattle.asset_names.specs.declared.steps.Step.TheVariants.{Initiate, Begin, Read, Write, Complete, Permit, Delegate, Depend, Commit, Abort, WaitFor}
+use Rattle.asset_names.specs.declared.steps.Step.TheVariants.{Initiate, Begin, Read, Write, Add, Complete, Permit, Delegate, Depend, Commit, Abort, WaitFor}
 use Rattle.asset_names.specs.OpSets.{OpSet}
 
 -- objects have numbers below 2 ^ 64
@@ -30,9 +30,9 @@ unfoldable pub set_text : ObSet → List ℕ
 set_text All = codes "all"
 set_text (Listed objects) = list_text objects
 
--- a set of operations, which is not empty
+-- a set of operations: a letter for each of them
 unfoldable pub ops_text : OpSet → List ℕ
-ops_text ops = cond ops.read (cond ops.write (codes "rw") (codes "r")) (codes "w")
+ops_text ops = cond ops.read (codes "r") [] ++ cond ops.write (codes "w") [] ++ cond ops.add (codes "a") []
 
 -- a kind of dependency
 unfoldable pub kind_text : Kind → List ℕ
@@ -51,6 +51,7 @@ step_words (Initiate t parent) = codes "initiate" ∷ decimal t.0 ∷ parent_wor
 step_words (Begin t) = codes "begin" ∷ decimal t.0 ∷ []
 step_words (Read t x) = codes "read" ∷ decimal t.0 ∷ decimal x.0 ∷ []
 step_words (Write t x v) = codes "write" ∷ decimal t.0 ∷ decimal x.0 ∷ signed_decimal v ∷ []
+step_words (Add t x d) = codes "add" ∷ decimal t.0 ∷ decimal x.0 ∷ signed_decimal d ∷ []
 step_words (Complete t) = codes "complete" ∷ decimal t.0 ∷ []
 step_words (Permit giver taker obs ops) = codes "permit" ∷ decimal giver.0 ∷ decimal taker.0 ∷ ops_text ops ∷ set_text obs ∷ []
 step_words (Delegate giver taker obs) = codes "delegate" ∷ decimal giver.0 ∷ decimal taker.0 ∷ set_text obs ∷ []

@@ -62,13 +62,17 @@ fn push_initiate(text: &mut String, t: Txn, parent: Option<Txn>) -> Result<(), A
 #[tactic(auto, unfolding(crate::specs::Printed::ops_text))]
 fn ops_word(ops: Ops) -> &'static str
     ensures word { result.now ≡ 32 ∷ ops_text ops ++ 32 ∷ [] }
-    ensures some { (ops.read || ops.write) ≡ true }
+    ensures some { (ops.read || ops.write || ops.add) ≡ true }
 {
     ops.laws();
-    match (ops.has(Op::Read), ops.has(Op::Write)) {
-        (true, true) => " rw ",
-        (true, false) => " r ",
-        (false, _) => " w ",
+    match (ops.has(Op::Read), ops.has(Op::Write), ops.has(Op::Add)) {
+        (true, true, true) => " rwa ",
+        (true, true, false) => " rw ",
+        (true, false, true) => " ra ",
+        (true, false, false) => " r ",
+        (false, true, true) => " wa ",
+        (false, true, false) => " w ",
+        (false, false, _) => " a ",
     }
 }
 
@@ -124,6 +128,10 @@ pub fn push_step(text: &mut String, step: &Step) -> Result<(), AllocError>
         Step::Read { t, x } => push_two(text, "read", t.0, x.0),
         Step::Write { t, x, .. } => {
             push_two(text, "write", t.0, x.0)?;
+            push_value(text, value_asked(step))
+        }
+        Step::Add { t, x, .. } => {
+            push_two(text, "add", t.0, x.0)?;
             push_value(text, value_asked(step))
         }
         Step::Complete { t } => push_one(text, "complete", t.0),

@@ -14,7 +14,7 @@ use Rattle.asset_grammar.specs.PermitOperands.{txns_ops_and_set, txns_and_set}
 use Rattle.asset_grammar.specs.Words.{words}
 use Rattle.asset_reasons.specs.declared.reasons.Reason.TheVariants.{TooLong}
 use Rattle.asset_reasons.specs.declared.reasons.Shape.{Shape}
-use Rattle.asset_reasons.specs.declared.reasons.Shape.TheVariants.{ObjectAndValue, TxnAndParent, OneTxn, TxnAndObject, TxnObjectAndValue, TxnsOpsAndSet, TxnsAndSet, KindAndTxns}
+use Rattle.asset_reasons.specs.declared.reasons.Shape.TheVariants.{ObjectAndValue, TxnAndParent, OneTxn, TxnAndObject, TxnObjectAndValue, TxnObjectAndAmount, TxnsOpsAndSet, TxnsAndSet, KindAndTxns}
 use Rattle.asset_reasons.specs.Mistakes.{HasReasonIfBad, is_bad, mistake_by, reason_of, shape_mistake, shape_of, step_shape, spelled, words_mistake}
 use Rattle.asset_reasons.proofs.ShapeLemmas.{is_read, shape_told, some_mapped}
 
@@ -39,28 +39,32 @@ step_told first operands =
                       elim (cases_Bool (bytes_eq (codes "write") first)) [
                         | inl e3 ↦ rw (e0, e1, e2, e3) (told first operands TxnObjectAndValue (txn_object_and_value operands) _ _ refl)
                         | inr e3 ↦
-                            elim (cases_Bool (bytes_eq (codes "complete") first)) [
-                              | inl e4 ↦ rw (e0, e1, e2, e3, e4) (told first operands OneTxn (one_txn operands) _ _ refl)
+                            elim (cases_Bool (bytes_eq (codes "add") first)) [
+                              | inl e4 ↦ rw (e0, e1, e2, e3, e4) (told first operands TxnObjectAndAmount (txn_object_and_value operands) _ _ refl)
                               | inr e4 ↦
-                                  elim (cases_Bool (bytes_eq (codes "permit") first)) [
-                                    | inl e5 ↦ rw (e0, e1, e2, e3, e4, e5) (told first operands TxnsOpsAndSet (txns_ops_and_set operands) _ _ refl)
+                                  elim (cases_Bool (bytes_eq (codes "complete") first)) [
+                                    | inl e5 ↦ rw (e0, e1, e2, e3, e4, e5) (told first operands OneTxn (one_txn operands) _ _ refl)
                                     | inr e5 ↦
-                                        elim (cases_Bool (bytes_eq (codes "commit") first)) [
-                                          | inl e6 ↦ rw (e0, e1, e2, e3, e4, e5, e6) (told first operands OneTxn (one_txn operands) _ _ refl)
+                                        elim (cases_Bool (bytes_eq (codes "permit") first)) [
+                                          | inl e6 ↦ rw (e0, e1, e2, e3, e4, e5, e6) (told first operands TxnsOpsAndSet (txns_ops_and_set operands) _ _ refl)
                                           | inr e6 ↦
-                                              elim (cases_Bool (bytes_eq (codes "abort") first)) [
+                                              elim (cases_Bool (bytes_eq (codes "commit") first)) [
                                                 | inl e7 ↦ rw (e0, e1, e2, e3, e4, e5, e6, e7) (told first operands OneTxn (one_txn operands) _ _ refl)
                                                 | inr e7 ↦
-                                                    elim (cases_Bool (bytes_eq (codes "wait") first)) [
+                                                    elim (cases_Bool (bytes_eq (codes "abort") first)) [
                                                       | inl e8 ↦ rw (e0, e1, e2, e3, e4, e5, e6, e7, e8) (told first operands OneTxn (one_txn operands) _ _ refl)
                                                       | inr e8 ↦
-                                                          elim (cases_Bool (bytes_eq (codes "delegate") first)) [
-                                                            | inl e9 ↦ rw (e0, e1, e2, e3, e4, e5, e6, e7, e8, e9) (told first operands TxnsAndSet (txns_and_set operands) _ _ refl)
+                                                          elim (cases_Bool (bytes_eq (codes "wait") first)) [
+                                                            | inl e9 ↦ rw (e0, e1, e2, e3, e4, e5, e6, e7, e8, e9) (told first operands OneTxn (one_txn operands) _ _ refl)
                                                             | inr e9 ↦
-                                                                elim (cases_Bool (bytes_eq (codes "depend") first)) [
-                                                                  | inl e10 ↦ rw (e0, e1, e2, e3, e4, e5, e6, e7, e8, e9, e10) (told first operands KindAndTxns (kind_and_txns operands) _ _ refl)
+                                                                elim (cases_Bool (bytes_eq (codes "delegate") first)) [
+                                                                  | inl e10 ↦ rw (e0, e1, e2, e3, e4, e5, e6, e7, e8, e9, e10) (told first operands TxnsAndSet (txns_and_set operands) _ _ refl)
                                                                   | inr e10 ↦
-                                                                      rw (e0, e1, e2, e3, e4, e5, e6, e7, e8, e9, e10) refl
+                                                                      elim (cases_Bool (bytes_eq (codes "depend") first)) [
+                                                                        | inl e11 ↦ rw (e0, e1, e2, e3, e4, e5, e6, e7, e8, e9, e10, e11) (told first operands KindAndTxns (kind_and_txns operands) _ _ refl)
+                                                                        | inr e11 ↦
+                                                                            rw (e0, e1, e2, e3, e4, e5, e6, e7, e8, e9, e10, e11) refl
+                                                                      ]
                                                                 ]
                                                           ]
                                                     ]

@@ -10,7 +10,7 @@ use Rattle.asset_grammar.specs.Sets.{ops_of, set_of}
 use Rattle.asset_reasons.specs.declared.reasons.Operand.{Operand}
 use Rattle.asset_reasons.specs.declared.reasons.Operand.TheVariants as Operand'
 use Rattle.asset_reasons.specs.declared.reasons.Shape.{Shape}
-use Rattle.asset_reasons.specs.declared.reasons.Shape.TheVariants.{ObjectAndValue, TxnAndParent, OneTxn, TxnAndObject, TxnObjectAndValue, TxnsOpsAndSet, TxnsAndSet, KindAndTxns}
+use Rattle.asset_reasons.specs.declared.reasons.Shape.TheVariants.{ObjectAndValue, TxnAndParent, OneTxn, TxnAndObject, TxnObjectAndValue, TxnObjectAndAmount, TxnsOpsAndSet, TxnsAndSet, KindAndTxns}
 use Rattle.asset_reasons.specs.Mistakes.{Found, about, first_mistake, fits, is_single, kind_mistake, number_mistake, operand_mistake, operands_of, ops_mistake, set_mistake, shape_mistake, value_mistake}
 
 pub some_mapped : {A B : Type 0} (f : A → B) (o : Option A) → is_some (option_map f o) ≡ is_some o
@@ -79,6 +79,7 @@ is_read TxnAndParent words = is_some (txn_and_parent words)
 is_read OneTxn words = is_some (one_txn words)
 is_read TxnAndObject words = is_some (txn_and_object words)
 is_read TxnObjectAndValue words = is_some (txn_object_and_value words)
+is_read TxnObjectAndAmount words = is_some (txn_object_and_value words)
 is_read TxnsOpsAndSet words = is_some (txns_ops_and_set words)
 is_read TxnsAndSet words = is_some (txns_and_set words)
 is_read KindAndTxns words = is_some (kind_and_txns words)
@@ -138,6 +139,10 @@ read_write (t ∷ x ∷ []) = refl
 read_write (t ∷ x ∷ v ∷ []) = some_all (txn_of t) (ob_of x) (value_of v) ∙ rw (some_txn t, some_ob x, ← and_true (is_some (value_of v))) refl
 read_write (t ∷ x ∷ v ∷ w ∷ rest) = refl
 
+read_add : (words : List (List ℕ)) → is_read TxnObjectAndAmount words ≡ all_read (operands_of TxnObjectAndAmount (is_single words)) words
+unfolding operands_of
+read_add words = read_write words
+
 read_permit : (words : List (List ℕ)) → is_read TxnsOpsAndSet words ≡ all_read (operands_of TxnsOpsAndSet (is_single words)) words
 unfolding txns_ops_and_set operands_of fits
 read_permit [] = refl
@@ -175,6 +180,7 @@ read_words TxnAndParent words = read_parent words
 read_words OneTxn words = read_one words
 read_words TxnAndObject words = read_pair words
 read_words TxnObjectAndValue words = read_write words
+read_words TxnObjectAndAmount words = read_add words
 read_words TxnsOpsAndSet words = read_permit words
 read_words TxnsAndSet words = read_delegate words
 read_words KindAndTxns words = read_depend words

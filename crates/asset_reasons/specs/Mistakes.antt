@@ -16,7 +16,7 @@ use Rattle.asset_reasons.specs.declared.reasons.Operand.TheVariants as Operand'
 use Rattle.asset_reasons.specs.declared.reasons.Reason.{Reason}
 use Rattle.asset_reasons.specs.declared.reasons.Reason.TheVariants.{TooLong, CapitalLetter, UnknownWord, Wants, PlusSign, LeadingZero, MinusZero, NumberOutOfRange, ValueOutOfRange, NoNumber, NoValue, SwappedOperations, NoOperations, NoKind, LoneComma, TooManyObjects, TwiceInSet}
 use Rattle.asset_reasons.specs.declared.reasons.Shape.{Shape}
-use Rattle.asset_reasons.specs.declared.reasons.Shape.TheVariants.{ObjectAndValue, TxnAndParent, OneTxn, TxnAndObject, TxnObjectAndValue, TxnsOpsAndSet, TxnsAndSet, KindAndTxns}
+use Rattle.asset_reasons.specs.declared.reasons.Shape.TheVariants.{ObjectAndValue, TxnAndParent, OneTxn, TxnAndObject, TxnObjectAndValue, TxnObjectAndAmount, TxnsOpsAndSet, TxnsAndSet, KindAndTxns}
 use Rattle.asset_reasons.specs.Spelling.{begins_with, spelling}
 
 -- a reason, and the word that it is about; no word if it is about none
@@ -124,6 +124,7 @@ operands_of TxnAndParent single = Operand'.Number ∷ cond single [] (Operand'.N
 operands_of OneTxn single = Operand'.Number ∷ []
 operands_of TxnAndObject single = Operand'.Number ∷ Operand'.Number ∷ []
 operands_of TxnObjectAndValue single = Operand'.Number ∷ Operand'.Number ∷ Operand'.Value ∷ []
+operands_of TxnObjectAndAmount single = Operand'.Number ∷ Operand'.Number ∷ Operand'.Value ∷ []
 operands_of TxnsOpsAndSet single = Operand'.Number ∷ Operand'.Number ∷ Operand'.Operations ∷ Operand'.Set ∷ []
 operands_of TxnsAndSet single = Operand'.Number ∷ Operand'.Number ∷ Operand'.Set ∷ []
 operands_of KindAndTxns single = Operand'.Kind ∷ Operand'.Number ∷ Operand'.Number ∷ []
@@ -135,13 +136,14 @@ step_shape word =
     (cond (bytes_eq (codes "begin") word) (Some OneTxn)
     (cond (bytes_eq (codes "read") word) (Some TxnAndObject)
     (cond (bytes_eq (codes "write") word) (Some TxnObjectAndValue)
+    (cond (bytes_eq (codes "add") word) (Some TxnObjectAndAmount)
     (cond (bytes_eq (codes "complete") word) (Some OneTxn)
     (cond (bytes_eq (codes "permit") word) (Some TxnsOpsAndSet)
     (cond (bytes_eq (codes "commit") word) (Some OneTxn)
     (cond (bytes_eq (codes "abort") word) (Some OneTxn)
     (cond (bytes_eq (codes "wait") word) (Some OneTxn)
     (cond (bytes_eq (codes "delegate") word) (Some TxnsAndSet)
-    (cond (bytes_eq (codes "depend") word) (Some KindAndTxns) None))))))))))
+    (cond (bytes_eq (codes "depend") word) (Some KindAndTxns) None)))))))))))
 
 -- which operands a first word wants, if a line can begin with it
 unfoldable pub shape_of : List ℕ → Option Shape

@@ -1,6 +1,7 @@
 //! Words that are to be operands, and why they are none.
-ghost use Rattle.std.specs.Prelude.{◌≡◌, [], cond, nat_lt, length, is_some, option_map, MatchOption, None, Some};
-ghost use Rattle.asset_grammar.specs.Sets.{gathered, is_list, one_more_object, set_of};
+ghost use Rattle.std.specs.Prelude.{◌≡◌, ◌||◌, [], codes, cond, nat_lt, length, is_some, option_map, MatchOption, None, Some};
+ghost use Rattle.std.specs.Str.{bytes_eq};
+ghost use Rattle.asset_grammar.specs.Sets.{gathered, is_list, one_more_object, ops_of, set_of};
 ghost use Rattle.asset_grammar.specs.Words.{parts};
 ghost use Rattle.asset_reasons.specs.Mistakes.{Finds, about, has_empty, kind_mistake, operand_mistake, ops_mistake, part_mistake, set_mistake, why_no_set};
 
@@ -19,6 +20,18 @@ const WRITE: &[u8] = b"w";
 /// The word for reading and writing.
 const BOTH: &[u8] = b"rw";
 
+/// The word for adding.
+const ADD: &[u8] = b"a";
+
+/// The word for reading and adding.
+const READ_ADD: &[u8] = b"ra";
+
+/// The word for writing and adding.
+const WRITE_ADD: &[u8] = b"wa";
+
+/// The word for all three operations.
+const THREE: &[u8] = b"rwa";
+
 /// The word for reading and writing with its letters exchanged.
 const SWAPPED: &[u8] = b"wr";
 
@@ -34,12 +47,27 @@ const GROUP: &[u8] = b"gc";
 /// The word for all objects.
 const ALL: &[u8] = b"all";
 
+/// Returns whether a word writes operations that have Add.
+fn has_add(word: &[u8]) -> bool
+    ensures { result ≡ (bytes_eq word.now (codes "a") || bytes_eq word.now (codes "ra") || bytes_eq word.now (codes "wa") || bytes_eq word.now (codes "rwa")) }
+{
+    word == ADD || word == READ_ADD || word == WRITE_ADD || word == THREE
+}
+
+/// Returns whether a word writes operations.
+#[tactic(auto, unfolding(asset_grammar::specs::Sets::ops_of))]
+fn is_ops(word: &[u8]) -> bool
+    ensures { result ≡ is_some (ops_of word.now) }
+{
+    word == READ || word == WRITE || word == BOTH || has_add(word)
+}
+
 /// Returns what is wrong with a word that is to be operations.
-#[tactic(auto, unfolding(asset_grammar::specs::Sets::ops_of, crate::specs::Mistakes::ops_mistake))]
+#[tactic(auto, unfolding(crate::specs::Mistakes::ops_mistake))]
 fn ops_mistake(word: &[u8]) -> Option<Reason>
     ensures { result ≡ ops_mistake word.now }
 {
-    if word == READ || word == WRITE || word == BOTH {
+    if is_ops(word) {
         None
     } else if word == SWAPPED {
         Some(Reason::SwappedOperations)

@@ -28,6 +28,8 @@ pub enum Shape {
     TxnAndObject,
     /// A transaction, an object and a value.
     TxnObjectAndValue,
+    /// A transaction, an object and an amount to add.
+    TxnObjectAndAmount,
     /// Two transactions, operations and a set of objects.
     TxnsOpsAndSet,
     /// Two transactions and a set of objects.

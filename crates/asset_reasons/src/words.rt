@@ -29,6 +29,9 @@ const READ: &[u8] = b"read";
 /// The first word of a line that writes an object.
 const WRITE: &[u8] = b"write";
 
+/// The first word of a line that adds to an object.
+const ADD: &[u8] = b"add";
+
 /// The first word of a line that completes a transaction.
 const COMPLETE: &[u8] = b"complete";
 
@@ -63,6 +66,8 @@ fn step_shape(word: &[u8]) -> Option<Shape>
         Some(Shape::TxnAndObject)
     } else if WRITE == word {
         Some(Shape::TxnObjectAndValue)
+    } else if ADD == word {
+        Some(Shape::TxnObjectAndAmount)
     } else if COMPLETE == word {
         Some(Shape::OneTxn)
     } else if PERMIT == word {
@@ -111,6 +116,7 @@ fn operands_of(shape: Shape, single: bool) -> &'static [Operand]
         Shape::OneTxn => &[Operand::Number],
         Shape::TxnAndObject => &[Operand::Number, Operand::Number],
         Shape::TxnObjectAndValue => &[Operand::Number, Operand::Number, Operand::Value],
+        Shape::TxnObjectAndAmount => &[Operand::Number, Operand::Number, Operand::Value],
         Shape::TxnsOpsAndSet => &[
             Operand::Number,
             Operand::Number,

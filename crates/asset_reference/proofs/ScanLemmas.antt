@@ -1,13 +1,11 @@
 -- What one more entry says of an object and of its permits.
-use Rattle.std.proofs.Common.{◌≡◌, ℕ, Bool, true, false, cond, eqb, ◌&&◌, List, [], ◌∷◌, ◌++◌, Some, None, refl, ◌∙◌, ap}
-use Rattle.std.specs.Prelude.{ℤ, Option, unwrap_or}
+use Rattle.std.proofs.Common.{◌≡◌, ℕ, Bool, true, false, cond, List, [], ◌∷◌, ◌++◌, refl, ◌∙◌, ap}
+use Rattle.std.specs.Prelude.{ℤ}
 use Rattle.asset_names.specs.declared.operations.Op.{Op}
 use Rattle.asset_names.specs.declared.steps.Step.{Step}
 use Rattle.asset_names.specs.Steps.{Entry, takes_effect, applied}
-use Rattle.asset_names.specs.Operations.{Operation, Use, permits, permitted_by, value_after, after_use}
-use Rattle.asset_names.specs.Operations.Use.{reads, writes}
-use Rattle.asset_reference.specs.Owners.{use_by}
-use Rattle.asset_reference.specs.Scans.{written, written_by}
+use Rattle.asset_names.specs.Operations.{Operation, permits, permitted_by, value_after}
+use Rattle.asset_reference.specs.Scans.{value_past}
 use Rattle.asset_names.proofs.AppliedLemmas.{applied_with_effect, applied_without_effect}
 
 -- what is said of the applied after one more entry: of its step where that took effect
@@ -17,21 +15,11 @@ at_applied {A} f entry older = go (takes_effect entry.0 entry.1) refl where
   go true e = ap f (applied_with_effect entry older e)
   go false e = ap f (applied_without_effect entry older e)
 
--- an operation writes what it wrote
-pub written_use : (value : Option ℤ) → written (use_by value) ≡ value
-unfolding written use_by
-written_use None = refl
-written_use (Some v) = refl
-
 -- the value after one more operation
-pub value_of_more : (counts : Operation → Bool) (x : ℕ) (first : ℤ) (o : Operation) (os : List Operation) →
-    value_after counts x first (o ∷ os) ≡ unwrap_or (written_by counts o x) (value_after counts x first os)
-unfolding value_after written_by after_use written
-value_of_more counts x first o os = go (eqb o.object x && counts o) o.use_of where
-  go : (here : Bool) (used : Use) → cond here (after_use used (value_after counts x first os)) (value_after counts x first os) ≡ unwrap_or (cond here (written used) None) (value_after counts x first os)
-  go true reads = refl
-  go true (writes v) = refl
-  go false used = refl
+pub value_of_more : (counts : Operation → Bool) (x : ℕ) (first before : ℤ) (o : Operation) (os : List Operation) → before ≡ value_after counts x first os
+    → value_past counts o x before ≡ value_after counts x first (o ∷ os)
+unfolding value_after value_past
+value_of_more counts x first before o os is = ap (value_past counts o x) is
 
 -- the permits after one more entry
 pub permits_at_entry : (x : ℕ) (op : Op) (entry : Entry) (older : List Entry) →

@@ -1,12 +1,14 @@
 -- Operations, each with the one who is responsible for it after later entries.
-use Rattle.std.specs.Prelude.{ℕ, ℤ, cond, ◌==◌, ◌&&◌, List, [], ◌∷◌, map, take, drop, reverse, Option, None, Some}
+use Rattle.std.specs.Prelude.{ℕ, cond, ◌==◌, ◌&&◌, List, [], ◌∷◌, map, take, drop, reverse, Option, None, Some}
 use Rattle.asset_names.specs.declared.steps.Step.{Step}
 use Rattle.asset_names.specs.declared.steps.Step.TheVariants.{Delegate}
 use Rattle.asset_names.specs.InSet.{in_set}
 use Rattle.asset_names.specs.Steps.{Entry, takes_effect, applied}
 use Rattle.asset_names.specs.Operations.{Operation, Use, operations}
-use Rattle.asset_names.specs.Operations.Use.{reads, writes}
+use Rattle.asset_names.specs.Operations.Use.{reads, writes, adds}
 use Rattle.asset_reference.specs.declared.operating.Operated.{Operated}
+use Rattle.asset_reference.specs.declared.operating.Used.{Used}
+use Rattle.asset_reference.specs.declared.operating.Used.TheVariants as Used'
 
 -- who is responsible after a step that took effect for an operation on x that was the owner's: a delegation by the
 -- owner of a set with x hands it to its taker
@@ -32,14 +34,15 @@ owned_now later o = record o { owner = responsible later o.owner o.object }
 unfoldable pub operated_within : List Entry → ℕ → List Operation
 operated_within entries count = map (owned_now (drop count entries)) (operations (applied (reverse (take count entries))))
 
--- what an operation does, by what it wrote, if it wrote
-unfoldable pub use_by : Option ℤ → Use
-use_by None = reads
-use_by (Some v) = writes v
+-- what an operation does, as the definitions have it
+unfoldable pub use_by : Used → Use
+use_by Used'.Reads = reads
+use_by (Used'.Writes v) = writes v
+use_by (Used'.Adds d) = adds d
 
 -- the operation as the definitions have it
 unfoldable pub operation_of : Operated → Operation
-operation_of o = record { owner = o.owner.0; object = o.x.0; use_of = use_by o.written }
+operation_of o = record { owner = o.owner.0; object = o.x.0; use_of = use_by o.used }
 
 -- the operation, if there is one
 unfoldable pub listed : Option Operated → List Operation

@@ -11,7 +11,7 @@ use crate::freedom::is_free;
 use crate::openings::opening_at;
 use crate::refusals::refusal;
 use crate::tracks::status_after;
-use crate::values::last_value;
+use crate::values::value_over;
 use asset_names::{Ob, Op, Outcome, Reply, Step, Txn, commit_outcome, wait_outcome};
 
 /// Returns the value of an object, and 0 if there is no such object.
@@ -19,10 +19,8 @@ use asset_names::{Ob, Op, Outcome, Reply, Step, Txn, commit_outcome, wait_outcom
 fn current_value(opening: &[(Ob, i64)], entries: &[(Step, Reply)], x: Ob) -> i64
     ensures { result ≡ value opening.now (applied (reverse entries.now)) x.0 }
 {
-    match last_value(entries, x) {
-        Some(v) => v,
-        None => opening_at(opening, x).unwrap_or(0),
-    }
+    let first = opening_at(opening, x).unwrap_or(0);
+    value_over(entries, x, first)
 }
 
 /// Returns the value of an object, and `None` if there is no such object.
@@ -63,7 +61,8 @@ fn unrefused(opening: &[(Ob, i64)], entries: &[(Step, Reply)], step: &Step) -> O
         Step::Write { t, x, .. } if is_free(entries, t, x, Op::Write) => Outcome::Answer(
             Reply::Done,
         ),
-        Step::Read { .. } | Step::Write { .. } => Outcome::Wait,
+        Step::Add { t, x, .. } if is_free(entries, t, x, Op::Add) => Outcome::Answer(Reply::Done),
+        Step::Read { .. } | Step::Write { .. } | Step::Add { .. } => Outcome::Wait,
         Step::Commit { t } => outcome_of_commit(entries, t),
         Step::Abort { .. } => Outcome::Answer(Reply::Aborted),
         Step::WaitFor { t } => wait_outcome(status_after(entries, t)),

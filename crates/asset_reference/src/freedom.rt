@@ -26,7 +26,7 @@ fn owner_blocks(entries: &[(Step, Reply)], owner: Txn, t: Txn, x: Ob, op: Op) ->
 fn blocks(entries: &[(Step, Reply)], o: Operated, t: Txn, x: Ob, op: Op) -> bool
     ensures { result ≡ blocks (applied (reverse entries.now)) t.0 x.0 op (operation_of o) }
 {
-    o.x == x && o.op().conflicts_with(op) && owner_blocks(entries, o.owner, t, x, op)
+    o.x == x && o.used.op().conflicts_with(op) && owner_blocks(entries, o.owner, t, x, op)
 }
 
 /// Returns whether the entry of this index is an operation that blocks `t` from doing `op` on `x`.

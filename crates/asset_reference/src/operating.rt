@@ -1,10 +1,60 @@
 //! The operations of the entries, each with the one who is responsible for it after all of them.
 
-ghost use Rattle.std.specs.Prelude.{◌≡◌, ◌<◌, ◌+◌, ◌++◌, [], length, map};
+ghost use Rattle.std.specs.Prelude.{◌≡◌, ◌<◌, ◌+◌, ◌+ℤ◌, ◌++◌, [], length, map};
+ghost use Rattle.std.specs.Int.{w64, int_wrap};
 ghost use Rattle.asset_names.specs.Operations.{operated};
 ghost use Rattle.asset_reference.specs.Owners.{handed_at, responsible, owned_now, operated_within, listed};
 
 use asset_names::{Ob, Op, Reply, Step, Txn, takes_effect};
+
+/// What an operation does to its object.
+#[derive(Clone, Copy)]
+pub enum Used {
+    /// It reads the value.
+    Reads,
+    /// It writes this value.
+    Writes(i64),
+    /// It adds this to the value.
+    Adds(i64),
+}
+
+/// Returns the sum of two values, which wraps.
+#[tactic(auto, using(std::proofs::lemmas::Int::wrapping_add_is))]
+fn sum(a: i64, b: i64) -> i64
+    ensures { result ≡ int_wrap w64 (a +ℤ b) }
+{
+    a.wrapping_add(b)
+}
+
+impl Used {
+    ghost use Rattle.std.specs.Prelude.{◌≡◌};
+    ghost use Rattle.asset_names.specs.Operations.{op_of, after_use};
+    ghost use Rattle.asset_reference.specs.Owners.{use_by};
+
+    /// Returns the kind of the operation.
+    #[tactic(auto, unfolding(asset_names::specs::Operations::op_of, crate::specs::Owners::use_by))]
+    pub fn op(self) -> Op
+        ensures { result ≡ op_of (use_by self) }
+    {
+        match self {
+            Used::Reads => Op::Read,
+            Used::Writes(_) => Op::Write,
+            Used::Adds(_) => Op::Add,
+        }
+    }
+
+    /// Returns the value that the operation leaves, over the value before it.
+    #[tactic(auto, unfolding(asset_names::specs::Operations::after_use, crate::specs::Owners::use_by))]
+    pub fn after(self, before: i64) -> i64
+        ensures { result ≡ after_use (use_by self) before }
+    {
+        match self {
+            Used::Reads => before,
+            Used::Writes(v) => v,
+            Used::Adds(d) => sum(before, d),
+        }
+    }
+}
 
 /// An operation.
 #[derive(Clone, Copy)]
@@ -13,25 +63,8 @@ pub struct Operated {
     pub owner: Txn,
     /// The object.
     pub x: Ob,
-    /// The value that it wrote, if it is a write.
-    pub written: Option<i64>,
-}
-
-impl Operated {
-    ghost use Rattle.std.specs.Prelude.{◌≡◌};
-    ghost use Rattle.asset_names.specs.Operations.{op_of};
-    ghost use Rattle.asset_reference.specs.Owners.{use_by};
-
-    /// Returns the kind of the operation.
-    #[tactic(auto, unfolding(asset_names::specs::Operations::op_of, crate::specs::Owners::use_by))]
-    pub fn op(self) -> Op
-        ensures { result ≡ op_of (use_by self.written) }
-    {
-        match self.written {
-            None => Op::Read,
-            Some(_) => Op::Write,
-        }
-    }
+    /// What it does to the object.
+    pub used: Used,
 }
 
 /// Returns who is responsible after one more entry for an operation on `x` that was `owner`'s.
@@ -66,12 +99,17 @@ fn operation_of(step: &Step, later: &[(Step, Reply)]) -> Option<Operated>
         Step::Read { t, x } => Some(Operated {
             owner: responsible(later, t, x),
             x,
-            written: None,
+            used: Used::Reads,
         }),
         Step::Write { t, x, v } => Some(Operated {
             owner: responsible(later, t, x),
             x,
-            written: Some(v),
+            used: Used::Writes(v),
+        }),
+        Step::Add { t, x, d } => Some(Operated {
+            owner: responsible(later, t, x),
+            x,
+            used: Used::Adds(d),
         }),
         _ => None,
     }

@@ -33,7 +33,7 @@ pub fn refusal(opening: &[(Ob, i64)], entries: &[(Step, Reply)], step: &Step) ->
     match *step {
         Step::Initiate { t, .. } => refusal_to_initiate(t, status_after(entries, t)),
         Step::Begin { t } => refusal_to_begin(t, status_after(entries, t)),
-        Step::Read { t, x } | Step::Write { t, x, .. } => {
+        Step::Read { t, x } | Step::Write { t, x, .. } | Step::Add { t, x, .. } => {
             let exists = opening_at(opening, x).is_some();
             refusal_to_operate(t, status_after(entries, t), x, exists)
         }

@@ -62,6 +62,7 @@ impl Track {
             Step::Complete { t: named } => next.completed = named == t || self.completed,
             Step::Read { .. }
             | Step::Write { .. }
+            | Step::Add { .. }
             | Step::Permit { .. }
             | Step::Delegate { .. }
             | Step::Depend { .. }

@@ -1,53 +1,48 @@
-//! The value of an object, by going over the entries from the newest on.
+//! The value of an object, by going over the entries from the oldest on.
 
-ghost use Rattle.std.specs.Prelude.{◌≡◌, ◌<◌, ◌+◌, ℤ, length, reverse, unwrap_or};
+ghost use Rattle.std.specs.Prelude.{◌≡◌, ◌<◌, ◌+◌, ℤ, length, reverse};
 ghost use Rattle.asset_names.specs.Steps.{applied};
 ghost use Rattle.asset_names.specs.Operations.{operations, stands, value_after};
 ghost use Rattle.asset_reference.specs.Owners.{operated_within, operation_of};
-ghost use Rattle.asset_reference.specs.Scans.{written_by};
+ghost use Rattle.asset_reference.specs.Scans.{value_past};
 
 use crate::operating::{Operated, operation_at};
 use crate::tracks::was_aborted;
 use asset_names::{Ob, Reply, Step};
 
-/// Returns what the operation wrote to the object, if it is a write that stands.
-#[tactic(auto, unfolding(crate::specs::Scans::written_by, crate::specs::Owners::operation_of, asset_names::specs::Operations::stands), using(crate::proofs::ScanLemmas::written_use))]
-fn written_by(entries: &[(Step, Reply)], o: Operated, x: Ob) -> Option<i64>
-    ensures { result ≡ written_by (stands (applied (reverse entries.now))) (operation_of o) x.0 }
+/// Returns the value of the object after the operation, over the value before it: the same, unless the operation is on the object
+/// and stands.
+#[tactic(auto, unfolding(crate::specs::Scans::value_past, crate::specs::Owners::operation_of, asset_names::specs::Operations::stands))]
+fn value_past(entries: &[(Step, Reply)], o: Operated, x: Ob, before: i64) -> i64
+    ensures { result ≡ value_past (stands (applied (reverse entries.now))) (operation_of o) x.0 before }
 {
     if o.x == x && !was_aborted(entries, o.owner) {
-        o.written
+        o.used.after(before)
     } else {
-        None
+        before
     }
 }
 
-/// Returns what the entry of this index wrote to the object, if it is a write that stands.
+/// Returns the value of the object after the entry of this index, over the value before it.
 #[tactic(auto, unfolding(crate::specs::Owners::listed), using(crate::proofs::ScanLemmas::value_of_more))]
-fn standing_write(entries: &[(Step, Reply)], index: usize, x: Ob) -> Option<i64>
+fn value_at(entries: &[(Step, Reply)], index: usize, x: Ob, before: i64) -> i64
     requires { index < length entries.now }
-    ensures { (first : ℤ) →
-        value_after (stands (applied (reverse entries.now))) x.0 first (operated_within entries.now (index + 1))
-        ≡ unwrap_or result (value_after (stands (applied (reverse entries.now))) x.0 first (operated_within entries.now index)) }
+    ensures { (first : ℤ) → before ≡ value_after (stands (applied (reverse entries.now))) x.0 first (operated_within entries.now index)
+        → result ≡ value_after (stands (applied (reverse entries.now))) x.0 first (operated_within entries.now (index + 1)) }
 {
     match operation_at(entries, index) {
-        Some(o) => written_by(entries, o, x),
-        None => None,
+        Some(o) => value_past(entries, o, x, before),
+        None => before,
     }
 }
 
-/// Returns the last value that was written to the object and stands.
-pub fn last_value(entries: &[(Step, Reply)], x: Ob) -> Option<i64>
-    ensures { (first : ℤ) →
-        value_after (stands (applied (reverse entries.now))) x.0 first (operations (applied (reverse entries.now)))
-        ≡ unwrap_or result first }
+/// Returns the value of the object after the entries, over its first value.
+pub fn value_over(entries: &[(Step, Reply)], x: Ob, first: i64) -> i64
+    ensures { result ≡ value_after (stands (applied (reverse entries.now))) x.0 first (operations (applied (reverse entries.now))) }
 {
-    let mut rest = entries.len();
-    'rest: while rest > 0 {
-        rest -= 1;
-        if let Some(v) = standing_write(entries, rest, x) {
-            return Some(v);
-        }
+    let mut now = first;
+    'entries: for index in 0..entries.len() {
+        now = value_at(entries, index, x, now);
     }
-    None
+    now
 }

@@ -94,7 +94,7 @@ fn child_commits(rt: HostRuntime) -> Result<(), Fail> {
         ends: &[(7, JobEnd::Committed)],
         left: &[],
         history: "\
-            initiate 7: ok\nbegin 7: ok\nwrite 7 1 50: ok\ninitiate 8 7: ok\npermit 7 8 rw all: ok\nbegin 8: ok\n\
+            initiate 7: ok\nbegin 7: ok\nwrite 7 1 50: ok\ninitiate 8 7: ok\npermit 7 8 rwa all: ok\nbegin 8: ok\n\
             write 8 2 80: ok\ncomplete 8: ok\ndelegate 8 7 all: ok\ncommit 8: committed\nread 7 2: 80\ncomplete 7: ok\n\
             commit 7: committed\n",
     };
@@ -147,7 +147,7 @@ fn child_gives_up(rt: HostRuntime) -> Result<(), Fail> {
         ends: &[(7, JobEnd::Committed)],
         left: &[],
         history: "\
-            initiate 7: ok\nbegin 7: ok\nwrite 7 1 50: ok\ninitiate 8 7: ok\npermit 7 8 rw all: ok\nbegin 8: ok\n\
+            initiate 7: ok\nbegin 7: ok\nwrite 7 1 50: ok\ninitiate 8 7: ok\npermit 7 8 rwa all: ok\nbegin 8: ok\n\
             write 8 2 80: ok\nabort 8: aborted\nread 7 2: 200\ncomplete 7: ok\ncommit 7: committed\n",
     };
     let left = run_and_close(
@@ -199,7 +199,7 @@ fn child_that_answers_for_another_is_a_stranger(rt: HostRuntime) -> Result<(), F
         ends: &[(7, JobEnd::Committed)],
         left: &[],
         history: "\
-            initiate 7: ok\nbegin 7: ok\nwrite 7 1 50: ok\ninitiate 8 7: ok\npermit 7 8 rw all: ok\nbegin 8: ok\n\
+            initiate 7: ok\nbegin 7: ok\nwrite 7 1 50: ok\ninitiate 8 7: ok\npermit 7 8 rwa all: ok\nbegin 8: ok\n\
             complete 8: ok\ncomplete 9: refused unknown 9\nread 7 2: 200\ncomplete 7: ok\ncommit 7: committed\n",
     };
     let left = run_and_close(

@@ -1,3 +1,2 @@
 pub mod WalkLemmas
-pub mod TraceLemmas
 pub mod ReadLemmas

@@ -1,6 +1,6 @@
 -- One more entry of a walk, and what it finds there.
 use Rattle.std.proofs.Common.{◌≡◌, ℕ, ◌+◌, ◌<◌, ◌≤◌, ℤ, suc, zero, Bool, true, cond, List, [], ◌∷◌, ◌++◌, length, take, drop, reverse, refl, sym, ap, subst, ◌∙◌, arith, Some, None, inl, inr}
-use Rattle.std.specs.Prelude.{slice_get}
+use Rattle.std.specs.Prelude.{slice_get, ◌^◌}
 use Rattle.std.proofs.lemmas.Bool.{eq-eqb, ne_eqb}
 use Rattle.std.proofs.lemmas.List.{length-append, length-reverse, length-take-le}
 use Rattle.std.proofs.lemmas.Option.{slice_get_cases, slice_get_within}
@@ -8,13 +8,13 @@ use Rattle.std.proofs.Math.Nat.{eq-or-lt_of_le}
 use Rattle.asset_names.specs.declared.names.Txn.{Txn}
 use Rattle.asset_names.specs.declared.names.Ob.{Ob}
 use Rattle.asset_names.specs.declared.steps.Step.{Step}
-use Rattle.asset_names.specs.declared.steps.Step.TheVariants.{Initiate, Begin, Read, Write, Complete, Permit, Delegate, Depend, Commit, Abort, WaitFor}
+use Rattle.asset_names.specs.declared.steps.Step.TheVariants.{Initiate, Begin, Read, Write, Add, Complete, Permit, Delegate, Depend, Commit, Abort, WaitFor}
 use Rattle.asset_names.specs.declared.replies.Reply.{Reply}
 use Rattle.asset_names.specs.declared.replies.Reply.TheVariants as Reply'
 use Rattle.asset_names.specs.Steps.{Opening, Entry, takes_effect, applied}
 use Rattle.asset_names.specs.Operations.{value_if_any}
 use Rattle.asset_names.specs.Orderly.{IsOrderly}
-use Rattle.asset_names.specs.Sources.{source, IsAlone, IsOwnOrCommitted}
+use Rattle.asset_names.specs.Sources.{source, added, IsAlone, IsOwnOrCommitted, AreOwnOrCommitted}
 use Rattle.asset_names.specs.Answers.{IsLegal}
 use Rattle.asset_names.proofs.LegalLemmas.{legal_orderly, effect_unrefused}
 use Rattle.asset_laws.specs.Renumbered.{source_number, writing, reading, renumbered, zeroed}
@@ -61,10 +61,15 @@ effect_writing n (Initiate t parent) reply = refl
 effect_writing n (Begin t) reply = refl
 effect_writing n (Read t x) reply = refl
 effect_writing n (Write t x v) Reply'.Done = refl
+effect_writing n (Add t x v) Reply'.Done = refl
 effect_writing n (Write t x v) (Reply'.Value w) = refl
+effect_writing n (Add t x v) (Reply'.Value w) = refl
 effect_writing n (Write t x v) Reply'.Committed = refl
+effect_writing n (Add t x v) Reply'.Committed = refl
 effect_writing n (Write t x v) Reply'.Aborted = refl
+effect_writing n (Add t x v) Reply'.Aborted = refl
 effect_writing n (Write t x v) (Reply'.Refused refusal) = refl
+effect_writing n (Add t x v) (Reply'.Refused refusal) = refl
 effect_writing n (Complete t) reply = refl
 effect_writing n (Permit giver taker obs ops) reply = refl
 effect_writing n (Delegate giver taker obs) reply = refl
@@ -84,6 +89,7 @@ effect_reading older (Read t x) Reply'.Committed = refl
 effect_reading older (Read t x) Reply'.Aborted = refl
 effect_reading older (Read t x) (Reply'.Refused refusal) = refl
 effect_reading older (Write t x v) reply = refl
+effect_reading older (Add t x v) reply = refl
 effect_reading older (Complete t) reply = refl
 effect_reading older (Permit giver taker obs ops) reply = refl
 effect_reading older (Delegate giver taker obs) reply = refl
@@ -95,13 +101,13 @@ effect_reading older (WaitFor t) reply = refl
 -- ---- one more entry
 
 -- a legal entry finds tables ready for its step with its number
-pub numbered_ready : (opening : Opening) (older : List Entry) (tables : Standing) (step : Step) (reply : Reply) (n : ℕ) → length older ≡ n → Shows (zeroed opening) (applied (renumbered older)) (values_of tables)
+pub numbered_ready : (opening : Opening) (older : List Entry) (tables : Standing) (step : Step) (reply : Reply) (n : ℕ) → length older ≡ n → length older + 1 < 2 ^ 63 → Shows (zeroed opening) (applied (renumbered older)) (values_of tables)
     → IsLegal opening ((step, reply) ∷ older) → takes_effect step reply ≡ true → IsReady (writing n step) tables
 unfolding IsLegal renumbered
-numbered_ready opening older tables step reply n is stand legal effect =
+numbered_ready opening older tables step reply n is small stand legal effect =
     subst (λ (m : ℕ). IsReady (writing m step) tables) is
     (ready (zeroed opening) (applied (renumbered older)) tables (writing (length older) step) (reading older step reply) stand
-    (renumbered_legal opening ((step, reply) ∷ older) legal).0 (effect_same (length older) older step reply ∙ effect))
+    (renumbered_legal opening ((step, reply) ∷ older) (omega (arith, small)) legal).0 (effect_same (length older) older step reply ∙ effect))
 
 -- the steps that took effect, with one more
 applied_numbered : (older : List Entry) (step : Step) (reply : Reply) → applied ((writing (length older) step, reply) ∷ renumbered older) ≡ applied (renumbered ((step, reply) ∷ older))
@@ -111,24 +117,30 @@ applied_numbered older step reply =
     (effect_writing (length older) step reply ∙ sym (effect_same (length older) older step reply))
 
 -- the steps of a renumbered history are orderly
-orderly_numbered : (opening : Opening) (entries : List Entry) → IsLegal opening entries → IsOrderly (applied (renumbered entries))
-orderly_numbered opening entries legal = legal_orderly (zeroed opening) (renumbered entries) (renumbered_legal opening entries legal)
+orderly_numbered : (opening : Opening) (entries : List Entry) → length entries < 2 ^ 63 → IsLegal opening entries → IsOrderly (applied (renumbered entries))
+orderly_numbered opening entries small legal = legal_orderly (zeroed opening) (renumbered entries) (renumbered_legal opening entries small legal)
+
+-- there are fewer older entries than all
+pub few_older : (all : List Entry) (i : ℕ) (entry : Entry) → length all < 2 ^ 63 → slice_get (reverse all) i ≡ Some entry → length (reverse (take i (reverse all))) + 1 < 2 ^ 63
+few_older all i entry small at =
+    let within = slice_get_within (reverse all) i entry at in
+    omega (arith, small, within, length-reverse all, older_length all i entry at)
 
 -- the entry at i finds tables ready that show the older ones
-pub entry_ready : (history : Recorded) (i : ℕ) (tables : Standing) (entry : Entry) → slice_get (reverse history.entries) i ≡ Some entry → IsLegal history.opening history.entries → ShowsFirst history i tables
+pub entry_ready : (history : Recorded) (i : ℕ) (tables : Standing) (entry : Entry) → length history.entries < 2 ^ 63 → slice_get (reverse history.entries) i ≡ Some entry → IsLegal history.opening history.entries → ShowsFirst history i tables
     → takes_effect entry.0 entry.1 ≡ true → IsReady (writing i entry.0) tables
-entry_ready history i tables entry at legal stand effect =
-    numbered_ready history.opening (first_entries history i) tables entry.0 entry.1 i (older_length history.entries i entry at) stand (legal_here history.opening history.entries i entry at legal) effect
+entry_ready history i tables entry small at legal stand effect =
+    numbered_ready history.opening (first_entries history i) tables entry.0 entry.1 i (older_length history.entries i entry at) (few_older history.entries i entry small at) stand (legal_here history.opening history.entries i entry at legal) effect
 
 -- and once it is applied, they show it too
-pub entry_passed : (history : Recorded) (i : ℕ) (before after : Standing) (entry : Entry) → slice_get (reverse history.entries) i ≡ Some entry → IsLegal history.opening history.entries → ShowsFirst history i before
+pub entry_passed : (history : Recorded) (i : ℕ) (before after : Standing) (entry : Entry) → length history.entries < 2 ^ 63 → slice_get (reverse history.entries) i ≡ Some entry → IsLegal history.opening history.entries → ShowsFirst history i before
     → ((opening : Opening) (older : List Entry) → Shows opening (applied older) (values_of before) → IsOrderly (applied older) → Shows opening (applied ((writing i entry.0, entry.1) ∷ older)) (values_of after))
     → ShowsFirst history (i + 1) after
 unfolding IsLegal
-entry_passed history i before after entry at legal stand shows =
+entry_passed history i before after entry small at legal stand shows =
     let older = first_entries history i in
     let here = legal_here history.opening history.entries i entry at legal in
-    let shown = shows (zeroed history.opening) (renumbered older) stand (orderly_numbered history.opening older here.1) in
+    let shown = shows (zeroed history.opening) (renumbered older) stand (orderly_numbered history.opening older (let few = few_older history.entries i entry small at in omega (arith, few)) here.1) in
     subst Shown (sym (next_entry (reverse history.entries) i entry at))
     (subst (λ steps. Shows (zeroed history.opening) steps (values_of after)) (applied_numbered older entry.0 entry.1)
     (subst (λ (n : ℕ). Shows (zeroed history.opening) (applied ((writing n entry.0, entry.1) ∷ renumbered older)) (values_of after)) (sym (older_length history.entries i entry at)) shown)) where
@@ -144,6 +156,7 @@ no_read older (Initiate t parent) reply other = refl
 no_read older (Begin t) reply other = refl
 no_read older (Read t x) reply other = absurd (other t x refl)
 no_read older (Write t x v) reply other = refl
+no_read older (Add t x v) reply other = refl
 no_read older (Complete t) reply other = refl
 no_read older (Permit giver taker obs ops) reply other = refl
 no_read older (Delegate giver taker obs) reply other = refl
@@ -163,6 +176,7 @@ no_value older (Read t x) Reply'.Committed other = refl
 no_value older (Read t x) Reply'.Aborted other = refl
 no_value older (Read t x) (Reply'.Refused refusal) other = refl
 no_value older (Write t x v) reply other = refl
+no_value older (Add t x v) reply other = refl
 no_value older (Complete t) reply other = refl
 no_value older (Permit giver taker obs ops) reply other = refl
 no_value older (Delegate giver taker obs) reply other = refl
@@ -172,13 +186,13 @@ no_value older (Abort t) reply other = refl
 no_value older (WaitFor t) reply other = refl
 
 -- an object that is read has the number of its source as its value
-pub numbered_value : (opening : Opening) (older : List Entry) (t : Txn) (x : Ob) (v : ℤ) → IsLegal opening ((Read t x, Reply'.Value v) ∷ older)
+pub numbered_value : (opening : Opening) (older : List Entry) (t : Txn) (x : Ob) (v : ℤ) → length older + 1 < 2 ^ 63 → IsLegal opening ((Read t x, Reply'.Value v) ∷ older)
     → value_if_any (zeroed opening) (applied (renumbered older)) x.0 ≡ Some (source_number (source older x.0))
 unfolding IsLegal renumbered writing reading value_if_any takes_effect
-numbered_value opening older t x v legal =
-    let answered = (renumbered_legal opening ((Read t x, Reply'.Value v) ∷ older) legal).0 in
+numbered_value opening older t x v small legal =
+    let answered = (renumbered_legal opening ((Read t x, Reply'.Value v) ∷ older) (omega (arith, small)) legal).0 in
     let here = read_unrefused (zeroed opening) (applied (renumbered older)) t x (effect_unrefused (zeroed opening) (applied (renumbered older)) (Read t x) (Reply'.Value (source_number (source older x.0))) answered refl) in
-    rw (here.1, value_is_source opening older x.0) refl
+    rw (here.1, value_is_source opening older (omega (arith, small)) x.0) refl
 
 -- the objects stay when their values are taken away
 pub objects_zeroed : (opening : Opening) → objects_of (zeroed opening) ≡ objects_of opening
@@ -215,10 +229,11 @@ sources_next entries i entry at = rw (next_entry entries i entry at) refl
 
 -- the source of a read of who is alone in its group
 pub alone_found : (opening : Opening) (all newer older : List Entry) (t : Txn) (x : Ob) (v : ℤ) → IsLegal opening all → all ≡ newer ++ (Read t x, Reply'.Value v) ∷ older → IsAlone all t.0
-    → (source_at all (length older) ≡ Some (source_from (source older x.0))) × IsOwnOrCommitted older t x (source older x.0)
+    → (source_at all (length older) ≡ Some (source_from (source older x.0))) × IsOwnOrCommitted older t x (source older x.0) × AreOwnOrCommitted older t x (added older x.0)
 unfolding source_of
 alone_found opening all newer older t x v legal is alone =
-    rw is (source_between newer older (Read t x, Reply'.Value v), alone_source opening newer older t x v (rw is at legal) (rw is at alone))
+    let law = alone_source opening newer older t x v (rw is at legal) (rw is at alone) in
+    rw is (source_between newer older (Read t x, Reply'.Value v), law.0, law.1)
 
 -- ---- the sources together
 

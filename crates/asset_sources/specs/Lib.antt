@@ -1,3 +1,2 @@
 pub mod Sourced
-pub mod Traced
 pub mod Walked

@@ -6,7 +6,7 @@ ghost use Rattle.asset_names.specs.declared.names.Ob.{Ob};
 ghost use Rattle.asset_names.specs.declared.steps.Step.TheVariants.{Read};
 ghost use Rattle.asset_names.specs.declared.replies.Reply.TheVariants.{Value};
 ghost use Rattle.asset_names.specs.Steps.{Entry};
-ghost use Rattle.asset_names.specs.Sources.{IsAlone, IsOwnOrCommitted};
+ghost use Rattle.asset_names.specs.Sources.{added, IsAlone, IsOwnOrCommitted, AreOwnOrCommitted};
 ghost use Rattle.asset_names.specs.Sources.{source as last_write};
 ghost use Rattle.asset_sources.specs.Sourced.{source_from, source_at, sources_of};
 ghost use Rattle.asset_sources.specs.Walked.{first_entries, ShowsFirst};
@@ -20,11 +20,11 @@ use std::alloc::Global;
 
 /// Returns where the value comes from that the entry at the index read, counted from 0; `None` if the entry is no read, if
 /// its read was not answered by a value, or past the end. Who is alone in its group reads opening values, its own writes
-/// and committed ones. It answers `NoMemory` if memory runs out, and goes over the entries before that one.
+/// and adds and committed ones. It answers `NoMemory` if memory runs out, and goes over the entries before that one.
 pub fn source(alloc: Global, history: &History, index: usize) -> Result<Option<Source>, NoMemory>
     ensures exact { IfOk result (λ found. found ≡ source_at history.now.entries index) }
     ensures alone { (newer older : List Entry) (t : Txn) (x : Ob) (v : ℤ) → history.now.entries ≡ newer ++ (Read t x, Value v) ∷ older → index ≡ length older → IsAlone history.now.entries t.0 →
-        IfOk result (λ found. (found ≡ Some (source_from (last_write older x.0))) × IsOwnOrCommitted older t x (last_write older x.0)) }
+        IfOk result (λ found. (found ≡ Some (source_from (last_write older x.0))) × IsOwnOrCommitted older t x (last_write older x.0) × AreOwnOrCommitted older t x (added older x.0)) }
 {
     if index >= history.len() {
         return Ok(None);

@@ -3,15 +3,13 @@
 ghost use Rattle.std.specs.Prelude.{◌≡◌, ◌+◌, ◌<◌, ◌^◌, [], Option, Some, IfOk, OnOk};
 ghost use Rattle.asset_names.specs.Sources.{Numbered};
 ghost use Rattle.asset_laws.specs.Renumbered.{source_number, writing, zeroed};
-ghost use Rattle.asset_core.specs.Stepped.{IsStep};
 ghost use Rattle.asset_sources.specs.Sourced.{source_from};
 
 use crate::sourced::Source;
-use asset_core::Core;
-use asset_names::{Fault, NoMemory, Ob, Outcome, Step};
+use asset_names::{NoMemory, Ob, Step};
 use std::alloc::Global;
 
-/// Returns the step of the entry at the index: a write writes the number of its entry, counted from 1.
+/// Returns the step of the entry at the index: a write writes the number of its entry, counted from 1, and an add adds 0.
 #[inline(always)]
 #[tactic(auto, unfolding(asset_laws::specs::Renumbered::writing))]
 pub(crate) fn writing(index: usize, step: &Step) -> Step
@@ -24,25 +22,8 @@ pub(crate) fn writing(index: usize, step: &Step) -> Step
             x,
             v: (index + 1) as i64,
         },
+        Step::Add { t, x, .. } => Step::Add { t, x, d: 0 },
         _ => *step,
-    }
-}
-
-/// Asks for the step of the entry at the index: a write writes the number of its entry, counted from 1. No other step is
-/// copied.
-#[inline(always)]
-#[tactic(auto, unfolding(asset_laws::specs::Renumbered::writing))]
-pub(crate) fn ask_numbered(core: &mut Core, index: usize, step: &Step) -> Result<Outcome, Fault>
-    requires small { index + 1 < 2 ^ 63 }
-    ensures { IsStep core.old (writing index step.now) result core.new }
-{
-    match *step {
-        Step::Write { t, x, .. } => core.step_lent(&Step::Write {
-            t,
-            x,
-            v: (index + 1) as i64,
-        }),
-        _ => core.step_lent(step),
     }
 }
 

@@ -60,7 +60,7 @@ pub(crate) fn pass(history: &History, index: usize, tables: &mut Tables) -> Resu
 /// Returns the source of the value that a step read, by tables that show the older entries; `None` if it is no read, or
 /// was not answered by a value.
 fn source_read(step: &Step, reply: &Reply, tables: &Tables) -> Option<Source>
-    ensures { (opening : Opening) (older : List Entry) → Shows (zeroed opening) (applied (renumbered older)) (values_of tables.now) → IsLegal opening ((step.now, reply.now) ∷ older) →
+    ensures { (opening : Opening) (older : List Entry) → length older + 1 < 2 ^ 63 → Shows (zeroed opening) (applied (renumbered older)) (values_of tables.now) → IsLegal opening ((step.now, reply.now) ∷ older) →
         result ≡ source_of older step.now reply.now }
 {
     match step {
@@ -75,6 +75,7 @@ fn source_read(step: &Step, reply: &Reply, tables: &Tables) -> Option<Source>
 /// Returns the source of the value that the entry at the index read, by tables that show the entries before it; `None` if
 /// it is no read, or was not answered by a value.
 pub(crate) fn source_here(history: &History, index: usize, tables: &Tables) -> Option<Source>
+    requires small { length history.now.entries < 2 ^ 63 }
     requires stand { ShowsFirst history.now index tables.now }
     ensures { (entry : Entry) → slice_get (reverse history.now.entries) index ≡ Some entry → result ≡ source_of (first_entries history.now index) entry.0 entry.1 }
 {

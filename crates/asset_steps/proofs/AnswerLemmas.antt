@@ -7,7 +7,7 @@ use Rattle.asset_names.specs.declared.names.Txn.{Txn}
 use Rattle.asset_names.specs.declared.names.Ob.{Ob}
 use Rattle.asset_names.specs.declared.operations.Op.TheVariants as Op'
 use Rattle.asset_names.specs.declared.steps.Step.{Step}
-use Rattle.asset_names.specs.declared.steps.Step.TheVariants.{Read, Write}
+use Rattle.asset_names.specs.declared.steps.Step.TheVariants.{Read, Write, Add}
 use Rattle.asset_names.specs.Steps.{Opening}
 use Rattle.asset_names.specs.declared.statuses.Status.{Status}
 use Rattle.asset_names.specs.declared.statuses.Status.TheVariants as Status'
@@ -39,6 +39,10 @@ read_unrefused opening steps t x first = no_refusal opening steps t x first
 pub write_unrefused : (opening : Opening) (steps : List Step) (t : Txn) (x : Ob) (v : _) → first_refusal (rules_for opening steps (Write t x v)) ≡ None → (is_running (status steps t.0) ≡ true) × (exists opening x.0 ≡ true)
 unfolding rules_for
 write_unrefused opening steps t x v first = no_refusal opening steps t x first
+
+pub add_unrefused : (opening : Opening) (steps : List Step) (t : Txn) (x : Ob) (d : _) → first_refusal (rules_for opening steps (Add t x d)) ≡ None → (is_running (status steps t.0) ≡ true) × (exists opening x.0 ≡ true)
+unfolding rules_for
+add_unrefused opening steps t x d first = no_refusal opening steps t x first
 
 -- what a read is answered by the tables, it is by the history
 pub read_answered : (opening : Opening) (steps : List Step) (tables : Standing) (t : Txn) (x : Ob) → Shows opening steps (values_of tables) → exists opening x.0 ≡ true → read_outcome tables t.0 x.0 ≡ unrefused opening steps (Read t x)

@@ -7,7 +7,7 @@ use Rattle.asset_names.specs.declared.operations.Op.TheVariants as Op'
 use Rattle.asset_names.specs.declared.statuses.Status.{Status}
 use Rattle.asset_names.specs.declared.statuses.Status.TheVariants as Status'
 use Rattle.asset_names.specs.declared.steps.Step.{Step}
-use Rattle.asset_names.specs.declared.steps.Step.TheVariants.{Initiate, Begin, Read, Write, Complete, Permit, Delegate, Depend, Commit, Abort, WaitFor}
+use Rattle.asset_names.specs.declared.steps.Step.TheVariants.{Initiate, Begin, Read, Write, Add, Complete, Permit, Delegate, Depend, Commit, Abort, WaitFor}
 use Rattle.asset_names.specs.declared.replies.Refusal.{Refusal}
 use Rattle.asset_names.specs.declared.replies.Reply.{Reply}
 use Rattle.asset_names.specs.declared.replies.Outcome.{Outcome}
@@ -24,7 +24,7 @@ use Rattle.asset_ends.proofs.DependLaws.{would_cycle_shown}
 use Rattle.asset_ends.proofs.EndingLemmas.{may_commit_shown}
 use Rattle.asset_ends.proofs.StandingLemmas.{object_exists}
 use Rattle.asset_steps.specs.Ready.{IsReady, MayWait}
-use Rattle.asset_steps.proofs.AnswerLemmas.{read_unrefused, write_unrefused}
+use Rattle.asset_steps.proofs.AnswerLemmas.{read_unrefused, write_unrefused, add_unrefused}
 
 running_is : (status : Status) → is_running status ≡ true → status ≡ Status'.Running
 unfolding is_running
@@ -57,7 +57,7 @@ initiated_is Status'.Aborted a b c = absurd (false≢true (sym b))
 runs : (opening : Opening) (steps : List Step) (tables : Standing) (t : ℕ) → Shows opening steps (values_of tables) → is_running (status steps t) ≡ true → status_in tables.trans t ≡ Status'.Running
 runs opening steps tables t stand running = stand.statuses t ∙ running_is (status steps t) running
 
--- a read or a write that is answered is free, and one that waits is not
+-- an operation that is answered is free, and one that waits is not
 free_if : (is_free : Bool) (reply : Reply) (other : Outcome) → cond is_free other Wait ≡ Answer reply → is_free ≡ true
 free_if true reply other h = refl
 free_if false reply other h = cc
@@ -110,6 +110,10 @@ ready opening steps tables (Write t x v) reply stand is carried =
     let none = effect_unrefused opening steps (Write t x v) reply is carried in
     let there = write_unrefused opening steps t x v none in
     (runs opening steps tables t.0 stand there.0, free_shown opening steps _ _ _ _ _ t.0 x.0 Op'.Write stand ∙ free_if _ reply _ (answered_unrefused opening steps (Write t x v) (Answer reply) is none), object_exists opening steps tables x.0 stand ∙ there.1)
+ready opening steps tables (Add t x d) reply stand is carried =
+    let none = effect_unrefused opening steps (Add t x d) reply is carried in
+    let there = add_unrefused opening steps t x d none in
+    (runs opening steps tables t.0 stand there.0, free_shown opening steps _ _ _ _ _ t.0 x.0 Op'.Add stand ∙ free_if _ reply _ (answered_unrefused opening steps (Add t x d) (Answer reply) is none), object_exists opening steps tables x.0 stand ∙ there.1)
 ready opening steps tables (Complete t) reply stand is carried = stand.statuses t.0 ∙ running_is (status steps t.0) (complete_runs opening steps t reply is carried)
 ready opening steps tables (Permit giver taker obs ops) reply stand is carried =
     let both = permit_live opening steps giver taker obs ops reply is carried in
@@ -133,6 +137,10 @@ may_wait opening steps tables (Write t x v) stand is =
     let none = waits_unrefused opening steps (Write t x v) is in
     let there = write_unrefused opening steps t x v none in
     (runs opening steps tables t.0 stand there.0, free_shown opening steps _ _ _ _ _ t.0 x.0 Op'.Write stand ∙ blocked_if _ _ (answered_unrefused opening steps (Write t x v) Wait is none), object_exists opening steps tables x.0 stand ∙ there.1)
+may_wait opening steps tables (Add t x d) stand is =
+    let none = waits_unrefused opening steps (Add t x d) is in
+    let there = add_unrefused opening steps t x d none in
+    (runs opening steps tables t.0 stand there.0, free_shown opening steps _ _ _ _ _ t.0 x.0 Op'.Add stand ∙ blocked_if _ _ (answered_unrefused opening steps (Add t x d) Wait is none), object_exists opening steps tables x.0 stand ∙ there.1)
 may_wait opening steps tables (Initiate t parent) stand is = tt
 may_wait opening steps tables (Begin t) stand is = tt
 may_wait opening steps tables (Complete t) stand is = tt

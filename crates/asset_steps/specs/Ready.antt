@@ -3,7 +3,7 @@ use Rattle.std.specs.Prelude.{◌≡◌, ℕ, ℤ, pos, Bool, true, false, cond,
 use Rattle.asset_names.specs.declared.operations.Op.TheVariants as Op'
 use Rattle.asset_names.specs.declared.statuses.Status.TheVariants as Status'
 use Rattle.asset_names.specs.declared.steps.Step.{Step}
-use Rattle.asset_names.specs.declared.steps.Step.TheVariants.{Initiate, Begin, Read, Write, Complete, Permit, Delegate, Depend, Commit, Abort, WaitFor}
+use Rattle.asset_names.specs.declared.steps.Step.TheVariants.{Initiate, Begin, Read, Write, Add, Complete, Permit, Delegate, Depend, Commit, Abort, WaitFor}
 use Rattle.asset_names.specs.declared.replies.Reply.TheVariants as Reply'
 use Rattle.asset_names.specs.declared.replies.Outcome.{Outcome}
 use Rattle.asset_names.specs.declared.replies.Outcome.TheVariants.{Answer, Wait}
@@ -28,6 +28,7 @@ IsReady (Initiate t parent) tables = status_in tables.trans t.0 ≡ Status'.Unkn
 IsReady (Begin t) tables = status_in tables.trans t.0 ≡ Status'.Initiated
 IsReady (Read t x) tables = (status_in tables.trans t.0 ≡ Status'.Running) × (is_free_for tables t.0 x.0 Op'.Read ≡ true)
 IsReady (Write t x v) tables = (status_in tables.trans t.0 ≡ Status'.Running) × (is_free_for tables t.0 x.0 Op'.Write ≡ true) × (has_object (cells tables.objects) x.0 ≡ true)
+IsReady (Add t x d) tables = (status_in tables.trans t.0 ≡ Status'.Running) × (is_free_for tables t.0 x.0 Op'.Add ≡ true) × (has_object (cells tables.objects) x.0 ≡ true)
 IsReady (Complete t) tables = status_in tables.trans t.0 ≡ Status'.Running
 IsReady (Permit giver taker obs ops) tables = (is_live_status (status_in tables.trans giver.0) ≡ true) × (is_live_status (status_in tables.trans taker.0) ≡ true)
 IsReady (Delegate giver taker obs) tables = (is_live_status (status_in tables.trans giver.0) ≡ true) × (is_live_status (status_in tables.trans taker.0) ≡ true)
@@ -40,6 +41,7 @@ IsReady (WaitFor t) tables = Unit {0}
 abbrev pub MayWait : Step → Standing → Type 0
 MayWait (Read t x) tables = (status_in tables.trans t.0 ≡ Status'.Running) × (is_free_for tables t.0 x.0 Op'.Read ≡ false)
 MayWait (Write t x v) tables = (status_in tables.trans t.0 ≡ Status'.Running) × (is_free_for tables t.0 x.0 Op'.Write ≡ false) × (has_object (cells tables.objects) x.0 ≡ true)
+MayWait (Add t x d) tables = (status_in tables.trans t.0 ≡ Status'.Running) × (is_free_for tables t.0 x.0 Op'.Add ≡ false) × (has_object (cells tables.objects) x.0 ≡ true)
 MayWait step tables = Unit {0}
 
 -- those whom an end of t takes are released, if t was live
@@ -51,6 +53,7 @@ unfoldable pub locks_after : Step → Standing → Locks.LockTable
 locks_after (Initiate t parent) tables = Locks.enrol_in t.0 tables.locks
 locks_after (Read t x) tables = Locks.grant_in t.0 x Op'.Read tables.locks
 locks_after (Write t x v) tables = Locks.grant_in t.0 x Op'.Write tables.locks
+locks_after (Add t x d) tables = Locks.grant_in t.0 x Op'.Add tables.locks
 locks_after (Delegate giver taker obs) tables = Locks.hand_over_in giver.0 taker.0 obs tables.locks
 locks_after (Commit t) tables = released tables t.0 (class_in tables.deps t.0)
 locks_after (Abort t) tables = released tables t.0 (doomed_in tables.deps t.0)
@@ -60,4 +63,5 @@ locks_after step tables = tables.locks
 unfoldable pub locks_waiting : Step → Standing → Locks.LockTable
 locks_waiting (Read t x) tables = Locks.wait_in t.0 x Op'.Read tables.locks
 locks_waiting (Write t x v) tables = Locks.wait_in t.0 x Op'.Write tables.locks
+locks_waiting (Add t x d) tables = Locks.wait_in t.0 x Op'.Add tables.locks
 locks_waiting step tables = tables.locks

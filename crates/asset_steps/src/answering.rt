@@ -6,9 +6,10 @@ ghost use Rattle.asset_names.specs.Endings.{status};
 ghost use Rattle.asset_names.specs.Answers.{answer, first_refusal, rules_for, unrefused, unknown, ended, not_running, no_object, one_name, cycle, is_unknown, commit_outcome, may_commit, missing_in, no_object_of};
 ghost use Rattle.asset_objects.specs.Cells.{cells, has_object};
 ghost use Rattle.asset_ends.specs.Shown.{ForShown};
+ghost use Rattle.asset_ends.specs.Updates.{step_of};
 ghost use Rattle.asset_steps.specs.Ready.{value_or_zero, read_outcome};
 
-use asset_ends::Tables;
+use asset_ends::{Tables, Update};
 use asset_names::{
     Kind, Ob, ObSet, Op, Outcome, Refusal, Reply, Step, Txn, commit_outcome, refusal_between,
     refusal_to_abort, refusal_to_begin, refusal_to_depend, refusal_to_find, refusal_to_initiate,
@@ -26,6 +27,7 @@ fn refusal(tables: &mut Tables, step: &Step) -> Option<Refusal>
         Step::Begin { t } => refusal_to_begin(t, tables.status(t)),
         Step::Read { t, x } => refusal_to_use(tables, t, x),
         Step::Write { t, x, .. } => refusal_to_use(tables, t, x),
+        Step::Add { t, x, .. } => refusal_to_use(tables, t, x),
         Step::Complete { t } => refusal_to_work(t, tables.status(t)),
         Step::Permit {
             giver,
@@ -41,7 +43,7 @@ fn refusal(tables: &mut Tables, step: &Step) -> Option<Refusal>
     }
 }
 
-/// Returns why `t` may not read or write `x`, and `None` if it may.
+/// Returns why `t` may not operate on `x`, and `None` if it may.
 fn refusal_to_use(tables: &Tables, t: Txn, x: Ob) -> Option<Refusal>
     ensures { ForShown tables.now (λ opening steps. result ≡ first_refusal (unknown steps t ∷ ended steps t ∷ not_running steps t ∷ no_object opening x ∷ [])) }
 {
@@ -139,12 +141,12 @@ fn read_outcome(tables: &mut Tables, t: Txn, x: Ob) -> Outcome
     }
 }
 
-/// Returns the outcome of a write, of any value, that is not refused. Nothing changes.
-fn write_outcome(tables: &mut Tables, t: Txn, x: Ob) -> Outcome
-    ensures outcome { (v : ℤ) → ForShown tables.old (λ opening steps. result ≡ unrefused opening steps (Step.Write t x v)) }
+/// Returns the outcome of a write or an add, of any value, that is not refused. Nothing changes.
+fn update_outcome(tables: &mut Tables, t: Txn, x: Ob, update: Update) -> Outcome
+    ensures outcome { (v : ℤ) → ForShown tables.old (λ opening steps. result ≡ unrefused opening steps (step_of update t x v)) }
     ensures same { tables.new ≡ tables.old }
 {
-    if tables.is_free(t, x, Op::Write) {
+    if tables.is_free(t, x, update.op()) {
         Outcome::Answer(Reply::Done)
     } else {
         Outcome::Wait
@@ -180,7 +182,8 @@ fn unrefused(tables: &mut Tables, step: &Step) -> Outcome
         Step::Delegate { .. } => Outcome::Answer(Reply::Done),
         Step::Depend { .. } => Outcome::Answer(Reply::Done),
         Step::Read { t, x } => read_outcome(tables, t, x),
-        Step::Write { t, x, .. } => write_outcome(tables, t, x),
+        Step::Write { t, x, .. } => update_outcome(tables, t, x, Update::Write),
+        Step::Add { t, x, .. } => update_outcome(tables, t, x, Update::Add),
         Step::Commit { t } => commit_outcome_of(tables, t),
         Step::Abort { .. } => Outcome::Answer(Reply::Aborted),
         Step::WaitFor { t } => wait_outcome(tables.status(t)),

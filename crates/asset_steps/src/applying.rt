@@ -13,9 +13,10 @@ ghost use Rattle.asset_locks.specs.LockTable.{wait_in};
 ghost use Rattle.asset_trans.specs.TransRows.{status_in};
 ghost use Rattle.asset_ends.specs.Shown.{ShowsStill, ShowsWith, ShowsEntry, ShowsOrderly};
 ghost use Rattle.asset_ends.specs.Standing.{is_free_for, may_commit_in, ShowAlike};
+ghost use Rattle.asset_ends.specs.Updates.{op_of};
 ghost use Rattle.asset_steps.specs.Ready.{IsReady, MayWait, locks_after, locks_waiting, released};
 
-use asset_ends::Tables;
+use asset_ends::{Tables, Update};
 use asset_names::{NoMemory, Ob, Reply, Step, Txn, takes_effect, value_asked};
 
 /// Applies a step that takes effect. If memory runs out, the tables show what they did before.
@@ -39,6 +40,10 @@ fn apply_step(tables: &mut Tables, step: &Step) -> Result<(), NoMemory>
         }
         Step::Write { t, x, .. } => {
             tables.write(t, x, value_asked(step))?;
+            Ok(())
+        }
+        Step::Add { t, x, .. } => {
+            tables.add(t, x, value_asked(step))?;
             Ok(())
         }
         Step::Complete { t } => {
@@ -99,15 +104,16 @@ fn wait_to_read(tables: &mut Tables, t: Txn, x: Ob)
     }
 }
 
-/// Makes the write of an object that is not free the pending request of `t`.
-fn wait_to_write(tables: &mut Tables, t: Txn, x: Ob, v: i64)
+/// Makes the write of an object that is not free, or the add to it, the pending request of `t`.
+fn wait_to_update(tables: &mut Tables, t: Txn, x: Ob, update: Update, v: i64)
     requires runs { status_in tables.old.trans t.0 ≡ Status.Running }
-    requires blocked { is_free_for tables.old t.0 x.0 Operation.Write ≡ false }
+    requires blocked { is_free_for tables.old t.0 x.0 (op_of update) ≡ false }
     requires exists { has_object (cells tables.old.objects) x.0 ≡ true }
     ensures stand { ShowsStill tables.old tables.new }
-    ensures locks { tables.new.locks ≡ wait_in t.0 x Operation.Write tables.old.locks }
+    ensures locks { tables.new.locks ≡ wait_in t.0 x (op_of update) tables.old.locks }
 {
-    match tables.write(t, x, v) {
+    let (_, one) = tables.find(t);
+    match tables.update_at(one, x, update, v) {
         Ok(_) => {}
         Err(_) => unreachable!(),
     }
@@ -137,7 +143,8 @@ pub fn wait(tables: &mut Tables, step: &Step)
 {
     match *step {
         Step::Read { t, x } => wait_to_read(tables, t, x),
-        Step::Write { t, x, .. } => wait_to_write(tables, t, x, value_asked(step)),
+        Step::Write { t, x, .. } => wait_to_update(tables, t, x, Update::Write, value_asked(step)),
+        Step::Add { t, x, .. } => wait_to_update(tables, t, x, Update::Add, value_asked(step)),
         Step::Initiate { .. } => {}
         Step::Begin { .. } => {}
         Step::Complete { .. } => {}

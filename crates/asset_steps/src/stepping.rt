@@ -6,10 +6,11 @@ ghost use Rattle.asset_names.specs.declared.statuses.Status.{Status};
 ghost use Rattle.asset_names.specs.Endings.{is_live_status};
 ghost use Rattle.asset_objects.specs.Cells.{cells, has_object, value_in};
 ghost use Rattle.asset_trans.specs.TransRows.{status_in, seat_in};
+ghost use Rattle.asset_ends.specs.Updates.{step_of};
 ghost use Rattle.asset_steps.specs.Stepped.{Lacked, Stepped};
 
 use crate::answering::missing;
-use asset_ends::{Tables, Tried};
+use asset_ends::{Tables, Tried, Update};
 use asset_names::{
     Kind, NoMemory, Ob, ObSet, Ops, Outcome, Refusal, Reply, Status, Step, Txn, commit_outcome,
     refusal_between, refusal_to_abort, refusal_to_begin, refusal_to_depend, refusal_to_find,
@@ -82,33 +83,45 @@ fn read_if_any(tables: &mut Tables, t: Txn, x: Ob) -> Result<Outcome, NoMemory>
     }
 }
 
-/// Writes an object that exists for a transaction that runs, or makes the write its pending request.
+/// Writes or adds to an object that exists for a transaction that runs, or makes that its pending request.
 #[inline(always)]
-fn write_found(tables: &mut Tables, one: Sitter, x: Ob, v: i64) -> Result<Outcome, NoMemory>
+fn update_found(
+    tables: &mut Tables,
+    one: Sitter,
+    x: Ob,
+    update: Update,
+    v: i64,
+) -> Result<Outcome, NoMemory>
     requires runs { status_in tables.old.trans one.t.0 ≡ Status.Running }
     requires seat { one.at ≡ seat_in tables.old.trans one.t.0 }
     requires exists { has_object (cells tables.old.objects) x.0 ≡ true }
-    ensures stepped { IfOk result (λ outcome. Stepped tables.old (Step.Write one.t x v) outcome tables.new) }
-    ensures lacked { OnErr result (Lacked tables.old (Step.Write one.t x v) tables.new) }
+    ensures stepped { IfOk result (λ outcome. Stepped tables.old (step_of update one.t x v) outcome tables.new) }
+    ensures lacked { OnErr result (Lacked tables.old (step_of update one.t x v) tables.new) }
 {
-    match tables.write_at(one, x, v) {
+    match tables.update_at(one, x, update, v) {
         Ok(true) => Ok(Outcome::Answer(Reply::Done)),
         Ok(false) => Ok(Outcome::Wait),
         Err(fault) => Err(fault),
     }
 }
 
-/// Writes an object, unless that is refused, or makes the write the pending request of `t`.
+/// Writes or adds to an object, unless that is refused, or makes that the pending request of `t`.
 #[inline(always)]
-fn write_if_any(tables: &mut Tables, t: Txn, x: Ob, v: i64) -> Result<Outcome, NoMemory>
-    ensures stepped { IfOk result (λ outcome. Stepped tables.old (Step.Write t x v) outcome tables.new) }
-    ensures lacked { OnErr result (Lacked tables.old (Step.Write t x v) tables.new) }
+fn update_if_any(
+    tables: &mut Tables,
+    t: Txn,
+    x: Ob,
+    update: Update,
+    v: i64,
+) -> Result<Outcome, NoMemory>
+    ensures stepped { IfOk result (λ outcome. Stepped tables.old (step_of update t x v) outcome tables.new) }
+    ensures lacked { OnErr result (Lacked tables.old (step_of update t x v) tables.new) }
 {
     let exists = tables.value(x).is_some();
     let (status, one) = tables.find(t);
     match refusal_to_operate(t, status, x, exists) {
         Some(refusal) => Ok(Outcome::Answer(Reply::Refused(refusal))),
-        None => write_found(tables, one, x, v),
+        None => update_found(tables, one, x, update, v),
     }
 }
 
@@ -249,7 +262,7 @@ fn depend_if_any(tables: &mut Tables, kind: Kind, a: Txn, b: Txn) -> Result<Outc
     }
 }
 
-/// Asks for a step: returns its answer, and makes it take effect if it does, or pending if it is a read or a write that
+/// Asks for a step: returns its answer, and makes it take effect if it does, or pending if it is a request that
 /// waits. The row of a transaction is looked for once, and again if the step changes it or is a dependency; the locks on
 /// an object are looked at once, unless memory runs out. It answers `NoMemory` if the step would take effect and memory
 /// runs out, and the tables then show what they did before.
@@ -262,7 +275,10 @@ pub fn step_at_once(tables: &mut Tables, step: &Step) -> Result<Outcome, NoMemor
         Step::Initiate { t, parent } => initiate_if_any(tables, t, parent),
         Step::Begin { t } => Ok(begin_if_any(tables, t)),
         Step::Read { t, x } => read_if_any(tables, t, x),
-        Step::Write { t, x, .. } => write_if_any(tables, t, x, value_asked(step)),
+        Step::Write { t, x, .. } => {
+            update_if_any(tables, t, x, Update::Write, value_asked(step))
+        }
+        Step::Add { t, x, .. } => update_if_any(tables, t, x, Update::Add, value_asked(step)),
         Step::Complete { t } => Ok(complete_if_any(tables, t)),
         Step::Permit {
             giver,

@@ -4,7 +4,7 @@ use crate::locks::ask_once;
 use asset_locks::{Asked, LockState, Locks};
 use asset_names::{NoMemory, Ob, ObSet, Op, Ops, Txn};
 use asset_permits::Permits;
-use asset_test_tools::next;
+use asset_test_tools::{next, op_of};
 use std::test::Fail;
 
 /// How many transactions and objects there are beside the table, and how many calls are drawn.
@@ -17,12 +17,15 @@ const CALLS: usize = 3_000;
 /// How many transactions read one object, and how many objects one transaction writes.
 const MANY: u64 = 300;
 
+/// All operations.
+const ALL: [Op; 3] = [Op::Read, Op::Write, Op::Add];
+
 /// A lock of the plain table.
 #[derive(Clone, Copy)]
 struct PlainLock {
     owner: u64,
     object: u64,
-    write: bool,
+    ops: Ops,
     granted: bool,
 }
 
@@ -47,48 +50,43 @@ fn allows(u: u64, t: u64) -> bool {
     u == t || (u == 0 && t == 1)
 }
 
+/// Returns whether one of the operations is in conflict with `op`: two go together if both read or both add.
+fn conflicts(ops: Ops, op: Op) -> bool {
+    ALL.iter()
+        .any(|one| ops.has(*one) && (*one != op || op == Op::Write))
+}
+
 /// Returns whether `x` is free for `t` to do `op`.
 fn is_free(table: &PlainTable, t: u64, x: u64, op: Op) -> bool {
-    let writes = op == Op::Write;
-    !table.locks.iter().any(|one| one.object == x && !allows(one.owner, t) && (one.write || writes))
+    !table.locks.iter().any(|one| one.object == x
+        && !allows(one.owner, t)
+        && conflicts(one.ops, op))
 }
 
 /// Returns the state of the lock of `t` on `x`, if it has one.
 fn status_of(table: &PlainTable, t: u64, x: u64) -> Option<LockState> {
-    for one in &table.locks {
-        if one.owner == t && one.object == x {
-            return if one.granted {
-                Some(LockState::Granted)
-            } else {
-                Some(LockState::Suspended)
-            };
-        }
+    match table
+        .locks
+        .iter()
+        .find(|one| one.owner == t && one.object == x)
+    {
+        Some(one) if one.granted => Some(LockState::Granted),
+        Some(_) => Some(LockState::Suspended),
+        None => None,
     }
-    None
 }
 
 /// Returns the object at the index among those that `t` holds.
 fn held_of(table: &PlainTable, t: u64, index: usize) -> Option<Ob> {
-    let mut before = index;
-    for one in &table.locks {
-        if one.owner == t {
-            if before == 0 {
-                return Some(Ob(one.object));
-            }
-            before -= 1;
-        }
-    }
-    None
+    let mut held = table.locks.iter().filter(|one| one.owner == t);
+    Some(Ob(held.nth(index)?.object))
 }
 
 /// Returns the operation with which a name waits for `x`, if it does.
 fn request_of(table: &PlainTable, name: u64, x: u64) -> Option<Op> {
-    for request in &table.requests {
-        if request.name == name && request.object == x {
-            return Some(request.op);
-        }
-    }
-    None
+    let mut requests = table.requests.iter();
+    let found = requests.find(|request| request.name == name && request.object == x)?;
+    Some(found.op)
 }
 
 /// Returns the waiter at the index among those that wait for `x`.
@@ -126,19 +124,23 @@ fn grant_plainly(table: &mut PlainTable, t: u64, x: u64, op: Op) -> Result<(), F
         table.locks.push(PlainLock {
             owner: t,
             object: x,
-            write: false,
+            ops: Ops::only(op),
             granted: true,
         })?;
     }
-    let mut writes = op == Op::Write;
-    for one in &table.locks {
-        writes = writes || (one.owner == t && one.object == x && one.write);
+    let mut ops = Ops::only(op);
+    for one in table.locks.iter_mut() {
+        if one.owner == t && one.object == x {
+            one.granted = true;
+            one.ops = one.ops.with(op);
+            ops = one.ops;
+        }
     }
     for one in table.locks.iter_mut() {
-        if one.object == x && one.owner == t {
-            one.granted = true;
-            one.write = writes;
-        } else if one.object == x && (one.write || writes) {
+        if one.object == x
+            && one.owner != t
+            && ALL.iter().any(|by| ops.has(*by) && conflicts(one.ops, *by))
+        {
             one.granted = false;
         }
     }
@@ -160,16 +162,23 @@ fn ask_plainly(table: &mut PlainTable, t: u64, x: u64, op: Op) -> Result<Asked, 
     Ok(Asked::Pending)
 }
 
+/// Returns whether `x` is free for the same operations of `t`.
+fn same_free(locks: &Locks, permits: &mut Permits, table: &PlainTable, t: u64, x: u64) -> bool {
+    for op in &ALL {
+        if locks.is_free(Txn(t), Ob(x), *op, permits) != is_free(table, t, x, *op) {
+            return false;
+        }
+    }
+    true
+}
+
 /// Returns whether the locks show of one transaction what the table does.
 fn agrees_on(locks: &Locks, permits: &mut Permits, table: &PlainTable, t: u64) -> bool {
     for x in 0..OBJECTS {
         let at = locks.held_by(Txn(t), x as usize) == held_of(table, t, x as usize);
         let state = locks.status(Txn(t), Ob(x)) == status_of(table, t, x);
-        let read = locks.is_free(Txn(t), Ob(x), Op::Read, permits)
-            == is_free(table, t, x, Op::Read);
-        let write = locks.is_free(Txn(t), Ob(x), Op::Write, permits)
-            == is_free(table, t, x, Op::Write);
-        if !(at && state && read && write) {
+        let free = same_free(locks, permits, table, t, x);
+        if !(at && state && free) {
             return false;
         }
     }
@@ -214,8 +223,7 @@ fn enrol(
     }
 }
 
-/// Asks as `ask_once` does for one who is enrolled. If memory runs out once, nothing has changed, and the same call is
-/// made again.
+/// Asks as `ask_once` does for one who is enrolled. If memory runs out once, nothing has changed, and it asks again.
 fn ask(
     locks: &mut Locks,
     permits: &mut Permits,
@@ -239,11 +247,7 @@ fn call(
 ) -> Result<bool, Fail> {
     let t = (number >> 40) % NAMES;
     let x = (number >> 30) % OBJECTS;
-    let op = if (number >> 20) % 3 == 0 {
-        Op::Write
-    } else {
-        Op::Read
-    };
+    let op = op_of(number >> 20);
     let kind = (number >> 50) % 8;
     if kind == 0 {
         locks.release(Txn(t));
@@ -277,7 +281,7 @@ fn first_difference(
 
 /// Lets 1 do everything that 0 may do. If memory runs out once, the same call is made again.
 fn permit(permits: &mut Permits) -> Result<(), NoMemory> {
-    let ops = Ops::only(Op::Read).with(Op::Write);
+    let ops = Ops::with_add(true, true);
     match permits.add(Txn(0), Txn(1), ObSet::All, ops) {
         Ok(()) => Ok(()),
         Err(NoMemory) => permits.add(Txn(0), Txn(1), ObSet::All, ops),

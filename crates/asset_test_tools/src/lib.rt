@@ -8,10 +8,11 @@ mod plain_labels;
 mod sets;
 mod steps;
 
-pub use drawing::{kind_of, next};
+pub use drawing::{kind_of, next, op_of, ops_of};
 pub use many_permits::{END, FIRST, ONE, Side, pair};
 pub use plain_labels::{join_in, label_in};
 pub use sets::listed;
 pub use steps::{
-    abort, begin, commit, complete, delegate, depend, initiate, permit, read, wait, write,
+    abort, add, begin, commit, complete, delegate, depend, initiate, permit, permit_ops, read,
+    wait, write,
 };

@@ -33,6 +33,15 @@ pub fn write(t: u64, x: u64, v: i64) -> Step {
     }
 }
 
+/// Returns the step by which `t` adds `d` to `x`.
+pub fn add(t: u64, x: u64, d: i64) -> Step {
+    Step::Add {
+        t: Txn(t),
+        x: Ob(x),
+        d,
+    }
+}
+
 /// Returns the step that completes `t`.
 pub fn complete(t: u64) -> Step {
     Step::Complete { t: Txn(t) }
@@ -53,16 +62,21 @@ pub fn wait(t: u64) -> Step {
     Step::WaitFor { t: Txn(t) }
 }
 
-/// Returns a permit of one transaction for another, on all objects if none is given.
+/// Returns a permit of one transaction for another to read or to write, on all objects if none is given.
 pub fn permit(giver: u64, taker: u64, objects: &[Ob], (read, write): (bool, bool)) -> Step {
     match Ops::new(read, write) {
-        Some(ops) => Step::Permit {
-            giver: Txn(giver),
-            taker: Txn(taker),
-            obs: listed(objects),
-            ops,
-        },
+        Some(ops) => permit_ops(giver, taker, objects, ops),
         None => begin(giver),
+    }
+}
+
+/// Returns a permit of one transaction for another, on all objects if none is given.
+pub fn permit_ops(giver: u64, taker: u64, objects: &[Ob], ops: Ops) -> Step {
+    Step::Permit {
+        giver: Txn(giver),
+        taker: Txn(taker),
+        obs: listed(objects),
+        ops,
     }
 }
 

@@ -39,14 +39,18 @@ listed_none (n ∷ names) none u = absurd (omega (arith, eqb-true (length (n ∷
 held_against : (steps : List Step) (u x : ℕ) (op : Op) → holds_against steps u x op ≡ true → (other : Op) × (holds steps u x other ≡ true) × (conflict other op ≡ true)
 unfolding holds_against
 held_against steps u x op h = elim (or_cases _ _ h) [
-  | inl reading ↦ let both = and_parts _ _ reading in (Op'.Read, both.0, both.1)
-  | inr writing ↦ let both = and_parts _ _ writing in (Op'.Write, both.0, both.1)
+  | inl other ↦ elim (or_cases _ _ other) [
+    | inl reading ↦ let both = and_parts _ _ reading in (Op'.Read, both.0, both.1)
+    | inr writing ↦ let both = and_parts _ _ writing in (Op'.Write, both.0, both.1)
+  ]
+  | inr adding ↦ let both = and_parts _ _ adding in (Op'.Add, both.0, both.1)
 ]
 
 against_held : (steps : List Step) (u x : ℕ) (op other : Op) → holds steps u x other ≡ true → conflict other op ≡ true → holds_against steps u x op ≡ true
 unfolding holds_against
-against_held steps u x op Op'.Read held conflicts = or_left _ _ (and_from _ _ held conflicts)
-against_held steps u x op Op'.Write held conflicts = or_right _ _ (and_from _ _ held conflicts)
+against_held steps u x op Op'.Read held conflicts = or_left _ _ (or_left _ _ (and_from _ _ held conflicts))
+against_held steps u x op Op'.Write held conflicts = or_left _ _ (or_right _ _ (and_from _ _ held conflicts))
+against_held steps u x op Op'.Add held conflicts = or_right _ _ (and_from _ _ held conflicts)
 
 -- where x is free, nobody blocks
 free_none : (steps : List Step) (t x : ℕ) (op : Op) → free steps t x op ≡ true → (u : ℕ) → is_blocker steps t x op u ≡ false

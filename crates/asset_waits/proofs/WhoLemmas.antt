@@ -1,5 +1,5 @@
 -- Those who are found are the live transactions that pass a test.
-use Rattle.std.proofs.Common.{◌≡◌, ℕ, Bool, true, not, eqb, ◌&&◌, List, reverse, sym, ap, ◌∙◌, inl, inr}
+use Rattle.std.proofs.Common.{◌≡◌, ℕ, Bool, true, not, eqb, ◌&&◌, ◌||◌, List, reverse, sym, ap, ◌∙◌, inl, inr}
 use Rattle.std.specs.List.{filter}
 use Rattle.std.specs.List.Sorted.{IsStrictlySortedBy}
 use Rattle.std.specs.Ordering.{nat_cmp}
@@ -48,9 +48,12 @@ found_are steps test keys sorted named passes =
 pub blocker_lives : (steps : List Step) (t x : ℕ) (op : Op) (u : ℕ) → is_blocker steps t x op u ≡ true → live steps u ≡ true
 unfolding is_blocker holds_against holds
 blocker_lives steps t x op u h =
-    elim (or_cases (holds steps u x Op'.Read && conflict Op'.Read op) (holds steps u x Op'.Write && conflict Op'.Write op) (and_parts (not (eqb u t) && not (allows steps u t x op)) _ h).1) [
-      | inl reads ↦ (and_parts (live steps u) _ (and_parts (holds steps u x Op'.Read) _ reads).0).0
-      | inr writes ↦ (and_parts (live steps u) _ (and_parts (holds steps u x Op'.Write) _ writes).0).0
+    elim (or_cases (holds steps u x Op'.Read && conflict Op'.Read op || holds steps u x Op'.Write && conflict Op'.Write op) (holds steps u x Op'.Add && conflict Op'.Add op) (and_parts (not (eqb u t) && not (allows steps u t x op)) _ h).1) [
+      | inl other ↦ elim (or_cases (holds steps u x Op'.Read && conflict Op'.Read op) (holds steps u x Op'.Write && conflict Op'.Write op) other) [
+        | inl reading ↦ (and_parts (live steps u) _ (and_parts (holds steps u x Op'.Read) _ reading).0).0
+        | inr writing ↦ (and_parts (live steps u) _ (and_parts (holds steps u x Op'.Write) _ writing).0).0
+      ]
+      | inr adding ↦ (and_parts (live steps u) _ (and_parts (holds steps u x Op'.Add) _ adding).0).0
     ]
 
 pub unfinished_lives : (steps : List Step) (t u : ℕ) → is_unfinished steps t u ≡ true → live steps u ≡ true

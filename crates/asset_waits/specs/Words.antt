@@ -2,7 +2,7 @@
 use Rattle.std.specs.Prelude.{ℕ, Bool, true, false, ◌&&◌, List, [], ◌∷◌, ◌++◌, Option, Some, None, codes}
 use Rattle.std.specs.Fmt.{decimal}
 use Rattle.asset_names.specs.declared.operations.Op.{Op}
-use Rattle.asset_names.specs.declared.operations.Op.TheVariants.{Read, Write}
+use Rattle.asset_names.specs.declared.operations.Op.TheVariants.{Read, Write, Add}
 use Rattle.asset_names.specs.declared.statuses.Status.{Status}
 use Rattle.asset_names.specs.declared.statuses.Status.TheVariants as Status'
 use Rattle.asset_names.specs.declared.steps.Step.{Step}
@@ -22,21 +22,26 @@ status_word Status'.Completed = codes "completed"
 status_word Status'.Committed = codes "committed"
 status_word Status'.Aborted = codes "aborted"
 
--- the word of an operation
+-- the words of an operation, before those of its object
 unfoldable pub op_word : Op → List ℕ
 op_word Read = codes "read"
 op_word Write = codes "write"
+op_word Add = codes "add to"
 
--- the words of operations, by whether reads and whether writes are among them
-unfoldable pub ops_words : Bool → Bool → List ℕ
-ops_words true true = codes "read and write"
-ops_words true false = codes "read"
-ops_words false true = codes "write"
-ops_words false false = []
+-- the words of operations, by whether reads, writes and adds are among them
+unfoldable pub ops_words : Bool → Bool → Bool → List ℕ
+ops_words true true true = codes "read, write and add"
+ops_words true true false = codes "read and write"
+ops_words true false true = codes "read and add"
+ops_words true false false = codes "read"
+ops_words false true true = codes "write and add"
+ops_words false true false = codes "write"
+ops_words false false true = codes "add"
+ops_words false false false = []
 
 -- the operations in conflict with op by which u holds x
 unfoldable pub held_words : List Step → ℕ → ℕ → Op → List ℕ
-held_words steps u x op = ops_words (holds steps u x Read && conflict Read op) (holds steps u x Write && conflict Write op)
+held_words steps u x op = ops_words (holds steps u x Read && conflict Read op) (holds steps u x Write && conflict Write op) (holds steps u x Add && conflict Add op)
 
 -- a name after a space, if there is one
 unfoldable pub name_word : Option ℕ → List ℕ

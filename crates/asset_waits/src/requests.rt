@@ -11,7 +11,7 @@ use asset_core::Core;
 use asset_names::{NoMemory, Ob, Op, Txn};
 use std::alloc::{AllocError, Global};
 
-/// Returns the word of an operation.
+/// Returns the words of an operation, before those of its object.
 #[tactic(auto, unfolding(crate::specs::Words::op_word))]
 fn op_word(op: Op) -> &'static str
     ensures { result.now ≡ op_word op }
@@ -19,19 +19,24 @@ fn op_word(op: Op) -> &'static str
     match op {
         Op::Read => "read",
         Op::Write => "write",
+        Op::Add => "add to",
     }
 }
 
-/// Returns the words of operations, by whether reads and whether writes are among them.
+/// Returns the words of operations, by whether reads, writes and adds are among them.
 #[tactic(auto, unfolding(crate::specs::Words::ops_words))]
-fn ops_words(reads: bool, writes: bool) -> &'static str
-    ensures { result.now ≡ ops_words reads writes }
+fn ops_words(reads: bool, writes: bool, adds: bool) -> &'static str
+    ensures { result.now ≡ ops_words reads writes adds }
 {
-    match (reads, writes) {
-        (true, true) => "read and write",
-        (true, false) => "read",
-        (false, true) => "write",
-        (false, false) => "",
+    match (reads, writes, adds) {
+        (true, true, true) => "read, write and add",
+        (true, true, false) => "read and write",
+        (true, false, true) => "read and add",
+        (true, false, false) => "read",
+        (false, true, true) => "write and add",
+        (false, true, false) => "write",
+        (false, false, true) => "add",
+        (false, false, false) => "",
     }
 }
 
@@ -42,7 +47,8 @@ fn held_words(core: &Core, u: Txn, x: Ob, op: Op) -> &'static str
 {
     let reads = core.holds(u, x, Op::Read) && Op::Read.conflicts_with(op);
     let writes = core.holds(u, x, Op::Write) && Op::Write.conflicts_with(op);
-    ops_words(reads, writes)
+    let adds = core.holds(u, x, Op::Add) && Op::Add.conflicts_with(op);
+    ops_words(reads, writes, adds)
 }
 
 /// Appends the start of a line of `t`, which waits for `op` on `x`.

@@ -4,7 +4,7 @@ use asset_core_tests::{ROOM, THREE, ask, opened};
 use asset_names::{Kind, NoMemory, Ob, Op, Outcome, Reply, Status, Step, Txn};
 use asset_reference::{answer, status_after};
 use asset_test_tools::{
-    abort, begin, commit, complete, delegate, depend, initiate, next, permit, read, write,
+    abort, add, begin, commit, complete, delegate, depend, initiate, next, permit, read, write,
 };
 use std::test::Fail;
 
@@ -18,11 +18,12 @@ fn drawn(number: u64) -> Step {
     let t = 5 + (number >> 40) % 5;
     let u = 5 + (number >> 30) % 5;
     let x = 1 + (number >> 20) % 3;
-    match (number >> 50) % 16 {
+    match (number >> 50) % 18 {
         0 | 1 => initiate(t),
         2 | 3 => begin(t),
         4 | 5 => read(t, x),
         6 | 7 => write(t, x, (number % 1000) as i64),
+        16 | 17 => add(t, x, (number % 1000) as i64),
         8 => complete(t),
         9 => commit(t),
         10 => abort(t),
@@ -61,6 +62,7 @@ fn request(t: Txn, x: Ob, op: Op) -> Step {
     match op {
         Op::Read => read(t.0, x.0),
         Op::Write => write(t.0, x.0, 1),
+        Op::Add => add(t.0, x.0, 1),
     }
 }
 
@@ -69,7 +71,8 @@ fn all_hold(core: &Core, found: &NameSet, t: Txn, x: Ob, op: Op) -> bool {
     for u in found.iter() {
         let reads = core.holds(Txn(*u), x, Op::Read) && Op::Read.conflicts_with(op);
         let writes = core.holds(Txn(*u), x, Op::Write);
-        if *u == t.0 || !(reads || writes) {
+        let adds = core.holds(Txn(*u), x, Op::Add) && Op::Add.conflicts_with(op);
+        if *u == t.0 || !(reads || writes || adds) {
             return false;
         }
     }

@@ -92,6 +92,37 @@ fn reads_wait_for_writes_alone(rt: HostRuntime) -> Result<(), Fail> {
     expect_report(&rt, script, text, RunEnd::Finished)
 }
 
+/// A read waits for those who add; an add waits for who writes, and for nobody who adds.
+#[test]
+fn adds_are_named_as_such(rt: HostRuntime) -> Result<(), Fail> {
+    let script = "\
+        object 1 100\nobject 2 200\n\
+        initiate 7\nbegin 7\ninitiate 8\nbegin 8\ninitiate 9\nbegin 9\ninitiate 10\nbegin 10\n\
+        add 7 1 5\nadd 9 1 6\nread 8 1\nwrite 9 2 7\nadd 9 2 1\nadd 10 2 3\n";
+    let text = "\
+        7 running\n8 running\n\
+        8 waits to read 1: 7 holds it by add\n\
+        8 waits to read 1: 9 holds it by add\n\
+        9 running\n10 running\n\
+        10 waits to add to 2: 9 holds it by write\n";
+    expect_report(&rt, script, text, RunEnd::Finished)
+}
+
+/// 8 holds the object by all three operations; 9 would write it, and 7 would read it.
+#[test]
+fn three_operations_are_named(rt: HostRuntime) -> Result<(), Fail> {
+    let script = "\
+        object 1 100\n\
+        initiate 7\nbegin 7\ninitiate 8\nbegin 8\ninitiate 9\nbegin 9\n\
+        read 8 1\nwrite 8 1 5\nadd 8 1 6\nread 7 1\nwrite 9 1 6\n";
+    let text = "\
+        7 running\n\
+        7 waits to read 1: 8 holds it by write and add\n\
+        8 running\n9 running\n\
+        9 waits to write 1: 8 holds it by read, write and add\n";
+    expect_report(&rt, script, text, RunEnd::Finished)
+}
+
 /// 9 is named by neither: it holds the object itself, and 8 permits it.
 #[test]
 fn own_locks_and_permits_keep_nobody(rt: HostRuntime) -> Result<(), Fail> {

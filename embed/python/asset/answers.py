@@ -18,6 +18,7 @@ class StepKind(IntEnum):
     COMMIT = 9
     ABORT = 10
     WAIT_FOR = 11
+    ADD = 12
 
 
 class Operations(IntEnum):
@@ -26,6 +27,10 @@ class Operations(IntEnum):
     READ = 1
     WRITE = 2
     READ_AND_WRITE = 3
+    ADD = 4
+    READ_AND_ADD = 5
+    WRITE_AND_ADD = 6
+    ALL = 7
 
 
 class Tie(IntEnum):

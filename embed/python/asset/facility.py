@@ -161,6 +161,10 @@ class Asset:
         """Writes a value to an object."""
         return self.ask(4, transaction, name, value)
 
+    def add(self, transaction: int, name: int, amount: int) -> Answer:
+        """Adds to an object. The sum wraps to 64 bits."""
+        return self.ask(12, transaction, name, amount)
+
     def complete(self, transaction: int) -> Answer:
         """Says that a transaction has done its work."""
         return self.ask(5, transaction)

@@ -54,6 +54,7 @@ impl List {
 pub enum Operation {
     Read,
     Write,
+    Add,
 }
 
 /// What a permit lets its taker do.
@@ -62,6 +63,10 @@ pub enum Operations {
     Read,
     Write,
     ReadAndWrite,
+    Add,
+    ReadAndAdd,
+    WriteAndAdd,
+    All,
 }
 
 /// How the end of one transaction depends on that of another.
@@ -82,6 +87,8 @@ pub enum Step {
     Begin { transaction: u64 },
     Read { transaction: u64, object: u64 },
     Write { transaction: u64, object: u64, value: i64 },
+    /// Adds to an object. The sum wraps.
+    Add { transaction: u64, object: u64, amount: i64 },
     Complete { transaction: u64 },
     Permit { giver: u64, taker: u64, operations: Operations, objects: Objects },
     Delegate { giver: u64, taker: u64, objects: Objects },

@@ -43,12 +43,17 @@ pub(crate) fn step(step: Step) -> sys::Step {
         Step::Begin { transaction } => bare(2, 0, transaction, 0),
         Step::Read { transaction, object } => bare(3, 0, transaction, object),
         Step::Write { transaction, object, value } => sys::Step { value, ..bare(4, 0, transaction, object) },
+        Step::Add { transaction, object, amount } => sys::Step { value: amount, ..bare(12, 0, transaction, object) },
         Step::Complete { transaction } => bare(5, 0, transaction, 0),
         Step::Permit { giver, taker, operations, objects } => {
             let detail = match operations {
                 Operations::Read => 1,
                 Operations::Write => 2,
                 Operations::ReadAndWrite => 3,
+                Operations::Add => 4,
+                Operations::ReadAndAdd => 5,
+                Operations::WriteAndAdd => 6,
+                Operations::All => 7,
             };
             with_objects(bare(6, detail, giver, taker), objects)
         }
@@ -88,7 +93,11 @@ pub(crate) fn asked(step: &sys::Step) -> Step {
             let operations = match step.detail {
                 1 => Operations::Read,
                 2 => Operations::Write,
-                _ => Operations::ReadAndWrite,
+                3 => Operations::ReadAndWrite,
+                4 => Operations::Add,
+                5 => Operations::ReadAndAdd,
+                6 => Operations::WriteAndAdd,
+                _ => Operations::All,
             };
             Step::Permit { giver: step.first, taker: step.second, operations, objects: objects(step) }
         }
@@ -104,6 +113,7 @@ pub(crate) fn asked(step: &sys::Step) -> Step {
         9 => Step::Commit { transaction },
         10 => Step::Abort { transaction },
         11 => Step::WaitFor { transaction },
+        12 => Step::Add { transaction, object, amount: step.value },
         kind => unreachable!("step of kind {kind}"),
     }
 }
@@ -147,6 +157,7 @@ pub(crate) fn status(number: u32) -> Status {
 pub(crate) fn operation(number: u32) -> Operation {
     match number {
         1 => Operation::Read,
-        _ => Operation::Write,
+        2 => Operation::Write,
+        _ => Operation::Add,
     }
 }

@@ -22,12 +22,17 @@ fn step(line: &str) -> Step {
         "begin" => Step::Begin { transaction: n(1) },
         "read" => Step::Read { transaction: n(1), object: n(2) },
         "write" => Step::Write { transaction: n(1), object: n(2), value: words[3].parse().unwrap() },
+        "add" => Step::Add { transaction: n(1), object: n(2), amount: words[3].parse().unwrap() },
         "complete" => Step::Complete { transaction: n(1) },
         "permit" => {
             let operations = match words[3] {
                 "r" => Operations::Read,
                 "w" => Operations::Write,
                 "rw" => Operations::ReadAndWrite,
+                "a" => Operations::Add,
+                "ra" => Operations::ReadAndAdd,
+                "wa" => Operations::WriteAndAdd,
+                "rwa" => Operations::All,
                 word => panic!("operations {word}"),
             };
             Step::Permit { giver: n(1), taker: n(2), operations, objects: set(words[4]) }
@@ -156,7 +161,7 @@ fn wrong_arguments_of_the_header() {
         let objects = [sys::Object { name: 1, value: 1 }];
         assert_eq!(sys::asset_open(&mut closed, objects.as_ptr(), 1, 10, &mut twice), 0);
         assert_eq!(sys::asset_open(&mut closed, objects.as_ptr(), 1, 10, &mut twice), 4);
-        for kind in [0, 12, 99, u32::MAX] {
+        for kind in [0, 13, 99, u32::MAX] {
             step.kind = kind;
             assert_eq!(sys::asset_step(&mut closed, &step, &mut answer), 7);
         }

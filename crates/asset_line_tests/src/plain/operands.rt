@@ -73,6 +73,17 @@ pub(crate) fn write(mut words: Words<'_>) -> Option<Step> {
     Some(Step::Write { t, x, v })
 }
 
+/// Returns an add.
+pub(crate) fn add(mut words: Words<'_>) -> Option<Step> {
+    let t = txn(&mut words)?;
+    let x = ob(&mut words)?;
+    let d = value(words.next_word()?)?;
+    if !is_over(&mut words) {
+        return None;
+    }
+    Some(Step::Add { t, x, d })
+}
+
 /// Returns a permit.
 pub(crate) fn permit(mut words: Words<'_>) -> Option<Step> {
     let giver = txn(&mut words)?;

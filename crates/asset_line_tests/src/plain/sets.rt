@@ -13,6 +13,10 @@ pub(crate) fn ops(word: &[u8]) -> Option<Ops> {
         b"r" => Ops::new(true, false),
         b"w" => Ops::new(false, true),
         b"rw" => Ops::new(true, true),
+        b"a" => Some(Ops::with_add(false, false)),
+        b"ra" => Some(Ops::with_add(true, false)),
+        b"wa" => Some(Ops::with_add(false, true)),
+        b"rwa" => Some(Ops::with_add(true, true)),
         _ => None,
     }
 }

@@ -6,12 +6,8 @@ use Rattle.asset_cli.proofs.rendering.render_steps.Goals as goal
 pub lines-init : goal.lines-init
 lines-init c = record {
   rendered = step_goes_on _ _ _ _ _ _ _ _ c.in_ok-ask.ensures.text c.in_ok-ask.ensures.history;
-  same = c.in_ok-ask.ensures.same;
   count = refl;
 }
-
-pub returns-in_err-render_line-clause-same : goal.returns-in_err-render_line-clause-same
-returns-in_err-render_line-clause-same c = c.in_err-render_line.ensures.same ∙ c.lines.invariant.same
 
 pub returns-then-not-branch-clause-rendered : goal.returns-then-not-branch-clause-rendered
 unfolding ReadsLine
@@ -19,9 +15,6 @@ returns-then-not-branch-clause-rendered c =
     let read = c.in-Some.ensures in
     let stops = rw c.if-not-branch.true at c.in_ok-render_line.ensures.stops in
     ends_later _ _ _ _ _ _ _ (rw read.1 at c.lines.invariant.rendered) (stops read.0 _ read.2)
-
-pub returns-then-not-branch-clause-same : goal.returns-then-not-branch-clause-same
-returns-then-not-branch-clause-same c = c.in_ok-render_line.ensures.same ∙ c.lines.invariant.same
 
 pub overflow_add-line_number-in-Some : goal.overflow_add-line_number-in-Some
 unfolding ReadsLine
@@ -38,13 +31,9 @@ lines-preserved c =
     let goes = rw c.if-not-branch.false at c.in_ok-render_line.ensures.goes_on in
     record {
       rendered = goes_on_later _ _ _ _ _ _ (rw read.1 at c.lines.invariant.rendered) (goes read.0 _ read.2);
-      same = c.in_ok-render_line.ensures.same ∙ c.lines.invariant.same;
       count = omega (arith, c.lines.invariant.count, ap length read.1);
     }
 
 pub returns-clause-rendered : goal.returns-clause-rendered
 unfolding ReadsLine
 returns-clause-rendered c = ends_later _ _ _ _ _ _ _ c.lines.invariant.rendered (rw c.in_default.ensures.0 (none_ends _ _ _ _))
-
-pub returns-clause-same : goal.returns-clause-same
-returns-clause-same c = c.lines.invariant.same

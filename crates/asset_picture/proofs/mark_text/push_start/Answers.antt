@@ -4,4 +4,4 @@ use Rattle.asset_picture.proofs.mark_text.push_start.Goals as goal
 
 pub returns : goal.returns
 unfolding mark_start_text pieces
-returns c = rw (c.use_word-word.ensures, c.pale-pale.ensures, c.x_at-x.ensures, c.y_at-y.ensures) at c.write.ensures.bytes
+returns c = rw (c.op_word-word.ensures, c.pale-pale.ensures, c.x_at-x.ensures, c.y_at-y.ensures) at c.write.ensures.bytes

@@ -2,7 +2,7 @@ use Rattle.std.proofs.Common.{◌≡◌, w64, to_z, of_z, arith}
 use Rattle.std.proofs.lemmas.Int.{to_z-of_z}
 use Rattle.asset_names.specs.Steps.{value_asked}
 use Rattle.asset_names.proofs.Common.{always_ok}
-use Rattle.asset_printing.proofs.StepLemmas.{abort_reads, begin_reads, commit_reads, complete_reads, depend_reads, read_reads, wait_reads, write_reads}
+use Rattle.asset_printing.proofs.StepLemmas.{abort_reads, add_reads, begin_reads, commit_reads, complete_reads, depend_reads, read_reads, wait_reads, write_reads}
 use Rattle.asset_printing.proofs.lines.push_step.Goals as goal
 
 pub returns-in-Begin-clause-reads : goal.returns-in-Begin-clause-reads
@@ -38,3 +38,12 @@ returns-in_ok-push_two-in-Write-clause-reads c =
     let asked : c.value_asked.result ≡ c.in-Write.v = rw c.in-Write.is at c.value_asked.ensures in
     let fits = rw (back, asked) at c.push_value.ensures.small in
     rw c.in-Write.is (always_ok c.push_value.result (write_reads c.in-Write.t c.in-Write.x c.in-Write.v pushed.first pushed.second fits))
+
+pub returns-in_ok-push_two-in-Add-clause-reads : goal.returns-in_ok-push_two-in-Add-clause-reads
+unfolding value_asked
+returns-in_ok-push_two-in-Add-clause-reads c =
+    let pushed = c.push_two-in-Add.ensures in
+    let back : to_z w64 (of_z w64 c.value_asked-in-Add.result) ≡ c.value_asked-in-Add.result = grind (arith, to_z-of_z) in
+    let asked : c.value_asked-in-Add.result ≡ c.in-Add.d = rw c.in-Add.is at c.value_asked-in-Add.ensures in
+    let fits = rw (back, asked) at c.push_value-in-Add.ensures.small in
+    rw c.in-Add.is (always_ok c.push_value-in-Add.result (add_reads c.in-Add.t c.in-Add.x c.in-Add.d pushed.first pushed.second fits))

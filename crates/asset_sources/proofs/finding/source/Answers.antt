@@ -11,4 +11,4 @@ pub returns-clause-alone : goal.returns-clause-alone
 returns-clause-alone c = λ newer older t x v is at alone.
     let all = c.args.history.now.entries in
     let law = alone_found c.args.history.now.opening all newer older t x v c.len.ensures.legal is alone in
-    IfOk-weaker c.source_after-found.result _ _ (λ found exact. (exact ∙ ap (source_at all) at ∙ law.0, law.1)) c.source_after-found.ensures
+    IfOk-weaker c.source_after-found.result _ _ (λ found exact. (exact ∙ ap (source_at all) at ∙ law.0, law.1, law.2)) c.source_after-found.ensures

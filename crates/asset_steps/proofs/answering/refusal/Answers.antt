@@ -47,6 +47,10 @@ pub returns-in-Write-clause-refusal : goal.returns-in-Write-clause-refusal
 unfolding rules_for
 returns-in-Write-clause-refusal c = λ opening steps stand. rw c.in-Write.is (c.refusal_to_use-in-Write.ensures opening steps stand)
 
+pub returns-in-Add-clause-refusal : goal.returns-in-Add-clause-refusal
+unfolding rules_for
+returns-in-Add-clause-refusal c = λ opening steps stand. rw c.in-Add.is (c.refusal_to_use-in-Add.ensures opening steps stand)
+
 pub returns-in-Permit-clause-refusal : goal.returns-in-Permit-clause-refusal
 unfolding rules_for
 returns-in-Permit-clause-refusal c = λ opening steps stand. rw c.in-Permit.is (c.refusal_to_share.ensures opening steps stand)

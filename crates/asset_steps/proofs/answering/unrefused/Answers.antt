@@ -2,6 +2,7 @@ use Rattle.std.proofs.Common.{◌≡◌, [], ◌∙◌, refl}
 use Rattle.asset_names.specs.Endings.{status}
 use Rattle.asset_names.specs.Answers.{unrefused, rules_for, unknown}
 use Rattle.asset_names.proofs.LegalLemmas.{first_none}
+use Rattle.asset_ends.specs.Updates.{step_of}
 use Rattle.asset_steps.proofs.AnswerLemmas.{read_unrefused, read_answered}
 use Rattle.asset_steps.proofs.answering.unrefused.Goals as goal
 
@@ -26,7 +27,12 @@ returns-in-Read-clause-outcome c = λ opening steps stand first.
     rw c.in-Read.is (c.read_outcome.ensures.outcome ∙ read_answered opening steps c.args.tables.now c.in-Read.t c.in-Read.x stand (read_unrefused opening steps c.in-Read.t c.in-Read.x (rw c.in-Read.is at first)).1)
 
 pub returns-in-Write-clause-outcome : goal.returns-in-Write-clause-outcome
-returns-in-Write-clause-outcome c = λ opening steps stand first. rw c.in-Write.is (c.write_outcome.ensures.outcome c.in-Write.v opening steps stand)
+unfolding step_of
+returns-in-Write-clause-outcome c = λ opening steps stand first. rw c.in-Write.is (c.update_outcome.ensures.outcome c.in-Write.v opening steps stand)
+
+pub returns-in-Add-clause-outcome : goal.returns-in-Add-clause-outcome
+unfolding step_of
+returns-in-Add-clause-outcome c = λ opening steps stand first. rw c.in-Add.is (c.update_outcome-in-Add.ensures.outcome c.in-Add.d opening steps stand)
 
 pub returns-in-Commit-clause-outcome : goal.returns-in-Commit-clause-outcome
 unfolding unrefused rules_for unknown

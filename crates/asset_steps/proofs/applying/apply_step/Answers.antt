@@ -75,6 +75,10 @@ pub returns-in_err-write-in-Write-clause-memory : goal.returns-in_err-write-in-W
 unfolding takes_memory
 returns-in_err-write-in-Write-clause-memory c = rw c.in-Write.is (always_err c.from_residual-in_err-write-in-Write.result refl)
 
+pub returns-in_err-add-in-Add-clause-memory : goal.returns-in_err-add-in-Add-clause-memory
+unfolding takes_memory
+returns-in_err-add-in-Add-clause-memory c = rw c.in-Add.is (always_err c.from_residual-in_err-add-in-Add.result refl)
+
 pub returns-in_ok-read-in-Read-clause-stand : goal.returns-in_ok-read-in-Read-clause-stand
 unfolding step_if
 returns-in_ok-read-in-Read-clause-stand c =
@@ -95,11 +99,25 @@ returns-in_ok-write-in-Write-clause-stand c =
     let free = (rw c.in-Write.is at c.requires.ready).1 in
     rw c.in-Write.is (λ opening steps stand orderly. (rw (free, fits, asked) at c.in_ok-write-in-Write.ensures.stand) opening steps stand)
 
+pub returns-in_ok-add-in-Add-clause-stand : goal.returns-in_ok-add-in-Add-clause-stand
+unfolding step_if value_asked
+returns-in_ok-add-in-Add-clause-stand c =
+    let fits : to_z w64 (of_z w64 c.value_asked-in-Add.result) ≡ c.value_asked-in-Add.result = grind (arith, to_z-of_z) in
+    let asked : c.value_asked-in-Add.result ≡ c.in-Add.d = rw c.in-Add.is at c.value_asked-in-Add.ensures in
+    let free = (rw c.in-Add.is at c.requires.ready).1 in
+    rw c.in-Add.is (λ opening steps stand orderly. (rw (free, fits, asked) at c.in_ok-add-in-Add.ensures.stand) opening steps stand)
+
 pub returns-in_ok-write-in-Write-clause-locks : goal.returns-in_ok-write-in-Write-clause-locks
 unfolding locks_after after_ask
 returns-in_ok-write-in-Write-clause-locks c =
     let free = (rw c.in-Write.is at c.requires.ready).1 in
     rw c.in-Write.is (rw free at c.in_ok-write-in-Write.ensures.locks)
+
+pub returns-in_ok-add-in-Add-clause-locks : goal.returns-in_ok-add-in-Add-clause-locks
+unfolding locks_after after_ask
+returns-in_ok-add-in-Add-clause-locks c =
+    let free = (rw c.in-Add.is at c.requires.ready).1 in
+    rw c.in-Add.is (rw free at c.in_ok-add-in-Add.ensures.locks)
 
 pub returns-in-Delegate-clause-stand : goal.returns-in-Delegate-clause-stand
 returns-in-Delegate-clause-stand c = rw c.in-Delegate.is (on_ok c.delegate.result (λ stands. λ opening steps stand orderly. stands opening steps stand) c.delegate.ensures.stand)

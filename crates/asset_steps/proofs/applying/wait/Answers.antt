@@ -1,4 +1,5 @@
 use Rattle.std.proofs.Common.{refl}
+use Rattle.asset_ends.specs.Updates.{op_of}
 use Rattle.asset_steps.specs.Ready.{locks_waiting}
 use Rattle.asset_steps.proofs.applying.wait.Goals as goal
 
@@ -7,8 +8,12 @@ unfolding locks_waiting
 returns-in-Read-clause-locks c = rw c.in-Read.is c.wait_to_read.ensures.locks
 
 pub returns-in-Write-clause-locks : goal.returns-in-Write-clause-locks
-unfolding locks_waiting
-returns-in-Write-clause-locks c = rw c.in-Write.is c.wait_to_write.ensures.locks
+unfolding locks_waiting op_of
+returns-in-Write-clause-locks c = rw c.in-Write.is c.wait_to_update.ensures.locks
+
+pub returns-in-Add-clause-locks : goal.returns-in-Add-clause-locks
+unfolding locks_waiting op_of
+returns-in-Add-clause-locks c = rw c.in-Add.is c.wait_to_update-in-Add.ensures.locks
 
 pub returns-in-Initiate-clause-locks : goal.returns-in-Initiate-clause-locks
 unfolding locks_waiting
@@ -45,3 +50,11 @@ returns-in-Delegate-clause-locks c = rw c.in-Delegate.is refl
 pub returns-in-Depend-clause-locks : goal.returns-in-Depend-clause-locks
 unfolding locks_waiting
 returns-in-Depend-clause-locks c = rw c.in-Depend.is refl
+
+pub wait_to_update-requires-clause-blocked : goal.wait_to_update-requires-clause-blocked
+unfolding op_of
+wait_to_update-requires-clause-blocked c = (rw c.in-Write.is at c.requires.waits).1
+
+pub wait_to_update-requires-in-Add-clause-blocked : goal.wait_to_update-requires-in-Add-clause-blocked
+unfolding op_of
+wait_to_update-requires-in-Add-clause-blocked c = (rw c.in-Add.is at c.requires.waits).1

@@ -15,6 +15,10 @@ pub returns-in-Write : goal.returns-in-Write
 unfolding stored_as value_asked
 returns-in-Write c = search rules
 
+pub returns-in-Add : goal.returns-in-Add
+unfolding stored_as value_asked
+returns-in-Add c = search rules
+
 pub returns-in-Complete : goal.returns-in-Complete
 unfolding stored_as value_asked
 returns-in-Complete c = search rules

@@ -9,7 +9,7 @@ use Rattle.asset_lists.proofs.table.KeyLists.add_list.Goals as goal
 
 -- a row of a list that has no keys
 row_of : ℕ → List ℕ → Row
-row_of capacity keys = record { keys = record { items = keys; capacity = capacity }; front = 0 }
+row_of capacity keys = record { keys = record { items = keys; capacity = capacity }; front = 0; back = 0 }
 
 pub invariant_of-self-else-is_err : goal.invariant_of-self-else-is_err
 unfolding row_of

@@ -33,9 +33,9 @@ index_mut-requires c = omega (arith, key_in c.self.invariant c.self.view_is c.ar
 pub invariant_of-self : goal.invariant_of-self
 invariant_of-self c =
     valid_cut c.self.invariant c.self.view_is c.args.key c.requires c.index.ensures c.index_mut-row.ensures.value c.as_mut_slice.ensures.value c.len-last.ensures.value c.swap.new.places.items c.swap.ensures.size c.swap.ensures.swapped c.swap.ensures.moved c.swap.ensures.others
-    (record { keys = c.pop.new.self; front = c.index_mut-row.result.now.front }) c.pop.ensures.rest refl
+    (record { keys = c.pop.new.self; front = c.index_mut-row.result.now.front; back = c.index_mut-row.result.now.back }) c.pop.ensures.rest refl refl
 
 pub returns : goal.returns
 returns c =
     changed_cut c.self.invariant c.self.view_is c.args.key c.requires c.index.ensures c.index_mut-row.ensures.value c.as_mut_slice.ensures.value c.len-last.ensures.value c.swap.new.places.items c.swap.ensures.size c.swap.ensures.swapped c.swap.ensures.moved c.swap.ensures.others
-    (record { keys = c.pop.new.self; front = c.index_mut-row.result.now.front }) c.pop.ensures.rest refl
+    (record { keys = c.pop.new.self; front = c.index_mut-row.result.now.front; back = c.index_mut-row.result.now.back }) c.pop.ensures.rest refl refl

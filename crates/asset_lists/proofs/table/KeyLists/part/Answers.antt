@@ -1,10 +1,9 @@
 use Rattle.std.proofs.Common.{◌≡◌, ◌-◌, ap, ◌∙◌, sym, suc, arith}
-use Rattle.std.specs.Prelude.{nat_lt}
 use Rattle.std.proofs.lemmas.List.{get_or_read, get_or_past}
 use Rattle.asset_lists.specs.declared.rows.Place.{Place}
 use Rattle.asset_lists.specs.declared.rows.Row.{Row}
 use Rattle.asset_lists.specs.Parted.{Parted, part_of}
-use Rattle.asset_lists.specs.Placed.{no_place, no_row, place_at, row_at}
+use Rattle.asset_lists.specs.Placed.{no_place, no_row, section_at, place_at, row_at}
 use Rattle.asset_lists.proofs.RowLemmas.{some_part, in_rows}
 use Rattle.asset_lists.proofs.PartLemmas.{decoded, part_read, part_free}
 use Rattle.asset_lists.proofs.table.KeyLists.part.Goals as goal
@@ -38,5 +37,6 @@ returns c =
     let read : place ≡ place_at places c.args.key = get_or_read places c.args.key place (omega arith) c.index-place.ensures no_place in
     let home : (place_at places c.args.key).home ≡ suc (place.home - 1) = sym (ap (λ (p : Place). p.home) read) ∙ decoded place.home c.if-place-eq0.false in
     let row : c.index.result.now ≡ row_at rows (place.home - 1) = get_or_read rows (place.home - 1) c.index.result.now (in_rows rows (place.home - 1) (place_at places c.args.key).position c.args.key (c.self.invariant.placed.placed c.args.key (place.home - 1) home)) c.index.ensures no_row in
-    ap (λ (r : Row). some_part (place.home - 1) (nat_lt place.position r.front)) row
+    ap (some_part (place.home - 1)) c.section_at-section.ensures
+    ∙ ap (λ (r : Row). some_part (place.home - 1) (section_at r place.position)) row
     ∙ sym (part_read rows places c.self.invariant c.args.key place read c.if-place-eq0.false) ∙ ap (λ (t : Parted). part_of t c.args.key) c.self.view_is

@@ -6,14 +6,14 @@ use Rattle.asset_chains.proofs.Laws.{pushes}
 use Rattle.asset_lists.specs.declared.part.Part.{Part}
 use Rattle.asset_lists.specs.Parted.{Parted, IsChangedAt}
 use Rattle.asset_lock_store.specs.LockRules.{is_on, both_conflict}
-use Rattle.asset_lock_store.specs.Stored.{Stored, lock_at, number_in, IsStored, IsAdded}
+use Rattle.asset_lock_store.specs.Stored.{Stored, lock_at, number_in, class_of, IsStored, IsAdded}
 use Rattle.asset_lock_store.proofs.StoreLemmas.{same_lock, read_lock, list_of, list_there, stored_added}
 use Rattle.asset_lock_store.proofs.store.LockStore.insert.Goals as goal
 
 pub push-requires-clause-list : goal.push-requires-clause-list
 push-requires-clause-list c =
     let there = list_there (record { locks = c.self.inside.locks; objects = c.self.inside.objects.keys; by_object = c.self.inside.by_object; by_owner = c.self.inside.by_owner }) c.self.invariant c.args.lock.object.0 c.args.number (ap (λ (s : Stored). number_in s.objects c.args.lock.object.0) c.self.view_is ∙ c.requires.number) in
-    subst (λ (p : Part). p.list < c.self.inside.by_object.lists) (sym c.part_of-part.ensures) (subst (λ (n : ℕ). n < c.self.inside.by_object.lists) (sym (list_of c.args.number c.args.lock.ops.write)) there)
+    subst (λ (p : Part). p.list < c.self.inside.by_object.lists) (sym c.part_of-part.ensures) (subst (λ (n : ℕ). n < c.self.inside.by_object.lists) (sym (list_of c.args.number (class_of c.args.lock.ops))) there)
 
 pub push-requires-clause-key : goal.push-requires-clause-key
 push-requires-clause-key c = subst (λ (s : Stored). c.args.key < length s.by_object.parts) (sym c.self.view_is) c.requires.room.of_object

@@ -1,9 +1,8 @@
-use Rattle.std.proofs.Common.{◌≡◌, ◌||◌, Bool, true, Some, sym, ◌∙◌}
-use Rattle.asset_names.specs.declared.operations.Op.TheVariants as Op'
-use Rattle.asset_names.specs.OpSets.{has_op, only_op}
+use Rattle.std.proofs.Common.{◌≡◌, true, Some, sym, ◌∙◌}
+use Rattle.asset_lists.specs.declared.part.Section.{Section}
 use Rattle.asset_lists.specs.Parted.{part_of}
 use Rattle.asset_lock_store.specs.Stored.{part_for}
-use Rattle.asset_lock_store.specs.Looked.{IsLookedAt}
+use Rattle.asset_lock_store.specs.Looked.{looks_at, IsLookedAt}
 use Rattle.asset_lock_store.proofs.BlockLemmas.{blocks_by_key, free_by_keys, free_unnumbered}
 use Rattle.asset_lock_store.proofs.LookLemmas.{look_as, look_nothing, looked_in, looked_from, unlooked}
 use Rattle.asset_lock_store.proofs.store.LockStore.look.Goals as goal
@@ -18,7 +17,7 @@ returns-in-Some-clause-free g c = λ is. free_by_keys c.args.self.now c.laws.ens
 
 pub returns-in-Some-clause-look : goal.returns-in-Some-clause-look
 returns-in-Some-clause-look g c =
-    look_as c.args.self.now c.args.seats.now (λ u. g.A.Allows.allows c.args.permits.now u c.args.request.asker.t.0 c.args.request.x.0 c.args.request.op) c.args.request.asker.t.0 c.args.request.op (λ k. (w : Bool) × (part_of c.args.self.now.by_object k ≡ Some (part_for c.in-Some.number w)) × ((w || has_op (only_op c.args.request.op) Op'.Write) ≡ true)) (IsLookedAt c.args.self.now c.args.request.x.0 c.args.request.op) c.look_on.result
+    look_as c.args.self.now c.args.seats.now (λ u. g.A.Allows.allows c.args.permits.now u c.args.request.asker.t.0 c.args.request.x.0 c.args.request.op) c.args.request.asker.t.0 c.args.request.op (λ k. (w : Section) × (part_of c.args.self.now.by_object k ≡ Some (part_for c.in-Some.number w)) × (looks_at c.args.request.op w ≡ true)) (IsLookedAt c.args.self.now c.args.request.x.0 c.args.request.op) c.look_on.result
     (looked_in c.args.self.now c.laws.ensures.stored c.args.request.x.0 c.in-Some.number c.args.request.op (sym c.requires.number ∙ c.in-Some.is))
     (λ _. looked_from c.args.self.now c.laws.ensures.stored c.args.request.x.0 c.in-Some.number c.args.request.op (sym c.requires.number ∙ c.in-Some.is))
     c.look_on.ensures.look
