@@ -74,6 +74,9 @@ class Script:
     def write(self, t, x):
         self.say(f"write {t} {x} {self.random.randint(-1000, 1000)}")
 
+    def add(self, t, x):
+        self.say(f"add {t} {x} {self.random.randint(-1000, 1000)}")
+
     def use(self, t, x):
         if self.random.random() < 0.5:
             self.read(t, x)
@@ -120,7 +123,7 @@ def opening(steps, seed):
     return script
 
 
-def together(steps, seed, objects, at_once, uses, aborts=0.0):
+def together(steps, seed, objects, at_once, uses, aborts=0.0, act=Script.use):
     """`at_once` transactions are open at a time, and take turns at random."""
     script = Script(steps, seed, objects)
     turns = []
@@ -133,7 +136,7 @@ def together(steps, seed, objects, at_once, uses, aborts=0.0):
         t, left = turns[position]
         if left > 0 and script.has_room(1):
             turns[position] = (t, left - 1)
-            script.use(t, script.object())
+            act(script, t, script.object())
         else:
             turns[position] = turns[-1]
             turns.pop()
@@ -158,6 +161,29 @@ def hot_objects(steps, seed):
 def many_live(steps, seed):
     """5,000 transactions live at once over STEPS objects."""
     return together(steps, seed, objects=max(8, steps), at_once=max(2, min(5000, steps // 20)), uses=4)
+
+
+# Adds to the same object.
+
+
+def adders(steps, seed):
+    """64 transactions open at a time add to one object, eight times each, and a quarter of them abort: none waits."""
+    return together(steps, seed, objects=1, at_once=64, uses=8, aborts=0.25, act=Script.add)
+
+
+def adders_beside_a_writer(steps, seed):
+    """One transaction writes an object and lets others add to it, one after another; half of them abort, and at last it does."""
+    script = Script(steps, seed, 1)
+    writer = script.start()
+    script.write(writer, 1)
+    while script.has_room(8):
+        t = script.start()
+        script.permit(writer, t, "a", 1)
+        script.add(t, 1)
+        script.add(t, 1)
+        script.finish_some([t], 0.5)
+    script.finish(writer, "abort")
+    return script
 
 
 # Readers of the same objects.
@@ -501,6 +527,8 @@ LOADS = {
         many_writes,
         hot_readers,
         many_readers,
+        adders,
+        adders_beside_a_writer,
         chains_of_2,
         chains_of_8,
         chains_of_64,
