@@ -10,3 +10,4 @@ pub mod PassLemmas
 pub mod CountLemmas
 pub mod ColumnLemmas
 pub mod ClimbLemmas
+pub mod LayerLemmas

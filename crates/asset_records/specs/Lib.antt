@@ -2,3 +2,4 @@ pub mod Dropped
 pub mod Handed
 pub mod Listed
 pub mod Mended
+pub mod Layered

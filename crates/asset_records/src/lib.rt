@@ -7,6 +7,7 @@
 
 mod dropping;
 mod handing;
+mod layers;
 mod mending;
 mod records;
 mod settling;

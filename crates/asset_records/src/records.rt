@@ -5,7 +5,8 @@ ghost use Rattle.asset_records.specs.Listed.{record_of, seat_column};
 
 use crate::dropping::{counted, drop_at};
 use crate::handing::{One, Picks, hand_over_picked};
-use crate::mending::{Mend, mend_write, stands_over};
+use crate::layers::{add_mark, mark, over_in, stays_layered};
+use crate::mending::{Mend, mend_write};
 use crate::settling::{next_to_settle, settle_at, shed};
 use asset_chains::{Crossed, Side};
 use asset_names::{NoMemory, Txn};
@@ -100,6 +101,24 @@ pub enum Change {
     Added { amount: i64 },
 }
 
+impl Change {
+    ghost use Rattle.std.specs.Prelude.{◌≡◌, true, false};
+    ghost use Rattle.asset_records.specs.Listed.{record_of};
+    ghost use Rattle.asset_records.specs.Mended.{is_write};
+    ghost use Rattle.asset_names.specs.declared.names.Txn.{Txn as Name};
+
+    /// Returns whether the record of the change may stand over another, of which it is said whether that is an add, so that no
+    /// write stands over an add.
+    pub(crate) fn may_follow(self, over_add: bool) -> bool
+        ensures { result ≡ true → over_add ≡ true → (owner : Name) → is_write (record_of owner self) ≡ false }
+    {
+        match self {
+            Change::Wrote { .. } => !over_add,
+            Change::Added { .. } => true,
+        }
+    }
+}
+
 /// What a record that was taken back leaves to do.
 #[derive(Clone, Copy)]
 pub struct Undone {
@@ -126,15 +145,21 @@ pub struct Settled {
 #[derive(Drop)]
 pub struct Records {
     records: Crossed<Record>,
+    /// Of each object, whether no write stands over an add for sure.
+    marks: Vec<bool>,
 }
 
 impl Model for Records {
     ghost use Rattle.asset_chains.specs.Crossed.{Crossed as RowsAndColumns};
     ghost use Rattle.asset_records.specs.declared.records.Record.{Record as Update};
+    ghost use Rattle.asset_records.specs.Layered.{AreLayered};
+    ghost use Rattle.asset_records.specs.Listed.{lists_in};
 
     ghost Value = { RowsAndColumns Update };
 
     ghost view = { λ r. r.records };
+
+    ghost invariant = { λ r. AreLayered r.marks.items (lists_in r.records) };
 }
 
 /// Returns the column of a seat.
@@ -174,6 +199,7 @@ impl Records {
     {
         Records {
             records: Crossed::new(alloc),
+            marks: Vec::new(alloc),
         }
     }
 
@@ -185,6 +211,7 @@ impl Records {
         ensures few { IsNoMore self.old self.new }
         ensures tied { (seats : Seated) → IsTied self.old seats → IsTied self.new seats }
     {
+        add_mark(&mut self.marks)?;
         match self.records.add(Side::Row) {
             Ok(()) => Ok(()),
             Err(_) => Err(NoMemory),
@@ -229,14 +256,17 @@ impl Records {
     {
         let _ = seats;
         self.records.laws();
+        let layered = stays_layered(&self.records, self.marks.as_slice(), object, change);
         let at = column(owner.at);
         self.records.insert(object, at, record_of(owner.t, change));
+        mark(&mut self.marks, object, layered);
     }
 
     /// Takes back the newest record of the transaction, and returns what is left to do; `None` if it has none. That it is
     /// the newest is tested; the contract holds for any of its records.
     ///
-    /// It looks at the adds over the record, up to the next write.
+    /// It looks at the adds over the record, up to the next write; over the record of an add only if a write has stood over an
+    /// add of the object since the object last had no record.
     pub fn take_back(&mut self, seats: &Seats, t: Sitter) -> Option<Undone>
         requires tied { IsTied self.old seats.now }
         requires sits { HasSeat seats.now t }
@@ -251,7 +281,7 @@ impl Records {
         let at = column(t.at);
         let key = self.records.last(Side::Column, at)?;
         let object = self.records.home(Side::Row, key)?;
-        let over = stands_over(&self.records, object, key);
+        let over = over_in(&self.records, self.marks.as_slice(), object, key);
         let beside = counted(self.records.previous(Side::Row, key)) + counted(over.write);
         let visited = 1 + beside + counted(self.records.previous(Side::Column, key));
         let restored = mend_write(&mut self.records, over.write, over.mend);
@@ -264,7 +294,7 @@ impl Records {
     }
 
     /// Makes a record of the transaction stand for good, and returns what became of it; `None` if it has none. A write goes, with
-    /// all before it on its object. An add becomes nobody's, or goes if no record stands before it on its object.
+    /// all before it on its object. An add becomes nobody's if a write may stand before it on its object, and goes otherwise.
     pub fn settle_next(&mut self, seats: &Seats, t: Sitter) -> Option<Settled>
         requires tied { IsTied self.old seats.now }
         requires sits { HasSeat seats.now t }
@@ -279,7 +309,7 @@ impl Records {
         let at = column(t.at);
         let key = next_to_settle(&self.records, at)?;
         let object = self.records.home(Side::Row, key)?;
-        let visited = settle_at(&mut self.records, object, key);
+        let visited = settle_at(&mut self.records, self.marks.as_slice(), object, key);
         self.records.laws();
         Some(Settled { object, visited })
     }

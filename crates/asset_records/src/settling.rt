@@ -9,8 +9,10 @@ ghost use Rattle.asset_seats.specs.Seated.{Seated};
 ghost use Rattle.asset_records.specs.Listed.{lists_in, record_at, is_of, Settles, Sheds, IsNoMore, IsTied};
 ghost use Rattle.asset_records.specs.Mended.{is_write};
 ghost use Rattle.asset_records.specs.Dropped.{added_at};
+ghost use Rattle.asset_records.specs.Layered.{AreLayered};
 
 use crate::dropping::{counted, drop_at, drop_through, visited_at};
+use crate::layers::may_stand_over_write;
 use crate::mending::added_at;
 use crate::records::Record;
 use asset_chains::{Crossed, Side};
@@ -79,18 +81,24 @@ fn settle_write(records: &mut Crossed<Record>, object: usize, key: usize) -> usi
     visited
 }
 
-/// Makes the add at the key stand for good: it becomes nobody's, or goes if no record stands before it.
-fn settle_add(records: &mut Crossed<Record>, object: usize, key: usize, amount: i64) -> usize
+/// Makes the add at the key stand for good: it becomes nobody's if a write may stand before it, and goes otherwise.
+fn settle_add(
+    records: &mut Crossed<Record>,
+    marks: &[bool],
+    object: usize,
+    key: usize,
+    amount: i64,
+) -> usize
     requires there { home_of records.old.rows key ≡ Some object }
+    requires marked { AreLayered marks.now (lists_in records.old) }
     requires add { added_at records.old.items key ≡ Some amount }
     ensures settled { (t : ℕ) → is_of t (record_at records.old.items key) ≡ true → Settles t object result (lists_in records.old) (lists_in records.new) }
     ensures tied { (seats : Seated) → IsTied records.old seats → IsTied records.new seats }
     ensures few { IsNoMore records.old records.new }
     ensures room { has_room records.old ≡ true → has_room records.new ≡ true }
 {
-    let _ = object;
     records.laws();
-    if records.previous(Side::Row, key).is_some() {
+    if may_stand_over_write(records, marks, object, key) {
         return make_lasting(records, key, amount);
     }
     let visited = visited_at(records, key);
@@ -99,8 +107,14 @@ fn settle_add(records: &mut Crossed<Record>, object: usize, key: usize, amount: 
 }
 
 /// Makes the record at the key stand for good. Returns how many records were visited, apart from those of nobody.
-pub(crate) fn settle_at(records: &mut Crossed<Record>, object: usize, key: usize) -> usize
+pub(crate) fn settle_at(
+    records: &mut Crossed<Record>,
+    marks: &[bool],
+    object: usize,
+    key: usize,
+) -> usize
     requires there { home_of records.old.rows key ≡ Some object }
+    requires marked { AreLayered marks.now (lists_in records.old) }
     ensures settled { (t : ℕ) → is_of t (record_at records.old.items key) ≡ true → Settles t object result (lists_in records.old) (lists_in records.new) }
     ensures tied { (seats : Seated) → IsTied records.old seats → IsTied records.new seats }
     ensures few { IsNoMore records.old records.new }
@@ -108,7 +122,7 @@ pub(crate) fn settle_at(records: &mut Crossed<Record>, object: usize, key: usize
 {
     records.laws();
     match added_at(records, key) {
-        Some(amount) => settle_add(records, object, key, amount),
+        Some(amount) => settle_add(records, marks, object, key, amount),
         None => settle_write(records, object, key),
     }
 }

@@ -7,6 +7,7 @@ use Rattle.asset_chains.specs.Crossed.{Crossed}
 use Rattle.asset_records.specs.declared.records.Record.{Record}
 use Rattle.asset_records.specs.Listed.{on, lists_in, IsTied}
 use Rattle.asset_records.proofs.HandLemmas.{hands_by, same_list, some_goes, on_each, same_many, handed_tied}
+use Rattle.asset_records.proofs.LayerLemmas.{handed_layered, still_layered}
 use Rattle.asset_records.proofs.CountLemmas.{column_count}
 use Rattle.asset_records.proofs.records.Records.hand_over.Goals as goal
 
@@ -75,3 +76,17 @@ pub column-from-requires : goal.column-from-requires
 column-from-requires g c =
     let tied = subst (λ (r : Crossed Record). IsTied r c.args.seats.now) (sym c.self.view_is) c.requires.tied in
     omega (arith, tied.within c.args.giver.at (ap is_some c.requires.giver), c.laws-2.ensures.few Column)
+
+pub invariant_of-self : goal.invariant_of-self
+invariant_of-self g c =
+    let records = c.self.inside.records in
+    let new = c.hand_over_picked-visits.new.records in
+    let seats = c.args.seats.now in
+    let giver = c.args.giver in
+    let taker = c.args.taker in
+    let tied = subst (λ (r : Crossed Record). IsTied r seats) (sym c.self.view_is) c.requires.tied in
+    still_layered c.self.inside.marks.items (lists_in records) (lists_in new)
+    (λ j. handed_layered giver.t.0 taker.t.0 (g.P.Picks.picks c.args.picks.now j) (on (lists_in records) j) (on (lists_in new) j)
+    (on_each records new seats (g.P.Picks.picks c.args.picks.now) giver.at giver.t taker.t tied c.laws-2.ensures.crossed c.requires.giver
+    (λ d sat. c.laws.ensures.one giver.t giver.at d c.requires.giver sat) taker.at (hands_by records new (g.P.Picks.picks c.args.picks.now) taker.t giver.at taker.at c.column-from.result c.column.result c.column-from.ensures c.column.ensures c.hand_over_picked-visits.ensures.handed) j))
+    c.self.invariant

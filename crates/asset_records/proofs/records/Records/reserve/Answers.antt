@@ -1,5 +1,6 @@
-use Rattle.std.proofs.Common.{ap, length, arith}
+use Rattle.std.proofs.Common.{ap, length, subst, sym, arith}
 use Rattle.asset_chains.specs.Chained.{Chained, home_of}
+use Rattle.asset_records.specs.Layered.{AreLayered}
 use Rattle.asset_records.proofs.ListedLemmas.{tied_grown, same_rows}
 use Rattle.asset_records.proofs.records.Records.reserve.Goals as goal
 
@@ -11,3 +12,9 @@ returns-clause-tied c =
     rw (← c.self.view_is)
     (λ seats tied. tied_grown c.self.inside.records c.reserve_item.new.items seats tied c.reserve_item.ensures.grown.items (λ k. ap (λ (table : Chained). home_of table k) c.reserve_item.ensures.columns)
     (omega (arith, ap (λ (table : Chained). length table.chains) c.reserve_item.ensures.columns)))
+
+pub invariant_of-self : goal.invariant_of-self
+invariant_of-self c =
+    subst (AreLayered c.self.inside.marks.items)
+    (sym (same_rows c.self.inside.records c.reserve_item.new.items c.reserve_item.ensures.grown.items c.reserve_item.ensures.rows))
+    c.self.invariant

@@ -4,9 +4,10 @@ use Rattle.asset_chains.specs.Chained.{chain_of}
 use Rattle.asset_chains.specs.declared.side.Side.TheVariants.{Row, Column}
 use Rattle.asset_chains.specs.Crossed.{Crossed}
 use Rattle.asset_records.specs.declared.records.Record.{Record}
-use Rattle.asset_records.specs.Listed.{IsTied, is_of}
+use Rattle.asset_records.specs.Listed.{lists_in, IsTied, is_of}
 use Rattle.asset_records.proofs.ListedLemmas.{has_owned, owned_is}
 use Rattle.asset_records.proofs.DropLemmas.{read_some}
+use Rattle.asset_records.proofs.LayerLemmas.{settled_layered, still_layered}
 use Rattle.asset_records.proofs.BackLemmas.{no_record_of, column_empty}
 use Rattle.asset_records.proofs.records.Records.settle_next.Goals as goal
 
@@ -43,3 +44,17 @@ returns-clause-settled c =
     rw (← c.self.view_is)
     (c.settle_at-visited.ensures.settled c.args.t.t.0
     (ap (is_of c.args.t.t.0) (read_some records.items c.in_ok-key.key held.0 held.1) ∙ owned_is (λ n. eqb n c.args.t.t.0) held.0 c.args.t.t held.2 ∙ eq-eqb c.args.t.t.0 c.args.t.t.0 refl))
+
+pub invariant_of-self : goal.invariant_of-self
+invariant_of-self c =
+    let records = c.self.inside.records in
+    let new = c.settle_at-visited.new.records in
+    let seats = c.args.seats.now in
+    let tied = subst (λ (r : Crossed Record). IsTied r seats) (sym c.self.view_is) c.requires.tied in
+    let home = c.in_ok-key.ensures.found in
+    let held = has_owned records seats tied c.in_ok-key.key c.args.t.at c.args.t.t (home ∙ ap Some c.column-at.ensures) c.requires.sits in
+    still_layered c.self.inside.marks.items (lists_in records) (lists_in new)
+    (settled_layered c.args.t.t.0 c.in_ok-object.object c.settle_at-visited.result (lists_in records) (lists_in new)
+    (c.settle_at-visited.ensures.settled c.args.t.t.0
+    (ap (is_of c.args.t.t.0) (read_some records.items c.in_ok-key.key held.0 held.1) ∙ owned_is (λ n. eqb n c.args.t.t.0) held.0 c.args.t.t held.2 ∙ eq-eqb c.args.t.t.0 c.args.t.t.0 refl)))
+    c.self.invariant
