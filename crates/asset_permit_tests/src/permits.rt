@@ -10,7 +10,7 @@ const NAMES: u64 = 5;
 
 const OBJECTS: u64 = 3;
 
-const CALLS: usize = 1_000;
+const CALLS: usize = 3_000;
 
 /// Returns the set of two objects.
 fn two(first: u64, second: u64) -> Result<ObSet, SetFault> {
