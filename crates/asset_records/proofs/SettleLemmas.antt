@@ -1,5 +1,5 @@
 -- What stands for good: records of nobody, and the lists without them.
-use Rattle.std.proofs.Common.{◌≡◌, ℕ, ◌<◌, ◌≤◌, Bool, true, false, cond, eqb, List, [], ◌∷◌, ◌++◌, map, Option, Some, None, is_some, length, refl, sym, ap, ◌∙◌, arith, inl, inr}
+use Rattle.std.proofs.Common.{◌≡◌, ℕ, ◌<◌, ◌≤◌, Bool, true, false, not, cond, eqb, List, [], ◌∷◌, ◌++◌, map, Option, Some, None, is_some, length, refl, sym, ap, ◌∙◌, arith, inl, inr}
 use Rattle.std.specs.Prelude.{ℤ}
 use Rattle.std.specs.Option.{option_map}
 use Rattle.std.proofs.lemmas.Bool.{eqb-true, eqb-false, true≢false, cases_lt, ne_eqb}
@@ -13,7 +13,7 @@ use Rattle.asset_chains.specs.Crossed.{Crossed, IsCrossed}
 use Rattle.asset_seats.specs.Seated.{Seated}
 use Rattle.asset_records.specs.declared.records.Record.{Record}
 use Rattle.asset_records.specs.declared.records.Record.TheVariants.{Write, Add, Lasting}
-use Rattle.asset_records.specs.Listed.{on, no_record, record_at, at_keys, is_of, is_owned, owner_of, owner_at, owner_passes, lists_in, IsTied, ChangesOn, Sheds}
+use Rattle.asset_records.specs.Listed.{on, no_record, record_at, at_keys, is_of, is_owned, owner_of, owner_at, owner_passes, lists_in, begins_with_nobodys, IsTied, ChangesOn, Sheds}
 use Rattle.asset_records.specs.Dropped.{added_by, added_at}
 use Rattle.asset_records.proofs.ListedLemmas.{on_chain, keys_same, owner_is}
 use Rattle.asset_records.proofs.BackLemmas.{read_as}
@@ -124,3 +124,28 @@ shedding_ends object old now is crossed = record {
     go : (b : Bool) → eqb object j ≡ b → at_keys old.items (chain_of now.rows j) ≡ cond b (at_keys old.items (chain_of now.rows object)) (on (lists_in old) j)
     go true e = ap (λ (n : ℕ). at_keys old.items (chain_of now.rows n)) (sym (eqb-true object j e))
     go false e = ap (at_keys old.items) (is.others j (ne_eqb j object (λ same. eqb-false object j e (sym same)))) ∙ sym (on_chain old.items old.rows j)
+
+-- a record of nobody is an add that lasts
+pub nobodys_is : (records : Slab Record) (k : ℕ) → is_some (get records k) ≡ true → is_owned (λ (n : ℕ). true) (record_at records k) ≡ false → (amount : ℤ) × (get records k ≡ Some (Lasting amount))
+unfolding record_at is_owned owner_of no_record
+nobodys_is records k there nobodys = go (get records k) refl where
+  go : (o : Option Record) → get records k ≡ o → (amount : ℤ) × (get records k ≡ Some (Lasting amount))
+  go None e = absurd (true≢false (sym there ∙ ap is_some e))
+  go (Some (Write owner before)) e = absurd (true≢false (ap (is_owned (λ (n : ℕ). true)) (sym (read_some records k (Write owner before) e)) ∙ nobodys))
+  go (Some (Add owner amount)) e = absurd (true≢false (ap (is_owned (λ (n : ℕ). true)) (sym (read_some records k (Add owner amount) e)) ∙ nobodys))
+  go (Some (Lasting amount)) e = (amount, e)
+
+-- the walk ends before a record of somebody, or with none
+pub none_first : (records : Crossed Record) (object : ℕ) → first_of (chain_of records.rows object) ≡ None → begins_with_nobodys (on (lists_in records) object) ≡ false
+unfolding at_keys begins_with_nobodys
+none_first records object none = ap begins_with_nobodys (on_chain records.items records.rows object) ∙ go (chain_of records.rows object) none where
+  go : (keys : List ℕ) → first_of keys ≡ None → begins_with_nobodys (map (record_at records.items) keys) ≡ false
+  go [] e = refl
+  go (k ∷ keys) e = cc e
+
+pub somebodys_first : (records : Crossed Record) (object k : ℕ) → first_of (chain_of records.rows object) ≡ Some k → is_owned (λ (n : ℕ). true) (record_at records.items k) ≡ true → begins_with_nobodys (on (lists_in records) object) ≡ false
+unfolding at_keys begins_with_nobodys
+somebodys_first records object k first owned = ap begins_with_nobodys (on_chain records.items records.rows object) ∙ go (chain_of records.rows object) first where
+  go : (keys : List ℕ) → first_of keys ≡ Some k → begins_with_nobodys (map (record_at records.items) keys) ≡ false
+  go [] e = cc e
+  go (x ∷ keys) e = let same : x ≡ k = cc e in ap (λ (n : ℕ). not (is_owned (λ (m : ℕ). true) (record_at records.items n))) same ∙ ap not owned

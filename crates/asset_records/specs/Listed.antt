@@ -1,6 +1,6 @@
 -- The records of each object, each in the row of its object and in a column: that of its owner's seat, or the first one if
 -- it is nobody's.
-use Rattle.std.specs.Prelude.{◌≡◌, ℕ, ℤ, pos, zero, suc, ◌+◌, ◌*◌, ◌≤◌, ◌<◌, Bool, false, true, cond, ◌==◌, List, [], ◌∷◌, ◌++◌, length, map, Option, Some, None, option_map, is_some, unwrap_or, slice_index_or}
+use Rattle.std.specs.Prelude.{◌≡◌, ℕ, ℤ, pos, zero, suc, ◌+◌, ◌*◌, ◌≤◌, ◌<◌, Bool, false, true, not, cond, ◌==◌, List, [], ◌∷◌, ◌++◌, length, map, Option, Some, None, option_map, is_some, unwrap_or, slice_index_or}
 use Rattle.std.specs.List.{list_any, count_by, sum_by}
 use Rattle.slab.specs.Slab.{Slab, get, slab_len}
 use Rattle.asset_chains.specs.Chained.{home_of}
@@ -133,6 +133,11 @@ pub record Sheds (object : ℕ) (old new : List (List Record)) : Type 0 where
   pub later : List Record
   pub stood : on old object ≡ map Lasting amounts ++ later
   pub changes : ChangesOn object later old new
+
+-- whether the oldest of the records is an add of nobody
+unfoldable pub begins_with_nobodys : List Record → Bool
+begins_with_nobodys [] = false
+begins_with_nobodys (one ∷ later) = not (is_owned (λ (n : ℕ). true) one)
 
 -- the transaction has no record
 unfoldable pub HasNone : ℕ → List (List Record) → Type 0

@@ -33,7 +33,7 @@ pub(crate) fn counted(neighbour: Option<usize>) -> usize
 }
 
 /// Returns whether there is a record at the key that is somebody's.
-fn is_somebodys(records: &Crossed<Record>, key: usize) -> bool
+pub(crate) fn is_somebodys(records: &Crossed<Record>, key: usize) -> bool
     ensures { result ≡ is_owned (λ n. true) (record_at records.now.items key) }
 {
     match records.get(key) {

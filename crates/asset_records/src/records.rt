@@ -188,7 +188,7 @@ impl Records {
     ghost use Rattle.asset_chains.specs.Crossed.{has_room};
     ghost use Rattle.asset_seats.specs.Seated.{Seated, seat, HasSeat};
     ghost use Rattle.asset_names.specs.declared.names.Txn.{Txn as Name};
-    ghost use Rattle.asset_records.specs.Listed.{lists_in, on, is_of, records_by, record_of, seat_column, ChangesOn, TakesBack, Settles, Sheds, HasNone, IsTied, IsNoMore};
+    ghost use Rattle.asset_records.specs.Listed.{lists_in, on, is_of, begins_with_nobodys, records_by, record_of, seat_column, ChangesOn, TakesBack, Settles, Sheds, HasNone, IsTied, IsNoMore};
     ghost use Rattle.asset_records.specs.Handed.{renamed};
 
     /// Returns no objects and no records. It does not allocate.
@@ -317,6 +317,7 @@ impl Records {
     /// Drops the adds of nobody that stand before all other records of the object.
     pub fn shed(&mut self, object: usize)
         ensures sheds { Sheds object (lists_in self.old) (lists_in self.new) }
+        ensures all { begins_with_nobodys (on (lists_in self.new) object) ≡ false }
         ensures few { IsNoMore self.old self.new }
         ensures tied { (seats : Seated) → IsTied self.old seats → IsTied self.new seats }
         ensures reserved { has_room self.old ≡ true → has_room self.new ≡ true }

@@ -6,12 +6,12 @@ ghost use Rattle.asset_chains.specs.Chained.{chain_of, home_of};
 ghost use Rattle.asset_chains.specs.Crossed.{has_room};
 ghost use Rattle.asset_records.specs.declared.records.Record.TheVariants.{Lasting as Lasting'};
 ghost use Rattle.asset_seats.specs.Seated.{Seated};
-ghost use Rattle.asset_records.specs.Listed.{lists_in, record_at, is_of, Settles, Sheds, IsNoMore, IsTied};
+ghost use Rattle.asset_records.specs.Listed.{lists_in, on, record_at, is_of, begins_with_nobodys, Settles, Sheds, IsNoMore, IsTied};
 ghost use Rattle.asset_records.specs.Mended.{is_write};
 ghost use Rattle.asset_records.specs.Dropped.{added_at};
 ghost use Rattle.asset_records.specs.Layered.{AreLayered};
 
-use crate::dropping::{counted, drop_at, drop_through, visited_at};
+use crate::dropping::{counted, drop_at, drop_through, is_somebodys, visited_at};
 use crate::layers::may_stand_over_write;
 use crate::mending::added_at;
 use crate::records::Record;
@@ -42,23 +42,17 @@ pub(crate) fn make_lasting(records: &mut Crossed<Record>, key: usize, amount: i6
     1 + beside + after + last
 }
 
-/// Returns whether there is an add of nobody at the key.
-fn is_lasting(records: &Crossed<Record>, key: usize) -> bool
-    ensures { result ≡ true → (amount : ℤ) × (get records.now.items key ≡ Some (Lasting' amount)) }
-{
-    matches!(records.get(key), Some(Record::Lasting { .. }))
-}
-
 /// Drops the adds of nobody that stand before all other records of the object.
 pub(crate) fn shed(records: &mut Crossed<Record>, object: usize)
     ensures sheds { Sheds object (lists_in records.old) (lists_in records.new) }
+    ensures all { begins_with_nobodys (on (lists_in records.new) object) ≡ false }
     ensures few { IsNoMore records.old records.new }
     ensures tied { (seats : Seated) → IsTied records.old seats → IsTied records.new seats }
     ensures room { has_room records.old ≡ true → has_room records.new ≡ true }
 {
     records.laws();
     'first: while let Some(key) = records.first(Side::Row, object) {
-        if !is_lasting(records, key) {
+        if is_somebodys(records, key) {
             return;
         }
         drop_at(records, key);

@@ -1,11 +1,12 @@
-use Rattle.std.proofs.Common.{sym, arith}
+use Rattle.std.proofs.Common.{is_some, ap, sym, ◌∙◌, arith}
+use Rattle.asset_chains.proofs.Laws.{chain_at_first}
 use Rattle.asset_chains.specs.declared.side.Side.TheVariants.{Row}
-use Rattle.asset_records.proofs.SettleLemmas.{shedding_steps, shedding_ends}
+use Rattle.asset_records.proofs.SettleLemmas.{shedding_steps, shedding_ends, nobodys_is, none_first, somebodys_first}
 use Rattle.asset_records.proofs.ThroughLemmas.{shorter, no_more}
 use Rattle.asset_records.proofs.settling.shed.Goals as goal
 
-pub returns-then-not-is_lasting-clause-sheds : goal.returns-then-not-is_lasting-clause-sheds
-returns-then-not-is_lasting-clause-sheds c = shedding_ends c.args.object c.args.records.now c.first.records c.first.invariant.shedding c.first.invariant.crossed
+pub returns-then-is_somebodys-clause-sheds : goal.returns-then-is_somebodys-clause-sheds
+returns-then-is_somebodys-clause-sheds c = shedding_ends c.args.object c.args.records.now c.first.records c.first.invariant.shedding c.first.invariant.crossed
 
 pub returns-clause-sheds : goal.returns-clause-sheds
 returns-clause-sheds c = shedding_ends c.args.object c.args.records.now c.first.records c.first.invariant.shedding c.first.invariant.crossed
@@ -15,7 +16,8 @@ first-smaller c = omega (arith, shorter c.first.records.rows c.drop_at.new.recor
 
 pub first-preserved : goal.first-preserved
 first-preserved c =
-    let lasting = c.is_lasting.ensures c.if-not-is_lasting.false in
+    let there = sym (c.first.invariant.crossed.placed Row c.in-Some.key) ∙ ap is_some (chain_at_first c.in-Some.key c.args.object c.first.records.rows (c.first.invariant.crossed.sound Row) (sym c.in-Some.ensures)).0 in
+    let lasting = nobodys_is c.first.records.items c.in-Some.key there (sym c.is_somebodys.ensures ∙ c.if-is_somebodys.false) in
     record {
       crossed = c.laws-in-Some.ensures.crossed;
       shedding = shedding_steps c.args.object c.in-Some.key lasting.0 c.args.records.now c.first.records c.drop_at.new.records c.first.invariant.shedding c.first.invariant.crossed (sym c.in-Some.ensures) lasting.1
@@ -24,3 +26,12 @@ first-preserved c =
       few = no_more c.drop_at.ensures.few c.first.invariant.few;
       room = λ _. c.drop_at.ensures.room;
     }
+
+pub returns-then-is_somebodys-clause-all : goal.returns-then-is_somebodys-clause-all
+returns-then-is_somebodys-clause-all c = somebodys_first c.first.records c.args.object c.in-Some.key (sym c.in-Some.ensures) (sym c.is_somebodys.ensures ∙ c.if-is_somebodys.true)
+
+pub returns-clause-all : goal.returns-clause-all
+returns-clause-all c = none_first c.first.records c.args.object (sym c.in_default.ensures)
+
+pub drop_at-requires : goal.drop_at-requires
+drop_at-requires c = record { there = sym (c.first.invariant.crossed.placed Row c.in-Some.key) ∙ ap is_some (chain_at_first c.in-Some.key c.args.object c.first.records.rows (c.first.invariant.crossed.sound Row) (sym c.in-Some.ensures)).0 }
