@@ -171,6 +171,20 @@ def adders(steps, seed):
     return together(steps, seed, objects=1, at_once=64, uses=8, aborts=0.25, act=Script.add)
 
 
+def adders_behind_one(steps, seed):
+    """One transaction adds to an object and stays; others add to it, one after another, and half of them abort."""
+    script = Script(steps, seed, 1)
+    first = script.start()
+    script.add(first, 1)
+    while script.has_room(6):
+        t = script.start()
+        script.add(t, 1)
+        script.add(t, 1)
+        script.finish_some([t], 0.5)
+    script.finish(first, "abort")
+    return script
+
+
 def adders_beside_a_writer(steps, seed):
     """One transaction writes an object and lets others add to it, one after another; half of them abort, and at last it does."""
     script = Script(steps, seed, 1)
@@ -528,6 +542,7 @@ LOADS = {
         hot_readers,
         many_readers,
         adders,
+        adders_behind_one,
         adders_beside_a_writer,
         chains_of_2,
         chains_of_8,
