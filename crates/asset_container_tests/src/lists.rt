@@ -50,11 +50,36 @@ fn has_keys(table: &KeyLists, places: &[Place], part: Part) -> bool {
     true
 }
 
+/// Returns whether the plain table has the key in the part, or in one before it in its list.
+fn is_up_to(places: &[Place], key: usize, last: Part) -> bool {
+    match places.get(key) {
+        Some(Some((list, section))) => *list == last.list && *section <= number_of(last.section),
+        _ => false,
+    }
+}
+
+/// Returns whether the part and those before it show the keys that the plain table has in them, each once.
+fn has_keys_up_to(table: &KeyLists, places: &[Place], last: Part) -> bool {
+    let keys = table.keys_up_to(last);
+    for (i, key) in keys.iter().enumerate() {
+        if !is_up_to(places, *key as usize, last) || keys[..i].contains(key) {
+            return false;
+        }
+    }
+    for key in 0..places.len() {
+        if is_up_to(places, key, last) && !keys.iter().any(|k| *k as usize == key) {
+            return false;
+        }
+    }
+    true
+}
+
 /// Returns whether lists and plain table agree, also past the last list and the last key.
 fn agrees(table: &KeyLists, places: &[Place]) -> bool {
     for list in 0..=LISTS {
         for section in SECTIONS {
-            if !has_keys(table, places, Part { list, section }) {
+            let part = Part { list, section };
+            if !has_keys(table, places, part) || !has_keys_up_to(table, places, part) {
                 return false;
             }
         }

@@ -1,12 +1,12 @@
 -- Keys at positions of a list.
-use Rattle.std.proofs.Common.{◌≡◌, ℕ, ◌+◌, ◌<◌, ◌≤◌, eqb, cond, List, [], ◌∷◌, ◌++◌, length, get_or, take, drop, refl, sym, ap, ◌∙◌, arith, inl, inr, ◌⊎◌}
+use Rattle.std.proofs.Common.{◌≡◌, ℕ, ◌+◌, ◌<◌, ◌≤◌, eqb, cond, List, [], ◌∷◌, ◌++◌, length, get_or, take, drop, refl, sym, ap, subst, ◌∙◌, arith, inl, inr, ◌⊎◌}
 use Rattle.std.proofs.lemmas.Bool.{eq-eqb, ne_eqb, cases_eq}
 use Rattle.std.proofs.lemmas.List.{length-append, length-take-le, length-drop, get_or-take, get_or-drop, drop_all}
 use Rattle.std.proofs.Math.ListN.{get_or-append}
 use Rattle.std.proofs.Math.Seq.{get_or-append_seam, take-append_seam}
 use Rattle.std.specs.List.{refill}
 use Rattle.asset_lists.specs.Parted.{IsAt}
-use Rattle.asset_lists.specs.Placed.{swapped}
+use Rattle.asset_lists.specs.Placed.{swapped, IsSwapped}
 
 -- one key is at a position
 pub at_one : (keys : List ℕ) (q j k : ℕ) → IsAt keys q j → IsAt keys q k → j ≡ k
@@ -64,6 +64,20 @@ swapped_twice p q i = elim (cases_eq i p) [
     | inr second ↦ ap (swapped p q) (swapped_other p q i first second) ∙ swapped_other p q i first second
   ]
 ]
+
+pub swapped_same : (p q i : ℕ) → p ≡ q → swapped p q i ≡ i
+swapped_same p q i one = elim (cases_eq i p) [
+  | inl same ↦ ap (swapped p q) same ∙ swapped_first p q ∙ sym one ∙ sym same
+  | inr apart ↦ swapped_other p q i apart (λ same. apart (same ∙ sym one))
+]
+
+-- a list of which no keys are swapped
+pub unswapped : (p q : ℕ) (keys : List ℕ) → p ≡ q → IsSwapped p q keys keys
+unswapped p q keys one = record {
+  same = refl;
+  moved = λ i k at. subst (λ (n : ℕ). IsAt keys n k) (sym (swapped_same p q i one)) at;
+  was = λ i k at. subst (λ (n : ℕ). IsAt keys n k) (sym (swapped_same p q i one)) at;
+}
 
 -- a slice that is written back is the whole list
 pub refilled : (keys new : List ℕ) → length new ≡ length keys → refill (length keys) keys new ≡ new

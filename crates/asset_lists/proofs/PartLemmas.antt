@@ -1,16 +1,16 @@
 -- The keys of a part, and the part of a key, as they are read.
-use Rattle.std.proofs.Common.{◌≡◌, ℕ, ◌+◌, ◌-◌, ◌≤◌, List, [], length, take, drop, Some, None, sym, ap, subst, ◌∙◌, arith, suc}
+use Rattle.std.proofs.Common.{◌≡◌, ℕ, ◌+◌, ◌-◌, ◌<◌, ◌≤◌, List, [], length, take, drop, Some, None, true, sym, ap, subst, ◌∙◌, arith, suc}
 use Rattle.std.proofs.lemmas.List.{take_all, length-drop}
 use Rattle.asset_lists.specs.declared.part.Part.{Part}
 use Rattle.asset_lists.specs.declared.part.Section.{Section}
 use Rattle.asset_lists.specs.declared.part.Section.TheVariants.{Front, Middle, Back}
 use Rattle.asset_lists.specs.declared.rows.Row.{Row}
 use Rattle.asset_lists.specs.declared.rows.Place.{Place}
-use Rattle.asset_lists.specs.Parted.{part_of, IsAt, AreKeys}
+use Rattle.asset_lists.specs.Parted.{part_of, is_up_to, IsAt, AreKeys, AreKeysUpTo}
 use Rattle.asset_lists.specs.Placed.{row_at, keys_of, section_at, place_at, part_in, seen, IsSplit, IsValid}
 use Rattle.asset_lists.proofs.AtLemmas.{at_take, take_at, at_drop, drop_at}
 use Rattle.asset_lists.proofs.PlacedLemmas.{one_position}
-use Rattle.asset_lists.proofs.SectionLemmas.{front_in, middle_in, back_in, in_front, in_middle, in_back}
+use Rattle.asset_lists.proofs.SectionLemmas.{front_in, middle_in, back_in, in_front, in_middle, in_back, up_to_front, front_up_to, up_to_middle, middle_up_to, up_to_back}
 use Rattle.asset_lists.proofs.RowLemmas.{some_part, part_seen, Stands, stands_at}
 
 pub decoded : (h : ℕ) → (h ≡ 0 → ⊥) → h ≡ suc (h - 1)
@@ -94,7 +94,44 @@ module _ (rows : List Row) (places : List Place) (valid : IsValid rows places) w
       once = λ p q k first second. let same = alone (row.back + p) (row.back + q) k (at_drop row.back keys p k first) (at_drop row.back keys q k second) in omega (arith, same);
     }
 
+    -- the first keys of the list, if they are those of these parts
+    pub keys_first : (n : ℕ) → n ≤ length keys → ((q : ℕ) → q < n → is_up_to part.section (section_at row q) ≡ true) → ((q : ℕ) → q < length keys → is_up_to part.section (section_at row q) ≡ true → q < n)
+        → AreKeysUpTo (seen rows places) part (take n keys)
+    keys_first n fits before within = record {
+      there = λ q k at.
+          let old = at_take n keys q k fits at in
+          (section_at row q, part_here part.list q k (at_row q k old.0) ∙ ap (λ (w : Row). some_part part.list (section_at w q)) (sym row_is), before q old.1);
+      all = λ k w here up.
+          let st = stands_at rows places valid k part.list w here in
+          let at = row_at_key (place_at places k).position k st.at in
+          let side : section_at row (place_at places k).position ≡ w = ap (λ (r : Row). section_at r (place_at places k).position) row_is ∙ st.side in
+          ((place_at places k).position, take_at n keys (place_at places k).position k fits at (within (place_at places k).position at.within (ap (is_up_to part.section) side ∙ up)));
+      once = λ p q k first second. alone p q k (at_take n keys p k fits first).0 (at_take n keys q k fits second).0;
+    }
+
+    pub first_front : part.section ≡ Front → AreKeysUpTo (seen rows places) part (take row.front keys)
+    first_front side = keys_first row.front (omega (arith, split.0, split.1))
+        (λ q before. ap (λ (w : Section). is_up_to w (section_at row q)) side ∙ up_to_front row.front row.back q before)
+        (λ q _ up. front_up_to row.front row.back q (sym (ap (λ (w : Section). is_up_to w (section_at row q)) side) ∙ up))
+
+    pub first_middle : part.section ≡ Middle → AreKeysUpTo (seen rows places) part (take row.back keys)
+    first_middle side = keys_first row.back split.1
+        (λ q before. ap (λ (w : Section). is_up_to w (section_at row q)) side ∙ up_to_middle row.front row.back q before)
+        (λ q _ up. middle_up_to row.front row.back q split.0 (sym (ap (λ (w : Section). is_up_to w (section_at row q)) side) ∙ up))
+
+    pub first_back : part.section ≡ Back → AreKeysUpTo (seen rows places) part keys
+    first_back side = subst (AreKeysUpTo (seen rows places) part) (take_all (length keys) keys (omega arith)) (keys_first (length keys) (omega arith)
+        (λ q before. ap (λ (w : Section). is_up_to w (section_at row q)) side ∙ up_to_back (section_at row q))
+        (λ q before up. before))
+
   -- past the last list there are no keys
+  pub no_keys_past : (part : Part) → length rows ≤ part.list → AreKeysUpTo (seen rows places) part []
+  no_keys_past part past = record {
+    there = λ q k at. absurd (omega (arith, at.within));
+    all = λ k w here up. absurd (omega (arith, past, (stands_at rows places valid k part.list w here).list_in));
+    once = λ p q k first second. absurd (omega (arith, first.within));
+  }
+
   pub keys_past : (part : Part) → length rows ≤ part.list → AreKeys (seen rows places) part []
   keys_past part past = record {
     there = λ q k at. absurd (omega (arith, at.within));

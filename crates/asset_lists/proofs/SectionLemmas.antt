@@ -1,8 +1,10 @@
 -- The part of a list that a position is in.
-use Rattle.std.proofs.Common.{◌≡◌, ℕ, ◌+◌, ◌-◌, ◌<◌, ◌≤◌, Bool, cond, sym, ap, ◌∙◌, arith, inl, inr}
+use Rattle.std.proofs.Common.{◌≡◌, ℕ, ◌+◌, ◌-◌, ◌<◌, ◌≤◌, Bool, true, cond, refl, sym, ap, ◌∙◌, arith, inl, inr}
 use Rattle.std.specs.Prelude.{nat_lt}
-use Rattle.std.proofs.lemmas.Bool.{cases_eq, cases_Bool, lt-ltb, le-ltb, ltb-true, ltb-false}
+use Rattle.std.proofs.lemmas.Bool.{cases_eq, cases_Bool, lt-ltb, le-ltb, ltb-true, ltb-false, true≢false}
+use Rattle.asset_lists.specs.declared.part.Section.{Section}
 use Rattle.asset_lists.specs.declared.part.Section.TheVariants.{Front, Middle, Back}
+use Rattle.asset_lists.specs.Parted.{is_up_to}
 use Rattle.asset_lists.specs.Placed.{section_in, swapped}
 use Rattle.asset_lists.proofs.AtLemmas.{swapped_second, swapped_other}
 
@@ -126,3 +128,39 @@ lowered_again p f b i past before apart = sections f b f (b - 1) i (swapped p (b
 -- two keys of the back part are swapped
 pub kept_back : (p q f b i : ℕ) → f ≤ b → b ≤ p → b ≤ q → (i ≡ p → ⊥) → section_in f b (swapped p q i) ≡ section_in f b i
 kept_back p q f b i fits first second apart = sections f b f b i (swapped p q i) (past_border p q f i (omega (arith, fits, first)) (omega (arith, fits, second)) apart) (past_border p q b i first second apart)
+
+-- ---- parts up to a last one
+-- the positions of the front part
+pub up_to_front : (f b p : ℕ) → p < f → is_up_to Front (section_in f b p) ≡ true
+unfolding is_up_to
+up_to_front f b p before = ap (is_up_to Front) (front_in f b p before)
+
+pub front_up_to : (f b p : ℕ) → is_up_to Front (section_in f b p) ≡ true → p < f
+unfolding is_up_to
+front_up_to f b p within = go (section_in f b p) refl within where
+  go : (w : Section) → section_in f b p ≡ w → is_up_to Front w ≡ true → p < f
+  go Front is here = in_front f b p is
+  go Middle is here = absurd (true≢false (sym here))
+  go Back is here = absurd (true≢false (sym here))
+
+-- those of the front and the middle part
+pub up_to_middle : (f b p : ℕ) → p < b → is_up_to Middle (section_in f b p) ≡ true
+unfolding is_up_to
+up_to_middle f b p before = go (section_in f b p) refl where
+  go : (w : Section) → section_in f b p ≡ w → is_up_to Middle w ≡ true
+  go Front is = refl
+  go Middle is = refl
+  go Back is = let past = in_back f b p is in absurd (omega (arith, past.1, before))
+
+pub middle_up_to : (f b p : ℕ) → f ≤ b → is_up_to Middle (section_in f b p) ≡ true → p < b
+unfolding is_up_to
+middle_up_to f b p fits within = go (section_in f b p) refl within where
+  go : (w : Section) → section_in f b p ≡ w → is_up_to Middle w ≡ true → p < b
+  go Front is here = let front = in_front f b p is in omega (arith, front, fits)
+  go Middle is here = (in_middle f b p is).1
+  go Back is here = absurd (true≢false (sym here))
+
+-- and all
+pub up_to_back : (w : Section) → is_up_to Back w ≡ true
+unfolding is_up_to
+up_to_back w = refl

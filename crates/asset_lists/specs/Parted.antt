@@ -1,7 +1,8 @@
 -- Keys in lists, as callers see them.
-use Rattle.std.specs.Prelude.{◌≡◌, ℕ, ◌<◌, ◌+◌, List, [], ◌∷◌, ◌++◌, length, Option, None, Some, slice_index, slice_index_or}
+use Rattle.std.specs.Prelude.{◌≡◌, ℕ, ◌<◌, ◌+◌, Bool, true, false, List, [], ◌∷◌, ◌++◌, length, Option, None, Some, slice_index, slice_index_or}
 use Rattle.asset_lists.specs.declared.part.Part.{Part}
-use Rattle.asset_lists.specs.declared.part.Section.TheVariants.{Front}
+use Rattle.asset_lists.specs.declared.part.Section.{Section}
+use Rattle.asset_lists.specs.declared.part.Section.TheVariants.{Front, Middle, Back}
 
 -- keys and lists are numbers from 0 on; each key is in one part at most
 pub record Parted : Type 0 where
@@ -23,6 +24,24 @@ pub record IsAt (keys : List ℕ) (q k : ℕ) : Type 0 where
 pub record AreKeys (table : Parted) (part : Part) (keys : List ℕ) : Type 0 where
   pub there : (q k : ℕ) → IsAt keys q k → part_of table k ≡ Some part
   pub all : (k : ℕ) → part_of table k ≡ Some part → (q : ℕ) × IsAt keys q k
+  pub once : (p q k : ℕ) → IsAt keys p k → IsAt keys q k → p ≡ q
+
+-- whether a part is the last one given, or stands before it: the front part comes first, and the back part last
+unfoldable pub is_up_to : Section → Section → Bool
+is_up_to Front Front = true
+is_up_to Front section = false
+is_up_to Middle Back = false
+is_up_to Middle section = true
+is_up_to Back section = true
+
+-- a part of the list that the part is of
+abbrev pub beside : Part → Section → Part
+beside part section = record { list = part.list; section = section }
+
+-- these are the keys of the part and of those before it in its list, each once
+pub record AreKeysUpTo (table : Parted) (last : Part) (keys : List ℕ) : Type 0 where
+  pub there : (q k : ℕ) → IsAt keys q k → (w : Section) × (part_of table k ≡ Some (beside last w)) × (is_up_to last.section w ≡ true)
+  pub all : (k : ℕ) (w : Section) → part_of table k ≡ Some (beside last w) → is_up_to last.section w ≡ true → (q : ℕ) × IsAt keys q k
   pub once : (p q k : ℕ) → IsAt keys p k → IsAt keys q k → p ≡ q
 
 -- the front part of the list that a key is in

@@ -16,7 +16,7 @@ fn set_position(places: &mut Vec<Place>, key: usize, position: u32)
     place.position = position;
 }
 
-/// Swaps the keys at two positions of a list, and mends their places.
+/// Swaps the keys at two positions of a list, and mends their places. If the positions are the same, nothing changes.
 pub(crate) fn swap(keys: &mut [u32], places: &mut Vec<Place>, p: usize, q: usize)
     requires first { p < length keys.old }
     requires second { q < length keys.old }
@@ -28,6 +28,9 @@ pub(crate) fn swap(keys: &mut [u32], places: &mut Vec<Place>, p: usize, q: usize
     ensures moved { (i k : ℕ) → IsAt keys.old i k → place_at places.new.items k ≡ record (place_at places.old.items k) { position = swapped p q i } }
     ensures others { (k : ℕ) → ((i : ℕ) → IsAt keys.old i k → ⊥) → place_at places.new.items k ≡ place_at places.old.items k }
 {
+    if p == q {
+        return;
+    }
     let first = keys[p] as usize;
     let second = keys[q] as usize;
     set_position(places, first, q as u32);

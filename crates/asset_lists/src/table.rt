@@ -50,7 +50,7 @@ fn section_at(row: &Row, position: usize) -> Section
 impl KeyLists {
     ghost use Rattle.std.specs.Prelude.{◌≡◌, ℕ, ◌<◌, ◌^◌, [], length, None, Some, OnOk, OnErr};
     ghost use Rattle.asset_lists.specs.declared.part.Section.TheVariants.{Front, Middle, Back};
-    ghost use Rattle.asset_lists.specs.Parted.{part_of, advanced, one_key_more, one_list_more, AreKeys, IsChangedAt};
+    ghost use Rattle.asset_lists.specs.Parted.{part_of, advanced, one_key_more, one_list_more, AreKeys, AreKeysUpTo, IsChangedAt};
 
     /// Returns no lists and no keys. It does not allocate.
     pub fn new(alloc: Global) -> KeyLists
@@ -175,6 +175,23 @@ impl KeyLists {
             Section::Front => &keys[..row.front],
             Section::Middle => &keys[row.front..row.back],
             Section::Back => &keys[row.back..],
+        }
+    }
+
+    /// Returns the keys of a part and of the parts before it in its list, each once, in no order that a caller may rely on.
+    /// Past the last list there are none.
+    pub fn keys_up_to(&self, last: Part) -> &[u32]
+        ensures { AreKeysUpTo self.now last result.now }
+    {
+        if last.list >= self.rows.len() {
+            return &[];
+        }
+        let row = &self.rows[last.list];
+        let keys = row.keys.as_slice();
+        match last.section {
+            Section::Front => &keys[..row.front],
+            Section::Middle => &keys[..row.back],
+            Section::Back => keys,
         }
     }
 

@@ -10,7 +10,7 @@ use Rattle.asset_chains.specs.Chained.{home_of}
 use Rattle.asset_lists.specs.declared.part.Part.{Part}
 use Rattle.asset_lists.specs.declared.part.Section.{Section}
 use Rattle.asset_lists.specs.declared.part.Section.TheVariants.{Front}
-use Rattle.asset_lists.specs.Parted.{part_of, IsAt, AreKeys}
+use Rattle.asset_lists.specs.Parted.{part_of, is_up_to, beside, IsAt, AreKeys, AreKeysUpTo}
 use Rattle.asset_seats.specs.Seated.{Seated, seat}
 use Rattle.asset_lock_store.specs.declared.looking.Look.{Look}
 use Rattle.asset_lock_store.specs.LockRules.{is_on, one_conflicts, conflicts_on}
@@ -77,12 +77,31 @@ module _ (store : Stored) (seats : Seated) (allows : ℕ → Bool) (t : ℕ) (op
       (look_more (λ k. (q : ℕ) × (q < i) × IsAt keys q k) (λ k. k ≡ key) look more before free here)
 
   -- all are passed, or one blocks
-  pub look_part : (part : Part) (keys : List ℕ) (i : ℕ) (look : Look) → AreKeys store.by_object part keys → (look.blocked ≡ false → length keys ≤ i) → IsLook store seats allows t op (λ k. (q : ℕ) × (q < i) × IsAt keys q k) look
-      → IsLook store seats allows t op (λ k. part_of store.by_object k ≡ Some part) look
-  look_part part keys i look are past found =
-      look_as (λ k. (q : ℕ) × (q < i) × IsAt keys q k) (λ k. part_of store.by_object k ≡ Some part) look
-      (λ k h. are.there h.0 k h.2)
-      (λ free k here. let at = are.all k here in (at.0, omega (arith, at.1.within, past free), at.1))
+  pub look_all : (keys : List ℕ) (i : ℕ) (look : Look) → (look.blocked ≡ false → length keys ≤ i) → IsLook store seats allows t op (λ k. (q : ℕ) × (q < i) × IsAt keys q k) look → IsLook store seats allows t op (λ k. (q : ℕ) × IsAt keys q k) look
+  look_all keys i look past found =
+      look_as (λ k. (q : ℕ) × (q < i) × IsAt keys q k) (λ k. (q : ℕ) × IsAt keys q k) look
+      (λ k h. (h.0, h.2))
+      (λ free k h. (h.0, omega (arith, h.1.within, past free), h.1))
+      found
+
+  -- the keys are those of a part
+  pub look_part : (part : Part) (keys : List ℕ) (look : Look) → AreKeys store.by_object part keys → IsLook store seats allows t op (λ k. (q : ℕ) × IsAt keys q k) look → IsLook store seats allows t op (λ k. part_of store.by_object k ≡ Some part) look
+  look_part part keys look are found =
+      look_as (λ k. (q : ℕ) × IsAt keys q k) (λ k. part_of store.by_object k ≡ Some part) look
+      (λ k h. are.there h.0 k h.1)
+      (λ _ k here. are.all k here)
+      found
+
+  -- or those up to a part of an object, which are all that are looked at
+  pub look_up_to : (number : ℕ) (section : Section) (last : Part) (keys : List ℕ) (look : Look) → last ≡ part_for number section → ((w : Section) → is_up_to section w ≡ looks_at op w) → AreKeysUpTo store.by_object last keys
+      → IsLook store seats allows t op (λ k. (q : ℕ) × IsAt keys q k) look → IsLook store seats allows t op (λ k. (w : Section) × (part_of store.by_object k ≡ Some (part_for number w)) × (looks_at op w ≡ true)) look
+  unfolding part_for
+  look_up_to number section last keys look is reach are found =
+      look_as (λ k. (q : ℕ) × IsAt keys q k) (λ k. (w : Section) × (part_of store.by_object k ≡ Some (part_for number w)) × (looks_at op w ≡ true)) look
+      (λ k h.
+      let here = are.there h.0 k h.1 in
+      (here.0, here.1 ∙ ap (λ (p : Part). Some (beside p here.0)) is, sym (reach here.0) ∙ ap (λ (p : Part). is_up_to p.section here.0) (sym is) ∙ here.2))
+      (λ _ k h. are.all k h.0 (h.1 ∙ ap (λ (p : Part). Some (beside p h.0)) (sym is)) (ap (λ (p : Part). is_up_to p.section h.0) is ∙ reach h.0 ∙ h.2))
       found
 
   -- ---- a look at the parts of an object
@@ -116,22 +135,6 @@ module _ (store : Stored) (seats : Seated) (allows : ℕ → Bool) (t : ℕ) (op
           look_as (λ k. (part_of store.by_object k ≡ Some front) ⊎ (part_of store.by_object k ≡ Some other)) (λ k. (w : Section) × (part_of store.by_object k ≡ Some (part_for number w)) × (looks_at op w ≡ true)) look
           in_two
           (λ free k h. from_two k h.0 h.1 (covers free h.0 h.2))
-          found
-
-      -- all three are looked at
-      pub look_three : (third : Section) (last : Part) → last ≡ part_for number third → looks_at op third ≡ true → ((w : Section) → ((w ≡ Front) ⊎ (w ≡ second)) ⊎ (w ≡ third)) → (look : Look)
-          → IsLook store seats allows t op (λ k. ((part_of store.by_object k ≡ Some front) ⊎ (part_of store.by_object k ≡ Some other)) ⊎ (part_of store.by_object k ≡ Some last)) look
-          → IsLook store seats allows t op (λ k. (w : Section) × (part_of store.by_object k ≡ Some (part_for number w)) × (looks_at op w ≡ true)) look
-      look_three third last is_last looks_too covers look found =
-          look_as (λ k. ((part_of store.by_object k ≡ Some front) ⊎ (part_of store.by_object k ≡ Some other)) ⊎ (part_of store.by_object k ≡ Some last)) (λ k. (w : Section) × (part_of store.by_object k ≡ Some (part_for number w)) × (looks_at op w ≡ true)) look
-          (λ k h. elim h [
-            | inl two ↦ in_two k two
-            | inr at ↦ (third, at ∙ ap Some is_last, looks_too)
-          ])
-          (λ _ k h. elim (covers h.0) [
-            | inl two ↦ inl (from_two k h.0 h.1 two)
-            | inr is ↦ inr (h.1 ∙ ap (λ (w : Section). Some (part_for number w)) is ∙ ap Some (sym is_last))
-          ])
           found
 
   -- ---- a look at one lock

@@ -92,6 +92,23 @@ class_with Op'.Add ops some none = go ops.read ops.write ops.add some none where
   go false false true some none = refl
   go false false false some none = absurd (true≢false (sym some))
 
+-- a set that excludes all stays in the front part
+pub excluder_with : (op : Op) (ops : OpSet) → excludes ops ≡ true → class_of (with_op op ops) ≡ class_of ops
+unfolding excludes with_op
+excluder_with op ops all = excluder_class (with_op op ops) (go op ops.read ops.write ops.add all) ∙ sym (excluder_class ops all) where
+  go : (op : Op) (r w a : Bool) → (w || r && a) ≡ true → excludes (with_op op (record { read = r; write = w; add = a })) ≡ true
+  go Op'.Read r w a all = reads r w a all where
+    reads : (r w a : Bool) → (w || r && a) ≡ true → (w || a) ≡ true
+    reads r true a all = refl
+    reads true false a all = all
+    reads false false a all = absurd (true≢false (sym all))
+  go Op'.Write r w a all = refl
+  go Op'.Add r w a all = adds r w a all where
+    adds : (r w a : Bool) → (w || r && a) ≡ true → (w || r && true) ≡ true
+    adds r true a all = refl
+    adds true false a all = refl
+    adds false false a all = absurd (true≢false (sym all))
+
 pub class_both : (own ops : OpSet) → is_some_op own ≡ true → excludes (both_ops own ops) ≡ false → class_of (both_ops own ops) ≡ class_of own
 unfolding class_of excludes both_ops is_some_op
 class_both own ops some none = go own.read own.write own.add ops.read ops.write ops.add some none where

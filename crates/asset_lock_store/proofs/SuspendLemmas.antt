@@ -1,20 +1,21 @@
 -- The locks on an object that conflict with one that is granted.
-use Rattle.std.proofs.Common.{◌≡◌, ℕ, Bool, true, false, eqb, cond, ◌&&◌, ◌||◌, ◌≤◌, length, Option, Some, is_some, refl, sym, ap, subst, ◌∙◌, inl, inr, arith}
-use Rattle.std.proofs.lemmas.Bool.{eqb-true, eqb-false, eq-eqb, ne_eqb, true≢false, cases_Bool, both_ways}
-use Rattle.slab.specs.Slab.{Slab, get}
+use Rattle.std.proofs.Common.{◌≡◌, ℕ, Bool, true, false, eqb, cond, ◌&&◌, ◌||◌, ◌≤◌, List, length, Option, Some, is_some, refl, sym, ap, subst, ◌∙◌, inl, inr, arith}
+use Rattle.std.proofs.lemmas.Bool.{eqb-true, eqb-false, eq-eqb, ne_eqb, true≢false, cases_Bool, and_parts, or_parts, both_ways}
+use Rattle.slab.specs.Slab.{get}
 use Rattle.asset_names.specs.OpSets.{OpSet}
 use Rattle.asset_names.proofs.Common.{and_false, and_true}
-use Rattle.asset_chains.specs.Chained.{home_of}
+use Rattle.asset_chains.specs.Chained.{home_of, lists}
 use Rattle.asset_lists.specs.declared.part.Part.{Part}
 use Rattle.asset_lists.specs.declared.part.Section.{Section}
 use Rattle.asset_lists.specs.declared.part.Section.TheVariants.{Front, Middle, Back}
-use Rattle.asset_lists.specs.Parted.{Parted, part_of}
+use Rattle.asset_lists.specs.Parted.{Parted, part_of, is_up_to, beside, AreKeys, AreKeysUpTo}
 use Rattle.asset_lock_store.specs.declared.lock.Lock.{Lock}
-use Rattle.asset_lock_store.specs.LockRules.{is_on, both_conflict, suspended, paused, is_some_op}
+use Rattle.asset_lock_store.specs.LockRules.{is_on, both_conflict, excludes, suspended, paused, is_some_op}
 use Rattle.asset_lock_store.specs.Stored.{Stored, lock_at, number_in, part_for, same_section, is_in, is_others, class_of, meets, IsStored, IsSuspended}
 use Rattle.asset_lock_store.proofs.StoreLemmas.{stored_changed, number_one, parts_one}
 use Rattle.asset_lock_store.proofs.WalkLemmas.{passed_lock, others_own, others_from}
-use Rattle.asset_lock_store.proofs.ListLemmas.{twice_passed}
+use Rattle.asset_lock_store.proofs.ListLemmas.{twice_passed, at_lists, lists_at, lists_in}
+use Rattle.asset_lock_store.proofs.LockLemmas.{on_to, on_from}
 use Rattle.asset_lock_store.proofs.OpsLemmas.{adder_conflicts, reader_conflicts}
 
 -- ---- which part of an object's list has a lock
@@ -105,80 +106,117 @@ stored_suspended old new carried which stored locks keys of_object of_owner obje
       granted : (k : ℕ) → (lock_at new.locks k).granted ≡ true → (lock_at old.locks k).granted ≡ true
       granted k h = passed_granted carried (which k) (lock_at old.locks k) (sym (ap (λ (l : Lock). l.granted) (locks k)) ∙ h)
 
--- a lock that only reads or only adds conflicts with the operations that meet its part
-by_class : (ops : OpSet) (lock : Lock) (w : Section) → both_conflict lock.ops ops ≡ meets w ops → passed_lock ops (meets w ops) lock ≡ cond (both_conflict lock.ops ops) (record lock { granted = false }) lock
-unfolding paused
-by_class ops lock w is = ap (λ (b : Bool). cond (meets w ops) (cond b (record lock { granted = false }) lock) lock) is ∙ go (meets w ops) ∙ sym (ap (λ (b : Bool). cond b (record lock { granted = false }) lock) is) where
-  go : (c : Bool) → cond c (cond c (record lock { granted = false }) lock) lock ≡ cond c (record lock { granted = false }) lock
-  go true = refl
-  go false = refl
+-- ---- which locks are walked over
+-- a lock of a part that does not meet the operations does not conflict with them
+left_out : (ops : OpSet) (lock : Lock) → is_some_op lock.ops ≡ true → (w : Section) → class_of lock.ops ≡ w → meets w ops ≡ false → both_conflict lock.ops ops ≡ false
+unfolding meets
+left_out ops lock some Front is none = absurd (true≢false none)
+left_out ops lock some Middle is none = adder_conflicts lock.ops ops is some ∙ none
+left_out ops lock some Back is none = reader_conflicts lock.ops ops is some ∙ none
 
--- whether the walk over a part passes a lock
-abbrev pub walks : OpSet → Bool → Section → Section → Bool
-walks ops on w class = meets w ops && (on && same_section w class)
+-- if the parts that meet the operations are walked over, a lock is suspended exactly if it is on the object and conflicts
+walked : (x : ℕ) (ops : OpSet) (which : Section → Bool) → ((w : Section) → which w ≡ false → meets w ops ≡ false) → (lock : Lock) → is_some_op lock.ops ≡ true
+    → passed_lock ops (is_on x lock && which (class_of lock.ops)) lock ≡ suspended x ops lock
+unfolding suspended paused
+walked x ops which covers lock some = go (is_on x lock) (which (class_of lock.ops)) refl where
+  go : (on b : Bool) → which (class_of lock.ops) ≡ b → passed_lock ops (on && b) lock ≡ cond (on && both_conflict lock.ops ops) (record lock { granted = false }) lock
+  go false b e = refl
+  go true true e = refl
+  go true false e = sym (ap (λ (c : Bool). cond c (record lock { granted = false }) lock) (left_out ops lock some (class_of lock.ops) refl (covers (class_of lock.ops) e)))
 
-by_walks : (ops : OpSet) (lock : Lock) → is_some_op lock.ops ≡ true → (on : Bool) (class : Section) → class_of lock.ops ≡ class
-    → passed_lock ops ((walks ops on Front class || walks ops on Middle class) || walks ops on Back class) lock ≡ cond (on && both_conflict lock.ops ops) (record lock { granted = false }) lock
-unfolding paused meets
-by_walks ops lock some false class e = ap (λ (b : Bool). passed_lock ops b lock) (none (meets Front ops) (meets Middle ops) (meets Back ops)) where
-  none : (p q r : Bool) → ((p && false || q && false) || r && false) ≡ false
-  none p q r = grind arith
-by_walks ops lock some true Front e = refl
-by_walks ops lock some true Middle e = ap (λ (b : Bool). passed_lock ops b lock) (middle (meets Middle ops) (meets Back ops)) ∙ by_class ops lock Middle (adder_conflicts lock.ops ops e some) where
-  middle : (q r : Bool) → ((true && false || q && true) || r && false) ≡ q
-  middle q r = grind arith
-by_walks ops lock some true Back e = ap (λ (b : Bool). passed_lock ops b lock) (back (meets Middle ops) (meets Back ops)) ∙ by_class ops lock Back (reader_conflicts lock.ops ops e some) where
-  back : (q r : Bool) → ((true && false || q && false) || r && true) ≡ r
-  back q r = grind arith
+-- all parts
+pub meets_all : (ops : OpSet) (w : Section) → is_up_to Back w ≡ false → meets w ops ≡ false
+unfolding is_up_to
+meets_all ops w out = absurd (true≢false out)
 
--- a lock is suspended by the walks exactly if it is on the object and conflicts
-pub walked : (x : ℕ) (ops : OpSet) (lock : Lock) → is_some_op lock.ops ≡ true
-    → passed_lock ops ((walks ops (is_on x lock) Front (class_of lock.ops) || walks ops (is_on x lock) Middle (class_of lock.ops)) || walks ops (is_on x lock) Back (class_of lock.ops)) lock ≡ suspended x ops lock
-unfolding suspended
-walked x ops lock some = by_walks ops lock some (is_on x lock) (class_of lock.ops) refl
+-- for operations that only read, all but the back part
+pub meets_reads : (ops : OpSet) → excludes ops ≡ false → ops.add ≡ false → (w : Section) → is_up_to Middle w ≡ false → meets w ops ≡ false
+unfolding is_up_to meets excludes
+meets_reads ops some none Front out = absurd (true≢false out)
+meets_reads ops some none Middle out = absurd (true≢false out)
+meets_reads ops some none Back out = (λ i. (or_parts ops.write (ops.read && ops.add) some).0 i || none i)
+
+-- for operations that only add, all but the middle part
+abbrev pub either_end : Section → Bool
+either_end w = same_section Front w || same_section Back w
+
+pub meets_adds : (ops : OpSet) → excludes ops ≡ false → ops.add ≡ true → (w : Section) → either_end w ≡ false → meets w ops ≡ false
+unfolding meets excludes
+meets_adds ops some adds Front out = absurd (true≢false out)
+meets_adds ops some adds Middle out = go ops.read ops.write ops.add some adds where
+  go : (r w a : Bool) → (w || r && a) ≡ false → a ≡ true → (r || w) ≡ false
+  go r w a e f = grind arith
+meets_adds ops some adds Back out = absurd (true≢false out)
+
+alike : (a b : Bool) → (a ≡ true → b ≡ true) → (b ≡ true → a ≡ true) → a ≡ b
+alike true b there back = sym (there refl)
+alike false true there back = back refl
+alike false false there back = refl
+
+-- ---- whether a key is walked over
+module _ (store : Stored) (stored : IsStored store) (x number : ℕ) (numbered : number_in store.objects x ≡ Some number) where
+  -- up to a part of the object
+  pub listed_up_to : (last : Part) (section : Section) (keys : List ℕ) → last ≡ part_for number section → AreKeysUpTo store.by_object last keys → (k d : ℕ) → home_of store.by_owner k ≡ Some d
+      → lists keys k ≡ (is_on x (lock_at store.locks k) && is_up_to section (class_of (lock_at store.locks k).ops))
+  unfolding part_for
+  listed_up_to last section keys is are k d home = alike (lists keys k) (is_on x (lock_at store.locks k) && is_up_to section (class_of (lock_at store.locks k).ops)) there back where
+    there : lists keys k ≡ true → (is_on x (lock_at store.locks k) && is_up_to section (class_of (lock_at store.locks k).ops)) ≡ true
+    there listed =
+        let at = lists_at keys k listed in
+        let in_part = are.there at.0 k at.1 in
+        let on = on_object store stored x number numbered k d in_part.0 home (in_part.1 ∙ ap (λ (p : Part). Some (beside p in_part.0)) is) in
+        λ i. on_from x (lock_at store.locks k) on.0 i && (ap (λ (w : Section). is_up_to section w) on.1 ∙ ap (λ (p : Part). is_up_to p.section in_part.0) (sym is) ∙ in_part.2) i
+
+    back : (is_on x (lock_at store.locks k) && is_up_to section (class_of (lock_at store.locks k).ops)) ≡ true → lists keys k ≡ true
+    back h =
+        let parts = and_parts (is_on x (lock_at store.locks k)) (is_up_to section (class_of (lock_at store.locks k).ops)) h in
+        let here = in_list store stored x number numbered k d home (on_to x (lock_at store.locks k) parts.0) in
+        let at = are.all k (class_of (lock_at store.locks k).ops) (here ∙ ap (λ (p : Part). Some (beside p (class_of (lock_at store.locks k).ops))) (sym is)) (ap (λ (p : Part). is_up_to p.section (class_of (lock_at store.locks k).ops)) is ∙ parts.1) in
+        at_lists keys at.0 k at.1
+
+  -- in a part of the object
+  listed_in : (part : Part) (w : Section) (keys : List ℕ) → part ≡ part_for number w → AreKeys store.by_object part keys → (k d : ℕ) → home_of store.by_owner k ≡ Some d
+      → lists keys k ≡ (is_on x (lock_at store.locks k) && same_section w (class_of (lock_at store.locks k).ops))
+  listed_in part w keys is are k d home = lists_in store.by_object part keys are k ∙ ap (λ (p : Part). is_in p (part_of store.by_object k)) is ∙ part_has store stored x number numbered k d w home
+
+  -- in the front part or the back part
+  pub listed_ends : (front back : Part) (first last : List ℕ) → front ≡ part_for number Front → back ≡ part_for number Back → AreKeys store.by_object front first → AreKeys store.by_object back last → (k d : ℕ) → home_of store.by_owner k ≡ Some d
+      → (lists first k || lists last k) ≡ (is_on x (lock_at store.locks k) && either_end (class_of (lock_at store.locks k).ops))
+  listed_ends front back first last is_front is_back ones others k d home =
+      (λ i. listed_in front Front first is_front ones k d home i || listed_in back Back last is_back others k d home i)
+      ∙ one (is_on x (lock_at store.locks k)) (same_section Front (class_of (lock_at store.locks k).ops)) (same_section Back (class_of (lock_at store.locks k).ops)) where
+        one : (on a b : Bool) → (on && a || on && b) ≡ (on && (a || b))
+        one true a b = refl
+        one false a b = refl
 
 -- ---- what the walks leave
-module _ (store : Stored) (stored : IsStored store) (x c number : ℕ) (ops : OpSet) (numbered : number_in store.objects x ≡ Some number) where
-  -- whether a walk over a part of the object passes another's lock
-  flag : (k d : ℕ) (part : Part) (w : Section) → home_of store.by_owner k ≡ Some d → (d ≡ c → ⊥) → part ≡ part_for number w
-      → (meets part.section ops && is_in part (part_of store.by_object k) && is_others c (home_of store.by_owner k)) ≡ walks ops (is_on x (lock_at store.locks k)) w (class_of (lock_at store.locks k).ops)
-  unfolding part_for
-  flag k d part w home differ is =
-      (λ i. meets (is i).section ops && is_in (is i) (part_of store.by_object k) && is_others c (home i))
-      ∙ ap (λ (b : Bool). meets w ops && is_in (part_for number w) (part_of store.by_object k) && b) (others_from c d differ)
-      ∙ and_true _
-      ∙ ap (λ (b : Bool). meets w ops && b) (part_has store stored x number numbered k d w home)
+module _ (store : Stored) (stored : IsStored store) (x c : ℕ) (ops : OpSet) (which : Section → Bool) (covers : (w : Section) → which w ≡ false → meets w ops ≡ false) (walks : ℕ → Bool)
+    (walked_over : (k d : ℕ) → home_of store.by_owner k ≡ Some d → walks k ≡ (is_on x (lock_at store.locks k) && which (class_of (lock_at store.locks k).ops))) where
+  pub all_suspended : (new : Stored) → ((k : ℕ) → lock_at new.locks k ≡ passed_lock ops (walks k && is_others c (home_of store.by_owner k)) (lock_at store.locks k)) → new.by_owner ≡ store.by_owner → new.objects ≡ store.objects
+      → IsSuspended x c ops store new
+  all_suspended new passed of_owner objects = record {
+    own = λ k home.
+        passed k
+        ∙ ap (λ (o : Option ℕ). passed_lock ops (walks k && is_others c o) (lock_at store.locks k)) home
+        ∙ ap (λ (b : Bool). passed_lock ops (walks k && b) (lock_at store.locks k)) (others_own c)
+        ∙ ap (λ (b : Bool). passed_lock ops b (lock_at store.locks k)) (and_false (walks k));
+    others = λ k d home differ.
+        passed k
+        ∙ ap (λ (o : Option ℕ). passed_lock ops (walks k && is_others c o) (lock_at store.locks k)) home
+        ∙ ap (λ (b : Bool). passed_lock ops (walks k && b) (lock_at store.locks k)) (others_from c d differ)
+        ∙ ap (λ (b : Bool). passed_lock ops b (lock_at store.locks k)) (and_true (walks k) ∙ walked_over k d home)
+        ∙ walked x ops which covers (lock_at store.locks k) (stored.carry k d home);
+    by_owner = of_owner;
+    objects = objects;
+  }
 
-  no_flag : (k : ℕ) (part : Part) → home_of store.by_owner k ≡ Some c → (meets part.section ops && is_in part (part_of store.by_object k) && is_others c (home_of store.by_owner k)) ≡ false
-  no_flag k part home = ap (λ (o : Option ℕ). meets part.section ops && is_in part (part_of store.by_object k) && is_others c o) home ∙ ap (λ (b : Bool). meets part.section ops && is_in part (part_of store.by_object k) && b) (others_own c) ∙ and_false _
-
-  module _ (front middle back : Part) (is_front : front ≡ part_for number Front) (is_middle : middle ≡ part_for number Middle) (is_back : back ≡ part_for number Back) (once twice thrice : Slab Lock)
-      (first : (k : ℕ) → lock_at once k ≡ passed_lock ops (meets front.section ops && is_in front (part_of store.by_object k) && is_others c (home_of store.by_owner k)) (lock_at store.locks k))
-      (second : (k : ℕ) → lock_at twice k ≡ passed_lock ops (meets middle.section ops && is_in middle (part_of store.by_object k) && is_others c (home_of store.by_owner k)) (lock_at once k))
-      (third : (k : ℕ) → lock_at thrice k ≡ passed_lock ops (meets back.section ops && is_in back (part_of store.by_object k) && is_others c (home_of store.by_owner k)) (lock_at twice k)) where
-    -- after the walks over the three parts
-    pub all_suspended : (new : Stored) → new.locks ≡ thrice → new.by_owner ≡ store.by_owner → new.objects ≡ store.objects → IsSuspended x c ops store new
-    all_suspended new locks of_owner objects = record {
-      own = λ k home.
-          ap (λ (s : Slab Lock). lock_at s k) locks
-          ∙ third k
-          ∙ ap (λ (b : Bool). passed_lock ops b (lock_at twice k)) (no_flag k back home)
-          ∙ second k
-          ∙ ap (λ (b : Bool). passed_lock ops b (lock_at once k)) (no_flag k middle home)
-          ∙ first k
-          ∙ ap (λ (b : Bool). passed_lock ops b (lock_at store.locks k)) (no_flag k front home);
-      others = λ k d home differ.
-          let lock = lock_at store.locks k in
-          let on = is_on x lock in
-          let class = class_of lock.ops in
-          ap (λ (s : Slab Lock). lock_at s k) locks
-          ∙ third k
-          ∙ (λ i. passed_lock ops (flag k d back Back home differ is_back i) (second k i))
-          ∙ (λ i. passed_lock ops (walks ops on Back class) (passed_lock ops (flag k d middle Middle home differ is_middle i) (first k i)))
-          ∙ ap (λ (b : Bool). passed_lock ops (walks ops on Back class) (passed_lock ops (walks ops on Middle class) (passed_lock ops b lock))) (flag k d front Front home differ is_front)
-          ∙ ap (passed_lock ops (walks ops on Back class)) (twice_passed ops (walks ops on Front class) (walks ops on Middle class) lock)
-          ∙ twice_passed ops (walks ops on Front class || walks ops on Middle class) (walks ops on Back class) lock
-          ∙ walked x ops lock (stored.carry k d home);
-      by_owner = of_owner;
-      objects = objects;
-    }
+-- two walks, one after another
+pub both_passed : (ops : OpSet) (first second other : Bool) (lock once twice : Lock) → once ≡ passed_lock ops (first && other) lock → twice ≡ passed_lock ops (second && other) once → twice ≡ passed_lock ops ((first || second) && other) lock
+both_passed ops first second other lock once twice one two =
+    two ∙ ap (passed_lock ops (second && other)) one ∙ twice_passed ops (first && other) (second && other) lock ∙ ap (λ (b : Bool). passed_lock ops b lock) (flags first second other) where
+      flags : (a b o : Bool) → (a && o || b && o) ≡ ((a || b) && o)
+      flags true true true = refl
+      flags true true false = refl
+      flags true false true = refl
+      flags true false false = refl
+      flags false b o = refl

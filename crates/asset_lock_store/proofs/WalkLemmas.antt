@@ -7,6 +7,7 @@ use Rattle.asset_chains.proofs.Laws.{chain_at_first}
 use Rattle.asset_chains.proofs.Walks.{from_key, from_first, from_next, next_home, walk_more, walk_ends, walk_less}
 use Rattle.asset_lists.specs.declared.part.Section.{Section}
 use Rattle.asset_lists.specs.declared.part.Section.TheVariants.{Front, Middle, Back}
+use Rattle.asset_lists.specs.Parted.{is_up_to}
 use Rattle.asset_lock_store.specs.declared.lock.Lock.{Lock}
 use Rattle.asset_names.specs.declared.names.Ob.{Ob}
 use Rattle.asset_names.specs.declared.names.Txn.{Txn}
@@ -142,6 +143,15 @@ covers_read op is w looks = go w (sym (ap (λ (o : Op). looks_at o w) is) ∙ lo
   go Middle h = inr refl
   go Back h = absurd (true≢false (sym h))
 
+-- all up to the middle part
+pub reach_read : (op : Op) → op ≡ Op'.Read → (w : Section) → is_up_to Middle w ≡ looks_at op w
+unfolding looks_at meets only_op is_up_to
+reach_read op is w = go w ∙ sym (ap (λ (o : Op). looks_at o w) is) where
+  go : (w : Section) → is_up_to Middle w ≡ looks_at Op'.Read w
+  go Front = refl
+  go Middle = refl
+  go Back = refl
+
 pub misses_read : (op : Op) → op ≡ Op'.Read → (w : Section) → looks_at op w ≡ false → w ≡ Back
 unfolding looks_at meets only_op
 misses_read op is w misses = go w (sym (ap (λ (o : Op). looks_at o w) is) ∙ misses) where
@@ -179,6 +189,10 @@ looks_for_write op is w = ap (λ (o : Op). looks_at o w) is ∙ go w where
   go Front = refl
   go Middle = refl
   go Back = refl
+
+pub reach_write : (op : Op) → op ≡ Op'.Write → (w : Section) → is_up_to Back w ≡ looks_at op w
+unfolding is_up_to
+reach_write op is w = sym (looks_for_write op is w)
 
 pub covers_all : (w : Section) → ((w ≡ Front) ⊎ (w ≡ Middle)) ⊎ (w ≡ Back)
 covers_all Front = inl (inl refl)

@@ -121,9 +121,12 @@ impl LockStore {
         ensures by_owner { self.new.by_owner ≡ self.old.by_owner }
     {
         self.laws();
-        let ops = self.lock(key).ops.with(op);
+        let before = self.lock(key).ops;
         grant_to(&mut self.locks, key, op);
-        if excludes(ops) {
+        if excludes(before) {
+            return;
+        }
+        if excludes(before.with(op)) {
             self.by_object.advance(key);
         }
     }

@@ -6,7 +6,6 @@ ghost use Rattle.asset_lock_store.specs.Looked.{look_with};
 use crate::allows::Allows;
 use crate::lock::{Request, one_conflicts};
 use crate::store::{LockStore, adders_of, excluders_of, readers_of};
-use asset_lists::Part;
 use asset_names::Op;
 use asset_seats::{Seats, Sitter};
 
@@ -47,7 +46,7 @@ impl LockStore {
     ghost use Rattle.asset_names.specs.declared.names.Txn.{Txn};
     ghost use Rattle.asset_chains.specs.Chained.{home_of};
     ghost use Rattle.asset_lists.specs.declared.part.Section.{Section};
-    ghost use Rattle.asset_lists.specs.Parted.{part_of};
+    ghost use Rattle.asset_lists.specs.Parted.{part_of, IsAt};
     ghost use Rattle.asset_seats.specs.Seated.{seat, HasSeat};
     ghost use Rattle.asset_lock_store.specs.LockRules.{blocks};
     ghost use Rattle.asset_lock_store.specs.Stored.{name_of, locks_at, number_in, part_for};
@@ -99,20 +98,19 @@ impl LockStore {
         }
     }
 
-    /// Looks at the locks of the part, which is one of the object that is asked for. From the second lock that conflicts on,
-    /// all who allow the asker are found at once.
-    fn look_in<A: Allows>(
+    /// Looks at the locks at the keys, which are on the object that is asked for. From the second lock that conflicts on, all
+    /// who allow the asker are found at once.
+    fn look_over<A: Allows>(
         &self,
-        part: Part,
+        keys: &[u32],
         request: Request,
         seats: &Seats,
         permits: &mut A,
     ) -> Look
         requires { A.can_ask permits.old seats.now request.asker }
-        ensures look { IsLook self.now seats.now (λ u. A.allows permits.old u request.asker.t.0 request.x.0 request.op) request.asker.t.0 request.op (λ (k : ℕ). part_of self.now.by_object k ≡ Some part) result }
+        ensures look { IsLook self.now seats.now (λ u. A.allows permits.old u request.asker.t.0 request.x.0 request.op) request.asker.t.0 request.op (λ (k : ℕ). (q : ℕ) × IsAt keys.now q k) result }
         ensures permits { permits.new ≡ permits.old }
     {
-        let keys = self.by_object.keys(part);
         let mut look = Look::NOTHING;
         'keys: for key in keys {
             let again = look.conflicts;
@@ -137,20 +135,24 @@ impl LockStore {
         ensures look { IsLook self.now seats.now (λ u. A.allows permits.old u request.asker.t.0 request.x.0 request.op) request.asker.t.0 request.op (λ (k : ℕ). (w : Section) × (part_of self.now.by_object k ≡ Some (part_for number w)) × (looks_at request.op w ≡ true)) result }
         ensures permits { permits.new ≡ permits.old }
     {
-        let excluders = self.look_in(excluders_of(number), request, seats, permits);
-        if excluders.blocked {
-            return excluders;
-        }
         match request.op {
-            Op::Read => excluders.with(self.look_in(adders_of(number), request, seats, permits)),
-            Op::Write => {
-                let more = excluders.with(self.look_in(adders_of(number), request, seats, permits));
-                if more.blocked {
-                    return more;
-                }
-                more.with(self.look_in(readers_of(number), request, seats, permits))
+            Op::Read => {
+                let keys = self.by_object.keys_up_to(adders_of(number));
+                self.look_over(keys, request, seats, permits)
             }
-            Op::Add => excluders.with(self.look_in(readers_of(number), request, seats, permits)),
+            Op::Write => {
+                let keys = self.by_object.keys_up_to(readers_of(number));
+                self.look_over(keys, request, seats, permits)
+            }
+            Op::Add => {
+                let front = self.by_object.keys(excluders_of(number));
+                let excluders = self.look_over(front, request, seats, permits);
+                if excluders.blocked {
+                    return excluders;
+                }
+                let back = self.by_object.keys(readers_of(number));
+                excluders.with(self.look_over(back, request, seats, permits))
+            }
         }
     }
 

@@ -2,7 +2,7 @@
 
 ghost use Rattle.std.specs.Prelude.{◌≡◌};
 ghost use Rattle.asset_lists.specs.declared.part.Section.TheVariants.{Front, Middle, Back};
-ghost use Rattle.asset_lock_store.specs.Stored.{class_of, meets, part_for};
+ghost use Rattle.asset_lock_store.specs.Stored.{class_of, part_for};
 
 use crate::lock::{Lock, excludes};
 use asset_chains::Chains;
@@ -78,18 +78,6 @@ pub(crate) fn part_of(number: usize, ops: Ops) -> Part
         adders_of(number)
     } else {
         readers_of(number)
-    }
-}
-
-/// Returns whether a lock of this part of a list may conflict with these operations.
-#[tactic(auto, unfolding(crate::specs::Stored::meets))]
-pub(crate) fn meets(section: Section, ops: Ops) -> bool
-    ensures { result ≡ meets section ops }
-{
-    match section {
-        Section::Front => true,
-        Section::Middle => ops.has(Op::Read) || ops.has(Op::Write),
-        Section::Back => ops.has(Op::Write) || ops.has(Op::Add),
     }
 }
 

@@ -2,17 +2,15 @@
 
 ghost use Rattle.std.specs.Prelude.{◌≡◌, ◌==◌, ℕ, ◌&&◌, cond, false, is_some};
 ghost use Rattle.slab.specs.Slab.{get};
-ghost use Rattle.asset_chains.specs.Chained.{home_of};
-ghost use Rattle.asset_lists.specs.Parted.{part_of};
+ghost use Rattle.asset_chains.specs.Chained.{home_of, lists};
 ghost use Rattle.asset_lock_store.specs.LockRules.{paused};
-ghost use Rattle.asset_lock_store.specs.Stored.{lock_at, is_others, is_in, meets};
+ghost use Rattle.asset_lock_store.specs.Stored.{lock_at, is_others};
 
-use crate::lock::{Lock, both_conflict};
+use crate::lock::{Lock, both_conflict, excludes};
 use crate::searching::is_others;
-use crate::store::{LockStore, adders_of, excluders_of, meets, readers_of};
+use crate::store::{LockStore, adders_of, excluders_of, readers_of};
 use asset_chains::Chains;
-use asset_lists::{KeyLists, Part};
-use asset_names::{Ob, Ops};
+use asset_names::{Ob, Op, Ops};
 use slab::Slab;
 
 /// Suspends the lock at the key, if there is one and it conflicts with these operations.
@@ -27,22 +25,11 @@ fn suspend_at(locks: &mut Slab<Lock>, key: usize, ops: Ops)
     }
 }
 
-/// Suspends the locks of the part that conflict with these operations, but the one of the seat.
-fn suspend_in(
-    locks: &mut Slab<Lock>,
-    by_object: &KeyLists,
-    by_owner: &Chains,
-    part: Part,
-    c: usize,
-    ops: Ops,
-)
-    ensures locks { (k : ℕ) → lock_at locks.new k ≡ cond (meets part.section ops && is_in part (part_of by_object.now k) && is_others c (home_of by_owner.now k)) (paused ops (lock_at locks.old k)) (lock_at locks.old k) }
+/// Suspends the locks at the keys that conflict with these operations, but the one of the seat.
+fn suspend_each(locks: &mut Slab<Lock>, keys: &[u32], by_owner: &Chains, c: usize, ops: Ops)
+    ensures locks { (k : ℕ) → lock_at locks.new k ≡ cond (lists keys.now k && is_others c (home_of by_owner.now k)) (paused ops (lock_at locks.old k)) (lock_at locks.old k) }
     ensures keys { (k : ℕ) → is_some (get locks.new k) ≡ is_some (get locks.old k) }
 {
-    if !meets(part.section, ops) {
-        return;
-    }
-    let keys = by_object.keys(part);
     'keys: for key in keys {
         if is_others(by_owner, *key as usize, c) {
             suspend_at(locks, *key as usize, ops);
@@ -63,29 +50,17 @@ impl LockStore {
         ensures { IsSuspended x.0 c ops self.old self.new }
     {
         self.laws();
-        suspend_in(
-            &mut self.locks,
-            &self.by_object,
-            &self.by_owner,
-            excluders_of(number),
-            c,
-            ops,
-        );
-        suspend_in(
-            &mut self.locks,
-            &self.by_object,
-            &self.by_owner,
-            adders_of(number),
-            c,
-            ops,
-        );
-        suspend_in(
-            &mut self.locks,
-            &self.by_object,
-            &self.by_owner,
-            readers_of(number),
-            c,
-            ops,
-        );
+        if excludes(ops) {
+            let all = self.by_object.keys_up_to(readers_of(number));
+            suspend_each(&mut self.locks, all, &self.by_owner, c, ops);
+        } else if ops.has(Op::Add) {
+            let excluders = self.by_object.keys(excluders_of(number));
+            suspend_each(&mut self.locks, excluders, &self.by_owner, c, ops);
+            let readers = self.by_object.keys(readers_of(number));
+            suspend_each(&mut self.locks, readers, &self.by_owner, c, ops);
+        } else {
+            let others = self.by_object.keys_up_to(adders_of(number));
+            suspend_each(&mut self.locks, others, &self.by_owner, c, ops);
+        }
     }
 }

@@ -5,7 +5,7 @@ ghost use Rattle.asset_records.specs.Listed.{record_of, seat_column};
 
 use crate::dropping::{counted, drop_at};
 use crate::handing::{One, Picks, hand_over_picked};
-use crate::layers::{add_mark, mark, over_in, stays_layered};
+use crate::layers::{Mark, add_mark, mark_of, next_mark, over_in, set_mark};
 use crate::mending::{Mend, mend_write};
 use crate::settling::{next_to_settle, settle_at, shed};
 use asset_chains::{Crossed, Side};
@@ -145,21 +145,21 @@ pub struct Settled {
 #[derive(Drop)]
 pub struct Records {
     records: Crossed<Record>,
-    /// Of each object, whether no write stands over an add for sure.
-    marks: Vec<bool>,
+    /// Of each object, what is known of its records.
+    marks: Vec<Mark>,
 }
 
 impl Model for Records {
     ghost use Rattle.asset_chains.specs.Crossed.{Crossed as RowsAndColumns};
     ghost use Rattle.asset_records.specs.declared.records.Record.{Record as Update};
-    ghost use Rattle.asset_records.specs.Layered.{AreLayered};
+    ghost use Rattle.asset_records.specs.Layered.{AreMarked};
     ghost use Rattle.asset_records.specs.Listed.{lists_in};
 
     ghost Value = { RowsAndColumns Update };
 
     ghost view = { λ r. r.records };
 
-    ghost invariant = { λ r. AreLayered r.marks.items (lists_in r.records) };
+    ghost invariant = { λ r. AreMarked r.marks.items (lists_in r.records) };
 }
 
 /// Returns the column of a seat.
@@ -256,10 +256,10 @@ impl Records {
     {
         let _ = seats;
         self.records.laws();
-        let layered = stays_layered(&self.records, self.marks.as_slice(), object, change);
+        let next = next_mark(&self.records, self.marks.as_slice(), object, change);
         let at = column(owner.at);
         self.records.insert(object, at, record_of(owner.t, change));
-        mark(&mut self.marks, object, layered);
+        set_mark(&mut self.marks, object, next);
     }
 
     /// Takes back the newest record of the transaction, and returns what is left to do; `None` if it has none. That it is
@@ -314,7 +314,8 @@ impl Records {
         Some(Settled { object, visited })
     }
 
-    /// Drops the adds of nobody that stand before all other records of the object.
+    /// Drops the adds of nobody that stand before all other records of the object. It looks at none of them while all are
+    /// of writes.
     pub fn shed(&mut self, object: usize)
         ensures sheds { Sheds object (lists_in self.old) (lists_in self.new) }
         ensures all { begins_with_nobodys (on (lists_in self.new) object) ≡ false }
@@ -322,6 +323,9 @@ impl Records {
         ensures tied { (seats : Seated) → IsTied self.old seats → IsTied self.new seats }
         ensures reserved { has_room self.old ≡ true → has_room self.new ≡ true }
     {
+        if let Mark::Writes = mark_of(self.marks.as_slice(), object) {
+            return;
+        }
         shed(&mut self.records, object);
         self.records.laws();
     }

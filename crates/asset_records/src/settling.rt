@@ -9,10 +9,10 @@ ghost use Rattle.asset_seats.specs.Seated.{Seated};
 ghost use Rattle.asset_records.specs.Listed.{lists_in, on, record_at, is_of, begins_with_nobodys, Settles, Sheds, IsNoMore, IsTied};
 ghost use Rattle.asset_records.specs.Mended.{is_write};
 ghost use Rattle.asset_records.specs.Dropped.{added_at};
-ghost use Rattle.asset_records.specs.Layered.{AreLayered};
+ghost use Rattle.asset_records.specs.Layered.{AreMarked};
 
 use crate::dropping::{counted, drop_at, drop_through, is_somebodys, visited_at};
-use crate::layers::may_stand_over_write;
+use crate::layers::{Mark, may_stand_over_write};
 use crate::mending::added_at;
 use crate::records::Record;
 use asset_chains::{Crossed, Side};
@@ -78,13 +78,13 @@ fn settle_write(records: &mut Crossed<Record>, object: usize, key: usize) -> usi
 /// Makes the add at the key stand for good: it becomes nobody's if a write may stand before it, and goes otherwise.
 fn settle_add(
     records: &mut Crossed<Record>,
-    marks: &[bool],
+    marks: &[Mark],
     object: usize,
     key: usize,
     amount: i64,
 ) -> usize
     requires there { home_of records.old.rows key ≡ Some object }
-    requires marked { AreLayered marks.now (lists_in records.old) }
+    requires marked { AreMarked marks.now (lists_in records.old) }
     requires add { added_at records.old.items key ≡ Some amount }
     ensures settled { (t : ℕ) → is_of t (record_at records.old.items key) ≡ true → Settles t object result (lists_in records.old) (lists_in records.new) }
     ensures tied { (seats : Seated) → IsTied records.old seats → IsTied records.new seats }
@@ -103,12 +103,12 @@ fn settle_add(
 /// Makes the record at the key stand for good. Returns how many records were visited, apart from those of nobody.
 pub(crate) fn settle_at(
     records: &mut Crossed<Record>,
-    marks: &[bool],
+    marks: &[Mark],
     object: usize,
     key: usize,
 ) -> usize
     requires there { home_of records.old.rows key ≡ Some object }
-    requires marked { AreLayered marks.now (lists_in records.old) }
+    requires marked { AreMarked marks.now (lists_in records.old) }
     ensures settled { (t : ℕ) → is_of t (record_at records.old.items key) ≡ true → Settles t object result (lists_in records.old) (lists_in records.new) }
     ensures tied { (seats : Seated) → IsTied records.old seats → IsTied records.new seats }
     ensures few { IsNoMore records.old records.new }

@@ -5,6 +5,7 @@ use Rattle.asset_chains.specs.declared.side.Side.TheVariants.{Row}
 use Rattle.asset_records.specs.Listed.{at_keys}
 use Rattle.asset_records.specs.Mended.{has_write}
 use Rattle.asset_records.proofs.BackLemmas.{no_last}
+use Rattle.asset_records.specs.Layered.{says_layered}
 use Rattle.asset_records.proofs.LayerLemmas.{none_below}
 use Rattle.asset_records.proofs.layers.may_stand_over_write.Goals as goal
 
@@ -20,7 +21,7 @@ returns-in-Some c = λ some.
     let records = c.args.records.now in
     let amount = some_of c.added_at.result (c.is_none-in-Some.ensures ∙ ap not some) in
     none_below records c.args.marks.now c.args.object (c.laws.ensures.crossed.sound Row) c.requires.marked c.args.key c.in-Some.oldest amount.0 c.requires.home
-    (sym c.is_layered.ensures ∙ c.if-is_layered.true) (sym c.in-Some.ensures) (sym c.added_at.ensures ∙ amount.1)
+    (sym (c.is_layered.ensures ∙ ap says_layered c.mark_of.ensures) ∙ c.if-is_layered.true) (sym c.in-Some.ensures) (sym c.added_at.ensures ∙ amount.1)
 
 pub returns-in_default : goal.returns-in_default
 returns-in_default c = search rules

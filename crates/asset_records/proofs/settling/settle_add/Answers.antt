@@ -1,16 +1,14 @@
-use Rattle.std.proofs.Common.{◌≡◌, ℕ, Some, None, is_some, false, sym, ap, subst, refl, ◌∙◌, arith}
-use Rattle.std.specs.Prelude.{Option}
-use Rattle.std.proofs.lemmas.Bool.{true≢false}
+use Rattle.std.proofs.Common.{◌≡◌, Some, is_some, sym, ap, subst, ◌∙◌, arith}
 use Rattle.slab.specs.Slab.{get}
-use Rattle.asset_chains.specs.Chained.{Chained, chain_of, ahead, last_of}
+use Rattle.asset_chains.specs.Chained.{Chained}
 use Rattle.asset_chains.specs.declared.side.Side.TheVariants.{Row}
 use Rattle.asset_records.specs.Listed.{at_keys, record_at, Settles, lists_in}
 use Rattle.asset_records.specs.Mended.{has_write}
-use Rattle.std.proofs.Common.{List, map, cond, eqb, w64}
+use Rattle.std.proofs.Common.{map, cond, eqb, w64}
 use Rattle.std.specs.Prelude.{ℤ}
 use Rattle.std.proofs.lemmas.Int.{to_z-of_z}
 use Rattle.asset_records.specs.declared.records.Record.TheVariants.{Lasting}
-use Rattle.asset_records.proofs.BackLemmas.{settles_lasting, settles_dropped, no_last}
+use Rattle.asset_records.proofs.BackLemmas.{settles_lasting, settles_dropped}
 use Rattle.asset_records.proofs.ThroughLemmas.{one_if_owned}
 use Rattle.asset_records.proofs.SettleLemmas.{added_owned, owned_any, lasting_tied}
 use Rattle.asset_records.proofs.settling.settle_add.Goals as goal

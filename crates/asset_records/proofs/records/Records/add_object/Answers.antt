@@ -1,10 +1,11 @@
-use Rattle.std.proofs.Common.{ap, length, sym, ◌∙◌, List, [], arith}
+use Rattle.std.proofs.Common.{ap, length, sym, subst, ◌∙◌, List, [], arith}
 use Rattle.std.specs.Prelude.{slice_index_or}
 use Rattle.slab.specs.Slab.{Slab}
 use Rattle.asset_chains.specs.Chained.{Chained, home_of}
 use Rattle.asset_records.specs.declared.records.Record.{Record}
 use Rattle.asset_chains.specs.Crossed.{Crossed}
-use Rattle.asset_records.specs.Layered.{is_layered, AreLayered}
+use Rattle.asset_records.specs.declared.layers.Mark.{Mark}
+use Rattle.asset_records.specs.Layered.{AreMarked, mark_at, fits}
 use Rattle.asset_records.specs.Listed.{on, lists_in}
 use Rattle.asset_records.proofs.ListedLemmas.{tied_grown, rows_more, read_more}
 use Rattle.asset_records.proofs.records.Records.add_object.Goals.{in-Ok, in-Err}
@@ -26,14 +27,16 @@ returns-clause-tied c = elim c.match-add.branch [
 ]
 
 pub invariant_of-self : goal.invariant_of-self
-unfolding AreLayered
-invariant_of-self c = λ i is. c.self.invariant i (sym (c.add_mark.ensures i) ∙ is)
+unfolding AreMarked
+invariant_of-self c = λ i. subst (λ (mark : Mark). fits mark (on (lists_in c.self.inside.records) i)) (sym (c.add_mark.ensures i)) (c.self.invariant i)
 
 pub invariant_of-self-2 : goal.invariant_of-self-2
-unfolding AreLayered on
+unfolding AreMarked on
 invariant_of-self-2 c = elim c.match-add.branch [
-  | in-Ok w ↦ λ i is.
-      ap is_layered (ap (λ (lists : List (List Record)). slice_index_or lists i []) (rows_more c.self.inside.records c.add.new.self w.in-Ok.ensures.items w.in-Ok.ensures.added) ∙ read_more (lists_in c.self.inside.records) [] i)
-      ∙ c.self.invariant i (sym (c.add_mark.ensures i) ∙ is)
-  | in-Err w ↦ λ i is. ap (λ (r : Crossed Record). is_layered (on (lists_in r) i)) w.in-Err.ensures.unchanged ∙ c.self.invariant i (sym (c.add_mark.ensures i) ∙ is)
+  | in-Ok w ↦ λ i.
+      subst (fits (mark_at c.add_mark.new.marks.items i)) (sym (ap (λ (lists : List (List Record)). slice_index_or lists i []) (rows_more c.self.inside.records c.add.new.self w.in-Ok.ensures.items w.in-Ok.ensures.added) ∙ read_more (lists_in c.self.inside.records) [] i))
+      (subst (λ (mark : Mark). fits mark (on (lists_in c.self.inside.records) i)) (sym (c.add_mark.ensures i)) (c.self.invariant i))
+  | in-Err w ↦ λ i.
+      subst (λ (r : Crossed Record). fits (mark_at c.add_mark.new.marks.items i) (on (lists_in r) i)) (sym w.in-Err.ensures.unchanged)
+      (subst (λ (mark : Mark). fits mark (on (lists_in c.self.inside.records) i)) (sym (c.add_mark.ensures i)) (c.self.invariant i))
 ]

@@ -1,8 +1,7 @@
-use Rattle.std.proofs.Common.{false, ap, sym, ◌∙◌, Bool, List, map}
-use Rattle.std.specs.Prelude.{slice_index_or}
-use Rattle.std.proofs.lemmas.Bool.{true≢false}
-use Rattle.asset_records.specs.Layered.{AreLayered}
-use Rattle.asset_records.specs.Listed.{at_keys}
+use Rattle.std.proofs.Common.{ap, sym, subst, List, map}
+use Rattle.asset_records.specs.declared.layers.Mark.{Mark}
+use Rattle.asset_records.specs.Layered.{fits, mark_at, AreMarked}
+use Rattle.asset_records.specs.Listed.{on, at_keys, lists_in}
 use Rattle.asset_records.proofs.ListedLemmas.{tied_nothing}
 use Rattle.asset_records.proofs.records.Records.new.Goals as goal
 
@@ -13,5 +12,5 @@ pub returns-clause-tied : goal.returns-clause-tied
 returns-clause-tied c = λ seats nobody. tied_nothing c.new.result seats c.new.ensures.crossed c.new.ensures.items nobody
 
 pub invariant_of-result : goal.invariant_of-result
-unfolding AreLayered
-invariant_of-result c = λ i is. absurd (true≢false (sym is ∙ ap (λ (marks : List Bool). slice_index_or marks i false) c.new-2.ensures.items))
+unfolding AreMarked fits mark_at
+invariant_of-result c = λ i. subst (λ (mark : Mark). fits mark (on (lists_in c.new.result) i)) (sym (ap (λ (marks : List Mark). mark_at marks i) c.new-2.ensures.items)) tt

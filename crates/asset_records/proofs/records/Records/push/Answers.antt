@@ -3,7 +3,7 @@ use Rattle.std.proofs.lemmas.List.{length-map}
 use Rattle.asset_chains.specs.declared.side.Side.TheVariants.{Column}
 use Rattle.asset_chains.specs.Crossed.{Crossed, Joins}
 use Rattle.asset_records.specs.declared.records.Record.{Record}
-use Rattle.asset_records.specs.Layered.{is_layered}
+use Rattle.asset_records.specs.Layered.{fits}
 use Rattle.asset_records.specs.Listed.{on, at_keys, lists_in, owner_of, record_of, IsTied}
 use Rattle.asset_names.specs.declared.names.Txn.{Txn}
 use Rattle.asset_records.specs.declared.records.Change.{Change}
@@ -50,9 +50,9 @@ invariant_of-self c =
     let seats = c.args.seats.now in
     let tied = subst (λ (r : Crossed Record). IsTied r seats) (sym c.self.view_is) c.requires.tied in
     let whole = on (lists_in records) c.args.object ++ c.record_of.result ∷ [] in
-    marked_layered c.self.inside.marks.items c.mark.new.marks.items c.args.object c.stays_layered-layered.result (lists_in records) (lists_in c.insert.new.self) whole
+    marked_layered c.self.inside.marks.items c.set_mark.new.marks.items c.args.object c.next_mark-next.result (lists_in records) (lists_in c.insert.new.self) whole
     (pushed_lists records c.insert.new.self seats c.record_of.result c.args.owner.t c.insert.result c.args.object c.args.owner.at tied c.laws.ensures.crossed (ap owner_of c.record_of.ensures ∙ whose c.args.owner.t c.args.change) c.requires.sits c.insert.ensures.vacant c.insert.ensures.items c.insert.ensures.rows
     (subst (λ (n : ℕ). Joins n c.insert.result records.columns c.insert.new.self.columns) c.column-at.ensures c.insert.ensures.columns))
-    c.mark.ensures.own c.mark.ensures.others
-    (λ is. ap (λ (one : Record). is_layered (on (lists_in records) c.args.object ++ one ∷ [])) c.record_of.ensures ∙ c.stays_layered-layered.ensures c.args.owner.t is)
+    c.set_mark.ensures.own c.set_mark.ensures.others
+    (subst (λ (one : Record). fits c.next_mark-next.result (on (lists_in records) c.args.object ++ one ∷ [])) (sym c.record_of.ensures) (c.next_mark-next.ensures c.args.owner.t))
     c.self.invariant

@@ -1,6 +1,6 @@
 use Rattle.std.proofs.Common.{ap, length, subst, sym, arith}
 use Rattle.asset_chains.specs.Chained.{Chained, home_of}
-use Rattle.asset_records.specs.Layered.{AreLayered}
+use Rattle.asset_records.specs.Layered.{AreMarked}
 use Rattle.asset_records.proofs.ListedLemmas.{tied_grown, same_rows}
 use Rattle.asset_records.proofs.records.Records.reserve.Goals as goal
 
@@ -15,6 +15,6 @@ returns-clause-tied c =
 
 pub invariant_of-self : goal.invariant_of-self
 invariant_of-self c =
-    subst (AreLayered c.self.inside.marks.items)
+    subst (AreMarked c.self.inside.marks.items)
     (sym (same_rows c.self.inside.records c.reserve_item.new.items c.reserve_item.ensures.grown.items c.reserve_item.ensures.rows))
     c.self.invariant

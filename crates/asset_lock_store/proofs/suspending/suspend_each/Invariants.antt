@@ -3,7 +3,7 @@ use Rattle.slab.specs.Slab.{get}
 use Rattle.asset_chains.specs.Chained.{home_of, lists}
 use Rattle.asset_lock_store.specs.LockRules.{paused}
 use Rattle.asset_lock_store.specs.Stored.{lock_at, is_others}
-use Rattle.asset_lock_store.proofs.suspending.suspend_in.Given as goal
+use Rattle.asset_lock_store.proofs.suspending.suspend_each.Given as goal
 
 -- the locks of others that were passed and conflict are suspended
 abbrev pub invariant-keys : goal.invariant-keys

@@ -1,7 +1,7 @@
 use Rattle.std.proofs.Common.{◌≡◌, ℕ, ◌<◌, false}
 use Rattle.asset_lists.specs.Parted.{IsAt}
 use Rattle.asset_lock_store.specs.Looked.{IsLook}
-use Rattle.asset_lock_store.proofs.store.LockStore.look_in.Given as goal
+use Rattle.asset_lock_store.proofs.store.LockStore.look_over.Given as goal
 
 -- this is what a look at the locks that were passed finds, and none of them blocks
 abbrev pub invariant-keys : goal.invariant-keys
