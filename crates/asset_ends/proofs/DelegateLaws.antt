@@ -33,7 +33,7 @@ use Rattle.asset_locks.specs.LockTable as Locks
 use Rattle.asset_locks.specs.Valid.{IsValid}
 use Rattle.asset_locks.proofs.HandLaws.{carries_handed, carries_own, names_handed}
 use Rattle.asset_deps.specs.Dependencies.{Dependency}
-use Rattle.asset_permits.specs.Descriptors.{Descriptor, one_covers}
+use Rattle.asset_permits.specs.Descriptors.{Descriptor, one_covers, opens}
 use Rattle.asset_trans.specs.TransRows.{NamedTransRow}
 use Rattle.asset_ends.specs.Shows.{Shows, used, cell_after, cell_of, permitted, table_values}
 use Rattle.asset_ends.proofs.CellLemmas.{cell_same}
@@ -221,6 +221,10 @@ permitted_delegate giver taker obs steps gives takes u n x op =
 abbrev pub IsCopied : ℕ → ℕ → List ℕ → List Descriptor → List Descriptor → Type 0
 IsCopied giver taker moved before later = (u n x : ℕ) (op : Op) → one_covers later u n x op ≡ (one_covers before u n x op || (eqb u taker && lists moved x && one_covers before giver n x op))
 
+-- the taker opens what the giver opens on the moved objects
+abbrev pub IsOpened : ℕ → ℕ → List ℕ → List Descriptor → List Descriptor → Type 0
+IsOpened giver taker moved before later = (u x : ℕ) (op : Op) → opens later u x op ≡ (opens before u x op || (eqb u taker && lists moved x && opens before giver x op))
+
 -- the same change of the same cell
 changed_where : (test : ℕ → Bool) (change : Cell → Cell) (one other : Cells) (x : ℕ) → one x ≡ other x → change_where test change one x ≡ change_where test change other x
 unfolding change_where
@@ -230,9 +234,10 @@ changed_where test change one other x same = rw same
 pub delegate_shows : (opening : Opening) (steps : List Step) (rows : List NamedTransRow) (objects : Cells) (table : Locks.LockTable) (descriptors : List Descriptor) (deps : List Dependency) (giver taker : Txn) (obs : ObSet) → Shows opening steps (table_values rows objects table descriptors deps)
     → live steps giver.0 ≡ true → live steps taker.0 ≡ true → IsValid table → is_some (Locks.enrolled_in table taker.0) ≡ true → (later : List Descriptor)
     → IsCopied giver.0 taker.0 (numbers (filter (λ (o : Ob). in_set obs o.0) (Locks.held_in table giver.0))) descriptors later
+    → IsOpened giver.0 taker.0 (numbers (filter (λ (o : Ob). in_set obs o.0) (Locks.held_in table giver.0))) descriptors later
     → Shows opening (Delegate giver taker obs ∷ steps) (table_values rows (change_where (in_set obs) (handed_cell giver.0 taker.0) objects) (Locks.hand_over_in giver.0 taker.0 obs table) later deps)
 unfolding initiated initiated_by begun begun_by completed completed_by parent_of parent_by dependencies dependency_by
-delegate_shows opening steps rows objects table descriptors deps giver taker obs shows gives takes valid enrolled later copied = record {
+delegate_shows opening steps rows objects table descriptors deps giver taker obs shows gives takes valid enrolled later copied opened = record {
   names = shows.names;
   statuses = λ n. shows.statuses n ∙ sym (status_quiet (Delegate giver taker obs) steps refl refl refl (delegate_ends giver taker obs steps) n);
   parents = shows.parents;
@@ -240,5 +245,9 @@ delegate_shows opening steps rows objects table descriptors deps giver taker obs
   enrolled = names_handed giver.0 taker.0 obs table ∙ shows.enrolled ∙ sym (enrolled_quiet (Delegate giver taker obs ∷ steps) steps refl (delegate_ends giver taker obs steps));
   locks = λ n x op. carries_given giver.0 taker.0 obs table n x op valid enrolled ∙ rw (shows.locks giver.0 x op, shows.locks n x op) (sym (holds_delegated giver taker obs steps gives takes n x op));
   permits_stand = λ u n x op. copied u n x op ∙ rw (lists_moved steps table giver.0 obs valid shows.locks x, shows.permits_stand u n x op, shows.permits_stand giver.0 n x op) (sym (permitted_delegate giver taker obs steps gives takes u n x op));
+  none_opens = λ u x op. opened u x op ∙ rw (shows.none_opens u x op, shows.none_opens giver.0 x op) (never (eqb u taker.0 && lists (numbers (filter (λ (o : Ob). in_set obs o.0) (Locks.held_in table giver.0))) x));
   dependencies_stand = λ k u v. shows.dependencies_stand k u v ∙ sym (depended_quiet (Delegate giver taker obs ∷ steps) steps refl (delegate_ends giver taker obs steps) (λ y. refl) k u v);
-}
+} where
+  never : (b : Bool) → (false || (b && false)) ≡ false
+  never true = refl
+  never false = refl

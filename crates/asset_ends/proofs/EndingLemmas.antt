@@ -104,6 +104,7 @@ still_ended test how before now after d ended = record {
   objects = ended.objects;
   locks = ended.locks;
   permits = ended.permits;
+  openers = ended.openers;
   deps = λ k u v. rw d (ended.deps k u v);
   seats = ended.seats;
 }
@@ -152,7 +153,7 @@ pub commit_stands : (opening : Opening) (steps : List Step) (test : ℕ → Bool
 unfolding ended_as
 commit_stands opening steps test before later t ended is alive stand =
     let all = ended_as_test test (commits steps t.0) End'.Committed before later (λ n. is n ∙ commits_shown steps (dependencies_in before.deps) stand.dependencies_stand t.0 (sym (live_shown opening steps _ _ _ _ _ t.0 stand) ∙ alive) n) ended in
-    rw (all.rows, all.objects, all.locks) (commit_shows opening steps before.trans (cells (objects_in before.objects)) (locks_of before) (permits_in before.permits) (dependencies_in before.deps) t stand (permits_in later.permits) all.permits (dependencies_in later.deps) all.deps)
+    rw (all.rows, all.objects, all.locks) (commit_shows opening steps before.trans (cells (objects_in before.objects)) (locks_of before) (permits_in before.permits) (dependencies_in before.deps) t stand (permits_in later.permits) all.permits all.openers (dependencies_in later.deps) all.deps)
 
 pub abort_stands : (opening : Opening) (steps : List Step) (test : ℕ → Bool) (before later : Parts) (t : Txn) → AreEnded test End'.Aborted before later
     → ((n : ℕ) → test n ≡ doomed_in (dependencies_in before.deps) t.0 n) → is_live_status (status_in before.trans t.0) ≡ true
@@ -161,7 +162,7 @@ pub abort_stands : (opening : Opening) (steps : List Step) (test : ℕ → Bool)
 unfolding ended_as
 abort_stands opening steps test before later t ended is alive stand =
     let all = ended_as_test test (aborts steps t.0) End'.Aborted before later (λ n. is n ∙ aborts_shown steps (dependencies_in before.deps) stand.dependencies_stand t.0 (sym (live_shown opening steps _ _ _ _ _ t.0 stand) ∙ alive) n) ended in
-    rw (all.rows, all.objects, all.locks) (abort_shows opening steps before.trans (cells (objects_in before.objects)) (locks_of before) (permits_in before.permits) (dependencies_in before.deps) t stand (permits_in later.permits) all.permits (dependencies_in later.deps) all.deps)
+    rw (all.rows, all.objects, all.locks) (abort_shows opening steps before.trans (cells (objects_in before.objects)) (locks_of before) (permits_in before.permits) (dependencies_in before.deps) t stand (permits_in later.permits) all.permits all.openers (dependencies_in later.deps) all.deps)
 
 -- ---- who is enrolled then
 

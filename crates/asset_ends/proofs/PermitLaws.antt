@@ -17,13 +17,17 @@ use Rattle.asset_names.proofs.LiveLemmas.{live_initiate}
 use Rattle.asset_names.proofs.PermitLemmas.{arrows_permitted}
 use Rattle.asset_names.proofs.Common.{eqb-flip, option_or_none}
 use Rattle.asset_ends.specs.Shows.{permitted}
-use Rattle.asset_permits.specs.Descriptors.{Descriptor, one_covers}
+use Rattle.asset_permits.specs.Descriptors.{Descriptor, one_covers, opens}
 use Rattle.asset_ends.proofs.HistoryLemmas.{live_quiet}
 
 -- one more descriptor covers what it says, and nothing else is covered
 abbrev pub IsAdded : ℕ → ℕ → ObSet → OpSet → List Descriptor → List Descriptor → Type 0
 IsAdded giver taker obs ops before later =
     (u n x : ℕ) (op : Op) → one_covers later u n x op ≡ (one_covers before u n x op || (eqb u giver && eqb n taker && in_set obs x && has_op ops op))
+
+-- what anybody may do is as it was
+abbrev pub OpensSame : List Descriptor → List Descriptor → Type 0
+OpensSame before later = (u x : ℕ) (op : Op) → opens later u x op ≡ opens before u x op
 
 -- a step that initiates nobody, ends nobody and permits nothing leaves each permit
 pub permitted_quiet : (later steps : List Step) → initiated later ≡ initiated steps → ((n : ℕ) → end_of later n ≡ end_of steps n) → ((x : ℕ) (op : Op) → permits later x op ≡ permits steps x op)

@@ -34,7 +34,7 @@ use Rattle.asset_names.proofs.PermitLemmas.{allows_linked}
 use Rattle.asset_names.proofs.Common.{eqb-flip, both_follow}
 use Rattle.asset_names.proofs.ListLemmas.{distinct_pushed}
 use Rattle.asset_deps.specs.Dependencies.{Dependency, arrows_of}
-use Rattle.asset_permits.specs.Descriptors.{Descriptor, allows_by, one_covers, arrows_for}
+use Rattle.asset_permits.specs.Descriptors.{Descriptor, allows_by, leads_by, one_covers, opens, arrows_for}
 use Rattle.asset_objects.specs.Cells.{Effect, Cell, Cells, opened, wrote, added, updated, placed, shown, value_in, undone, settled, change_at, change_each}
 use Rattle.asset_locks.specs.LockTable as Locks
 use Rattle.asset_trans.specs.declared.row.TransRow.{TransRow}
@@ -44,9 +44,9 @@ use Rattle.asset_ends.specs.declared.updating.Update.TheVariants as Update'
 use Rattle.asset_ends.specs.Updates as Updates
 use Rattle.asset_ends.specs.Updates.{step_of, effect_of}
 use Rattle.asset_ends.specs.Shows.{Shows, used, cell_of, cell_after, permitted, depended, table_values}
-use Rattle.asset_permits.proofs.ArrowLaws.{arrows_stand}
-use Rattle.asset_ends.specs.Ended.{IsDropped, AreLeft}
-use Rattle.asset_ends.proofs.PermitLaws.{IsAdded, permitted_quiet, permitted_initiate, permitted_end, permitted_permit, permit_ends}
+use Rattle.asset_permits.proofs.ArrowLaws.{arrows_stand, closed_allows}
+use Rattle.asset_ends.specs.Ended.{IsDropped, IsClosed, AreLeft}
+use Rattle.asset_ends.proofs.PermitLaws.{IsAdded, OpensSame, permitted_quiet, permitted_initiate, permitted_end, permitted_permit, permit_ends}
 use Rattle.asset_ends.proofs.DependLaws.{IsJoined, depended_quiet, depended_initiate, depended_end, depended_depend, depend_ends}
 use Rattle.asset_ends.proofs.CellLemmas.{is_name, value_shown}
 use Rattle.asset_ends.proofs.TransLaws.{names_set, status_set, parent_set, names_initiate, status_initiate_in, parent_initiate_in, row_named, row_absent, sum_by_names}
@@ -94,6 +94,7 @@ initiate_shows opening steps rows objects table descriptors deps t parent seat s
   enrolled = names_enrolled t.0 table ∙ rw shows.enrolled (enrolled_initiate t parent steps new);
   locks = λ n x op. carries_enrolled t.0 table n x op ∙ shows.locks n x op ∙ sym (holds_initiate t parent steps new orderly n x op);
   permits_stand = λ u n x op. shows.permits_stand u n x op ∙ sym (permitted_initiate t parent steps new orderly u n x op);
+  none_opens = shows.none_opens;
   dependencies_stand = λ k m n. shows.dependencies_stand k m n ∙ sym (depended_initiate t parent steps new orderly k m n);
 } where
   absent : row_in rows t.0 ≡ None
@@ -111,6 +112,7 @@ begin_shows opening steps rows objects table descriptors deps t shows before = r
   enrolled = shows.enrolled ∙ sym (enrolled_quiet (Begin t ∷ steps) steps refl (begin_quiet t steps).ends);
   locks = λ n x op. shows.locks n x op ∙ sym (holds_quiet (Begin t ∷ steps) steps (begin_quiet t steps) n x op);
   permits_stand = λ u n x op. shows.permits_stand u n x op ∙ sym (permitted_quiet (Begin t ∷ steps) steps refl (begin_quiet t steps).ends (λ y o. refl) u n x op);
+  none_opens = shows.none_opens;
   dependencies_stand = λ k m n. shows.dependencies_stand k m n ∙ sym (depended_quiet (Begin t ∷ steps) steps refl (begin_quiet t steps).ends (λ y. refl) k m n);
 }
 
@@ -126,6 +128,7 @@ complete_shows opening steps rows objects table descriptors deps t shows before 
   enrolled = shows.enrolled ∙ sym (enrolled_quiet (Complete t ∷ steps) steps refl (complete_quiet t steps).ends);
   locks = λ n x op. shows.locks n x op ∙ sym (holds_quiet (Complete t ∷ steps) steps (complete_quiet t steps) n x op);
   permits_stand = λ u n x op. shows.permits_stand u n x op ∙ sym (permitted_quiet (Complete t ∷ steps) steps refl (complete_quiet t steps).ends (λ y o. refl) u n x op);
+  none_opens = shows.none_opens;
   dependencies_stand = λ k m n. shows.dependencies_stand k m n ∙ sym (depended_quiet (Complete t ∷ steps) steps refl (complete_quiet t steps).ends (λ y. refl) k m n);
 }
 
@@ -147,6 +150,7 @@ read_shows opening steps rows objects table descriptors deps t y shows alive dif
   enrolled = names_granted t.0 y Op'.Read table ∙ shows.enrolled ∙ sym (enrolled_quiet (Read t y ∷ steps) steps refl (read_ends t y steps));
   locks = λ n x op. carries_granted t.0 y Op'.Read table n x op different ∙ rw (shows.locks n x op) (sym (holds_operation (Read t y) steps t.0 y.0 reads refl refl (read_ends t y steps) alive n x op));
   permits_stand = λ u n x op. shows.permits_stand u n x op ∙ sym (permitted_quiet (Read t y ∷ steps) steps refl (read_ends t y steps) (λ y o. refl) u n x op);
+  none_opens = shows.none_opens;
   dependencies_stand = λ k m n. shows.dependencies_stand k m n ∙ sym (depended_quiet (Read t y ∷ steps) steps refl (read_ends t y steps) (λ y. refl) k m n);
 }
 
@@ -165,6 +169,7 @@ changed_shows opening steps rows objects table descriptors deps t y step act eff
   enrolled = names_granted t.0 y (op_of act) table ∙ shows.enrolled ∙ sym (enrolled_quiet (step ∷ steps) steps initiates ends);
   locks = λ n x op. carries_granted t.0 y (op_of act) table n x op different ∙ rw (shows.locks n x op) (sym (holds_operation step steps t.0 y.0 act applied initiates ends alive n x op));
   permits_stand = λ u n x op. shows.permits_stand u n x op ∙ sym (permitted_quiet (step ∷ steps) steps initiates ends permitting u n x op);
+  none_opens = shows.none_opens;
   dependencies_stand = λ k m n. shows.dependencies_stand k m n ∙ sym (depended_quiet (step ∷ steps) steps initiates ends depending k m n);
 }
 
@@ -196,10 +201,10 @@ set_known test after rows steps alive n is = status_set test after rows n ∙ rw
   go true e = rw (row_known rows n (known (status_in rows n) (ap is_live_status is ∙ sym (live_by_status steps n) ∙ alive n e))) refl
 
 -- a commit: the tables after it, by the test of those whom it ends
-pub commit_shows : (opening : Opening) (steps : List Step) (rows : List NamedTransRow) (objects : Cells) (table : Locks.LockTable) (descriptors : List Descriptor) (deps : List Dependency) (t : Txn) → Shows opening steps (table_values rows objects table descriptors deps) → (later : List Descriptor) → IsDropped (commits steps t.0) descriptors later
+pub commit_shows : (opening : Opening) (steps : List Step) (rows : List NamedTransRow) (objects : Cells) (table : Locks.LockTable) (descriptors : List Descriptor) (deps : List Dependency) (t : Txn) → Shows opening steps (table_values rows objects table descriptors deps) → (later : List Descriptor) → IsDropped (commits steps t.0) descriptors later → IsClosed (commits steps t.0) descriptors later
     → (left : List Dependency) → AreLeft (commits steps t.0) deps left → Shows opening (Commit t ∷ steps) (table_values (set_in (commits steps t.0) Status'.Committed rows) (change_each (settled (commits steps t.0)) objects) (Locks.release_in (commits steps t.0) table) later left)
 unfolding initiated initiated_by parent_of parent_by operations operated permits permitted_by dependencies dependency_by
-commit_shows opening steps rows objects table descriptors deps t shows later dropped left left_over = record {
+commit_shows opening steps rows objects table descriptors deps t shows later dropped closed left left_over = record {
   names = names_set (commits steps t.0) Status'.Committed rows ∙ shows.names;
   statuses = λ n. set_known (commits steps t.0) Status'.Committed rows steps (commits_live steps t.0) n (shows.statuses n) ∙ sym (status_commit t steps n);
   parents = λ n. parent_set (commits steps t.0) Status'.Committed rows n ∙ shows.parents n;
@@ -207,14 +212,15 @@ commit_shows opening steps rows objects table descriptors deps t shows later dro
   enrolled = names_released (commits steps t.0) table ∙ rw shows.enrolled (enrolled_end (Commit t ∷ steps) steps (commits steps t.0) refl (live_commit t steps));
   locks = λ n x op. carries_released (commits steps t.0) table n x op ∙ rw (shows.locks n x op) (sym (holds_end (Commit t) steps (commits steps t.0) refl (live_commit t steps) n x op));
   permits_stand = λ u n x op. dropped u n x op ∙ rw (shows.permits_stand u n x op) (sym (permitted_end (Commit t ∷ steps) steps (commits steps t.0) (live_commit t steps) (λ y o. refl) u n x op));
+  none_opens = λ u x op. closed u x op ∙ rw (shows.none_opens u x op) refl;
   dependencies_stand = λ k m n. left_over k m n ∙ rw (shows.dependencies_stand k m n) (sym (depended_end (Commit t ∷ steps) steps (commits steps t.0) (live_commit t steps) (λ y. refl) k m n));
 }
 
 -- an abort: the tables after it, by the test of those whom it ends
-pub abort_shows : (opening : Opening) (steps : List Step) (rows : List NamedTransRow) (objects : Cells) (table : Locks.LockTable) (descriptors : List Descriptor) (deps : List Dependency) (t : Txn) → Shows opening steps (table_values rows objects table descriptors deps) → (later : List Descriptor) → IsDropped (aborts steps t.0) descriptors later
+pub abort_shows : (opening : Opening) (steps : List Step) (rows : List NamedTransRow) (objects : Cells) (table : Locks.LockTable) (descriptors : List Descriptor) (deps : List Dependency) (t : Txn) → Shows opening steps (table_values rows objects table descriptors deps) → (later : List Descriptor) → IsDropped (aborts steps t.0) descriptors later → IsClosed (aborts steps t.0) descriptors later
     → (left : List Dependency) → AreLeft (aborts steps t.0) deps left → Shows opening (Abort t ∷ steps) (table_values (set_in (aborts steps t.0) Status'.Aborted rows) (change_each (undone (aborts steps t.0)) objects) (Locks.release_in (aborts steps t.0) table) later left)
 unfolding initiated initiated_by parent_of parent_by operations operated permits permitted_by dependencies dependency_by
-abort_shows opening steps rows objects table descriptors deps t shows later dropped left left_over = record {
+abort_shows opening steps rows objects table descriptors deps t shows later dropped closed left left_over = record {
   names = names_set (aborts steps t.0) Status'.Aborted rows ∙ shows.names;
   statuses = λ n. set_known (aborts steps t.0) Status'.Aborted rows steps (aborts_live steps t.0) n (shows.statuses n) ∙ sym (status_abort t steps n);
   parents = λ n. parent_set (aborts steps t.0) Status'.Aborted rows n ∙ shows.parents n;
@@ -222,6 +228,7 @@ abort_shows opening steps rows objects table descriptors deps t shows later drop
   enrolled = names_released (aborts steps t.0) table ∙ rw shows.enrolled (enrolled_end (Abort t ∷ steps) steps (aborts steps t.0) refl (live_abort t steps));
   locks = λ n x op. carries_released (aborts steps t.0) table n x op ∙ rw (shows.locks n x op) (sym (holds_end (Abort t) steps (aborts steps t.0) refl (live_abort t steps) n x op));
   permits_stand = λ u n x op. dropped u n x op ∙ rw (shows.permits_stand u n x op) (sym (permitted_end (Abort t ∷ steps) steps (aborts steps t.0) (live_abort t steps) (λ y o. refl) u n x op));
+  none_opens = λ u x op. closed u x op ∙ rw (shows.none_opens u x op) refl;
   dependencies_stand = λ k m n. left_over k m n ∙ rw (shows.dependencies_stand k m n) (sym (depended_end (Abort t ∷ steps) steps (aborts steps t.0) (live_abort t steps) (λ y. refl) k m n));
 }
 
@@ -237,6 +244,7 @@ quiet_shows opening step steps rows objects table descriptors deps shows b c p q
   enrolled = shows.enrolled ∙ sym (enrolled_quiet (step ∷ steps) steps quiet.names quiet.ends);
   locks = λ n x op. shows.locks n x op ∙ sym (holds_quiet (step ∷ steps) steps quiet n x op);
   permits_stand = λ u n x op. shows.permits_stand u n x op ∙ sym (permitted_quiet (step ∷ steps) steps quiet.names quiet.ends quiet.arrows u n x op);
+  none_opens = shows.none_opens;
   dependencies_stand = λ k m n. shows.dependencies_stand k m n ∙ sym (depended_quiet (step ∷ steps) steps quiet.names quiet.ends quiet.kept k m n);
 }
 
@@ -254,9 +262,9 @@ abort_again_shows opening steps rows objects table descriptors deps t shows dead
 
 -- a permit
 pub permit_shows : (opening : Opening) (steps : List Step) (rows : List NamedTransRow) (objects : Cells) (table : Locks.LockTable) (descriptors : List Descriptor) (deps : List Dependency) (giver taker : Txn) (obs : ObSet) (ops : OpSet) → Shows opening steps (table_values rows objects table descriptors deps)
-    → live steps giver.0 ≡ true → live steps taker.0 ≡ true → (later : List Descriptor) → IsAdded giver.0 taker.0 obs ops descriptors later → Shows opening (Permit giver taker obs ops ∷ steps) (table_values rows objects table later deps)
+    → live steps giver.0 ≡ true → live steps taker.0 ≡ true → (later : List Descriptor) → IsAdded giver.0 taker.0 obs ops descriptors later → OpensSame descriptors later → Shows opening (Permit giver taker obs ops ∷ steps) (table_values rows objects table later deps)
 unfolding initiated initiated_by begun begun_by completed completed_by parent_of parent_by operations operated dependencies dependency_by
-permit_shows opening steps rows objects table descriptors deps giver taker obs ops shows gives takes later grown = record {
+permit_shows opening steps rows objects table descriptors deps giver taker obs ops shows gives takes later grown same = record {
   names = shows.names;
   statuses = λ n. shows.statuses n ∙ sym (status_quiet (Permit giver taker obs ops) steps refl refl refl (permit_ends giver taker obs ops steps) n);
   parents = shows.parents;
@@ -264,6 +272,7 @@ permit_shows opening steps rows objects table descriptors deps giver taker obs o
   enrolled = shows.enrolled ∙ sym (enrolled_quiet (Permit giver taker obs ops ∷ steps) steps refl (permit_ends giver taker obs ops steps));
   locks = λ n x op. shows.locks n x op ∙ sym (holds_same_steps (Permit giver taker obs ops ∷ steps) steps refl refl (permit_ends giver taker obs ops steps) n x op);
   permits_stand = λ u n x op. grown u n x op ∙ rw (shows.permits_stand u n x op) (sym (permitted_permit giver taker obs ops steps gives takes u n x op));
+  none_opens = λ u x op. same u x op ∙ shows.none_opens u x op;
   dependencies_stand = λ k m n. shows.dependencies_stand k m n ∙ sym (depended_quiet (Permit giver taker obs ops ∷ steps) steps refl (permit_ends giver taker obs ops steps) (λ y. refl) k m n);
 }
 
@@ -279,15 +288,17 @@ depend_shows opening steps rows objects table descriptors deps kind a b shows on
   enrolled = shows.enrolled ∙ sym (enrolled_quiet (Depend kind a b ∷ steps) steps refl (depend_ends kind a b steps));
   locks = λ n x op. shows.locks n x op ∙ sym (holds_same_steps (Depend kind a b ∷ steps) steps refl refl (depend_ends kind a b steps) n x op);
   permits_stand = λ u n x op. shows.permits_stand u n x op ∙ sym (permitted_quiet (Depend kind a b ∷ steps) steps refl (depend_ends kind a b steps) (λ y o. refl) u n x op);
+  none_opens = shows.none_opens;
   dependencies_stand = λ k m n. joined k m n ∙ rw (shows.dependencies_stand k m n) (sym (depended_depend kind a b steps one other k m n));
 }
 
 -- who allows whom by the descriptors does by the history
 pub allows_shown : (opening : Opening) (steps : List Step) (rows : List NamedTransRow) (objects : Cells) (table : Locks.LockTable) (descriptors : List Descriptor) (deps : List Dependency) (u t x : ℕ) (op : Op) → Shows opening steps (table_values rows objects table descriptors deps)
     → allows_by descriptors u t x op ≡ allows steps u t x op
-unfolding allows_by permitted
+unfolding leads_by permitted
 allows_shown opening steps rows objects table descriptors deps u t x op shows =
-    allows_linked steps x op (arrows_for descriptors x op) (λ m n. arrows_stand descriptors m n x op ∙ shows.permits_stand m n x op) u t
+    closed_allows descriptors x op (λ n. shows.none_opens n x op) u t
+    ∙ allows_linked steps x op (arrows_for descriptors x op) (λ m n. arrows_stand descriptors m n x op ∙ shows.permits_stand m n x op) u t
 
 -- who is free by the tables is free by the history
 pub free_shown : (opening : Opening) (steps : List Step) (rows : List NamedTransRow) (objects : Cells) (table : Locks.LockTable) (descriptors : List Descriptor) (deps : List Dependency) (t x : ℕ) (op : Op) → Shows opening steps (table_values rows objects table descriptors deps)
@@ -343,7 +354,7 @@ exists_shown opening steps rows objects table descriptors deps x shows = ap is_s
 
 -- the tables of an opening, before the first step
 pub opened_shows : (opening : Opening) → Shows opening [] (table_values [] (opened opening) [] [] [])
-unfolding arrows_of depended has_arrow dependencies one_covers permitted names_of initiated status_in row_in status_or_unknown parent_in parent_or_none parent_of opened cell_of cell_after operations Locks.names_in Locks.carries holds live end_of lists status status_of begun completed
+unfolding arrows_of depended has_arrow dependencies one_covers opens permitted names_of initiated status_in row_in status_or_unknown parent_in parent_or_none parent_of opened cell_of cell_after operations Locks.names_in Locks.carries holds live end_of lists status status_of begun completed
 opened_shows opening = record {
   names = refl;
   statuses = λ t. refl;
@@ -352,6 +363,7 @@ opened_shows opening = record {
   enrolled = refl;
   locks = λ t x op. refl;
   permits_stand = λ u t x op. refl;
+  none_opens = λ u x op. refl;
   dependencies_stand = λ k u v. refl;
 }
 
@@ -385,5 +397,6 @@ waiting_shows opening steps rows objects table descriptors deps t x op shows = r
   enrolled = names_waiting t x op table ∙ shows.enrolled;
   locks = λ n y other. carries_waiting t x op table n y other ∙ shows.locks n y other;
   permits_stand = shows.permits_stand;
+  none_opens = shows.none_opens;
   dependencies_stand = shows.dependencies_stand;
 }

@@ -6,7 +6,7 @@ use Rattle.asset_names.specs.Steps.{Opening}
 use Rattle.asset_names.specs.Endings.{end_of}
 use Rattle.asset_names.specs.Operations.{exists, opening_at, operations}
 use Rattle.asset_deps.specs.Dependencies.{Dependency}
-use Rattle.asset_permits.specs.Descriptors.{Descriptor, one_covers}
+use Rattle.asset_permits.specs.Descriptors.{Descriptor, one_covers, opens}
 use Rattle.asset_objects.specs.Cells.{Cells, cells, has_object}
 use Rattle.asset_locks.specs.LockTable as Locks
 use Rattle.asset_trans.specs.TransRows.{NamedTransRow}
@@ -21,7 +21,7 @@ always_err (Err e) p = p
 
 -- tables that are the same show alike
 pub same_alike : (later before : Standing) → SameView later before → ShowAlike later before
-same_alike later before same = record { rows = same.rows; objects = same.objects; locks = same.locks; permits = λ u t x op. ap (λ descriptors. one_covers descriptors u t x op) same.permits; deps = same.deps }
+same_alike later before same = record { rows = same.rows; objects = same.objects; locks = same.locks; permits = λ u t x op. ap (λ descriptors. one_covers descriptors u t x op) same.permits; openers = λ u x op. ap (λ descriptors. opens descriptors u x op) same.permits; deps = same.deps }
 
 -- tables that show alike show the same history
 pub alike_shows : (opening : Opening) (steps : List Step) (later before : Standing) → ShowAlike later before → Shows opening steps (values_of before) → Shows opening steps (values_of later)
@@ -33,6 +33,7 @@ alike_shows opening steps later before alike shows = record {
   enrolled = rw alike.locks shows.enrolled;
   locks = λ t x op. rw alike.locks (shows.locks t x op);
   permits_stand = λ u t x op. alike.permits u t x op ∙ shows.permits_stand u t x op;
+  none_opens = λ u x op. alike.openers u x op ∙ shows.none_opens u x op;
   dependencies_stand = λ k u v. rw alike.deps (shows.dependencies_stand k u v);
 }
 

@@ -1,5 +1,5 @@
--- The tables stay tied while nobody moves, and as one more sits down; who has no seat is allowed by itself alone.
-use Rattle.std.proofs.Common.{◌≡◌, ◌∙◌, ℕ, Bool, true, false, cond, eqb, Some, None, refl, sym, ap}
+-- The tables stay tied while nobody moves, and as one more sits down; by whom one without a seat is allowed.
+use Rattle.std.proofs.Common.{◌≡◌, ◌∙◌, ℕ, Bool, true, false, cond, eqb, ◌||◌, Some, None, refl, sym, ap}
 use Rattle.std.specs.Prelude.{is_some}
 use Rattle.std.proofs.lemmas.Bool.{eqb-true}
 use Rattle.asset_names.specs.declared.names.Txn.{Txn}
@@ -7,7 +7,7 @@ use Rattle.asset_names.specs.declared.operations.Op.{Op}
 use Rattle.asset_seats.specs.Seated.{Seated, seat}
 use Rattle.asset_objects.specs.Placed as Objects
 use Rattle.asset_objects.proofs.SeatLemmas as ObjectSeats
-use Rattle.asset_permits.specs.Descriptors.{allows_by}
+use Rattle.asset_permits.specs.Descriptors.{reaches_opener, allows_by}
 use Rattle.asset_permits.specs.Valid as Permits
 use Rattle.asset_permits.proofs.ArrowLaws.{allows_itself}
 use Rattle.asset_permits.proofs.SearchLemmas.{takes_nothing}
@@ -62,10 +62,11 @@ tied_sits written table given links seats new s t absent tied objects free sits 
   deps = DepSeats.tied_sits links seats new s t tied.deps free sits room.deps;
 }
 
--- who has no seat is allowed by itself alone
-pub allowed_alone : (given : Permits.PermitTable) (seats : Seated) (t : Txn) (x : ℕ) (op : Op) → Permits.IsTied given seats → ((c : ℕ) → seat seats c ≡ Some t → ⊥) → (u : ℕ) → eqb u t.0 ≡ allows_by (Permits.permits_in given) u t.0 x op
+-- who has no seat is allowed by itself, and by those who lead to an opener
+pub allowed_alone : (given : Permits.PermitTable) (seats : Seated) (t : Txn) (x : ℕ) (op : Op) → Permits.IsTied given seats → ((c : ℕ) → seat seats c ≡ Some t → ⊥) → (u : ℕ)
+    → (eqb u t.0 || reaches_opener (Permits.permits_in given) u x op) ≡ allows_by (Permits.permits_in given) u t.0 x op
 allowed_alone given seats t x op tied absent u = go (eqb u t.0) refl where
-  go : (same : Bool) → eqb u t.0 ≡ same → same ≡ allows_by (Permits.permits_in given) u t.0 x op
+  go : (same : Bool) → eqb u t.0 ≡ same → (same || reaches_opener (Permits.permits_in given) u x op) ≡ allows_by (Permits.permits_in given) u t.0 x op
   go true e = sym (allows_itself (Permits.permits_in given) u x op) ∙ ap (λ n. allows_by (Permits.permits_in given) u n x op) (eqb-true u t.0 e)
   go false e = sym (takes_nothing (Permits.parts_of given.permits seats) given.size tied x op (record { 0 = u }) t absent e)
 

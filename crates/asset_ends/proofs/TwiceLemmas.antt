@@ -102,6 +102,15 @@ both_gone true false true false qv = refl
 both_gone true false false true qv = refl
 both_gone true false false false qv = refl
 
+one_gone : (stood p q : Bool) → ((stood && not p) && not q) ≡ (stood && not (p || q))
+one_gone true true q = refl
+one_gone true false q = refl
+one_gone false p q = refl
+
+one_kept : (stood : Bool) → stood ≡ (stood && not false)
+one_kept true = refl
+one_kept false = refl
+
 -- who has left one seat or another
 gone_twice : (p q : ℕ → Bool) (who : Option Txn) → unless_gone q (unless_gone p who) ≡ unless_gone (either p q) who
 unfolding unless_gone either
@@ -130,6 +139,7 @@ ended_twice p q how before now later first second = record {
   objects = second.objects ∙ ap (change_each (ended how q)) first.objects ∙ objects_twice how p q (cells (objects_in before.objects));
   locks = second.locks ∙ ap (Locks.release_in q) first.locks ∙ locks_twice p q (locks_of before);
   permits = λ u n x op. second.permits u n x op ∙ rw (first.permits u n x op) (both_gone _ (p u) (q u) (p n) (q n));
+  openers = λ u x op. second.openers u x op ∙ rw (first.openers u x op) (one_gone _ (p u) (q u));
   deps = λ k u v. second.deps k u v ∙ rw (first.deps k u v) (both_gone _ (p u) (q u) (p v) (q v));
   seats = λ c. second.seats c ∙ ap (unless_gone q) (first.seats c) ∙ gone_twice p q (seat before.seats c);
 }
@@ -142,6 +152,7 @@ ended_none how now same = record {
   objects = sym same;
   locks = sym (locks_none (locks_of now));
   permits = λ u n x op. both_kept _;
+  openers = λ u x op. one_kept _;
   deps = λ k u v. both_kept _;
   seats = λ c. gone_none (seat now.seats c);
 }

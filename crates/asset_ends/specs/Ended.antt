@@ -9,7 +9,7 @@ use Rattle.asset_objects.specs.Placed.{ObjectParts, objects_in}
 use Rattle.asset_objects.specs.Cells.{cells, ended, change_each}
 use Rattle.asset_locks.specs.LockTable as Locks
 use Rattle.asset_locks.specs.Tied.{LockParts, rows_in}
-use Rattle.asset_permits.specs.Descriptors.{Descriptor, one_covers}
+use Rattle.asset_permits.specs.Descriptors.{Descriptor, one_covers, opens}
 use Rattle.asset_permits.specs.Valid.{PermitTable, permits_in}
 use Rattle.asset_seats.specs.Seated.{Seated, seat}
 use Rattle.asset_deps.specs.Dependencies.{Dependency, arrows_of}
@@ -33,6 +33,10 @@ marked_by tables = marked_in tables.seats tables.deps
 abbrev pub IsDropped : (ℕ → Bool) → List Descriptor → List Descriptor → Type 0
 IsDropped test before later = (u n x : ℕ) (op : Op) → one_covers later u n x op ≡ (one_covers before u n x op && not (test u) && not (test n))
 
+-- those who pass the test open nothing any more
+abbrev pub IsClosed : (ℕ → Bool) → List Descriptor → List Descriptor → Type 0
+IsClosed test before later = (u x : ℕ) (op : Op) → opens later u x op ≡ (opens before u x op && not (test u))
+
 -- the dependencies of those who pass the test have gone
 abbrev pub AreLeft : (ℕ → Bool) → List Dependency → List Dependency → Type 0
 AreLeft test before later = (k : Kind) (u v : ℕ) → has_arrow (arrows_of k later) u v ≡ (has_arrow (arrows_of k before) u v && not (test u) && not (test v))
@@ -49,5 +53,6 @@ pub record AreEnded (test : ℕ → Bool) (how : End) (before later : Parts) : T
   pub objects : cells (objects_in later.objects) ≡ change_each (ended how test) (cells (objects_in before.objects))
   pub locks : locks_of later ≡ Locks.release_in test (locks_of before)
   pub permits : IsDropped test (permits_in before.permits) (permits_in later.permits)
+  pub openers : IsClosed test (permits_in before.permits) (permits_in later.permits)
   pub deps : AreLeft test (dependencies_in before.deps) (dependencies_in later.deps)
   pub seats : (c : ℕ) → seat later.seats c ≡ unless_gone test (seat before.seats c)

@@ -7,7 +7,7 @@ use Rattle.asset_names.specs.declared.steps.Step.{Step}
 use Rattle.asset_names.specs.Arrows.{lists}
 use Rattle.asset_names.specs.Endings.{is_live_status}
 use Rattle.asset_names.specs.Answers.{is_completed}
-use Rattle.asset_permits.specs.Descriptors.{Descriptor, one_covers, allows_by}
+use Rattle.asset_permits.specs.Descriptors.{Descriptor, one_covers, opens, allows_by}
 use Rattle.asset_objects.specs.Cells.{ObjectTable, cells}
 use Rattle.asset_seats.specs.Seated.{Seated, seat}
 use Rattle.asset_deps.specs.Dependencies.{Dependency, class_in, outside_source_in}
@@ -54,12 +54,13 @@ pub record SameView (later before : Standing) : Type 0 where
   pub permits : later.permits ≡ before.permits
   pub deps : later.deps ≡ before.deps
 
--- the tables show the same as before: the permits cover the same, in whatever order they stand
+-- the tables show the same as before: the permits cover and open the same, in whatever order they stand
 pub record ShowAlike (later before : Standing) : Type 0 where
   pub rows : later.trans ≡ before.trans
   pub objects : cells later.objects ≡ cells before.objects
   pub locks : later.locks ≡ before.locks
   pub permits : (u t x : ℕ) (op : Op) → one_covers later.permits u t x op ≡ one_covers before.permits u t x op
+  pub openers : (u x : ℕ) (op : Op) → opens later.permits u x op ≡ opens before.permits u x op
   pub deps : later.deps ≡ before.deps
 
 -- exactly those who are live by their status are enrolled for locks

@@ -14,27 +14,30 @@ use asset_permits::SeatedPermits;
 use asset_seats::{Seats, Sitter};
 use asset_trans::Trans;
 
-/// The permits to somebody who has no seat: there are none, and each allows itself alone.
+/// The permits, as one without a seat asks them: each allows itself, and whoever leads to an opener allows everybody.
 #[derive(Drop)]
-pub(crate) struct NoPermits;
+pub(crate) struct ToAnybody<'a> {
+    pub(crate) permits: &'a mut SeatedPermits,
+}
 
-impl Allows for NoPermits {
-    ghost use Rattle.std.specs.Prelude.{⊤, ◌==◌};
+impl<'a> Allows for ToAnybody<'a> {
+    ghost use Rattle.std.specs.Prelude.{◌==◌, ◌||◌};
+    ghost use Rattle.asset_permits.specs.Descriptors.{reaches_opener};
 
-    ghost can_ask = { λ _ _ _. ⊤ };
+    ghost can_ask = { λ asked seats _. ArePermitsTied asked.permits.now seats };
 
-    ghost allows = { λ _ u t _ _. u == t };
+    ghost allows = { λ asked u t x op. u == t || reaches_opener (permits_in asked.permits.now) u x op };
 
     fn allows(
         &mut self,
-        _seats: &Seats,
+        seats: &Seats,
         holder: Sitter,
         asker: Sitter,
-        _x: Ob,
-        _op: Op,
+        x: Ob,
+        op: Op,
         _again: bool,
     ) -> bool {
-        holder.t == asker.t
+        holder.t == asker.t || self.permits.reaches_opener(seats, holder, x, op)
     }
 }
 
@@ -58,7 +61,7 @@ pub(crate) fn is_free(
         Some(one) => locks.is_free(seats, one, x, op, permits),
         None => {
             let one = Sitter { t, at: 0 };
-            locks.is_free(seats, one, x, op, &mut NoPermits)
+            locks.is_free(seats, one, x, op, &mut ToAnybody { permits })
         }
     }
 }

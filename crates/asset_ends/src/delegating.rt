@@ -8,7 +8,7 @@ ghost use Rattle.asset_names.specs.InSet.{in_set};
 ghost use Rattle.asset_names.specs.Sets.{numbers};
 ghost use Rattle.asset_locks.specs.LockTable.{held_in};
 ghost use Rattle.asset_locks.specs.Tied.{rows_in, IsTied};
-ghost use Rattle.asset_permits.specs.Descriptors.{one_covers};
+ghost use Rattle.asset_permits.specs.Descriptors.{one_covers, opens};
 ghost use Rattle.asset_permits.specs.Valid.{permits_in, IsTied as ArePermitsTied};
 ghost use Rattle.asset_seats.specs.Seated.{HasSeat};
 
@@ -36,7 +36,9 @@ fn copy_permits(
     requires taker { HasSeat seats.now taker }
     ensures tied { ArePermitsTied permits.new seats.now }
     ensures covers { OnOk result ((u t x : ℕ) (op : Op) → one_covers (permits_in permits.new) u t x op ≡ (one_covers (permits_in permits.old) u t x op || (u == taker.t.0 && lists (numbers (filter (λ (x : Object). in_set obs.now x.0) (held_in (rows_in seats.now locks.now) giver.t.0))) x && one_covers (permits_in permits.old) giver.t.0 t x op))) }
+    ensures opens { OnOk result ((u x : ℕ) (op : Op) → opens (permits_in permits.new) u x op ≡ (opens (permits_in permits.old) u x op || (u == taker.t.0 && lists (numbers (filter (λ (x : Object). in_set obs.now x.0) (held_in (rows_in seats.now locks.now) giver.t.0))) x && opens (permits_in permits.old) giver.t.0 x op))) }
     ensures covered { OnErr result ((u t x : ℕ) (op : Op) → one_covers (permits_in permits.new) u t x op ≡ one_covers (permits_in permits.old) u t x op) }
+    ensures opened { OnErr result ((u x : ℕ) (op : Op) → opens (permits_in permits.new) u x op ≡ opens (permits_in permits.old) u x op) }
 {
     if !permits.gives(seats, giver) {
         return Ok(());

@@ -14,7 +14,7 @@ ghost use Rattle.asset_ends.specs.Ended.{marked_by};
 ghost use Rattle.asset_ends.specs.Standing.{LiveAreSeated, AreEnrolled};
 ghost use Rattle.asset_ends.specs.Waits.{is_sought};
 
-use crate::asking::NoPermits;
+use crate::asking::ToAnybody;
 use crate::parts::Parts;
 use crate::seating::sitter_of;
 use crate::tables::Tables;
@@ -95,9 +95,12 @@ fn blockers(alloc: Global, parts: &mut Parts, t: Txn, x: Ob, op: Op) -> Result<N
             .blockers(alloc, &parts.seats, one, x, op, &mut parts.permits),
         None => {
             let one = Sitter { t, at: 0 };
+            let mut asked = ToAnybody {
+                permits: &mut parts.permits,
+            };
             parts
                 .locks
-                .blockers(alloc, &parts.seats, one, x, op, &mut NoPermits)
+                .blockers(alloc, &parts.seats, one, x, op, &mut asked)
         }
     }
 }

@@ -1,5 +1,5 @@
 -- Copies of permits, and a permit that goes.
-use Rattle.std.proofs.Common.{◌≡◌, ℕ, Bool, true, false, eqb, not, ◌&&◌, ◌||◌, List, [], ◌∷◌, ◌++◌, map, filter, Some, None, refl, sym, ap, subst, ◌∙◌, ◌+◌, ◌<◌, take, length, get_or, zero, suc, inl, inr, Ok, Err, OnOk, OnErr, arith}
+use Rattle.std.proofs.Common.{◌≡◌, ℕ, Bool, true, false, cond, eqb, not, ◌&&◌, ◌||◌, List, [], ◌∷◌, ◌++◌, map, filter, Some, None, refl, sym, ap, subst, ◌∙◌, ◌+◌, ◌<◌, take, length, get_or, zero, suc, inl, inr, Ok, Err, OnOk, OnErr, arith}
 use Rattle.std.specs.Prelude.{flat_map, Result}
 use Rattle.std.specs.List.{list_any}
 use Rattle.std.proofs.lemmas.Bool.{or_cases, or_left, or_right, and_parts, and_from, false≢true, false_from_ne_true, eqb-true}
@@ -13,10 +13,10 @@ use Rattle.asset_names.specs.Arrows.{lists}
 use Rattle.asset_names.specs.Sets.{numbers}
 use Rattle.asset_names.specs.InSet.{in_set}
 use Rattle.asset_names.specs.OpSets.{has_op}
-use Rattle.asset_names.proofs.Common.{on_ok, both_follow}
+use Rattle.asset_names.proofs.Common.{on_ok, both_follow, and_false}
 use Rattle.asset_names.proofs.ListLemmas.{any_alike, any_map, any_filter, all_and}
 use Rattle.asset_permits.specs.declared.copying.Cut.{Cut}
-use Rattle.asset_permits.specs.Descriptors.{Descriptor, same_descriptor, stands, lets, covers, one_covers}
+use Rattle.asset_permits.specs.Descriptors.{Descriptor, same_descriptor, stands, includes, lets, covers, one_covers, opens_on, lets_all, opens}
 use Rattle.asset_permits.specs.Valid.{descriptors_of}
 use Rattle.asset_permits.specs.Copies.{cut_of, copy_of, gives_on, cuts_on, cuts_in, given_by, copies, AddsCuts, TakersSit}
 use Rattle.asset_seats.specs.Seated.{Seated}
@@ -161,8 +161,8 @@ no_cuts test giver descriptors (x ∷ moved) none =
 -- one permit's copy on y
 copy_lets : (giver receiver : ℕ) (y : Ob) (u t x : ℕ) (op : Op) (d : Descriptor)
     → (gives_on giver y d && lets u t x op (copy_of receiver (cut_of y d))) ≡ ((eqb receiver u && eqb y.0 x) && lets giver t x op d)
-unfolding gives_on lets covers copy_of cut_of in_set numbers lists
-copy_lets giver receiver y u t x op d = go (eqb y.0 x) refl where
+unfolding gives_on lets covers includes copy_of cut_of in_set numbers lists
+copy_lets giver receiver y u t x op d = go (eqb y.0 x) d.is_open refl where
   table : (a b c e f : Bool) → ((a && b) && ((c && e) && ((true || false) && f))) ≡ ((c && true) && ((a && e) && (b && f)))
   table true true true true f = refl
   table true true true false f = refl
@@ -182,46 +182,90 @@ copy_lets giver receiver y u t x op d = go (eqb y.0 x) refl where
   none false b true e f rest = refl
   none false b false e f rest = refl
 
-  go : (here : Bool) → eqb y.0 x ≡ here
-      → ((eqb d.giver giver && in_set d.objects y.0) && ((eqb receiver u && eqb d.taker t) && ((here || false) && has_op d.ops op)))
-      ≡ ((eqb receiver u && here) && ((eqb d.giver giver && eqb d.taker t) && (in_set d.objects x && has_op d.ops op)))
-  go true is = table (eqb d.giver giver) (in_set d.objects y.0) (eqb receiver u) (eqb d.taker t) (has_op d.ops op)
-      ∙ ap (λ n. (eqb receiver u && true) && ((eqb d.giver giver && eqb d.taker t) && (in_set d.objects n && has_op d.ops op))) (eqb-true y.0 x is)
-  go false is = none (eqb d.giver giver) (in_set d.objects y.0) (eqb receiver u) (eqb d.taker t) (has_op d.ops op) _
+  never : (a b : Bool) → (a && (b && false)) ≡ false
+  never a b = ap (λ c. a && c) (and_false b) ∙ and_false a
 
--- the copies on y
-copies_on_cover : (giver receiver : ℕ) (descriptors : List Descriptor) (y : Ob) (u t x : ℕ) (op : Op)
-    → list_any (λ (cut : Cut). lets u t x op (copy_of receiver cut)) (cuts_on giver descriptors y) ≡ ((eqb receiver u && eqb y.0 x) && one_covers descriptors giver t x op)
-unfolding one_covers
-copies_on_cover giver receiver descriptors y u t x op =
-    any_cut (λ (cut : Cut). lets u t x op (copy_of receiver cut)) giver descriptors y
-    ∙ any_alike _ (λ (d : Descriptor). (eqb receiver u && eqb y.0 x) && lets giver t x op d) descriptors (copy_lets giver receiver y u t x op)
-    ∙ all_and (eqb receiver u && eqb y.0 x) (lets giver t x op) descriptors
+  go : (here is_open : Bool) → eqb y.0 x ≡ here
+      → ((eqb d.giver giver && in_set d.objects y.0) && ((eqb receiver u && eqb (cond is_open receiver d.taker) t) && (not is_open && ((here || false) && has_op d.ops op))))
+      ≡ ((eqb receiver u && here) && ((eqb d.giver giver && eqb d.taker t) && (not is_open && (in_set d.objects x && has_op d.ops op))))
+  go true false is = table (eqb d.giver giver) (in_set d.objects y.0) (eqb receiver u) (eqb d.taker t) (has_op d.ops op)
+      ∙ ap (λ n. (eqb receiver u && true) && ((eqb d.giver giver && eqb d.taker t) && (in_set d.objects n && has_op d.ops op))) (eqb-true y.0 x is)
+  go false false is = none (eqb d.giver giver) (in_set d.objects y.0) (eqb receiver u) (eqb d.taker t) (has_op d.ops op) _
+  go here true is = never (eqb d.giver giver && in_set d.objects y.0) (eqb receiver u && eqb receiver t) ∙ sym (never (eqb receiver u && here) (eqb d.giver giver && eqb d.taker t))
+
+copy_opens : (giver receiver : ℕ) (y : Ob) (u x : ℕ) (op : Op) (d : Descriptor)
+    → (gives_on giver y d && lets_all u x op (copy_of receiver (cut_of y d))) ≡ ((eqb receiver u && eqb y.0 x) && lets_all giver x op d)
+unfolding gives_on lets_all opens_on includes copy_of cut_of in_set numbers lists
+copy_opens giver receiver y u x op d = go (eqb y.0 x) refl where
+  table : (a b c e f : Bool) → ((a && b) && (c && (e && ((true || false) && f)))) ≡ ((c && true) && (a && (e && (b && f))))
+  table true true true true f = refl
+  table true true true false f = refl
+  table true true false e f = refl
+  table true false true true f = refl
+  table true false true false f = refl
+  table true false false e f = refl
+  table false b true e f = refl
+  table false b false e f = refl
+
+  none : (a b c e f rest : Bool) → ((a && b) && (c && (e && ((false || false) && f)))) ≡ ((c && false) && rest)
+  none true true true true f rest = refl
+  none true true true false f rest = refl
+  none true true false e f rest = refl
+  none true false true e f rest = refl
+  none true false false e f rest = refl
+  none false b true e f rest = refl
+  none false b false e f rest = refl
+
+  go : (here : Bool) → eqb y.0 x ≡ here
+      → ((eqb d.giver giver && in_set d.objects y.0) && (eqb receiver u && (d.is_open && ((here || false) && has_op d.ops op))))
+      ≡ ((eqb receiver u && here) && (eqb d.giver giver && (d.is_open && (in_set d.objects x && has_op d.ops op))))
+  go true is = table (eqb d.giver giver) (in_set d.objects y.0) (eqb receiver u) d.is_open (has_op d.ops op)
+      ∙ ap (λ n. (eqb receiver u && true) && (eqb d.giver giver && (d.is_open && (in_set d.objects n && has_op d.ops op)))) (eqb-true y.0 x is)
+  go false is = none (eqb d.giver giver) (in_set d.objects y.0) (eqb receiver u) d.is_open (has_op d.ops op) _
+
+-- whether a copy passes one test, as a permit of the giver passes another
+module _ (copied given : Descriptor → Bool) (own : Bool) (giver receiver : ℕ) (descriptors : List Descriptor) (x : ℕ)
+    (each : (y : Ob) (d : Descriptor) → (gives_on giver y d && copied (copy_of receiver (cut_of y d))) ≡ ((own && eqb y.0 x) && given d)) where
+  -- the copies on y
+  copies_on_pass : (y : Ob) → list_any (λ (cut : Cut). copied (copy_of receiver cut)) (cuts_on giver descriptors y) ≡ ((own && eqb y.0 x) && list_any given descriptors)
+  copies_on_pass y =
+      any_cut (λ (cut : Cut). copied (copy_of receiver cut)) giver descriptors y
+      ∙ any_alike _ (λ (d : Descriptor). (own && eqb y.0 x) && given d) descriptors (each y)
+      ∙ all_and (own && eqb y.0 x) given descriptors
+
+  copies_pass : (moved : List Ob) → list_any copied (copies giver receiver descriptors moved) ≡ (own && lists (numbers moved) x && list_any given descriptors)
+  unfolding copies given_by cuts_in numbers lists
+  copies_pass moved = any_map copied (copy_of receiver) (flat_map (cuts_on giver descriptors) moved) ∙ go moved where
+    passed : Bool
+    passed = list_any given descriptors
+
+    join : (a h l o : Bool) → (((a && h) && o) || ((a && l) && o)) ≡ ((a && (h || l)) && o)
+    join true true l true = refl
+    join true true true false = refl
+    join true true false false = refl
+    join true false l o = refl
+    join false h l o = refl
+
+    nothing : (a o : Bool) → false ≡ ((a && false) && o)
+    nothing true o = refl
+    nothing false o = refl
+
+    go : (objects : List Ob) → list_any (λ (cut : Cut). copied (copy_of receiver cut)) (flat_map (cuts_on giver descriptors) objects) ≡ ((own && lists (numbers objects) x) && passed)
+    go [] = nothing own passed
+    go (y ∷ objects) =
+        list_any-append _ (cuts_on giver descriptors y) (flat_map (cuts_on giver descriptors) objects)
+        ∙ (λ i. copies_on_pass y i || go objects i)
+        ∙ join own (eqb y.0 x) (lists (numbers objects) x) passed
 
 pub copies_cover : (giver receiver : ℕ) (descriptors : List Descriptor) (moved : List Ob) (u t x : ℕ) (op : Op)
     → one_covers (copies giver receiver descriptors moved) u t x op ≡ (eqb receiver u && lists (numbers moved) x && one_covers descriptors giver t x op)
-unfolding one_covers copies given_by cuts_in numbers lists
-copies_cover giver receiver descriptors moved u t x op = any_map (lets u t x op) (copy_of receiver) (flat_map (cuts_on giver descriptors) moved) ∙ go moved where
-  covered : Bool
-  covered = one_covers descriptors giver t x op
+unfolding one_covers
+copies_cover giver receiver descriptors moved u t x op = copies_pass (lets u t x op) (lets giver t x op) (eqb receiver u) giver receiver descriptors x (λ y d. copy_lets giver receiver y u t x op d) moved
 
-  join : (a h l o : Bool) → (((a && h) && o) || ((a && l) && o)) ≡ ((a && (h || l)) && o)
-  join true true l true = refl
-  join true true true false = refl
-  join true true false false = refl
-  join true false l o = refl
-  join false h l o = refl
-
-  nothing : (a o : Bool) → false ≡ ((a && false) && o)
-  nothing true o = refl
-  nothing false o = refl
-
-  go : (objects : List Ob) → list_any (λ (cut : Cut). lets u t x op (copy_of receiver cut)) (flat_map (cuts_on giver descriptors) objects) ≡ ((eqb receiver u && lists (numbers objects) x) && covered)
-  go [] = nothing (eqb receiver u) covered
-  go (y ∷ objects) =
-      list_any-append _ (cuts_on giver descriptors y) (flat_map (cuts_on giver descriptors) objects)
-      ∙ (λ i. copies_on_cover giver receiver descriptors y u t x op i || go objects i)
-      ∙ join (eqb receiver u) (eqb y.0 x) (lists (numbers objects) x) covered
+pub copies_open : (giver receiver : ℕ) (descriptors : List Descriptor) (moved : List Ob) (u x : ℕ) (op : Op)
+    → opens (copies giver receiver descriptors moved) u x op ≡ (eqb receiver u && lists (numbers moved) x && opens descriptors giver x op)
+unfolding opens
+copies_open giver receiver descriptors moved u x op = copies_pass (lets_all u x op) (lets_all giver x op) (eqb receiver u) giver receiver descriptors x (λ y d. copy_opens giver receiver y u x op d) moved
 
 -- ---- what covers, by what stands
 standing_covers : (some others : List Descriptor) → ((e : Descriptor) → stands some e ≡ true → stands others e ≡ true) → (test : Descriptor → Bool) → list_any test some ≡ true → list_any test others ≡ true
@@ -241,15 +285,14 @@ standing_covers some others within test h = go some (λ d there. within d there)
     | inr later ↦ go list (λ d there. inside d (or_right _ _ there)) later
   ]
 
-pub same_standing : (some others : List Descriptor) → ((e : Descriptor) → stands some e ≡ stands others e) → (u t x : ℕ) (op : Op) → one_covers some u t x op ≡ one_covers others u t x op
-unfolding one_covers
-same_standing some others same u t x op =
-    both_follow _ _ (standing_covers some others (λ e there. sym (same e) ∙ there) (lets u t x op)) (standing_covers others some (λ e there. same e ∙ there) (lets u t x op))
+pub same_passing : (test : Descriptor → Bool) (some others : List Descriptor) → ((e : Descriptor) → stands some e ≡ stands others e) → list_any test some ≡ list_any test others
+same_passing test some others same =
+    both_follow _ _ (standing_covers some others (λ e there. sym (same e) ∙ there) test) (standing_covers others some (λ e there. same e ∙ there) test)
 
-pub both_standing : (new some others : List Descriptor) → ((e : Descriptor) → stands new e ≡ (stands some e || stands others e)) → (u t x : ℕ) (op : Op) → one_covers new u t x op ≡ (one_covers some u t x op || one_covers others u t x op)
-unfolding stands one_covers
-both_standing new some others both u t x op =
-    same_standing new (some ++ others) (λ e. both e ∙ sym (list_any-append (λ (k : Descriptor). same_descriptor k e) some others)) u t x op ∙ list_any-append (lets u t x op) some others
+pub both_passing : (test : Descriptor → Bool) (new some others : List Descriptor) → ((e : Descriptor) → stands new e ≡ (stands some e || stands others e)) → list_any test new ≡ (list_any test some || list_any test others)
+unfolding stands
+both_passing test new some others both =
+    same_passing test new (some ++ others) (λ e. both e ∙ sym (list_any-append (λ (k : Descriptor). same_descriptor k e) some others)) ∙ list_any-append test some others
 
 -- what stands after a call that adds copies, as it is said of what is copied
 pub stands_by_cuts : {T E : Type 0} (r : Result T E) (receiver : ℕ) (cuts others : List Cut) (old new : List Descriptor) → ((test : Cut → Bool) → list_any test cuts ≡ list_any test others)

@@ -9,10 +9,10 @@ use Rattle.asset_names.proofs.Common.{both_follow, some_of}
 use Rattle.asset_chains.specs.Chained.{chain_of, first_of, IsSound}
 use Rattle.asset_chains.proofs.KeyLemmas.{first_listed, first_is_some}
 use Rattle.asset_seats.specs.Seated.{seat}
-use Rattle.asset_permits.specs.Descriptors.{Descriptor, gives, lets, one_covers}
+use Rattle.asset_permits.specs.Descriptors.{Descriptor, gives, lets, lets_all, one_covers, opens}
 use Rattle.asset_permits.specs.Valid.{Parts, descriptors_of, IsValid}
 use Rattle.asset_permits.proofs.SeatLemmas.{home_along}
-use Rattle.asset_permits.proofs.SlotLemmas.{any_has, key_of_any, lets_owned}
+use Rattle.asset_permits.proofs.SlotLemmas.{any_has, key_of_any, lets_owned, lets_all_owned}
 
 -- who has no seat gives nothing
 pub gives_by_nobody : (p : Parts) (size : ℕ) → IsValid p size → (giver : Txn) → ((c : ℕ) → seat p.seats c ≡ Some giver → ⊥) → gives giver.0 (descriptors_of p.permits) ≡ false
@@ -54,4 +54,13 @@ gives_nothing [] giver t x op none = none
 gives_nothing (d ∷ descriptors) giver t x op none = false_from_ne_true _ (λ covered. elim (or_cases (lets giver t x op d) (list_any (lets giver t x op) descriptors) covered) [
   | inl first ↦ true≢false (sym (or_left _ _ (eq-eqb d.giver giver (lets_owned giver t x op d first))) ∙ none)
   | inr more ↦ true≢false (sym more ∙ gives_nothing descriptors giver t x op (false_from_ne_true _ (λ given. true≢false (sym (or_right _ _ given) ∙ none))))
+])
+
+-- and opens nothing
+pub opens_nothing : (descriptors : List Descriptor) (giver x : ℕ) (op : Op) → gives giver descriptors ≡ false → opens descriptors giver x op ≡ false
+unfolding gives opens
+opens_nothing [] giver x op none = none
+opens_nothing (d ∷ descriptors) giver x op none = false_from_ne_true _ (λ opened. elim (or_cases (lets_all giver x op d) (list_any (lets_all giver x op) descriptors) opened) [
+  | inl first ↦ true≢false (sym (or_left _ _ (eq-eqb d.giver giver (lets_all_owned giver x op d first))) ∙ none)
+  | inr more ↦ true≢false (sym more ∙ opens_nothing descriptors giver x op (false_from_ne_true _ (λ given. true≢false (sym (or_right _ _ given) ∙ none))))
 ])

@@ -8,3 +8,4 @@ pub mod CopyLemmas
 pub mod TableLemmas
 pub mod GivingLemmas
 pub mod NameLemmas
+pub mod OpenLemmas

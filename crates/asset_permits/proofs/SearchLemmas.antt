@@ -1,21 +1,21 @@
 -- A search along seats: the arrows between seats, and those between the transactions that have them.
-use Rattle.std.proofs.Common.{◌≡◌, ℕ, suc, ◌+◌, Bool, true, false, cond, eqb, not, ◌&&◌, ◌||◌, List, [], ◌∷◌, ◌++◌, map, filter, filter_map, get_or, Option, Some, None, is_some, refl, sym, ap, subst, ◌∙◌, arith}
+use Rattle.std.proofs.Common.{◌≡◌, ℕ, suc, ◌+◌, Bool, true, false, cond, eqb, not, ◌&&◌, ◌||◌, List, [], ◌∷◌, ◌++◌, map, filter, filter_map, get_or, Option, Some, None, is_some, refl, sym, ap, subst, ◌∙◌, arith, inl, inr}
 use Rattle.std.specs.Prelude.{unwrap_or, option_map}
-use Rattle.std.proofs.lemmas.Bool.{eqb-true, eq-eqb, ne_eqb, eqb-false, true≢false, false_from_ne_true}
+use Rattle.std.proofs.lemmas.Bool.{eqb-true, eq-eqb, ne_eqb, eqb-false, true≢false, false_from_ne_true, or_cases, and_from, and_parts}
 use Rattle.slab.specs.Slab.{get}
 use Rattle.asset_names.specs.declared.names.Txn.{Txn}
 use Rattle.asset_names.specs.declared.operations.Op.{Op}
-use Rattle.asset_names.specs.Arrows.{Arrow, linked, has_arrow}
-use Rattle.asset_names.proofs.Common.{some_of}
+use Rattle.asset_names.specs.Arrows.{Arrow, lists, linked, has_arrow}
+use Rattle.asset_names.proofs.Common.{some_of, both_follow}
 use Rattle.asset_chains.specs.Chained.{home_of}
 use Rattle.asset_seats.specs.Seated.{Seated, seat}
-use Rattle.asset_permits.specs.Descriptors.{Descriptor, covers, lets, one_covers, arrows_for, allows_by}
+use Rattle.asset_permits.specs.Descriptors.{Descriptor, covers, lets, one_covers, opens_on, lets_all, opens, arrows_for, leads_by, reaches_opener, allows_by}
 use Rattle.asset_permits.specs.Valid.{Parts, descriptors_of, IsValid}
 use Rattle.asset_marks.specs.Searched.{arrow_between, arrows_from, arrows_along}
 use Rattle.asset_marks.proofs.ArrowLemmas.{closed_linked}
-use Rattle.asset_permits.proofs.ArrowLaws.{arrows_stand}
+use Rattle.asset_permits.proofs.ArrowLaws.{arrows_stand, opener_of, reaches_by_opener}
 use Rattle.asset_permits.proofs.SeatLemmas.{home_along, home_at_end}
-use Rattle.asset_permits.proofs.SlotLemmas.{key_of_any, lets_owned, lets_to}
+use Rattle.asset_permits.proofs.SlotLemmas.{any_has, key_of_any, lets_owned, lets_to, lets_all_owned}
 
 -- ---- from seats to transactions
 -- who has a seat; 0 stands for nobody
@@ -115,11 +115,11 @@ module _ (p : Parts) (size : ℕ) (valid : IsValid p size) (x : ℕ) (op : Op) w
   slots_named (None ∷ slots) k have = slots_named slots (k + 1) (λ i d there. subst (λ n. HasEnds p n d) (omega arith) (have (suc i) d there))
   slots_named (Some e ∷ slots) k have = slot_named e slots k (have_first k e (have 0 e refl)) (slots_named slots (k + 1) (λ i d there. subst (λ n. HasEnds p n d) (omega arith) (have (suc i) d there)))
 
-  -- a search along seats says who allows whom
-  pub linked_allows : ((t : Txn) (c d : ℕ) → seat p.seats c ≡ Some t → seat p.seats d ≡ Some t → d ≡ c) → (giver taker : Txn) (from to : ℕ) → seat p.seats from ≡ Some giver → seat p.seats to ≡ Some taker
-      → linked (arrows_along (covers x op) p.permits p.along p.across) from to ≡ allows_by (descriptors_of p.permits) giver.0 taker.0 x op
-  unfolding arrows_along allows_by arrows_for descriptors_of
-  linked_allows single giver taker from to sat other =
+  -- a search along seats says where chains lead
+  pub linked_leads : ((t : Txn) (c d : ℕ) → seat p.seats c ≡ Some t → seat p.seats d ≡ Some t → d ≡ c) → (giver taker : Txn) (from to : ℕ) → seat p.seats from ≡ Some giver → seat p.seats to ≡ Some taker
+      → linked (arrows_along (covers x op) p.permits p.along p.across) from to ≡ leads_by (descriptors_of p.permits) giver.0 taker.0 x op
+  unfolding arrows_along leads_by arrows_for descriptors_of
+  linked_leads single giver taker from to sat other =
       let both = slots_named p.permits.slots 0 (λ i d there. subst (λ n. HasEnds p n d) (omega arith) (has_across p size valid i d there)) in
       sym (linked_named p.seats single (arrows_from (covers x op) p.along p.across 0 p.permits.slots) both.1 from to (ap is_some sat) (ap is_some other))
       ∙ (λ m. linked (sym both.0 m) (name_is p.seats from giver sat m) (name_is p.seats to taker other m))
@@ -134,21 +134,77 @@ module _ (p : Parts) (size : ℕ) (valid : IsValid p size) (x : ℕ) (op : Op) w
         (across.to, across.taker ∙ (λ m. Some (record { 0 = lets_to u t x op found.1 found.3 m }))),
       )
 
+  -- who has no seat leads to itself alone
+  leads_nowhere : (giver : Txn) → ((c : ℕ) → seat p.seats c ≡ Some giver → ⊥) → (a : ℕ) → leads_by (descriptors_of p.permits) giver.0 a x op ≡ true → a ≡ giver.0
+  unfolding leads_by
+  leads_nowhere giver absent a way = eqb-true a giver.0 (closed_linked (λ n. eqb n giver.0) (arrows_for (descriptors_of p.permits) x op) closed giver.0 a way (eq-eqb giver.0 giver.0 refl)) where
+    closed : (u t : ℕ) → has_arrow (arrows_for (descriptors_of p.permits) x op) u t ≡ true → eqb u giver.0 ≡ true → eqb t giver.0 ≡ true
+    closed u t arrow is = let sat = (ends_of_arrow u t arrow).0 in absurd (absent sat.0 (sat.1 ∙ (λ m. Some (record { 0 = eqb-true u giver.0 is m }))))
+
+  -- an opener has a seat
+  pub opener_sits : (a : ℕ) → opens (descriptors_of p.permits) a x op ≡ true → (c : ℕ) × (seat p.seats c ≡ Some (record { 0 = a }))
+  unfolding opens
+  opener_sits a h =
+      let found = key_of_any (lets_all a x op) p.permits h in
+      let across = has_across p size valid found.0 found.1 found.2 in
+      (across.from, across.giver ∙ (λ m. Some (record { 0 = lets_all_owned a x op found.1 found.3 m })))
+
   -- one who gives nothing allows no other
   pub gives_nothing : (giver taker : Txn) → ((c : ℕ) → seat p.seats c ≡ Some giver → ⊥) → eqb giver.0 taker.0 ≡ false → allows_by (descriptors_of p.permits) giver.0 taker.0 x op ≡ false
   unfolding allows_by
   gives_nothing giver taker absent another =
-      false_from_ne_true _ (λ way.
-      let reached = closed_linked (λ n. eqb n giver.0) (arrows_for (descriptors_of p.permits) x op) closed giver.0 taker.0 way (eq-eqb giver.0 giver.0 refl) in
-      true≢false (sym (eq-eqb giver.0 taker.0 (sym (eqb-true taker.0 giver.0 reached))) ∙ another)) where
-        closed : (u t : ℕ) → has_arrow (arrows_for (descriptors_of p.permits) x op) u t ≡ true → eqb u giver.0 ≡ true → eqb t giver.0 ≡ true
-        closed u t arrow is = let sat = (ends_of_arrow u t arrow).0 in absurd (absent sat.0 (sat.1 ∙ (λ m. Some (record { 0 = eqb-true u giver.0 is m }))))
+      false_from_ne_true _ (λ allowed. elim (or_cases (leads_by (descriptors_of p.permits) giver.0 taker.0 x op) _ allowed) [
+        | inl way ↦ true≢false (sym (eq-eqb giver.0 taker.0 (sym (leads_nowhere giver absent taker.0 way))) ∙ another)
+        | inr reaches ↦
+            let found = opener_of (descriptors_of p.permits) giver.0 x op reaches in
+            let sat = opener_sits found.0 found.1 in
+            absent sat.0 (sat.1 ∙ (λ m. Some (record { 0 = leads_nowhere giver absent found.0 found.2 m })))
+      ])
 
-  -- one who takes nothing is allowed by no other
-  pub takes_nothing : (giver taker : Txn) → ((c : ℕ) → seat p.seats c ≡ Some taker → ⊥) → eqb giver.0 taker.0 ≡ false → allows_by (descriptors_of p.permits) giver.0 taker.0 x op ≡ false
-  unfolding allows_by
-  takes_nothing giver taker absent another =
+  -- to one who takes nothing no other leads
+  nothing_leads : (giver taker : Txn) → ((c : ℕ) → seat p.seats c ≡ Some taker → ⊥) → eqb giver.0 taker.0 ≡ false → leads_by (descriptors_of p.permits) giver.0 taker.0 x op ≡ false
+  unfolding leads_by
+  nothing_leads giver taker absent another =
       false_from_ne_true _ (λ way. true≢false (sym (closed_linked (λ n. not (eqb n taker.0)) (arrows_for (descriptors_of p.permits) x op) closed giver.0 taker.0 way (ap not another)) ∙ ap not (eq-eqb taker.0 taker.0 refl))) where
         closed : (u t : ℕ) → has_arrow (arrows_for (descriptors_of p.permits) x op) u t ≡ true → not (eqb u taker.0) ≡ true → not (eqb t taker.0) ≡ true
         closed u t arrow other =
             ap not (false_from_ne_true (eqb t taker.0) (λ is. let sat = (ends_of_arrow u t arrow).1 in absent sat.0 (sat.1 ∙ (λ m. Some (record { 0 = eqb-true t taker.0 is m })))))
+
+  -- one who takes nothing is allowed by those who lead to an opener
+  pub takes_nothing : (giver taker : Txn) → ((c : ℕ) → seat p.seats c ≡ Some taker → ⊥) → eqb giver.0 taker.0 ≡ false → allows_by (descriptors_of p.permits) giver.0 taker.0 x op ≡ reaches_opener (descriptors_of p.permits) giver.0 x op
+  unfolding allows_by
+  takes_nothing giver taker absent another = ap (λ b. b || reaches_opener (descriptors_of p.permits) giver.0 x op) (nothing_leads giver taker absent another)
+
+  -- what a search from the giver has met says whether it leads to an opener
+  pub reaches_met : ((t : Txn) (c d : ℕ) → seat p.seats c ≡ Some t → seat p.seats d ≡ Some t → d ≡ c) → (giver : Txn) (from : ℕ) → seat p.seats from ≡ Some giver → (nodes : List ℕ)
+      → ((n : ℕ) → lists nodes n ≡ linked (arrows_along (covers x op) p.permits p.along p.across) from n) → (result : Bool)
+      → (result ≡ true → (c : ℕ) × (lists nodes c ≡ true) × ((k : ℕ) × (d : Descriptor) × (home_of p.along k ≡ Some c) × (get p.permits k ≡ Some d) × (opens_on x op d ≡ true)))
+      → (result ≡ false → (c k : ℕ) (d : Descriptor) → lists nodes c ≡ true → home_of p.along k ≡ Some c → get p.permits k ≡ Some d → opens_on x op d ≡ false) → result ≡ reaches_opener (descriptors_of p.permits) giver.0 x op
+  unfolding opens lets_all
+  reaches_met single giver from sat nodes met result found none = both_follow result _ to back where
+    leads_at : (c : ℕ) (u : Txn) → seat p.seats c ≡ Some u → lists nodes c ≡ leads_by (descriptors_of p.permits) giver.0 u.0 x op
+    leads_at c u sits = met c ∙ linked_leads single giver u from c sat sits
+
+    to : result ≡ true → reaches_opener (descriptors_of p.permits) giver.0 x op ≡ true
+    to h =
+        let at = found h in
+        let permit = at.2 in
+        let d = permit.1 in
+        let opener : opens (descriptors_of p.permits) d.giver x op ≡ true = any_has (lets_all d.giver x op) p.permits permit.0 d permit.3 (and_from _ _ (eq-eqb d.giver d.giver refl) permit.4) in
+        reaches_by_opener (descriptors_of p.permits) giver.0 d.giver x op opener (sym (leads_at at.0 (record { 0 = d.giver }) (valid.given permit.0 at.0 d permit.3 permit.2)) ∙ at.1)
+
+    closed : reaches_opener (descriptors_of p.permits) giver.0 x op ≡ true → result ≡ false → ⊥
+    closed h is =
+        let opener = opener_of (descriptors_of p.permits) giver.0 x op h in
+        let at = key_of_any (lets_all opener.0 x op) p.permits opener.1 in
+        let across = has_across p size valid at.0 at.1 at.2 in
+        let both = and_parts _ _ at.3 in
+        let named = eqb-true at.1.giver opener.0 both.0 in
+        let listed = leads_at across.from (record { 0 = at.1.giver }) across.giver ∙ ap (λ n. leads_by (descriptors_of p.permits) giver.0 n x op) named ∙ opener.2 in
+        true≢false (sym both.1 ∙ none is across.from at.0 at.1 listed across.home at.2)
+
+    back : reaches_opener (descriptors_of p.permits) giver.0 x op ≡ true → result ≡ true
+    back h = go result refl where
+      go : (b : Bool) → result ≡ b → result ≡ true
+      go true is = is
+      go false is = absurd (closed h is)

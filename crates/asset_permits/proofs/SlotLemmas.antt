@@ -4,7 +4,7 @@ use Rattle.std.specs.List.{list_any}
 use Rattle.std.proofs.lemmas.Bool.{or_cases, or_left, or_right, and_parts, eqb-true, false≢true, false_from_ne_true}
 use Rattle.slab.specs.Slab.{Slab, get, Updates}
 use Rattle.asset_names.specs.declared.operations.Op.{Op}
-use Rattle.asset_permits.specs.Descriptors.{Descriptor, same_descriptor, stands, lets, one_covers, AreDifferent}
+use Rattle.asset_permits.specs.Descriptors.{Descriptor, same_descriptor, stands, lets, one_covers, lets_all, opens, AreDifferent}
 use Rattle.asset_permits.specs.Valid.{descriptors_of}
 use Rattle.asset_permits.proofs.DescriptorLemmas.{same_is, same_self}
 use Rattle.asset_marks.proofs.SlotLemmas.{IsRid, any_has as item_passes, key_of_any as key_of_item, slot_of_any as slot_of_item, any_added as item_added, any_dropped as item_dropped}
@@ -79,6 +79,10 @@ pub lets_to : (u t x : ℕ) (op : Op) (d : Descriptor) → lets u t x op d ≡ t
 unfolding lets
 lets_to u t x op d h = eqb-true d.taker t (and_parts (eqb d.giver u) _ (and_parts _ _ h).0).1
 
+pub lets_all_owned : (u x : ℕ) (op : Op) (d : Descriptor) → lets_all u x op d ≡ true → d.giver ≡ u
+unfolding lets_all
+lets_all_owned u x op d h = eqb-true d.giver u (and_parts (eqb d.giver u) _ h).0
+
 -- ---- one that stands already
 or_has : (p q : Bool) → (q ≡ true → p ≡ true) → p ≡ (p || q)
 or_has true q h = refl
@@ -101,3 +105,7 @@ stands_again descriptors d e there = or_has _ (same_descriptor d e) (any_again (
 pub covers_again : (descriptors : List Descriptor) (d : Descriptor) (u t x : ℕ) (op : Op) → stands descriptors d ≡ true → one_covers descriptors u t x op ≡ (one_covers descriptors u t x op || lets u t x op d)
 unfolding one_covers
 covers_again descriptors d u t x op there = or_has _ (lets u t x op d) (any_again (lets u t x op) d descriptors there)
+
+pub opens_again : (descriptors : List Descriptor) (d : Descriptor) (u x : ℕ) (op : Op) → stands descriptors d ≡ true → opens descriptors u x op ≡ (opens descriptors u x op || lets_all u x op d)
+unfolding opens
+opens_again descriptors d u x op there = or_has _ (lets_all u x op d) (any_again (lets_all u x op) d descriptors there)

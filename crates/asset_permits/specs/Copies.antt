@@ -1,6 +1,6 @@
 -- Copies of permits: a transaction gets those of another, each cut to one object.
 use Rattle.std.specs.List.{list_any}
-use Rattle.std.specs.Prelude.{Some, ◌≡◌, ℕ, Bool, true, false, ◌==◌, ◌&&◌, ◌||◌, List, [], ◌∷◌, map, filter, flat_map}
+use Rattle.std.specs.Prelude.{Some, ◌≡◌, ℕ, Bool, true, false, cond, ◌==◌, ◌&&◌, ◌||◌, List, [], ◌∷◌, map, filter, flat_map}
 use Rattle.asset_names.specs.declared.names.Ob.{Ob}
 use Rattle.asset_names.specs.declared.names.Txn.{Txn}
 use Rattle.asset_names.specs.declared.sets.ObSet.TheVariants.{Listed}
@@ -11,11 +11,11 @@ use Rattle.asset_permits.specs.Descriptors.{Descriptor, stands}
 
 -- what is copied of a permit on x: for whom it is, and by which operations
 unfoldable pub cut_of : Ob → Descriptor → Cut
-cut_of x d = record { taker = record { 0 = d.taker }; x = x; ops = d.ops }
+cut_of x d = record { taker = record { 0 = d.taker }; x = x; ops = d.ops; is_open = d.is_open }
 
--- the permit that the receiver gives by a copy
+-- the permit that the receiver gives by a copy: an open one by the copy of an open one
 unfoldable pub copy_of : ℕ → Cut → Descriptor
-copy_of receiver cut = record { giver = receiver; taker = cut.taker.0; objects = Listed (cut.x ∷ []); ops = cut.ops }
+copy_of receiver cut = record { giver = receiver; taker = cond cut.is_open receiver cut.taker.0; objects = Listed (cut.x ∷ []); ops = cut.ops; is_open = cut.is_open }
 
 -- whether the permit is the giver's, and has the object
 unfoldable pub gives_on : ℕ → Ob → Descriptor → Bool

@@ -1,8 +1,8 @@
 //! A transaction gets copies of another's permits, each cut to one object.
 
-ghost use Rattle.std.specs.Prelude.{◌≡◌, ◌⊎◌, ℕ, Bool, true, Some, OnOk};
+ghost use Rattle.std.specs.Prelude.{◌≡◌, ◌⊎◌, ℕ, Bool, true, cond, Some, OnOk};
 ghost use Rattle.asset_seats.specs.Seated.{seat, HasSeat};
-ghost use Rattle.asset_permits.specs.Stored.{asked, HaveSeats};
+ghost use Rattle.asset_permits.specs.Stored.{asked, HaveSeats, IsOwn};
 ghost use Rattle.std.specs.List.{list_any};
 ghost use Rattle.slab.specs.Slab.{get};
 ghost use Rattle.asset_names.specs.InSet.{in_set};
@@ -18,12 +18,14 @@ use asset_chains::{Crossed, Side};
 use asset_names::{NoMemory, Ob, ObList, ObSet, Ops, Txn};
 use asset_seats::{Seats, Sitter};
 
-/// What is copied of a permit: for whom it is, on which one of its objects, and by which operations.
+/// What is copied of a permit: for whom it is, on which one of its objects, and by which operations. The copy of an open permit
+/// is open, whoever stands in the taker's place.
 #[derive(Clone, Copy)]
 pub(crate) struct Cut {
     pub taker: Txn,
     pub x: Ob,
     pub ops: Ops,
+    pub is_open: bool,
 }
 
 /// Appends what is copied on `x` of the permit at the key, if it has the object.
@@ -71,16 +73,31 @@ fn sought_by(seats: &Seats, receiver: Sitter, cut: &Cut) -> Sought
     requires taker { (c : ℕ) × (seat seats.now c ≡ Some cut.now.taker) }
     ensures asked { asked result ≡ copy_of receiver.t.0 cut.now }
     ensures sit { HaveSeats seats.now result }
+    ensures own { IsOwn (asked result) }
 {
+    Sought {
+        giver: receiver,
+        taker: taker_by(seats, receiver, cut),
+        objects: ObSet::Listed(ObList::one(cut.x)),
+        ops: cut.ops,
+        is_open: cut.is_open,
+    }
+}
+
+/// Returns who stands in the taker's place in the permit that the receiver gives by this copy, with its seat.
+fn taker_by(seats: &Seats, receiver: Sitter, cut: &Cut) -> Sitter
+    requires receiver { HasSeat seats.now receiver }
+    requires taker { (c : ℕ) × (seat seats.now c ≡ Some cut.now.taker) }
+    ensures taker { result.t.0 ≡ cond cut.now.is_open receiver.t.0 cut.now.taker.0 }
+    ensures sits { HasSeat seats.now result }
+{
+    if cut.is_open {
+        return receiver;
+    }
     let Some(at) = seats.seat_of(cut.taker) else {
         unreachable!();
     };
-    Sought {
-        giver: receiver,
-        taker: Sitter { t: cut.taker, at },
-        objects: ObSet::Listed(ObList::one(cut.x)),
-        ops: cut.ops,
-    }
+    Sitter { t: cut.taker, at }
 }
 
 impl SeatedPermits {
@@ -91,13 +108,13 @@ impl SeatedPermits {
     ghost use Rattle.asset_names.specs.Sets.{numbers};
     ghost use Rattle.asset_seats.specs.Seated.{seat, HasSeat};
     ghost use Rattle.asset_permits.specs.declared.copying.Cut.{Cut as Copied};
-    ghost use Rattle.asset_permits.specs.Descriptors.{Descriptor, same_descriptor, stands, one_covers};
-    ghost use Rattle.asset_permits.specs.Stored.{asked, HaveSeats};
+    ghost use Rattle.asset_permits.specs.Descriptors.{Descriptor, same_descriptor, stands, one_covers, opens};
+    ghost use Rattle.asset_permits.specs.Stored.{asked, HaveSeats, IsOwn};
     ghost use Rattle.asset_permits.specs.Valid.{permits_in, IsTied};
     ghost use Rattle.asset_permits.specs.Copies.{copies, copy_of, cuts_in, given_by, AddsCuts, TakersSit};
 
-    /// Gives the receiver a copy of each permit that the giver gives on one of the objects, cut to that object. A copy
-    /// that stands already is not added again, and the giver keeps its permits.
+    /// Gives the receiver a copy of each permit that the giver gives on one of the objects, cut to that object. The copy of an
+    /// open permit is open. A copy that stands already is not added again, and the giver keeps its permits.
     ///
     /// If memory runs out, no permit has changed. It looks at the giver's permits once for each of the objects.
     pub fn copy_for(
@@ -113,8 +130,10 @@ impl SeatedPermits {
         ensures tied { IsTied self.new seats.now }
         ensures stands { OnOk result ((e : Descriptor) → stands (permits_in self.new) e ≡ (stands (permits_in self.old) e || stands (copies giver.t.0 receiver.t.0 (permits_in self.old) moved.now) e)) }
         ensures covers { OnOk result ((u t x : ℕ) (op : Op) → one_covers (permits_in self.new) u t x op ≡ (one_covers (permits_in self.old) u t x op || (u == receiver.t.0 && lists (numbers moved.now) x && one_covers (permits_in self.old) giver.t.0 t x op))) }
+        ensures opens { OnOk result ((u x : ℕ) (op : Op) → opens (permits_in self.new) u x op ≡ (opens (permits_in self.old) u x op || (u == receiver.t.0 && lists (numbers moved.now) x && opens (permits_in self.old) giver.t.0 x op))) }
         ensures unchanged { OnErr result ((e : Descriptor) → stands (permits_in self.new) e ≡ stands (permits_in self.old) e) }
         ensures covered { OnErr result ((u t x : ℕ) (op : Op) → one_covers (permits_in self.new) u t x op ≡ one_covers (permits_in self.old) u t x op) }
+        ensures opened { OnErr result ((u x : ℕ) (op : Op) → opens (permits_in self.new) u x op ≡ opens (permits_in self.old) u x op) }
     {
         let cuts = self.cuts_of(seats, giver, moved)?;
         self.add_cuts(seats, receiver, &cuts)
@@ -191,6 +210,7 @@ impl SeatedPermits {
     ) -> Result<(), NoMemory>
         requires tied { IsTied self.old seats.now }
         requires sit { HaveSeats seats.now sought.now }
+        requires own { IsOwn (asked sought.now) }
         ensures tied { IsTied self.new seats.now }
         ensures stands { OnOk result ((e : Descriptor) → stands (permits_in self.new) e ≡ (stands (permits_in self.old) e || same_descriptor (asked sought.now) e)) }
         ensures again { OnOk result (stands (permits_in self.old) (asked sought.now) ≡ true → (permits_in self.new ≡ permits_in self.old) × (added.new.items ≡ added.old.items)) }

@@ -9,6 +9,7 @@ mod dropping;
 mod finding;
 mod giving;
 mod laws;
+mod opening;
 mod permit;
 mod permit_objects;
 mod permits;

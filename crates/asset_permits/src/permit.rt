@@ -8,13 +8,15 @@ use std::alloc::Global;
 use std::marker::Model;
 use std::mem::size_of;
 
-/// A permit that stands: the giver lets the taker do the operations on the objects.
+/// A permit that stands: the giver lets the taker do the operations on the objects. An open one lets anybody do them, and has
+/// its giver in the taker's place.
 #[derive(Drop)]
 pub(crate) struct Permit {
     giver: Txn,
     taker: Txn,
     objects: PermitObjects,
     ops: Ops,
+    is_open: bool,
 }
 
 const _: () = prove!(size_of::<Permit>() == 56);
@@ -25,14 +27,14 @@ impl Model for Permit {
 
     ghost Value = { Descriptor };
 
-    ghost view = { λ p. record { giver = p.giver.0; taker = p.taker.0; objects = set_of p.objects; ops = p.ops } };
+    ghost view = { λ p. record { giver = p.giver.0; taker = p.taker.0; objects = set_of p.objects; ops = p.ops; is_open = p.is_open } };
 }
 
 impl Permit {
     ghost use Rattle.std.specs.Prelude.{◌≡◌, true, false, IfOk, IfSome, IfNone};
     ghost use Rattle.asset_names.specs.InSet.{in_set};
     ghost use Rattle.asset_permits.specs.Copies.{cut_of};
-    ghost use Rattle.asset_permits.specs.Descriptors.{covers, same_descriptor};
+    ghost use Rattle.asset_permits.specs.Descriptors.{includes, covers, opens_on, same_descriptor};
     ghost use Rattle.asset_permits.specs.Stored.{asked};
 
     /// Stores the permit that is asked for. It answers `NoMemory` if memory runs out.
@@ -45,6 +47,7 @@ impl Permit {
             taker: sought.taker.t,
             objects,
             ops: sought.ops,
+            is_open: sought.is_open,
         })
     }
 
@@ -57,6 +60,7 @@ impl Permit {
             && self.taker == sought.taker.t
             && self.objects.is_same(&sought.objects)
             && same_ops(self.ops, sought.ops)
+            && self.is_open == sought.is_open
     }
 
     /// Returns what is copied of the permit on the object, if it has the object.
@@ -72,25 +76,43 @@ impl Permit {
             taker: self.taker,
             x,
             ops: self.ops,
+            is_open: self.is_open,
         })
     }
 
     /// Returns whether the permit has the object and the operation.
+    #[tactic(auto, unfolding(crate::specs::Descriptors::includes))]
+    fn includes(&self, x: Ob, op: Op) -> bool
+        ensures { result ≡ includes x.0 op self.now }
+    {
+        self.objects.has(x) && self.ops.has(op)
+    }
+
+    /// Returns whether the permit names its taker, and has the object and the operation.
     #[tactic(auto, unfolding(crate::specs::Descriptors::covers))]
     pub(crate) fn covers(&self, x: Ob, op: Op) -> bool
         ensures { result ≡ covers x.0 op self.now }
     {
-        self.objects.has(x) && self.ops.has(op)
+        !self.is_open && self.includes(x, op)
+    }
+
+    /// Returns whether the permit is open, and has the object and the operation.
+    #[tactic(auto, unfolding(crate::specs::Descriptors::opens_on))]
+    pub(crate) fn opens(&self, x: Ob, op: Op) -> bool
+        ensures { result ≡ opens_on x.0 op self.now }
+    {
+        self.is_open && self.includes(x, op)
     }
 }
 
-/// A permit that is asked for.
+/// A permit that is asked for. An open one has its giver in the taker's place.
 #[derive(Clone, Copy)]
 pub(crate) struct Sought {
     pub giver: Sitter,
     pub taker: Sitter,
     pub objects: ObSet,
     pub ops: Ops,
+    pub is_open: bool,
 }
 
 ghost use Rattle.std.specs.Prelude.{◌≡◌};

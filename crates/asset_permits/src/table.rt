@@ -18,24 +18,26 @@ use std::marker::Model;
 /// their order means nothing.
 ///
 /// `marked` is the question that the marks answer, if they answer one. It is `None` once a permit changes, room is made, or
-/// another search has used the marks.
+/// another search has used the marks. `may_open` is set once an open permit comes; until then nobody looks for one.
 #[derive(Drop)]
 pub struct SeatedPermits {
     pub(crate) permits: Crossed<Permit>,
-    marks: Marks,
+    pub(crate) marks: Marks,
     pub(crate) marked: Option<Question>,
+    pub(crate) may_open: bool,
     pub(crate) alloc: Global,
 }
 
 impl Model for SeatedPermits {
     ghost use Rattle.asset_permits.specs.Valid.{PermitTable};
     ghost use Rattle.asset_permits.specs.Marked.{HasMarked};
+    ghost use Rattle.asset_permits.specs.Stored.{AreNoted};
 
     ghost Value = { PermitTable };
 
     ghost view = { λ p. record { permits = p.permits; size = p.marks.size } };
 
-    ghost invariant = { λ p. HasMarked p.permits p.marks.nodes p.marked };
+    ghost invariant = { λ p. HasMarked p.permits p.marks.nodes p.marked × AreNoted p.may_open p.permits };
 }
 
 impl SeatedPermits {
@@ -45,9 +47,9 @@ impl SeatedPermits {
     ghost use Rattle.asset_names.specs.OpSets.{has_op};
     ghost use Rattle.asset_chains.specs.Crossed.{IsCrossed};
     ghost use Rattle.asset_seats.specs.Seated.{Seated, seat, HasSeat};
-    ghost use Rattle.asset_permits.specs.Stored.{asked, HaveSeats};
+    ghost use Rattle.asset_permits.specs.Stored.{asked, HaveSeats, IsOwn};
     ghost use Rattle.asset_permits.specs.Valid.{permits_in, used_in, IsTied, IsUsed, HasRoom};
-    ghost use Rattle.asset_permits.specs.Descriptors.{Descriptor, same_descriptor, stands, lets, one_covers, allows_by, AreDifferent};
+    ghost use Rattle.asset_permits.specs.Descriptors.{Descriptor, named_permit, same_descriptor, stands, lets, lets_all, one_covers, opens, leads_by, reaches_opener, allows_by, AreDifferent};
 
     /// Returns a table without permits. It does not allocate.
     pub fn new(alloc: Global) -> SeatedPermits
@@ -59,6 +61,7 @@ impl SeatedPermits {
             permits: Crossed::new(alloc),
             marks: Marks::new(alloc),
             marked: None,
+            may_open: false,
             alloc,
         }
     }
@@ -94,10 +97,11 @@ impl SeatedPermits {
         requires giver { HasSeat seats.now giver }
         requires taker { HasSeat seats.now taker }
         ensures tied { IsTied self.new seats.now }
-        ensures stands { OnOk result ((e : Descriptor) → stands (permits_in self.new) e ≡ (stands (permits_in self.old) e || same_descriptor (record { giver = giver.t.0; taker = taker.t.0; objects = objects; ops = ops }) e)) }
+        ensures stands { OnOk result ((e : Descriptor) → stands (permits_in self.new) e ≡ (stands (permits_in self.old) e || same_descriptor (named_permit giver.t.0 taker.t.0 objects ops) e)) }
         ensures covers { OnOk result ((u t x : ℕ) (op : Op) → one_covers (permits_in self.new) u t x op ≡ (one_covers (permits_in self.old) u t x op || (u == giver.t.0 && t == taker.t.0 && in_set objects x && has_op ops op))) }
+        ensures opens { OnOk result ((u x : ℕ) (op : Op) → opens (permits_in self.new) u x op ≡ opens (permits_in self.old) u x op) }
         ensures unchanged { OnErr result (permits_in self.new ≡ permits_in self.old) }
-        ensures again { stands (permits_in self.old) (record { giver = giver.t.0; taker = taker.t.0; objects = objects; ops = ops }) ≡ true → IsOk result × (permits_in self.new ≡ permits_in self.old) }
+        ensures again { stands (permits_in self.old) (named_permit giver.t.0 taker.t.0 objects ops) ≡ true → IsOk result × (permits_in self.new ≡ permits_in self.old) }
     {
         self.add_permit(
             seats,
@@ -106,6 +110,7 @@ impl SeatedPermits {
                 taker,
                 objects,
                 ops,
+                is_open: false,
             },
         )
     }
@@ -114,9 +119,11 @@ impl SeatedPermits {
     pub(crate) fn add_permit(&mut self, seats: &Seats, sought: &Sought) -> Result<(), NoMemory>
         requires tied { IsTied self.old seats.now }
         requires sit { HaveSeats seats.now sought.now }
+        requires own { IsOwn (asked sought.now) }
         ensures tied { IsTied self.new seats.now }
         ensures stands { OnOk result ((e : Descriptor) → stands (permits_in self.new) e ≡ (stands (permits_in self.old) e || same_descriptor (asked sought.now) e)) }
         ensures covers { OnOk result ((u t x : ℕ) (op : Op) → one_covers (permits_in self.new) u t x op ≡ (one_covers (permits_in self.old) u t x op || lets u t x op (asked sought.now))) }
+        ensures opens { OnOk result ((u x : ℕ) (op : Op) → opens (permits_in self.new) u x op ≡ (opens (permits_in self.old) u x op || lets_all u x op (asked sought.now))) }
         ensures unchanged { OnErr result (permits_in self.new ≡ permits_in self.old) }
         ensures again { stands (permits_in self.old) (asked sought.now) ≡ true → IsOk result × (permits_in self.new ≡ permits_in self.old) }
     {
@@ -126,6 +133,7 @@ impl SeatedPermits {
         self.marked = None;
         reserve_item(&mut self.permits)?;
         let permit = Permit::of(sought, self.alloc)?;
+        self.may_open = self.may_open | sought.is_open;
         self.permits
             .insert(sought.giver.at, sought.taker.at, permit);
         self.permits.laws();
@@ -133,11 +141,12 @@ impl SeatedPermits {
     }
 
     /// Returns whether the giver allows the taker to do `op` on `x`: they are one transaction, or a chain of
-    /// permits leads from the one to the other, each of which covers the operation on the object. No permit
-    /// changes.
+    /// permits leads from the one to the other, or from the one to an opener, each of which covers the operation on the
+    /// object. No permit changes.
     ///
     /// It searches from the giver, or from the taker if fewer permits are for the taker than the giver gives, and
-    /// looks only at the permits of the transactions that it meets. It takes no memory.
+    /// looks only at the permits of the transactions that it meets. If open permits were given, it may search from the giver
+    /// once more. It takes no memory.
     pub fn allows(&mut self, seats: &Seats, giver: Sitter, taker: Sitter, x: Ob, op: Op) -> bool
         requires tied { IsTied self.old seats.now }
         requires giver { HasSeat seats.now giver }
@@ -147,19 +156,46 @@ impl SeatedPermits {
         ensures same { self.new ≡ self.old }
     {
         let _ = &self.permits;
-        giver.t == taker.t || self.leads(seats, giver, taker, x, op)
+        giver.t == taker.t || self.allows_another(seats, giver, taker, x, op)
+    }
+
+    /// Returns whether the giver allows the taker, which is another. No permit changes.
+    fn allows_another(&mut self, seats: &Seats, giver: Sitter, taker: Sitter, x: Ob, op: Op) -> bool
+        requires tied { IsTied self.old seats.now }
+        requires giver { HasSeat seats.now giver }
+        requires taker { HasSeat seats.now taker }
+        requires another { (giver.t.0 == taker.t.0) ≡ false }
+        ensures allowed { result ≡ allows_by (permits_in self.old) giver.t.0 taker.t.0 x.0 op }
+        ensures same { self.new ≡ self.old }
+    {
+        self.leads(seats, giver, taker, x, op) || self.reaches_opener(seats, giver, x, op)
     }
 
     /// Returns whether the giver allows the taker to do `op` on `x`, as `allows` does. No permit changes.
     ///
     /// It marks all who allow the taker. The next such calls for the same taker, object and operation look at a mark alone,
     /// until a call of another kind changes a permit, makes room or searches. So it is for callers who ask about several
-    /// givers in a row. It takes no memory.
+    /// givers in a row. If open permits were given, it searches as `allows` does. It takes no memory.
     pub fn is_allower(&mut self, seats: &Seats, giver: Sitter, taker: Sitter, x: Ob, op: Op) -> bool
         requires tied { IsTied self.old seats.now }
         requires giver { HasSeat seats.now giver }
         requires taker { HasSeat seats.now taker }
         ensures allowed { result ≡ allows_by (permits_in self.old) giver.t.0 taker.t.0 x.0 op }
+        ensures same { self.new ≡ self.old }
+    {
+        if self.may_open {
+            return self.allows(seats, giver, taker, x, op);
+        }
+        self.is_marked(seats, giver, taker, x, op)
+    }
+
+    /// Returns whether a chain of permits that cover `op` on `x` leads from the giver to the taker, or they are one. It marks
+    /// all from whom such a chain leads to the taker, unless they are marked. No permit changes.
+    fn is_marked(&mut self, seats: &Seats, giver: Sitter, taker: Sitter, x: Ob, op: Op) -> bool
+        requires tied { IsTied self.old seats.now }
+        requires giver { HasSeat seats.now giver }
+        requires taker { HasSeat seats.now taker }
+        ensures leads { result ≡ leads_by (permits_in self.old) giver.t.0 taker.t.0 x.0 op }
         ensures same { self.new ≡ self.old }
     {
         seats.laws();
@@ -194,7 +230,7 @@ impl SeatedPermits {
         requires giver { HasSeat seats.now giver }
         requires taker { HasSeat seats.now taker }
         requires another { (giver.t.0 == taker.t.0) ≡ false }
-        ensures leads { result ≡ allows_by (permits_in self.old) giver.t.0 taker.t.0 x.0 op }
+        ensures leads { result ≡ leads_by (permits_in self.old) giver.t.0 taker.t.0 x.0 op }
         ensures same { self.new ≡ self.old }
     {
         seats.laws();
@@ -227,6 +263,7 @@ impl SeatedPermits {
         ensures leaves { (left : Seated) → ((c : ℕ) → seat left c ≡ cond (c == t.at) None (seat seats.now c)) → IsTied self.new left }
         ensures stands { (e : Descriptor) → stands (permits_in self.new) e ≡ (stands (permits_in self.old) e && not (e.giver == t.t.0) && not (e.taker == t.t.0)) }
         ensures covers { (u v x : ℕ) (op : Op) → one_covers (permits_in self.new) u v x op ≡ (one_covers (permits_in self.old) u v x op && not (u == t.t.0) && not (v == t.t.0)) }
+        ensures opens { (u x : ℕ) (op : Op) → opens (permits_in self.new) u x op ≡ (opens (permits_in self.old) u x op && not (u == t.t.0)) }
     {
         seats.laws();
         self.permits.laws();
@@ -246,6 +283,7 @@ impl SeatedPermits {
         ensures used { IsUsed self.new.permits seats.new }
         ensures stands { (e : Descriptor) → stands (permits_in self.new) e ≡ (stands (permits_in self.old) e && not (e.giver == t.t.0) && not (e.taker == t.t.0)) }
         ensures covers { (u v x : ℕ) (op : Op) → one_covers (permits_in self.new) u v x op ≡ (one_covers (permits_in self.old) u v x op && not (u == t.t.0) && not (v == t.t.0)) }
+        ensures opens { (u x : ℕ) (op : Op) → opens (permits_in self.new) u x op ≡ (opens (permits_in self.old) u x op && not (u == t.t.0)) }
     {
         seats.laws();
         self.marked = None;

@@ -17,6 +17,7 @@ returns-clause-ended c =
       objects = c.end_writes.ensures.cells;
       locks = (c.release.ensures.leaves c.leave.new.self c.leave.ensures.seats).1 ∙ c.release.ensures.released;
       permits = c.drop_all.ensures.covers;
+      openers = c.drop_all.ensures.opens;
       deps = c.end.ensures.dependencies;
       seats = one_left c.args.parts.now.seats c.leave.new.self one.t one.at c.requires.sits (λ d other. c.laws.ensures.one one.t one.at d c.requires.sits other) c.leave.ensures.seats;
     }

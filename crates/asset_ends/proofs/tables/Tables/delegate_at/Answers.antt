@@ -32,4 +32,4 @@ returns-clause-stand c =
     (delegate_shows opening steps _ _ _ _ _ c.args.from.t c.args.to.t c.args.obs.now stand
     (sym (live_shown opening steps _ _ _ _ _ c.args.from.t.0 stand) ∙ gives) (sym (live_shown opening steps _ _ _ _ _ c.args.to.t.0 stand) ∙ takes)
     c.hand_over.ensures.valid (live_enrolled _ _ c.args.to.t.0 c.self.invariant.locks takes) _
-    (c.in_ok-copy_permits.ensures.covers)))
+    (c.in_ok-copy_permits.ensures.covers) (c.in_ok-copy_permits.ensures.opens)))

@@ -1,5 +1,5 @@
 use Rattle.std.proofs.Common.{refl, sym, ◌∙◌}
-use Rattle.asset_names.proofs.Common.{on_ok}
+use Rattle.asset_names.proofs.Common.{on_ok_two}
 use Rattle.asset_ends.proofs.ShowsLemmas.{permit_shows, live_shown}
 use Rattle.asset_ends.proofs.StandingLemmas.{stand_as}
 use Rattle.asset_ends.proofs.tables.Tables.permit_at.Goals as goal
@@ -11,7 +11,7 @@ pub returns-clause-stand : goal.returns-clause-stand
 returns-clause-stand c =
     let gives = rw (← c.self.view_is) at c.requires.giver in
     let takes = rw (← c.self.view_is) at c.requires.taker in
-    rw (← c.self.view_is) (on_ok c.add.result
-    (λ added. λ opening steps stand. stand_as opening _ _ _ _ _ _ _ refl refl refl refl refl
-    (permit_shows opening steps _ _ _ _ _ c.args.from.t c.args.to.t c.args.obs c.args.ops stand (sym (live_shown opening steps _ _ _ _ _ c.args.from.t.0 stand) ∙ gives) (sym (live_shown opening steps _ _ _ _ _ c.args.to.t.0 stand) ∙ takes) _ added))
-    c.add.ensures.covers)
+    rw (← c.self.view_is) (on_ok_two c.add.result
+    (λ added same. λ opening steps stand. stand_as opening _ _ _ _ _ _ _ refl refl refl refl refl
+    (permit_shows opening steps _ _ _ _ _ c.args.from.t c.args.to.t c.args.obs c.args.ops stand (sym (live_shown opening steps _ _ _ _ _ c.args.from.t.0 stand) ∙ gives) (sym (live_shown opening steps _ _ _ _ _ c.args.to.t.0 stand) ∙ takes) _ added same))
+    c.add.ensures.covers c.add.ensures.opens)

@@ -2,6 +2,6 @@ use Rattle.std.proofs.Common.{rules}
 use Rattle.asset_permits.specs.Descriptors.{same_descriptor}
 use Rattle.asset_permits.proofs.permit.Permit.is_same.Goals as goal
 
-pub returns-then-is_same : goal.returns-then-is_same
+pub returns-then-same_ops : goal.returns-then-same_ops
 unfolding same_descriptor
-returns-then-is_same c = search rules
+returns-then-same_ops c = search rules

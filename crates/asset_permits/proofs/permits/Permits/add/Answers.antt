@@ -3,7 +3,7 @@ use Rattle.std.specs.Prelude.{Result}
 use Rattle.std.proofs.lemmas.Bool.{false≢true}
 use Rattle.asset_names.specs.declared.names.Txn.{Txn}
 use Rattle.asset_names.proofs.Common.{on_err}
-use Rattle.asset_permits.specs.Descriptors.{Descriptor, stands}
+use Rattle.asset_permits.specs.Descriptors.{Descriptor, named_permit, stands}
 use Rattle.asset_permits.specs.Valid.{parts_of, permits_in, used_in}
 use Rattle.asset_permits.proofs.CopyLemmas.{standing_more}
 use Rattle.asset_permits.proofs.NameLemmas.{seated_again}
@@ -19,7 +19,7 @@ never (Err x) e ok is = false≢true ok
 pub returns-in_err-from-clause-again : goal.returns-in_err-from-clause-again
 returns-in_err-from-clause-again c = λ there.
     let inside = c.self.inside in
-    let d : Descriptor = record { giver = c.args.giver.0; taker = c.args.taker.0; objects = c.args.objects; ops = c.args.ops } in
+    let d : Descriptor = named_permit c.args.giver.0 c.args.taker.0 c.args.objects c.args.ops in
     let at = key_of_standing inside.table.permits.items d (ap (λ ds. stands ds d) c.self.view_is ∙ there) in
     let across = has_across (parts_of inside.table.permits inside.seats) inside.table.size c.self.invariant.0 at.0 d at.1 in
     absurd (never c.seat_both.result _ (c.seat_both.ensures.standing across.from across.to across.giver across.taker) c.in_err-from.was)
@@ -45,3 +45,6 @@ returns-clause-covers c = search rules
 
 pub returns-clause-again : goal.returns-clause-again
 returns-clause-again c = search rules
+
+pub returns-clause-opens : goal.returns-clause-opens
+returns-clause-opens c = search rules

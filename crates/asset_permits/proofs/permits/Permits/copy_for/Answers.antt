@@ -1,4 +1,6 @@
 use Rattle.std.proofs.Common.{◌≡◌, ◌||◌, ◌&&◌, Bool, true, false, eqb, refl, sym, ap, ◌∙◌, rules}
+use Rattle.std.proofs.lemmas.Bool.{false_from_ne_true}
+use Rattle.asset_names.proofs.Common.{and_false}
 use Rattle.asset_names.specs.Arrows.{lists}
 use Rattle.asset_names.specs.Sets.{numbers}
 use Rattle.asset_permits.specs.Descriptors.{stands}
@@ -7,6 +9,7 @@ use Rattle.asset_permits.proofs.CopyLemmas.{standing_more}
 use Rattle.asset_permits.proofs.DropLemmas.{leaves_alone}
 use Rattle.asset_permits.proofs.GivingLemmas.{gives_by_nobody, gives_nothing}
 use Rattle.asset_permits.proofs.NameLemmas.{seated_again}
+use Rattle.asset_permits.proofs.SearchLemmas.{opener_sits}
 use Rattle.asset_permits.proofs.SeatLemmas.{sits_apart, sits_keep}
 use Rattle.asset_permits.proofs.TableLemmas.{no_copies}
 use Rattle.asset_permits.proofs.permits.Permits.copy_for.Goals as goal
@@ -32,6 +35,15 @@ returns-in_default-clause-covers c =
       never true = refl
       never false = refl
 
+pub returns-in_default-clause-opens : goal.returns-in_default-clause-opens
+returns-in_default-clause-opens c =
+    let inside = c.self.inside in
+    let permits = permits_in inside.table in
+    rw (← c.self.view_is) (λ u x op. plain _ _
+    (ap (λ b. eqb u c.args.receiver.0 && lists (numbers c.args.moved.now) x && b)
+    (false_from_ne_true _ (λ h. let sat = opener_sits (parts_of inside.table.permits inside.seats) inside.table.size c.self.invariant.0 x op c.args.giver.0 h in c.in_default.ensures.absent sat.0 sat.1))
+    ∙ and_false (eqb u c.args.receiver.0 && lists (numbers c.args.moved.now) x)))
+
 pub invariant_of-self-2 : goal.invariant_of-self-2
 invariant_of-self-2 c =
     let inside = c.self.inside in
@@ -52,3 +64,6 @@ returns-clause-stands c = search rules
 
 pub returns-clause-covers : goal.returns-clause-covers
 returns-clause-covers c = search rules
+
+pub returns-clause-opens : goal.returns-clause-opens
+returns-clause-opens c = search rules

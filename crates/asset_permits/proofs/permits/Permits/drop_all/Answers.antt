@@ -2,6 +2,7 @@ use Rattle.asset_permits.specs.Descriptors.{Descriptor, stands, one_covers, same
 use Rattle.asset_permits.specs.Valid.{parts_of}
 use Rattle.asset_permits.proofs.SlotLemmas.{any_dropped, same_owned, same_to, lets_owned, lets_to}
 use Rattle.asset_permits.proofs.TableLemmas.{rid_of_nobody}
+use Rattle.asset_permits.proofs.OpenLemmas.{opens_kept}
 use Rattle.asset_permits.proofs.permits.Permits.drop_all.Goals as goal
 
 pub returns-in_default-clause-stands : goal.returns-in_default-clause-stands
@@ -21,3 +22,9 @@ returns-in_default-clause-covers c = λ u v x op.
     rw (← c.self.view_is)
     (any_dropped (lets u v x op) c.args.t.0 u v items items (lets_owned u v x op) (lets_to u v x op)
     (rid_of_nobody (parts_of inside.table.permits inside.seats) inside.table.size c.args.t c.self.invariant.0 c.in_default.ensures.absent))
+
+pub returns-in_default-clause-opens : goal.returns-in_default-clause-opens
+returns-in_default-clause-opens c = λ u x op.
+    let inside = c.self.inside in
+    rw (← c.self.view_is)
+    (opens_kept inside.table.permits c.args.t.0 (rid_of_nobody (parts_of inside.table.permits inside.seats) inside.table.size c.args.t c.self.invariant.0 c.in_default.ensures.absent) u x op)

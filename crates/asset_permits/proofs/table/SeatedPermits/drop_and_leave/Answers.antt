@@ -3,6 +3,7 @@ use Rattle.asset_permits.specs.Descriptors.{Descriptor, stands, one_covers, same
 use Rattle.asset_permits.proofs.SlotLemmas.{any_dropped, same_owned, same_to, lets_owned, lets_to}
 use Rattle.asset_permits.proofs.DropLemmas.{shrinks_then, valid_after, valid_left}
 use Rattle.asset_permits.proofs.TableLemmas.{rid_of, tied_inside}
+use Rattle.asset_permits.proofs.OpenLemmas.{opens_dropped}
 use Rattle.asset_permits.proofs.table.SeatedPermits.drop_and_leave.Goals as goal
 
 pub returns-clause-tied : goal.returns-clause-tied
@@ -38,3 +39,14 @@ returns-clause-covers c = λ u v x op.
     (any_dropped (lets u v x op) c.args.t.t.0 u v inside.permits.items second.items (lets_owned u v x op) (lets_to u v x op)
     (rid_of inside.permits first second c.args.seats.now inside.marks.size c.args.t.t c.args.t.at tied c.requires.sits (λ d other. c.laws.ensures.one c.args.t.t c.args.t.at d c.requires.sits other)
     c.drop_along.ensures.shrinks c.drop_along.ensures.gone c.drop_along.ensures.kept c.drop_along-2.ensures.shrinks c.laws-2.ensures.crossed c.drop_along-2.ensures.gone c.drop_along-2.ensures.kept))
+
+pub returns-clause-opens : goal.returns-clause-opens
+returns-clause-opens c = λ u x op.
+    let inside = c.self.inside in
+    let first = c.drop_along.new.permits in
+    let second = c.drop_along-2.new.permits in
+    let tied = tied_inside inside.permits inside.marks.size c.args.self.now c.args.seats.now c.self.view_is c.requires.tied in
+    let rid = rid_of inside.permits first second c.args.seats.now inside.marks.size c.args.t.t c.args.t.at tied c.requires.sits (λ d other. c.laws.ensures.one c.args.t.t c.args.t.at d c.requires.sits other)
+    c.drop_along.ensures.shrinks c.drop_along.ensures.gone c.drop_along.ensures.kept c.drop_along-2.ensures.shrinks c.laws-2.ensures.crossed c.drop_along-2.ensures.gone c.drop_along-2.ensures.kept
+    in
+    rw (← c.self.view_is) (opens_dropped inside.may_open inside.permits second c.args.t.t.0 c.self.invariant.1 rid u x op)

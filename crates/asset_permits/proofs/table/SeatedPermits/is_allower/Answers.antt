@@ -1,25 +1,15 @@
-use Rattle.std.proofs.Common.{◌∙◌}
-use Rattle.asset_marks.proofs.KeyedLemmas.{linked_backwards}
-use Rattle.asset_permits.specs.Descriptors.{covers}
-use Rattle.asset_permits.specs.Valid.{parts_of}
-use Rattle.asset_permits.proofs.SearchLemmas.{linked_allows}
-use Rattle.asset_permits.proofs.TableLemmas.{backward_within, tied_inside}
+use Rattle.std.proofs.Common.{sym, ◌∙◌, rules}
+use Rattle.asset_permits.specs.Valid.{descriptors_of}
+use Rattle.asset_permits.proofs.ArrowLaws.{closed_allows}
+use Rattle.asset_permits.proofs.OpenLemmas.{none_opens}
 use Rattle.asset_permits.proofs.table.SeatedPermits.is_allower.Goals as goal
 
-pub mark_allowers-requires-clause-within : goal.mark_allowers-requires-clause-within
-mark_allowers-requires-clause-within c =
-    let inside = c.self.inside in
-    let seats = c.args.seats.now in
-    let tied = tied_inside inside.permits inside.marks.size c.args.self.now seats c.self.view_is c.requires.tied in
-    backward_within (parts_of inside.permits seats) inside.marks.size tied c.args.x.0 c.args.op
+pub returns-then-self-clause-allowed : goal.returns-then-self-clause-allowed
+returns-then-self-clause-allowed c = search rules
 
 pub returns-clause-allowed : goal.returns-clause-allowed
 returns-clause-allowed c =
     let inside = c.self.inside in
-    let seats = c.args.seats.now in
-    let tied = tied_inside inside.permits inside.marks.size c.args.self.now seats c.self.view_is c.requires.tied in
     rw (← c.self.view_is)
-    (c.has.ensures
-    ∙ c.mark_allowers.ensures.marked c.args.giver.at
-    ∙ linked_backwards (covers c.args.x.0 c.args.op) inside.permits.items inside.permits.rows inside.permits.columns c.args.giver.at c.args.taker.at
-    ∙ linked_allows (parts_of inside.permits seats) inside.marks.size tied c.args.x.0 c.args.op c.laws.ensures.one c.args.giver.t c.args.taker.t c.args.giver.at c.args.taker.at c.requires.giver c.requires.taker)
+    (rw (← c.self.view_is) at c.is_marked.ensures.leads
+    ∙ sym (closed_allows (descriptors_of inside.permits.items) c.args.x.0 c.args.op (λ u. none_opens inside.may_open inside.permits c.if-self.false c.self.invariant.1 u c.args.x.0 c.args.op) c.args.giver.t.0 c.args.taker.t.0))
