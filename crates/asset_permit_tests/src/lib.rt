@@ -1,19 +1,13 @@
-//! The tests of permits and dependencies, by name and by seat, through their public calls.
+//! The tests of permits, by name and by seat, through their public calls.
 #![tactic(auto)]
 
 #[cfg(test)]
 mod copies;
 #[cfg(test)]
-mod deps;
-#[cfg(test)]
-mod deps_beside_list;
+mod open_permits;
 #[cfg(test)]
 mod permits;
 #[cfg(test)]
-mod seated_deps;
-#[cfg(test)]
 mod seated_permits;
-#[cfg(test)]
-mod sitting;
 #[cfg(test)]
 mod sizes;

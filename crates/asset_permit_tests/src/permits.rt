@@ -5,12 +5,18 @@ use asset_permits::Permits;
 use asset_test_tools::{next, ops_of};
 use std::test::Fail;
 
-/// How many transactions and objects there are beside the plain list, and how many calls are drawn.
+/// How many transactions and objects there are beside the plain list, and how many calls are drawn, without open permits and
+/// with some.
 const NAMES: u64 = 5;
 
 const OBJECTS: u64 = 3;
 
 const CALLS: usize = 3_000;
+
+const OPEN_CALLS: usize = 400;
+
+/// A bit for each of the transactions.
+const EVERYBODY: u64 = 0b11111;
 
 /// Returns the set of two objects.
 fn two(first: u64, second: u64) -> Result<ObSet, SetFault> {
@@ -130,13 +136,14 @@ fn permit_is_given_twice(rt: HostRuntime) {
     assert!(rt; gone);
 }
 
-/// A permit of a plain list. Its set of objects is said by a number.
+/// A permit of a plain list, to anybody if it is open. Its set of objects is said by a number.
 #[derive(Clone, Copy)]
 struct Plain {
     giver: u64,
     taker: u64,
     set: u64,
     ops: Ops,
+    open: bool,
 }
 
 impl Plain {
@@ -144,6 +151,7 @@ impl Plain {
     fn is_same(&self, other: &Plain) -> bool {
         (self.giver, self.taker, self.set) == (other.giver, other.taker, other.set)
             && self.ops == other.ops
+            && self.open == other.open
     }
 
     /// Returns whether the permit has the object and the operation.
@@ -204,7 +212,11 @@ fn reached(list: &[Plain], from: u64, x: u64, op: Op) -> u64 {
     for _ in 0..NAMES {
         for one in list {
             if one.covers(x, op) && met >> (one.giver % NAMES) & 1 == 1 {
-                met |= 1 << (one.taker % NAMES);
+                met |= if one.open {
+                    EVERYBODY
+                } else {
+                    1 << (one.taker % NAMES)
+                };
             }
         }
     }
@@ -244,25 +256,50 @@ fn add_plain(permits: &mut Permits, plain: &Plain) -> Result<(), NoMemory> {
     let (giver, taker) = (Txn(plain.giver), Txn(plain.taker));
     let (objects, ops) = (set_of(plain.set)?, plain.ops);
     let before = shown(permits);
-    match permits.add(giver, taker, objects, ops) {
-        Err(NoMemory) if shown(permits) == before => permits.add(giver, taker, objects, ops),
+    match add_set(permits, giver, taker, objects, ops, plain.open) {
+        Err(NoMemory) if shown(permits) == before => {
+            add_set(permits, giver, taker, objects, ops, plain.open)
+        }
         added => added,
     }
 }
 
-/// Makes the call that a number stands for, on permits and the list.
-fn call(permits: &mut Permits, list: &mut Vec<Plain>, number: u64) -> Result<(), Fail> {
+/// Adds a permit to the taker, or to anybody if it is open; every object is open to nobody.
+fn add_set(
+    permits: &mut Permits,
+    giver: Txn,
+    taker: Txn,
+    objects: ObSet,
+    ops: Ops,
+    open: bool,
+) -> Result<(), NoMemory> {
+    match objects {
+        ObSet::Listed(list) if open => permits.add_any(giver, list, ops),
+        _ => permits.add(giver, taker, objects, ops),
+    }
+}
+
+/// Makes the call that a number stands for, on permits and the list. Some permits are open if `opens` says so.
+fn call(
+    permits: &mut Permits,
+    list: &mut Vec<Plain>,
+    number: u64,
+    opens: bool,
+) -> Result<(), Fail> {
     let giver = (number >> 40) % NAMES;
     if (number >> 50) % 10 == 0 {
         permits.drop_all(Txn(giver));
         list.retain(|one| one.giver != giver && one.taker != giver);
         return Ok(());
     }
+    let set = (number >> 36) % 4;
+    let open = opens && set > 0 && (number >> 20) % 8 == 0;
     let plain = Plain {
         giver,
-        taker: (number >> 30) % NAMES,
-        set: (number >> 36) % 4,
+        taker: if open { giver } else { (number >> 30) % NAMES },
+        set,
         ops: ops_of(number >> 38),
+        open,
     };
     add_plain(permits, &plain)?;
     if !list.iter().any(|one| one.is_same(&plain)) {
@@ -272,11 +309,16 @@ fn call(permits: &mut Permits, list: &mut Vec<Plain>, number: u64) -> Result<(),
 }
 
 /// Draws calls, and returns the first after which permits and list differ.
-fn first_difference(permits: &mut Permits, list: &mut Vec<Plain>) -> Result<Option<usize>, Fail> {
+fn first_difference(
+    permits: &mut Permits,
+    list: &mut Vec<Plain>,
+    calls: usize,
+    opens: bool,
+) -> Result<Option<usize>, Fail> {
     let mut number = 1;
-    for i in 0..CALLS {
+    for i in 0..calls {
         number = next(number);
-        call(permits, list, number)?;
+        call(permits, list, number, opens)?;
         if !agrees(permits, list) {
             return Ok(Some(i));
         }
@@ -288,7 +330,18 @@ fn first_difference(permits: &mut Permits, list: &mut Vec<Plain>) -> Result<Opti
 fn permits_agree_with_a_plain_list(rt: HostRuntime) -> Result<(), Fail> {
     let mut permits = Permits::new(rt.alloc());
     let mut list = Vec::new(rt.alloc());
-    let difference = first_difference(&mut permits, &mut list);
+    let difference = first_difference(&mut permits, &mut list, CALLS, false);
+    drop(permits);
+    drop(list);
+    assert_eq!(rt; difference?, None);
+    Ok(())
+}
+
+#[test]
+fn open_permits_agree_with_a_plain_list(rt: HostRuntime) -> Result<(), Fail> {
+    let mut permits = Permits::new(rt.alloc());
+    let mut list = Vec::new(rt.alloc());
+    let difference = first_difference(&mut permits, &mut list, OPEN_CALLS, true);
     drop(permits);
     drop(list);
     assert_eq!(rt; difference?, None);

@@ -2,8 +2,8 @@
 
 ghost use Rattle.asset_permits.specs.Valid.{IsTied};
 
-use crate::sitting::sitter;
-use asset_names::{NoMemory, Ob, ObSet, Op, Ops, Txn};
+use asset_dep_tests::sitter;
+use asset_names::{NoMemory, Ob, ObList, ObSet, Op, Ops, Txn};
 use asset_permits::SeatedPermits;
 use asset_seats::Seats;
 use asset_test_tools::{END, FIRST, ONE, Side, listed, next, pair};
@@ -88,6 +88,31 @@ impl Table {
             Err(NoMemory) => {
                 (self.allows(giver, taker, x, Op::Write), self.gives(giver)) == before
                     && self.add_once(giver, taker, x, ops) == Ok(())
+            }
+        }
+    }
+
+    /// Adds a permit to anybody of one that has a seat.
+    fn open_once(&mut self, giver: u64, x: u64) -> Result<(), NoMemory> {
+        let Some(from) = sitter(&self.seats, giver) else {
+            return Err(NoMemory);
+        };
+        self.permits
+            .add_any(&self.seats, from, ObList::one(Ob(x)), Ops::only(Op::Read))
+    }
+
+    /// Lets anybody read an object, and returns whether it could. If memory runs out, nothing has changed and the same call
+    /// is made again.
+    fn open(&mut self, giver: u64, x: u64) -> bool {
+        if self.enter(giver).is_err() {
+            return false;
+        }
+        let before = (self.allows(giver, giver, x, Op::Read), self.gives(giver));
+        match self.open_once(giver, x) {
+            Ok(()) => true,
+            Err(NoMemory) => {
+                (self.allows(giver, giver, x, Op::Read), self.gives(giver)) == before
+                    && self.open_once(giver, x) == Ok(())
             }
         }
     }
@@ -269,6 +294,30 @@ fn two_hundred_permit_one_taker_by_seat(rt: HostRuntime) {
     let wrong = wrong_ones(&mut table, Side::Taker);
     drop(table);
     assert_eq!(rt; wrong, [None; 4]);
+}
+
+/// Returns whether marks say of 7, who opens object 1, and of 8, who permits 7, that they allow 9 to read it, also after marks
+/// that stood before; and no longer once 7 is dropped.
+fn openers_are_marked(table: &mut Table) -> bool {
+    let closed = table.enter(9) == Ok(())
+        && table.add(8, 7, 1, both())
+        && !table.is_allower(8, 9, 1, Op::Read)
+        && !table.is_allower(7, 9, 1, Op::Read);
+    let opened = table.open(7, 1)
+        && table.is_allower(8, 9, 1, Op::Read)
+        && table.is_allower(7, 9, 1, Op::Read)
+        && !table.is_allower(8, 9, 1, Op::Write)
+        && !table.is_allower(9, 8, 1, Op::Read);
+    table.drop_all(7);
+    closed && opened && !table.is_allower(8, 9, 1, Op::Read)
+}
+
+#[test]
+fn opener_is_an_allower(rt: HostRuntime) {
+    let mut table = Table::new(rt.alloc());
+    let marked = openers_are_marked(&mut table);
+    drop(table);
+    assert!(rt; marked);
 }
 
 /// Returns whether each of the transactions is an allower of the taker, by marks, exactly if a search says so.

@@ -7,7 +7,7 @@ use asset_names::Txn;
 use asset_seats::{Seats, Sitter};
 
 /// Returns a transaction with its seat, if it has one.
-pub(crate) fn sitter(seats: &Seats, t: u64) -> Option<Sitter>
+pub fn sitter(seats: &Seats, t: u64) -> Option<Sitter>
     ensures { IfSome result (λ s. HasSeat seats.now s) }
 {
     let at = seats.seat_of(Txn(t))?;

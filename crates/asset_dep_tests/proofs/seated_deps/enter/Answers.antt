@@ -1,7 +1,7 @@
 use Rattle.std.proofs.Common.{arith}
 use Rattle.asset_deps.specs.Valid.{HasRoom}
 use Rattle.asset_deps.proofs.TableLemmas.{tied_same, tied_sits}
-use Rattle.asset_permit_tests.proofs.seated_deps.enter.Goals as goal
+use Rattle.asset_dep_tests.proofs.seated_deps.enter.Goals as goal
 
 pub returns-in_err-make_room : goal.returns-in_err-make_room
 returns-in_err-make_room c =
