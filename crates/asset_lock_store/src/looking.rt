@@ -65,6 +65,7 @@ impl LockStore {
 
     /// Looks at the lock at the key, which is on the object that is asked for. `again` says whether the permits are asked
     /// about other holders too.
+    #[inline(always)]
     pub(crate) fn look_at<A: Allows>(
         &self,
         key: usize,
