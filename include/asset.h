@@ -47,8 +47,8 @@ enum {
     ASSET_IS_OPEN = 4,       /* The handle is open already. */
     ASSET_BAD_CAPACITY = 5,  /* The capacity is not from 1 to 1,000,000. */
     ASSET_DOUBLE_OBJECT = 6, /* An object is given twice. */
-    ASSET_BAD_ARGUMENT = 7,  /* The step is none: its kind or detail is unknown, or its objects are none, more than 16, or not
-                                all different. Or a pointer is null. */
+    ASSET_BAD_ARGUMENT = 7,  /* The step is none: its kind or detail is unknown, or its objects are none, more than 16, not all
+                                different, or all objects of a permit to anybody. Or a pointer is null. */
     ASSET_ABSENT = 8         /* There is no such object, waiter, entry or group. */
 };
 
@@ -65,13 +65,15 @@ enum {
     ASSET_COMMIT = 9,    /* Commits `first`, with all that group commits join to it. */
     ASSET_ABORT = 10,    /* Aborts `first`, with its class and all that depend on it by abort dependencies. */
     ASSET_WAIT_FOR = 11, /* Asks whether `first` has completed or ended. */
-    ASSET_ADD = 12       /* `first` adds `value` to object `second`; the sum wraps to 64 bits. */
+    ASSET_ADD = 12,      /* `first` adds `value` to object `second`; the sum wraps to 64 bits. */
+    ASSET_PERMIT_ANY = 13 /* `first` lets anybody do what detail says on the listed objects, as long as `first` is live. */
 };
 
 /* The detail of an initiate: whether it names a parent. */
 enum { ASSET_NO_PARENT = 0, ASSET_PARENT = 1 };
 
-/* The detail of a permit, which is one of these or a sum of different ones, and the operation that a waiter asked for, which is one. */
+/* The detail of ASSET_PERMIT and ASSET_PERMIT_ANY: one of these, or a sum of different ones. Also the operation that a waiter asked
+   for, which is one. */
 enum { ASSET_TO_READ = 1, ASSET_TO_WRITE = 2, ASSET_TO_READ_AND_WRITE = 3, ASSET_TO_ADD = 4 };
 
 /* The detail of a dependency. */
@@ -130,7 +132,8 @@ struct asset_step {
     uint64_t first;
     uint64_t second;
     int64_t value;
-    uint64_t count; /* Of a permit or a delegation how many objects it lists, from 1 to 16, or ASSET_ALL. */
+    uint64_t count; /* How many objects a permit or a delegation lists, from 1 to 16. ASSET_ALL stands for all, which a permit to anybody
+                       cannot have. */
     uint64_t objects[ASSET_SLOTS]; /* The objects, all different, in any order. */
 };
 

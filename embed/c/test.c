@@ -76,6 +76,10 @@ static void read_operands(struct asset_step *step, char **words, int count) {
         step->detail = read_ops(words[3]);
         read_set(step, words[4]);
         return;
+    case ASSET_PERMIT_ANY:
+        step->detail = read_ops(words[3]);
+        read_set(step, words[4]);
+        return;
     case ASSET_DELEGATE:
         step->second = number(words[2]);
         read_set(step, words[3]);
@@ -99,6 +103,7 @@ static struct asset_step read_step(char *line) {
     for (size_t i = 0; i < sizeof keywords / sizeof *keywords; i++)
         if (strcmp(words[0], keywords[i].word) == 0) step.kind = keywords[i].kind;
     EXPECT(step.kind != 0);
+    if (step.kind == ASSET_PERMIT && strcmp(words[2], "any") == 0) step.kind = ASSET_PERMIT_ANY;
     read_operands(&step, words, count);
     return step;
 }
@@ -226,7 +231,7 @@ static void expect_fault(struct asset *asset, struct asset_step step, uint32_t c
 static void wrong_steps(struct asset *asset) {
     struct asset_step permit = {.kind = ASSET_PERMIT, .detail = ASSET_TO_READ, .first = 7, .second = 8, .count = 1, .objects = {1}};
     struct asset_step step = permit;
-    const uint32_t kinds[] = {0, 13, 14, 99, 256 + ASSET_BEGIN, INT32_MAX, UINT32_MAX};
+    const uint32_t kinds[] = {0, 14, 15, 99, 256 + ASSET_BEGIN, INT32_MAX, UINT32_MAX};
     for (size_t i = 0; i < sizeof kinds / sizeof *kinds; i++)
         expect_fault(asset, (struct asset_step){.kind = kinds[i], .first = 7}, ASSET_BAD_ARGUMENT);
     expect_fault(asset, (struct asset_step){.kind = ASSET_INITIATE, .detail = 2, .first = 9}, ASSET_BAD_ARGUMENT);
@@ -243,7 +248,13 @@ static void wrong_steps(struct asset *asset) {
         expect_fault(asset, step, ASSET_BAD_ARGUMENT);
         step.kind = ASSET_DELEGATE;
         expect_fault(asset, step, ASSET_BAD_ARGUMENT);
+        step.kind = ASSET_PERMIT_ANY;
+        expect_fault(asset, step, ASSET_BAD_ARGUMENT);
     }
+    step = permit;
+    step.kind = ASSET_PERMIT_ANY;
+    step.count = ASSET_ALL;
+    expect_fault(asset, step, ASSET_BAD_ARGUMENT);
     step = permit;
     step.count = 2;
     step.objects[1] = 1;

@@ -45,6 +45,8 @@ def names_of(word: str) -> Optional[List[int]]:
 def ask(asset: Asset, line: str) -> Answer:
     """Asks for the step of a line."""
     word, *words = line.split(" ")
+    if word == "permit" and words[1] == "any":
+        return asset.permit_any(int(words[0]), OPERATIONS[words[2]], names_of(words[3]) or [])
     if word == "permit":
         return asset.permit(int(words[0]), int(words[1]), OPERATIONS[words[2]], names_of(words[3]))
     if word == "delegate":
@@ -73,6 +75,8 @@ def line_of(asset: Asset, index: int) -> Tuple[str, str]:
         words.append(str(entry.second))
     if entry.kind in (StepKind.WRITE, StepKind.ADD):
         words.append(str(entry.value))
+    if entry.kind == StepKind.PERMIT_ANY:
+        words = ["permit", str(entry.first), "any", operations[entry.detail], objects]
     if entry.kind == StepKind.PERMIT:
         words += [operations[entry.detail], objects]
     if entry.kind == StepKind.DELEGATE:
@@ -127,12 +131,14 @@ class Calls(unittest.TestCase):
 
     def test_wrong_steps(self) -> None:
         with Asset({1: 100}, 100) as asset:
-            for kind in (0, 13, 99, 2**32 - 1, 2**32 + 2, -1):
+            for kind in (0, 14, 99, 2**32 - 1, 2**32 + 2, -1):
                 with self.assertRaises(BadArgumentError):
                     asset.ask(kind, 7)
             for objects in ([], [1] * 17, list(range(17)), [1, 1], [-1], [2**64]):
                 with self.assertRaises(BadArgumentError):
                     asset.delegate(7, 8, objects)
+            with self.assertRaises(BadArgumentError):
+                asset.permit_any(7, Operations.READ, ALL)
             for first, second, value in ((-1, 0, 0), (2**64, 0, 0), (0, -1, 0), (0, 2**64, 0), (0, 0, 2**63), (0, 0, -(2**63) - 1)):
                 with self.assertRaises(BadArgumentError):
                     asset.ask(StepKind.WRITE, first, second, value)

@@ -36,23 +36,19 @@ fn writes_once(
     Ok((same, ended?))
 }
 
-/// Returns whether a script that is run for a work writes this text to its end. If memory runs out once, it is run again.
-pub(crate) fn writes(alloc: Global, work: Work, script: &str, text: &str) -> bool {
+/// Returns whether a script that is run for a work writes this text and ends so. If memory runs out once, it is run again.
+pub fn writes(alloc: Global, work: Work, script: &str, text: &str, end: RunEnd) -> bool {
     let ended = match writes_once(alloc, work, script, text) {
         Ok(ended) => Ok(ended),
         Err(_) => writes_once(alloc, work, script, text),
     };
-    ended == Ok((true, RunEnd::Finished))
+    ended == Ok((true, end))
 }
 
-/// Returns the first of the works for which a script writes another text than the one beside it.
-pub(crate) fn first_other_work(
-    alloc: Global,
-    script: &str,
-    texts: &[(Work, &str)],
-) -> Option<Work> {
+/// Returns the first of the works for which a script does not write the text beside it to its end.
+pub fn first_other_work(alloc: Global, script: &str, texts: &[(Work, &str)]) -> Option<Work> {
     for (work, text) in texts {
-        if !writes(alloc, *work, script, text) {
+        if !writes(alloc, *work, script, text, RunEnd::Finished) {
             return Some(*work);
         }
     }

@@ -9,7 +9,7 @@ ghost use Rattle.asset_bodies.specs.Working.{HasRoom, IsSame};
 
 use crate::agent::Agent;
 use asset_manager::Session;
-use asset_names::{Fault, Kind, NoMemory, Ob, ObSet, Ops, Outcome, Step, Txn};
+use asset_names::{Fault, Kind, NoMemory, Ob, ObList, ObSet, Ops, Outcome, Step, Txn};
 use std::marker::Model;
 use std::sync::Wait;
 
@@ -168,6 +168,18 @@ impl Tx {
                 ops,
             },
         )
+    }
+
+    /// Lets anybody do the operations on the objects, as long as it is live, although they conflict with its own. The faults are
+    /// those of `read`.
+    pub fn permit_any<R: Wait>(&mut self, rt: &R, obs: ObList, ops: Ops) -> Result<Outcome, Fault>
+        ensures same { IsSame self.old self.new }
+        ensures asked { IsListed self.old.list.calls (Step.PermitAny self.old.name obs ops) result self.new.list.calls }
+        ensures room { OnOk result (HasRoom self.new) }
+        ensures kept { HasRoom self.old → HasRoom self.new }
+    {
+        let giver = self.name;
+        self.ask(rt, &Step::PermitAny { giver, obs, ops })
     }
 
     /// Hands over to the taker what it did on the objects. The faults are those of `read`.

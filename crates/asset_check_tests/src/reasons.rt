@@ -6,7 +6,7 @@ use asset_cli::RunEnd;
 use std::alloc::Global;
 
 /// Lines with what is printed of each if it is the only one.
-const BAD: [(&[u8], &str); 62] = [
+const BAD: [(&[u8], &str); 66] = [
     (b"inita 7", "line 1: unknown word inita\n"),
     (b"Read 7 1", "line 1: capital letter in Read\n"),
     (b"read 7", "line 1: read wants t x\n"),
@@ -18,6 +18,10 @@ const BAD: [(&[u8], &str); 62] = [
     (b"add 7 1", "line 1: add wants t x d\n"),
     (b"adds 7 1 2", "line 1: unknown word adds\n"),
     (b"permit 7 8 r", "line 1: permit wants t u ops set\n"),
+    (b"permit 7 any r", "line 1: permit wants t u ops set\n"),
+    (b"permit 7 any r all", "line 1: not a number: all\n"),
+    (b"permit 7 anyone r 1", "line 1: not a number: anyone\n"),
+    (b"permit any 7 r 1", "line 1: not a number: any\n"),
     (b"delegate 7 8", "line 1: delegate wants t u set\n"),
     (b"depend 7 8", "line 1: depend wants kind t u\n"),
     (b"complete", "line 1: complete wants t\n"),
@@ -99,7 +103,7 @@ const BAD: [(&[u8], &str); 62] = [
 ];
 
 /// Lines that are not bad.
-const GOOD: [&[u8]; 18] = [
+const GOOD: [&[u8]; 19] = [
     b"",
     b"# any text\r",
     b"#\t",
@@ -114,6 +118,7 @@ const GOOD: [&[u8]; 18] = [
     b"permit 7 8 rw all",
     b"permit 7 8 a 1",
     b"permit 7 8 rwa 1,2",
+    b"permit 7 any rw 2,1",
     b"delegate 7 8 16,15,14,13,12,11,10,9,8,7,6,5,4,3",
     b"delegate 7 8 1,2,3,4,5,6,7,8,9,10,11,12,13,14,15,16",
     b"depend gc 7 8",

@@ -8,7 +8,7 @@ use Rattle.asset_names.specs.declared.names.Ob.{Ob}
 use Rattle.asset_names.specs.declared.operations.Op.{Op}
 use Rattle.asset_names.specs.declared.operations.Op.TheVariants as Op'
 use Rattle.asset_names.specs.declared.steps.Step.{Step}
-use Rattle.asset_names.specs.declared.steps.Step.TheVariants.{Initiate, Begin, Read, Write, Add, Complete, Permit, Delegate, Depend, Commit, Abort, WaitFor}
+use Rattle.asset_names.specs.declared.steps.Step.TheVariants.{Initiate, Begin, Read, Write, Add, Complete, Permit, PermitAny, Delegate, Depend, Commit, Abort, WaitFor}
 use Rattle.asset_names.specs.declared.replies.Reply.{Reply}
 use Rattle.asset_names.specs.declared.replies.Outcome.{Outcome}
 use Rattle.asset_names.specs.declared.replies.Outcome.TheVariants.{Answer, Wait}
@@ -39,6 +39,7 @@ use Rattle.asset_steps.specs.Ready.{locks_after, locks_waiting, released}
 use Rattle.asset_core.specs.Tables.{asker_of, pending_in}
 use Rattle.asset_ends.proofs.HistoryLemmas.{live_quiet, begin_quiet, complete_quiet, read_ends, write_ends, add_ends}
 use Rattle.asset_ends.proofs.PermitLaws.{permit_ends}
+use Rattle.asset_ends.proofs.OpenerLaws.{open_ends}
 use Rattle.asset_ends.proofs.ShowsLemmas.{live_shown}
 use Rattle.asset_ends.specs.Shows.{Shows}
 
@@ -114,6 +115,7 @@ asker_keeps (Initiate t parent) outcome asker = refl
 asker_keeps (Begin t) outcome asker = refl
 asker_keeps (Complete t) outcome asker = refl
 asker_keeps (Permit giver taker obs ops) outcome asker = refl
+asker_keeps (PermitAny giver obs ops) outcome asker = refl
 asker_keeps (Delegate giver taker obs) outcome asker = refl
 asker_keeps (Depend kind a b) outcome asker = refl
 asker_keeps (Commit t) outcome asker = refl
@@ -152,6 +154,7 @@ asker_unchanged (Initiate t parent) reply asker none = refl
 asker_unchanged (Begin t) reply asker none = refl
 asker_unchanged (Complete t) reply asker none = refl
 asker_unchanged (Permit giver taker obs ops) reply asker none = refl
+asker_unchanged (PermitAny giver obs ops) reply asker none = refl
 asker_unchanged (Delegate giver taker obs) reply asker none = refl
 asker_unchanged (Depend kind a b) reply asker none = refl
 asker_unchanged (Commit t) reply asker none = refl
@@ -167,6 +170,7 @@ new_unchanged (Write t x v) reply none = refl
 new_unchanged (Add t x v) reply none = refl
 new_unchanged (Complete t) reply none = refl
 new_unchanged (Permit giver taker obs ops) reply none = refl
+new_unchanged (PermitAny giver obs ops) reply none = refl
 new_unchanged (Delegate giver taker obs) reply none = refl
 new_unchanged (Depend kind a b) reply none = refl
 new_unchanged (Commit t) reply none = refl
@@ -213,6 +217,7 @@ waiting_askers (Initiate t parent) tables = same_askers _ _ (λ asker. refl)
 waiting_askers (Begin t) tables = same_askers _ _ (λ asker. refl)
 waiting_askers (Complete t) tables = same_askers _ _ (λ asker. refl)
 waiting_askers (Permit giver taker obs ops) tables = same_askers _ _ (λ asker. refl)
+waiting_askers (PermitAny giver obs ops) tables = same_askers _ _ (λ asker. refl)
 waiting_askers (Delegate giver taker obs) tables = same_askers _ _ (λ asker. refl)
 waiting_askers (Depend kind a b) tables = same_askers _ _ (λ asker. refl)
 waiting_askers (Commit t) tables = same_askers _ _ (λ asker. refl)
@@ -233,6 +238,7 @@ askers_waiting opening steps tables step stand =
       none (Add t x v) = refl
       none (Complete t) = refl
       none (Permit giver taker obs ops) = refl
+      none (PermitAny giver obs ops) = refl
       none (Delegate giver taker obs) = refl
       none (Depend kind a b) = refl
       none (Commit t) = refl
@@ -351,6 +357,9 @@ askers_carried opening steps tables (Add t x v) reply stand carried new =
 askers_carried opening steps tables (Permit giver taker obs ops) reply stand carried new =
     nobody_ended (Permit giver taker obs ops ∷ steps) steps (Permit giver taker obs ops) (Answer reply) (pending_in tables.locks) (λ n listed. live_quiet (Permit giver taker obs ops ∷ steps) steps refl (permit_ends giver taker obs ops steps) n ∙ asker_live opening steps tables stand n listed) refl
     ∙ same_askers _ _ (λ asker. refl)
+askers_carried opening steps tables (PermitAny giver obs ops) reply stand carried new =
+    nobody_ended (PermitAny giver obs ops ∷ steps) steps (PermitAny giver obs ops) (Answer reply) (pending_in tables.locks) (λ n listed. live_quiet (PermitAny giver obs ops ∷ steps) steps refl (open_ends giver obs ops steps) n ∙ asker_live opening steps tables stand n listed) refl
+    ∙ same_askers _ _ (λ asker. refl)
 askers_carried opening steps tables (Delegate giver taker obs) reply stand carried new =
     nobody_ended (Delegate giver taker obs ∷ steps) steps (Delegate giver taker obs) (Answer reply) (pending_in tables.locks) (λ n listed. live_delegated giver taker obs steps n ∙ asker_live opening steps tables stand n listed) refl
     ∙ same_askers _ _ (λ asker. refl)
@@ -386,6 +395,7 @@ waits_still (Write t x v) tables none = absurd (false≢true (sym none))
 waits_still (Add t x v) tables none = absurd (false≢true (sym none))
 waits_still (Complete t) tables none = refl
 waits_still (Permit giver taker obs ops) tables none = refl
+waits_still (PermitAny giver obs ops) tables none = refl
 waits_still (Delegate giver taker obs) tables none = refl
 waits_still (Depend kind a b) tables none = refl
 waits_still (Commit t) tables none = refl

@@ -4,7 +4,7 @@ use Rattle.std.specs.Prelude.{Option}
 use Rattle.std.proofs.lemmas.Bool.{false≢true}
 use Rattle.asset_names.specs.declared.names.Txn.{Txn}
 use Rattle.asset_names.specs.declared.steps.Step.{Step}
-use Rattle.asset_names.specs.declared.steps.Step.TheVariants.{Initiate, Begin, Read, Write, Add, Complete, Permit, Delegate, Depend, Commit, Abort, WaitFor}
+use Rattle.asset_names.specs.declared.steps.Step.TheVariants.{Initiate, Begin, Read, Write, Add, Complete, Permit, PermitAny, Delegate, Depend, Commit, Abort, WaitFor}
 use Rattle.asset_names.specs.declared.replies.Reply.{Reply}
 use Rattle.asset_names.specs.declared.replies.Outcome.TheVariants.{Answer}
 use Rattle.asset_names.specs.Arrows.{lists}
@@ -40,6 +40,7 @@ no_ending steps (Read t x) reply takes = refl
 no_ending steps (Write t x v) reply takes = refl
 no_ending steps (Add t x v) reply takes = refl
 no_ending steps (Permit giver taker obs ops) reply takes = refl
+no_ending steps (PermitAny giver obs ops) reply takes = refl
 no_ending steps (Delegate giver taker obs) reply takes = refl
 no_ending steps (Depend kind a b) reply takes = refl
 no_ending steps (Begin t) reply takes = refl

@@ -243,6 +243,7 @@ impl Core {
             Step::Write { .. } => false,
             Step::Add { .. } => false,
             Step::Permit { .. } => false,
+            Step::PermitAny { .. } => false,
             Step::Delegate { .. } => false,
             Step::Depend { .. } => false,
             Step::WaitFor { .. } => false,

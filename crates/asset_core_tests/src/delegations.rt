@@ -7,8 +7,8 @@ use crate::opening::ROOM;
 use crate::reference::first_difference;
 use asset_names::{Ob, Ops, Step};
 use asset_test_tools::{
-    abort, add, begin, commit, complete, delegate, initiate, next, permit, permit_ops, read, wait,
-    write,
+    abort, add, begin, commit, complete, delegate, initiate, next, ops_of, permit, permit_any,
+    permit_ops, read, wait, write,
 };
 use std::alloc::Global;
 use std::test::Fail;
@@ -76,7 +76,7 @@ fn shared(number: u64, first: u64, count: u64, objects: u64) -> Step
     let y = ((number >> 10) % objects).saturating_add(1);
     let ops = (number % 3 != 0, number % 3 != 1);
     let with_add = Ops::with_add(number % 2 == 0, number % 3 == 0);
-    match (number >> 50) % 40 {
+    match (number >> 50) % 43 {
         0..=7 => read(t, x),
         8..=15 => write(t, x, (number % 1000) as i64),
         16..=20 => permit(t, taker, &[Ob(x)], ops),
@@ -88,6 +88,8 @@ fn shared(number: u64, first: u64, count: u64, objects: u64) -> Step
         30 => commit(t),
         31 => abort(t),
         32..=36 => add(t, x, (number % 1000) as i64 - 500),
+        40 => permit_any(t, &[Ob(x), Ob(y)], with_add),
+        41 | 42 => permit_any(t, &[Ob(x)], ops_of(number)),
         _ => permit_ops(t, taker, &[Ob(x)], with_add),
     }
 }

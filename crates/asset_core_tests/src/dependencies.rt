@@ -8,7 +8,8 @@ use crate::opening::ROOM;
 use crate::reference::first_difference;
 use asset_names::{Kind, Ob, Step};
 use asset_test_tools::{
-    abort, add, begin, commit, complete, delegate, depend, kind_of, next, permit, read, wait, write,
+    abort, add, begin, commit, complete, delegate, depend, kind_of, next, ops_of, permit,
+    permit_any, read, wait, write,
 };
 use std::test::Fail;
 
@@ -70,11 +71,12 @@ fn worked(number: u64, first: u64, count: u64) -> Step
     let t = first.saturating_add((number >> 40) % count);
     let other = first.saturating_add((number >> 30) % count);
     let x = ((number >> 20) % 2).saturating_add(1);
-    match (number >> 50) % 18 {
+    match (number >> 50) % 19 {
         0 | 1 => read(t, x),
         2..=4 => write(t, x, (number % 1000) as i64),
         15 | 16 => add(t, x, (number % 1000) as i64),
         5 => permit(t, other, &[], (true, true)),
+        18 => permit_any(t, &[Ob(x)], ops_of(number)),
         6 => delegate(t, other, &[Ob(x)]),
         7..=10 => complete(t),
         11..=13 => commit(t),

@@ -7,8 +7,8 @@ use asset_core::Core;
 use asset_names::{Fault, Ob, Ops, Outcome, Reply, Step, Txn};
 use asset_reference::{answer, status_after, value_if_any};
 use asset_test_tools::{
-    abort, add, begin, commit, complete, delegate, initiate, next, permit, permit_ops, read, wait,
-    write,
+    abort, add, begin, commit, complete, delegate, initiate, next, ops_of, permit, permit_any,
+    permit_ops, read, wait, write,
 };
 use std::alloc::Global;
 use std::test::Fail;
@@ -128,7 +128,7 @@ fn drawn(number: u64) -> Step {
     let t = 5 + (number >> 40) % 5;
     let x = 1 + (number >> 20) % 4;
     let taker = 5 + (number >> 30) % 5;
-    match (number >> 50) % 20 {
+    match (number >> 50) % 22 {
         0 | 1 => initiate(t),
         2 | 3 => begin(t),
         4 | 5 => read(t, x),
@@ -146,6 +146,7 @@ fn drawn(number: u64) -> Step {
             Ops::with_add(number % 2 == 0, number % 3 == 0),
         ),
         14 => permit(t, taker, &[], (true, true)),
+        20 | 21 => permit_any(t, &[Ob(x)], ops_of(number)),
         15 => delegate(t, taker, &[Ob(x)]),
         _ => delegate(t, taker, &[]),
     }

@@ -1,38 +1,22 @@
 -- What the groups of a history are, in the words of a reader.
-use Rattle.std.proofs.Common.{◌≡◌, ℕ, ◌<◌, Bool, true, false, cond, ◌||◌, eqb, List, [], ◌∷◌, ◌++◌, length, get_or, refl, sym, ap, subst, ◌∙◌, arith, suc, zero, inl, inr}
+use Rattle.std.proofs.Common.{◌≡◌, ℕ, ◌<◌, Bool, true, false, cond, eqb, List, [], ◌∷◌, ◌++◌, length, get_or, refl, sym, ap, subst, ◌∙◌, arith, suc, zero, inl, inr}
 use Rattle.std.specs.Prelude.{Result, Ok, Err, IfOk}
 use Rattle.std.proofs.lemmas.Bool.{cases_eq, eqb-true}
 use Rattle.asset_names.specs.declared.replies.NoMemory.{NoMemory}
 use Rattle.asset_names.specs.Arrows.{lists}
 use Rattle.asset_names.specs.Steps.{Entry}
-use Rattle.asset_names.specs.Groups.{actor, partner, same_group, acted_on_by, acted_on}
+use Rattle.asset_names.specs.Groups.{actor, partner, same_group}
 use Rattle.asset_names.specs.Orderly.{Distinct}
-use Rattle.asset_names.proofs.ListLemmas.{lists_pushed, distinct_pushed}
+use Rattle.asset_names.proofs.ListLemmas.{distinct_pushed}
 use Rattle.asset_labels.specs.Numbered.{groups_before, group_numbers, group_count}
 use Rattle.asset_labels.proofs.NumberLemmas.{before_more, number_at}
 use Rattle.asset_deletion.specs.Named.{with_name, names_of, Means}
 use Rattle.asset_deletion.specs.Grouping.{Grouping, first_labels, grouping_of}
 use Rattle.asset_deletion.specs.Grouped.{IsFirst, AreGroups}
+use Rattle.asset_deletion.proofs.NameLemmas.{all_acted}
 use Rattle.asset_deletion.proofs.GroupingLemmas.{labels_first, labels_exist, entries_numbered}
 
 -- ---- the names
-names_more : (names : List ℕ) (n m : ℕ) → lists (with_name names n) m ≡ (lists names m || eqb n m)
-unfolding with_name
-names_more names n m = go (lists names n) refl where
-  here : (b : Bool) → eqb n m ≡ b → lists names n ≡ true → lists names m ≡ (lists names m || b)
-  here false e h = none (lists names m) where
-    none : (a : Bool) → a ≡ (a || false)
-    none true = refl
-    none false = refl
-  here true e h = (ap (lists names) (sym (eqb-true n m e)) ∙ h) ∙ sym (all (lists names m)) where
-    all : (a : Bool) → (a || true) ≡ true
-    all true = refl
-    all false = refl
-
-  go : (b : Bool) → lists names n ≡ b → lists (cond b names (names ++ n ∷ [])) m ≡ (lists names m || eqb n m)
-  go true e = here (eqb n m) refl e
-  go false e = lists_pushed names n m
-
 names_once : (names : List ℕ) (n : ℕ) → Distinct names → Distinct (with_name names n)
 unfolding with_name
 names_once names n distinct = go (lists names n) refl where
@@ -44,20 +28,6 @@ all_once : (entries : List Entry) → Distinct (names_of entries)
 unfolding names_of
 all_once [] = tt
 all_once (entry ∷ older) = names_once _ (partner entry.0).0 (names_once _ (actor entry.0).0 (all_once older))
-
-all_acted : (entries : List Entry) (n : ℕ) → lists (names_of entries) n ≡ lists (acted_on entries) n
-unfolding names_of acted_on acted_on_by lists
-all_acted [] n = refl
-all_acted (entry ∷ older) n =
-    names_more _ (partner entry.0).0 n ∙ ap (λ b. b || eqb (partner entry.0).0 n) (names_more (names_of older) (actor entry.0).0 n ∙ ap (λ b. b || eqb (actor entry.0).0 n) (all_acted older n))
-    ∙ turned (lists (acted_on older) n) (eqb (actor entry.0).0 n) (eqb (partner entry.0).0 n) where
-      turned : (a b c : Bool) → ((a || b) || c) ≡ (b || (c || a))
-      turned true true c = refl
-      turned true false true = refl
-      turned true false false = refl
-      turned false true c = refl
-      turned false false true = refl
-      turned false false false = refl
 
 -- ---- the numbers
 -- each number below the count is that of a name that is its own label

@@ -2,20 +2,23 @@
 use Rattle.std.proofs.Common.{◌≡◌, ℕ, ◌<◌, ◌≤◌, Bool, true, not, cond, ltb, ◌&&◌, eqb, List, [], ◌∷◌, ◌++◌, length, get_or, map, refl, sym, ap, subst, ◌∙◌, arith, inl, inr, ◌⊎◌, Some, None, false}
 use Rattle.std.specs.Prelude.{Option, position, is_some}
 use Rattle.std.specs.List.{position_or_len}
-use Rattle.std.proofs.lemmas.Bool.{ltb-false, cases_eq, cases_lt, eq-eqb, ne_eqb, false≢true}
+use Rattle.std.proofs.lemmas.Bool.{ltb-false, cases_eq, cases_lt, eq-eqb, ne_eqb, false≢true, or_left, or_right, and_from}
 use Rattle.std.proofs.lemmas.List.{length-map, get_or-map, ext_get_or, get_or_push, length_push}
 use Rattle.std.proofs.lemmas.List.Sums.{position_or_len_is, prefix_len_passes}
-use Rattle.asset_names.specs.Arrows.{lists}
+use Rattle.asset_names.specs.Arrows.{Arrow, lists, has_arrow}
 use Rattle.asset_names.specs.Steps.{Entry}
 use Rattle.asset_names.specs.Groups.{actor, partner, same_group, dead}
 use Rattle.asset_names.proofs.ListLemmas.{listed_at, lists_at}
 use Rattle.asset_labels.specs.Numbered.{groups_before, group_numbers, group_count}
 use Rattle.asset_labels.proofs.NumberLemmas.{before_more, number_at, numbers_long}
 use Rattle.asset_labels.specs.Labelled.{merged}
-use Rattle.asset_deletion.specs.Named.{with_name, names_of, joined, Means, IsNumbered}
+use Rattle.asset_meetings.specs.Uses.{meetings_of}
+use Rattle.asset_meetings.specs.Meetings.{arrows_of, partners}
+use Rattle.asset_meetings.proofs.SameLemmas.{are_meetings}
+use Rattle.asset_deletion.specs.Named.{with_name, names_of, led_by, joined, Means, IsNumbered}
 use Rattle.asset_deletion.specs.Grouping.{Grouping, first_labels, grouping_of, number_in, same_number, dead_in, dead_at}
-use Rattle.asset_deletion.proofs.MeansLemmas.{merged_means, named_means, no_entries, means_alike, entry_joins}
-use Rattle.asset_deletion.proofs.NameLemmas.{with_new, with_old, with_name_at}
+use Rattle.asset_deletion.proofs.MeansLemmas.{merged_means, named_means, no_entries, means_alike, one_joins, entry_joins}
+use Rattle.asset_deletion.proofs.NameLemmas.{with_new, with_old, with_name_at, all_acted}
 use Rattle.asset_deletion.proofs.MarkLemmas.{listed_where}
 
 -- ---- labels that mean groups are the indices of first names
@@ -86,13 +89,43 @@ two_named leads names labels a b means =
     let one : Means (joined leads a (get_or after j.0 0)) after labels_after = subst (λ (x : ℕ). Means (joined leads x (get_or after j.0 0)) after labels_after) is_a joint in
     (labels_after, subst (λ (x : ℕ). Means (joined leads a x) after labels_after) j.2 one)
 
-pub labels_exist : (entries : List Entry) → (labels : List ℕ) × Means (same_group entries) (names_of entries) labels
+-- those of partners
+partners_labelled : (entries : List Entry) → (labels : List ℕ) × Means (led_by (partners entries)) (names_of entries) labels
 unfolding names_of
-labels_exist [] = ([], no_entries)
-labels_exist (entry ∷ older) =
-    let before = labels_exist older in
-    let after = two_named (same_group older) (names_of older) before.0 (actor entry.0).0 (partner entry.0).0 before.1 in
-    (after.0, means_alike (joined (same_group older) (actor entry.0).0 (partner entry.0).0) (same_group (entry ∷ older)) _ _ (λ n m. sym (entry_joins entry older n m)) after.1)
+partners_labelled [] = ([], no_entries)
+partners_labelled (entry ∷ older) =
+    let before = partners_labelled older in
+    let after = two_named (led_by (partners older)) (names_of older) before.0 (actor entry.0).0 (partner entry.0).0 before.1 in
+    (after.0, means_alike (joined (led_by (partners older)) (actor entry.0).0 (partner entry.0).0) (led_by (partners (entry ∷ older))) _ _ (λ n m. sym (entry_joins entry older n m)) after.1)
+
+-- a join of two who are named
+two_joined : (joins : List Arrow) (names labels : List ℕ) (a b : ℕ) → Means (led_by joins) names labels → lists names a ≡ true → lists names b ≡ true → (more : List ℕ) × Means (led_by ((a, b) ∷ joins)) names more
+two_joined joins names labels a b means is_a is_b =
+    let i = listed_at names a is_a in
+    let j = listed_at names b is_b in
+    let more : List ℕ = merged labels (get_or labels i.0 0) (get_or labels j.0 0) in
+    let joint : Means (joined (led_by joins) (get_or names i.0 0) (get_or names j.0 0)) names more = merged_means (led_by joins) names labels i.0 j.0 means i.1 j.1 in
+    let one : Means (joined (led_by joins) a (get_or names j.0 0)) names more = subst (λ (x : ℕ). Means (joined (led_by joins) x (get_or names j.0 0)) names more) i.2 joint in
+    let both : Means (joined (led_by joins) a b) names more = subst (λ (x : ℕ). Means (joined (led_by joins) a x) names more) j.2 one in
+    (more, means_alike (joined (led_by joins) a b) (led_by ((a, b) ∷ joins)) names more (λ n m. sym (one_joins joins a b n m)) both)
+
+-- those of more joins
+all_joined : (met joins : List Arrow) (names labels : List ℕ) → Means (led_by joins) names labels → ((u v : ℕ) → has_arrow met u v ≡ true → (lists names u ≡ true) × (lists names v ≡ true))
+    → (more : List ℕ) × Means (led_by (met ++ joins)) names more
+unfolding has_arrow
+all_joined [] joins names labels means named = (labels, means)
+all_joined (arrow ∷ met) joins names labels means named =
+    let before = all_joined met joins names labels means (λ u v h. named u v (or_right (eqb arrow.0 u && eqb arrow.1 v) _ h)) in
+    let here = named arrow.0 arrow.1 (or_left _ _ (and_from _ _ (eq-eqb arrow.0 arrow.0 refl) (eq-eqb arrow.1 arrow.1 refl))) in
+    two_joined (met ++ joins) names before.0 arrow.0 arrow.1 before.1 here.0 here.1
+
+pub labels_exist : (entries : List Entry) → (labels : List ℕ) × Means (same_group entries) (names_of entries) labels
+unfolding led_by
+labels_exist entries =
+    let met = are_meetings entries in
+    let first = partners_labelled entries in
+    let all = all_joined (arrows_of (meetings_of entries)) (partners entries) (names_of entries) first.0 first.1 (λ u v h. let acted = met.named u v h in (all_acted entries u ∙ acted.0, all_acted entries v ∙ acted.1)) in
+    (all.0, means_alike (led_by (arrows_of (meetings_of entries) ++ partners entries)) (same_group entries) (names_of entries) all.0 met.groups all.1)
 
 pub entries_numbered : (entries : List Entry) → IsNumbered (same_group entries) (names_of entries) (grouping_of entries).numbers (grouping_of entries).count
 unfolding grouping_of

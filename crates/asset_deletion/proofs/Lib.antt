@@ -5,3 +5,4 @@ pub mod MarkLemmas
 pub mod GroupingLemmas
 pub mod WithoutLemmas
 pub mod GroupedLemmas
+pub mod JoinLemmas

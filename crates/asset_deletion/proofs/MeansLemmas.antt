@@ -4,14 +4,15 @@ use Rattle.std.proofs.lemmas.Bool.{cases_eq, eq-eqb, ne_eqb, false≢true}
 use Rattle.std.proofs.lemmas.Bool.Decides.{nat_tests}
 use Rattle.std.specs.List.{list_any}
 use Rattle.std.proofs.lemmas.List.{length-map, get_or-map, length_push}
-use Rattle.asset_names.specs.Arrows.{lists, linked}
+use Rattle.asset_names.specs.Arrows.{Arrow, lists, linked}
 use Rattle.asset_names.specs.Paths.{both_ways}
 use Rattle.asset_names.specs.Steps.{Entry}
-use Rattle.asset_names.specs.Groups.{joined_by, joins, same_group, actor, partner}
+use Rattle.asset_names.specs.Groups.{actor, partner}
 use Rattle.asset_names.proofs.ListLemmas.{lists_at}
 use Rattle.asset_labels.specs.Labelled.{relabelled, merged}
 use Rattle.asset_labels.proofs.LabelLemmas.{old_at, last_at}
-use Rattle.asset_deletion.specs.Named.{along, joined, Means}
+use Rattle.asset_meetings.specs.Meetings.{partners}
+use Rattle.asset_deletion.specs.Named.{led_by, along, joined, Means}
 
 -- ---- a label after a join
 renamed : ℕ → ℕ → ℕ → ℕ
@@ -163,14 +164,19 @@ named_means leads names labels n means new =
     }
 
 -- ---- the groups of entries
-pub no_entries : Means (same_group []) [] []
-unfolding same_group joins both_ways linked
+pub no_entries : Means (led_by (partners [])) [] []
+unfolding led_by partners both_ways linked
 no_entries = record { long = refl; low = λ k below. absurd (omega arith); own = λ k below. absurd (omega arith); same = λ i j is_i is_j. absurd (omega arith); first = λ n m not. refl; second = λ n m not. refl }
 
+-- one more join
+pub one_joins : (joins : List Arrow) (a b n m : ℕ) → led_by ((a, b) ∷ joins) n m ≡ joined (led_by joins) a b n m
+unfolding led_by both_ways linked joined along
+one_joins joins a b n m = refl
+
 -- an entry joins its two transactions
-pub entry_joins : (entry : Entry) (older : List Entry) (n m : ℕ) → same_group (entry ∷ older) n m ≡ joined (same_group older) (actor entry.0).0 (partner entry.0).0 n m
-unfolding same_group joins joined_by both_ways linked joined along
-entry_joins entry older n m = refl
+pub entry_joins : (entry : Entry) (older : List Entry) (n m : ℕ) → led_by (partners (entry ∷ older)) n m ≡ joined (led_by (partners older)) (actor entry.0).0 (partner entry.0).0 n m
+unfolding partners
+entry_joins entry older n m = one_joins (partners older) (actor entry.0).0 (partner entry.0).0 n m
 
 -- tests that agree mean the same
 pub means_alike : (f g : ℕ → ℕ → Bool) (names labels : List ℕ) → ((n m : ℕ) → f n m ≡ g n m) → Means f names labels → Means g names labels

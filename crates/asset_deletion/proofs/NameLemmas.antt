@@ -1,5 +1,5 @@
 -- Names in order of first use, entry by entry.
-use Rattle.std.proofs.Common.{◌≡◌, ℕ, ◌+◌, ◌<◌, true, false, cond, eqb, List, [], ◌∷◌, ◌++◌, length, get_or, take, reverse, refl, sym, ap, ◌∙◌, arith, inl, inr, Some, None}
+use Rattle.std.proofs.Common.{◌≡◌, ℕ, ◌+◌, ◌<◌, Bool, true, false, cond, eqb, ◌||◌, List, [], ◌∷◌, ◌++◌, length, get_or, take, reverse, refl, sym, ap, ◌∙◌, arith, inl, inr, Some, None}
 use Rattle.std.specs.Prelude.{Option, slice_get}
 use Rattle.std.specs.List.{list_any}
 use Rattle.std.specs.Option.{option_map}
@@ -11,12 +11,13 @@ use Rattle.indexmap.specs.IndexSet.{insert_key}
 use Rattle.asset_names.specs.declared.names.Txn.{Txn}
 use Rattle.asset_names.specs.Arrows.{lists}
 use Rattle.asset_names.specs.Steps.{Entry}
-use Rattle.asset_names.specs.Groups.{actor, partner, same_group}
+use Rattle.asset_names.specs.Groups.{actor, partner, acted_on_by, acted_on}
+use Rattle.asset_meetings.specs.Meetings.{partners}
 use Rattle.asset_names.proofs.Common.{eqb-flip}
-use Rattle.asset_names.proofs.ListLemmas.{any_alike}
+use Rattle.asset_names.proofs.ListLemmas.{any_alike, lists_pushed}
 use Rattle.asset_history.specs.Acting.{both_of}
 use Rattle.asset_deletion.specs.Grouping.{named}
-use Rattle.asset_deletion.specs.Named.{with_name, names_of, joined}
+use Rattle.asset_deletion.specs.Named.{with_name, names_of, led_by, joined}
 use Rattle.asset_deletion.proofs.MeansLemmas.{entry_joins}
 
 -- ---- one more name
@@ -55,12 +56,12 @@ pair t u = (t, u)
 -- what the entry at i adds to the names and joins
 pub entry_named : (entries : List Entry) (i : ℕ) (t u : Txn) → Some (pair t u) ≡ option_map both_of (slice_get entries i)
     → (names_of (reverse (take (i + 1) entries)) ≡ with_name (with_name (names_of (reverse (take i entries))) t.0) u.0)
-    × ((n m : ℕ) → joined (same_group (reverse (take i entries))) t.0 u.0 n m ≡ same_group (reverse (take (i + 1) entries)) n m)
+    × ((n m : ℕ) → joined (led_by (partners (reverse (take i entries)))) t.0 u.0 n m ≡ led_by (partners (reverse (take (i + 1) entries))) n m)
 unfolding names_of
 entry_named entries i t u is = go (slice_get entries i) refl is where
   go : (found : Option Entry) → slice_get entries i ≡ found → Some (pair t u) ≡ option_map both_of found
       → (names_of (reverse (take (i + 1) entries)) ≡ with_name (with_name (names_of (reverse (take i entries))) t.0) u.0)
-      × ((n m : ℕ) → joined (same_group (reverse (take i entries))) t.0 u.0 n m ≡ same_group (reverse (take (i + 1) entries)) n m)
+      × ((n m : ℕ) → joined (led_by (partners (reverse (take i entries)))) t.0 u.0 n m ≡ led_by (partners (reverse (take (i + 1) entries))) n m)
   go None at is = absurd (cc)
   go (Some entry) at is =
       let same : pair t u ≡ both_of entry = cc in
@@ -83,3 +84,35 @@ told_name None t is = absurd cc
 pub no_name : (found : Option ℕ) → option_map named found ≡ None → found ≡ None
 no_name (Some n) is = absurd cc
 no_name None is = refl
+
+-- ---- the names are of those who were acted on
+pub names_more : (names : List ℕ) (n m : ℕ) → lists (with_name names n) m ≡ (lists names m || eqb n m)
+unfolding with_name
+names_more names n m = go (lists names n) refl where
+  here : (b : Bool) → eqb n m ≡ b → lists names n ≡ true → lists names m ≡ (lists names m || b)
+  here false e h = none (lists names m) where
+    none : (a : Bool) → a ≡ (a || false)
+    none true = refl
+    none false = refl
+  here true e h = (ap (lists names) (sym (eqb-true n m e)) ∙ h) ∙ sym (all (lists names m)) where
+    all : (a : Bool) → (a || true) ≡ true
+    all true = refl
+    all false = refl
+
+  go : (b : Bool) → lists names n ≡ b → lists (cond b names (names ++ n ∷ [])) m ≡ (lists names m || eqb n m)
+  go true e = here (eqb n m) refl e
+  go false e = lists_pushed names n m
+
+pub all_acted : (entries : List Entry) (n : ℕ) → lists (names_of entries) n ≡ lists (acted_on entries) n
+unfolding names_of acted_on acted_on_by lists
+all_acted [] n = refl
+all_acted (entry ∷ older) n =
+    names_more _ (partner entry.0).0 n ∙ ap (λ b. b || eqb (partner entry.0).0 n) (names_more (names_of older) (actor entry.0).0 n ∙ ap (λ b. b || eqb (actor entry.0).0 n) (all_acted older n))
+    ∙ turned (lists (acted_on older) n) (eqb (actor entry.0).0 n) (eqb (partner entry.0).0 n) where
+      turned : (a b c : Bool) → ((a || b) || c) ≡ (b || (c || a))
+      turned true true c = refl
+      turned true false true = refl
+      turned true false false = refl
+      turned false true c = refl
+      turned false false true = refl
+      turned false false false = refl

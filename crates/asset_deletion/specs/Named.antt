@@ -1,6 +1,7 @@
 -- Names in order of first use, and labels that say which of them are of one group.
 use Rattle.std.specs.Prelude.{◌≡◌, ℕ, ◌<◌, ◌≤◌, Bool, false, cond, ◌&&◌, ◌||◌, nat_eq, List, [], ◌∷◌, ◌++◌, length, slice_index}
-use Rattle.asset_names.specs.Arrows.{lists}
+use Rattle.asset_names.specs.Arrows.{Arrow, lists, linked}
+use Rattle.asset_names.specs.Paths.{both_ways}
 use Rattle.asset_names.specs.Steps.{Entry}
 use Rattle.asset_names.specs.Groups.{actor, partner}
 
@@ -12,6 +13,10 @@ with_name names n = cond (lists names n) names (names ++ n ∷ [])
 unfoldable pub names_of : List Entry → List ℕ
 names_of [] = []
 names_of (entry ∷ older) = with_name (with_name (names_of older) (actor entry.0).0) (partner entry.0).0
+
+-- whether joins lead from one name to the other, in either direction
+unfoldable pub led_by : List Arrow → ℕ → ℕ → Bool
+led_by joins n m = linked (both_ways joins) n m
 
 -- n leads to m as before, or by one arrow from a to b
 unfoldable pub along : (ℕ → ℕ → Bool) → ℕ → ℕ → ℕ → ℕ → Bool

@@ -6,6 +6,7 @@ mod deleting;
 mod going;
 mod grouped;
 mod grouping;
+mod joining;
 mod marking;
 mod naming;
 

@@ -39,6 +39,7 @@ use Rattle.asset_ends.specs.Shows.{Shows, used, cell_after, cell_of, permitted, 
 use Rattle.asset_ends.proofs.CellLemmas.{cell_same}
 use Rattle.asset_ends.proofs.DependLaws.{depended_quiet}
 use Rattle.asset_ends.proofs.HistoryLemmas.{enrolled_quiet}
+use Rattle.asset_ends.proofs.OpenerLaws.{opener_delegate}
 use Rattle.asset_ends.proofs.ShowsLemmas.{status_quiet}
 
 -- ---- cells
@@ -245,9 +246,6 @@ delegate_shows opening steps rows objects table descriptors deps giver taker obs
   enrolled = names_handed giver.0 taker.0 obs table ∙ shows.enrolled ∙ sym (enrolled_quiet (Delegate giver taker obs ∷ steps) steps refl (delegate_ends giver taker obs steps));
   locks = λ n x op. carries_given giver.0 taker.0 obs table n x op valid enrolled ∙ rw (shows.locks giver.0 x op, shows.locks n x op) (sym (holds_delegated giver taker obs steps gives takes n x op));
   permits_stand = λ u n x op. copied u n x op ∙ rw (lists_moved steps table giver.0 obs valid shows.locks x, shows.permits_stand u n x op, shows.permits_stand giver.0 n x op) (sym (permitted_delegate giver taker obs steps gives takes u n x op));
-  none_opens = λ u x op. opened u x op ∙ rw (shows.none_opens u x op, shows.none_opens giver.0 x op) (never (eqb u taker.0 && lists (numbers (filter (λ (o : Ob). in_set obs o.0) (Locks.held_in table giver.0))) x));
+  openers_stand = λ u x op. opened u x op ∙ rw (lists_moved steps table giver.0 obs valid shows.locks x, shows.openers_stand u x op, shows.openers_stand giver.0 x op) (sym (opener_delegate giver taker obs steps gives takes u x op));
   dependencies_stand = λ k u v. shows.dependencies_stand k u v ∙ sym (depended_quiet (Delegate giver taker obs ∷ steps) steps refl (delegate_ends giver taker obs steps) (λ y. refl) k u v);
-} where
-  never : (b : Bool) → (false || (b && false)) ≡ false
-  never true = refl
-  never false = refl
+}

@@ -15,7 +15,7 @@ use Rattle.asset_names.specs.declared.steps.Step.TheVariants.{Initiate, Begin, R
 use Rattle.asset_names.specs.Arrows.{lists}
 use Rattle.asset_names.specs.Steps.{Opening, initiated, initiated_by}
 use Rattle.asset_names.specs.Endings.{dependencies, dependency_by, live, end_of, ended_by}
-use Rattle.asset_names.specs.Operations.{Use, Operation, operations, operated, opening_at, op_of, same_op, holds, permits, permitted_by}
+use Rattle.asset_names.specs.Operations.{Use, Operation, operations, operated, opening_at, op_of, same_op, holds, permits, permitted_by, openers, opened_by}
 use Rattle.asset_names.specs.Orderly.{IsOrderly}
 use Rattle.asset_names.proofs.LiveLemmas.{live_initiate}
 use Rattle.asset_names.proofs.EndLemmas.{live_parts, commits, aborts, commits_live, aborts_live, commit_ends, abort_ends}
@@ -75,6 +75,7 @@ pub record IsQuiet (later steps : List Step) : Type 0 where
   pub applied : operations later ≡ operations steps
   pub ends : (n : ℕ) → end_of later n ≡ end_of steps n
   pub arrows : (x : ℕ) (op : Op) → permits later x op ≡ permits steps x op
+  pub opened : (x : ℕ) (op : Op) → openers later x op ≡ openers steps x op
   pub kept : (kind : Kind) → dependencies kind later ≡ dependencies kind steps
 
 pub live_quiet : (later steps : List Step) → initiated later ≡ initiated steps → ((n : ℕ) → end_of later n ≡ end_of steps n) → (n : ℕ) → live later n ≡ live steps n
@@ -101,12 +102,12 @@ enrolled_quiet later steps names ends = rw names (filter_same (live later) (live
 
 -- steps that are quiet
 pub begin_quiet : (t : Txn) (steps : List Step) → IsQuiet (Begin t ∷ steps) steps
-unfolding initiated initiated_by operations operated end_of ended_by permits permitted_by dependencies dependency_by
-begin_quiet t steps = record { names = refl; applied = refl; arrows = λ x op. refl; kept = λ k. refl; ends = λ n. option_or_none (end_of steps n) }
+unfolding initiated initiated_by operations operated end_of ended_by permits permitted_by openers opened_by dependencies dependency_by
+begin_quiet t steps = record { names = refl; applied = refl; arrows = λ x op. refl; opened = λ x op. refl; kept = λ k. refl; ends = λ n. option_or_none (end_of steps n) }
 
 pub complete_quiet : (t : Txn) (steps : List Step) → IsQuiet (Complete t ∷ steps) steps
-unfolding initiated initiated_by operations operated end_of ended_by permits permitted_by dependencies dependency_by
-complete_quiet t steps = record { names = refl; applied = refl; arrows = λ x op. refl; kept = λ k. refl; ends = λ n. option_or_none (end_of steps n) }
+unfolding initiated initiated_by operations operated end_of ended_by permits permitted_by openers opened_by dependencies dependency_by
+complete_quiet t steps = record { names = refl; applied = refl; arrows = λ x op. refl; opened = λ x op. refl; kept = λ k. refl; ends = λ n. option_or_none (end_of steps n) }
 
 -- a new name
 pub enrolled_initiate : (u : Txn) (parent : Option Txn) (steps : List Step) → lists (initiated steps) u.0 ≡ false

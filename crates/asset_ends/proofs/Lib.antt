@@ -3,6 +3,7 @@ pub mod TransLaws
 pub mod LockLaws
 pub mod HistoryLemmas
 pub mod PermitLaws
+pub mod OpenerLaws
 pub mod DependLaws
 pub mod ShowsLemmas
 pub mod TiedLemmas

@@ -29,6 +29,10 @@ IsAdded giver taker obs ops before later =
 abbrev pub OpensSame : List Descriptor → List Descriptor → Type 0
 OpensSame before later = (u x : ℕ) (op : Op) → opens later u x op ≡ opens before u x op
 
+-- what is permitted by name is as it was
+abbrev pub CoversSame : List Descriptor → List Descriptor → Type 0
+CoversSame before later = (u n x : ℕ) (op : Op) → one_covers later u n x op ≡ one_covers before u n x op
+
 -- a step that initiates nobody, ends nobody and permits nothing leaves each permit
 pub permitted_quiet : (later steps : List Step) → initiated later ≡ initiated steps → ((n : ℕ) → end_of later n ≡ end_of steps n) → ((x : ℕ) (op : Op) → permits later x op ≡ permits steps x op)
     → (u n x : ℕ) (op : Op) → permitted later u n x op ≡ permitted steps u n x op

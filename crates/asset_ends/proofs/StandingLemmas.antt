@@ -33,7 +33,7 @@ alike_shows opening steps later before alike shows = record {
   enrolled = rw alike.locks shows.enrolled;
   locks = λ t x op. rw alike.locks (shows.locks t x op);
   permits_stand = λ u t x op. alike.permits u t x op ∙ shows.permits_stand u t x op;
-  none_opens = λ u x op. alike.openers u x op ∙ shows.none_opens u x op;
+  openers_stand = λ u x op. alike.openers u x op ∙ shows.openers_stand u x op;
   dependencies_stand = λ k u v. rw alike.deps (shows.dependencies_stand k u v);
 }
 

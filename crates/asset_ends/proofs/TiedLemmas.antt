@@ -1,21 +1,25 @@
 -- The tables stay tied while nobody moves, and as one more sits down; by whom one without a seat is allowed.
-use Rattle.std.proofs.Common.{◌≡◌, ◌∙◌, ℕ, Bool, true, false, cond, eqb, ◌||◌, Some, None, refl, sym, ap}
+use Rattle.std.proofs.Common.{◌≡◌, ◌∙◌, ℕ, Bool, true, false, cond, eqb, ◌&&◌, ◌||◌, List, Some, None, refl, sym, ap}
 use Rattle.std.specs.Prelude.{is_some}
-use Rattle.std.proofs.lemmas.Bool.{eqb-true}
+use Rattle.std.proofs.lemmas.Bool.{eqb-true, or_left, false_from_ne_true}
 use Rattle.asset_names.specs.declared.names.Txn.{Txn}
 use Rattle.asset_names.specs.declared.operations.Op.{Op}
 use Rattle.asset_seats.specs.Seated.{Seated, seat}
 use Rattle.asset_objects.specs.Placed as Objects
 use Rattle.asset_objects.proofs.SeatLemmas as ObjectSeats
-use Rattle.asset_permits.specs.Descriptors.{reaches_opener, allows_by}
+use Rattle.asset_permits.specs.Descriptors.{Descriptor, leads_by, reaches_opener, allows_by}
 use Rattle.asset_permits.specs.Valid as Permits
-use Rattle.asset_permits.proofs.ArrowLaws.{allows_itself}
-use Rattle.asset_permits.proofs.SearchLemmas.{takes_nothing}
-use Rattle.asset_locks.specs.LockTable.{LockTable, enrol_in, enrolled_in}
+use Rattle.asset_permits.proofs.ArrowLaws.{leads_itself}
+use Rattle.asset_permits.proofs.SearchLemmas.{nothing_leads}
+use Rattle.asset_locks.specs.LockTable.{LockTable, enrol_in, enrolled_in, is_free_in}
 use Rattle.asset_locks.specs.Tied as Locks
 use Rattle.asset_locks.proofs.SeatLemmas as LockSeats
 use Rattle.asset_deps.specs.Valid as Deps
 use Rattle.asset_deps.proofs.TableLemmas as DepSeats
+use Rattle.asset_names.specs.declared.statuses.Status.TheVariants as Status'
+use Rattle.asset_names.specs.Endings.{is_live_status}
+use Rattle.asset_trans.specs.TransRows.{NamedTransRow, status_in, seat_in}
+use Rattle.asset_ends.specs.Standing.{LiveAreSeated, allows_in}
 use Rattle.asset_ends.specs.Tied.{AreTied, HasRoom}
 
 permits_same : (table : Permits.PermitTable) (seats new : Seated) → Permits.IsTied table seats → ((c : ℕ) → seat new c ≡ seat seats c) → Permits.IsTied table new
@@ -62,13 +66,31 @@ tied_sits written table given links seats new s t absent tied objects free sits 
   deps = DepSeats.tied_sits links seats new s t tied.deps free sits room.deps;
 }
 
--- who has no seat is allowed by itself, and by those who lead to an opener
-pub allowed_alone : (given : Permits.PermitTable) (seats : Seated) (t : Txn) (x : ℕ) (op : Op) → Permits.IsTied given seats → ((c : ℕ) → seat seats c ≡ Some t → ⊥) → (u : ℕ)
-    → (eqb u t.0 || reaches_opener (Permits.permits_in given) u x op) ≡ allows_by (Permits.permits_in given) u t.0 x op
-allowed_alone given seats t x op tied absent u = go (eqb u t.0) refl where
-  go : (same : Bool) → eqb u t.0 ≡ same → (same || reaches_opener (Permits.permits_in given) u x op) ≡ allows_by (Permits.permits_in given) u t.0 x op
-  go true e = sym (allows_itself (Permits.permits_in given) u x op) ∙ ap (λ n. allows_by (Permits.permits_in given) u n x op) (eqb-true u t.0 e)
-  go false e = sym (takes_nothing (Permits.parts_of given.permits seats) given.size tied x op (record { 0 = u }) t absent e)
+-- who is live is allowed by each who leads to an opener
+pub allowed_live : (rows : List NamedTransRow) (descriptors : List Descriptor) (t x : ℕ) (op : Op) → is_live_status (status_in rows t) ≡ true → (u : ℕ) → allows_by descriptors u t x op ≡ allows_in rows descriptors u t x op
+unfolding allows_by allows_in
+allowed_live rows descriptors t x op alive u = λ i. leads_by descriptors u t x op || (sym alive i && reaches_opener descriptors u x op)
+
+pub free_live : (rows : List NamedTransRow) (descriptors : List Descriptor) (table : LockTable) (t x : ℕ) (op : Op) → is_live_status (status_in rows t) ≡ true
+    → is_free_in table (λ u. allows_by descriptors u t x op) t x op ≡ is_free_in table (λ u. allows_in rows descriptors u t x op) t x op
+free_live rows descriptors table t x op alive = λ i. is_free_in table (λ u. allowed_live rows descriptors t x op alive u i) t x op
+
+pub free_running : (rows : List NamedTransRow) (descriptors : List Descriptor) (table : LockTable) (t x : ℕ) (op : Op) → status_in rows t ≡ Status'.Running
+    → is_free_in table (λ u. allows_by descriptors u t x op) t x op ≡ is_free_in table (λ u. allows_in rows descriptors u t x op) t x op
+unfolding is_live_status
+free_running rows descriptors table t x op runs = free_live rows descriptors table t x op (ap is_live_status runs)
+
+-- who has no seat is allowed by itself alone
+pub allowed_alone : (rows : List NamedTransRow) (given : Permits.PermitTable) (seats : Seated) (t : Txn) (x : ℕ) (op : Op) → LiveAreSeated rows seats → Permits.IsTied given seats → ((c : ℕ) → seat seats c ≡ Some t → ⊥) → (u : ℕ)
+    → eqb u t.0 ≡ allows_in rows (Permits.permits_in given) u t.0 x op
+unfolding allows_in
+allowed_alone rows given seats t x op seated tied absent u = leads (eqb u t.0) refl ∙ (λ i. leads_by (Permits.permits_in given) u t.0 x op || (sym dead i && reaches_opener (Permits.permits_in given) u x op)) where
+  dead : is_live_status (status_in rows t.0) ≡ false
+  dead = false_from_ne_true _ (λ alive. absent (seat_in rows t.0) (seated.seated t alive))
+
+  leads : (same : Bool) → eqb u t.0 ≡ same → same ≡ (leads_by (Permits.permits_in given) u t.0 x op || false)
+  leads true e = sym (or_left _ false (ap (λ n. leads_by (Permits.permits_in given) u n x op) (sym (eqb-true u t.0 e)) ∙ leads_itself (Permits.permits_in given) u x op))
+  leads false e = sym (ap (λ b. b || false) (nothing_leads (Permits.parts_of given.permits seats) given.size tied x op (record { 0 = u }) t absent e))
 
 -- who sits down and is enrolled then comes last among those who were enrolled before
 pub enrolled_last : (table : Locks.LockParts) (seats new : Seated) (t : Txn) (before after : LockTable) → Locks.rows_in new table ≡ Locks.rows_in seats table → Locks.rows_in seats table ≡ before → enrolled_in before t.0 ≡ None

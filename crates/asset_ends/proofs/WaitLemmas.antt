@@ -19,7 +19,8 @@ use Rattle.asset_seats.specs.Seated.{Seated, seat}
 use Rattle.asset_locks.specs.LockTable.{LockTable, carries, enrolled_in, names_in}
 use Rattle.asset_lock_store.specs.LockRules.{carries_on}
 use Rattle.asset_locks.specs.Blocking.{is_blocker_in, request_of, request_in}
-use Rattle.asset_permits.specs.Descriptors.{Descriptor, allows_by}
+use Rattle.asset_permits.specs.Descriptors.{Descriptor}
+use Rattle.asset_ends.specs.Standing.{allows_in}
 use Rattle.asset_deps.specs.Dependencies.{Dependency, class_ways, order_ways, class_in, is_outside_of, is_outside_source_in}
 use Rattle.asset_deps.proofs.OutsideLemmas.{arrow_of_any, any_of_arrow}
 use Rattle.asset_trans.specs.TransRows.{NamedTransRow, status_in, seat_in}
@@ -112,23 +113,23 @@ one_held table steps u x op same h = elim (or_cases _ _ h) [
 
 -- who blocks by the tables blocks by the history
 pub blocker_shown : (opening : _) (steps : List Step) (rows : List NamedTransRow) (objects : Cells) (table : LockTable) (descriptors : List Descriptor) (deps : List Dependency) (t x : ℕ) (op : Op) (u : ℕ)
-    → Shows opening steps (table_values rows objects table descriptors deps) → is_blocker_in table (λ n. allows_by descriptors n t x op) t x op u ≡ is_blocker steps t x op u
+    → Shows opening steps (table_values rows objects table descriptors deps) → is_blocker_in table (λ n. allows_in rows descriptors n t x op) t x op u ≡ is_blocker steps t x op u
 unfolding is_blocker
 blocker_shown opening steps rows objects table descriptors deps t x op u shows = both_follow _ _ to back where
-  alike : allows_by descriptors u t x op ≡ allows steps u t x op
+  alike : allows_in rows descriptors u t x op ≡ allows steps u t x op
   alike = allows_shown opening steps rows objects table descriptors deps u t x op shows
 
-  to : is_blocker_in table (λ n. allows_by descriptors n t x op) t x op u ≡ true → (not (eqb u t) && not (allows steps u t x op) && holds_against steps u x op) ≡ true
+  to : is_blocker_in table (λ n. allows_in rows descriptors n t x op) t x op u ≡ true → (not (eqb u t) && not (allows steps u t x op) && holds_against steps u x op) ≡ true
   to h =
-      let by = blocker_carries (λ n. allows_by descriptors n t x op) t x op u table h in
+      let by = blocker_carries (λ n. allows_in rows descriptors n t x op) t x op u table h in
       and_from _ _ (and_from _ _ (ap not by.0) (ap not (sym alike ∙ by.1))) (held_one table steps u x op by.2.0 (λ o. shows.locks u x o) by.2.1 by.2.2)
 
-  back : (not (eqb u t) && not (allows steps u t x op) && holds_against steps u x op) ≡ true → is_blocker_in table (λ n. allows_by descriptors n t x op) t x op u ≡ true
+  back : (not (eqb u t) && not (allows steps u t x op) && holds_against steps u x op) ≡ true → is_blocker_in table (λ n. allows_in rows descriptors n t x op) t x op u ≡ true
   back h =
       let last = and_parts _ (holds_against steps u x op) h in
       let first = and_parts (not (eqb u t)) (not (allows steps u t x op)) last.0 in
       let by = one_held table steps u x op (λ o. shows.locks u x o) last.1 in
-      carrier_blocks (λ n. allows_by descriptors n t x op) t x op u by.0 table (not-true _ first.0) (alike ∙ not-true _ first.1) by.1 by.2
+      carrier_blocks (λ n. allows_in rows descriptors n t x op) t x op u by.0 table (not-true _ first.0) (alike ∙ not-true _ first.1) by.1 by.2
 
 -- ---- who is live has a seat
 pub live_by_seat : (opening : _) (steps : List Step) (rows : List NamedTransRow) (objects : Cells) (table : LockTable) (descriptors : List Descriptor) (deps : List Dependency) (seats : Seated) (c : ℕ) (t : Txn)

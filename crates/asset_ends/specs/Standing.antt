@@ -7,7 +7,7 @@ use Rattle.asset_names.specs.declared.steps.Step.{Step}
 use Rattle.asset_names.specs.Arrows.{lists}
 use Rattle.asset_names.specs.Endings.{is_live_status}
 use Rattle.asset_names.specs.Answers.{is_completed}
-use Rattle.asset_permits.specs.Descriptors.{Descriptor, one_covers, opens, allows_by}
+use Rattle.asset_permits.specs.Descriptors.{Descriptor, one_covers, opens, leads_by, reaches_opener}
 use Rattle.asset_objects.specs.Cells.{ObjectTable, cells}
 use Rattle.asset_seats.specs.Seated.{Seated, seat}
 use Rattle.asset_deps.specs.Dependencies.{Dependency, class_in, outside_source_in}
@@ -29,9 +29,14 @@ pub record Standing : Type 0 where
 abbrev pub values_of : Standing → TableValues
 values_of tables = table_values tables.trans (cells tables.objects) tables.locks tables.permits tables.deps
 
+-- whether u allows t to do op on x, by the rows and the descriptors: a chain of permits leads from u to t, or t is live and such
+-- a chain leads from u to an opener
+unfoldable pub allows_in : List NamedTransRow → List Descriptor → ℕ → ℕ → ℕ → Op → Bool
+allows_in rows descriptors u t x op = leads_by descriptors u t x op || is_live_status (status_in rows t) && reaches_opener descriptors u x op
+
 -- the object is free by the locks
 unfoldable pub is_free_for : Standing → ℕ → ℕ → Op → Bool
-is_free_for tables t x op = Locks.is_free_in tables.locks (λ u. allows_by tables.permits u t x op) t x op
+is_free_for tables t x op = Locks.is_free_in tables.locks (λ u. allows_in tables.trans tables.permits u t x op) t x op
 
 -- the steps after one that takes effect only if something holds
 unfoldable pub step_if : Bool → Step → List Step → List Step

@@ -50,12 +50,11 @@ impl Tables {
     ghost use Rattle.asset_objects.specs.Placed.{objects_in, IsTied};
     ghost use Rattle.asset_seats.specs.Seated.{Seated, seat};
     ghost use Rattle.asset_locks.specs.LockTable.{waiters_in};
-    ghost use Rattle.asset_permits.specs.Descriptors.{allows_by};
     ghost use Rattle.asset_trans.specs.TransRows.{status_in, seat_in, owed_in, ended_in};
     ghost use Rattle.asset_names.specs.Counted.{ended_count};
     ghost use Rattle.asset_ends.specs.Shown.{ForShown};
     ghost use Rattle.asset_ends.specs.Shows.{Shows};
-    ghost use Rattle.asset_ends.specs.Standing.{values_of, is_free_for};
+    ghost use Rattle.asset_ends.specs.Standing.{values_of, allows_in, is_free_for};
 
     /// Returns the tables of an opening, before the first step.
     ///
@@ -155,7 +154,7 @@ impl Tables {
     pub fn is_free(&mut self, t: Txn, x: Ob, op: Op) -> bool
         ensures free { result ≡ is_free_for self.old t.0 x.0 op }
         ensures shown { ForShown self.old (λ opening steps. result ≡ free steps t.0 x.0 op) }
-        ensures allowed { ForShown self.old (λ opening steps. (u v y : ℕ) (o : Operation) → allows_by self.old.permits u v y o ≡ allows steps u v y o) }
+        ensures allowed { ForShown self.old (λ opening steps. (u v y : ℕ) (o : Operation) → allows_in self.old.trans self.old.permits u v y o ≡ allows steps u v y o) }
         ensures same { self.new ≡ self.old }
     {
         is_free(

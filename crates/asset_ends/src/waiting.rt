@@ -6,15 +6,14 @@ ghost use Rattle.asset_names.specs.declared.statuses.Status.{Status as StatusOf}
 ghost use Rattle.asset_locks.specs.Blocking.{is_blocker_in, request_in};
 ghost use Rattle.asset_locks.specs.LockTable.{carries};
 ghost use Rattle.asset_locks.specs.Tied.{rows_in, IsTied};
-ghost use Rattle.asset_permits.specs.Descriptors.{allows_by};
 ghost use Rattle.asset_permits.specs.Valid.{permits_in, IsTied as ArePermitsTied};
 ghost use Rattle.asset_deps.specs.Valid.{IsTied as AreDepsTied};
 ghost use Rattle.asset_trans.specs.TransRows.{status_in};
 ghost use Rattle.asset_ends.specs.Ended.{marked_by};
-ghost use Rattle.asset_ends.specs.Standing.{LiveAreSeated, AreEnrolled};
+ghost use Rattle.asset_ends.specs.Standing.{LiveAreSeated, AreEnrolled, allows_in};
 ghost use Rattle.asset_ends.specs.Waits.{is_sought};
 
-use crate::asking::ToAnybody;
+use crate::asking::NoPermits;
 use crate::parts::Parts;
 use crate::seating::sitter_of;
 use crate::tables::Tables;
@@ -86,7 +85,7 @@ fn blockers(alloc: Global, parts: &mut Parts, t: Txn, x: Ob, op: Op) -> Result<N
     requires seated { LiveAreSeated parts.old.trans parts.old.seats }
     requires locks { IsTied parts.old.locks parts.old.seats }
     requires permits { ArePermitsTied parts.old.permits parts.old.seats }
-    ensures named { IfOk result (λ found. (u : ℕ) → lists found.keys u ≡ is_blocker_in (rows_in parts.old.seats parts.old.locks) (λ n. allows_by (permits_in parts.old.permits) n t.0 x.0 op) t.0 x.0 op u) }
+    ensures named { IfOk result (λ found. (u : ℕ) → lists found.keys u ≡ is_blocker_in (rows_in parts.old.seats parts.old.locks) (λ n. allows_in parts.old.trans (permits_in parts.old.permits) n t.0 x.0 op) t.0 x.0 op u) }
     ensures same { parts.new ≡ parts.old }
 {
     match sitter_of(&parts.trans, &parts.seats, t) {
@@ -95,12 +94,9 @@ fn blockers(alloc: Global, parts: &mut Parts, t: Txn, x: Ob, op: Op) -> Result<N
             .blockers(alloc, &parts.seats, one, x, op, &mut parts.permits),
         None => {
             let one = Sitter { t, at: 0 };
-            let mut asked = ToAnybody {
-                permits: &mut parts.permits,
-            };
             parts
                 .locks
-                .blockers(alloc, &parts.seats, one, x, op, &mut asked)
+                .blockers(alloc, &parts.seats, one, x, op, &mut NoPermits)
         }
     }
 }

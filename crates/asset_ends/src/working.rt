@@ -3,7 +3,7 @@
 use crate::seating::make_room;
 use crate::tables::Tables;
 use asset_locks::Asked;
-use asset_names::{NoMemory, Ob, ObSet, Op, Ops, Txn};
+use asset_names::{NoMemory, Ob, ObList, ObSet, Op, Ops, Txn};
 use asset_seats::Sitter;
 
 impl Tables {
@@ -164,5 +164,31 @@ impl Tables {
         self.parts
             .permits
             .add(&self.parts.seats, from, to, obs, ops)
+    }
+
+    /// Lets anybody do the operations on the objects although they conflict with the giver's. The giver is live. If memory
+    /// runs out, nothing changes.
+    pub fn permit_any(&mut self, giver: Txn, obs: ObList, ops: Ops) -> Result<(), NoMemory>
+        requires giver { is_live_status (status_in self.old.trans giver.0) ≡ true }
+        ensures stand { OnOk result (ShowsWith self.old (Step.PermitAny giver obs ops) self.new) }
+        ensures locks { self.new.locks ≡ self.old.locks }
+        ensures unchanged { OnErr result (SameView self.new self.old) }
+    {
+        let (_, from) = self.find(giver);
+        self.permit_any_at(from, obs, ops)
+    }
+
+    /// Does what `permit_any` does, for a transaction whose seat is found. It is live, and the seat is that of its row. If
+    /// memory runs out, the answer is `NoMemory`, and nothing changes.
+    pub fn permit_any_at(&mut self, from: Sitter, obs: ObList, ops: Ops) -> Result<(), NoMemory>
+        requires giver { is_live_status (status_in self.old.trans from.t.0) ≡ true }
+        requires seat { from.at ≡ seat_in self.old.trans from.t.0 }
+        ensures stand { OnOk result (ShowsWith self.old (Step.PermitAny from.t obs ops) self.new) }
+        ensures locks { self.new.locks ≡ self.old.locks }
+        ensures unchanged { OnErr result (SameView self.new self.old) }
+    {
+        self.parts
+            .permits
+            .add_any(&self.parts.seats, from, obs, ops)
     }
 }

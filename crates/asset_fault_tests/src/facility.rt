@@ -119,6 +119,19 @@ fn permits_end_with_their_members(rt: HostRuntime) -> Result<(), Fail> {
     Ok(())
 }
 
+/// What is written is open to anybody who reads, also once it is handed over.
+const OPENED: &str = "\
+    initiate 7: ok\nbegin 7: ok\ninitiate 8: ok\nbegin 8: ok\ninitiate 9: ok\nbegin 9: ok\n\
+    write 7 1 50: ok\nread 8 1: wait\npermit 7 any r 1,2: ok\nread 8 1: 50\nwrite 8 1 60: wait\ndelegate 7 9 1: ok\n\
+    abort 7: aborted\nread 8 1: 50\nread 8 2: 200\npermit 7 any r 1: refused ended 7\n";
+
+#[test]
+fn open_permits_are_asked_again(rt: HostRuntime) -> Result<(), Fail> {
+    let played = plays(rt.alloc(), OPENED)?;
+    assert_eq!(rt; played, (true, true));
+    Ok(())
+}
+
 /// Work that is permitted and handed over, one object and then all.
 pub(crate) const HANDED_OVER: &str = "\
     initiate 7: ok\nbegin 7: ok\ninitiate 8: ok\nbegin 8: ok\ninitiate 9: ok\nbegin 9: ok\n\

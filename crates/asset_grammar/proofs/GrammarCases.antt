@@ -9,7 +9,7 @@ use Rattle.asset_names.specs.Sets.{numbers, twice, rising, put_in}
 use Rattle.asset_names.specs.OpSets.{op_set}
 use Rattle.asset_names.specs.declared.steps.Kind.TheVariants.{Ad}
 use Rattle.asset_grammar.specs.DependOperands.{kind_of, kind_and_txns}
-use Rattle.asset_grammar.specs.PermitOperands.{txns_ops_and_set, txns_and_set}
+use Rattle.asset_grammar.specs.PermitOperands.{permit_step, taker_of, txn_taker_ops_and_set, txns_and_set}
 use Rattle.asset_grammar.specs.Sets.{ops_of, one_more_object, gathered, is_list, listed, set_of}
 use Rattle.asset_grammar.specs.Grammar.{step_by, object_command, step_command, command_from, command_of, is_blank, line_by, line_of}
 use Rattle.asset_grammar.specs.Keywords.{keyword_text, all_keywords, keyword_of}
@@ -133,31 +133,48 @@ remark_that_is_too_long = refl
 
 -- a permit's objects stand in any order, and are kept in rising order
 permit_line : line_of (codes "permit 7 8 rw 3,1,2") ≡ Line'.Command (Ask (Step'.Permit (txn 7) (txn 8) (Listed (ob 1 ∷ ob 2 ∷ ob 3 ∷ [])) (op_set true true false)))
-unfolding line_of line_by is_blank command_of command_from step_command step_by words parts keyword_of keyword_text all_keywords txns_ops_and_set both txn_of ob_of number_of is_numeral ops_of set_of gathered one_more_object listed is_list numbers twice rising put_in
+unfolding line_of line_by is_blank command_of command_from step_command step_by words parts keyword_of keyword_text all_keywords txn_taker_ops_and_set taker_of permit_step both txn_of ob_of number_of is_numeral ops_of set_of gathered one_more_object listed is_list numbers twice rising put_in
 permit_line = refl
 
 permit_of_all : line_of (codes "permit 7 8 r all") ≡ Line'.Command (Ask (Step'.Permit (txn 7) (txn 8) All (op_set true false false)))
-unfolding line_of line_by is_blank command_of command_from step_command step_by words parts keyword_of keyword_text all_keywords txns_ops_and_set both txn_of number_of is_numeral ops_of set_of
+unfolding line_of line_by is_blank command_of command_from step_command step_by words parts keyword_of keyword_text all_keywords txn_taker_ops_and_set taker_of permit_step both txn_of number_of is_numeral ops_of set_of
 permit_of_all = refl
 
+-- `any` in the taker's place is anybody, and nothing else is
+permit_to_anybody : line_of (codes "permit 7 any r 3,1") ≡ Line'.Command (Ask (Step'.PermitAny (txn 7) (ob 1 ∷ ob 3 ∷ []) (op_set true false false)))
+unfolding line_of line_by is_blank command_of command_from step_command step_by words parts keyword_of keyword_text all_keywords txn_taker_ops_and_set taker_of permit_step both txn_of ob_of number_of is_numeral ops_of set_of gathered one_more_object listed is_list numbers twice rising put_in
+permit_to_anybody = refl
+
+permit_of_all_to_anybody : line_of (codes "permit 7 any r all") ≡ Line'.Bad
+unfolding line_of line_by is_blank command_of command_from step_command step_by words parts keyword_of keyword_text all_keywords txn_taker_ops_and_set taker_of permit_step both txn_of number_of is_numeral ops_of set_of
+permit_of_all_to_anybody = refl
+
+permit_to_anyone : line_of (codes "permit 7 anyone r 1") ≡ Line'.Bad
+unfolding line_of line_by is_blank command_of command_from step_command step_by words parts keyword_of keyword_text all_keywords txn_taker_ops_and_set taker_of permit_step both txn_of number_of is_numeral
+permit_to_anyone = refl
+
+permit_by_anybody : line_of (codes "permit any 7 r 1") ≡ Line'.Bad
+unfolding line_of line_by is_blank command_of command_from step_command step_by words parts keyword_of keyword_text all_keywords txn_taker_ops_and_set taker_of permit_step both txn_of number_of is_numeral
+permit_by_anybody = refl
+
 permit_of_a_double : line_of (codes "permit 7 8 w 1,2,1") ≡ Line'.Bad
-unfolding line_of line_by is_blank command_of command_from step_command step_by words parts keyword_of keyword_text all_keywords txns_ops_and_set both txn_of ob_of number_of is_numeral ops_of set_of gathered one_more_object listed is_list numbers twice
+unfolding line_of line_by is_blank command_of command_from step_command step_by words parts keyword_of keyword_text all_keywords txn_taker_ops_and_set taker_of permit_step both txn_of ob_of number_of is_numeral ops_of set_of gathered one_more_object listed is_list numbers twice
 permit_of_a_double = refl
 
 permit_of_nothing : line_of (codes "permit 7 8 w 1,") ≡ Line'.Bad
-unfolding line_of line_by is_blank command_of command_from step_command step_by words parts keyword_of keyword_text all_keywords txns_ops_and_set both txn_of ob_of number_of is_numeral ops_of set_of gathered one_more_object
+unfolding line_of line_by is_blank command_of command_from step_command step_by words parts keyword_of keyword_text all_keywords txn_taker_ops_and_set taker_of permit_step both txn_of ob_of number_of is_numeral ops_of set_of gathered one_more_object
 permit_of_nothing = refl
 
 permit_of_other_operations : line_of (codes "permit 7 8 wr 1") ≡ Line'.Bad
-unfolding line_of line_by is_blank command_of command_from step_command step_by words parts keyword_of keyword_text all_keywords txns_ops_and_set both txn_of ob_of number_of is_numeral ops_of set_of gathered one_more_object listed is_list numbers twice
+unfolding line_of line_by is_blank command_of command_from step_command step_by words parts keyword_of keyword_text all_keywords txn_taker_ops_and_set taker_of permit_step both txn_of ob_of number_of is_numeral ops_of set_of gathered one_more_object listed is_list numbers twice
 permit_of_other_operations = refl
 
 permit_to_add : line_of (codes "permit 7 8 rwa all") ≡ Line'.Command (Ask (Step'.Permit (txn 7) (txn 8) All (op_set true true true)))
-unfolding line_of line_by is_blank command_of command_from step_command step_by words parts keyword_of keyword_text all_keywords txns_ops_and_set both txn_of number_of is_numeral ops_of set_of
+unfolding line_of line_by is_blank command_of command_from step_command step_by words parts keyword_of keyword_text all_keywords txn_taker_ops_and_set taker_of permit_step both txn_of number_of is_numeral ops_of set_of
 permit_to_add = refl
 
 permit_of_turned_operations : line_of (codes "permit 7 8 aw 1") ≡ Line'.Bad
-unfolding line_of line_by is_blank command_of command_from step_command step_by words parts keyword_of keyword_text all_keywords txns_ops_and_set both txn_of ob_of number_of is_numeral ops_of set_of gathered one_more_object listed is_list numbers twice
+unfolding line_of line_by is_blank command_of command_from step_command step_by words parts keyword_of keyword_text all_keywords txn_taker_ops_and_set taker_of permit_step both txn_of ob_of number_of is_numeral ops_of set_of gathered one_more_object listed is_list numbers twice
 permit_of_turned_operations = refl
 
 -- a delegation's objects stand in any order too, and it names no operations

@@ -4,6 +4,7 @@ pub mod WordLemmas
 pub mod FirstLineLemmas
 pub mod SetWordLemmas
 pub mod TakenLemmas
+pub mod TakerLemmas
 pub mod JobLemmas
 pub mod KeywordLemmas
 mod GrammarCases

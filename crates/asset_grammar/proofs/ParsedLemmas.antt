@@ -7,6 +7,8 @@ use Rattle.std.specs.Str.{bytes_eq}
 use Rattle.std.proofs.lemmas.Bool.{lt-ltb, ltb-true, leb-true, and_parts}
 use Rattle.std.proofs.lemmas.List.Elements.{All-append, All-cons, All-nil}
 use Rattle.asset_names.specs.declared.names.Ob.{Ob}
+use Rattle.asset_names.specs.declared.names.Txn.{Txn}
+use Rattle.asset_names.specs.declared.sets.ObSet.{ObSet}
 use Rattle.asset_names.specs.declared.sets.ObSet.TheVariants.{All, Listed}
 use Rattle.asset_names.specs.declared.steps.Kind.{Kind}
 use Rattle.asset_names.specs.declared.steps.Step.{Step}
@@ -19,7 +21,7 @@ use Rattle.asset_grammar.specs.declared.grammar.Command.TheVariants.{Ask, Object
 use Rattle.asset_grammar.specs.declared.grammar.Line.{Line}
 use Rattle.asset_grammar.specs.declared.grammar.Line.TheVariants as Line'
 use Rattle.asset_grammar.specs.DependOperands.{kind_of, kind_and_txns}
-use Rattle.asset_grammar.specs.PermitOperands.{txns_ops_and_set, txns_and_set}
+use Rattle.asset_grammar.specs.PermitOperands.{permit_step, taker_of, txn_taker_ops_and_set, txns_and_set}
 use Rattle.asset_grammar.specs.Operands.{txn_of, ob_of, both, all_three, one_txn, txn_and_parent, txn_and_object, object_and_value, txn_object_and_value}
 use Rattle.asset_grammar.specs.Grammar.{step_by, object_command, step_command, command_from, command_of, is_blank, line_by, line_of}
 use Rattle.asset_grammar.specs.Keywords.{keyword_of}
@@ -189,16 +191,30 @@ pair_parsed (x ∷ []) = tt
 pair_parsed (x ∷ v ∷ []) = if_both IsObject IsValue (ob_of x) (value_of v) (ob_parsed x) (value_parsed v)
 pair_parsed (x ∷ v ∷ u ∷ rest) = tt
 
-permit_parsed : (operands : List (List ℕ)) → IfSome (txns_ops_and_set operands) (λ p. (IsName p.0.0 × IsName p.0.1) × (HasOp p.1.0 × IsSet p.1.1))
-unfolding txns_ops_and_set
+taker_parsed : (word : List ℕ) → IfSome (taker_of word) (λ t. IfSome t IsName)
+unfolding taker_of
+taker_parsed word = go (bytes_eq word (codes "any")) where
+  go : (any : Bool) → IfSome (cond any (Some None) (option_map Some (txn_of word))) (λ t. IfSome t IsName)
+  go true = tt
+  go false = if_mapped (λ t. IfSome t IsName) Some (txn_of word) (txn_parsed word)
+
+permit_parsed : (operands : List (List ℕ)) → IfSome (txn_taker_ops_and_set operands) (λ p. (IsName p.0.0 × IfSome p.0.1 IsName) × (HasOp p.1.0 × IsSet p.1.1))
+unfolding txn_taker_ops_and_set
 permit_parsed [] = tt
 permit_parsed (a ∷ []) = tt
 permit_parsed (a ∷ b ∷ []) = tt
 permit_parsed (a ∷ b ∷ c ∷ []) = tt
 permit_parsed (a ∷ b ∷ c ∷ d ∷ []) =
-    if_both (λ p. IsName p.0 × IsName p.1) (λ p. HasOp p.0 × IsSet p.1) (both (txn_of a) (txn_of b)) (both (ops_of c) (set_of d))
-    (if_both IsName IsName (txn_of a) (txn_of b) (txn_parsed a) (txn_parsed b)) (if_both HasOp IsSet (ops_of c) (set_of d) (ops_parsed c) (set_parsed d))
+    if_both (λ p. IsName p.0 × IfSome p.1 IsName) (λ p. HasOp p.0 × IsSet p.1) (both (txn_of a) (taker_of b)) (both (ops_of c) (set_of d))
+    (if_both IsName (λ t. IfSome t IsName) (txn_of a) (taker_of b) (txn_parsed a) (taker_parsed b)) (if_both HasOp IsSet (ops_of c) (set_of d) (ops_parsed c) (set_parsed d))
 permit_parsed (a ∷ b ∷ c ∷ d ∷ e ∷ rest) = tt
+
+-- a permit to anybody has a list
+permit_made : (p : (Txn × Option Txn) × (OpSet × ObSet)) → (IsName p.0.0 × IfSome p.0.1 IsName) × (HasOp p.1.0 × IsSet p.1.1) → IfSome (permit_step p.0.0 p.0.1 p.1.0 p.1.1) IsWritable
+unfolding permit_step IsWritable
+permit_made ((giver, None), (ops, All)) h = tt
+permit_made ((giver, None), (ops, Listed objects)) h = (h.0.0, h.1.1, h.1.0)
+permit_made ((giver, Some taker), (ops, obs)) h = (h.0.0, h.0.1, h.1.1, h.1.0)
 
 delegate_parsed : (operands : List (List ℕ)) → IfSome (txns_and_set operands) (λ p. (IsName p.0.0 × IsName p.0.1) × IsSet p.1)
 unfolding txns_and_set
@@ -229,7 +245,7 @@ step_parsed Read operands = if_mapped IsWritable _ (txn_and_object operands) (ob
 step_parsed Write operands = if_mapped IsWritable _ (txn_object_and_value operands) (write_parsed operands)
 step_parsed Add operands = if_mapped IsWritable _ (txn_object_and_value operands) (write_parsed operands)
 step_parsed Complete operands = if_mapped IsWritable _ (one_txn operands) (one_parsed operands)
-step_parsed Permit operands = if_mapped IsWritable _ (txns_ops_and_set operands) (if_weaker _ _ (txns_ops_and_set operands) (permit_parsed operands) (λ p h. (h.0.0, h.0.1, h.1.1, h.1.0)))
+step_parsed Permit operands = if_then _ IsWritable _ (txn_taker_ops_and_set operands) (permit_parsed operands) permit_made
 step_parsed Delegate operands = if_mapped IsWritable _ (txns_and_set operands) (if_weaker _ _ (txns_and_set operands) (delegate_parsed operands) (λ p h. (h.0.0, h.0.1, h.1)))
 step_parsed Depend operands = if_mapped IsWritable _ (kind_and_txns operands) (if_weaker _ _ (kind_and_txns operands) (depend_parsed operands) (λ p h. h.1))
 step_parsed Commit operands = if_mapped IsWritable _ (one_txn operands) (one_parsed operands)

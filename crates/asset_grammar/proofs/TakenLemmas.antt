@@ -10,7 +10,7 @@ use Rattle.asset_names.specs.OpSets.{OpSet}
 use Rattle.asset_grammar.specs.DependOperands.{kind_of, kind_and_txns}
 use Rattle.asset_grammar.specs.Numbers.{value_of}
 use Rattle.asset_grammar.specs.Operands.{txn_of, ob_of, both, all_three, one_txn, one_object, txn_and_parent, txn_and_object, object_and_value, txn_object_and_value}
-use Rattle.asset_grammar.specs.PermitOperands.{txns_ops_and_set, txns_and_set}
+use Rattle.asset_grammar.specs.PermitOperands.{taker_of, txn_taker_ops_and_set, txns_and_set}
 use Rattle.asset_grammar.specs.Sets.{ops_of, set_of}
 use Rattle.asset_grammar.specs.Words.{none_left, taken}
 
@@ -207,33 +207,33 @@ kind_and_txns_taken (a ∷ b ∷ c ∷ more ∷ rest) = go (kind_of a) (txn_of b
   go (Some x) (Some y) None = refl
   go (Some x) (Some y) (Some z) = refl
 
-pub txns_ops_and_set_taken : (words : Words) → txns_ops_and_set words ≡ then txn_of words (λ x ws. then txn_of ws (λ y ws. then ops_of ws (λ z ws. then set_of ws (λ w. closed {A = (Txn × Txn) × (OpSet × ObSet)} ((x, y), (z, w))))))
-unfolding txns_ops_and_set then none_left both
-txns_ops_and_set_taken [] = refl
-txns_ops_and_set_taken (a ∷ []) = go (txn_of a) where
-  go : (o : Option Txn) → None ≡ option_and_then {U = (Txn × Txn) × (OpSet × ObSet)} (λ x. None) o
+pub txn_taker_ops_and_set_taken : (words : Words) → txn_taker_ops_and_set words ≡ then txn_of words (λ x ws. then taker_of ws (λ y ws. then ops_of ws (λ z ws. then set_of ws (λ w. closed {A = (Txn × Option Txn) × (OpSet × ObSet)} ((x, y), (z, w))))))
+unfolding txn_taker_ops_and_set then none_left both
+txn_taker_ops_and_set_taken [] = refl
+txn_taker_ops_and_set_taken (a ∷ []) = go (txn_of a) where
+  go : (o : Option Txn) → None ≡ option_and_then {U = (Txn × Option Txn) × (OpSet × ObSet)} (λ x. None) o
   go None = refl
   go (Some x) = refl
-txns_ops_and_set_taken (a ∷ b ∷ []) = go (txn_of a) (txn_of b) where
-  go : (o1 : Option Txn) (o2 : Option Txn) → None ≡ option_and_then {U = (Txn × Txn) × (OpSet × ObSet)} (λ x. option_and_then {U = (Txn × Txn) × (OpSet × ObSet)} (λ y. None) o2) o1
+txn_taker_ops_and_set_taken (a ∷ b ∷ []) = go (txn_of a) (taker_of b) where
+  go : (o1 : Option Txn) (o2 : Option (Option Txn)) → None ≡ option_and_then {U = (Txn × Option Txn) × (OpSet × ObSet)} (λ x. option_and_then {U = (Txn × Option Txn) × (OpSet × ObSet)} (λ y. None) o2) o1
   go None o2 = refl
   go (Some x) None = refl
   go (Some x) (Some y) = refl
-txns_ops_and_set_taken (a ∷ b ∷ c ∷ []) = go (txn_of a) (txn_of b) (ops_of c) where
-  go : (o1 : Option Txn) (o2 : Option Txn) (o3 : Option OpSet) → None ≡ option_and_then {U = (Txn × Txn) × (OpSet × ObSet)} (λ x. option_and_then {U = (Txn × Txn) × (OpSet × ObSet)} (λ y. option_and_then {U = (Txn × Txn) × (OpSet × ObSet)} (λ z. None) o3) o2) o1
+txn_taker_ops_and_set_taken (a ∷ b ∷ c ∷ []) = go (txn_of a) (taker_of b) (ops_of c) where
+  go : (o1 : Option Txn) (o2 : Option (Option Txn)) (o3 : Option OpSet) → None ≡ option_and_then {U = (Txn × Option Txn) × (OpSet × ObSet)} (λ x. option_and_then {U = (Txn × Option Txn) × (OpSet × ObSet)} (λ y. option_and_then {U = (Txn × Option Txn) × (OpSet × ObSet)} (λ z. None) o3) o2) o1
   go None o2 o3 = refl
   go (Some x) None o3 = refl
   go (Some x) (Some y) None = refl
   go (Some x) (Some y) (Some z) = refl
-txns_ops_and_set_taken (a ∷ b ∷ c ∷ d ∷ []) = go (txn_of a) (txn_of b) (ops_of c) (set_of d) where
-  go : (o1 : Option Txn) (o2 : Option Txn) (o3 : Option OpSet) (o4 : Option ObSet) → both (both o1 o2) (both o3 o4) ≡ option_and_then {U = (Txn × Txn) × (OpSet × ObSet)} (λ x. option_and_then {U = (Txn × Txn) × (OpSet × ObSet)} (λ y. option_and_then {U = (Txn × Txn) × (OpSet × ObSet)} (λ z. option_and_then {U = (Txn × Txn) × (OpSet × ObSet)} (λ w. Some ((x, y), (z, w))) o4) o3) o2) o1
+txn_taker_ops_and_set_taken (a ∷ b ∷ c ∷ d ∷ []) = go (txn_of a) (taker_of b) (ops_of c) (set_of d) where
+  go : (o1 : Option Txn) (o2 : Option (Option Txn)) (o3 : Option OpSet) (o4 : Option ObSet) → both (both o1 o2) (both o3 o4) ≡ option_and_then {U = (Txn × Option Txn) × (OpSet × ObSet)} (λ x. option_and_then {U = (Txn × Option Txn) × (OpSet × ObSet)} (λ y. option_and_then {U = (Txn × Option Txn) × (OpSet × ObSet)} (λ z. option_and_then {U = (Txn × Option Txn) × (OpSet × ObSet)} (λ w. Some ((x, y), (z, w))) o4) o3) o2) o1
   go None o2 o3 o4 = refl
   go (Some x) None o3 o4 = refl
   go (Some x) (Some y) None o4 = refl
   go (Some x) (Some y) (Some z) None = refl
   go (Some x) (Some y) (Some z) (Some w) = refl
-txns_ops_and_set_taken (a ∷ b ∷ c ∷ d ∷ more ∷ rest) = go (txn_of a) (txn_of b) (ops_of c) (set_of d) where
-  go : (o1 : Option Txn) (o2 : Option Txn) (o3 : Option OpSet) (o4 : Option ObSet) → None ≡ option_and_then {U = (Txn × Txn) × (OpSet × ObSet)} (λ x. option_and_then {U = (Txn × Txn) × (OpSet × ObSet)} (λ y. option_and_then {U = (Txn × Txn) × (OpSet × ObSet)} (λ z. option_and_then {U = (Txn × Txn) × (OpSet × ObSet)} (λ w. None) o4) o3) o2) o1
+txn_taker_ops_and_set_taken (a ∷ b ∷ c ∷ d ∷ more ∷ rest) = go (txn_of a) (taker_of b) (ops_of c) (set_of d) where
+  go : (o1 : Option Txn) (o2 : Option (Option Txn)) (o3 : Option OpSet) (o4 : Option ObSet) → None ≡ option_and_then {U = (Txn × Option Txn) × (OpSet × ObSet)} (λ x. option_and_then {U = (Txn × Option Txn) × (OpSet × ObSet)} (λ y. option_and_then {U = (Txn × Option Txn) × (OpSet × ObSet)} (λ z. option_and_then {U = (Txn × Option Txn) × (OpSet × ObSet)} (λ w. None) o4) o3) o2) o1
   go None o2 o3 o4 = refl
   go (Some x) None o3 o4 = refl
   go (Some x) (Some y) None o4 = refl

@@ -17,7 +17,7 @@ use Rattle.asset_grammar.specs.declared.grammar.Line.TheVariants as Line'
 use Rattle.asset_grammar.specs.declared.grammar.Said.{Said}
 use Rattle.asset_grammar.specs.declared.grammar.Said.TheVariants as Said'
 use Rattle.asset_grammar.specs.DependOperands.{kind_and_txns}
-use Rattle.asset_grammar.specs.PermitOperands.{txns_ops_and_set, txns_and_set}
+use Rattle.asset_grammar.specs.PermitOperands.{permit_step, txn_taker_ops_and_set, txns_and_set}
 use Rattle.asset_grammar.specs.Words.{words, LineLeft, AtEnd}
 use Rattle.asset_grammar.specs.Keywords.{keyword_of}
 use Rattle.asset_grammar.specs.Operands.{object_and_value, one_txn, txn_and_object, txn_and_parent, txn_object_and_value}
@@ -30,7 +30,7 @@ step_by Read operands = option_map (λ (a : Txn × Ob). Step'.Read a.0 a.1) (txn
 step_by Write operands = option_map (λ (a : Txn × Ob × ℤ). Step'.Write a.0 a.1 a.2) (txn_object_and_value operands)
 step_by Add operands = option_map (λ (a : Txn × Ob × ℤ). Step'.Add a.0 a.1 a.2) (txn_object_and_value operands)
 step_by Complete operands = option_map Step'.Complete (one_txn operands)
-step_by Permit operands = option_map (λ (a : (Txn × Txn) × (OpSet × ObSet)). Step'.Permit a.0.0 a.0.1 a.1.1 a.1.0) (txns_ops_and_set operands)
+step_by Permit operands = option_and_then (λ (a : (Txn × Option Txn) × (OpSet × ObSet)). permit_step a.0.0 a.0.1 a.1.0 a.1.1) (txn_taker_ops_and_set operands)
 step_by Delegate operands = option_map (λ (a : (Txn × Txn) × ObSet). Step'.Delegate a.0.0 a.0.1 a.1) (txns_and_set operands)
 step_by Depend operands = option_map (λ (a : Kind × (Txn × Txn)). Step'.Depend a.0 a.1.0 a.1.1) (kind_and_txns operands)
 step_by Commit operands = option_map Step'.Commit (one_txn operands)

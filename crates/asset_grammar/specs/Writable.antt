@@ -7,7 +7,7 @@ use Rattle.asset_names.specs.declared.names.Ob.{Ob}
 use Rattle.asset_names.specs.declared.sets.ObSet.{ObSet}
 use Rattle.asset_names.specs.declared.sets.ObSet.TheVariants.{All, Listed}
 use Rattle.asset_names.specs.declared.steps.Step.{Step}
-use Rattle.asset_names.specs.declared.steps.Step.TheVariants.{Initiate, Begin, Read, Write, Add, Complete, Permit, Delegate, Depend, Commit, Abort, WaitFor}
+use Rattle.asset_names.specs.declared.steps.Step.TheVariants.{Initiate, Begin, Read, Write, Add, Complete, Permit, PermitAny, Delegate, Depend, Commit, Abort, WaitFor}
 use Rattle.asset_names.specs.OpSets.{OpSet}
 use Rattle.asset_names.specs.Sets.{numbers}
 
@@ -44,6 +44,7 @@ IsWritable (Write t x v) = IsName t × IsObject x × IsValue v
 IsWritable (Add t x d) = IsName t × IsObject x × IsValue d
 IsWritable (Complete t) = IsName t
 IsWritable (Permit giver taker obs ops) = IsName giver × IsName taker × IsSet obs × HasOp ops
+IsWritable (PermitAny giver obs ops) = IsName giver × IsSet (Listed obs) × HasOp ops
 IsWritable (Delegate giver taker obs) = IsName giver × IsName taker × IsSet obs
 IsWritable (Depend kind a b) = IsName a × IsName b
 IsWritable (Commit t) = IsName t

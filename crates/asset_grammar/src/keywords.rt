@@ -2,11 +2,12 @@
 ghost use Rattle.std.specs.Prelude.{◌≡◌, option_map};
 ghost use Rattle.asset_grammar.specs.Grammar.{step_by};
 ghost use Rattle.asset_grammar.specs.Keywords.{likely_keyword, TakesKeyword};
+ghost use Rattle.asset_grammar.specs.PermitOperands.{permit_step};
 ghost use Rattle.asset_grammar.specs.Words.{Reads};
 ghost use Rattle.asset_grammar.specs.declared.keywords.Keyword.TheVariants.{Initiate, Write, Permit, Delegate, Depend};
 
 use crate::words::{Words, has_at, words_after};
-use asset_names::Step;
+use asset_names::{ObSet, Ops, Step, Txn};
 
 /// The first word of a step line.
 #[derive(Clone, Copy)]
@@ -98,18 +99,31 @@ fn initiate(operands: &mut Words<'_>, step: &mut Step) -> Option<()>
     Some(())
 }
 
+/// Returns the permit with these operands: to the taker, or to anybody on the objects that are listed. `None` if it is to anybody
+/// on all objects.
+#[tactic(auto, unfolding(crate::specs::PermitOperands::permit_step))]
+fn permit_step(giver: Txn, taker: Option<Txn>, ops: Ops, obs: ObSet) -> Option<Step>
+    ensures { result ≡ permit_step giver taker ops obs }
+{
+    match (taker, obs) {
+        (Some(taker), obs) => Some(Step::Permit {
+            giver,
+            taker,
+            obs,
+            ops,
+        }),
+        (None, ObSet::Listed(obs)) => Some(Step::PermitAny { giver, obs, ops }),
+        (None, ObSet::All) => None,
+    }
+}
+
 /// Puts the permit with these operands into the slot.
 #[tactic(auto, unfolding(crate::specs::Grammar::step_by))]
 fn permit(operands: &mut Words<'_>, step: &mut Step) -> Option<()>
     ensures { Reads (step_by Permit) operands.old (option_map (λ done. step.new) result) operands.new }
 {
-    let ((giver, taker), (ops, obs)) = operands.txns_ops_and_set()?;
-    *step = Step::Permit {
-        giver,
-        taker,
-        obs,
-        ops,
-    };
+    let ((giver, taker), (ops, obs)) = operands.txn_taker_ops_and_set()?;
+    *step = permit_step(giver, taker, ops, obs)?;
     Some(())
 }
 

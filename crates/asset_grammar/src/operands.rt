@@ -2,10 +2,10 @@
 ghost use Rattle.std.specs.Prelude.{◌≡◌, option_map};
 ghost use Rattle.asset_grammar.specs.Words.{Reads, Takes};
 ghost use Rattle.asset_grammar.specs.Operands.{ob_of, object_and_value, one_object, one_txn, txn_and_object, txn_and_parent, txn_object_and_value, txn_of};
-ghost use Rattle.asset_grammar.specs.PermitOperands.{txns_ops_and_set, txns_and_set};
+ghost use Rattle.asset_grammar.specs.PermitOperands.{any_of, taker_of, txn_taker_ops_and_set, txns_and_set};
 ghost use Rattle.asset_grammar.specs.DependOperands.{kind_of, kind_and_txns};
 
-use crate::words::Words;
+use crate::words::{Words, has_at};
 use asset_names::{Kind, Ob, ObSet, Ops, Txn};
 
 /// The word for a commit dependency.
@@ -16,6 +16,9 @@ const ABORT: &[u8] = b"ad";
 
 /// The word for a group commit.
 const GROUP: &[u8] = b"gc";
+
+/// The word for anybody, in the place of a permit's taker.
+const ANY: &[u8] = b"any";
 
 /// Returns the kind of dependency that a word names.
 #[tactic(auto, unfolding(crate::specs::DependOperands::kind_of))]
@@ -50,6 +53,33 @@ impl Words<'_> {
     {
         let number = self.next_number()?;
         Some(Ob(number))
+    }
+
+    /// Reads the next word as `any`, which stands for no taker in particular.
+    #[tactic(auto, unfolding(crate::specs::Words::taken, crate::specs::PermitOperands::any_of))]
+    fn next_any(&mut self) -> Option<Option<Txn>>
+        ensures { Takes any_of self.old result self.new }
+    {
+        if self.next_word()? == ANY {
+            Some(None)
+        } else {
+            None
+        }
+    }
+
+    /// Reads the next word as the taker of a permit: a transaction, or `None` for anybody.
+    #[tactic(auto, unfolding(crate::specs::Words::line_left, crate::specs::Words::taken))]
+    fn next_taker(&mut self) -> Option<Option<Txn>>
+        ensures { Takes taker_of self.old result self.new }
+    {
+        if self.ended {
+            return None;
+        }
+        if has_at(self.rest, 0, b'a') {
+            return self.next_any();
+        }
+        let taker = self.next_txn()?;
+        Some(Some(taker))
     }
 
     /// Reads the next word as a kind of dependency.
@@ -124,12 +154,12 @@ impl Words<'_> {
         }
     }
 
-    /// Reads two transactions, operations and a set of objects.
-    pub(crate) fn txns_ops_and_set(&mut self) -> Option<((Txn, Txn), (Ops, ObSet))>
-        ensures { Reads txns_ops_and_set self.old result self.new }
+    /// Reads a transaction, the taker of a permit, operations and a set of objects. The taker `None` is anybody.
+    pub(crate) fn txn_taker_ops_and_set(&mut self) -> Option<((Txn, Option<Txn>), (Ops, ObSet))>
+        ensures { Reads txn_taker_ops_and_set self.old result self.new }
     {
         let giver = self.next_txn()?;
-        let taker = self.next_txn()?;
+        let taker = self.next_taker()?;
         let ops = self.next_ops()?;
         let obs = self.next_set()?;
         if self.is_over() {

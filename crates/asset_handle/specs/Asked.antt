@@ -3,11 +3,12 @@ use Rattle.std.specs.Prelude.{ℕ, ◌==◌, true, false, cond, Option, None, So
 use Rattle.asset_names.specs.declared.names.Txn.{Txn}
 use Rattle.asset_names.specs.declared.names.Ob.{Ob}
 use Rattle.asset_names.specs.declared.sets.ObSet.{ObSet}
+use Rattle.asset_names.specs.declared.sets.ObSet.TheVariants.{All, Listed}
 use Rattle.asset_names.specs.OpSets.{OpSet, op_set}
 use Rattle.asset_names.specs.declared.steps.Kind.{Kind}
 use Rattle.asset_names.specs.declared.steps.Kind.TheVariants.{Cd, Ad, Gc}
 use Rattle.asset_names.specs.declared.steps.Step.{Step}
-use Rattle.asset_names.specs.declared.steps.Step.TheVariants.{Initiate, Begin, Read, Write, Add, Complete, Permit, Delegate, Depend, Commit, Abort, WaitFor}
+use Rattle.asset_names.specs.declared.steps.Step.TheVariants.{Initiate, Begin, Read, Write, Add, Complete, Permit, PermitAny, Delegate, Depend, Commit, Abort, WaitFor}
 use Rattle.asset_handle.specs.declared.plain.PlainStep.{PlainStep}
 use Rattle.asset_handle.specs.Listed.{set_in}
 
@@ -43,6 +44,14 @@ permit_of p ops obs = Permit (txn p.first) (txn p.second) obs ops
 unfoldable pub permit_in : PlainStep → Option Step
 permit_in p = option_and_then (λ ops. option_map (permit_of p ops) (set_in p.count p.objects)) (ops_in p.detail)
 
+-- an open permit of a list
+unfoldable pub permit_any_of : PlainStep → OpSet → ObSet → Option Step
+permit_any_of p ops All = None
+permit_any_of p ops (Listed objects) = Some (PermitAny (txn p.first) objects ops)
+
+unfoldable pub permit_any_in : PlainStep → Option Step
+permit_any_in p = option_and_then (λ ops. option_and_then (permit_any_of p ops) (set_in p.count p.objects)) (ops_in p.detail)
+
 unfoldable pub delegate_in : PlainStep → Option Step
 delegate_in p = option_map (Delegate (txn p.first) (txn p.second)) (set_in p.count p.objects)
 
@@ -63,4 +72,5 @@ step_in p =
     cond (p.kind == 9) (Some (Commit (txn p.first))) (
     cond (p.kind == 10) (Some (Abort (txn p.first))) (
     cond (p.kind == 11) (Some (WaitFor (txn p.first))) (
-    cond (p.kind == 12) (Some (Add (txn p.first) (ob p.second) p.value)) None)))))))))))
+    cond (p.kind == 12) (Some (Add (txn p.first) (ob p.second) p.value)) (
+    cond (p.kind == 13) (permit_any_in p) None))))))))))))

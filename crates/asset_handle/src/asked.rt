@@ -1,7 +1,7 @@
 //! The step that a plain step asks for.
 
 ghost use Rattle.std.specs.Prelude.{◌≡◌, ◌≤◌, true, false, length, take, Some, None};
-ghost use Rattle.asset_handle.specs.Asked.{delegate_in, depend_in, initiate_in, kind_in, ops_in, permit_in, step_in};
+ghost use Rattle.asset_handle.specs.Asked.{delegate_in, depend_in, initiate_in, kind_in, ops_in, permit_any_in, permit_in, step_in};
 ghost use Rattle.asset_handle.specs.Listed.{objects_named, set_in, set_of_listed};
 
 use crate::plain::{ALL, PlainStep, SLOTS};
@@ -114,6 +114,22 @@ fn permit_of(asked: &PlainStep) -> Option<Step>
     })
 }
 
+/// Returns the open permit that is asked for. `None` also if it is on all objects.
+#[tactic(auto, unfolding(crate::specs::Asked::permit_any_in, crate::specs::Asked::permit_any_of))]
+fn permit_any_of(asked: &PlainStep) -> Option<Step>
+    ensures { result ≡ permit_any_in asked.now }
+{
+    let ops = ops_of(asked.detail)?;
+    match set_of(asked)? {
+        ObSet::Listed(obs) => Some(Step::PermitAny {
+            giver: Txn(asked.first),
+            obs,
+            ops,
+        }),
+        ObSet::All => None,
+    }
+}
+
 /// Returns the delegation that is asked for.
 #[tactic(auto, unfolding(crate::specs::Asked::delegate_in))]
 fn delegate_of(asked: &PlainStep) -> Option<Step>
@@ -209,6 +225,7 @@ pub(crate) fn put_step(asked: &PlainStep, slot: &mut Step) -> bool
             };
             true
         }
+        13 => put_found(permit_any_of(asked), slot),
         _ => false,
     }
 }

@@ -19,21 +19,21 @@ pub struct PlainObject {
 #[derive(Clone, Copy)]
 pub struct PlainStep {
     /// 1 initiate, 2 begin, 3 read, 4 write, 5 complete, 6 permit, 7 delegate, 8 depend, 9 commit, 10 abort, 11 wait,
-    /// 12 add.
+    /// 12 add, 13 permit to anybody.
     pub kind: u32,
-    /// Of an initiate 1 if it names a parent, and else 0; of a permit the sum of 1 to read, 2 to write and 4 to add; of a
+    /// Of an initiate 1 if it names a parent, and else 0; of either permit the sum of 1 to read, 2 to write and 4 to add; of a
     /// dependency 1 for a commit dependency, 2 for an abort dependency, 3 for a group commit.
     pub detail: u32,
-    /// The transaction; of a permit or a delegation its giver, and of a dependency its source.
+    /// The transaction; of either permit or a delegation its giver, and of a dependency its source.
     pub first: u64,
     /// Of a read, a write or an add the object; of a permit or a delegation the taker; of a dependency the dependent; of an initiate
     /// the parent, if it names one.
     pub second: u64,
     /// The value that a write writes, or the amount that an add adds.
     pub value: i64,
-    /// Of a permit or a delegation how many objects it lists, from 1 to 16, or `ALL`.
+    /// Of either permit or a delegation how many objects it lists, from 1 to 16; or, but for a permit to anybody, `ALL`.
     pub count: u64,
-    /// The objects of a permit or a delegation, all different, in any order.
+    /// The objects of either permit or a delegation, all different, in any order.
     pub objects: [u64; SLOTS],
 }
 

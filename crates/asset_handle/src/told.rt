@@ -3,7 +3,7 @@
 ghost use Rattle.std.specs.Prelude.{◌≡◌, ◌≤◌, length, take, Some};
 ghost use Rattle.asset_names.specs.Sets.{numbers};
 ghost use Rattle.asset_names.specs.declared.sets.ObSet.TheVariants.{Listed};
-ghost use Rattle.asset_names.specs.declared.steps.Step.TheVariants.{Add, Delegate, Depend, Initiate, Permit, Write};
+ghost use Rattle.asset_names.specs.declared.steps.Step.TheVariants.{Add, Delegate, Depend, Initiate, Permit, PermitAny, Write};
 ghost use Rattle.asset_handle.specs.Asked.{kind_in, ops_in, step_in};
 ghost use Rattle.asset_handle.specs.Listed.{set_in};
 ghost use Rattle.asset_handle.specs.Told.{about, bare, op_number, status_number, told, told_refusal};
@@ -188,6 +188,14 @@ fn plain_permit(giver: Txn, taker: Txn, obs: &ObSet, ops: Ops) -> PlainStep
     put_set(bare(6, ops_number(ops), giver.0, taker.0), obs)
 }
 
+/// Returns the plain step of an open permit.
+#[tactic(auto, unfolding(crate::specs::Asked::step_in, crate::specs::Asked::permit_any_in, crate::specs::Asked::permit_any_of, crate::specs::Told::bare))]
+fn plain_permit_any(giver: Txn, obs: &ObList, ops: Ops) -> PlainStep
+    ensures { step_in result ≡ Some (PermitAny giver obs.now ops) }
+{
+    put_list(bare(13, ops_number(ops), giver.0, 0), obs)
+}
+
 /// Returns the plain step of a delegation.
 #[tactic(auto, unfolding(crate::specs::Asked::step_in, crate::specs::Asked::delegate_in, crate::specs::Told::bare))]
 fn plain_delegate(giver: Txn, taker: Txn, obs: &ObSet) -> PlainStep
@@ -255,6 +263,11 @@ pub(crate) fn plain_step(step: &Step) -> PlainStep
             ref obs,
             ops,
         } => plain_permit(giver, taker, obs, ops),
+        Step::PermitAny {
+            giver,
+            ref obs,
+            ops,
+        } => plain_permit_any(giver, obs, ops),
         Step::Delegate {
             giver,
             taker,

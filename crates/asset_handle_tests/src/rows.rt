@@ -54,6 +54,30 @@ fn adds(rt: HostRuntime) -> Result<(), Fail> {
     Ok(())
 }
 
+/// What 7 writes is open to readers, until 7 aborts. A permit to anybody uses no second transaction.
+#[test]
+fn open_permits(rt: HostRuntime) -> Result<(), Fail> {
+    let mut handle = opened(&rt);
+    begin(&rt, &mut handle, &[7, 8, 9]);
+    for (step, answer) in [
+        (write(7, 1, 50), (1, 0, 0)),
+        (on_object(plain(13, 1, 7, 99), 1), (1, 0, 0)),
+        (plain(3, 0, 8, 1), (2, 0, 50)),
+        (write(8, 1, 60), (5, 0, 0)),
+        (plain(3, 0, 9, 2), (2, 0, 200)),
+        (on_object(plain(13, 2, 9, 0), 5), (21, 5, 0)),
+        (plain(10, 0, 7, 0), (4, 0, 0)),
+        (on_object(plain(13, 2, 7, 0), 5), (17, 7, 0)),
+        (on_object(plain(13, 2, 6, 0), 5), (16, 6, 0)),
+        (plain(5, 0, 8, 0), (1, 0, 0)),
+        (plain(9, 0, 8, 0), (3, 0, 0)),
+    ] {
+        expect(&rt, &mut handle, &step, answer);
+    }
+    expect_closed(&rt, &mut handle, 16);
+    Ok(())
+}
+
 /// An abort takes its abort dependents, and their classes; a class commits once all its members have completed.
 #[test]
 fn dependencies(rt: HostRuntime) -> Result<(), Fail> {

@@ -11,6 +11,8 @@ fn unknown_kinds(rt: HostRuntime) -> Result<(), Fail> {
     for (kind, detail) in [
         (0, 0),
         (13, 0),
+        (13, 8),
+        (14, 1),
         (u32::MAX, 0),
         (1, 2),
         (6, 0),
@@ -35,6 +37,22 @@ fn lists_that_are_none(rt: HostRuntime) -> Result<(), Fail> {
             count,
             objects: [1; 16],
             ..plain(7, 0, 7, 8)
+        };
+        expect_code(&rt, &mut handle, &step, Code::BadArgument);
+    }
+    expect_closed(&rt, &mut handle, 4);
+    Ok(())
+}
+
+/// A permit to anybody lists its objects.
+#[test]
+fn permit_of_all_to_anybody(rt: HostRuntime) -> Result<(), Fail> {
+    let mut handle = opened(&rt);
+    begin(&rt, &mut handle, &[7, 8]);
+    for count in [0, 17, ALL] {
+        let step = PlainStep {
+            count,
+            ..plain(13, 1, 7, 8)
         };
         expect_code(&rt, &mut handle, &step, Code::BadArgument);
     }

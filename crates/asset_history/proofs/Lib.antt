@@ -1,4 +1,6 @@
 pub mod TagLemmas
+pub mod OpenedLemmas
+pub mod OperatingLemmas
 pub mod StoredLemmas
 pub mod StoredSetLemmas
 pub mod EntryLemmas

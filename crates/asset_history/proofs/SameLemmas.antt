@@ -4,7 +4,7 @@ use Rattle.std.proofs.lemmas.Bool.{and_parts, eqb-true, false≢true}
 use Rattle.asset_names.specs.declared.names.Txn.{Txn}
 use Rattle.asset_names.specs.declared.names.Ob.{Ob}
 use Rattle.asset_names.specs.declared.steps.Step.{Step}
-use Rattle.asset_names.specs.declared.steps.Step.TheVariants.{Initiate, Begin, Read, Write, Add, Complete, Permit, Delegate, Depend, Commit, Abort, WaitFor}
+use Rattle.asset_names.specs.declared.steps.Step.TheVariants.{Initiate, Begin, Read, Write, Add, Complete, Permit, PermitAny, Delegate, Depend, Commit, Abort, WaitFor}
 use Rattle.asset_names.specs.declared.sets.ObSet.{ObSet}
 use Rattle.asset_names.specs.declared.sets.ObSet.TheVariants.{All, Listed}
 use Rattle.asset_names.specs.declared.replies.Reply.{Reply}
@@ -82,11 +82,32 @@ same_permit giver taker obs ops (Permit g u o p) h =
     let two = and_parts (eqb taker.0 u.0) _ one.1 in
     let three = and_parts (obset.ghosts.eq obs o) (ops_eq.ghosts.eq ops p) two.1 in
     λ i. Permit (record { 0 = eqb-true giver.0 g.0 one.0 i }) (record { 0 = eqb-true taker.0 u.0 two.0 i }) (same_set obs o three.0 i) (same_ops ops p three.1 i)
+same_permit giver taker obs ops (PermitAny g o p) h = absurd (false≢true h)
 same_permit giver taker obs ops (Delegate g u o) h = absurd (false≢true h)
 same_permit giver taker obs ops (Depend k u v) h = absurd (false≢true h)
 same_permit giver taker obs ops (Commit t) h = absurd (false≢true h)
 same_permit giver taker obs ops (Abort t) h = absurd (false≢true h)
 same_permit giver taker obs ops (WaitFor t) h = absurd (false≢true h)
+
+same_open : (giver : Txn) (obs : List Ob) (ops : OpSet) (b : Step) → step.ghosts.eq (PermitAny giver obs ops) b ≡ true → PermitAny giver obs ops ≡ b
+unfolding filled
+same_open giver obs ops (Initiate t parent) h = absurd (false≢true h)
+same_open giver obs ops (Begin t) h = absurd (false≢true h)
+same_open giver obs ops (Read t x) h = absurd (false≢true h)
+same_open giver obs ops (Write t x v) h = absurd (false≢true h)
+same_open giver obs ops (Add t x d) h = absurd (false≢true h)
+same_open giver obs ops (Complete t) h = absurd (false≢true h)
+same_open giver obs ops (Permit g u o p) h = absurd (false≢true h)
+same_open giver obs ops (PermitAny g o p) h =
+    let one = and_parts (eqb giver.0 g.0) _ h in
+    let two = and_parts (obset.ghosts.eq (Listed obs) (Listed o)) (ops_eq.ghosts.eq ops p) one.1 in
+    let lists = and_parts (pointwise ob.ghosts.eq (filled obs) (filled o)) (eqb (length obs) (length o)) two.0 in
+    λ i. PermitAny (record { 0 = eqb-true giver.0 g.0 one.0 i }) (same_list obs o lists.0 lists.1 i) (same_ops ops p two.1 i)
+same_open giver obs ops (Delegate g u o) h = absurd (false≢true h)
+same_open giver obs ops (Depend k u v) h = absurd (false≢true h)
+same_open giver obs ops (Commit t) h = absurd (false≢true h)
+same_open giver obs ops (Abort t) h = absurd (false≢true h)
+same_open giver obs ops (WaitFor t) h = absurd (false≢true h)
 
 same_delegate : (giver taker : Txn) (obs : ObSet) (b : Step) → step.ghosts.eq (Delegate giver taker obs) b ≡ true → Delegate giver taker obs ≡ b
 same_delegate giver taker obs (Initiate t parent) h = absurd (false≢true h)
@@ -96,6 +117,7 @@ same_delegate giver taker obs (Write t x v) h = absurd (false≢true h)
 same_delegate giver taker obs (Add t x d) h = absurd (false≢true h)
 same_delegate giver taker obs (Complete t) h = absurd (false≢true h)
 same_delegate giver taker obs (Permit g u o p) h = absurd (false≢true h)
+same_delegate giver taker obs (PermitAny g o p) h = absurd (false≢true h)
 same_delegate giver taker obs (Delegate g u o) h =
     let one = and_parts (eqb giver.0 g.0) _ h in
     let two = and_parts (eqb taker.0 u.0) _ one.1 in
@@ -113,6 +135,7 @@ same_step (Write t x v) b h = search rules
 same_step (Add t x d) b h = search rules
 same_step (Complete t) b h = search rules
 same_step (Permit giver taker obs ops) b h = same_permit giver taker obs ops b h
+same_step (PermitAny giver obs ops) b h = same_open giver obs ops b h
 same_step (Delegate giver taker obs) b h = same_delegate giver taker obs b h
 same_step (Depend kind u v) b h = search rules
 same_step (Commit t) b h = search rules

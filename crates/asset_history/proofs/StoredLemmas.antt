@@ -7,12 +7,17 @@ use Rattle.std.proofs.lemmas.List.Folds.{list_all-append}
 use Rattle.std.proofs.Math.Seq.{get_or-append_seam}
 use Rattle.std.proofs.lemmas.Option.{slice_get-get_or, slice_get-map}
 use Rattle.asset_names.specs.declared.steps.Step.{Step}
-use Rattle.asset_names.specs.declared.steps.Step.TheVariants.{Initiate, Begin, Read, Write, Add, Complete, Permit, Delegate, Depend, Commit, Abort, WaitFor}
+use Rattle.asset_names.specs.declared.steps.Step.TheVariants.{Initiate, Begin, Read, Write, Add, Complete, Permit, PermitAny, Delegate, Depend, Commit, Abort, WaitFor}
 use Rattle.asset_names.specs.declared.replies.Reply.{Reply}
+use Rattle.asset_names.specs.declared.sets.ObSet.TheVariants.{Listed}
 use Rattle.asset_history.specs.StoredSets.{StoredSet, set_or_all}
+use Rattle.asset_names.specs.declared.names.Txn.{Txn}
+use Rattle.asset_names.specs.declared.sets.ObSet.{ObSet}
+use Rattle.asset_names.specs.OpSets.{OpSet}
 use Rattle.asset_history.specs.declared.stored.Stored.{Stored}
 use Rattle.asset_history.specs.declared.stored.Stored.TheVariants as Stored'
-use Rattle.asset_history.specs.Stored.{tag_of_two, missing_at, stored_as, sets_after, permit_entry, delegate_entry, entry_of, entries_of, has_set, all_have_sets, moved}
+use Rattle.asset_history.specs.Stored.{tag_of_two, missing_at, stored_as, sets_after, permit_entry, opened_step, open_entry, delegate_entry, entry_of, entries_of, has_set, all_have_sets, moved}
+use Rattle.asset_history.proofs.OpenedLemmas.{opened_sets}
 use Rattle.asset_history.proofs.TagLemmas.{again, again_of_two}
 
 -- a stored set is found as before when one more comes
@@ -38,6 +43,7 @@ entry_before sets set (Stored'.Write tag t x v) there = refl
 entry_before sets set (Stored'.Add tag t x d) there = refl
 entry_before sets set (Stored'.Complete tag t) there = refl
 entry_before sets set (Stored'.Permit tag missing ops index giver taker) there = ap (λ found. permit_entry tag missing ops giver taker (set_or_all found)) (found_before sets set index (ltb-true index (length sets) there))
+entry_before sets set (Stored'.PermitAny tag missing ops index giver) there = ap (λ found. open_entry tag missing ops giver (set_or_all found)) (found_before sets set index (ltb-true index (length sets) there))
 entry_before sets set (Stored'.Delegate tag missing index giver taker) there = ap (λ found. delegate_entry tag missing giver taker (set_or_all found)) (found_before sets set index (ltb-true index (length sets) there))
 entry_before sets set (Stored'.Depend tag kind a b) there = refl
 entry_before sets set (Stored'.Commit tag t) there = refl
@@ -56,6 +62,7 @@ entries_after : (step : Step) (sets : List StoredSet) (entries : List Stored) �
     → map (entry_of (sets_after step sets)) entries ≡ map (entry_of sets) entries
 unfolding sets_after
 entries_after (Permit giver taker obs ops) sets entries there = entries_before sets _ entries there
+entries_after (PermitAny giver obs ops) sets entries there = entries_before sets _ entries there
 entries_after (Delegate giver taker obs) sets entries there = entries_before sets _ entries there
 entries_after (Initiate t parent) sets entries there = refl
 entries_after (Begin t) sets entries there = refl
@@ -70,7 +77,7 @@ entries_after (WaitFor t) sets entries there = refl
 
 -- an entry that is stored is that step, and its reply made again
 entry_again : (step : Step) (reply : Reply) (sets : List StoredSet) → entry_of (sets_after step sets) (stored_as (length sets) step reply) ≡ (step, again step reply)
-unfolding entry_of stored_as sets_after set_or_all permit_entry delegate_entry again again_of_two
+unfolding entry_of stored_as sets_after set_or_all permit_entry opened_step open_entry delegate_entry again again_of_two
 entry_again (Initiate t parent) reply sets = refl
 entry_again (Begin t) reply sets = refl
 entry_again (Read t x) reply sets = refl
@@ -78,6 +85,7 @@ entry_again (Write t x v) reply sets = refl
 entry_again (Add t x d) reply sets = refl
 entry_again (Complete t) reply sets = refl
 entry_again (Permit giver taker obs ops) reply sets = ap (λ found. permit_entry (tag_of_two giver reply) (missing_at obs reply) ops giver taker (set_or_all found)) (found_last sets (record { obs = obs }))
+entry_again (PermitAny giver obs ops) reply sets = ap (λ found. open_entry (tag_of_two giver reply) (missing_at (Listed obs) reply) ops giver (set_or_all found)) (found_last sets (record { obs = Listed obs }))
 entry_again (Delegate giver taker obs) reply sets = ap (λ found. delegate_entry (tag_of_two giver reply) (missing_at obs reply) giver taker (set_or_all found)) (found_last sets (record { obs = obs }))
 entry_again (Depend kind a b) reply sets = refl
 entry_again (Commit t) reply sets = refl
@@ -103,6 +111,9 @@ unfolding sets_after
 sets_more (Permit giver taker obs ops) sets =
     let more = length-append sets (record { obs = obs } ∷ []) in
     (omega (arith, more), omega (arith, more))
+sets_more (PermitAny giver obs ops) sets =
+    let more = length-append sets (record { obs = Listed obs } ∷ []) in
+    (omega (arith, more), omega (arith, more))
 sets_more (Delegate giver taker obs) sets =
     let more = length-append sets (record { obs = obs } ∷ []) in
     (omega (arith, more), omega (arith, more))
@@ -121,6 +132,7 @@ sets_more (WaitFor t) sets = (omega arith, omega arith)
 there_more : (fewer more : ℕ) (stored : Stored) → fewer ≤ more → has_set fewer stored ≡ true → has_set more stored ≡ true
 unfolding has_set
 there_more fewer more (Stored'.Permit tag missing ops index giver taker) le there = lt-ltb index more (omega (arith, ltb-true index fewer there))
+there_more fewer more (Stored'.PermitAny tag missing ops index giver) le there = lt-ltb index more (omega (arith, ltb-true index fewer there))
 there_more fewer more (Stored'.Delegate tag missing index giver taker) le there = lt-ltb index more (omega (arith, ltb-true index fewer there))
 there_more fewer more (Stored'.Initiate tag t parent) le there = refl
 there_more fewer more (Stored'.Begin tag t) le there = refl
@@ -144,6 +156,7 @@ all_have_sets_more fewer more (stored ∷ entries) le there =
 last_there : (step : Step) (reply : Reply) (sets : List StoredSet) → has_set (length (sets_after step sets)) (stored_as (length sets) step reply) ≡ true
 unfolding has_set stored_as sets_after
 last_there (Permit giver taker obs ops) reply sets = lt-ltb _ _ (omega (arith, length-append sets (record { obs = obs } ∷ [])))
+last_there (PermitAny giver obs ops) reply sets = lt-ltb _ _ (omega (arith, length-append sets (record { obs = Listed obs } ∷ [])))
 last_there (Delegate giver taker obs) reply sets = lt-ltb _ _ (omega (arith, length-append sets (record { obs = obs } ∷ [])))
 last_there (Initiate t parent) reply sets = refl
 last_there (Begin t) reply sets = refl
@@ -168,11 +181,17 @@ pub there_appended : (step : Step) (reply : Reply) (sets : List StoredSet) (entr
     → all_have_sets (length (sets_after step sets)) (entries ++ stored_as count step reply ∷ []) ≡ true
 there_appended step reply sets entries count is there = rw is (there_after step reply sets entries there)
 
+-- the set of a permit to anybody is found again when it is copied
+found_opened : (giver : Txn) (obs : ObSet) (ops : OpSet) (sets : List StoredSet) → slice_get (sets_after (opened_step giver obs ops) sets) (length sets) ≡ Some (record { obs = obs })
+found_opened giver obs ops sets = ap (λ after. slice_get after (length sets)) (opened_sets giver obs ops sets) ∙ found_last sets (record { obs = obs })
+
 -- an entry that is copied with its set is the same entry
 entry_moved : (others sets : List StoredSet) (stored : Stored) → entry_of (sets_after (entry_of others stored).0 sets) (moved (length sets) stored) ≡ entry_of others stored
-unfolding entry_of sets_after moved set_or_all permit_entry delegate_entry
+unfolding entry_of sets_after moved set_or_all permit_entry open_entry delegate_entry
 entry_moved others sets (Stored'.Permit tag missing ops set giver taker) =
     ap (λ found. permit_entry tag missing ops giver taker (set_or_all found)) (found_last sets (record { obs = set_or_all (slice_get others set) }))
+entry_moved others sets (Stored'.PermitAny tag missing ops set giver) =
+    ap (λ found. open_entry tag missing ops giver (set_or_all found)) (found_opened giver (set_or_all (slice_get others set)) ops sets)
 entry_moved others sets (Stored'.Delegate tag missing set giver taker) =
     ap (λ found. delegate_entry tag missing giver taker (set_or_all found)) (found_last sets (record { obs = set_or_all (slice_get others set) }))
 entry_moved others sets (Stored'.Initiate tag t parent) = refl
@@ -201,8 +220,11 @@ entries_moved others sets stored entries count is there = rw is (entries_copied 
 
 -- its set is there
 copied_there : (others sets : List StoredSet) (stored : Stored) → has_set (length (sets_after (entry_of others stored).0 sets)) (moved (length sets) stored) ≡ true
-unfolding has_set entry_of sets_after moved permit_entry delegate_entry
+unfolding has_set entry_of sets_after moved permit_entry open_entry delegate_entry
 copied_there others sets (Stored'.Permit tag missing ops set giver taker) = lt-ltb _ _ (omega (arith, length-append sets (record { obs = set_or_all (slice_get others set) } ∷ [])))
+copied_there others sets (Stored'.PermitAny tag missing ops set giver) =
+    let obs = set_or_all (slice_get others set) in
+    lt-ltb _ _ (omega (arith, ap length (opened_sets giver obs ops sets), length-append sets (record { obs = obs } ∷ [])))
 copied_there others sets (Stored'.Delegate tag missing set giver taker) = lt-ltb _ _ (omega (arith, length-append sets (record { obs = set_or_all (slice_get others set) } ∷ [])))
 copied_there others sets (Stored'.Initiate tag t parent) = refl
 copied_there others sets (Stored'.Begin tag t) = refl

@@ -7,7 +7,7 @@ use Rattle.asset_names.specs.declared.operations.Op.TheVariants as Op'
 use Rattle.asset_names.specs.declared.statuses.Status.{Status}
 use Rattle.asset_names.specs.declared.statuses.Status.TheVariants as Status'
 use Rattle.asset_names.specs.declared.steps.Step.{Step}
-use Rattle.asset_names.specs.declared.steps.Step.TheVariants.{Initiate, Begin, Read, Write, Add, Complete, Permit, Delegate, Depend, Commit, Abort, WaitFor}
+use Rattle.asset_names.specs.declared.steps.Step.TheVariants.{Initiate, Begin, Read, Write, Add, Complete, Permit, PermitAny, Delegate, Depend, Commit, Abort, WaitFor}
 use Rattle.asset_names.specs.declared.replies.Reply.{Reply}
 use Rattle.asset_names.specs.declared.replies.Reply.TheVariants as Reply'
 use Rattle.asset_names.specs.declared.replies.Outcome.{Outcome}
@@ -38,6 +38,7 @@ again (Write t x v) reply = reply_about t x (pos 0) (tag_of reply)
 again (Add t x d) reply = reply_about t x (pos 0) (tag_of reply)
 again (Complete t) reply = reply_of_name t (tag_of reply)
 again (Permit giver taker obs ops) reply = again_of_two giver taker obs reply
+again (PermitAny giver obs ops) reply = again_of_two giver giver (Listed obs) reply
 again (Delegate giver taker obs) reply = again_of_two giver taker obs reply
 again (Depend kind a b) reply = reply_of_two a b no_object_name (tag_of_two a reply)
 again (Commit t) reply = reply_of_name t (tag_of reply)
@@ -131,6 +132,18 @@ two_same opening steps giver taker obs = (
   ),
 )
 
+-- the refusals of a step of one transaction and a set
+open_same : (opening : Opening) (steps : List Step) (giver : Txn) (obs : ObSet)
+    → AreSame (again_of_two giver giver obs) (unknown steps giver ∷ ended steps giver ∷ no_object_of opening obs ∷ [])
+unfolding AreSame again_of_two unknown ended no_object_of tag_of tag_of_two reply_about reply_of_two
+open_same opening steps giver obs = (
+  λ _. about_first giver giver _ ReplyTag'.Unknown ReplyTag'.SecondUnknown (λ t. Reply'.Refused (Refusal'.Unknown t)) refl,
+  (
+    λ _. about_first giver giver _ ReplyTag'.Ended ReplyTag'.SecondEnded (λ t. Reply'.Refused (Refusal'.Ended t)) refl,
+    (λ applies. missing_same opening giver giver obs (missing_in opening obs) refl applies, tt),
+  ),
+)
+
 refusals_same : (opening : Opening) (steps : List Step) (step : Step) → AreSame (again step) (rules_for opening steps step)
 unfolding AreSame again rules_for unknown ended not_running taken begun_before too_late no_object one_name cycle no_object_of tag_of tag_of_two reply_about reply_of_name reply_of_two
 refusals_same opening steps (Initiate t parent) = (λ _. refl, tt)
@@ -140,6 +153,7 @@ refusals_same opening steps (Write t x v) = (λ _. refl, (λ _. refl, (λ _. ref
 refusals_same opening steps (Add t x d) = (λ _. refl, (λ _. refl, (λ _. refl, (λ _. refl, tt))))
 refusals_same opening steps (Complete t) = (λ _. refl, (λ _. refl, (λ _. refl, tt)))
 refusals_same opening steps (Permit giver taker obs ops) = two_same opening steps giver taker obs
+refusals_same opening steps (PermitAny giver obs ops) = open_same opening steps giver (Listed obs)
 refusals_same opening steps (Delegate giver taker obs) = two_same opening steps giver taker obs
 refusals_same opening steps (Depend kind a b) = (
   λ _. refl,
@@ -188,6 +202,7 @@ unrefused_same opening steps (Write t x v) = same_if _ (free steps t.0 x.0 Op'.W
 unrefused_same opening steps (Add t x d) = same_if _ (free steps t.0 x.0 Op'.Add) Reply'.Done refl
 unrefused_same opening steps (Complete t) = refl
 unrefused_same opening steps (Permit giver taker obs ops) = refl
+unrefused_same opening steps (PermitAny giver obs ops) = refl
 unrefused_same opening steps (Delegate giver taker obs) = refl
 unrefused_same opening steps (Depend kind a b) = refl
 unrefused_same opening steps (Commit t) = commit_same t (status steps t.0) (may_commit steps t.0)

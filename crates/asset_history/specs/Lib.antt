@@ -3,3 +3,4 @@ pub mod Stored
 pub mod StoredSets
 pub mod Committing
 pub mod Acting
+pub mod Operating

@@ -7,7 +7,7 @@ use Rattle.asset_names.specs.declared.names.Ob.{Ob}
 use Rattle.asset_names.specs.declared.sets.ObSet.{ObSet}
 use Rattle.asset_names.specs.declared.sets.ObSet.TheVariants.{All, Listed}
 use Rattle.asset_names.specs.declared.steps.Step.{Step}
-use Rattle.asset_names.specs.declared.steps.Step.TheVariants.{Initiate, Begin, Read, Write, Add, Complete, Permit, Delegate, Depend, Commit, Abort, WaitFor}
+use Rattle.asset_names.specs.declared.steps.Step.TheVariants.{Initiate, Begin, Read, Write, Add, Complete, Permit, PermitAny, Delegate, Depend, Commit, Abort, WaitFor}
 use Rattle.asset_names.specs.declared.replies.Refusal.TheVariants as Refusal'
 use Rattle.asset_names.specs.declared.replies.Reply.{Reply}
 use Rattle.asset_names.specs.declared.replies.Reply.TheVariants as Reply'
@@ -101,6 +101,7 @@ stored_as count (Write t x v) reply = Stored'.Write (tag_of reply) t x v
 stored_as count (Add t x d) reply = Stored'.Add (tag_of reply) t x d
 stored_as count (Complete t) reply = Stored'.Complete (tag_of reply) t
 stored_as count (Permit giver taker obs ops) reply = Stored'.Permit (tag_of_two giver reply) (missing_at obs reply) ops count giver taker
+stored_as count (PermitAny giver obs ops) reply = Stored'.PermitAny (tag_of_two giver reply) (missing_at (Listed obs) reply) ops count giver
 stored_as count (Delegate giver taker obs) reply = Stored'.Delegate (tag_of_two giver reply) (missing_at obs reply) count giver taker
 stored_as count (Depend kind a b) reply = Stored'.Depend (tag_of_two a reply) kind a b
 stored_as count (Commit t) reply = Stored'.Commit (tag_of reply) t
@@ -110,12 +111,22 @@ stored_as count (WaitFor t) reply = Stored'.WaitFor (tag_of reply) t
 -- the stored sets after an entry
 unfoldable pub sets_after : Step → List StoredSet → List StoredSet
 sets_after (Permit giver taker obs ops) sets = sets ++ record { obs = obs } ∷ []
+sets_after (PermitAny giver obs ops) sets = sets ++ record { obs = Listed obs } ∷ []
 sets_after (Delegate giver taker obs) sets = sets ++ record { obs = obs } ∷ []
 sets_after step sets = sets
 
 -- the entry of a permit by its set
 unfoldable pub permit_entry : ReplyTag → ℕ → OpSet → Txn → Txn → ObSet → Entry
 permit_entry tag missing ops giver taker obs = (Permit giver taker obs ops, reply_of_two giver taker (object_at obs missing) tag)
+
+-- the step of a permit to anybody by its set, which is a list
+unfoldable pub opened_step : Txn → ObSet → OpSet → Step
+opened_step giver (Listed obs) ops = PermitAny giver obs ops
+opened_step giver All ops = Permit giver giver All ops
+
+-- the entry of a permit to anybody by its set
+unfoldable pub open_entry : ReplyTag → ℕ → OpSet → Txn → ObSet → Entry
+open_entry tag missing ops giver obs = (opened_step giver obs ops, reply_of_two giver giver (object_at obs missing) tag)
 
 -- and of a delegation
 unfoldable pub delegate_entry : ReplyTag → ℕ → Txn → Txn → ObSet → Entry
@@ -130,6 +141,7 @@ entry_of sets (Stored'.Write tag t x v) = (Write t x v, reply_about t x (pos 0) 
 entry_of sets (Stored'.Add tag t x d) = (Add t x d, reply_about t x (pos 0) tag)
 entry_of sets (Stored'.Complete tag t) = (Complete t, reply_of_name t tag)
 entry_of sets (Stored'.Permit tag missing ops set giver taker) = permit_entry tag missing ops giver taker (set_or_all (slice_get sets set))
+entry_of sets (Stored'.PermitAny tag missing ops set giver) = open_entry tag missing ops giver (set_or_all (slice_get sets set))
 entry_of sets (Stored'.Delegate tag missing set giver taker) = delegate_entry tag missing giver taker (set_or_all (slice_get sets set))
 entry_of sets (Stored'.Depend tag kind a b) = (Depend kind a b, reply_of_two a b no_object_name tag)
 entry_of sets (Stored'.Commit tag t) = (Commit t, reply_of_name t tag)
@@ -139,6 +151,7 @@ entry_of sets (Stored'.WaitFor tag t) = (WaitFor t, reply_of_name t tag)
 -- a stored entry with the set at this index in place of its own, if it has one
 unfoldable pub moved : ℕ → Stored → Stored
 moved count (Stored'.Permit tag missing ops set giver taker) = Stored'.Permit tag missing ops count giver taker
+moved count (Stored'.PermitAny tag missing ops set giver) = Stored'.PermitAny tag missing ops count giver
 moved count (Stored'.Delegate tag missing set giver taker) = Stored'.Delegate tag missing count giver taker
 moved count stored = stored
 
@@ -156,6 +169,7 @@ entries_of sets entries = reverse (map (entry_of sets) entries)
 -- whether the set of a stored entry, if it has one, is among `count` stored sets
 unfoldable pub has_set : ℕ → Stored → Bool
 has_set count (Stored'.Permit tag missing ops set giver taker) = nat_lt set count
+has_set count (Stored'.PermitAny tag missing ops set giver) = nat_lt set count
 has_set count (Stored'.Delegate tag missing set giver taker) = nat_lt set count
 has_set count stored = true
 

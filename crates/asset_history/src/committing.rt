@@ -16,7 +16,7 @@ impl Stored {
 
     /// Returns the transaction whose commit the entry answers with `Committed`, if it is such an entry.
     #[inline(always)]
-    #[tactic(auto, unfolding(crate::specs::Committing::committed_by, crate::specs::Stored::entry_of, crate::specs::Stored::reply_of_name, crate::specs::Stored::reply_about, crate::specs::Stored::permit_entry, crate::specs::Stored::delegate_entry))]
+    #[tactic(auto, unfolding(crate::specs::Committing::committed_by, crate::specs::Stored::entry_of, crate::specs::Stored::reply_of_name, crate::specs::Stored::reply_about, crate::specs::Stored::permit_entry, crate::specs::Stored::open_entry, crate::specs::Stored::delegate_entry))]
     pub(crate) fn committed(&self) -> Option<Txn>
         ensures { (sets : List StoredSet) → result ≡ committed_by (entry_of sets self.now).0 (entry_of sets self.now).1 }
     {
@@ -25,6 +25,7 @@ impl Stored {
                 ReplyTag::Committed => Some(t),
                 _ => None,
             },
+            Stored::PermitAny { .. } => None,
             _ => None,
         }
     }

@@ -3,7 +3,7 @@
 use crate::stored::Stored;
 use crate::stored_set::{copy_set, push_set};
 use crate::stored_sets::StoredSets;
-use asset_names::{NoMemory, Ob, Reply, Step, Txn};
+use asset_names::{NoMemory, Ob, ObList, Reply, Step, Txn};
 use std::alloc::{AllocError, Global};
 use std::marker::Model;
 
@@ -35,6 +35,7 @@ impl History {
     ghost use Rattle.std.specs.Option.{option_map};
     ghost use Rattle.asset_history.specs.Acting.{both_of};
     ghost use Rattle.asset_history.specs.Committing.{commit_at};
+    ghost use Rattle.asset_history.specs.Operating.{operator_at, opener_at};
     ghost use Rattle.asset_names.specs.Sets.{HasNoDouble};
     ghost use Rattle.asset_names.specs.Answers.{IsLegal};
     ghost use Rattle.asset_names.specs.Steps.{Entry};
@@ -161,6 +162,30 @@ impl History {
     {
         match self.entries.as_slice().get(index) {
             Some(stored) => stored.committed(),
+            None => None,
+        }
+    }
+
+    /// Returns the transaction and the object of the operation at the index, oldest first from 0, if the entry there is an
+    /// operation that took effect, and `None` otherwise. The step is not read back.
+    #[inline(always)]
+    pub fn operator(&self, index: usize) -> Option<(Txn, Ob)>
+        ensures { result ≡ operator_at (slice_get (reverse self.now.entries) index) }
+    {
+        match self.entries.as_slice().get(index) {
+            Some(stored) => stored.operator(),
+            None => None,
+        }
+    }
+
+    /// Returns the giver and the objects of the open permit at the index, oldest first from 0, if the entry there is an open
+    /// permit that took effect, and `None` otherwise. No other step is read back.
+    #[inline(always)]
+    pub fn opener(&self, index: usize) -> Option<(Txn, ObList)>
+        ensures { result ≡ opener_at (slice_get (reverse self.now.entries) index) }
+    {
+        match self.entries.as_slice().get(index) {
+            Some(stored) => stored.opener(&self.sets),
             None => None,
         }
     }

@@ -3,6 +3,7 @@
 
 mod committing;
 mod history;
+mod operating;
 mod recording;
 mod reply_tag;
 mod stored;

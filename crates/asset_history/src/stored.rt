@@ -1,10 +1,13 @@
 //! How entries are stored: in 32 bytes each. The set of objects of a permit or a delegation, which is large, stands in a list of sets,
 //! and the entry has its index.
 
+ghost use Rattle.std.specs.Prelude.{◌≡◌};
+ghost use Rattle.asset_history.specs.Stored.{opened_step};
+
 use crate::reply_tag::{ReplyTag, value_read};
 use crate::stored_set::{missing_at, object_at};
 use crate::stored_sets::StoredSets;
-use asset_names::{Kind, Ob, Ops, Reply, Step, Txn, value_asked};
+use asset_names::{Kind, Ob, ObSet, Ops, Reply, Step, Txn, value_asked};
 use std::mem::size_of;
 
 /// An entry as it is stored: the step, and the tag of its reply. A read has the value that it read, or 0. The tag comes
@@ -52,6 +55,14 @@ pub(crate) enum Stored {
         giver: Txn,
         taker: Txn,
     },
+    /// Its set, which is a list, and the missing object are as those of a permit.
+    PermitAny {
+        tag: ReplyTag,
+        missing: u8,
+        ops: Ops,
+        set: usize,
+        giver: Txn,
+    },
     /// Its set and the missing object are as those of a permit.
     Delegate {
         tag: ReplyTag,
@@ -82,11 +93,27 @@ pub(crate) enum Stored {
 
 const _: () = prove!(size_of::<Stored>() == 32);
 
+/// Returns the step of a permit to anybody by its set, which is a list.
+#[tactic(auto, unfolding(crate::specs::Stored::opened_step))]
+fn opened(giver: Txn, obs: ObSet, ops: Ops) -> Step
+    ensures { result ≡ opened_step giver obs ops }
+{
+    match obs {
+        ObSet::Listed(obs) => Step::PermitAny { giver, obs, ops },
+        ObSet::All => Step::Permit {
+            giver,
+            taker: giver,
+            obs,
+            ops,
+        },
+    }
+}
+
 impl Stored {
     ghost use Rattle.std.specs.Prelude.{◌≡◌, List, true, length};
     ghost use Rattle.asset_history.specs.Acting.{both_of};
     ghost use Rattle.asset_history.specs.StoredSets.{StoredSet};
-    ghost use Rattle.asset_history.specs.Stored.{stored_as, entry_of, permit_entry, delegate_entry, value_stored, has_set, moved};
+    ghost use Rattle.asset_history.specs.Stored.{stored_as, entry_of, permit_entry, open_entry, delegate_entry, value_stored, has_set, moved};
 
     /// Returns the entry as it is stored, if `count` sets are stored.
     #[inline(always)]
@@ -130,6 +157,13 @@ impl Stored {
                 giver,
                 taker,
             },
+            Step::PermitAny { giver, obs, ops } => Stored::PermitAny {
+                tag: ReplyTag::of_two(giver, reply),
+                missing: missing_at(&ObSet::Listed(obs), reply),
+                ops,
+                set: count,
+                giver,
+            },
             Step::Delegate { giver, taker, obs } => Stored::Delegate {
                 tag: ReplyTag::of_two(giver, reply),
                 missing: missing_at(&obs, reply),
@@ -162,7 +196,7 @@ impl Stored {
 
     /// Puts the step of the entry into the slot, and returns its reply. Its set, if it has one, is among the stored sets.
     #[inline(always)]
-    #[tactic(auto, unfolding(crate::specs::Stored::entry_of, crate::specs::Stored::value_stored, crate::specs::Stored::permit_entry, crate::specs::Stored::delegate_entry, crate::specs::StoredSets::set_or_all, crate::specs::Stored::has_set))]
+    #[tactic(auto, unfolding(crate::specs::Stored::entry_of, crate::specs::Stored::value_stored, crate::specs::Stored::permit_entry, crate::specs::Stored::open_entry, crate::specs::Stored::delegate_entry, crate::specs::StoredSets::set_or_all, crate::specs::Stored::has_set))]
     pub(crate) fn put(&self, sets: &StoredSets, step: &mut Step) -> Reply
         requires there { has_set (length sets.now.sets) self.now ≡ true }
         ensures { (step.new, result) ≡ entry_of sets.now.sets self.now }
@@ -210,6 +244,18 @@ impl Stored {
                     obs,
                     ops,
                 };
+                reply
+            }
+            Stored::PermitAny {
+                tag,
+                missing,
+                ops,
+                set,
+                giver,
+            } => {
+                let obs = sets.set(set);
+                let reply = tag.about_two(giver, giver, object_at(&obs, missing));
+                *step = opened(giver, obs, ops);
                 reply
             }
             Stored::Delegate {
@@ -265,6 +311,19 @@ impl Stored {
                 giver,
                 taker,
             },
+            Stored::PermitAny {
+                tag,
+                missing,
+                ops,
+                giver,
+                ..
+            } => Stored::PermitAny {
+                tag,
+                missing,
+                ops,
+                set: count,
+                giver,
+            },
             Stored::Delegate {
                 tag,
                 missing,
@@ -284,7 +343,7 @@ impl Stored {
 
     /// Returns the two transactions that the entry's step acts on, which are one if it acts on one.
     #[inline(always)]
-    #[tactic(auto, unfolding(crate::specs::Stored::entry_of, crate::specs::Stored::permit_entry, crate::specs::Stored::delegate_entry, asset_names::specs::Groups::actor, asset_names::specs::Groups::partner))]
+    #[tactic(auto, unfolding(crate::specs::Stored::entry_of, crate::specs::Stored::permit_entry, crate::specs::Stored::open_entry, crate::specs::Stored::delegate_entry, asset_names::specs::Groups::actor, asset_names::specs::Groups::partner))]
     pub(crate) fn both(&self) -> (Txn, Txn)
         ensures { (sets : List StoredSet) → result ≡ both_of (entry_of sets self.now) }
     {
@@ -296,6 +355,7 @@ impl Stored {
             Stored::Add { t, .. } => (t, t),
             Stored::Complete { t, .. } => (t, t),
             Stored::Permit { giver, taker, .. } => (giver, taker),
+            Stored::PermitAny { giver, .. } => (giver, giver),
             Stored::Delegate { giver, taker, .. } => (giver, taker),
             Stored::Depend { a, b, .. } => (a, b),
             Stored::Commit { t, .. } => (t, t),

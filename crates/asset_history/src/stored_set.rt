@@ -58,13 +58,14 @@ pub(crate) fn push_set(sets: &mut StoredSets, step: &Step)
 {
     match step {
         Step::Permit { obs, .. } => sets.push(obs),
+        Step::PermitAny { obs, .. } => sets.push(&ObSet::Listed(*obs)),
         Step::Delegate { obs, .. } => sets.push(obs),
         _ => {}
     }
 }
 
 /// Appends the set of an entry, which is among other sets, to the sets, whose room is reserved. Any other entry has none.
-#[tactic(auto, unfolding(crate::specs::Stored::sets_after, crate::specs::Stored::entry_of, crate::specs::Stored::permit_entry, crate::specs::Stored::delegate_entry, crate::specs::Stored::has_set))]
+#[tactic(auto, unfolding(crate::specs::Stored::sets_after, crate::specs::Stored::entry_of, crate::specs::Stored::permit_entry, crate::specs::Stored::open_entry, crate::specs::Stored::delegate_entry, crate::specs::Stored::has_set))]
 pub(crate) fn copy_set(sets: &mut StoredSets, others: &StoredSets, stored: &Stored)
     requires there { has_set (length others.now.sets) stored.now ≡ true }
     requires room { length sets.old.sets < sets.old.room }
@@ -73,6 +74,7 @@ pub(crate) fn copy_set(sets: &mut StoredSets, others: &StoredSets, stored: &Stor
 {
     match *stored {
         Stored::Permit { set, .. } => sets.push_from(others, set),
+        Stored::PermitAny { set, .. } => sets.push_from(others, set),
         Stored::Delegate { set, .. } => sets.push_from(others, set),
         _ => {}
     }

@@ -2,7 +2,7 @@
 
 use asset_names::{Kind, Ob, ObList, ObSet, Op, Ops, Step, Txn};
 use asset_printing::{push_object, push_step};
-use asset_test_tools::{abort, begin, commit, complete, depend, initiate, read, write};
+use asset_test_tools::{abort, begin, commit, complete, depend, initiate, permit_any, read, write};
 use std::alloc::Global;
 use std::test::Fail;
 
@@ -66,6 +66,8 @@ fn steps_of_two_transactions_are_printed(rt: HostRuntime) -> Result<(), Fail> {
     };
     assert!(rt; prints(rt.alloc(), &delegation, "delegate 7 8 all"));
     assert!(rt; prints(rt.alloc(), &permit, "permit 7 8 rw 1,3,20"));
+    let open = permit_any(7, &[Ob(3), Ob(1)], Ops::with_add(true, false));
+    assert!(rt; prints(rt.alloc(), &open, "permit 7 any ra 1,3"));
     assert!(rt; prints(rt.alloc(), &depend(Kind::Ad, 7, 8), "depend ad 7 8"));
     Ok(())
 }

@@ -7,7 +7,8 @@ use asset_history::History;
 use asset_names::{NoMemory, Ob, Reply, Step};
 use asset_sources::{Source, source, sources};
 use asset_test_tools::{
-    abort, add, begin, commit, complete, delegate, initiate, next, permit, read, write,
+    abort, add, begin, commit, complete, delegate, initiate, next, ops_of, permit, permit_any,
+    read, write,
 };
 use std::alloc::Global;
 use std::test::Fail;
@@ -224,12 +225,13 @@ fn history_without_entries_has_no_sources(rt: HostRuntime) -> Result<(), Fail> {
 /// Returns the step that `t` asks amid its life, as a number says. Each draw that writes has a value of its own.
 fn drawn(t: u64, draw: u32, number: u64) -> Step {
     let x = 1 + (number >> 20) % 3;
-    match (number >> 50) % 14 {
+    match (number >> 50) % 15 {
         0 => abort(t),
         1 => delegate(t, t / 3 * 3, &[Ob(x)]),
         2 => permit(t, t / 3 * 3, &[Ob(x)], (true, true)),
         3 | 4 | 5 | 6 => write(t, x, SPAN * (i64::from(draw) + 1)),
         12 | 13 => add(t, x, 1),
+        14 => permit_any(t, &[Ob(x)], ops_of(number)),
         _ => read(t, x),
     }
 }

@@ -7,7 +7,7 @@ use Rattle.asset_names.specs.declared.names.Txn.{Txn}
 use Rattle.asset_names.specs.declared.steps.Kind.{Kind}
 use Rattle.asset_names.specs.declared.steps.Kind.TheVariants as Kind'
 use Rattle.asset_names.specs.declared.steps.Step.{Step}
-use Rattle.asset_names.specs.declared.steps.Step.TheVariants.{Initiate, Begin, Read, Write, Add, Complete, Permit, Delegate, Depend, Commit, Abort, WaitFor}
+use Rattle.asset_names.specs.declared.steps.Step.TheVariants.{Initiate, Begin, Read, Write, Add, Complete, Permit, PermitAny, Delegate, Depend, Commit, Abort, WaitFor}
 use Rattle.asset_names.specs.declared.replies.Reply.{Reply}
 use Rattle.asset_names.specs.declared.replies.Reply.TheVariants as Reply'
 use Rattle.asset_names.specs.Steps.{Entry}
@@ -83,6 +83,11 @@ sourced groups rows all number (Permit giver taker obs ops) (Reply'.Value w) sou
 sourced groups rows all number (Permit giver taker obs ops) Reply'.Committed source arrow is kind = absurd cc
 sourced groups rows all number (Permit giver taker obs ops) Reply'.Aborted source arrow is kind = absurd cc
 sourced groups rows all number (Permit giver taker obs ops) (Reply'.Refused refusal) source arrow is kind = absurd cc
+sourced groups rows all number (PermitAny giver obs ops) Reply'.Done source arrow is kind = let same = not_source groups rows ArrowKind'.Open number giver number giver arrow is kind in absurd cc
+sourced groups rows all number (PermitAny giver obs ops) (Reply'.Value w) source arrow is kind = absurd cc
+sourced groups rows all number (PermitAny giver obs ops) Reply'.Committed source arrow is kind = absurd cc
+sourced groups rows all number (PermitAny giver obs ops) Reply'.Aborted source arrow is kind = absurd cc
+sourced groups rows all number (PermitAny giver obs ops) (Reply'.Refused refusal) source arrow is kind = absurd cc
 sourced groups rows all number (Delegate giver taker obs) Reply'.Done source arrow is kind = let same = not_source groups rows ArrowKind'.Delegate number giver number taker arrow is kind in absurd cc
 sourced groups rows all number (Delegate giver taker obs) (Reply'.Value w) source arrow is kind = absurd cc
 sourced groups rows all number (Delegate giver taker obs) Reply'.Committed source arrow is kind = absurd cc

@@ -7,7 +7,7 @@ use Rattle.std.proofs.lemmas.List.Elements.{filter-append}
 use Rattle.std.proofs.lemmas.Option.{same_Some, none-some, slice_get_cases}
 use Rattle.asset_names.specs.declared.operations.Op.TheVariants as Op'
 use Rattle.asset_names.specs.declared.steps.Step.{Step}
-use Rattle.asset_names.specs.declared.steps.Step.TheVariants.{Initiate, Begin, Read, Write, Add, Complete, Permit, Delegate, Depend, Commit, Abort, WaitFor}
+use Rattle.asset_names.specs.declared.steps.Step.TheVariants.{Initiate, Begin, Read, Write, Add, Complete, Permit, PermitAny, Delegate, Depend, Commit, Abort, WaitFor}
 use Rattle.asset_names.specs.declared.replies.Reply.{Reply}
 use Rattle.asset_names.specs.declared.replies.Reply.TheVariants as Reply'
 use Rattle.asset_names.specs.Steps.{Entry, takes_effect}
@@ -50,6 +50,7 @@ mark_number groups rows number (Write t x v) (Reply'.Refused refusal) mark is = 
 mark_number groups rows number (Add t x v) (Reply'.Refused refusal) mark is = absurd cc
 mark_number groups rows number (Complete t) reply mark is = absurd cc
 mark_number groups rows number (Permit giver taker obs ops) reply mark is = absurd cc
+mark_number groups rows number (PermitAny giver obs ops) reply mark is = absurd cc
 mark_number groups rows number (Delegate giver taker obs) reply mark is = absurd cc
 mark_number groups rows number (Depend kind a b) reply mark is = absurd cc
 mark_number groups rows number (Commit t) reply mark is = absurd cc
@@ -92,6 +93,7 @@ one_mark groups rows number (Write t x v) (Reply'.Refused refusal) operating = a
 one_mark groups rows number (Add t x v) (Reply'.Refused refusal) operating = absurd (false≢true operating)
 one_mark groups rows number (Complete t) reply operating = absurd (and_false_true (takes_effect (Complete t) reply) operating)
 one_mark groups rows number (Permit giver taker obs ops) reply operating = absurd (and_false_true (takes_effect (Permit giver taker obs ops) reply) operating)
+one_mark groups rows number (PermitAny giver obs ops) reply operating = absurd (and_false_true (takes_effect (PermitAny giver obs ops) reply) operating)
 one_mark groups rows number (Delegate giver taker obs) reply operating = absurd (and_false_true (takes_effect (Delegate giver taker obs) reply) operating)
 one_mark groups rows number (Depend kind a b) reply operating = absurd (and_false_true (takes_effect (Depend kind a b) reply) operating)
 one_mark groups rows number (Commit t) reply operating = absurd (and_false_true (takes_effect (Commit t) reply) operating)
@@ -120,6 +122,7 @@ no_mark groups rows number (Write t x v) (Reply'.Refused refusal) operating = re
 no_mark groups rows number (Add t x v) (Reply'.Refused refusal) operating = refl
 no_mark groups rows number (Complete t) reply operating = refl
 no_mark groups rows number (Permit giver taker obs ops) reply operating = refl
+no_mark groups rows number (PermitAny giver obs ops) reply operating = refl
 no_mark groups rows number (Delegate giver taker obs) reply operating = refl
 no_mark groups rows number (Depend kind a b) reply operating = refl
 no_mark groups rows number (Commit t) reply operating = refl

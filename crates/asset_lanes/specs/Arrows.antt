@@ -4,7 +4,7 @@ use Rattle.asset_names.specs.declared.names.Txn.{Txn}
 use Rattle.asset_names.specs.declared.steps.Kind.{Kind}
 use Rattle.asset_names.specs.declared.steps.Kind.TheVariants as Kind'
 use Rattle.asset_names.specs.declared.steps.Step.{Step}
-use Rattle.asset_names.specs.declared.steps.Step.TheVariants.{Read, Permit, Delegate, Depend}
+use Rattle.asset_names.specs.declared.steps.Step.TheVariants.{Read, Permit, PermitAny, Delegate, Depend}
 use Rattle.asset_names.specs.declared.replies.Reply.{Reply}
 use Rattle.asset_names.specs.declared.replies.Reply.TheVariants as Reply'
 use Rattle.asset_names.specs.Steps.{Entry}
@@ -39,11 +39,12 @@ source_arrow groups rows entries from t None = None
 source_arrow groups rows entries from t (Some Source'.Opening) = None
 source_arrow groups rows entries from t (Some (Source'.Entry to)) = arrow_to_entry groups rows from t to (slice_get (reverse entries) to)
 
--- The arrow of the entry with this number, if it has one: from who permits, delegates or is depended on to the other, or
--- from a read to its source.
+-- The arrow of the entry with this number, if it has one: from who permits, delegates or is depended on to the other, from
+-- who permits to anybody to itself, or from a read to its source.
 unfoldable pub arrow_of : Grouping → List ℕ → List Entry → ℕ → Step → Reply → Option Source → Option Arrow
 arrow_of groups rows entries number (Read t x) reply source = source_arrow groups rows entries number t source
 arrow_of groups rows entries number (Permit giver taker obs ops) Reply'.Done source = Some (arrow_to groups rows ArrowKind'.Permit number giver number taker)
+arrow_of groups rows entries number (PermitAny giver obs ops) Reply'.Done source = Some (arrow_to groups rows ArrowKind'.Open number giver number giver)
 arrow_of groups rows entries number (Delegate giver taker obs) Reply'.Done source = Some (arrow_to groups rows ArrowKind'.Delegate number giver number taker)
 arrow_of groups rows entries number (Depend kind a b) Reply'.Done source = Some (arrow_to groups rows (arrow_kind kind) number a number b)
 arrow_of groups rows entries number step reply source = None

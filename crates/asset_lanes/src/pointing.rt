@@ -19,6 +19,8 @@ pub enum ArrowKind {
     Source,
     /// From who permits to whom.
     Permit,
+    /// From who permits to anybody to itself.
+    Open,
     /// From who hands over to whom.
     Delegate,
     /// From the source of a commit dependency to the dependent.
@@ -137,6 +139,10 @@ fn arrow_of(
             Reply::Done => Some(arrow_to(groups, rows, ArrowKind::Permit, n, giver, n, taker)),
             _ => None,
         },
+        Step::PermitAny { giver, .. } => match *reply {
+            Reply::Done => Some(arrow_to(groups, rows, ArrowKind::Open, n, giver, n, giver)),
+            _ => None,
+        },
         Step::Delegate { giver, taker, .. } => match *reply {
             Reply::Done => Some(arrow_to(groups, rows, ArrowKind::Delegate, n, giver, n, taker)),
             _ => None,
@@ -206,8 +212,8 @@ fn arrows_by(
 }
 
 /// Returns the arrows of all entries, oldest first, or `NoMemory` if memory runs out. They are from who permits, hands over or
-/// is depended on to the other, and from each read to its source, if that is no opening value. `groups` are those of the
-/// history, and `rows` what `lane_names` returns for them.
+/// is depended on to the other, from who permits to anybody to itself, and from each read to its source, if that is no opening
+/// value. `groups` are those of the history, and `rows` what `lane_names` returns for them.
 pub fn arrows(
     alloc: Global,
     history: &History,

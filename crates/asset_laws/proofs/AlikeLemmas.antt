@@ -1,8 +1,8 @@
 -- Two lists of steps that say the same of each transaction that is kept, and what follows: statuses, classes and
 -- dependencies, and what each transaction may do.
-use Rattle.std.proofs.Common.{◌≡◌, ℕ, Bool, true, false, not, eqb, ◌&&◌, ◌||◌, List, ◌++◌, filter, refl, sym, ◌∙◌}
+use Rattle.std.proofs.Common.{◌≡◌, ℕ, Bool, true, false, not, eqb, ◌&&◌, ◌||◌, List, ◌++◌, filter, refl, sym, ◌∙◌, inl, inr}
 use Rattle.std.specs.List.{list_any}
-use Rattle.std.proofs.lemmas.Bool.{and_parts, and_from, eqb-true, false≢true, not-true, not_from_false}
+use Rattle.std.proofs.lemmas.Bool.{or_cases, and_parts, and_from, eqb-true, false≢true, not-true, not_from_false}
 use Rattle.asset_names.specs.declared.operations.Op.{Op}
 use Rattle.asset_names.specs.declared.steps.Kind.{Kind}
 use Rattle.asset_names.specs.declared.steps.Kind.TheVariants.{Cd, Ad, Gc}
@@ -11,20 +11,20 @@ use Rattle.asset_names.specs.Arrows.{Arrow, lists, linked, has_arrow, among}
 use Rattle.asset_names.specs.Paths.{leads, closes_cycle, has_outside}
 use Rattle.asset_names.specs.Steps.{initiated, begun, completed}
 use Rattle.asset_names.specs.Endings.{dependencies, class_arrows, order_arrows, doom_arrows, end_of, live, status, same_class, has_outside_source, would_cycle}
-use Rattle.asset_names.specs.Operations.{Operation, operations, holds_object, permits, allows, blocks, free}
+use Rattle.asset_names.specs.Operations.{Operation, operations, holds_object, permits, openers, permits_along, reaches_opener, allows, blocks, free}
 use Rattle.asset_names.specs.Answers.{is_completed, class_completed, may_commit}
 use Rattle.asset_names.proofs.Common.{both_follow}
 use Rattle.asset_names.proofs.ListLemmas.{any_filter, any_alike}
 use Rattle.asset_names.proofs.EndLemmas.{commits, aborts}
 use Rattle.asset_names.proofs.DependLemmas.{has_append}
-use Rattle.asset_laws.proofs.KeepLinks.{Keeps, LeadAlike, linked_keeps, linked_alike, among_keeps, among_alike, append_keeps, append_alike, both_keeps, both_alike, among_alike_to, any_arrow, arrow_any, all_alike, any_fewer}
+use Rattle.asset_laws.proofs.KeepLinks.{any_name, name_any, Keeps, LeadAlike, linked_keeps, linked_alike, among_keeps, among_alike, append_keeps, append_alike, both_keeps, both_alike, among_alike_to, any_arrow, arrow_any, all_alike, any_fewer}
 
 -- whether the transaction that is responsible for an operation is kept
 unfoldable pub owned : (ℕ → Bool) → Operation → Bool
 owned keep o = keep o.owner
 
 -- Some of the steps say the same as all of them of each transaction that is kept: whether it was initiated, has begun, has
--- completed and how it ended; which dependencies and permits lead from it and to it; and what it is responsible for. All
+-- completed and how it ended; which dependencies and permits lead from it and to it; what it opened; and what it is responsible for. All
 -- dependencies and permits have both their transactions kept, or neither.
 pub record IsAlike (keep : ℕ → Bool) (some all : List Step) : Type 0 where
   pub initiated_alike : (n : ℕ) → keep n ≡ true → lists (initiated some) n ≡ lists (initiated all) n
@@ -37,6 +37,7 @@ pub record IsAlike (keep : ℕ → Bool) (some all : List Step) : Type 0 where
   pub operations_alike : operations some ≡ filter (owned keep) (operations all)
   pub permits_alike : (x : ℕ) (op : Op) → LeadAlike keep (permits some x op) (permits all x op)
   pub permits_keep : (x : ℕ) (op : Op) → Keeps keep (permits all x op)
+  pub openers_alike : (x : ℕ) (op : Op) (n : ℕ) → keep n ≡ true → lists (openers some x op) n ≡ lists (openers all x op) n
 
 -- ---- statuses
 
@@ -212,24 +213,61 @@ holds_object_alike keep some all alike t x stays =
           none true = refl
           none false = refl
 
-pub allows_alike : (keep : ℕ → Bool) (some all : List Step) → IsAlike keep some all → (u t x : ℕ) (op : Op) → keep u ≡ true → allows some u t x op ≡ allows all u t x op
-unfolding allows
-allows_alike keep some all alike u t x op stays =
+along_alike : (keep : ℕ → Bool) (some all : List Step) → IsAlike keep some all → (u t x : ℕ) (op : Op) → keep u ≡ true → permits_along some u t x op ≡ permits_along all u t x op
+unfolding permits_along
+along_alike keep some all alike u t x op stays =
     linked_live keep some all alike (permits some x op) (permits all x op) (alike.permits_keep x op) (alike.permits_alike x op) u t stays
 
-pub allows_keeps : (keep : ℕ → Bool) (all : List Step) (x : ℕ) (op : Op) → Keeps keep (permits all x op) → (u t : ℕ) → allows all u t x op ≡ true → keep u ≡ keep t
+along_keeps : (keep : ℕ → Bool) (all : List Step) (x : ℕ) (op : Op) → Keeps keep (permits all x op) → (u t : ℕ) → permits_along all u t x op ≡ true → keep u ≡ keep t
+unfolding permits_along
+along_keeps keep all x op keeps u t h = linked_keeps keep (among (live all) (permits all x op)) (among_keeps keep (live all) (permits all x op) keeps) u t h
+
+reaches_alike : (keep : ℕ → Bool) (some all : List Step) → IsAlike keep some all → (u x : ℕ) (op : Op) → keep u ≡ true → reaches_opener some u x op ≡ reaches_opener all u x op
+unfolding reaches_opener
+reaches_alike keep some all alike u x op stays = both_follow _ _ there back where
+  kept_end : (a : ℕ) → permits_along all u a x op ≡ true → keep a ≡ true
+  kept_end a h = sym (along_keeps keep all x op (alike.permits_keep x op) u a h) ∙ stays
+
+  there : list_any (λ a. live some a && permits_along some u a x op) (openers some x op) ≡ true → list_any (λ a. live all a && permits_along all u a x op) (openers all x op) ≡ true
+  there h =
+      let found = any_name (λ a. live some a && permits_along some u a x op) (openers some x op) h in
+      let parts = and_parts (live some found.0) _ found.2 in
+      let along = sym (along_alike keep some all alike u found.0 x op stays) ∙ parts.1 in
+      let here = kept_end found.0 along in
+      name_any (λ a. live all a && permits_along all u a x op) (openers all x op) found.0 (sym (alike.openers_alike x op found.0 here) ∙ found.1) (and_from _ _ (sym (live_alike keep some all alike found.0 here) ∙ parts.0) along)
+
+  back : list_any (λ a. live all a && permits_along all u a x op) (openers all x op) ≡ true → list_any (λ a. live some a && permits_along some u a x op) (openers some x op) ≡ true
+  back h =
+      let found = any_name (λ a. live all a && permits_along all u a x op) (openers all x op) h in
+      let parts = and_parts (live all found.0) _ found.2 in
+      let here = kept_end found.0 parts.1 in
+      name_any (λ a. live some a && permits_along some u a x op) (openers some x op) found.0 (alike.openers_alike x op found.0 here ∙ found.1)
+      (and_from _ _ (live_alike keep some all alike found.0 here ∙ parts.0) (along_alike keep some all alike u found.0 x op stays ∙ parts.1))
+
+pub allows_alike : (keep : ℕ → Bool) (some all : List Step) → IsAlike keep some all → (u t x : ℕ) (op : Op) → keep u ≡ true → keep t ≡ true → allows some u t x op ≡ allows all u t x op
 unfolding allows
-allows_keeps keep all x op keeps u t h = linked_keeps keep (among (live all) (permits all x op)) (among_keeps keep (live all) (permits all x op) keeps) u t h
+allows_alike keep some all alike u t x op stays takes =
+    rw (along_alike keep some all alike u t x op stays, live_alike keep some all alike t takes, reaches_alike keep some all alike u x op stays) refl
+
+-- who is allowed is kept as who allows is, if each opener is kept as who is allowed is
+pub allows_keeps : (keep : ℕ → Bool) (all : List Step) (x : ℕ) (op : Op) → Keeps keep (permits all x op) → (u t : ℕ) → ((a : ℕ) → lists (openers all x op) a ≡ true → keep a ≡ keep t) → allows all u t x op ≡ true → keep u ≡ keep t
+unfolding allows reaches_opener
+allows_keeps keep all x op keeps u t opens h = elim (or_cases (permits_along all u t x op) _ h) [
+  | inl along ↦ along_keeps keep all x op keeps u t along
+  | inr opened ↦
+      let found = any_name (λ a. live all a && permits_along all u a x op) (openers all x op) ((and_parts (live all t) _ opened).1) in
+      along_keeps keep all x op keeps u found.0 ((and_parts (live all found.0) _ found.2).1) ∙ opens found.0 found.1
+]
 
 -- what blocks a kept transaction among some of the steps blocks it among all
-blocks_alike : (keep : ℕ → Bool) (some all : List Step) → IsAlike keep some all → (t x : ℕ) (op : Op) (o : Operation) → keep o.owner ≡ true → blocks some t x op o ≡ blocks all t x op o
+blocks_alike : (keep : ℕ → Bool) (some all : List Step) → IsAlike keep some all → (t x : ℕ) (op : Op) (o : Operation) → keep t ≡ true → keep o.owner ≡ true → blocks some t x op o ≡ blocks all t x op o
 unfolding blocks
-blocks_alike keep some all alike t x op o stays = rw (live_alike keep some all alike o.owner stays, allows_alike keep some all alike o.owner t x op stays) refl
+blocks_alike keep some all alike t x op o takes stays = rw (live_alike keep some all alike o.owner stays, allows_alike keep some all alike o.owner t x op stays takes) refl
 
-pub free_alike : (keep : ℕ → Bool) (some all : List Step) → IsAlike keep some all → (t x : ℕ) (op : Op) → free all t x op ≡ true → free some t x op ≡ true
+pub free_alike : (keep : ℕ → Bool) (some all : List Step) → IsAlike keep some all → (t x : ℕ) (op : Op) → keep t ≡ true → free all t x op ≡ true → free some t x op ≡ true
 unfolding free owned
-free_alike keep some all alike t x op is_free =
+free_alike keep some all alike t x op takes is_free =
     not_from_false _ (rw (alike.operations_alike, any_filter (blocks some t x op) (owned keep) (operations all))
     (any_fewer (λ (o : Operation). owned keep o && blocks some t x op o) (blocks all t x op) (operations all) one (not-true _ is_free))) where
       one : (o : Operation) → (keep o.owner && blocks some t x op o) ≡ true → blocks all t x op o ≡ true
-      one o h = let parts = and_parts (keep o.owner) _ h in sym (blocks_alike keep some all alike t x op o parts.0) ∙ parts.1
+      one o h = let parts = and_parts (keep o.owner) _ h in sym (blocks_alike keep some all alike t x op o takes parts.0) ∙ parts.1

@@ -7,7 +7,7 @@ use Rattle.asset_names.specs.declared.statuses.End.{End}
 use Rattle.asset_names.specs.declared.statuses.End.TheVariants as End'
 use Rattle.asset_names.specs.declared.steps.Kind.TheVariants.{Ad, Gc}
 use Rattle.asset_names.specs.declared.steps.Step.{Step}
-use Rattle.asset_names.specs.declared.steps.Step.TheVariants.{Initiate, Begin, Read, Write, Add, Complete, Permit, Delegate, Depend, Commit, Abort, WaitFor}
+use Rattle.asset_names.specs.declared.steps.Step.TheVariants.{Initiate, Begin, Read, Write, Add, Complete, Permit, PermitAny, Delegate, Depend, Commit, Abort, WaitFor}
 use Rattle.asset_names.specs.Arrows.{linked, has_arrow, among}
 use Rattle.asset_names.specs.Endings.{dependencies, class_arrows, doom_arrows, ended_by, end_of, live, same_class}
 use Rattle.asset_names.proofs.Arrows.{linked_trans}
@@ -70,6 +70,7 @@ never_split step steps a b one other same = by step where
   by (Delegate giver taker obs) = quiet (Delegate giver taker obs) (λ l o n. refl)
   by (Depend kind u v) = quiet (Depend kind u v) (λ l o n. refl)
   by (WaitFor t) = quiet (WaitFor t) (λ l o n. refl)
+  by (PermitAny giver obs ops) = quiet (PermitAny giver obs ops) (λ l o n. refl)
   by (Commit t) = commit_ends t steps a ∙ end_alike End'.Committed _ _ _ _ (commits_both steps t.0 a b same) (live_parts steps a one).1 (live_parts steps b other).1 ∙ sym (commit_ends t steps b)
   by (Abort t) = abort_ends t steps a ∙ end_alike End'.Aborted _ _ _ _ (aborts_both steps t.0 a b same) (live_parts steps a one).1 (live_parts steps b other).1 ∙ sym (abort_ends t steps b)
 

@@ -10,7 +10,7 @@ use Rattle.asset_names.specs.declared.replies.Outcome.TheVariants.{Answer}
 use Rattle.asset_names.specs.declared.steps.Kind.{Kind}
 use Rattle.asset_names.specs.declared.steps.Kind.TheVariants.{Cd, Ad, Gc}
 use Rattle.asset_names.specs.declared.steps.Step.{Step}
-use Rattle.asset_names.specs.declared.steps.Step.TheVariants.{Initiate, Begin, Read, Write, Add, Complete, Permit, Delegate, Depend, Commit, Abort, WaitFor}
+use Rattle.asset_names.specs.declared.steps.Step.TheVariants.{Initiate, Begin, Read, Write, Add, Complete, Permit, PermitAny, Delegate, Depend, Commit, Abort, WaitFor}
 use Rattle.asset_names.specs.Arrows.{Arrow, lists, linked, has_arrow, among}
 use Rattle.asset_names.specs.Paths.{same_kind, both_ways, leads, closes_cycle}
 use Rattle.asset_names.specs.Steps.{Opening, Entry, takes_effect, applied, initiated}
@@ -270,6 +270,7 @@ one_more opening (Delegate giver taker obs) steps reply is effect orderly = no_d
 one_more opening (Commit t) steps reply is effect orderly = no_dependency (Commit t) steps refl refl orderly
 one_more opening (Abort t) steps reply is effect orderly = no_dependency (Abort t) steps refl refl orderly
 one_more opening (WaitFor t) steps reply is effect orderly = no_dependency (WaitFor t) steps refl refl orderly
+one_more opening (PermitAny giver obs ops) steps reply is effect orderly = no_dependency (PermitAny giver obs ops) steps refl refl orderly
 one_more opening (Depend kind a b) steps reply is effect orderly = by kind (depend_live opening steps kind a b reply is effect).3 where
   by : (kind : Kind) → would_cycle steps kind a.0 b.0 ≡ false → Acyclic (classes_of steps) (orders_of steps) → Acyclic (classes_of (Depend kind a b ∷ steps)) (orders_of (Depend kind a b ∷ steps))
   by Cd taken acyclic = ordered Cd a b steps refl orderly taken acyclic

@@ -3,7 +3,7 @@ use Rattle.std.specs.Prelude.{◌≡◌, pos, true, false, List, [], ◌∷◌, 
 use Rattle.asset_names.specs.declared.sets.ObSet.TheVariants.{Listed}
 use Rattle.asset_names.specs.declared.steps.Kind.TheVariants.{Ad, Gc}
 use Rattle.asset_names.specs.declared.steps.Step.{Step}
-use Rattle.asset_names.specs.declared.steps.Step.TheVariants.{Initiate, Begin, Read, Write, Complete, Permit, Delegate, Depend, Commit, Abort}
+use Rattle.asset_names.specs.declared.steps.Step.TheVariants.{Initiate, Begin, Read, Write, Complete, Permit, Delegate, Depend, Commit, Abort, PermitAny, Add}
 use Rattle.asset_names.specs.declared.replies.Refusal.TheVariants.{Ended}
 use Rattle.asset_names.specs.declared.replies.Reply.TheVariants.{Done, Value, Committed, Aborted, Refused}
 use Rattle.asset_names.specs.Arrows.{lists, linked, among}
@@ -12,9 +12,9 @@ use Rattle.asset_names.specs.Sets.{numbers}
 use Rattle.asset_names.specs.Paths.{same_kind, both_ways}
 use Rattle.asset_names.specs.Steps.{Entry, takes_effect, applied, initiated_by, initiated}
 use Rattle.asset_names.specs.Endings.{dependency_by, dependencies, class_arrows, doom_arrows, ended_by, end_of}
-use Rattle.asset_names.specs.Operations.{writes, handed_over, operated, operations, was_aborted, stands}
-use Rattle.asset_names.specs.Groups.{actor, partner, joined_by, joins, same_group, acted_on_by, acted_on, was_committed, dead, stays, kept, without}
-use Rattle.asset_names.specs.Sources.{is_operation, is_write, operation_numbers, numbered, stands_on, source}
+use Rattle.asset_names.specs.Operations.{writes, handed_over, operated, operations, was_aborted, stands, adds}
+use Rattle.asset_names.specs.Groups.{actor, partner, joined_by, met, opens_for, operates_on, joins, same_group, acted_on_by, acted_on, was_committed, dead, stays, kept, without}
+use Rattle.asset_names.specs.Sources.{is_operation, is_write, operation_numbers, numbered, stands_on, source, is_add, adds_on, added_on, added}
 use Rattle.asset_names.proofs.Cases.{t, x}
 use Rattle.asset_names.proofs.PermitCases.{read_only}
 
@@ -71,22 +71,50 @@ nobody_committed = reverse (done (Initiate (t 7) None) ∷ done (Initiate (t 8) 
 abbrev NobodyCommitted : Type 0
 NobodyCommitted = (same_group nobody_committed 7 9 ≡ true) × (dead nobody_committed 9 ≡ true) × (without nobody_committed (9 ∷ []) ≡ [])
 
+-- an open permit joins its giver with who operates on what it opens, later or earlier, and with nobody else
+abbrev opened_object : List Entry
+opened_object = reverse (three_run ++ done (Write (t 7) (x 1) (pos 50)) ∷ done (PermitAny (t 7) (x 1 ∷ []) read_only) ∷ (Read (t 8) (x 1), Value (pos 50)) ∷ (Read (t 9) (x 2), Value (pos 200)) ∷ (Abort (t 7), Aborted) ∷ done (Complete (t 8)) ∷ (Commit (t 8), Committed) ∷ [])
+
+abbrev read_object : List Entry
+read_object = reverse (three_run ++ (Read (t 8) (x 1), Value (pos 100)) ∷ (Read (t 9) (x 2), Value (pos 200)) ∷ done (PermitAny (t 7) (x 1 ∷ []) read_only) ∷ [])
+
+abbrev OpenPermitJoins : Type 0
+OpenPermitJoins = (same_group opened_object 7 8 ≡ true) × (same_group opened_object 7 9 ≡ false) × (dead opened_object 7 ≡ false) × (dead opened_object 9 ≡ true)
+    × (same_group read_object 7 8 ≡ true) × (same_group read_object 7 9 ≡ false)
+
+-- adds of two transactions join nobody, and are no sources
+abbrev added_object : List Entry
+added_object = reverse (three_run ++ done (Add (t 7) (x 1) (pos 5)) ∷ done (Add (t 8) (x 1) (pos 7)) ∷ done (Complete (t 8)) ∷ (Commit (t 8), Committed) ∷ (Read (t 7) (x 1), Value (pos 112)) ∷ (Abort (t 7), Aborted) ∷ (Read (t 9) (x 1), Value (pos 107)) ∷ [])
+
+abbrev AddsJoinNobody : Type 0
+AddsJoinNobody = (same_group added_object 7 8 ≡ false) × (dead added_object 7 ≡ true) × (dead added_object 8 ≡ false) × (source added_object 1 ≡ None)
+    × (added added_object 1 ≡ (7, record { owner = 8; object = 1; use_of = adds (pos 7) }) ∷ [])
+    × (without added_object (7 ∷ 8 ∷ 9 ∷ []) ≡ reverse (done (Initiate (t 8) None) ∷ done (Begin (t 8)) ∷ done (Add (t 8) (x 1) (pos 7)) ∷ done (Complete (t 8)) ∷ (Commit (t 8), Committed) ∷ []))
+
 delegated_row : DelegatedWrite
-unfolding in_set numbers handed_over operations operated was_aborted stands end_of ended_by class_arrows doom_arrows dependencies dependency_by both_ways same_kind initiated initiated_by applied takes_effect among linked lists actor partner joined_by joins same_group acted_on_by acted_on was_committed dead stays kept without is_operation is_write operation_numbers numbered stands_on source
+unfolding in_set numbers handed_over operations operated was_aborted stands end_of ended_by class_arrows doom_arrows dependencies dependency_by both_ways same_kind initiated initiated_by applied takes_effect among linked lists actor partner joined_by met opens_for operates_on joins same_group acted_on_by acted_on was_committed dead stays kept without is_operation is_write operation_numbers numbered stands_on source
 delegated_row = (refl, refl, refl, refl, refl)
 
 refused_row : RefusedPermitJoins
-unfolding in_set numbers handed_over operations operated was_aborted stands end_of ended_by class_arrows doom_arrows dependencies dependency_by both_ways same_kind initiated initiated_by applied takes_effect among linked lists actor partner joined_by joins same_group acted_on_by acted_on was_committed dead stays kept without is_operation is_write operation_numbers numbered stands_on source
+unfolding in_set numbers handed_over operations operated was_aborted stands end_of ended_by class_arrows doom_arrows dependencies dependency_by both_ways same_kind initiated initiated_by applied takes_effect among linked lists actor partner joined_by met opens_for operates_on joins same_group acted_on_by acted_on was_committed dead stays kept without is_operation is_write operation_numbers numbered stands_on source
 refused_row = (refl, refl, refl)
 
 deleted_row : DeadGroupsDeleted
-unfolding in_set numbers handed_over operations operated was_aborted stands end_of ended_by class_arrows doom_arrows dependencies dependency_by both_ways same_kind initiated initiated_by applied takes_effect among linked lists actor partner joined_by joins same_group acted_on_by acted_on was_committed dead stays kept without is_operation is_write operation_numbers numbered stands_on source
+unfolding in_set numbers handed_over operations operated was_aborted stands end_of ended_by class_arrows doom_arrows dependencies dependency_by both_ways same_kind initiated initiated_by applied takes_effect among linked lists actor partner joined_by met opens_for operates_on joins same_group acted_on_by acted_on was_committed dead stays kept without is_operation is_write operation_numbers numbered stands_on source
 deleted_row = (refl, refl, refl, refl)
 
 parent_row : ParentJoinsNobody
-unfolding in_set numbers handed_over operations operated was_aborted stands end_of ended_by class_arrows doom_arrows dependencies dependency_by both_ways same_kind initiated initiated_by applied takes_effect among linked lists actor partner joined_by joins same_group acted_on_by acted_on was_committed dead stays kept without is_operation is_write operation_numbers numbered stands_on source
+unfolding in_set numbers handed_over operations operated was_aborted stands end_of ended_by class_arrows doom_arrows dependencies dependency_by both_ways same_kind initiated initiated_by applied takes_effect among linked lists actor partner joined_by met opens_for operates_on joins same_group acted_on_by acted_on was_committed dead stays kept without is_operation is_write operation_numbers numbered stands_on source
 parent_row = (refl, refl, refl)
 
 nobody_row : NobodyCommitted
-unfolding in_set numbers handed_over operations operated was_aborted stands end_of ended_by class_arrows doom_arrows dependencies dependency_by both_ways same_kind initiated initiated_by applied takes_effect among linked lists actor partner joined_by joins same_group acted_on_by acted_on was_committed dead stays kept without is_operation is_write operation_numbers numbered stands_on source
+unfolding in_set numbers handed_over operations operated was_aborted stands end_of ended_by class_arrows doom_arrows dependencies dependency_by both_ways same_kind initiated initiated_by applied takes_effect among linked lists actor partner joined_by met opens_for operates_on joins same_group acted_on_by acted_on was_committed dead stays kept without is_operation is_write operation_numbers numbered stands_on source
 nobody_row = (refl, refl, refl)
+
+open_row : OpenPermitJoins
+unfolding in_set numbers handed_over operations operated was_aborted stands end_of ended_by class_arrows doom_arrows dependencies dependency_by both_ways same_kind initiated initiated_by applied takes_effect among linked lists actor partner joined_by met opens_for operates_on joins same_group acted_on_by acted_on was_committed dead stays kept without is_operation is_write operation_numbers numbered stands_on source
+open_row = (refl, refl, refl, refl, refl, refl)
+
+add_row : AddsJoinNobody
+unfolding in_set numbers handed_over operations operated was_aborted stands end_of ended_by class_arrows doom_arrows dependencies dependency_by both_ways same_kind initiated initiated_by applied takes_effect among linked lists actor partner joined_by met opens_for operates_on joins same_group acted_on_by acted_on was_committed dead stays kept without is_operation is_write operation_numbers numbered stands_on source is_add adds_on added_on added
+add_row = (refl, refl, refl, refl, refl, refl)

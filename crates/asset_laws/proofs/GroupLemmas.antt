@@ -6,23 +6,24 @@ use Rattle.std.proofs.lemmas.Bool.{or_cases, or_left, or_right, and_parts, and_f
 use Rattle.asset_names.specs.declared.statuses.End.{End}
 use Rattle.asset_names.specs.declared.statuses.End.TheVariants as End'
 use Rattle.asset_names.specs.declared.steps.Step.{Step}
-use Rattle.asset_names.specs.declared.steps.Step.TheVariants.{Initiate, Begin, Read, Write, Add, Complete, Permit, Delegate, Depend, Commit, Abort, WaitFor}
+use Rattle.asset_names.specs.declared.steps.Step.TheVariants.{Initiate, Begin, Read, Write, Add, Complete, Permit, PermitAny, Delegate, Depend, Commit, Abort, WaitFor}
 use Rattle.asset_names.specs.declared.replies.Outcome.TheVariants.{Answer}
 use Rattle.asset_names.specs.Arrows.{lists, has_arrow}
 use Rattle.asset_names.specs.Paths.{both_ways}
 use Rattle.asset_names.specs.Steps.{Opening, Entry, takes_effect, applied, initiated, initiated_by}
 use Rattle.asset_names.specs.Endings.{end_of}
-use Rattle.asset_names.specs.Groups.{actor, partner, joined_by, joins, same_group, acted_on_by, acted_on, was_committed, dead, stays, kept, without}
+use Rattle.asset_names.specs.Groups.{actor, partner, met, joined_by, joins, same_group, acted_on_by, acted_on, was_committed, dead, stays, kept, without}
 use Rattle.asset_names.specs.Answers.{answer, IsLegal}
 use Rattle.asset_names.proofs.Common.{both_follow}
 use Rattle.asset_names.proofs.ListLemmas.{any_alike, listed_any}
 use Rattle.asset_names.proofs.Arrows.{linked_refl, linked_trans}
 use Rattle.asset_names.proofs.PermitLemmas.{linked_has}
-use Rattle.asset_names.proofs.DependLemmas.{has_both}
+use Rattle.asset_names.proofs.DependLemmas.{has_append, has_both}
 use Rattle.asset_names.proofs.LegalLemmas.{ended_initiated}
 use Rattle.asset_laws.proofs.PathLemmas.{linked_back}
 use Rattle.asset_laws.proofs.KeepLinks.{Keeps}
 use Rattle.asset_laws.proofs.AnswersAlike.{Uncommitted}
+use Rattle.asset_laws.proofs.OpenLemmas.{opened_met}
 use Rattle.asset_laws.proofs.KeptLemmas.{RespectsEntries, uncommitted_before, kept_answered, legal_kept}
 
 -- ---- groups
@@ -53,13 +54,30 @@ pub joined_same : (entries : List Entry) (u v : ℕ) → has_arrow (joins entrie
 unfolding same_group
 joined_same entries u v h = linked_has (both_ways (joins entries)) u v (has_both (joins entries) u v ∙ or_left _ _ h)
 
+-- the joins of an entry: of its two transactions, of those whom it meets, and the older ones
+pub own_join : (entry : Entry) (older : List Entry) → has_arrow (joins (entry ∷ older)) (actor entry.0).0 (partner entry.0).0 ≡ true
+unfolding joins joined_by has_arrow
+own_join entry older = or_left _ _ (and_from _ _ (eq-eqb (actor entry.0).0 (actor entry.0).0 refl) (eq-eqb (partner entry.0).0 (partner entry.0).0 refl))
+
+pub later_join : (entry : Entry) (older : List Entry) (u v : ℕ) → has_arrow (joins older) u v ≡ true → has_arrow (joins (entry ∷ older)) u v ≡ true
+unfolding joins joined_by
+later_join entry older u v h = has_append (joined_by entry older) (joins older) u v ∙ or_right (has_arrow (joined_by entry older) u v) _ h
+
+pub met_join : (entry : Entry) (older : List Entry) → takes_effect entry.0 entry.1 ≡ true → (v : ℕ) → has_arrow (met entry.0 (applied older)) (actor entry.0).0 v ≡ true → has_arrow (joins (entry ∷ older)) (actor entry.0).0 v ≡ true
+unfolding joins joined_by has_arrow
+met_join entry older effect v h =
+    has_append (joined_by entry older) (joins older) (actor entry.0).0 v ∙ or_left _ _ (or_right (eqb (actor entry.0).0 (actor entry.0).0 && eqb (partner entry.0).0 v) _ (rw (effect) h))
+
 -- where each join has both its ends kept or neither, so has each entry
 pub keeps_respects : (keep : ℕ → Bool) (entries : List Entry) → Keeps keep (joins entries) → RespectsEntries keep entries
-unfolding joins joined_by RespectsEntries has_arrow
+unfolding RespectsEntries
 keeps_respects keep [] keeps = _
 keeps_respects keep (entry ∷ older) keeps = (
-  keeps (actor entry.0).0 (partner entry.0).0 (or_left _ _ (and_from _ _ (eq-eqb (actor entry.0).0 (actor entry.0).0 refl) (eq-eqb (partner entry.0).0 (partner entry.0).0 refl))),
-  keeps_respects keep older (λ u v h. keeps u v (or_right (eqb (actor entry.0).0 u && eqb (partner entry.0).0 v) _ h)),
+  (
+    keeps (actor entry.0).0 (partner entry.0).0 (own_join entry older),
+    λ effect x on. opened_met (λ a. keep a ≡ keep (actor entry.0).0) entry.0 x on (applied older) (λ v h. sym (keeps (actor entry.0).0 v (met_join entry older effect v h))),
+  ),
+  keeps_respects keep older (λ u v h. keeps u v (later_join entry older u v h)),
 )
 
 -- each entry has both its transactions in t's group, or neither
@@ -102,6 +120,7 @@ initiated_actor (Depend kind a b) names n h = inr h
 initiated_actor (Commit t) names n h = inr h
 initiated_actor (Abort t) names n h = inr h
 initiated_actor (WaitFor t) names n h = inr h
+initiated_actor (PermitAny giver obs ops) names n h = inr h
 
 pub initiated_acted : (entries : List Entry) (n : ℕ) → lists (initiated (applied entries)) n ≡ true → lists (acted_on entries) n ≡ true
 unfolding applied initiated acted_on acted_on_by lists

@@ -117,6 +117,23 @@ arrow_any test (arrow ∷ arrows) u v h passes = elim (or_cases (eqb arrow.0 u &
   | inr later ↦ or_right (test arrow) _ (arrow_any test arrows u v later passes)
 ]
 
+-- some listed name passes a test
+pub any_name : (test : ℕ → Bool) (names : List ℕ) → list_any test names ≡ true → (n : ℕ) × (lists names n ≡ true) × (test n ≡ true)
+unfolding lists
+any_name test [] h = absurd (false≢true h)
+any_name test (m ∷ names) h = elim (or_cases (test m) _ h) [
+  | inl here ↦ (m, or_left _ _ (eq-eqb m m refl), here)
+  | inr later ↦ let found = any_name test names later in (found.0, or_right (eqb m found.0) _ found.1, found.2)
+]
+
+pub name_any : (test : ℕ → Bool) (names : List ℕ) (n : ℕ) → lists names n ≡ true → test n ≡ true → list_any test names ≡ true
+unfolding lists
+name_any test [] n h passes = absurd (false≢true h)
+name_any test (m ∷ names) n h passes = elim (or_cases (eqb m n) _ h) [
+  | inl here ↦ or_left _ _ (ap test (eqb-true m n here) ∙ passes)
+  | inr later ↦ or_right (test m) _ (name_any test names n later passes)
+]
+
 -- all listed names pass a test
 
 -- two tests of all listed names, which agree on kept names and pass the others

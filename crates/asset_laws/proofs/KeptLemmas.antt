@@ -9,20 +9,21 @@ use Rattle.asset_names.specs.declared.replies.Outcome.TheVariants.{Answer}
 use Rattle.asset_names.specs.Arrows.{has_arrow}
 use Rattle.asset_names.specs.Steps.{Opening, Entry, takes_effect, applied, initiated, initiated_by, begun, begun_by, completed, completed_by}
 use Rattle.asset_names.specs.Endings.{end_of, dependencies}
-use Rattle.asset_names.specs.Groups.{actor, partner, was_committed, kept}
-use Rattle.asset_names.specs.Operations.{operations, permits}
+use Rattle.asset_names.specs.Groups.{actor, partner, operates_on, was_committed, kept}
+use Rattle.asset_names.specs.Operations.{operations, permits, openers}
 use Rattle.asset_names.specs.Answers.{answer, IsLegal}
 use Rattle.asset_names.proofs.LegalLemmas.{legal_orderly}
 use Rattle.asset_laws.proofs.AlikeLemmas.{IsAlike, owned}
-use Rattle.asset_laws.proofs.AnswersAlike.{Uncommitted, answer_alike}
+use Rattle.asset_laws.proofs.AnswersAlike.{Uncommitted, OpensTo, answer_alike}
 use Rattle.asset_laws.proofs.KeptSteps.{kept_steps, Respects, one_more, passed_over, stranger_adds, kept_ends, stranger_ends}
-use Rattle.asset_laws.proofs.KeptOperations.{kept_dependencies, stranger_dependencies, more_dependencies_keep, kept_operations, stranger_operations, kept_permits, stranger_permits, more_permits_keep}
+use Rattle.asset_laws.proofs.KeptOperations.{kept_dependencies, stranger_dependencies, more_dependencies_keep, kept_operations, stranger_operations, kept_permits, stranger_permits, more_permits_keep, kept_openers, stranger_openers}
+use Rattle.asset_laws.proofs.OpenLemmas.{OpenedBy, respects_handed, openers_are}
 
 -- ---- steps
 
 -- no steps say the same of everybody
 alike_none : (keep : ℕ → Bool) → IsAlike keep [] []
-unfolding initiated begun completed end_of dependencies operations permits owned has_arrow
+unfolding initiated begun completed end_of dependencies operations permits openers owned has_arrow
 alike_none keep = record {
   initiated_alike = λ n stays. refl;
   begun_alike = λ n stays. refl;
@@ -34,6 +35,7 @@ alike_none keep = record {
   operations_alike = refl;
   permits_alike = λ x op u v stays. refl;
   permits_keep = λ x op u v h. absurd (false≢true h);
+  openers_alike = λ x op n stays. refl;
 }
 
 -- one more step of a kept transaction, and one of another
@@ -50,6 +52,7 @@ alike_kept keep some all alike step one other = record {
   operations_alike = kept_operations keep some all step one other alike.operations_alike;
   permits_alike = kept_permits keep some all alike step one;
   permits_keep = λ x op. more_permits_keep keep all step (one ∙ sym other) x op (alike.permits_keep x op);
+  openers_alike = kept_openers keep some all alike step one;
 }
 
 alike_stranger : (keep : ℕ → Bool) (some all : List Step) → IsAlike keep some all → (step : Step) → keep (actor step).0 ≡ false → keep (partner step).0 ≡ false → IsAlike keep some (step ∷ all)
@@ -65,6 +68,7 @@ alike_stranger keep some all alike step one other = record {
   operations_alike = stranger_operations keep some all step one other alike.operations_alike;
   permits_alike = λ x op u v stays. alike.permits_alike x op u v stays ∙ sym (stranger_permits keep all step one other x op u v stays);
   permits_keep = λ x op. more_permits_keep keep all step (one ∙ sym other) x op (alike.permits_keep x op);
+  openers_alike = λ x op n stays. alike.openers_alike x op n stays ∙ sym (stranger_openers keep all step one other x op n stays);
 }
 
 -- the steps of kept transactions say the same of them as all steps do
@@ -78,17 +82,21 @@ kept_alike keep (step ∷ older) respects = go (keep (actor step).0) refl (kept_
 
 -- ---- entries
 
--- each entry acts on kept transactions alone, or on none
+-- where an entry operates on an object, the givers of older open permits on it are kept as the transaction that asks for it
+abbrev pub OpensKept : (ℕ → Bool) → Entry → List Entry → Type 0
+OpensKept keep entry older = takes_effect entry.0 entry.1 ≡ true → (x : ℕ) → operates_on entry.0 x ≡ true → OpenedBy (λ a. keep a ≡ keep (actor entry.0).0) x (applied older)
+
+-- each entry acts on kept transactions alone, or on none, and meets kept ones alone, or none
 unfoldable pub RespectsEntries : (ℕ → Bool) → List Entry → Type 0
 RespectsEntries keep [] = Unit {0}
-RespectsEntries keep (entry ∷ older) = (keep (actor entry.0).0 ≡ keep (partner entry.0).0) × RespectsEntries keep older
+RespectsEntries keep (entry ∷ older) = ((keep (actor entry.0).0 ≡ keep (partner entry.0).0) × OpensKept keep entry older) × RespectsEntries keep older
 
 pub respects_applied : (keep : ℕ → Bool) (entries : List Entry) → RespectsEntries keep entries → Respects keep (applied entries)
 unfolding RespectsEntries Respects applied
 respects_applied keep [] respects = respects
 respects_applied keep (entry ∷ older) respects = go (takes_effect entry.0 entry.1) (respects_applied keep older respects.1) where
   go : (effect : Bool) → Respects keep (applied older) → Respects keep (cond effect (entry.0 ∷ applied older) (applied older))
-  go true rest = (respects.0, rest)
+  go true rest = (respects.0.0, rest)
   go false rest = rest
 
 -- the steps that took effect in what is kept are the kept ones of those that took effect
@@ -121,6 +129,12 @@ uncommitted_before keep entry older = go (takes_effect entry.0 entry.1) where
   go true h = committed_before keep entry.0 (applied older) h
   go false h = h
 
+-- where an entry operates on an object, its openers are kept as the transaction that asks for it
+pub opens_to : (keep : ℕ → Bool) (entry : Entry) (older : List Entry) → RespectsEntries keep (entry ∷ older) → OpensTo keep entry.0 entry.1 (applied older)
+unfolding RespectsEntries
+opens_to keep entry older respects effect x a op on listed =
+    openers_are (λ n. keep n ≡ keep (actor entry.0).0) x op (applied older) (respects_handed keep (keep (actor entry.0).0) (applied older) (respects_applied keep older respects.1)) (respects.0.1 effect x on) a listed
+
 -- a kept entry is answered alike after what is kept of the older ones
 pub kept_answered : (opening : Opening) (keep : ℕ → Bool) (entry : Entry) (older : List Entry) → IsLegal opening (entry ∷ older) → RespectsEntries keep (entry ∷ older) → Uncommitted keep (applied (entry ∷ older))
     → keep (actor entry.0).0 ≡ true → answer opening (applied (kept keep older)) entry.0 ≡ Answer entry.1
@@ -128,7 +142,7 @@ unfolding IsLegal RespectsEntries
 kept_answered opening keep entry older legal respects uncommitted stays =
     rw (kept_applied keep older)
     (answer_alike keep (kept_steps keep (applied older)) (applied older) (kept_alike keep (applied older) (respects_applied keep older respects.1))
-    (uncommitted_before keep entry older uncommitted) (legal_orderly opening older legal.1) opening entry.0 entry.1 stays (sym respects.0 ∙ stays) legal.0)
+    (uncommitted_before keep entry older uncommitted) (legal_orderly opening older legal.1) opening entry.0 entry.1 stays (sym respects.0.0 ∙ stays) (opens_to keep entry older respects) legal.0)
 
 -- what is kept of a legal history is legal
 pub legal_kept : (opening : Opening) (keep : ℕ → Bool) (entries : List Entry) → IsLegal opening entries → RespectsEntries keep entries → Uncommitted keep (applied entries)

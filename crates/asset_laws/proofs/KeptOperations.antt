@@ -4,20 +4,23 @@ use Rattle.std.proofs.lemmas.Bool.{or_cases, and_parts, eqb-true, false≢true}
 use Rattle.asset_names.specs.declared.names.Txn.{Txn}
 use Rattle.asset_names.specs.declared.operations.Op.{Op}
 use Rattle.asset_names.specs.declared.sets.ObSet.{ObSet}
+use Rattle.asset_names.specs.declared.sets.ObSet.TheVariants.{Listed}
 use Rattle.asset_names.specs.declared.steps.Kind.{Kind}
 use Rattle.asset_names.specs.declared.steps.Step.{Step}
-use Rattle.asset_names.specs.declared.steps.Step.TheVariants.{Initiate, Begin, Read, Write, Add, Complete, Permit, Delegate, Depend, Commit, Abort, WaitFor}
+use Rattle.asset_names.specs.declared.steps.Step.TheVariants.{Initiate, Begin, Read, Write, Add, Complete, Permit, PermitAny, Delegate, Depend, Commit, Abort, WaitFor}
 use Rattle.asset_names.specs.InSet.{in_set}
-use Rattle.asset_names.specs.Arrows.{Arrow, has_arrow}
+use Rattle.asset_names.specs.Arrows.{Arrow, lists, has_arrow}
+use Rattle.asset_names.specs.OpSets.{has_op}
 use Rattle.asset_names.specs.Paths.{same_kind}
 use Rattle.asset_names.specs.Endings.{dependencies, dependency_by}
 use Rattle.asset_names.specs.Groups.{actor, partner}
-use Rattle.asset_names.specs.Operations.{Operation, handed_over, operated, operations, permits, permitted_by}
+use Rattle.asset_names.specs.Operations.{Operation, handed_over, operated, operations, holds_object, permits, permitted_by, openers, opened_by}
 use Rattle.asset_names.proofs.PermitLemmas.{arrows_permitted}
 use Rattle.asset_names.proofs.DelegateLemmas.{arrows_delegated, delegate_arrow}
 use Rattle.asset_names.proofs.DependLemmas.{dependencies_more, depend_arrow}
 use Rattle.asset_laws.proofs.KeepLinks.{Keeps, LeadAlike, other_name}
 use Rattle.asset_laws.proofs.AlikeLemmas.{IsAlike, owned, holds_object_alike}
+use Rattle.asset_laws.proofs.KeptSteps.{one_more, passed_over}
 
 -- ---- dependencies
 
@@ -52,6 +55,7 @@ stranger_dependencies keep steps (Delegate giver taker obs) one other kind u v s
 stranger_dependencies keep steps (Commit t) one other kind u v stays = refl
 stranger_dependencies keep steps (Abort t) one other kind u v stays = refl
 stranger_dependencies keep steps (WaitFor t) one other kind u v stays = refl
+stranger_dependencies keep steps (PermitAny giver obs ops) one other kind u v stays = refl
 stranger_dependencies keep steps (Depend k a b) one other kind u v (inl stays) = stranger_dependency keep steps k kind a b u v (rw (other_name keep a.0 u one stays) refl)
 stranger_dependencies keep steps (Depend k a b) one other kind u v (inr stays) = stranger_dependency keep steps k kind a b u v (rw (other_name keep b.0 v other stays) (go (eqb a.0 u))) where
   go : (b : Bool) → (b && false) ≡ false
@@ -73,6 +77,7 @@ more_dependencies_keep keep steps (Delegate giver taker obs) same kind keeps = k
 more_dependencies_keep keep steps (Commit t) same kind keeps = keeps
 more_dependencies_keep keep steps (Abort t) same kind keeps = keeps
 more_dependencies_keep keep steps (WaitFor t) same kind keeps = keeps
+more_dependencies_keep keep steps (PermitAny giver obs ops) same kind keeps = keeps
 more_dependencies_keep keep steps (Depend k a b) same kind keeps = λ u v h. elim (depend_arrow k a b steps kind u v h) [
   | inl new ↦ ap keep (sym new.0) ∙ same ∙ ap keep new.1
   | inr old ↦ keeps u v old
@@ -129,6 +134,7 @@ kept_operations keep some all (Depend kind a b) one other same = same
 kept_operations keep some all (Commit t) one other same = same
 kept_operations keep some all (Abort t) one other same = same
 kept_operations keep some all (WaitFor t) one other same = same
+kept_operations keep some all (PermitAny giver obs ops) one other same = same
 
 pub stranger_operations : (keep : ℕ → Bool) (some all : List Step) (step : Step) → keep (actor step).0 ≡ false → keep (partner step).0 ≡ false
     → operations some ≡ filter (owned keep) (operations all) → operations some ≡ filter (owned keep) (operations (step ∷ all))
@@ -146,6 +152,7 @@ stranger_operations keep some all (Depend kind a b) one other same = same
 stranger_operations keep some all (Commit t) one other same = same
 stranger_operations keep some all (Abort t) one other same = same
 stranger_operations keep some all (WaitFor t) one other same = same
+stranger_operations keep some all (PermitAny giver obs ops) one other same = same
 
 -- ---- permits
 
@@ -173,6 +180,7 @@ kept_permits keep some all alike step = by step where
   by (Commit t) one x op u v stays = alike.permits_alike x op u v stays
   by (Abort t) one x op u v stays = alike.permits_alike x op u v stays
   by (WaitFor t) one x op u v stays = alike.permits_alike x op u v stays
+  by (PermitAny giver obs ops) one x op u v stays = alike.permits_alike x op u v stays
 
 pub stranger_permits : (keep : ℕ → Bool) (steps : List Step) (step : Step) → keep (actor step).0 ≡ false → keep (partner step).0 ≡ false → (x : ℕ) (op : Op) (u v : ℕ) → keep u ≡ true
     → has_arrow (permits (step ∷ steps) x op) u v ≡ has_arrow (permits steps x op) u v
@@ -189,6 +197,7 @@ stranger_permits keep steps (Depend kind a b) one other x op u v stays = refl
 stranger_permits keep steps (Commit t) one other x op u v stays = refl
 stranger_permits keep steps (Abort t) one other x op u v stays = refl
 stranger_permits keep steps (WaitFor t) one other x op u v stays = refl
+stranger_permits keep steps (PermitAny giver obs ops) one other x op u v stays = refl
 
 pub more_permits_keep : (keep : ℕ → Bool) (steps : List Step) (step : Step) → keep (actor step).0 ≡ keep (partner step).0 → (x : ℕ) (op : Op)
     → Keeps keep (permits steps x op) → Keeps keep (permits (step ∷ steps) x op)
@@ -212,3 +221,59 @@ more_permits_keep keep steps (Depend kind a b) same x op keeps = keeps
 more_permits_keep keep steps (Commit t) same x op keeps = keeps
 more_permits_keep keep steps (Abort t) same x op keeps = keeps
 more_permits_keep keep steps (WaitFor t) same x op keeps = keeps
+more_permits_keep keep steps (PermitAny giver obs ops) same x op keeps = keeps
+
+-- ---- openers
+
+-- a step of a kept transaction adds the same openers to both
+opened_alike : (keep : ℕ → Bool) (some all : List Step) → IsAlike keep some all → (step : Step) → keep (actor step).0 ≡ true → (x : ℕ) (op : Op)
+    → opened_by step some (openers some x op) x op ≡ opened_by step all (openers all x op) x op
+unfolding opened_by actor
+opened_alike keep some all alike (Initiate t parent) one x op = refl
+opened_alike keep some all alike (Begin t) one x op = refl
+opened_alike keep some all alike (Read t y) one x op = refl
+opened_alike keep some all alike (Write t y v) one x op = refl
+opened_alike keep some all alike (Add t y d) one x op = refl
+opened_alike keep some all alike (Complete t) one x op = refl
+opened_alike keep some all alike (Permit giver taker obs ops) one x op = refl
+opened_alike keep some all alike (PermitAny giver obs ops) one x op = refl
+opened_alike keep some all alike (Delegate giver taker obs) one x op = rw (holds_object_alike keep some all alike giver.0 x one, alike.openers_alike x op giver.0 one) refl
+opened_alike keep some all alike (Depend kind a b) one x op = refl
+opened_alike keep some all alike (Commit t) one x op = refl
+opened_alike keep some all alike (Abort t) one x op = refl
+opened_alike keep some all alike (WaitFor t) one x op = refl
+
+pub kept_openers : (keep : ℕ → Bool) (some all : List Step) → IsAlike keep some all → (step : Step) → keep (actor step).0 ≡ true → (x : ℕ) (op : Op) (n : ℕ) → keep n ≡ true
+    → lists (openers (step ∷ some) x op) n ≡ lists (openers (step ∷ all) x op) n
+unfolding openers
+kept_openers keep some all alike step one x op n stays =
+    ap (λ names. lists (names ++ openers some x op) n) (opened_alike keep some all alike step one x op)
+    ∙ one_more (opened_by step all (openers all x op) x op) (openers some x op) (openers all x op) n (alike.openers_alike x op n stays)
+
+-- a step of another adds none who is kept
+lone_stranger : (keep : ℕ → Bool) (m n : ℕ) (c : Bool) → keep m ≡ false → keep n ≡ true → lists (cond c (m ∷ []) []) n ≡ false
+unfolding lists
+lone_stranger keep m n true gone stays = rw (other_name keep m n gone stays) refl
+lone_stranger keep m n false gone stays = refl
+
+opened_stranger : (keep : ℕ → Bool) (all : List Step) (step : Step) → keep (actor step).0 ≡ false → keep (partner step).0 ≡ false → (x : ℕ) (op : Op) (n : ℕ) → keep n ≡ true
+    → lists (opened_by step all (openers all x op) x op) n ≡ false
+unfolding opened_by actor partner lists
+opened_stranger keep all (Initiate t parent) one other x op n stays = refl
+opened_stranger keep all (Begin t) one other x op n stays = refl
+opened_stranger keep all (Read t y) one other x op n stays = refl
+opened_stranger keep all (Write t y v) one other x op n stays = refl
+opened_stranger keep all (Add t y d) one other x op n stays = refl
+opened_stranger keep all (Complete t) one other x op n stays = refl
+opened_stranger keep all (Permit giver taker obs ops) one other x op n stays = refl
+opened_stranger keep all (PermitAny giver obs ops) one other x op n stays = lone_stranger keep giver.0 n (in_set (Listed obs) x && has_op ops op) one stays
+opened_stranger keep all (Delegate giver taker obs) one other x op n stays = lone_stranger keep taker.0 n ((in_set obs x && holds_object all giver.0 x) && lists (openers all x op) giver.0) other stays
+opened_stranger keep all (Depend kind a b) one other x op n stays = refl
+opened_stranger keep all (Commit t) one other x op n stays = refl
+opened_stranger keep all (Abort t) one other x op n stays = refl
+opened_stranger keep all (WaitFor t) one other x op n stays = refl
+
+pub stranger_openers : (keep : ℕ → Bool) (all : List Step) (step : Step) → keep (actor step).0 ≡ false → keep (partner step).0 ≡ false → (x : ℕ) (op : Op) (n : ℕ) → keep n ≡ true
+    → lists (openers (step ∷ all) x op) n ≡ lists (openers all x op) n
+unfolding openers
+stranger_openers keep all step one other x op n stays = passed_over (opened_by step all (openers all x op) x op) (openers all x op) n (opened_stranger keep all step one other x op n stays)

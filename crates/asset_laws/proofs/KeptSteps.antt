@@ -2,7 +2,7 @@
 use Rattle.std.proofs.Common.{◌≡◌, ℕ, Bool, true, false, eqb, ◌||◌, List, [], ◌∷◌, ◌++◌, filter, refl, sym, ◌∙◌, ap}
 use Rattle.std.proofs.lemmas.Bool.{or_parts, false≢true}
 use Rattle.asset_names.specs.declared.steps.Step.{Step}
-use Rattle.asset_names.specs.declared.steps.Step.TheVariants.{Initiate, Begin, Read, Write, Add, Complete, Permit, Delegate, Depend, Commit, Abort, WaitFor}
+use Rattle.asset_names.specs.declared.steps.Step.TheVariants.{Initiate, Begin, Read, Write, Add, Complete, Permit, PermitAny, Delegate, Depend, Commit, Abort, WaitFor}
 use Rattle.asset_names.specs.Arrows.{lists}
 use Rattle.asset_names.specs.Steps.{initiated_by, begun_by, completed_by}
 use Rattle.asset_names.specs.Endings.{ended_by, end_of}
@@ -45,6 +45,7 @@ stranger_adds keep (Depend kind a b) n gone stays = (refl, refl, refl)
 stranger_adds keep (Commit t) n gone stays = (refl, refl, refl)
 stranger_adds keep (Abort t) n gone stays = (refl, refl, refl)
 stranger_adds keep (WaitFor t) n gone stays = (refl, refl, refl)
+stranger_adds keep (PermitAny giver obs ops) n gone stays = (refl, refl, refl)
 
 pub passed_over : (names many : List ℕ) (n : ℕ) → lists names n ≡ false → lists (names ++ many) n ≡ lists many n
 unfolding lists
@@ -72,6 +73,7 @@ kept_ends keep some all alike step = by step where
   by (Delegate giver taker obs) one n stays = quiet (Delegate giver taker obs) (λ l o m. refl) n stays
   by (Depend kind a b) one n stays = quiet (Depend kind a b) (λ l o m. refl) n stays
   by (WaitFor t) one n stays = quiet (WaitFor t) (λ l o m. refl) n stays
+  by (PermitAny giver obs ops) one n stays = quiet (PermitAny giver obs ops) (λ l o m. refl) n stays
   by (Commit t) one n stays = commit_ends t some n ∙ rw (commits_alike keep some all alike t.0 n one, alike.ends_alike n stays) refl ∙ sym (commit_ends t all n)
   by (Abort t) one n stays = abort_ends t some n ∙ rw (aborts_alike keep some all alike t.0 n one, alike.ends_alike n stays) refl ∙ sym (abort_ends t all n)
 
@@ -95,5 +97,6 @@ stranger_ends keep some all alike step = by step where
   by (Delegate giver taker obs) gone n stays = end_same (Delegate giver taker obs) all n (λ l o m. refl)
   by (Depend kind a b) gone n stays = end_same (Depend kind a b) all n (λ l o m. refl)
   by (WaitFor t) gone n stays = end_same (WaitFor t) all n (λ l o m. refl)
+  by (PermitAny giver obs ops) gone n stays = end_same (PermitAny giver obs ops) all n (λ l o m. refl)
   by (Commit t) gone n stays = commit_ends t all n ∙ rw (nobody_kept t.0 n (commits all t.0 n) gone stays (commits_keeps keep some all alike t.0 n)) refl
   by (Abort t) gone n stays = abort_ends t all n ∙ rw (nobody_kept t.0 n (aborts all t.0 n) gone stays (aborts_keeps keep some all alike t.0 n)) refl

@@ -5,7 +5,9 @@ pub mod CycleLemmas
 pub mod KeepLinks
 pub mod AlikeLemmas
 pub mod AnswersAlike
+pub mod AllowingLemmas
 pub mod KeptSteps
+pub mod OpenLemmas
 pub mod KeptOperations
 pub mod KeptLemmas
 pub mod GroupLemmas

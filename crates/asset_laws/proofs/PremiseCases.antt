@@ -13,8 +13,8 @@ use Rattle.asset_names.specs.Sets.{numbers}
 use Rattle.asset_names.specs.Paths.{same_kind, both_ways, has_outside}
 use Rattle.asset_names.specs.Steps.{Entry, takes_effect, applied, initiated_by, initiated, begun_by, begun, completed_by, completed}
 use Rattle.asset_names.specs.Endings.{dependency_by, dependencies, class_arrows, order_arrows, doom_arrows, has_outside_source, ended_by, end_of, live, status_of, status, same_class}
-use Rattle.asset_names.specs.Operations.{writes, op_of, same_op, conflict, operated, operations, holds, permits, permitted_by, allows, blocks, free, was_aborted, stands, exists, opening_at, opening_value, after_use, value_after, value}
-use Rattle.asset_names.specs.Groups.{actor, partner, joined_by, joins, same_group}
+use Rattle.asset_names.specs.Operations.{writes, op_of, same_op, conflict, operated, operations, holds, permits, permitted_by, openers, opened_by, permits_along, reaches_opener, allows, blocks, free, was_aborted, stands, exists, opening_at, opening_value, after_use, value_after, value}
+use Rattle.asset_names.specs.Groups.{actor, partner, operates_on, opens_for, met, joined_by, joins, same_group}
 use Rattle.asset_names.specs.Sources.{is_operation, is_write, operation_numbers, numbered, stands_on, source, entry_at}
 use Rattle.asset_names.specs.Answers.{is_unknown, has_ended, is_running, is_completed, is_committed, has_begun, unknown, ended, not_running, taken, begun_before, too_late, no_object, one_name, missing_in, missing_rule, no_object_of, rules_for, first_refusal, may_commit, class_completed, commit_outcome, unrefused, outcome_unless, IsLegal, answer}
 use Rattle.asset_names.proofs.Cases.{t, x, three, ok, Case}
@@ -32,7 +32,7 @@ abbrev ReadersShareNothing : Type 0
 ReadersShareNothing = (holds (applied two_readers) 7 1 Op'.Read ≡ true) × (holds (applied two_readers) 8 1 Op'.Read ≡ true) × (same_group two_readers 7 8 ≡ false)
 
 readers_row : ReadersShareNothing
-unfolding holds same_op op_of operations operated live end_of ended_by initiated initiated_by applied takes_effect actor partner joined_by joins same_group both_ways linked lists
+unfolding holds same_op op_of operations operated live end_of ended_by initiated initiated_by applied takes_effect actor partner joined_by met opens_for operates_on joins same_group both_ways linked lists
 readers_row = (refl, refl, refl)
 
 -- one who is not alone in its group may read what another wrote and has not committed
@@ -44,7 +44,7 @@ ReadsUnfinishedWork = (answer three (applied before_the_read) (Read (t 8) (x 1))
     × (entry_at before_the_read 2 ≡ Some (Write (t 7) (x 1) (pos 50), Done)) × (end_of (applied before_the_read) 7 ≡ None)
 
 unfinished_row : ReadsUnfinishedWork
-unfolding answer rules_for unrefused first_refusal outcome_unless unknown ended not_running taken begun_before too_late no_object one_name missing_in missing_rule no_object_of is_unknown has_ended is_running is_completed is_committed has_begun may_commit class_completed commit_outcome free blocks allows permits permitted_by in_set numbers conflict op_of operations operated value value_after after_use was_aborted stands opening_value opening_at exists status status_of end_of ended_by live same_class has_outside_source has_outside class_arrows order_arrows doom_arrows dependencies dependency_by both_ways initiated begun completed initiated_by begun_by completed_by applied takes_effect among linked lists same_kind is_operation is_write operation_numbers numbered stands_on source entry_at
+unfolding answer rules_for unrefused first_refusal outcome_unless unknown ended not_running taken begun_before too_late no_object one_name missing_in missing_rule no_object_of is_unknown has_ended is_running is_completed is_committed has_begun may_commit class_completed commit_outcome free blocks allows openers opened_by permits_along reaches_opener permits permitted_by in_set numbers conflict op_of operations operated value value_after after_use was_aborted stands opening_value opening_at exists status status_of end_of ended_by live same_class has_outside_source has_outside class_arrows order_arrows doom_arrows dependencies dependency_by both_ways initiated begun completed initiated_by begun_by completed_by applied takes_effect among linked lists same_kind is_operation is_write operation_numbers numbered stands_on source entry_at
 unfinished_row = (refl, refl, refl, refl)
 
 -- with numbers in place of values a read is answered another value
@@ -53,13 +53,13 @@ NumbersAreOtherValues = (answer three (applied before_the_read) (Read (t 7) (x 1
     × (answer (zeroed three) (applied (renumbered before_the_read)) (writing 6 (Read (t 7) (x 1))) ≡ Answer (Value (pos 3)))
 
 numbers_row : NumbersAreOtherValues
-unfolding answer rules_for unrefused first_refusal outcome_unless unknown ended not_running taken begun_before too_late no_object one_name missing_in missing_rule no_object_of is_unknown has_ended is_running is_completed is_committed has_begun may_commit class_completed commit_outcome free blocks allows permits permitted_by in_set numbers conflict op_of operations operated value value_after after_use was_aborted stands opening_value opening_at exists status status_of end_of ended_by live same_class has_outside_source has_outside class_arrows order_arrows doom_arrows dependencies dependency_by both_ways initiated begun completed initiated_by begun_by completed_by applied takes_effect among linked lists same_kind zeroed renumbered writing reading source_number
+unfolding answer rules_for unrefused first_refusal outcome_unless unknown ended not_running taken begun_before too_late no_object one_name missing_in missing_rule no_object_of is_unknown has_ended is_running is_completed is_committed has_begun may_commit class_completed commit_outcome free blocks allows openers opened_by permits_along reaches_opener permits permitted_by in_set numbers conflict op_of operations operated value value_after after_use was_aborted stands opening_value opening_at exists status status_of end_of ended_by live same_class has_outside_source has_outside class_arrows order_arrows doom_arrows dependencies dependency_by both_ways initiated begun completed initiated_by begun_by completed_by applied takes_effect among linked lists same_kind zeroed renumbered writing reading source_number
 numbers_row = (refl, refl)
 
 -- A reader commits, whom an uncommitted writer let read what it wrote: alone it would read the opening value, so the serial
 -- history is not legal. It is not enough that those who committed share nothing among themselves.
 sharing_breaks_it : ¬ IsLegal three (serial permitted)
-unfolding IsLegal serial entries_of committed_names committed_by actor same_kind answer rules_for unrefused first_refusal outcome_unless unknown ended not_running taken begun_before too_late no_object one_name missing_in missing_rule no_object_of is_unknown has_ended is_running is_completed is_committed has_begun may_commit class_completed commit_outcome free blocks allows permits permitted_by in_set numbers conflict op_of operations operated value value_after after_use was_aborted stands opening_value opening_at exists status status_of end_of ended_by live same_class has_outside_source has_outside class_arrows order_arrows doom_arrows dependencies dependency_by both_ways initiated begun completed initiated_by begun_by completed_by applied takes_effect among linked lists
+unfolding IsLegal serial entries_of committed_names committed_by actor same_kind answer rules_for unrefused first_refusal outcome_unless unknown ended not_running taken begun_before too_late no_object one_name missing_in missing_rule no_object_of is_unknown has_ended is_running is_completed is_committed has_begun may_commit class_completed commit_outcome free blocks allows openers opened_by permits_along reaches_opener permits permitted_by in_set numbers conflict op_of operations operated value value_after after_use was_aborted stands opening_value opening_at exists status status_of end_of ended_by live same_class has_outside_source has_outside class_arrows order_arrows doom_arrows dependencies dependency_by both_ways initiated begun completed initiated_by begun_by completed_by applied takes_effect among linked lists
 sharing_breaks_it legal = let read = legal.1.1.0 in cc
 
 -- Two groups that commit in parts: 8 shares with 7, and 9 with nobody. 9 reads what 7 committed, and 8 what 9 committed. So
@@ -86,7 +86,7 @@ StrangerFirst = Case (stranger ++ group_before ++ group_after)
     (ok ∷ ok ∷ Answer (Value (pos 100)) ∷ ok ∷ ok ∷ Answer Committed ∷ ok ∷ ok ∷ ok ∷ ok ∷ ok ∷ ok ∷ ok ∷ Answer Committed ∷ Answer (Value (pos 60)) ∷ ok ∷ Answer Committed ∷ [])
 
 in_parts_row : CommitInParts × GroupFirst × StrangerFirst
-unfolding answer rules_for unrefused first_refusal outcome_unless unknown ended not_running taken begun_before too_late no_object one_name missing_in missing_rule no_object_of is_unknown has_ended is_running is_completed is_committed has_begun may_commit class_completed commit_outcome free blocks allows permits permitted_by in_set numbers conflict op_of operations operated value value_after after_use was_aborted stands opening_value opening_at exists status status_of end_of ended_by live same_class has_outside_source has_outside class_arrows order_arrows doom_arrows dependencies dependency_by both_ways initiated begun completed initiated_by begun_by completed_by applied takes_effect among linked lists same_kind
+unfolding answer rules_for unrefused first_refusal outcome_unless unknown ended not_running taken begun_before too_late no_object one_name missing_in missing_rule no_object_of is_unknown has_ended is_running is_completed is_committed has_begun may_commit class_completed commit_outcome free blocks allows openers opened_by permits_along reaches_opener permits permitted_by in_set numbers conflict op_of operations operated value value_after after_use was_aborted stands opening_value opening_at exists status status_of end_of ended_by live same_class has_outside_source has_outside class_arrows order_arrows doom_arrows dependencies dependency_by both_ways initiated begun completed initiated_by begun_by completed_by applied takes_effect among linked lists same_kind
 in_parts_row = (refl, refl, refl)
 
 -- A live transaction that adds to an object, and holds it by no write, changes the value that those who committed left in it.

@@ -10,7 +10,7 @@ use Rattle.asset_names.specs.declared.operations.Op.TheVariants as Op'
 use Rattle.asset_names.specs.declared.sets.ObSet.{ObSet}
 use Rattle.asset_names.specs.declared.sets.ObSet.TheVariants.{All, Listed}
 use Rattle.asset_names.specs.declared.steps.Step.{Step}
-use Rattle.asset_names.specs.declared.steps.Step.TheVariants.{Initiate, Begin, Read, Write, Add, Complete, Permit, Delegate, Depend, Commit, Abort, WaitFor}
+use Rattle.asset_names.specs.declared.steps.Step.TheVariants.{Initiate, Begin, Read, Write, Add, Complete, Permit, PermitAny, Delegate, Depend, Commit, Abort, WaitFor}
 use Rattle.asset_names.specs.declared.replies.Refusal.{Refusal}
 use Rattle.asset_names.specs.declared.replies.Reply.{Reply}
 use Rattle.asset_names.specs.declared.replies.Reply.TheVariants as Reply'
@@ -95,10 +95,11 @@ effect_same n older (Depend kind a b) reply = refl
 effect_same n older (Commit t) reply = refl
 effect_same n older (Abort t) reply = refl
 effect_same n older (WaitFor t) reply = refl
+effect_same n older (PermitAny giver obs ops) reply = refl
 
 same_none : IsSameShape [] []
 unfolding shape
-same_none = record { initiated_same = refl; begun_same = refl; completed_same = refl; ends_same = λ n. refl; dependencies_same = λ kind. refl; shapes_same = refl; permits_same = λ x op. refl }
+same_none = record { initiated_same = refl; begun_same = refl; completed_same = refl; ends_same = λ n. refl; dependencies_same = λ kind. refl; shapes_same = refl; permits_same = λ x op. refl; openers_same = λ x op. refl }
 
 -- the steps that take effect say the same but for the values that are written
 pub renumbered_same : (entries : List Entry) → IsSameShape (applied (renumbered entries)) (applied entries)
@@ -152,6 +153,7 @@ numbered_operations (entry ∷ older) = rw (effect_same (length older) older ent
   by (Commit t) rest = rest
   by (Abort t) rest = rest
   by (WaitFor t) rest = rest
+  by (PermitAny giver obs ops) rest = rest
 
   go : (effect : Bool) → Rest → operations (cond effect (writing (length older) entry.0 ∷ applied (renumbered older)) (applied (renumbered older)))
       ≡ map as_number (zip (cond (effect && is_operation entry.0) (length older ∷ operation_numbers older) (operation_numbers older)) (operations (cond effect (entry.0 ∷ applied older) (applied older))))
@@ -230,6 +232,7 @@ rules_same opening ones others same n (Depend kind a b) = rw (status_same ones o
 rules_same opening ones others same n (Commit t) = rw (status_same ones others same t.0) refl
 rules_same opening ones others same n (Abort t) = rw (status_same ones others same t.0) refl
 rules_same opening ones others same n (WaitFor t) = rw (status_same ones others same t.0) refl
+rules_same opening ones others same n (PermitAny giver obs ops) = rw (status_same ones others same giver.0, missing_zeroed opening (Listed obs)) refl
 
 -- a refusal is read as it is
 reading_refused : (older : List Entry) (step : Step) (refusal : Refusal) → reading older step (Reply'.Refused refusal) ≡ Reply'.Refused refusal
@@ -246,6 +249,7 @@ reading_refused older (Depend kind a b) refusal = refl
 reading_refused older (Commit t) refusal = refl
 reading_refused older (Abort t) refusal = refl
 reading_refused older (WaitFor t) refusal = refl
+reading_refused older (PermitAny giver obs ops) refusal = refl
 
 -- an outcome stays if no reply to the step is read otherwise
 outcome_stays : (older : List Entry) (step : Step) → ((reply : Reply) → reading older step reply ≡ reply) → (outcome : Outcome) → outcome ≡ outcome_read older step outcome
@@ -277,6 +281,7 @@ unrefused_read opening ones older same sources n (Depend kind a b) = refl
 unrefused_read opening ones older same sources n (Commit t) = rw (status_same ones (applied older) same t.0, may_commit_same ones (applied older) same t.0) (outcome_stays older (Commit t) (λ reply. refl) _)
 unrefused_read opening ones older same sources n (Abort t) = refl
 unrefused_read opening ones older same sources n (WaitFor t) = rw (status_same ones (applied older) same t.0) (outcome_stays older (WaitFor t) (λ reply. refl) _)
+unrefused_read opening ones older same sources n (PermitAny giver obs ops) = refl
 
 -- a step with its number has the outcome of the step, but that a read reads the number of its source
 pub outcome_renumbered : (opening : Opening) (older : List Entry) → length older < 2 ^ 63 → (step : Step)

@@ -11,7 +11,7 @@ use Rattle.asset_names.specs.declared.operations.Op.{Op}
 use Rattle.asset_names.specs.declared.operations.Op.TheVariants as Op'
 use Rattle.asset_names.specs.declared.statuses.End.{End}
 use Rattle.asset_names.specs.declared.steps.Step.{Step}
-use Rattle.asset_names.specs.declared.steps.Step.TheVariants.{Initiate, Begin, Read, Write, Add, Complete, Permit, Delegate, Depend, Commit, Abort, WaitFor}
+use Rattle.asset_names.specs.declared.steps.Step.TheVariants.{Initiate, Begin, Read, Write, Add, Complete, Permit, PermitAny, Delegate, Depend, Commit, Abort, WaitFor}
 use Rattle.asset_names.specs.declared.replies.Outcome.TheVariants.{Answer}
 use Rattle.asset_names.specs.Steps.{Opening, Entry, takes_effect, applied}
 use Rattle.asset_names.specs.Endings.{end_of, live}
@@ -41,6 +41,7 @@ own_operated n (Depend k a b) os fine is = absurd (false≢true fine)
 own_operated n (Commit t) os fine is = refl
 own_operated n (Abort t) os fine is = refl
 own_operated n (WaitFor t) os fine is = refl
+own_operated n (PermitAny giver obs ops) os fine is = refl
 
 other_operated : (t : ℕ) (step : Step) (os : List Operation) → plain step ≡ true → eqb (actor step).0 t ≡ false → own_of t (operated step os) ≡ own_of t os
 unfolding plain operated own_of actor
@@ -56,6 +57,7 @@ other_operated n (Depend k a b) os fine other = absurd (false≢true fine)
 other_operated n (Commit t) os fine other = refl
 other_operated n (Abort t) os fine other = refl
 other_operated n (WaitFor t) os fine other = refl
+other_operated n (PermitAny giver obs ops) os fine other = refl
 
 appended_operated : (step : Step) (newer older : List Operation) → plain step ≡ true → operated step (newer ++ older) ≡ operated step newer ++ older
 unfolding plain operated
@@ -71,6 +73,7 @@ appended_operated (Depend k a b) newer older fine = refl
 appended_operated (Commit t) newer older fine = refl
 appended_operated (Abort t) newer older fine = refl
 appended_operated (WaitFor t) newer older fine = refl
+appended_operated (PermitAny giver obs ops) newer older fine = refl
 
 -- the operations of t's entries after others
 pub block_operations : (opening : Opening) (t : ℕ) (entries others : List Entry) → IsLegal opening entries → AllSingle entries

@@ -6,7 +6,7 @@ use Rattle.std.proofs.lemmas.Bool.{or_cases, or_left, or_right, eqb-true, false�
 use Rattle.asset_names.specs.declared.statuses.End.{End}
 use Rattle.asset_names.specs.declared.statuses.End.TheVariants as End'
 use Rattle.asset_names.specs.declared.steps.Step.{Step}
-use Rattle.asset_names.specs.declared.steps.Step.TheVariants.{Initiate, Begin, Read, Write, Add, Complete, Permit, Delegate, Depend, Commit, Abort, WaitFor}
+use Rattle.asset_names.specs.declared.steps.Step.TheVariants.{Initiate, Begin, Read, Write, Add, Complete, Permit, PermitAny, Delegate, Depend, Commit, Abort, WaitFor}
 use Rattle.asset_names.specs.declared.replies.Refusal.{Refusal}
 use Rattle.asset_names.specs.declared.replies.Reply.{Reply}
 use Rattle.asset_names.specs.declared.replies.Outcome.TheVariants.{Answer}
@@ -22,10 +22,11 @@ use Rattle.asset_names.proofs.EndLemmas.{live_parts, commits, aborts, commits_it
 use Rattle.asset_names.proofs.LiveLemmas.{EndsNobody, end_same}
 use Rattle.asset_laws.specs.Serial.{committed_by, committed_names}
 use Rattle.asset_laws.proofs.AlikeLemmas.{IsAlike, status_alike, may_commit_alike}
-use Rattle.asset_laws.proofs.AnswersAlike.{Uncommitted, rules_alike, answer_alike}
-use Rattle.asset_laws.proofs.KeptLemmas.{RespectsEntries, respects_applied, kept_alike, kept_applied}
+use Rattle.asset_laws.proofs.AnswersAlike.{Uncommitted, OpensTo, rules_alike, answer_alike}
+use Rattle.asset_laws.proofs.KeptLemmas.{kept_alike, kept_applied}
+use Rattle.asset_laws.proofs.KeptSteps.{Respects}
 use Rattle.asset_laws.proofs.SerialPlain.{AllPlain, AllSingle, commits_plain, legal_plain}
-use Rattle.asset_laws.proofs.SerialValues.{NobodyAborted, ComesLast}
+use Rattle.asset_laws.proofs.SerialValues.{NobodyAborted, AllOwnOpens, own_opens_rest, own_opens_head, own_openers, ComesLast}
 use Rattle.asset_laws.proofs.GroupLemmas.{legal_rest}
 use Rattle.asset_laws.proofs.SerialBlocks.{IsPart, part_rest, single_rest, unaborted_rest}
 
@@ -60,6 +61,7 @@ idle_unrefused keep some all alike opening (Depend k a b) reply stays idle none 
 idle_unrefused keep some all alike opening (Commit t) reply stays idle none is = rw (status_alike keep some all alike t.0 stays, may_commit_alike keep some all alike t.0 stays) is
 idle_unrefused keep some all alike opening (Abort t) reply stays idle none is = is
 idle_unrefused keep some all alike opening (WaitFor t) reply stays idle none is = rw (status_alike keep some all alike t.0 stays) is
+idle_unrefused keep some all alike opening (PermitAny giver obs ops) reply stays idle none is = is
 
 idle_answer : (keep : ℕ → Bool) (some all : List Step) → IsAlike keep some all → (opening : Opening) (step : Step) (reply : Reply) → keep (actor step).0 ≡ true → keep (partner step).0 ≡ true → is_running (status all (actor step).0) ≡ false
     → answer opening all step ≡ Answer reply → answer opening some step ≡ Answer reply
@@ -71,13 +73,16 @@ idle_answer keep some all alike opening step reply one other idle is =
       go (Some refusal) e h = h
 
 -- steps on one transaction each respect any choice
-single_respects : (keep : ℕ → Bool) (entries : List Entry) → AllSingle entries → RespectsEntries keep entries
-unfolding AllSingle RespectsEntries
+single_respects : (keep : ℕ → Bool) (entries : List Entry) → AllSingle entries → Respects keep (applied entries)
+unfolding AllSingle Respects applied
 single_respects keep [] single = single
-single_respects keep (entry ∷ older) single = (ap keep single.0, single_respects keep older single.1)
+single_respects keep (entry ∷ older) single = go (takes_effect entry.0 entry.1) (single_respects keep older single.1) where
+  go : (effect : Bool) → Respects keep (applied older) → Respects keep (cond effect (entry.0 ∷ applied older) (applied older))
+  go true rest = (ap keep single.0, rest)
+  go false rest = rest
 
 pub but_alike : (t : ℕ) (entries : List Entry) → AllSingle entries → IsAlike (but t) (applied (kept (but t) entries)) (applied entries)
-but_alike t entries single = rw (kept_applied (but t) entries) (kept_alike (but t) (applied entries) (respects_applied (but t) entries (single_respects (but t) entries single)))
+but_alike t entries single = rw (kept_applied (but t) entries) (kept_alike (but t) (applied entries) (single_respects (but t) entries single))
 
 pub but_legal : (opening : Opening) (t : ℕ) (entries : List Entry) → IsLegal opening entries → AllSingle entries → ComesLast t entries → IsLegal opening (kept (but t) entries)
 unfolding IsLegal AllSingle ComesLast kept but was_committed
@@ -91,12 +96,15 @@ but_legal opening t (entry ∷ older) legal single last = go (but t (actor entry
   answered stays (inl own) = absurd (false≢true (ap not (sym own) ∙ stays))
   answered stays (inr (inr idle)) = idle_answer (but t) (applied (kept (but t) older)) (applied older) alike opening entry.0 entry.1 stays (ap (but t) (sym single.0) ∙ stays) idle legal.0
   answered stays (inr (inl none)) =
-      answer_alike (but t) (applied (kept (but t) older)) (applied older) alike uncommitted (legal_orderly opening older legal.1) opening entry.0 entry.1 stays (ap (but t) (sym single.0) ∙ stays) legal.0 where
+      answer_alike (but t) (applied (kept (but t) older)) (applied older) alike uncommitted (legal_orderly opening older legal.1) opening entry.0 entry.1 stays (ap (but t) (sym single.0) ∙ stays) open_to legal.0 where
+        open_to : OpensTo (but t) entry.0 entry.1 (applied older)
+        open_to effect x a op on listed = ap (but t) (own_openers entry older (legal_plain opening older legal.1 single.1) last.0.1 effect x a op on listed)
+
         uncommitted : Uncommitted (but t) (applied older)
         uncommitted n gone = ap (λ m. was_committed (end_of (applied older) m)) (eqb-true n t (not-false _ gone)) ∙ ap was_committed none
 
   go : (stays : Bool) → but t (actor entry.0).0 ≡ stays → IsLegal opening (kept (but t) older) → IsLegal opening (cond stays (entry ∷ kept (but t) older) (kept (but t) older))
-  go true e rest = (answered e last.0, rest)
+  go true e rest = (answered e last.0.0, rest)
   go false e rest = rest
 
 -- ---- who has committed
@@ -133,6 +141,7 @@ named_more (Commit t) older n h before = elim (by_itself t.0 n (live older t.0) 
 ]
 named_more (Abort t) older n h before = end_stays (Abort t) older n End'.Committed (before h)
 named_more (WaitFor t) older n h before = end_stays (WaitFor t) older n End'.Committed (before h)
+named_more (PermitAny giver obs ops) older n h before = end_stays (PermitAny giver obs ops) older n End'.Committed (before h)
 
 pub named_committed : (steps : List Step) (n : ℕ) → lists (committed_names steps) n ≡ true → end_of steps n ≡ Some End'.Committed
 unfolding committed_names lists
@@ -164,6 +173,7 @@ committed_more (Abort t) older all n is before = go (aborts older t.0 n) (sym (a
   go true h = cc
   go false h = before h
 committed_more (WaitFor t) older all n is before = before (sym (end_same (WaitFor t) older n (λ l o m. refl)) ∙ is)
+committed_more (PermitAny giver obs ops) older all n is before = before (sym (end_same (PermitAny giver obs ops) older n (λ l o m. refl)) ∙ is)
 
 pub committed_named : (steps : List Step) → AllPlain steps → (n : ℕ) → end_of steps n ≡ Some End'.Committed → lists (committed_names steps) n ≡ true
 unfolding AllPlain end_of
@@ -193,6 +203,7 @@ named_once (Commit t ∷ older) = go (live older t.0) refl (named_once older) wh
   go false e rest = rest
 named_once (Abort t ∷ older) = named_once older
 named_once (WaitFor t ∷ older) = named_once older
+named_once (PermitAny giver obs ops ∷ older) = named_once older
 
 -- ---- the last one
 
@@ -225,6 +236,7 @@ settled_more (Commit u) older t names ended is = go (live older u.0) refl is whe
       absurd cc
 settled_more (Abort t) older n names ended is = refl
 settled_more (WaitFor t) older n names ended is = refl
+settled_more (PermitAny giver obs ops) older n names ended is = refl
 
 settled : (newer older : List Entry) (t : ℕ) (names : List ℕ) → end_of (applied older) t ≡ Some End'.Committed → committed_names (applied (newer ++ older)) ≡ t ∷ names → committed_names (applied (newer ++ older)) ≡ committed_names (applied older)
 unfolding applied
@@ -261,12 +273,12 @@ ended_idle steps n is = rw (is) (go (lists (initiated steps) n) (lists (begun st
   go false b c = refl
   go true b c = refl
 
-pub comes : (opening : Opening) (t : ℕ) (names : List ℕ) (all : List Entry) → IsLegal opening all → AllSingle all → NobodyAborted (applied all) → committed_names (applied all) ≡ t ∷ names → AllNamed (t ∷ names) all
+pub comes : (opening : Opening) (t : ℕ) (names : List ℕ) (all : List Entry) → IsLegal opening all → AllSingle all → AllOwnOpens all → NobodyAborted (applied all) → committed_names (applied all) ≡ t ∷ names → AllNamed (t ∷ names) all
     → (entries : List Entry) → IsPart all entries → ComesLast t entries
 unfolding ComesLast was_aborted
-comes opening t names all legal single unaborted is named [] part = tt
-comes opening t names all legal single unaborted is named (entry ∷ older) part =
-    (go (eqb (actor entry.0).0 t) refl (end_of (applied older) t) refl, comes opening t names all legal single unaborted is named older (part_rest all entry older part)) where
+comes opening t names all legal single opens unaborted is named [] part = tt
+comes opening t names all legal single opens unaborted is named (entry ∷ older) part =
+    ((go (eqb (actor entry.0).0 t) refl (end_of (applied older) t) refl, own_opens_head entry older (own_opens_rest part.0 (entry ∷ older) (subst AllOwnOpens (sym part.1) opens))), comes opening t names all legal single opens unaborted is named older (part_rest all entry older part)) where
       shorter : IsPart all older
       shorter = part_rest all entry older part
 

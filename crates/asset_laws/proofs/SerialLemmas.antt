@@ -1,15 +1,15 @@
 -- From all entries to those of the transactions that committed, which share nothing.
 use Rattle.std.proofs.Common.{◌≡◌, ℕ, ℤ, Bool, true, false, cond, eqb, ◌&&◌, ◌||◌, List, [], ◌∷◌, ◌++◌, filter, refl, sym, ◌∙◌, ap, subst, None, Some}
 use Rattle.std.specs.Prelude.{Option, flat_map}
-use Rattle.std.proofs.lemmas.Bool.{or_left, or_right, and_from, eqb-true, eq-eqb, false≢true}
+use Rattle.std.proofs.lemmas.Bool.{or_left, or_right, eqb-true, false≢true}
 use Rattle.asset_names.specs.declared.statuses.End.{End}
 use Rattle.asset_names.specs.declared.statuses.End.TheVariants as End'
 use Rattle.asset_names.specs.declared.steps.Step.{Step}
-use Rattle.asset_names.specs.declared.steps.Step.TheVariants.{Initiate, Begin, Read, Write, Add, Complete, Permit, Delegate, Depend, Commit, Abort, WaitFor}
+use Rattle.asset_names.specs.declared.steps.Step.TheVariants.{Initiate, Begin, Read, Write, Add, Complete, Permit, PermitAny, Delegate, Depend, Commit, Abort, WaitFor}
 use Rattle.asset_names.specs.Arrows.{lists, has_arrow}
 use Rattle.asset_names.specs.Steps.{Opening, Entry, takes_effect, applied}
 use Rattle.asset_names.specs.Endings.{end_of, live}
-use Rattle.asset_names.specs.Groups.{actor, partner, joins, joined_by, was_committed, kept}
+use Rattle.asset_names.specs.Groups.{actor, partner, joins, was_committed, kept}
 use Rattle.asset_names.specs.Operations.{Operation, operations, was_aborted, opening_value, after_use, value_after, value}
 use Rattle.asset_names.specs.Answers.{IsLegal}
 use Rattle.asset_names.proofs.Common.{both_follow, eqb-flip}
@@ -18,9 +18,10 @@ use Rattle.asset_laws.specs.Serial.{committed_by, committed_names, entries_of, s
 use Rattle.asset_laws.proofs.KeepLinks.{Keeps, other_name}
 use Rattle.asset_laws.proofs.AlikeLemmas.{IsAlike, owned, live_alike}
 use Rattle.asset_laws.proofs.KeptLemmas.{RespectsEntries, respects_applied, kept_alike, kept_applied, legal_kept}
-use Rattle.asset_laws.proofs.GroupLemmas.{keeps_respects}
+use Rattle.asset_laws.proofs.GroupLemmas.{keeps_respects, own_join, later_join, met_join}
+use Rattle.asset_laws.proofs.OpenLemmas.{opened_met, opened_kept}
 use Rattle.asset_laws.proofs.SerialPlain.{AllSingle, IsOwn, own_refl, legal_plain}
-use Rattle.asset_laws.proofs.SerialValues.{always, NobodyAborted, value_always, value_counts}
+use Rattle.asset_laws.proofs.SerialValues.{always, NobodyAborted, AllOwnOpens, OwnOpens, value_always, value_counts}
 use Rattle.asset_laws.proofs.SerialLegal.{named_committed, committed_named, AllNamed, end_stays}
 use Rattle.asset_laws.proofs.SerialWorld.{absent_more, flat_same, serial_world}
 
@@ -36,14 +37,25 @@ share_keeps keep entries share u v h = go (keep u) refl (keep v) refl where
   go false e false f = e ∙ sym f
 
 single_kept : (keep : ℕ → Bool) (entries : List Entry) → Share keep entries → AllSingle (kept keep entries)
-unfolding AllSingle kept joins joined_by has_arrow
+unfolding AllSingle kept
 single_kept keep [] share = tt
-single_kept keep (entry ∷ older) share = go (keep (actor entry.0).0) refl (single_kept keep older (λ u v h stays. share u v (or_right (eqb (actor entry.0).0 u && eqb (partner entry.0).0 v) _ h) stays)) where
+single_kept keep (entry ∷ older) share = go (keep (actor entry.0).0) refl (single_kept keep older (λ u v h stays. share u v (later_join entry older u v h) stays)) where
   alone : keep (actor entry.0).0 ≡ true → (actor entry.0).0 ≡ (partner entry.0).0
-  alone e = share (actor entry.0).0 (partner entry.0).0 (or_left _ _ (and_from _ _ (eq-eqb (actor entry.0).0 (actor entry.0).0 refl) (eq-eqb (partner entry.0).0 (partner entry.0).0 refl))) (or_left _ _ e)
+  alone e = share (actor entry.0).0 (partner entry.0).0 (own_join entry older) (or_left _ _ e)
 
   go : (b : Bool) → keep (actor entry.0).0 ≡ b → AllSingle (kept keep older) → AllSingle (cond b (entry ∷ kept keep older) (kept keep older))
   go true e rest = (alone e, rest)
+  go false e rest = rest
+
+own_kept : (keep : ℕ → Bool) (entries : List Entry) → Share keep entries → AllOwnOpens (kept keep entries)
+unfolding AllOwnOpens kept
+own_kept keep [] share = tt
+own_kept keep (entry ∷ older) share = go (keep (actor entry.0).0) refl (own_kept keep older (λ u v h stays. share u v (later_join entry older u v h) stays)) where
+  own : keep (actor entry.0).0 ≡ true → OwnOpens entry older
+  own e effect x on = opened_met (λ a. a ≡ (actor entry.0).0) entry.0 x on (applied older) (λ v h. sym (share (actor entry.0).0 v (met_join entry older effect v h) (or_left _ _ e)))
+
+  go : (b : Bool) → keep (actor entry.0).0 ≡ b → AllOwnOpens (kept keep older) → AllOwnOpens (cond b (entry ∷ kept keep older) (kept keep older))
+  go true e rest = ((λ effect x on. opened_kept keep (λ a. a ≡ (actor entry.0).0) x older (own e effect x on)), rest)
   go false e rest = rest
 
 -- one who is not kept does not occur
@@ -80,6 +92,7 @@ names_more keep (Depend k a b) some all alike stays same = same
 names_more keep (Commit t) some all alike stays same = rw (live_alike keep some all alike t.0 stays, same) refl
 names_more keep (Abort t) some all alike stays same = same
 names_more keep (WaitFor t) some all alike stays same = same
+names_more keep (PermitAny giver obs ops) some all alike stays same = same
 
 names_gone : (keep : ℕ → Bool) (step : Step) (all : List Step) → ((n : ℕ) → end_of (step ∷ all) n ≡ Some End'.Committed → keep n ≡ true) → keep (actor step).0 ≡ false → committed_names (step ∷ all) ≡ committed_names all
 unfolding committed_names committed_by actor
@@ -98,6 +111,7 @@ names_gone keep (Commit t) all committed gone = go (live all t.0) refl where
   go true e = absurd (false≢true (sym gone ∙ committed t.0 (commit_ends t all t.0 ∙ rw (commits_itself all t.0 e) refl)))
 names_gone keep (Abort t) all committed gone = refl
 names_gone keep (WaitFor t) all committed gone = refl
+names_gone keep (PermitAny giver obs ops) all committed gone = refl
 
 names_kept : (keep : ℕ → Bool) (entries : List Entry) → RespectsEntries keep entries → ((n : ℕ) → end_of (applied entries) n ≡ Some End'.Committed → keep n ≡ true) → committed_names (applied (kept keep entries)) ≡ committed_names (applied entries)
 unfolding RespectsEntries kept applied
@@ -163,6 +177,7 @@ of_committed (Some End'.Aborted) h = absurd (false≢true h)
 pub record IsReduced (opening : Opening) (entries left : List Entry) : Type 0 where
   pub legal : IsLegal opening left
   pub single : AllSingle left
+  pub own : AllOwnOpens left
   pub unaborted : NobodyAborted (applied left)
   pub names : committed_names (applied left) ≡ committed_names (applied entries)
   pub listed : (n : ℕ) → committed entries n ≡ true → lists (committed_names (applied entries)) n ≡ true
@@ -175,6 +190,7 @@ unfolding committed was_aborted was_committed committed_value end_of owned appli
 reduced opening entries legal share = record {
   legal = left_legal;
   single = single;
+  own = own_kept (committed entries) entries share;
   unaborted = λ n. unaborted n (committed entries n) refl;
   names = names;
   listed = listed;
@@ -221,11 +237,11 @@ serial_same entries left same = flat_same (entries_of left) (entries_of entries)
 pub serial_legal : (opening : Opening) (entries : List Entry) → IsLegal opening entries → CommittedShareNothing entries → IsLegal opening (serial entries)
 serial_legal opening entries legal share =
     let left = reduced opening entries legal share in
-    let world = serial_world opening (committed_names (applied entries)) (kept (committed entries) entries) left.legal left.single left.unaborted left.names left.all_listed in
+    let world = serial_world opening (committed_names (applied entries)) (kept (committed entries) entries) left.legal left.single left.own left.unaborted left.names left.all_listed in
     subst (IsLegal opening) (serial_same entries (kept (committed entries) entries) left.same) world.legal
 
 pub serial_values : (opening : Opening) (entries : List Entry) → IsLegal opening entries → CommittedShareNothing entries → (x : ℕ) → value opening (applied (serial entries)) x ≡ committed_value opening (applied entries) x
 serial_values opening entries legal share x =
     let left = reduced opening entries legal share in
-    let world = serial_world opening (committed_names (applied entries)) (kept (committed entries) entries) left.legal left.single left.unaborted left.names left.all_listed in
+    let world = serial_world opening (committed_names (applied entries)) (kept (committed entries) entries) left.legal left.single left.own left.unaborted left.names left.all_listed in
     ap (λ l. value opening (applied l) x) (sym (serial_same entries (kept (committed entries) entries) left.same)) ∙ world.values x ∙ left.values x

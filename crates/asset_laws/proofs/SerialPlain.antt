@@ -1,8 +1,8 @@
 -- Steps among which nobody permits, delegates or depends: what stands of a transaction depends on its own steps.
 use Rattle.std.proofs.Common.{◌≡◌, ℕ, Bool, true, false, cond, not, eqb, ◌&&◌, ◌||◌, List, [], ◌∷◌, refl, sym, ◌∙◌, ap, None, Some}
 use Rattle.std.specs.Prelude.{Option}
-use Rattle.std.specs.List.{list_all}
-use Rattle.std.proofs.lemmas.Bool.{eqb-true, eq-eqb, false≢true}
+use Rattle.std.specs.List.{list_any, list_all}
+use Rattle.std.proofs.lemmas.Bool.{and_parts, eqb-true, eq-eqb, false≢true}
 use Rattle.asset_names.specs.declared.names.Txn.{Txn}
 use Rattle.asset_names.specs.declared.names.Ob.{Ob}
 use Rattle.asset_names.specs.declared.operations.Op.{Op}
@@ -10,7 +10,7 @@ use Rattle.asset_names.specs.declared.operations.Op.TheVariants as Op'
 use Rattle.asset_names.specs.declared.steps.Kind.{Kind}
 use Rattle.asset_names.specs.declared.steps.Kind.TheVariants.{Cd, Ad, Gc}
 use Rattle.asset_names.specs.declared.steps.Step.{Step}
-use Rattle.asset_names.specs.declared.steps.Step.TheVariants.{Initiate, Begin, Read, Write, Add, Complete, Permit, Delegate, Depend, Commit, Abort, WaitFor}
+use Rattle.asset_names.specs.declared.steps.Step.TheVariants.{Initiate, Begin, Read, Write, Add, Complete, Permit, PermitAny, Delegate, Depend, Commit, Abort, WaitFor}
 use Rattle.asset_names.specs.declared.replies.Refusal.{Refusal}
 use Rattle.asset_names.specs.declared.replies.Reply.{Reply}
 use Rattle.asset_names.specs.declared.replies.Reply.TheVariants.{Done, Value, Committed, Aborted, Refused}
@@ -20,17 +20,18 @@ use Rattle.asset_names.specs.Paths.{both_ways, has_outside}
 use Rattle.asset_names.specs.Steps.{Opening, Entry, takes_effect, applied, initiated, initiated_by, begun, begun_by, completed, completed_by}
 use Rattle.asset_names.specs.Endings.{dependency_by, dependencies, class_arrows, order_arrows, doom_arrows, ended_by, end_of, live, status, same_class, has_outside_source}
 use Rattle.asset_names.specs.Groups.{actor, partner}
-use Rattle.asset_names.specs.Operations.{permits, permitted_by, allows, free, value}
+use Rattle.asset_names.specs.Operations.{permits, permitted_by, openers, permits_along, reaches_opener, allows, free, value}
 use Rattle.asset_names.specs.Answers.{is_completed, unknown, ended, not_running, taken, begun_before, too_late, one_name, rules_for, first_refusal, class_completed, may_commit, unrefused, outcome_unless, answer, IsLegal}
 use Rattle.asset_names.proofs.Common.{both_follow}
 use Rattle.asset_names.proofs.EndLemmas.{commits, aborts, commit_ends, abort_ends}
 use Rattle.asset_names.proofs.LiveLemmas.{EndsNobody, end_same}
 use Rattle.asset_names.proofs.LegalLemmas.{effect_unrefused, first_none, known_initiated}
 use Rattle.asset_names.proofs.ListLemmas.{all_listed, listed_all}
+use Rattle.asset_laws.proofs.KeepLinks.{any_name}
 use Rattle.asset_laws.proofs.AnswersAlike.{not_waiting}
 use Rattle.asset_laws.proofs.KeptSteps.{one_more, passed_over, stranger_adds}
 
--- a step that is no permit, delegation or dependency
+-- a step that is no permit to another, no delegation and no dependency
 unfoldable pub plain : Step → Bool
 plain (Initiate t parent) = true
 plain (Begin t) = true
@@ -44,6 +45,7 @@ plain (Depend k a b) = false
 plain (Commit t) = true
 plain (Abort t) = true
 plain (WaitFor t) = true
+plain (PermitAny giver obs ops) = true
 
 unfoldable pub AllPlain : List Step → Type 0
 AllPlain [] = Unit {0}
@@ -65,6 +67,7 @@ no_dependency (Depend k a b) is kind = absurd (false≢true is)
 no_dependency (Commit t) is kind = refl
 no_dependency (Abort t) is kind = refl
 no_dependency (WaitFor t) is kind = refl
+no_dependency (PermitAny giver obs ops) is kind = refl
 
 no_dependencies : (steps : List Step) → AllPlain steps → (kind : Kind) → dependencies kind steps ≡ []
 unfolding AllPlain dependencies
@@ -85,15 +88,23 @@ no_permit (Depend k a b) is older arrows y op = refl
 no_permit (Commit t) is older arrows y op = refl
 no_permit (Abort t) is older arrows y op = refl
 no_permit (WaitFor t) is older arrows y op = refl
+no_permit (PermitAny giver obs ops) is older arrows y op = refl
 
 pub no_permits : (steps : List Step) → AllPlain steps → (x : ℕ) (op : Op) → permits steps x op ≡ []
 unfolding AllPlain permits
 no_permits [] all x op = refl
 no_permits (step ∷ older) all x op = rw (no_permit step all.0 older (permits older x op) x op) (no_permits older all.1 x op)
 
-pub allows_plain : (steps : List Step) → AllPlain steps → (u t x : ℕ) (op : Op) → allows steps u t x op ≡ eqb u t
-unfolding allows among linked
-allows_plain steps all u t x op = rw (no_permits steps all x op) refl
+-- nobody allows another anything on an object that nobody but the other opens
+pub disallows : (steps : List Step) → AllPlain steps → (u t x : ℕ) (op : Op) → eqb u t ≡ false → ((a : ℕ) → lists (openers steps x op) a ≡ true → a ≡ t) → allows steps u t x op ≡ false
+unfolding allows permits_along reaches_opener among linked
+disallows steps all u t x op apart opens = rw (no_permits steps all x op, apart) (go (live steps t) (list_any (λ a. live steps a && eqb u a) (openers steps x op)) refl) where
+  go : (alive opened : Bool) → list_any (λ a. live steps a && eqb u a) (openers steps x op) ≡ opened → (alive && opened) ≡ false
+  go false opened e = refl
+  go true false e = refl
+  go true true e =
+      let found = any_name (λ a. live steps a && eqb u a) (openers steps x op) e in
+      absurd (false≢true (sym apart ∙ ap (eqb u) (sym (opens found.0 found.1)) ∙ (and_parts (live steps found.0) _ found.2).1))
 
 no_classes : (steps : List Step) → AllPlain steps → class_arrows steps ≡ []
 unfolding class_arrows both_ways
@@ -185,6 +196,7 @@ own_ends n some all own one other = by where
   by (Commit t) is = commit_ends t some n ∙ rw (commits_plain some one t.0 n, commits_plain all other t.0 n, is, own_live n some all own, own.end_own) refl ∙ sym (commit_ends t all n)
   by (Abort t) is = abort_ends t some n ∙ rw (aborts_plain some one t.0 n, aborts_plain all other t.0 n, is, own_live n some all own, own.end_own) refl ∙ sym (abort_ends t all n)
   by (WaitFor t) is = quiet (WaitFor t) (λ l o m. refl)
+  by (PermitAny giver obs ops) is = quiet (PermitAny giver obs ops) (λ l o m. refl)
 
 pub own_step : (n : ℕ) (some all : List Step) → IsOwn n some all → AllPlain some → AllPlain all → (step : Step) → (actor step).0 ≡ n → IsOwn n (step ∷ some) (step ∷ all)
 unfolding initiated begun completed
@@ -216,6 +228,7 @@ other_ends n steps all = by where
   by (Commit t) other = commit_ends t steps n ∙ rw (commits_plain steps all t.0 n, other, none (live steps t.0)) refl
   by (Abort t) other = abort_ends t steps n ∙ rw (aborts_plain steps all t.0 n, other, none (live steps t.0)) refl
   by (WaitFor t) other = end_same (WaitFor t) steps n (λ l o m. refl)
+  by (PermitAny giver obs ops) other = end_same (PermitAny giver obs ops) steps n (λ l o m. refl)
 
 pub other_step : (n : ℕ) (steps : List Step) → AllPlain steps → (step : Step) → eqb (actor step).0 n ≡ false → IsOwn n (step ∷ steps) steps
 unfolding initiated begun completed
@@ -245,6 +258,7 @@ first_own opening some all (Depend k a b) own same = rw (eq-eqb a.0 b.0 same) re
 first_own opening some all (Commit t) own same = rw (own_status t.0 some all own) refl
 first_own opening some all (Abort t) own same = rw (own_status t.0 some all own) refl
 first_own opening some all (WaitFor t) own same = rw (own_status t.0 some all own) refl
+first_own opening some all (PermitAny giver obs ops) own same = rw (own_status giver.0 some all own) refl
 
 unrefused_own : (opening : Opening) (some all : List Step) → AllPlain some → AllPlain all → (step : Step) → IsOwn (actor step).0 some all → first_refusal (rules_for opening all step) ≡ None
     → ((x : ℕ) (op : Op) → free some (actor step).0 x op ≡ true) → (reply : Reply)
@@ -274,6 +288,7 @@ unrefused_own opening some all one other (Commit t) own none frees reply reads i
     rw (may_commit_plain some one t.0 (own.initiated_own ∙ known), own_status t.0 some all own) (rw (may_commit_plain all other t.0 known) at is)
 unrefused_own opening some all one other (Abort t) own none frees reply reads is = is
 unrefused_own opening some all one other (WaitFor t) own none frees reply reads is = rw (own_status t.0 some all own) is
+unrefused_own opening some all one other (PermitAny giver obs ops) own none frees reply reads is = is
 
 pub answer_own : (opening : Opening) (some all : List Step) → AllPlain some → AllPlain all → (step : Step) → IsOwn (actor step).0 some all → (actor step).0 ≡ (partner step).0
     → ((x : ℕ) (op : Op) → free some (actor step).0 x op ≡ true) → (reply : Reply)
@@ -306,6 +321,7 @@ effect_plain opening steps (Depend k a b) reply is effect same = absurd (false�
 effect_plain opening steps (Commit t) reply is effect same = refl
 effect_plain opening steps (Abort t) reply is effect same = refl
 effect_plain opening steps (WaitFor t) reply is effect same = refl
+effect_plain opening steps (PermitAny giver obs ops) reply is effect same = refl
 
 pub legal_plain : (opening : Opening) (entries : List Entry) → IsLegal opening entries → AllSingle entries → AllPlain (applied entries)
 unfolding IsLegal AllSingle AllPlain applied

@@ -1,8 +1,8 @@
 -- Values where nobody shares: the writes of a transaction that has not ended come last on what it uses.
-use Rattle.std.proofs.Common.{◌≡◌, ℕ, ℤ, ◌+ℤ◌, w64, Bool, true, false, cond, not, eqb, ◌&&◌, ◌||◌, List, [], ◌∷◌, ◌++◌, filter, refl, sym, ◌∙◌, ap, inl, inr, ◌⊎◌, None}
+use Rattle.std.proofs.Common.{◌≡◌, ℕ, ℤ, ◌+ℤ◌, w64, Bool, true, false, cond, not, eqb, ◌&&◌, ◌||◌, List, [], ◌∷◌, ◌++◌, filter, refl, sym, ◌∙◌, ap, subst, inl, inr, ◌⊎◌, None}
 use Rattle.std.specs.List.{list_any}
 use Rattle.std.specs.Int.{int_wrap}
-use Rattle.std.proofs.lemmas.Bool.{or_right, or_parts, and_parts, eqb-true, false≢true, not-true, not-false}
+use Rattle.std.proofs.lemmas.Bool.{or_right, or_parts, and_parts, eqb-true, eq-eqb, false≢true, not-true, not-false}
 use Rattle.std.proofs.lemmas.Int.{int_wrap-add_left}
 use Rattle.std.proofs.Math.IntN.{+ℤ_assoc, +ℤ_comm}
 use Rattle.asset_names.specs.declared.names.Txn.{Txn}
@@ -10,14 +10,14 @@ use Rattle.asset_names.specs.declared.names.Ob.{Ob}
 use Rattle.asset_names.specs.declared.operations.Op.{Op}
 use Rattle.asset_names.specs.declared.operations.Op.TheVariants as Op'
 use Rattle.asset_names.specs.declared.steps.Step.{Step}
-use Rattle.asset_names.specs.declared.steps.Step.TheVariants.{Initiate, Begin, Read, Write, Add, Complete, Permit, Delegate, Depend, Commit, Abort, WaitFor}
+use Rattle.asset_names.specs.declared.steps.Step.TheVariants.{Initiate, Begin, Read, Write, Add, Complete, Permit, PermitAny, Delegate, Depend, Commit, Abort, WaitFor}
 use Rattle.asset_names.specs.declared.replies.Reply.{Reply}
 use Rattle.asset_names.specs.declared.replies.Outcome.TheVariants.{Answer}
 use Rattle.asset_names.specs.Arrows.{lists}
 use Rattle.asset_names.specs.Steps.{Opening, Entry, takes_effect, applied, initiated}
 use Rattle.asset_names.specs.Endings.{end_of, live, status}
-use Rattle.asset_names.specs.Groups.{actor}
-use Rattle.asset_names.specs.Operations.{Use, reads, writes, adds, Operation, op_of, conflict, operated, operations, blocks, free, was_aborted, stands, opening_value, after_use, value_after, value}
+use Rattle.asset_names.specs.Groups.{actor, partner, operates_on, kept}
+use Rattle.asset_names.specs.Operations.{Use, reads, writes, adds, Operation, op_of, conflict, operated, operations, openers, allows, blocks, free, was_aborted, stands, opening_value, after_use, value_after, value}
 use Rattle.asset_names.specs.Answers.{is_running, unknown, ended, not_running, rules_for, unrefused, answer, IsLegal}
 use Rattle.asset_names.specs.Orderly.{IsOrderly}
 use Rattle.asset_names.specs.Sources.{is_add}
@@ -27,7 +27,8 @@ use Rattle.asset_names.proofs.LegalLemmas.{effect_unrefused, first_none, legal_o
 use Rattle.asset_laws.proofs.KeepLinks.{any_fewer}
 use Rattle.asset_laws.proofs.AnswersAlike.{not_waiting}
 use Rattle.asset_laws.proofs.SharingLemmas.{effect_answer}
-use Rattle.asset_laws.proofs.SerialPlain.{plain, AllPlain, AllSingle, allows_plain, effect_plain, legal_plain}
+use Rattle.asset_laws.proofs.SerialPlain.{plain, AllPlain, AllSingle, disallows, effect_plain, legal_plain}
+use Rattle.asset_laws.proofs.OpenLemmas.{OpenedBy, IsHandedOn, openers_are, opened_kept}
 
 -- every operation counts
 unfoldable pub always : Operation → Bool
@@ -70,7 +71,7 @@ value_append x first [] older = refl
 value_append x first (o ∷ newer) older = rw (value_append x first newer older) refl
 
 -- adds come in any order
-plus_swap : (v d e : ℤ) → int_wrap w64 (int_wrap w64 (v +ℤ d) +ℤ e) ≡ int_wrap w64 (int_wrap w64 (v +ℤ e) +ℤ d)
+pub plus_swap : (v d e : ℤ) → int_wrap w64 (int_wrap w64 (v +ℤ d) +ℤ e) ≡ int_wrap w64 (int_wrap w64 (v +ℤ e) +ℤ d)
 plus_swap v d e = int_wrap-add_left w64 (v +ℤ d) e ∙ ap (int_wrap w64) (+ℤ_assoc v d e ∙ ap (λ z. v +ℤ z) (+ℤ_comm d e) ∙ sym (+ℤ_assoc v e d)) ∙ sym (int_wrap-add_left w64 (v +ℤ e) d)
 
 -- what is added below adds to an object is added to its value
@@ -106,12 +107,12 @@ value_always opening steps x none = value_counts (stands steps) always x (openin
 
 -- ---- what blocks others
 
--- an operation of a live transaction blocks another's in conflict with it
-blocked : (steps : List Step) → AllPlain steps → (t u x : ℕ) (op : Op) → eqb t u ≡ false → live steps t ≡ true → (o : Operation) → (eqb o.owner t && eqb o.object x) ≡ true → conflict (op_of o.use_of) op ≡ true → blocks steps u x op o ≡ true
+-- an operation of a live transaction blocks another's in conflict with it that it does not allow
+blocked : (steps : List Step) → (t u x : ℕ) (op : Op) → eqb t u ≡ false → allows steps t u x op ≡ false → live steps t ≡ true → (o : Operation) → (eqb o.owner t && eqb o.object x) ≡ true → conflict (op_of o.use_of) op ≡ true → blocks steps u x op o ≡ true
 unfolding blocks
-blocked steps all t u x op apart alive o h conflicts =
+blocked steps t u x op apart disallowed alive o h conflicts =
     let parts = and_parts (eqb o.owner t) (eqb o.object x) h in
-    rw (parts.1, conflicts, eqb-true o.owner t parts.0, apart, alive, allows_plain steps all t u x op, apart) refl
+    rw (parts.1, conflicts, eqb-true o.owner t parts.0, apart, alive, disallowed) refl
 
 write_conflicts : (how : Use) → conflict (op_of how) Op'.Write ≡ true
 unfolding conflict op_of
@@ -136,23 +137,23 @@ none_owned steps orderly t absent false e = refl
 none_owned steps orderly t absent true e = absurd (false≢true (sym absent ∙ orderly.owners_known t e))
 
 -- where another may write x, a transaction that has not ended does not use it
-pub unused : (steps : List Step) → AllPlain steps → IsOrderly steps → (t u x : ℕ) → eqb t u ≡ false → end_of steps t ≡ None → free steps u x Op'.Write ≡ true → uses t x (operations steps) ≡ false
+pub unused : (steps : List Step) → AllPlain steps → IsOrderly steps → (t u x : ℕ) → eqb t u ≡ false → ((a : ℕ) → lists (openers steps x Op'.Write) a ≡ true → a ≡ u) → end_of steps t ≡ None → free steps u x Op'.Write ≡ true → uses t x (operations steps) ≡ false
 unfolding free live uses
-unused steps all orderly t u x apart running is_free = go (lists (initiated steps) t) refl where
+unused steps all orderly t u x apart opens running is_free = go (lists (initiated steps) t) refl where
   go : (known : Bool) → lists (initiated steps) t ≡ known → list_any (λ (o : Operation). eqb o.owner t && eqb o.object x) (operations steps) ≡ false
   go true e =
       any_fewer (λ (o : Operation). eqb o.owner t && eqb o.object x) (blocks steps u x Op'.Write) (operations steps)
-      (λ o h. blocked steps all t u x Op'.Write apart (rw (e, running) refl) o h (write_conflicts o.use_of)) (not-true _ is_free)
+      (λ o h. blocked steps t u x Op'.Write apart (disallows steps all t u x Op'.Write apart opens) (rw (e, running) refl) o h (write_conflicts o.use_of)) (not-true _ is_free)
   go false e = user_owns t x (operations steps) (none_owned steps orderly t e (list_any (λ (o : Operation). eqb o.owner t) (operations steps)) refl)
 
 -- where another may add to x, a transaction that has not ended neither reads nor writes it
-pub unclaimed : (steps : List Step) → AllPlain steps → IsOrderly steps → (t u x : ℕ) → eqb t u ≡ false → end_of steps t ≡ None → free steps u x Op'.Add ≡ true → claims t x (operations steps) ≡ false
+pub unclaimed : (steps : List Step) → AllPlain steps → IsOrderly steps → (t u x : ℕ) → eqb t u ≡ false → ((a : ℕ) → lists (openers steps x Op'.Add) a ≡ true → a ≡ u) → end_of steps t ≡ None → free steps u x Op'.Add ≡ true → claims t x (operations steps) ≡ false
 unfolding free live claims
-unclaimed steps all orderly t u x apart running is_free = go (lists (initiated steps) t) refl where
+unclaimed steps all orderly t u x apart opens running is_free = go (lists (initiated steps) t) refl where
   go : (known : Bool) → lists (initiated steps) t ≡ known → list_any (λ (o : Operation). (eqb o.owner t && eqb o.object x) && not (is_add o.use_of)) (operations steps) ≡ false
   go true e =
       any_fewer (λ (o : Operation). (eqb o.owner t && eqb o.object x) && not (is_add o.use_of)) (blocks steps u x Op'.Add) (operations steps)
-      (λ o h. let both = and_parts (eqb o.owner t && eqb o.object x) _ h in blocked steps all t u x Op'.Add apart (rw (e, running) refl) o both.0 (add_conflicts o.use_of both.1)) (not-true _ is_free)
+      (λ o h. let both = and_parts (eqb o.owner t && eqb o.object x) _ h in blocked steps t u x Op'.Add apart (disallows steps all t u x Op'.Add apart opens) (rw (e, running) refl) o both.0 (add_conflicts o.use_of both.1)) (not-true _ is_free)
   go false e = claims_uses t x (operations steps) (user_owns t x (operations steps) (none_owned steps orderly t e (list_any (λ (o : Operation). eqb o.owner t) (operations steps)) refl))
 
 -- ---- own writes come last
@@ -211,10 +212,67 @@ own_last_add t u y d os (inr none) last x first = go (eqb u t) (eqb y x) refl wh
   go false true e = rw (e) (ap (λ w. int_wrap w64 (w +ℤ d)) (last x first) ∙ sym (value_plus x (value_after always x first (others_of t os)) d (own_of t os) (only_adds e)))
   go false false e = rw (e) (last x first)
 
+-- nobody but who operates on an object has opened it before
+abbrev pub OwnOpens : Entry → List Entry → Type 0
+OwnOpens entry older = takes_effect entry.0 entry.1 ≡ true → (x : ℕ) → operates_on entry.0 x ≡ true → OpenedBy (λ a. a ≡ (actor entry.0).0) x (applied older)
+
+unfoldable pub AllOwnOpens : List Entry → Type 0
+AllOwnOpens [] = Unit {0}
+AllOwnOpens (entry ∷ older) = OwnOpens entry older × AllOwnOpens older
+
+-- so it is in what is kept of the entries
+pub own_opens_kept : (keep : ℕ → Bool) (entries : List Entry) → AllOwnOpens entries → AllOwnOpens (kept keep entries)
+unfolding AllOwnOpens kept
+own_opens_kept keep [] opens = tt
+own_opens_kept keep (entry ∷ older) opens = go (keep (actor entry.0).0) (own_opens_kept keep older opens.1) where
+  go : (stays : Bool) → AllOwnOpens (kept keep older) → AllOwnOpens (cond stays (entry ∷ kept keep older) (kept keep older))
+  go true rest = ((λ effect x on. opened_kept keep (λ a. a ≡ (actor entry.0).0) x older (opens.0 effect x on)), rest)
+  go false rest = rest
+
+pub own_opens_rest : (newer older : List Entry) → AllOwnOpens (newer ++ older) → AllOwnOpens older
+unfolding AllOwnOpens
+own_opens_rest [] older opens = opens
+own_opens_rest (entry ∷ newer) older opens = own_opens_rest newer older opens.1
+
+pub own_opens_head : (entry : Entry) (older : List Entry) → AllOwnOpens (entry ∷ older) → OwnOpens entry older
+unfolding AllOwnOpens
+own_opens_head entry older opens = opens.0
+
+-- what is handed on among plain steps is handed to nobody else
+plain_single : (step : Step) → plain step ≡ true → (actor step).0 ≡ (partner step).0
+unfolding plain actor partner
+plain_single (Initiate t parent) fine = refl
+plain_single (Begin t) fine = refl
+plain_single (Read t x) fine = refl
+plain_single (Write t x v) fine = refl
+plain_single (Add t x d) fine = refl
+plain_single (Complete t) fine = refl
+plain_single (Permit giver taker obs ops) fine = absurd (false≢true fine)
+plain_single (PermitAny giver obs ops) fine = refl
+plain_single (Delegate giver taker obs) fine = absurd (false≢true fine)
+plain_single (Depend k a b) fine = absurd (false≢true fine)
+plain_single (Commit t) fine = refl
+plain_single (Abort t) fine = refl
+plain_single (WaitFor t) fine = refl
+
+plain_handed : (P : ℕ → Type 0) (steps : List Step) → AllPlain steps → IsHandedOn P steps
+unfolding AllPlain IsHandedOn
+plain_handed P [] all = tt
+plain_handed P (step ∷ older) all = ((λ h. subst P (plain_single step all.0) h), plain_handed P older all.1)
+
+-- so the openers of what an entry operates on are the transaction that asks for it
+pub own_openers : (entry : Entry) (older : List Entry) → AllPlain (applied older) → OwnOpens entry older → takes_effect entry.0 entry.1 ≡ true
+    → (x a : ℕ) (op : Op) → operates_on entry.0 x ≡ true → lists (openers (applied older) x op) a ≡ true → a ≡ (actor entry.0).0
+own_openers entry older all opens effect x a op on listed =
+    openers_are (λ n. n ≡ (actor entry.0).0) x op (applied older) (plain_handed (λ n. n ≡ (actor entry.0).0) (applied older) all) (opens effect x on) a listed
+
 -- t is the last to commit: each entry is its own, or comes before it has ended, or is of one that does not run
+abbrev pub IsBefore : ℕ → Entry → List Entry → Type 0
+IsBefore t entry older = (eqb (actor entry.0).0 t ≡ true) ⊎ ((end_of (applied older) t ≡ None) ⊎ (is_running (status (applied older) (actor entry.0).0) ≡ false))
+
 unfoldable pub ComesLast : ℕ → List Entry → Type 0
 ComesLast t [] = Unit {0}
-ComesLast t (entry ∷ older) = ((eqb (actor entry.0).0 t ≡ true) ⊎ ((end_of (applied older) t ≡ None) ⊎ (is_running (status (applied older) (actor entry.0).0) ≡ false))) × ComesLast t older
+ComesLast t (entry ∷ older) = (IsBefore t entry older × OwnOpens entry older) × ComesLast t older
 
 -- who writes runs
 write_runs : (opening : Opening) (steps : List Step) (u : Txn) (y : Ob) (v : ℤ) (reply : Reply) → answer opening steps (Write u y v) ≡ Answer reply → takes_effect (Write u y v) reply ≡ true → is_running (status steps u.0) ≡ true
@@ -238,30 +296,32 @@ comes_rest t (entry ∷ newer) older last = comes_rest t newer older last.1
 
 -- one more step of a history in which nobody shares
 own_last_more : (opening : Opening) (t : ℕ) (step : Step) (steps : List Step) (reply : Reply) → answer opening steps step ≡ Answer reply → takes_effect step reply ≡ true → plain step ≡ true → AllPlain steps → IsOrderly steps
+    → ((x a : ℕ) (op : Op) → operates_on step x ≡ true → lists (openers steps x op) a ≡ true → a ≡ (actor step).0)
     → (eqb (actor step).0 t ≡ true) ⊎ ((end_of steps t ≡ None) ⊎ (is_running (status steps (actor step).0) ≡ false)) → OwnLast t (operations steps) → OwnLast t (operations (step ∷ steps))
-unfolding operations operated plain unrefused actor
-own_last_more opening t (Initiate u parent) steps reply is effect fine all orderly comes last = last
-own_last_more opening t (Begin u) steps reply is effect fine all orderly comes last = last
-own_last_more opening t (Read u y) steps reply is effect fine all orderly comes last = own_last_read t u.0 y.0 (operations steps) last
-own_last_more opening t (Write u y v) steps reply is effect fine all orderly comes last = own_last_write t u.0 y.0 v (operations steps) (go (eqb u.0 t) refl comes) last where
+unfolding operations operated plain unrefused actor operates_on
+own_last_more opening t (Initiate u parent) steps reply is effect fine all orderly opens comes last = last
+own_last_more opening t (Begin u) steps reply is effect fine all orderly opens comes last = last
+own_last_more opening t (Read u y) steps reply is effect fine all orderly opens comes last = own_last_read t u.0 y.0 (operations steps) last
+own_last_more opening t (Write u y v) steps reply is effect fine all orderly opens comes last = own_last_write t u.0 y.0 v (operations steps) (go (eqb u.0 t) refl comes) last where
   go : (own : Bool) → eqb u.0 t ≡ own → (eqb u.0 t ≡ true) ⊎ ((end_of steps t ≡ None) ⊎ (is_running (status steps u.0) ≡ false)) → (eqb u.0 t ≡ true) ⊎ (uses t y.0 (operations steps) ≡ false)
   go true e comes = inl e
   go false e (inl own) = inl own
-  go false e (inr (inl none)) = inr (unused steps all orderly t u.0 y.0 (eqb-flip t u.0 ∙ e) none (not_waiting (free steps u.0 y.0 Op'.Write) _ reply (effect_answer opening steps (Write u y v) reply is effect)))
+  go false e (inr (inl none)) = inr (unused steps all orderly t u.0 y.0 (eqb-flip t u.0 ∙ e) (λ n listed. opens y.0 n Op'.Write (eq-eqb y.0 y.0 refl) listed) none (not_waiting (free steps u.0 y.0 Op'.Write) _ reply (effect_answer opening steps (Write u y v) reply is effect)))
   go false e (inr (inr idle)) = absurd (false≢true (sym idle ∙ write_runs opening steps u y v reply is effect))
-own_last_more opening t (Add u y d) steps reply is effect fine all orderly comes last = own_last_add t u.0 y.0 d (operations steps) (go (eqb u.0 t) refl comes) last where
+own_last_more opening t (Add u y d) steps reply is effect fine all orderly opens comes last = own_last_add t u.0 y.0 d (operations steps) (go (eqb u.0 t) refl comes) last where
   go : (own : Bool) → eqb u.0 t ≡ own → (eqb u.0 t ≡ true) ⊎ ((end_of steps t ≡ None) ⊎ (is_running (status steps u.0) ≡ false)) → (eqb u.0 t ≡ true) ⊎ (claims t y.0 (operations steps) ≡ false)
   go true e comes = inl e
   go false e (inl own) = inl own
-  go false e (inr (inl none)) = inr (unclaimed steps all orderly t u.0 y.0 (eqb-flip t u.0 ∙ e) none (not_waiting (free steps u.0 y.0 Op'.Add) _ reply (effect_answer opening steps (Add u y d) reply is effect)))
+  go false e (inr (inl none)) = inr (unclaimed steps all orderly t u.0 y.0 (eqb-flip t u.0 ∙ e) (λ n listed. opens y.0 n Op'.Add (eq-eqb y.0 y.0 refl) listed) none (not_waiting (free steps u.0 y.0 Op'.Add) _ reply (effect_answer opening steps (Add u y d) reply is effect)))
   go false e (inr (inr idle)) = absurd (false≢true (sym idle ∙ add_runs opening steps u y d reply is effect))
-own_last_more opening t (Complete u) steps reply is effect fine all orderly comes last = last
-own_last_more opening t (Permit giver taker obs ops) steps reply is effect fine all orderly comes last = absurd (false≢true fine)
-own_last_more opening t (Delegate giver taker obs) steps reply is effect fine all orderly comes last = absurd (false≢true fine)
-own_last_more opening t (Depend k a b) steps reply is effect fine all orderly comes last = absurd (false≢true fine)
-own_last_more opening t (Commit u) steps reply is effect fine all orderly comes last = last
-own_last_more opening t (Abort u) steps reply is effect fine all orderly comes last = last
-own_last_more opening t (WaitFor u) steps reply is effect fine all orderly comes last = last
+own_last_more opening t (Complete u) steps reply is effect fine all orderly opens comes last = last
+own_last_more opening t (Permit giver taker obs ops) steps reply is effect fine all orderly opens comes last = absurd (false≢true fine)
+own_last_more opening t (Delegate giver taker obs) steps reply is effect fine all orderly opens comes last = absurd (false≢true fine)
+own_last_more opening t (Depend k a b) steps reply is effect fine all orderly opens comes last = absurd (false≢true fine)
+own_last_more opening t (Commit u) steps reply is effect fine all orderly opens comes last = last
+own_last_more opening t (Abort u) steps reply is effect fine all orderly opens comes last = last
+own_last_more opening t (WaitFor u) steps reply is effect fine all orderly opens comes last = last
+own_last_more opening t (PermitAny giver obs ops) steps reply is effect fine all orderly opens comes last = last
 
 pub own_last : (opening : Opening) (t : ℕ) (entries : List Entry) → IsLegal opening entries → AllSingle entries → ComesLast t entries → OwnLast t (operations (applied entries))
 unfolding IsLegal AllSingle applied ComesLast OwnLast own_of others_of operations value_after
@@ -269,7 +329,7 @@ own_last opening t [] legal single comes = λ x first. refl
 own_last opening t (entry ∷ older) legal single comes = go (takes_effect entry.0 entry.1) refl (own_last opening t older legal.1 single.1 comes.1) where
   go : (effect : Bool) → takes_effect entry.0 entry.1 ≡ effect → OwnLast t (operations (applied older)) → OwnLast t (operations (cond effect (entry.0 ∷ applied older) (applied older)))
   go true e last =
-      own_last_more opening t entry.0 (applied older) entry.1 legal.0 e (effect_plain opening (applied older) entry.0 entry.1 legal.0 e single.0) (legal_plain opening older legal.1 single.1) (legal_orderly opening older legal.1) comes.0 last
+      own_last_more opening t entry.0 (applied older) entry.1 legal.0 e (effect_plain opening (applied older) entry.0 entry.1 legal.0 e single.0) (legal_plain opening older legal.1 single.1) (legal_orderly opening older legal.1) (own_openers entry older (legal_plain opening older legal.1 single.1) comes.0.1 e) comes.0.0 last
   go false e last = last
 
 -- ---- others leave what t claims
@@ -279,19 +339,20 @@ unfoldable pub Left : ℕ → ℕ → ℤ → ℤ → List Operation → Type 0
 Left t x first left os = (claims t x os ≡ true) × (value_after always x first (others_of t os) ≡ left)
 
 left_more : (opening : Opening) (t x : ℕ) (first left : ℤ) (step : Step) (steps : List Step) (reply : Reply) → answer opening steps step ≡ Answer reply → takes_effect step reply ≡ true → plain step ≡ true → AllPlain steps → IsOrderly steps
+    → ((x a : ℕ) (op : Op) → operates_on step x ≡ true → lists (openers steps x op) a ≡ true → a ≡ (actor step).0)
     → (eqb (actor step).0 t ≡ true) ⊎ ((end_of steps t ≡ None) ⊎ (is_running (status steps (actor step).0) ≡ false)) → Left t x first left (operations steps) → Left t x first left (operations (step ∷ steps))
-unfolding operations operated plain unrefused Left claims is_add others_of value_after always after_use actor
-left_more opening t x first left (Initiate u parent) steps reply is effect fine all orderly last rest = rest
-left_more opening t x first left (Begin u) steps reply is effect fine all orderly last rest = rest
-left_more opening t x first left (Read u y) steps reply is effect fine all orderly last rest = (or_right ((eqb u.0 t && eqb y.0 x) && true) _ rest.0, go (eqb u.0 t) (eqb y.0 x) ∙ rest.1) where
+unfolding operations operated plain unrefused Left claims is_add others_of value_after always after_use actor operates_on
+left_more opening t x first left (Initiate u parent) steps reply is effect fine all orderly opens last rest = rest
+left_more opening t x first left (Begin u) steps reply is effect fine all orderly opens last rest = rest
+left_more opening t x first left (Read u y) steps reply is effect fine all orderly opens last rest = (or_right ((eqb u.0 t && eqb y.0 x) && true) _ rest.0, go (eqb u.0 t) (eqb y.0 x) ∙ rest.1) where
   go : (own here : Bool) → value_after always x first (cond (not own) (record { owner = u.0; object = y.0; use_of = reads } ∷ others_of t (operations steps)) (others_of t (operations steps))) ≡ value_after always x first (others_of t (operations steps))
   go true here = refl
   go false here = cond_same (eqb y.0 x && true) _
-left_more opening t x first left (Write u y v) steps reply is effect fine all orderly last rest = (or_right ((eqb u.0 t && eqb y.0 x) && true) _ rest.0, go (eqb u.0 t) refl (eqb y.0 x) refl ∙ rest.1) where
+left_more opening t x first left (Write u y v) steps reply is effect fine all orderly opens last rest = (or_right ((eqb u.0 t && eqb y.0 x) && true) _ rest.0, go (eqb u.0 t) refl (eqb y.0 x) refl ∙ rest.1) where
   never : eqb u.0 t ≡ false → eqb y.0 x ≡ true → (eqb u.0 t ≡ true) ⊎ ((end_of steps t ≡ None) ⊎ (is_running (status steps u.0) ≡ false)) → ⊥
   never apart here (inl own) = false≢true (sym apart ∙ own)
   never apart here (inr (inl none)) =
-      let clear = unused steps all orderly t u.0 y.0 (eqb-flip t u.0 ∙ apart) none (not_waiting (free steps u.0 y.0 Op'.Write) _ reply (effect_answer opening steps (Write u y v) reply is effect)) in
+      let clear = unused steps all orderly t u.0 y.0 (eqb-flip t u.0 ∙ apart) (λ n listed. opens y.0 n Op'.Write (eq-eqb y.0 y.0 refl) listed) none (not_waiting (free steps u.0 y.0 Op'.Write) _ reply (effect_answer opening steps (Write u y v) reply is effect)) in
       false≢true (sym (claims_uses t y.0 (operations steps) clear) ∙ ap (λ n. claims t n (operations steps)) (eqb-true y.0 x here) ∙ rest.0)
   never apart here (inr (inr idle)) = false≢true (sym idle ∙ write_runs opening steps u y v reply is effect)
 
@@ -300,11 +361,11 @@ left_more opening t x first left (Write u y v) steps reply is effect fine all or
   go true e here f = refl
   go false e true f = absurd (never e f last)
   go false e false f = rw (f) refl
-left_more opening t x first left (Add u y d) steps reply is effect fine all orderly last rest = (or_right ((eqb u.0 t && eqb y.0 x) && false) _ rest.0, go (eqb u.0 t) refl (eqb y.0 x) refl ∙ rest.1) where
+left_more opening t x first left (Add u y d) steps reply is effect fine all orderly opens last rest = (or_right ((eqb u.0 t && eqb y.0 x) && false) _ rest.0, go (eqb u.0 t) refl (eqb y.0 x) refl ∙ rest.1) where
   never : eqb u.0 t ≡ false → eqb y.0 x ≡ true → (eqb u.0 t ≡ true) ⊎ ((end_of steps t ≡ None) ⊎ (is_running (status steps u.0) ≡ false)) → ⊥
   never apart here (inl own) = false≢true (sym apart ∙ own)
   never apart here (inr (inl none)) =
-      let clear = unclaimed steps all orderly t u.0 y.0 (eqb-flip t u.0 ∙ apart) none (not_waiting (free steps u.0 y.0 Op'.Add) _ reply (effect_answer opening steps (Add u y d) reply is effect)) in
+      let clear = unclaimed steps all orderly t u.0 y.0 (eqb-flip t u.0 ∙ apart) (λ n listed. opens y.0 n Op'.Add (eq-eqb y.0 y.0 refl) listed) none (not_waiting (free steps u.0 y.0 Op'.Add) _ reply (effect_answer opening steps (Add u y d) reply is effect)) in
       false≢true (sym clear ∙ ap (λ n. claims t n (operations steps)) (eqb-true y.0 x here) ∙ rest.0)
   never apart here (inr (inr idle)) = false≢true (sym idle ∙ add_runs opening steps u y d reply is effect)
 
@@ -313,13 +374,14 @@ left_more opening t x first left (Add u y d) steps reply is effect fine all orde
   go true e here f = refl
   go false e true f = absurd (never e f last)
   go false e false f = rw (f) refl
-left_more opening t x first left (Complete u) steps reply is effect fine all orderly last rest = rest
-left_more opening t x first left (Permit giver taker obs ops) steps reply is effect fine all orderly last rest = absurd (false≢true fine)
-left_more opening t x first left (Delegate giver taker obs) steps reply is effect fine all orderly last rest = absurd (false≢true fine)
-left_more opening t x first left (Depend k a b) steps reply is effect fine all orderly last rest = absurd (false≢true fine)
-left_more opening t x first left (Commit u) steps reply is effect fine all orderly last rest = rest
-left_more opening t x first left (Abort u) steps reply is effect fine all orderly last rest = rest
-left_more opening t x first left (WaitFor u) steps reply is effect fine all orderly last rest = rest
+left_more opening t x first left (Complete u) steps reply is effect fine all orderly opens last rest = rest
+left_more opening t x first left (Permit giver taker obs ops) steps reply is effect fine all orderly opens last rest = absurd (false≢true fine)
+left_more opening t x first left (Delegate giver taker obs) steps reply is effect fine all orderly opens last rest = absurd (false≢true fine)
+left_more opening t x first left (Depend k a b) steps reply is effect fine all orderly opens last rest = absurd (false≢true fine)
+left_more opening t x first left (Commit u) steps reply is effect fine all orderly opens last rest = rest
+left_more opening t x first left (Abort u) steps reply is effect fine all orderly opens last rest = rest
+left_more opening t x first left (WaitFor u) steps reply is effect fine all orderly opens last rest = rest
+left_more opening t x first left (PermitAny giver obs ops) steps reply is effect fine all orderly opens last rest = rest
 
 pub others_stay : (opening : Opening) (t x : ℕ) (first left : ℤ) (newer base : List Entry) → IsLegal opening (newer ++ base) → AllSingle (newer ++ base) → ComesLast t (newer ++ base)
     → Left t x first left (operations (applied base)) → Left t x first left (operations (applied (newer ++ base)))
@@ -331,5 +393,5 @@ others_stay opening t x first left (entry ∷ newer) base legal single last hold
 
   go : (effect : Bool) → takes_effect entry.0 entry.1 ≡ effect → Left t x first left (operations (applied (newer ++ base))) → Left t x first left (operations (cond effect (entry.0 ∷ applied (newer ++ base)) (applied (newer ++ base))))
   go true e rest =
-      left_more opening t x first left entry.0 (applied older) entry.1 legal.0 e (effect_plain opening (applied older) entry.0 entry.1 legal.0 e single.0) (legal_plain opening older legal.1 single.1) (legal_orderly opening older legal.1) last.0 rest
+      left_more opening t x first left entry.0 (applied older) entry.1 legal.0 e (effect_plain opening (applied older) entry.0 entry.1 legal.0 e single.0) (legal_plain opening older legal.1 single.1) (legal_orderly opening older legal.1) (own_openers entry older (legal_plain opening older legal.1 single.1) last.0.1 e) last.0.0 rest
   go false e rest = rest

@@ -6,7 +6,7 @@ use Rattle.std.proofs.lemmas.Bool.{or_cases, or_left, or_right, or_parts, eqb-tr
 use Rattle.asset_names.specs.declared.statuses.End.{End}
 use Rattle.asset_names.specs.declared.statuses.End.TheVariants as End'
 use Rattle.asset_names.specs.declared.steps.Step.{Step}
-use Rattle.asset_names.specs.declared.steps.Step.TheVariants.{Initiate, Begin, Read, Write, Add, Complete, Permit, Delegate, Depend, Commit, Abort, WaitFor}
+use Rattle.asset_names.specs.declared.steps.Step.TheVariants.{Initiate, Begin, Read, Write, Add, Complete, Permit, PermitAny, Delegate, Depend, Commit, Abort, WaitFor}
 use Rattle.asset_names.specs.Arrows.{lists}
 use Rattle.asset_names.specs.Orderly.{Distinct}
 use Rattle.asset_names.specs.Steps.{Opening, Entry, takes_effect, applied, initiated}
@@ -18,7 +18,7 @@ use Rattle.asset_names.proofs.Common.{eqb-flip}
 use Rattle.asset_laws.specs.Serial.{committed_by, committed_names, entries_of}
 use Rattle.asset_laws.proofs.AlikeLemmas.{IsAlike, owned, live_alike}
 use Rattle.asset_laws.proofs.SerialPlain.{AllSingle, IsOwn, own_refl, own_trans, own_live, other_step, legal_plain}
-use Rattle.asset_laws.proofs.SerialValues.{always, own_of, others_of, value_append, NobodyAborted, value_always, OwnLast, own_last, ComesLast}
+use Rattle.asset_laws.proofs.SerialValues.{always, own_of, others_of, value_append, NobodyAborted, value_always, OwnLast, own_last, ComesLast, AllOwnOpens, own_opens_kept}
 use Rattle.asset_laws.proofs.SerialBlocks.{AreOthers, IsBlock, block, block_operations}
 use Rattle.asset_laws.proofs.SerialLegal.{but, but_alike, but_legal, named_committed, named_once, AllNamed, comes}
 
@@ -53,6 +53,7 @@ but_more n (Depend k a b) some all alike stays same = same
 but_more n (Commit t) some all alike stays same = but_named n t.0 (live some t.0) (live all t.0) (committed_names some) (committed_names all) (λ apart. live_alike (but n) some all alike t.0 stays) stays same
 but_more n (Abort t) some all alike stays same = same
 but_more n (WaitFor t) some all alike stays same = same
+but_more n (PermitAny giver obs ops) some all alike stays same = same
 
 but_gone : (t : ℕ) (step : Step) (all : List Step) → but t (actor step).0 ≡ false → filter (but t) (committed_names (step ∷ all)) ≡ filter (but t) (committed_names all)
 unfolding committed_names committed_by actor
@@ -71,6 +72,7 @@ but_gone n (Commit t) all gone = go (live all t.0) where
   go false = refl
 but_gone n (Abort t) all gone = refl
 but_gone n (WaitFor t) all gone = refl
+but_gone n (PermitAny giver obs ops) all gone = refl
 
 but_names : (t : ℕ) (entries : List Entry) → AllSingle entries → committed_names (applied (kept (but t) entries)) ≡ filter (but t) (committed_names (applied entries))
 unfolding AllSingle kept applied committed_names
@@ -204,10 +206,10 @@ unfolding but
 less t names different = rw (eq-eqb t t refl) (filter_absent t names different.0)
 
 -- t's block after the others
-step : (opening : Opening) (t : ℕ) (names : List ℕ) (entries : List Entry) → IsLegal opening entries → AllSingle entries → NobodyAborted (applied entries) → committed_names (applied entries) ≡ t ∷ names → AllNamed (t ∷ names) entries
+step : (opening : Opening) (t : ℕ) (names : List ℕ) (entries : List Entry) → IsLegal opening entries → AllSingle entries → AllOwnOpens entries → NobodyAborted (applied entries) → committed_names (applied entries) ≡ t ∷ names → AllNamed (t ∷ names) entries
     → IsSerial opening (kept (but t) entries) (flat_map (entries_of (kept (but t) entries)) names) names → IsSerial opening entries (flat_map (entries_of entries) (t ∷ names)) (t ∷ names)
 unfolding lists OwnLast was_aborted end_of
-step opening t names entries legal single unaborted is named before = rw (← same) record {
+step opening t names entries legal single opens unaborted is named before = rw (← same) record {
   legal = tail.legal;
   single = tail.single;
   values = values;
@@ -227,7 +229,7 @@ step opening t names entries legal single unaborted is named before = rw (← sa
     apart n h true e = absurd (false≢true (sym different ∙ ap (lists names) (sym (eqb-true n t e)) ∙ h))
 
   last : ComesLast t entries
-  last = comes opening t names entries legal single unaborted is named entries ([], refl)
+  last = comes opening t names entries legal single opens unaborted is named entries ([], refl)
 
   rest_legal : IsLegal opening (kept (but t) entries)
   rest_legal = but_legal opening t entries legal single last
@@ -277,13 +279,13 @@ step opening t names entries legal single unaborted is named before = rw (← sa
     | inr later ↦ own_trans n _ (applied others) (applied entries) (tail.rest n e) (own_trans n (applied others) (applied (kept (but t) entries)) (applied entries) (before.members n later) (but_own t n entries single e))
   ]
 
-pub serial_world : (opening : Opening) (names : List ℕ) (entries : List Entry) → IsLegal opening entries → AllSingle entries → NobodyAborted (applied entries) → committed_names (applied entries) ≡ names → AllNamed names entries
+pub serial_world : (opening : Opening) (names : List ℕ) (entries : List Entry) → IsLegal opening entries → AllSingle entries → AllOwnOpens entries → NobodyAborted (applied entries) → committed_names (applied entries) ≡ names → AllNamed names entries
     → IsSerial opening entries (flat_map (entries_of entries) names) names
 unfolding applied IsLegal AllSingle
-serial_world opening [] entries legal single unaborted is named = rw (nobody_left entries named) none where
+serial_world opening [] entries legal single opens unaborted is named = rw (nobody_left entries named) none where
   none : IsSerial opening [] [] []
   none = record { legal = tt; single = tt; values = λ x. refl; members = λ n h. own_refl n []; absent = λ n h. own_refl n [] }
-serial_world opening (t ∷ names) entries legal single unaborted is named =
-    step opening t names entries legal single unaborted is named (serial_world opening names (kept (but t) entries) (but_legal opening t entries legal single (comes opening t names entries legal single unaborted is named entries ([], refl)))
-    (single_but t entries single) (but_unaborted opening t entries single (but_legal opening t entries legal single (comes opening t names entries legal single unaborted is named entries ([], refl))) unaborted)
+serial_world opening (t ∷ names) entries legal single opens unaborted is named =
+    step opening t names entries legal single opens unaborted is named (serial_world opening names (kept (but t) entries) (but_legal opening t entries legal single (comes opening t names entries legal single opens unaborted is named entries ([], refl)))
+    (single_but t entries single) (own_opens_kept (but t) entries opens) (but_unaborted opening t entries single (but_legal opening t entries legal single (comes opening t names entries legal single opens unaborted is named entries ([], refl))) unaborted)
     (but_names t entries single ∙ ap (filter (but t)) is ∙ less t names (subst Distinct is (named_once (applied entries)))) (named_but t names entries named))

@@ -11,14 +11,14 @@ use Rattle.asset_names.specs.declared.sets.ObSet.{ObSet}
 use Rattle.asset_names.specs.declared.steps.Kind.{Kind}
 use Rattle.asset_names.specs.declared.steps.Kind.TheVariants.{Cd, Ad, Gc}
 use Rattle.asset_names.specs.declared.steps.Step.{Step}
-use Rattle.asset_names.specs.declared.steps.Step.TheVariants.{Initiate, Begin, Read, Write, Add, Complete, Permit, Delegate, Depend, Commit, Abort, WaitFor}
+use Rattle.asset_names.specs.declared.steps.Step.TheVariants.{Initiate, Begin, Read, Write, Add, Complete, Permit, PermitAny, Delegate, Depend, Commit, Abort, WaitFor}
 use Rattle.asset_names.specs.declared.statuses.End.TheVariants as End'
 use Rattle.asset_names.specs.InSet.{in_set}
 use Rattle.asset_names.specs.Arrows.{Arrow, lists, linked, among}
 use Rattle.asset_names.specs.Paths.{both_ways, closes_cycle, has_outside}
 use Rattle.asset_names.specs.Steps.{initiated, initiated_by, begun, begun_by, completed, completed_by}
 use Rattle.asset_names.specs.Endings.{dependencies, dependency_by, class_arrows, order_arrows, doom_arrows, ended_by, end_of, live, status, status_of, same_class, has_outside_source, would_cycle}
-use Rattle.asset_names.specs.Operations.{reads, writes, adds, Operation, op_of, conflict, handed_over, operated, operations, holds_object, copied, permits, permitted_by, allows, blocks, free}
+use Rattle.asset_names.specs.Operations.{reads, writes, adds, Operation, op_of, conflict, handed_over, operated, operations, holds_object, copied, permits, permitted_by, openers, opened_by, permits_along, reaches_opener, allows, blocks, free}
 use Rattle.asset_names.specs.Answers.{is_completed, class_completed, may_commit}
 use Rattle.asset_names.proofs.ListLemmas.{any_map}
 use Rattle.asset_laws.specs.Renumbered.{writing}
@@ -36,6 +36,7 @@ pub record IsSameShape (ones others : List Step) : Type 0 where
   pub dependencies_same : (kind : Kind) → dependencies kind ones ≡ dependencies kind others
   pub shapes_same : map shape (operations ones) ≡ map shape (operations others)
   pub permits_same : (x : ℕ) (op : Op) → permits ones x op ≡ permits others x op
+  pub openers_same : (x : ℕ) (op : Op) → openers ones x op ≡ openers others x op
 
 -- ---- what follows
 
@@ -81,11 +82,13 @@ holds_object_same ones others same t x = λ i. live_same ones others same i t &&
   held = shapes_any (λ (s : ℕ × ℕ × Op). eqb s.0 t && eqb s.1 x) (operations ones) (operations others) same.shapes_same
 
 pub free_same : (ones others : List Step) → IsSameShape ones others → (t x : ℕ) (op : Op) → free ones t x op ≡ free others t x op
-unfolding free blocks allows shape
-free_same ones others same t x op = ap not (shapes_any (blocked (live ones) (permits ones x op)) (operations ones) (operations others) same.shapes_same
-    ∙ (λ i. list_any (λ (o : Operation). blocked (live_same ones others same i) (same.permits_same x op i) (shape o)) (operations others))) where
-      blocked : (ℕ → Bool) → List Arrow → ℕ × ℕ × Op → Bool
-      blocked alive arrows s = eqb s.1 x && conflict s.2 op && not (eqb s.0 t) && alive s.0 && not (linked (among alive arrows) s.0 t)
+unfolding free blocks allows permits_along reaches_opener shape
+free_same ones others same t x op = ap not (shapes_any (blocked (live ones) (permits ones x op) (openers ones x op)) (operations ones) (operations others) same.shapes_same
+    ∙ (λ i. list_any (λ (o : Operation). blocked (live_same ones others same i) (same.permits_same x op i) (same.openers_same x op i) (shape o)) (operations others))) where
+      blocked : (ℕ → Bool) → List Arrow → List ℕ → ℕ × ℕ × Op → Bool
+      blocked alive arrows names s =
+          eqb s.1 x && conflict s.2 op && not (eqb s.0 t) && alive s.0
+          && not (linked (among alive arrows) s.0 t || alive t && list_any (λ a. alive a && linked (among alive arrows) s.0 a) names)
 
 -- ---- what one step adds
 
@@ -103,6 +106,7 @@ ended_same ones others same (Depend kind a b) n = refl
 ended_same ones others same (Commit t) n = λ i. cond (live_same ones others same i t.0 && linked (among (live_same ones others same i) (classes_same ones others same i)) t.0 n) (Some End'.Committed) None
 ended_same ones others same (Abort t) n = λ i. cond (live_same ones others same i t.0 && linked (among (live_same ones others same i) (dooms_same ones others same i)) t.0 n) (Some End'.Aborted) None
 ended_same ones others same (WaitFor t) n = refl
+ended_same ones others same (PermitAny giver obs ops) n = refl
 ended_same ones others same (Write t x v) n = refl
 ended_same ones others same (Add t x d) n = refl
 
@@ -119,8 +123,26 @@ permitted_same ones others same (Depend kind a b) x op = refl
 permitted_same ones others same (Commit t) x op = refl
 permitted_same ones others same (Abort t) x op = refl
 permitted_same ones others same (WaitFor t) x op = refl
+permitted_same ones others same (PermitAny giver obs ops) x op = refl
 permitted_same ones others same (Write t y v) x op = refl
 permitted_same ones others same (Add t y d) x op = refl
+
+-- whom it adds to the openers
+opened_same : (ones others : List Step) → IsSameShape ones others → (step : Step) (x : ℕ) (op : Op) → opened_by step ones (openers ones x op) x op ≡ opened_by step others (openers others x op) x op
+unfolding opened_by
+opened_same ones others same (Initiate t parent) x op = refl
+opened_same ones others same (Begin t) x op = refl
+opened_same ones others same (Read t y) x op = refl
+opened_same ones others same (Write t y v) x op = refl
+opened_same ones others same (Add t y d) x op = refl
+opened_same ones others same (Complete t) x op = refl
+opened_same ones others same (Permit giver taker obs ops) x op = refl
+opened_same ones others same (PermitAny giver obs ops) x op = refl
+opened_same ones others same (Delegate giver taker obs) x op = λ i. cond ((in_set obs x && holds_object_same ones others same giver.0 x i) && lists (same.openers_same x op i) giver.0) (taker.0 ∷ []) []
+opened_same ones others same (Depend kind a b) x op = refl
+opened_same ones others same (Commit t) x op = refl
+opened_same ones others same (Abort t) x op = refl
+opened_same ones others same (WaitFor t) x op = refl
 
 -- which operations it leaves
 handed_shape : ℕ → ℕ → ObSet → ℕ × ℕ × Op → ℕ × ℕ × Op
@@ -147,6 +169,7 @@ operated_same ones others same (Depend kind a b) = same.shapes_same
 operated_same ones others same (Commit t) = same.shapes_same
 operated_same ones others same (Abort t) = same.shapes_same
 operated_same ones others same (WaitFor t) = same.shapes_same
+operated_same ones others same (PermitAny giver obs ops) = same.shapes_same
 operated_same ones others same (Write t x v) = ap (λ shapes. (t.0, x.0, op_of (writes v)) ∷ shapes) same.shapes_same
 operated_same ones others same (Add t x d) = ap (λ shapes. (t.0, x.0, op_of (adds d)) ∷ shapes) same.shapes_same
 
@@ -154,7 +177,7 @@ operated_same ones others same (Add t x d) = ap (λ shapes. (t.0, x.0, op_of (ad
 
 -- the same step adds the same to both
 step_more : (ones others : List Step) → IsSameShape ones others → (step : Step) → IsSameShape (step ∷ ones) (step ∷ others)
-unfolding initiated begun completed dependencies permits end_of live
+unfolding initiated begun completed dependencies permits openers end_of live
 step_more ones others same step = record {
   initiated_same = ap (λ names. initiated_by step ++ names) same.initiated_same;
   begun_same = ap (λ names. begun_by step ++ names) same.begun_same;
@@ -163,11 +186,12 @@ step_more ones others same step = record {
   dependencies_same = λ kind. ap (λ arrows. dependency_by kind step ++ arrows) (same.dependencies_same kind);
   shapes_same = operated_same ones others same step;
   permits_same = λ x op. λ i. permitted_same ones others same step x op i ++ same.permits_same x op i;
+  openers_same = λ x op. λ i. opened_same ones others same step x op i ++ same.openers_same x op i;
 }
 
 -- a write of another value adds the same
 write_more : (ones others : List Step) → IsSameShape ones others → (t : Txn) (x : Ob) (v w : ℤ) → IsSameShape (Write t x v ∷ ones) (Write t x w ∷ others)
-unfolding initiated initiated_by begun begun_by completed completed_by dependencies dependency_by permits permitted_by end_of ended_by operations operated shape op_of
+unfolding initiated initiated_by begun begun_by completed completed_by dependencies dependency_by permits permitted_by openers opened_by end_of ended_by operations operated shape op_of
 write_more ones others same t x v w = record {
   initiated_same = same.initiated_same;
   begun_same = same.begun_same;
@@ -176,11 +200,12 @@ write_more ones others same t x v w = record {
   dependencies_same = λ kind. same.dependencies_same kind;
   shapes_same = ap (λ shapes. (t.0, x.0, Op'.Write) ∷ shapes) same.shapes_same;
   permits_same = λ y op. same.permits_same y op;
+  openers_same = λ y op. same.openers_same y op;
 }
 
 -- an add of another number adds the same
 add_more : (ones others : List Step) → IsSameShape ones others → (t : Txn) (x : Ob) (d e : ℤ) → IsSameShape (Add t x d ∷ ones) (Add t x e ∷ others)
-unfolding initiated initiated_by begun begun_by completed completed_by dependencies dependency_by permits permitted_by end_of ended_by operations operated shape op_of
+unfolding initiated initiated_by begun begun_by completed completed_by dependencies dependency_by permits permitted_by openers opened_by end_of ended_by operations operated shape op_of
 add_more ones others same t x d e = record {
   initiated_same = same.initiated_same;
   begun_same = same.begun_same;
@@ -189,6 +214,7 @@ add_more ones others same t x d e = record {
   dependencies_same = λ kind. same.dependencies_same kind;
   shapes_same = ap (λ shapes. (t.0, x.0, Op'.Add) ∷ shapes) same.shapes_same;
   permits_same = λ y op. same.permits_same y op;
+  openers_same = λ y op. same.openers_same y op;
 }
 
 pub same_more : (ones others : List Step) → IsSameShape ones others → (n : ℕ) (step : Step) → IsSameShape (writing n step ∷ ones) (step ∷ others)
@@ -205,3 +231,4 @@ same_more ones others same n (Depend kind a b) = step_more ones others same (Dep
 same_more ones others same n (Commit t) = step_more ones others same (Commit t)
 same_more ones others same n (Abort t) = step_more ones others same (Abort t)
 same_more ones others same n (WaitFor t) = step_more ones others same (WaitFor t)
+same_more ones others same n (PermitAny giver obs ops) = step_more ones others same (PermitAny giver obs ops)

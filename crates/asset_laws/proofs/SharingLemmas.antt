@@ -3,14 +3,14 @@ use Rattle.std.proofs.Common.{◌≡◌, ℕ, Bool, true, false, cond, not, eqb,
 use Rattle.std.specs.Prelude.{Option, is_none}
 use Rattle.std.specs.Option.{option_or}
 use Rattle.std.specs.List.{list_any}
-use Rattle.std.proofs.lemmas.Bool.{or_cases, or_left, or_right, and_parts, and_from, eqb-true, eqb-false, false≢true}
+use Rattle.std.proofs.lemmas.Bool.{or_cases, or_left, or_right, and_parts, and_from, eqb-true, eq-eqb, eqb-false, false≢true}
 use Rattle.asset_names.specs.declared.names.Txn.{Txn}
 use Rattle.asset_names.specs.declared.operations.Op.{Op}
 use Rattle.asset_names.specs.declared.operations.Op.TheVariants as Op'
 use Rattle.asset_names.specs.declared.sets.ObSet.{ObSet}
 use Rattle.asset_names.specs.declared.statuses.End.{End}
 use Rattle.asset_names.specs.declared.steps.Step.{Step}
-use Rattle.asset_names.specs.declared.steps.Step.TheVariants.{Initiate, Begin, Read, Write, Add, Complete, Permit, Delegate, Depend, Commit, Abort, WaitFor}
+use Rattle.asset_names.specs.declared.steps.Step.TheVariants.{Initiate, Begin, Read, Write, Add, Complete, Permit, PermitAny, Delegate, Depend, Commit, Abort, WaitFor}
 use Rattle.asset_names.specs.declared.replies.Refusal.{Refusal}
 use Rattle.asset_names.specs.declared.replies.Reply.{Reply}
 use Rattle.asset_names.specs.declared.replies.Outcome.TheVariants.{Answer}
@@ -18,8 +18,8 @@ use Rattle.asset_names.specs.Arrows.{lists}
 use Rattle.asset_names.specs.InSet.{in_set}
 use Rattle.asset_names.specs.Steps.{Opening, Entry, takes_effect, applied, initiated}
 use Rattle.asset_names.specs.Endings.{end_of, live}
-use Rattle.asset_names.specs.Groups.{actor, partner, same_group}
-use Rattle.asset_names.specs.Operations.{reads, writes, adds, Operation, op_of, same_op, conflict, operated, operations, holds, permits, free}
+use Rattle.asset_names.specs.Groups.{actor, partner, operates_on, same_group}
+use Rattle.asset_names.specs.Operations.{reads, writes, adds, Operation, op_of, same_op, conflict, operated, operations, holds, permits, openers, free}
 use Rattle.asset_names.specs.Answers.{rules_for, first_refusal, unrefused, outcome_unless, answer, IsLegal}
 use Rattle.asset_names.specs.Orderly.{IsOrderly}
 use Rattle.asset_names.proofs.EndLemmas.{live_parts}
@@ -29,7 +29,7 @@ use Rattle.asset_names.proofs.LegalLemmas.{effect_unrefused, delegate_live, lega
 use Rattle.asset_laws.proofs.KeepLinks.{Keeps}
 use Rattle.asset_laws.proofs.AlikeLemmas.{allows_keeps}
 use Rattle.asset_laws.proofs.AnswersAlike.{not_waiting}
-use Rattle.asset_laws.proofs.KeptLemmas.{RespectsEntries, respects_applied, kept_alike}
+use Rattle.asset_laws.proofs.KeptLemmas.{RespectsEntries, respects_applied, kept_alike, opens_to}
 use Rattle.asset_laws.proofs.GroupLemmas.{group_refl, keeps_respects, group_keeps}
 
 -- whoever hold an object by conflicting operations are kept together
@@ -86,7 +86,7 @@ held_before step steps orderly u x op alive held =
 -- Who holds after a step: one that held before it and is kept as this one is; or this one asked for the operation, and it
 -- was free.
 abbrev Holder : (ℕ → Bool) → Step → List Step → ℕ → ℕ → Op → Type 0
-Holder keep step steps u x op = ((w : ℕ) × (holds steps w x op ≡ true) × (keep w ≡ keep u)) ⊎ ((u ≡ (actor step).0) × (free steps u x op ≡ true))
+Holder keep step steps u x op = ((w : ℕ) × (holds steps w x op ≡ true) × (keep w ≡ keep u)) ⊎ ((u ≡ (actor step).0) × (free steps u x op ≡ true) × (operates_on step x ≡ true))
 
 -- a step that leaves the operations as they are
 holder_same : (keep : ℕ → Bool) (step : Step) (steps : List Step) → IsOrderly steps → operations (step ∷ steps) ≡ operations steps
@@ -98,10 +98,10 @@ holder_same keep step steps orderly same u x op h =
     inl (u, held_before step steps orderly u x op parts.0 held, refl)
 
 -- a step that adds an operation of its own, which was free
-holder_new : (keep : ℕ → Bool) (step : Step) (steps : List Step) → IsOrderly steps → (new : Operation) → operations (step ∷ steps) ≡ new ∷ operations steps → new.owner ≡ (actor step).0
+holder_new : (keep : ℕ → Bool) (step : Step) (steps : List Step) → IsOrderly steps → (new : Operation) → operations (step ∷ steps) ≡ new ∷ operations steps → new.owner ≡ (actor step).0 → operates_on step new.object ≡ true
     → free steps new.owner new.object (op_of new.use_of) ≡ true → (u x : ℕ) (op : Op) → holds (step ∷ steps) u x op ≡ true → Holder keep step steps u x op
 unfolding holds
-holder_new keep step steps orderly new more asks is_free u x op h =
+holder_new keep step steps orderly new more asks on is_free u x op h =
     let parts = and_parts (live (step ∷ steps) u) _ h in
     let held : list_any (held_by u x op) (new ∷ operations steps) ≡ true = ap (list_any (held_by u x op)) (sym more) ∙ parts.1 in
     elim (or_cases (held_by u x op new) _ held) [
@@ -109,7 +109,7 @@ holder_new keep step steps orderly new more asks is_free u x op h =
           let both = and_parts (eqb new.owner u && eqb new.object x) (same_op (op_of new.use_of) op) here in
           let names = and_parts (eqb new.owner u) (eqb new.object x) both.0 in
           let owner = eqb-true new.owner u names.0 in
-          inr (sym owner ∙ asks, rw (owner, eqb-true new.object x names.1, same_op-true (op_of new.use_of) op both.1) at is_free)
+          inr (sym owner ∙ asks, rw (owner, eqb-true new.object x names.1, same_op-true (op_of new.use_of) op both.1) at is_free, sym (ap (operates_on step) (eqb-true new.object x names.1)) ∙ on)
       | inr later ↦ inl (u, held_before step steps orderly u x op parts.0 later, refl)
     ]
 
@@ -127,15 +127,15 @@ holder_handed keep giver taker obs steps gives takes same u x op h = go (in_set 
 
 holder : (keep : ℕ → Bool) (opening : Opening) (step : Step) (steps : List Step) (reply : Reply) → answer opening steps step ≡ Answer reply → takes_effect step reply ≡ true → IsOrderly steps
     → keep (actor step).0 ≡ keep (partner step).0 → (u x : ℕ) (op : Op) → holds (step ∷ steps) u x op ≡ true → Holder keep step steps u x op
-unfolding operations operated op_of actor partner unrefused
+unfolding operations operated op_of actor partner unrefused operates_on
 holder keep opening (Initiate t parent) steps reply is effect orderly same = holder_same keep (Initiate t parent) steps orderly refl
 holder keep opening (Begin t) steps reply is effect orderly same = holder_same keep (Begin t) steps orderly refl
 holder keep opening (Read t y) steps reply is effect orderly same =
-    holder_new keep (Read t y) steps orderly (record { owner = t.0; object = y.0; use_of = reads }) refl refl (not_waiting (free steps t.0 y.0 Op'.Read) _ reply (effect_answer opening steps (Read t y) reply is effect))
+    holder_new keep (Read t y) steps orderly (record { owner = t.0; object = y.0; use_of = reads }) refl refl (eq-eqb y.0 y.0 refl) (not_waiting (free steps t.0 y.0 Op'.Read) _ reply (effect_answer opening steps (Read t y) reply is effect))
 holder keep opening (Write t y v) steps reply is effect orderly same =
-    holder_new keep (Write t y v) steps orderly (record { owner = t.0; object = y.0; use_of = writes v }) refl refl (not_waiting (free steps t.0 y.0 Op'.Write) _ reply (effect_answer opening steps (Write t y v) reply is effect))
+    holder_new keep (Write t y v) steps orderly (record { owner = t.0; object = y.0; use_of = writes v }) refl refl (eq-eqb y.0 y.0 refl) (not_waiting (free steps t.0 y.0 Op'.Write) _ reply (effect_answer opening steps (Write t y v) reply is effect))
 holder keep opening (Add t y d) steps reply is effect orderly same =
-    holder_new keep (Add t y d) steps orderly (record { owner = t.0; object = y.0; use_of = adds d }) refl refl (not_waiting (free steps t.0 y.0 Op'.Add) _ reply (effect_answer opening steps (Add t y d) reply is effect))
+    holder_new keep (Add t y d) steps orderly (record { owner = t.0; object = y.0; use_of = adds d }) refl refl (eq-eqb y.0 y.0 refl) (not_waiting (free steps t.0 y.0 Op'.Add) _ reply (effect_answer opening steps (Add t y d) reply is effect))
 holder keep opening (Complete t) steps reply is effect orderly same = holder_same keep (Complete t) steps orderly refl
 holder keep opening (Permit giver taker obs ops) steps reply is effect orderly same = holder_same keep (Permit giver taker obs ops) steps orderly refl
 holder keep opening (Delegate giver taker obs) steps reply is effect orderly same =
@@ -144,24 +144,26 @@ holder keep opening (Depend kind a b) steps reply is effect orderly same = holde
 holder keep opening (Commit t) steps reply is effect orderly same = holder_same keep (Commit t) steps orderly refl
 holder keep opening (Abort t) steps reply is effect orderly same = holder_same keep (Abort t) steps orderly refl
 holder keep opening (WaitFor t) steps reply is effect orderly same = holder_same keep (WaitFor t) steps orderly refl
+holder keep opening (PermitAny giver obs ops) steps reply is effect orderly same = holder_same keep (PermitAny giver obs ops) steps orderly refl
 
 -- ---- conflicting holders
 
 -- who asked for a free operation is kept as each conflicting holder is
-asked_together : (keep : ℕ → Bool) (steps : List Step) (t x : ℕ) (op other : Op) → Keeps keep (permits steps x op) → free steps t x op ≡ true → (w : ℕ) → holds steps w x other ≡ true → conflict other op ≡ true
+asked_together : (keep : ℕ → Bool) (steps : List Step) (t x : ℕ) (op other : Op) → Keeps keep (permits steps x op) → ((a : ℕ) → lists (openers steps x op) a ≡ true → keep a ≡ keep t) → free steps t x op ≡ true → (w : ℕ) → holds steps w x other ≡ true → conflict other op ≡ true
     → keep w ≡ keep t
-asked_together keep steps t x op other keeps is_free w held conflicts = go (eqb w t) refl where
+asked_together keep steps t x op other keeps opens is_free w held conflicts = go (eqb w t) refl where
   go : (same : Bool) → eqb w t ≡ same → keep w ≡ keep t
   go true e = ap keep (eqb-true w t e)
-  go false e = allows_keeps keep steps x op keeps w t (free_allowed steps t x op is_free w other held conflicts (eqb-false w t e))
+  go false e = allows_keeps keep steps x op keeps w t opens (free_allowed steps t x op is_free w other held conflicts (eqb-false w t e))
 
 together_more : (keep : ℕ → Bool) (step : Step) (steps : List Step) → ((x : ℕ) (op : Op) → Keeps keep (permits steps x op))
+    → ((x a : ℕ) (op : Op) → operates_on step x ≡ true → lists (openers steps x op) a ≡ true → keep a ≡ keep (actor step).0)
     → ((u x : ℕ) (op : Op) → holds (step ∷ steps) u x op ≡ true → Holder keep step steps u x op) → Together keep steps → Together keep (step ∷ steps)
-together_more keep step steps keeps holders before u t x op other one two conflicts = go (holders u x op one) (holders t x other two) where
+together_more keep step steps keeps opens holders before u t x op other one two conflicts = go (holders u x op one) (holders t x other two) where
   go : Holder keep step steps u x op → Holder keep step steps t x other → keep u ≡ keep t
   go (inl a) (inl b) = sym a.2 ∙ before a.0 b.0 x op other a.1 b.1 conflicts ∙ b.2
-  go (inl a) (inr b) = sym a.2 ∙ asked_together keep steps t x other op (keeps x other) b.1 a.0 a.1 conflicts
-  go (inr a) (inl b) = sym (asked_together keep steps u x op other (keeps x op) a.1 b.0 b.1 (conflict_flip op other conflicts)) ∙ b.2
+  go (inl a) (inr b) = sym a.2 ∙ asked_together keep steps t x other op (keeps x other) (λ n listed. opens x n other b.2 listed ∙ ap keep (sym b.0)) b.1 a.0 a.1 conflicts
+  go (inr a) (inl b) = sym (asked_together keep steps u x op other (keeps x op) (λ n listed. opens x n op a.2 listed ∙ ap keep (sym a.0)) a.1 b.0 b.1 (conflict_flip op other conflicts)) ∙ b.2
   go (inr a) (inr b) = ap keep (a.0 ∙ sym b.0)
 
 together : (keep : ℕ → Bool) (opening : Opening) (entries : List Entry) → IsLegal opening entries → RespectsEntries keep entries → Together keep (applied entries)
@@ -171,7 +173,8 @@ together keep opening (entry ∷ older) legal respects = go (takes_effect entry.
   go : (effect : Bool) → takes_effect entry.0 entry.1 ≡ effect → Together keep (applied older) → Together keep (cond effect (entry.0 ∷ applied older) (applied older))
   go true e before =
       together_more keep entry.0 (applied older) (kept_alike keep (applied older) (respects_applied keep older respects.1)).permits_keep
-      (holder keep opening entry.0 (applied older) entry.1 legal.0 e (legal_orderly opening older legal.1) respects.0) before
+      (opens_to keep entry older respects e)
+      (holder keep opening entry.0 (applied older) entry.1 legal.0 e (legal_orderly opening older legal.1) respects.0.0) before
   go false e before = before
 
 -- conflicting holders are of one group

@@ -12,15 +12,15 @@ use Rattle.asset_names.specs.declared.sets.ObSet.{ObSet}
 use Rattle.asset_names.specs.declared.statuses.End.{End}
 use Rattle.asset_names.specs.declared.statuses.End.TheVariants as End'
 use Rattle.asset_names.specs.declared.steps.Step.{Step}
-use Rattle.asset_names.specs.declared.steps.Step.TheVariants.{Initiate, Begin, Read, Write, Add, Complete, Permit, Delegate, Depend, Commit, Abort, WaitFor}
+use Rattle.asset_names.specs.declared.steps.Step.TheVariants.{Initiate, Begin, Read, Write, Add, Complete, Permit, PermitAny, Delegate, Depend, Commit, Abort, WaitFor}
 use Rattle.asset_names.specs.declared.replies.Reply.{Reply}
 use Rattle.asset_names.specs.declared.replies.Reply.TheVariants as Reply'
 use Rattle.asset_names.specs.Arrows.{lists}
 use Rattle.asset_names.specs.InSet.{in_set}
 use Rattle.asset_names.specs.Steps.{Opening, Entry, takes_effect, applied, initiated}
 use Rattle.asset_names.specs.Endings.{end_of, live}
-use Rattle.asset_names.specs.Operations.{Use, reads, writes, adds, Operation, op_of, conflict, handed_over, operated, operations, permits, allows, blocks, free, was_aborted, stands, opening_value, after_use, value_after, value}
-use Rattle.asset_names.specs.Groups.{actor, partner, same_group, was_committed}
+use Rattle.asset_names.specs.Operations.{Use, reads, writes, adds, Operation, op_of, conflict, handed_over, operated, operations, permits, openers, allows, blocks, free, was_aborted, stands, opening_value, after_use, value_after, value}
+use Rattle.asset_names.specs.Groups.{actor, partner, operates_on, same_group, was_committed}
 use Rattle.asset_names.specs.Sources.{Numbered, is_operation, is_write, is_add, operation_numbers, numbered, stands_on, adds_on, added_on, added, with_added, source, source_value, entry_at, IsAlone, IsWriteOf, IsAddOf, IsOwnOrCommitted, AreOwnOrCommitted}
 use Rattle.asset_names.specs.Answers.{unrefused, IsLegal}
 use Rattle.asset_names.proofs.LegalLemmas.{legal_orderly}
@@ -28,7 +28,8 @@ use Rattle.asset_laws.specs.Renumbered.{IsWrittenOn, AreAddedOn}
 use Rattle.asset_laws.proofs.KeepLinks.{Keeps}
 use Rattle.asset_laws.proofs.AlikeLemmas.{allows_keeps}
 use Rattle.asset_laws.proofs.AnswersAlike.{not_waiting}
-use Rattle.asset_laws.proofs.KeptLemmas.{RespectsEntries, respects_applied, kept_alike}
+use Rattle.asset_laws.proofs.KeptLemmas.{RespectsEntries, respects_applied, kept_alike, opens_to}
+use Rattle.asset_laws.proofs.OpenLemmas.{opened_all}
 use Rattle.asset_laws.proofs.GroupLemmas.{group_refl, group_keeps, keeps_respects, legal_rest, respects_rest}
 use Rattle.asset_laws.proofs.SharingLemmas.{effect_answer}
 
@@ -153,6 +154,7 @@ asked_more keep (Depend kind a b) reply older effect same asked = asked_later ke
 asked_more keep (Commit t) reply older effect same asked = asked_later keep (Commit t, reply) older _ asked
 asked_more keep (Abort t) reply older effect same asked = asked_later keep (Abort t, reply) older _ asked
 asked_more keep (WaitFor t) reply older effect same asked = asked_later keep (WaitFor t, reply) older _ asked
+asked_more keep (PermitAny giver obs ops) reply older effect same asked = asked_later keep (PermitAny giver obs ops, reply) older _ asked
 
 -- each numbered write is one that somebody asked for
 all_asked : (keep : ℕ → Bool) (entries : List Entry) → RespectsEntries keep entries → AllAsked keep entries (numbered entries)
@@ -161,16 +163,16 @@ all_asked keep [] respects = respects
 all_asked keep (entry ∷ older) respects = go (takes_effect entry.0 entry.1) refl (all_asked keep older respects.1) where
   go : (effect : Bool) → takes_effect entry.0 entry.1 ≡ effect → AllAsked keep older (numbered older)
       → AllAsked keep (entry ∷ older) (zip (cond (effect && is_operation entry.0) (length older ∷ operation_numbers older) (operation_numbers older)) (operations (cond effect (entry.0 ∷ applied older) (applied older))))
-  go true e asked = asked_more keep entry.0 entry.1 older e respects.0 asked
+  go true e asked = asked_more keep entry.0 entry.1 older e respects.0.0 asked
   go false e asked = asked_later keep entry older (numbered older) asked
 
 -- ---- the source of a read
 
 -- a live owner whose write or add does not block a kept reader is kept
-unblocked : (keep : ℕ → Bool) (steps : List Step) (t x : ℕ) → keep t ≡ true → Keeps keep (permits steps x Op'.Read) → (o : Operation) → eqb o.object x ≡ true → changes o.use_of ≡ true
+unblocked : (keep : ℕ → Bool) (steps : List Step) (t x : ℕ) → keep t ≡ true → Keeps keep (permits steps x Op'.Read) → ((a : ℕ) → lists (openers steps x Op'.Read) a ≡ true → keep a ≡ keep t) → (o : Operation) → eqb o.object x ≡ true → changes o.use_of ≡ true
     → blocks steps t x Op'.Read o ≡ false → live steps o.owner ≡ true → keep o.owner ≡ true
 unfolding blocks conflict changes op_of
-unblocked keep steps t x stays keeps o here changed clear alive = go (eqb o.owner t) refl (allows steps o.owner t x Op'.Read) refl where
+unblocked keep steps t x stays keeps opens o here changed clear alive = go (eqb o.owner t) refl (allows steps o.owner t x Op'.Read) refl where
   conflicts : (how : Use) → changes how ≡ true → conflict (op_of how) Op'.Read ≡ true
   conflicts (writes v) h = refl
   conflicts (adds d) h = refl
@@ -178,16 +180,16 @@ unblocked keep steps t x stays keeps o here changed clear alive = go (eqb o.owne
 
   go : (own : Bool) → eqb o.owner t ≡ own → (allowed : Bool) → allows steps o.owner t x Op'.Read ≡ allowed → keep o.owner ≡ true
   go true e allowed f = ap keep (eqb-true o.owner t e) ∙ stays
-  go false e true f = allows_keeps keep steps x Op'.Read keeps o.owner t f ∙ stays
+  go false e true f = allows_keeps keep steps x Op'.Read keeps o.owner t opens f ∙ stays
   go false e false f = absurd (false≢true (sym clear ∙ rw (here, conflicts o.use_of changed, e, alive, f) refl))
 
 -- a write or an add that stands is a kept one's, or a committed one's
-kept_or_committed : (keep : ℕ → Bool) (steps : List Step) (t x : ℕ) → keep t ≡ true → Keeps keep (permits steps x Op'.Read) → (o : Operation) → eqb o.object x ≡ true → changes o.use_of ≡ true
+kept_or_committed : (keep : ℕ → Bool) (steps : List Step) (t x : ℕ) → keep t ≡ true → Keeps keep (permits steps x Op'.Read) → ((a : ℕ) → lists (openers steps x Op'.Read) a ≡ true → keep a ≡ keep t) → (o : Operation) → eqb o.object x ≡ true → changes o.use_of ≡ true
     → stands steps o ≡ true → blocks steps t x Op'.Read o ≡ false → lists (initiated steps) o.owner ≡ true → (keep o.owner ≡ true) ⊎ (was_committed (end_of steps o.owner) ≡ true)
 unfolding stands was_aborted was_committed live
-kept_or_committed keep steps t x stays keeps o here changed stays_up clear known = go (end_of steps o.owner) refl where
+kept_or_committed keep steps t x stays keeps opens o here changed stays_up clear known = go (end_of steps o.owner) refl where
   go : (end : Option End) → end_of steps o.owner ≡ end → (keep o.owner ≡ true) ⊎ (was_committed (end_of steps o.owner) ≡ true)
-  go None e = inl (unblocked keep steps t x stays keeps o here changed clear (rw (known, e) refl))
+  go None e = inl (unblocked keep steps t x stays keeps opens o here changed clear (rw (known, e) refl))
   go (Some End'.Committed) e = inr (ap was_committed e)
   go (Some End'.Aborted) e = absurd (false≢true (ap (λ end. not (was_aborted end)) (sym e) ∙ stays_up))
 
@@ -195,12 +197,12 @@ same_asked : (u t : Txn) (y x : Ob) (how : Use) → u.0 ≡ t.0 → y.0 ≡ x.0 
 same_asked u t y x how p q = λ i. asked_for (record { 0 = p i }) (record { 0 = q i }) how
 
 -- an operation that a reader meets who is alone: the reader asked for it, or who is responsible for it has committed
-own_or : (entries : List Entry) (keep : ℕ → Bool) (t : Txn) (x : Ob) → keep t.0 ≡ true → ((n : ℕ) → keep n ≡ true → n ≡ t.0) → Keeps keep (permits (applied entries) x.0 Op'.Read)
+own_or : (entries : List Entry) (keep : ℕ → Bool) (t : Txn) (x : Ob) → keep t.0 ≡ true → ((n : ℕ) → keep n ≡ true → n ≡ t.0) → Keeps keep (permits (applied entries) x.0 Op'.Read) → ((a : ℕ) → lists (openers (applied entries) x.0 Op'.Read) a ≡ true → keep a ≡ keep t.0)
     → (found : Numbered) → IsAsked keep entries found → eqb found.1.object x.0 ≡ true → changes found.1.use_of ≡ true → stands (applied entries) found.1 ≡ true
     → blocks (applied entries) t.0 x.0 Op'.Read found.1 ≡ false → lists (initiated (applied entries)) found.1.owner ≡ true
     → (entry_at entries found.0 ≡ asked_for t x found.1.use_of) ⊎ (was_committed (end_of (applied entries) found.1.owner) ≡ true)
 unfolding IsAsked
-own_or entries keep t x stays alone keeps found asked here changed up clear known = by (kept_or_committed keep (applied entries) t.0 x.0 stays keeps found.1 here changed up clear known) where
+own_or entries keep t x stays alone keeps opens found asked here changed up clear known = by (kept_or_committed keep (applied entries) t.0 x.0 stays keeps opens found.1 here changed up clear known) where
   by : (keep found.1.owner ≡ true) ⊎ (was_committed (end_of (applied entries) found.1.owner) ≡ true) → (entry_at entries found.0 ≡ asked_for t x found.1.use_of) ⊎ (was_committed (end_of (applied entries) found.1.owner) ≡ true)
   by (inr committed) = inr committed
   by (inl own) = let asker = asked changed in
@@ -219,20 +221,20 @@ as_add entries t x m reads h is = absurd (false≢true h)
 as_add entries t x m (writes v) h is = absurd (false≢true h)
 
 -- the first write that stands, and the adds after it, of numbered operations that do not block a reader who is alone
-own_or_committed : (entries : List Entry) (keep : ℕ → Bool) (t : Txn) (x : Ob) → keep t.0 ≡ true → ((n : ℕ) → keep n ≡ true → n ≡ t.0) → Keeps keep (permits (applied entries) x.0 Op'.Read)
+own_or_committed : (entries : List Entry) (keep : ℕ → Bool) (t : Txn) (x : Ob) → keep t.0 ≡ true → ((n : ℕ) → keep n ≡ true → n ≡ t.0) → Keeps keep (permits (applied entries) x.0 Op'.Read) → ((a : ℕ) → lists (openers (applied entries) x.0 Op'.Read) a ≡ true → keep a ≡ keep t.0)
     → (numbers : List ℕ) (os : List Operation) → AllAsked keep entries (zip numbers os) → list_any (blocks (applied entries) t.0 x.0 Op'.Read) os ≡ false
     → ((n : ℕ) → list_any (λ (o : Operation). eqb o.owner n) os ≡ true → lists (initiated (applied entries)) n ≡ true)
     → IsOwnOrCommitted entries t x (find (stands_on entries x.0) (zip numbers os)) × AreOwnOrCommitted entries t x (added_on entries x.0 (zip numbers os))
 unfolding AllAsked stands_on adds_on added_on AreOwnOrCommitted
-own_or_committed entries keep t x stays alone keeps [] os asked clear known = (tt, tt)
-own_or_committed entries keep t x stays alone keeps (m ∷ numbers) [] asked clear known = (tt, tt)
-own_or_committed entries keep t x stays alone keeps (m ∷ numbers) (o ∷ os) asked clear known =
-    go (stands_on entries x.0 (m, o)) refl (adds_on entries x.0 (m, o)) refl (own_or_committed entries keep t x stays alone keeps numbers os asked.1 parts.1 (λ n owns. known n (or_right (eqb o.owner n) _ owns))) where
+own_or_committed entries keep t x stays alone keeps opens [] os asked clear known = (tt, tt)
+own_or_committed entries keep t x stays alone keeps opens (m ∷ numbers) [] asked clear known = (tt, tt)
+own_or_committed entries keep t x stays alone keeps opens (m ∷ numbers) (o ∷ os) asked clear known =
+    go (stands_on entries x.0 (m, o)) refl (adds_on entries x.0 (m, o)) refl (own_or_committed entries keep t x stays alone keeps opens numbers os asked.1 parts.1 (λ n owns. known n (or_right (eqb o.owner n) _ owns))) where
       parts : (blocks (applied entries) t.0 x.0 Op'.Read o ≡ false) × (list_any (blocks (applied entries) t.0 x.0 Op'.Read) os ≡ false)
       parts = or_parts (blocks (applied entries) t.0 x.0 Op'.Read o) _ clear
 
       one : eqb o.object x.0 ≡ true → changes o.use_of ≡ true → stands (applied entries) o ≡ true → (entry_at entries m ≡ asked_for t x o.use_of) ⊎ (was_committed (end_of (applied entries) o.owner) ≡ true)
-      one here changed up = own_or entries keep t x stays alone keeps (m, o) asked.0 here changed up parts.0 (known o.owner (or_left _ _ (eq-eqb o.owner o.owner refl)))
+      one here changed up = own_or entries keep t x stays alone keeps opens (m, o) asked.0 here changed up parts.0 (known o.owner (or_left _ _ (eq-eqb o.owner o.owner refl)))
 
       write : stands_on entries x.0 (m, o) ≡ true → IsOwnOrCommitted entries t x (Some (m, o))
       write e = by (one here.0 (write_changes o.use_of here.1) found.1) where
@@ -270,7 +272,7 @@ own_or_committed entries keep t x stays alone keeps (m ∷ numbers) (o ∷ os) a
 -- the source of a value that a transaction read which is alone in its group, and the adds in it
 pub alone_source : (opening : Opening) (newer older : List Entry) (t : Txn) (x : Ob) (v : ℤ) → IsLegal opening (newer ++ (Read t x, Reply'.Value v) ∷ older)
     → IsAlone (newer ++ (Read t x, Reply'.Value v) ∷ older) t.0 → IsOwnOrCommitted older t x (source older x.0) × AreOwnOrCommitted older t x (added older x.0)
-unfolding IsLegal RespectsEntries free numbered source added takes_effect unrefused
+unfolding IsLegal RespectsEntries free numbered source added takes_effect unrefused operates_on actor
 alone_source opening newer older t x v legal alone =
     let all = newer ++ (Read t x, Reply'.Value v) ∷ older in
     let keep = same_group (newer ++ (Read t x, Reply'.Value v) ∷ older) t.0 in
@@ -278,7 +280,7 @@ alone_source opening newer older t x v legal alone =
     let respects = respects_rest keep newer ((Read t x, Reply'.Value v) ∷ older) (keeps_respects keep all (group_keeps all t.0)) in
     let alike = kept_alike keep (applied older) (respects_applied keep older respects.1) in
     let is_free = not_waiting (free (applied older) t.0 x.0 Op'.Read) _ (Reply'.Value v) (effect_answer opening (applied older) (Read t x) (Reply'.Value v) here.0 refl) in
-    own_or_committed older keep t x (group_refl all t.0) alone (alike.permits_keep x.0 Op'.Read) (operation_numbers older) (operations (applied older))
+    own_or_committed older keep t x (group_refl all t.0) alone (alike.permits_keep x.0 Op'.Read) (λ a listed. opens_to keep (Read t x, Reply'.Value v) older respects refl x.0 a Op'.Read (eq-eqb x.0 x.0 refl) listed) (operation_numbers older) (operations (applied older))
     (all_asked keep older respects.1) (not-true _ is_free) (legal_orderly opening older here.1).owners_known
 
 -- ---- the value of a source
@@ -302,6 +304,7 @@ numbers_length (entry ∷ older) = go (takes_effect entry.0 entry.1) (numbers_le
   by (Commit t) same = same
   by (Abort t) same = same
   by (WaitFor t) same = same
+  by (PermitAny giver obs ops) same = same
 
   go : (effect : Bool) → length (operation_numbers older) ≡ length (operations (applied older))
       → length (cond (effect && is_operation entry.0) (length older ∷ operation_numbers older) (operation_numbers older)) ≡ length (operations (cond effect (entry.0 ∷ applied older) (applied older)))
@@ -346,7 +349,7 @@ source_gives opening entries x = value_found opening entries x (operation_number
 respects_all : (entries : List Entry) → RespectsEntries (λ n. true) entries
 unfolding RespectsEntries
 respects_all [] = tt
-respects_all (entry ∷ older) = (refl, respects_all older)
+respects_all (entry ∷ older) = ((refl, λ effect x on. opened_all x (applied older)), respects_all older)
 
 -- what is found was asked for, and stands
 found_asked : (keep : ℕ → Bool) (entries : List Entry) (x : ℕ) (ns : List Numbered) → AllAsked keep entries ns → (found : Numbered) → find (stands_on entries x) ns ≡ Some found

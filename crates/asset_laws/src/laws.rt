@@ -10,10 +10,17 @@ ghost use Rattle.asset_names.specs.declared.operations.Op.{Op};
 ghost use Rattle.asset_names.specs.Operations.{conflict, holds, allows, free};
 ghost use Rattle.asset_names.specs.Room.{fits, changes_status};
 ghost use Rattle.asset_names.specs.Arrows.{Arrow, linked, Chain};
+ghost use Rattle.asset_laws.specs.Textbook.{Allowing};
 
 /// Two names are linked exactly if a chain of arrows leads from the first to the second.
 pub fn linked_is_chain()
     ensures { (arrows : List Arrow) (a b : ℕ) → (linked arrows a b ≡ true) ↔ Chain arrows a b }
+{}
+
+/// A transaction allows another exactly if a chain of live ones leads from the first to the second, each of which permits the
+/// next, by name or as anybody.
+pub fn allowing_is_chain()
+    ensures { (steps : List Step) (u t x : ℕ) (op : Op) → (allows steps u t x op ≡ true) ↔ Allowing steps x op u t }
 {}
 
 /// A complete, a commit or an abort that changes a status finds room in every legal history whose entries and

@@ -17,5 +17,5 @@ pub use dependencies::{
     abort_takes_the_least, classes_are_never_split, commit_takes_the_class, no_cycle_stands,
     path_is_leading,
 };
-pub use laws::{endings_find_room, free_is_allowed_by_holders, linked_is_chain};
+pub use laws::{allowing_is_chain, endings_find_room, free_is_allowed_by_holders, linked_is_chain};
 pub use serial::committed_could_have_run_alone;

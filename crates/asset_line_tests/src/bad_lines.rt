@@ -105,6 +105,38 @@ fn too_many_operands(rt: HostRuntime) {
 }
 
 #[test]
+fn permits_to_anybody_that_are_none(rt: HostRuntime) {
+    expect_bad(
+        &rt,
+        &[
+            b"permit 7 any r all",
+            b"permit 7 any rwa all",
+            b"permit any 7 r 1",
+            b"permit any any r 1",
+            b"permit 7 any",
+            b"permit 7 any r",
+            b"permit 7 any r 1 2",
+            b"permit 7 any 8 r 1",
+            b"permit 7 any r 1,",
+            b"permit 7 any wr 1",
+            b"permit 7 any r 1,2,1",
+            b"permit 7 any r 1,2,3,4,5,6,7,8,9,10,11,12,13,14,15,16,17",
+            b"permit 7 an r 1",
+            b"permit 7 anyone r 1",
+            b"permit 7 ANY r 1",
+            b"permit 7 all r 1",
+            b"permit 7 any  r 1",
+            b"permit 07 any r 1",
+            b"delegate 7 any 1",
+            b"depend cd any 7",
+            b"depend cd 7 any",
+            b"begin any",
+            b"read any 1",
+        ],
+    );
+}
+
+#[test]
 fn spaces_elsewhere(rt: HostRuntime) {
     expect_bad(
         &rt,

@@ -14,7 +14,7 @@ const MOST: usize = 160;
 type Drawn = ArrayVec<u8, MOST>;
 
 /// Words that stand in lines, and words that look like them.
-const WORDS: [&[u8]; 52] = [
+const WORDS: [&[u8]; 53] = [
     b"object",
     b"initiate",
     b"begin",
@@ -50,6 +50,7 @@ const WORDS: [&[u8]; 52] = [
     b"wa",
     b"rwa",
     b"all",
+    b"any",
     b"1,2",
     b"2,1",
     b"1,1",
@@ -70,7 +71,7 @@ const WORDS: [&[u8]; 52] = [
 ];
 
 /// Lines that ask for something.
-const FORMS: [&[u8]; 18] = [
+const FORMS: [&[u8]; 19] = [
     b"object 1 100",
     b"object 2 -5",
     b"initiate 7",
@@ -83,6 +84,7 @@ const FORMS: [&[u8]; 18] = [
     b"complete 7",
     b"permit 7 8 rw 3,1,2",
     b"permit 7 8 r all",
+    b"permit 7 any rw 2,1",
     b"permit 7 8 rwa 1,2",
     b"delegate 7 8 10,20,30",
     b"depend ad 7 8",

@@ -216,6 +216,42 @@ fn permits_to_add_are_read(rt: HostRuntime) {
     );
 }
 
+/// Returns whether the line lends operations of 7 to anybody on the objects with these numbers.
+fn opens(line: &[u8], ops: Option<Ops>, numbers: &[u64]) -> bool {
+    match (ops, set_of(numbers)) {
+        (Some(ops), ObSet::Listed(obs)) => asks(
+            line,
+            &Step::PermitAny {
+                giver: Txn(7),
+                obs,
+                ops,
+            },
+        ),
+        _ => false,
+    }
+}
+
+#[test]
+fn permits_to_anybody_are_read(rt: HostRuntime) {
+    assert!(rt; opens(b"permit 7 any r 1", Ops::new(true, false), &[1]));
+    assert!(rt;
+        opens(
+            b"permit 7 any w 18446744073709551615",
+            Ops::new(false, true),
+            &[GREATEST]
+        )
+    );
+    assert!(rt; opens(b"permit 7 any rw 3,1,2", Ops::new(true, true), &[1, 2, 3]));
+    assert!(rt; opens(b"permit 7 any rwa 2,0", adding(true, true), &[0, 2]));
+    assert!(rt;
+        opens(
+            b"permit 7 any a 16,15,14,13,12,11,10,9,8,7,6,5,4,3,2,1",
+            adding(false, false),
+            &SIXTEEN
+        )
+    );
+}
+
 /// Returns whether the line hands the set of 7 over to 8.
 fn delegates(line: &[u8], obs: ObSet) -> bool {
     asks(

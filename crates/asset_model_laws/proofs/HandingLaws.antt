@@ -8,7 +8,7 @@ use Rattle.asset_names.specs.declared.sets.ObSet.{ObSet}
 use Rattle.asset_names.specs.declared.sets.ObSet.TheVariants.{All}
 use Rattle.asset_names.specs.declared.statuses.End.TheVariants as End'
 use Rattle.asset_names.specs.declared.steps.Step.{Step}
-use Rattle.asset_names.specs.declared.steps.Step.TheVariants.{Initiate, Begin, Read, Write, Add, Complete, Permit, Delegate, Depend, Commit, Abort, WaitFor}
+use Rattle.asset_names.specs.declared.steps.Step.TheVariants.{Initiate, Begin, Read, Write, Add, Complete, Permit, PermitAny, Delegate, Depend, Commit, Abort, WaitFor}
 use Rattle.asset_names.specs.declared.replies.Reply.{Reply}
 use Rattle.asset_names.specs.declared.replies.Reply.TheVariants as Reply'
 use Rattle.asset_names.specs.Steps.{Opening, Entry, takes_effect, applied}
@@ -44,6 +44,7 @@ kept_by steps (Write t x v) n u keeps is = owner_later _ (operations steps) n u.
 kept_by steps (Add t x v) n u keeps is = owner_later _ (operations steps) n u.0 is
 kept_by steps (Complete t) n u keeps is = is
 kept_by steps (Permit giver taker obs ops) n u keeps is = is
+kept_by steps (PermitAny giver obs ops) n u keeps is = is
 kept_by steps (Delegate giver taker obs) n u keeps is = handed_kept giver.0 taker.0 obs (operations steps) n u.0 (keeps giver taker obs refl) is
 kept_by steps (Depend kind a b) n u keeps is = is
 kept_by steps (Commit t) n u keeps is = is

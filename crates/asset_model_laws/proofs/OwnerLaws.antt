@@ -7,7 +7,7 @@ use Rattle.asset_names.specs.declared.sets.ObSet.{ObSet}
 use Rattle.asset_names.specs.declared.sets.ObSet.TheVariants.{All}
 use Rattle.asset_names.specs.declared.statuses.End.{End}
 use Rattle.asset_names.specs.declared.steps.Step.{Step}
-use Rattle.asset_names.specs.declared.steps.Step.TheVariants.{Initiate, Begin, Read, Write, Add, Complete, Permit, Delegate, Depend, Commit, Abort, WaitFor}
+use Rattle.asset_names.specs.declared.steps.Step.TheVariants.{Initiate, Begin, Read, Write, Add, Complete, Permit, PermitAny, Delegate, Depend, Commit, Abort, WaitFor}
 use Rattle.asset_names.specs.declared.replies.Reply.{Reply}
 use Rattle.asset_names.specs.declared.replies.Reply.TheVariants as Reply'
 use Rattle.asset_names.specs.declared.replies.Outcome.TheVariants.{Answer}
@@ -95,6 +95,7 @@ responsible_step opening steps (Write u x v) reply n t end is effect ended own =
 responsible_step opening steps (Add u x v) reply n t end is effect ended own = owner_later _ (operations steps) n t own
 responsible_step opening steps (Complete u) reply n t end is effect ended own = own
 responsible_step opening steps (Permit giver taker obs ops) reply n t end is effect ended own = own
+responsible_step opening steps (PermitAny giver obs ops) reply n t end is effect ended own = own
 responsible_step opening steps (Delegate giver taker obs) reply n t end is effect ended own =
     handed_kept giver.0 taker.0 obs (operations steps) n t (go (eqb giver.0 t) refl) own where
       go : (same : Bool) → eqb giver.0 t ≡ same → same ≡ false

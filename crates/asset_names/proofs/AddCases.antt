@@ -1,10 +1,8 @@
 -- Worked rows of adds, computed on the definitions.
-use Rattle.std.specs.Prelude.{pos, negsuc, true, false, List, [], ◌∷◌, ◌++◌, None, refl}
+use Rattle.std.specs.Prelude.{pos, negsuc, true, false, [], ◌∷◌, ◌++◌, None, refl}
 use Rattle.asset_names.specs.declared.sets.ObSet.TheVariants.{Listed}
-use Rattle.asset_names.specs.declared.steps.Step.{Step}
 use Rattle.asset_names.specs.declared.steps.Step.TheVariants.{Write, Add, Read, Complete, Permit, Commit, Abort, Initiate, Begin}
 use Rattle.asset_names.specs.declared.replies.Reply.TheVariants.{Value, Committed, Aborted}
-use Rattle.asset_names.specs.declared.replies.Outcome.{Outcome}
 use Rattle.asset_names.specs.declared.replies.Outcome.TheVariants.{Answer, Wait}
 use Rattle.asset_names.specs.Arrows.{lists, linked, among}
 use Rattle.asset_names.specs.Sets.{numbers}
@@ -12,10 +10,10 @@ use Rattle.asset_names.specs.InSet.{in_set}
 use Rattle.asset_names.specs.Paths.{both_ways, has_outside}
 use Rattle.asset_names.specs.Steps.{takes_effect, applied, initiated_by, initiated, begun_by, begun, completed_by, completed}
 use Rattle.asset_names.specs.Endings.{dependency_by, dependencies, class_arrows, order_arrows, doom_arrows, has_outside_source, ended_by, end_of, live, status_of, status, same_class}
-use Rattle.asset_names.specs.Operations.{op_of, conflict, operated, operations, permits, permitted_by, allows, blocks, free, was_aborted, stands, exists, opening_at, opening_value, after_use, value_after, value}
-use Rattle.asset_names.specs.OpSets.{OpSet, op_set}
+use Rattle.asset_names.specs.Operations.{op_of, conflict, operated, operations, permits, permitted_by, openers, opened_by, permits_along, reaches_opener, allows, blocks, free, was_aborted, stands, exists, opening_at, opening_value, after_use, value_after, value}
+use Rattle.asset_names.specs.OpSets.{op_set}
 use Rattle.asset_names.specs.Answers.{is_unknown, has_ended, is_running, is_completed, is_committed, has_begun, unknown, ended, not_running, taken, begun_before, too_late, no_object, one_name, missing_in, missing_rule, no_object_of, rules_for, first_refusal, may_commit, class_completed, commit_outcome, unrefused, outcome_unless, answer}
-use Rattle.asset_names.proofs.Cases.{t, x, Case, ok, refused}
+use Rattle.asset_names.proofs.Cases.{t, x, Case, ok}
 use Rattle.std.specs.Int.{int_wrap}
 use Rattle.asset_names.proofs.PermitCases.{three_run, six_ok}
 
@@ -44,5 +42,5 @@ WriteOverAdd = Case
     (ok ∷ ok ∷ ok ∷ ok ∷ ok ∷ ok ∷ ok ∷ Answer Aborted ∷ Answer (Value (pos 105)) ∷ [])
 
 add_rows : AddsTogether × AddWraps × AddOverWrite × WriteOverAdd
-unfolding answer rules_for unrefused first_refusal outcome_unless unknown ended not_running taken begun_before too_late no_object one_name missing_in missing_rule no_object_of is_unknown has_ended is_running is_completed is_committed has_begun may_commit class_completed commit_outcome free blocks allows permits permitted_by in_set numbers conflict op_of operations operated value value_after after_use was_aborted stands opening_value opening_at exists status status_of end_of ended_by live same_class has_outside_source has_outside class_arrows order_arrows doom_arrows dependencies dependency_by both_ways initiated begun completed initiated_by begun_by completed_by applied takes_effect among linked lists int_wrap
+unfolding answer rules_for unrefused first_refusal outcome_unless unknown ended not_running taken begun_before too_late no_object one_name missing_in missing_rule no_object_of is_unknown has_ended is_running is_completed is_committed has_begun may_commit class_completed commit_outcome free blocks allows openers opened_by permits_along reaches_opener permits permitted_by in_set numbers conflict op_of operations operated value value_after after_use was_aborted stands opening_value opening_at exists status status_of end_of ended_by live same_class has_outside_source has_outside class_arrows order_arrows doom_arrows dependencies dependency_by both_ways initiated begun completed initiated_by begun_by completed_by applied takes_effect among linked lists int_wrap
 add_rows = (refl, refl, refl, refl)

@@ -13,7 +13,7 @@ use Rattle.asset_names.specs.Arrows.{lists, linked, among}
 use Rattle.asset_names.specs.Paths.{both_ways, has_outside}
 use Rattle.asset_names.specs.Steps.{Opening, Entry, takes_effect, applied, initiated_by, initiated, begun_by, begun, completed_by, completed}
 use Rattle.asset_names.specs.Endings.{dependency_by, dependencies, class_arrows, order_arrows, doom_arrows, has_outside_source, ended_by, end_of, live, status_of, status, same_class}
-use Rattle.asset_names.specs.Operations.{op_of, conflict, operated, operations, permits, permitted_by, allows, blocks, free, was_aborted, stands, exists, opening_at, opening_value, after_use, value_after, value}
+use Rattle.asset_names.specs.Operations.{op_of, conflict, operated, operations, permits, permitted_by, openers, opened_by, permits_along, reaches_opener, allows, blocks, free, was_aborted, stands, exists, opening_at, opening_value, after_use, value_after, value}
 use Rattle.asset_names.specs.Room.{owed, owed_to, fits}
 use Rattle.asset_names.specs.Answers.{is_unknown, has_ended, is_running, is_completed, is_committed, has_begun, unknown, ended, not_running, taken, begun_before, too_late, no_object, rules_for, first_refusal, may_commit, class_completed, commit_outcome, wait_outcome, unrefused, outcome_unless, answer}
 
@@ -106,5 +106,5 @@ RoomIsOwed = (owed (Begin (t 7) ∷ Initiate (t 7) None ∷ []) ≡ 2) × (owed 
     × (owed (Abort (t 7) ∷ Initiate (t 8) None ∷ Begin (t 7) ∷ Initiate (t 7) None ∷ []) ≡ 2) × (fits (Initiate (t 7) None ∷ []) 1 3 ≡ true) × (fits (Initiate (t 7) None ∷ []) 1 2 ≡ false)
 
 rows : OneTransaction × WriterBlocks × ReadersShare × RefusalsInOrder × CommitWaits × ParentIsRecorded × ReaderWaitsForAbort × AfterTheEnd × CommittedUnderAborted × RoomIsOwed
-unfolding owed owed_to fits answer rules_for unrefused first_refusal outcome_unless unknown ended not_running taken begun_before too_late no_object is_unknown has_ended is_running is_completed is_committed has_begun may_commit class_completed commit_outcome wait_outcome free blocks allows permits conflict op_of operations operated permitted_by value value_after after_use was_aborted stands opening_value opening_at exists status status_of end_of ended_by live same_class has_outside_source has_outside class_arrows order_arrows doom_arrows dependencies dependency_by both_ways initiated begun completed initiated_by begun_by completed_by applied takes_effect among linked lists
+unfolding owed owed_to fits answer rules_for unrefused first_refusal outcome_unless unknown ended not_running taken begun_before too_late no_object is_unknown has_ended is_running is_completed is_committed has_begun may_commit class_completed commit_outcome wait_outcome free blocks openers opened_by permits_along reaches_opener allows permits conflict op_of operations operated permitted_by value value_after after_use was_aborted stands opening_value opening_at exists status status_of end_of ended_by live same_class has_outside_source has_outside class_arrows order_arrows doom_arrows dependencies dependency_by both_ways initiated begun completed initiated_by begun_by completed_by applied takes_effect among linked lists
 rows = (refl, refl, refl, refl, refl, refl, refl, refl, refl, (refl, refl, refl, refl, refl))

@@ -6,7 +6,7 @@ use Rattle.std.specs.List.{count_by}
 use Rattle.std.proofs.lemmas.Bool.{false≢true, and_parts, and_from, or_right}
 use Rattle.std.proofs.lemmas.List.Sums.{sum_by-cons, count_by-le-length}
 use Rattle.asset_names.specs.declared.steps.Step.{Step}
-use Rattle.asset_names.specs.declared.steps.Step.TheVariants.{Initiate, Begin, Read, Write, Add, Complete, Permit, Delegate, Depend, Commit, Abort, WaitFor}
+use Rattle.asset_names.specs.declared.steps.Step.TheVariants.{Initiate, Begin, Read, Write, Add, Complete, Permit, PermitAny, Delegate, Depend, Commit, Abort, WaitFor}
 use Rattle.asset_names.specs.declared.statuses.End.{End}
 use Rattle.asset_names.specs.declared.statuses.End.TheVariants as End'
 use Rattle.asset_names.specs.Arrows.{lists}
@@ -58,6 +58,7 @@ initiated_stays (Delegate giver taker obs) steps n h = h
 initiated_stays (Depend kind a b) steps n h = h
 initiated_stays (Commit t) steps n h = h
 initiated_stays (Abort t) steps n h = h
+initiated_stays (PermitAny giver obs ops) steps n h = h
 initiated_stays (WaitFor t) steps n h = h
 
 -- who has ended stays ended in the same way
@@ -100,6 +101,7 @@ ended_grows how step steps = le_trans (count_more _ (λ n. has_end how (status (
   go (Depend kind a b) f = le_refl _
   go (Commit t) f = le_refl _
   go (Abort t) f = le_refl _
+  go (PermitAny giver obs ops) f = le_refl _
   go (WaitFor t) f = le_refl _
 
 -- no more transactions are initiated than steps are asked, and no more steps take effect than there are entries
@@ -117,6 +119,7 @@ initiated_most (Delegate giver taker obs ∷ steps) = omega (arith, initiated_mo
 initiated_most (Depend kind a b ∷ steps) = omega (arith, initiated_most steps)
 initiated_most (Commit t ∷ steps) = omega (arith, initiated_most steps)
 initiated_most (Abort t ∷ steps) = omega (arith, initiated_most steps)
+initiated_most (PermitAny giver obs ops ∷ steps) = omega (arith, initiated_most steps)
 initiated_most (WaitFor t ∷ steps) = omega (arith, initiated_most steps)
 
 applied_most : (entries : List Entry) → length (applied entries) ≤ length entries

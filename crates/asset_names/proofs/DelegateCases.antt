@@ -11,7 +11,7 @@ use Rattle.asset_names.specs.InSet.{in_set}
 use Rattle.asset_names.specs.Paths.{both_ways, has_outside}
 use Rattle.asset_names.specs.Steps.{takes_effect, applied, initiated_by, initiated, begun_by, begun, completed_by, completed}
 use Rattle.asset_names.specs.Endings.{dependency_by, dependencies, class_arrows, order_arrows, doom_arrows, has_outside_source, ended_by, end_of, live, status_of, status, same_class}
-use Rattle.asset_names.specs.Operations.{op_of, conflict, handed_over, operated, operations, holds_object, copied, permits, permitted_by, allows, blocks, free, was_aborted, stands, exists, opening_at, opening_value, after_use, value_after, value}
+use Rattle.asset_names.specs.Operations.{op_of, conflict, handed_over, operated, operations, holds_object, copied, permits, permitted_by, openers, opened_by, permits_along, reaches_opener, allows, blocks, free, was_aborted, stands, exists, opening_at, opening_value, after_use, value_after, value}
 use Rattle.asset_names.specs.Answers.{is_unknown, has_ended, is_running, is_completed, is_committed, has_begun, unknown, ended, not_running, taken, begun_before, too_late, no_object, one_name, missing_in, missing_rule, no_object_of, rules_for, first_refusal, may_commit, class_completed, commit_outcome, wait_outcome, unrefused, outcome_unless, answer}
 use Rattle.asset_names.proofs.Cases.{t, x, Case, ok, refused}
 use Rattle.asset_names.proofs.PermitCases.{read_and_write, read_only, three_run, six_ok}
@@ -52,5 +52,5 @@ DelegationsRefused = Case
     (refused Same ∷ refused (Unknown (t 5)) ∷ ok ∷ refused (Unknown (t 6)) ∷ ok ∷ refused (NoObject (x 8)) ∷ ok ∷ Answer Aborted ∷ refused (Ended (t 6)) ∷ Answer Aborted ∷ refused (Ended (t 5)) ∷ [])
 
 delegation_rows : DelegatedWrite × DelegationMovesAndCopies × SelfPermitByDelegation × RefusalsWithDelegations × DelegationsRefused
-unfolding answer rules_for unrefused first_refusal outcome_unless unknown ended not_running taken begun_before too_late no_object one_name missing_in missing_rule no_object_of is_unknown has_ended is_running is_completed is_committed has_begun may_commit class_completed commit_outcome wait_outcome free blocks allows permits permitted_by holds_object copied in_set numbers conflict op_of handed_over operations operated value value_after after_use was_aborted stands opening_value opening_at exists status status_of end_of ended_by live same_class has_outside_source has_outside class_arrows order_arrows doom_arrows dependencies dependency_by both_ways initiated begun completed initiated_by begun_by completed_by applied takes_effect among linked lists
+unfolding answer rules_for unrefused first_refusal outcome_unless unknown ended not_running taken begun_before too_late no_object one_name missing_in missing_rule no_object_of is_unknown has_ended is_running is_completed is_committed has_begun may_commit class_completed commit_outcome wait_outcome free blocks openers opened_by permits_along reaches_opener allows permits permitted_by holds_object copied in_set numbers conflict op_of handed_over operations operated value value_after after_use was_aborted stands opening_value opening_at exists status status_of end_of ended_by live same_class has_outside_source has_outside class_arrows order_arrows doom_arrows dependencies dependency_by both_ways initiated begun completed initiated_by begun_by completed_by applied takes_effect among linked lists
 delegation_rows = (refl, refl, refl, refl, refl)

@@ -6,15 +6,16 @@ use Rattle.asset_names.specs.declared.names.Txn.{Txn}
 use Rattle.asset_names.specs.declared.names.Ob.{Ob}
 use Rattle.asset_names.specs.declared.operations.Op.{Op}
 use Rattle.asset_names.specs.declared.sets.ObSet.{ObSet}
+use Rattle.asset_names.specs.declared.sets.ObSet.TheVariants.{Listed}
 use Rattle.asset_names.specs.InSet.{in_set}
-use Rattle.asset_names.specs.Operations.{operations, operated, permits, permitted_by}
+use Rattle.asset_names.specs.Operations.{operations, operated, permits, permitted_by, openers, opened_by, holds_object}
 use Rattle.asset_names.specs.OpSets.{has_op, OpSet}
 use Rattle.std.specs.List.{list_any}
 use Rattle.asset_names.specs.declared.statuses.End.{End}
 use Rattle.asset_names.specs.declared.statuses.End.TheVariants as End'
 use Rattle.asset_names.specs.declared.steps.Kind.{Kind}
 use Rattle.asset_names.specs.declared.steps.Step.{Step}
-use Rattle.asset_names.specs.declared.steps.Step.TheVariants.{Initiate, Begin, Read, Write, Add, Complete, Permit, Delegate, Depend, Commit, Abort, WaitFor}
+use Rattle.asset_names.specs.declared.steps.Step.TheVariants.{Initiate, Begin, Read, Write, Add, Complete, Permit, PermitAny, Delegate, Depend, Commit, Abort, WaitFor}
 use Rattle.asset_names.specs.declared.replies.Refusal.{Refusal}
 use Rattle.asset_names.specs.declared.replies.Reply.{Reply}
 use Rattle.asset_names.specs.declared.replies.Reply.TheVariants as Reply'
@@ -47,6 +48,7 @@ effect_unrefused opening steps step reply is carried = go (first_refusal (rules_
   never (Commit t) refusal = refl
   never (Abort t) refusal = refl
   never (WaitFor t) refusal = refl
+  never (PermitAny giver obs ops) refusal = refl
 
   go : (first : Option Refusal) → first_refusal (rules_for opening steps step) ≡ first → outcome_unless first (unrefused opening steps step) ≡ Answer reply → first ≡ None
   go None e is = refl
@@ -198,9 +200,27 @@ permit_arrow giver taker obs ops steps x op u v h = go (in_set obs x && has_op o
     | inr before ↦ inr before
   ]
 
+-- an open permit takes effect only if its giver is live
+pub open_live : (opening : Opening) (steps : List Step) (giver : Txn) (obs : List Ob) (ops : OpSet) (reply : Reply) → answer opening steps (PermitAny giver obs ops) ≡ Answer reply → takes_effect (PermitAny giver obs ops) reply ≡ true
+    → live steps giver.0 ≡ true
+unfolding rules_for unknown ended
+open_live opening steps giver obs ops reply is carried =
+    let one = first_none (unknown steps giver) _ (effect_unrefused opening steps (PermitAny giver obs ops) reply is carried) in
+    let two = first_none (ended steps giver) _ one.1 in
+    live_unless steps giver.0 one.0 two.0
+
+-- a name that one more may be
+lone_or : (c : Bool) (m n : ℕ) (names : List ℕ) → lists (cond c (m ∷ []) [] ++ names) n ≡ true → (m ≡ n) ⊎ (lists names n ≡ true)
+unfolding lists
+lone_or false m n names h = inr h
+lone_or true m n names h = elim (or_cases (eqb m n) _ h) [
+  | inl here ↦ inl (eqb-true m n here)
+  | inr later ↦ inr later
+]
+
 -- one more step that took effect keeps a history orderly
 orderly_more : (opening : Opening) (step : Step) (steps : List Step) (reply : Reply) → answer opening steps step ≡ Answer reply → takes_effect step reply ≡ true → IsOrderly steps → IsOrderly (step ∷ steps)
-unfolding initiated initiated_by begun begun_by completed completed_by lists operations operated permits permitted_by dependencies dependency_by
+unfolding initiated initiated_by begun begun_by completed completed_by lists operations operated permits permitted_by openers opened_by dependencies dependency_by
 orderly_more opening (Initiate t parent) steps reply is carried orderly = record {
   different = (initiate_new opening steps t parent reply is carried, orderly.different);
   begun_known = λ n done. or_right (eqb t.0 n) _ (orderly.begun_known n done);
@@ -208,6 +228,7 @@ orderly_more opening (Initiate t parent) steps reply is carried orderly = record
   completed_known = λ n done. or_right (eqb t.0 n) _ (orderly.completed_known n done);
   permits_known = λ u v x op arrow. let both = orderly.permits_known u v x op arrow in (or_right (eqb t.0 u) _ both.0, or_right (eqb t.0 v) _ both.1);
   dependencies_known = λ kind u v arrow. let both = orderly.dependencies_known kind u v arrow in (or_right (eqb t.0 u) _ both.0, or_right (eqb t.0 v) _ both.1);
+  openers_known = λ n x op opens. or_right (eqb t.0 n) _ (orderly.openers_known n x op opens);
 }
 orderly_more opening (Begin t) steps reply is carried orderly = record {
   different = orderly.different;
@@ -219,6 +240,7 @@ orderly_more opening (Begin t) steps reply is carried orderly = record {
   completed_known = orderly.completed_known;
   permits_known = orderly.permits_known;
   dependencies_known = orderly.dependencies_known;
+  openers_known = orderly.openers_known;
 }
 orderly_more opening (Read t x) steps reply is carried orderly = record {
   different = orderly.different;
@@ -230,6 +252,7 @@ orderly_more opening (Read t x) steps reply is carried orderly = record {
   completed_known = orderly.completed_known;
   permits_known = orderly.permits_known;
   dependencies_known = orderly.dependencies_known;
+  openers_known = orderly.openers_known;
 }
 orderly_more opening (Write t x v) steps reply is carried orderly = record {
   different = orderly.different;
@@ -241,6 +264,7 @@ orderly_more opening (Write t x v) steps reply is carried orderly = record {
   completed_known = orderly.completed_known;
   permits_known = orderly.permits_known;
   dependencies_known = orderly.dependencies_known;
+  openers_known = orderly.openers_known;
 }
 orderly_more opening (Add t x d) steps reply is carried orderly = record {
   different = orderly.different;
@@ -252,6 +276,7 @@ orderly_more opening (Add t x d) steps reply is carried orderly = record {
   completed_known = orderly.completed_known;
   permits_known = orderly.permits_known;
   dependencies_known = orderly.dependencies_known;
+  openers_known = orderly.openers_known;
 }
 orderly_more opening (Complete t) steps reply is carried orderly = record {
   different = orderly.different;
@@ -263,6 +288,7 @@ orderly_more opening (Complete t) steps reply is carried orderly = record {
   ];
   permits_known = orderly.permits_known;
   dependencies_known = orderly.dependencies_known;
+  openers_known = orderly.openers_known;
 }
 orderly_more opening (Permit giver taker obs ops) steps reply is carried orderly = record {
   different = orderly.different;
@@ -276,6 +302,7 @@ orderly_more opening (Permit giver taker obs ops) steps reply is carried orderly
     | inr before ↦ orderly.permits_known u v x op before
   ];
   dependencies_known = orderly.dependencies_known;
+  openers_known = orderly.openers_known;
 }
 orderly_more opening (Delegate giver taker obs) steps reply is carried orderly =
     let both = delegate_live opening steps giver taker obs reply is carried in
@@ -292,6 +319,10 @@ orderly_more opening (Delegate giver taker obs) steps reply is carried orderly =
         | inr before ↦ orderly.permits_known u v x op before
       ];
       dependencies_known = orderly.dependencies_known;
+      openers_known = λ n x op opens. elim (lone_or ((in_set obs x && holds_object steps giver.0 x) && lists (openers steps x op) giver.0) taker.0 n (openers steps x op) opens) [
+        | inl here ↦ subst (λ m. lists (initiated steps) m ≡ true) here receiver
+        | inr before ↦ orderly.openers_known n x op before
+      ];
     }
 orderly_more opening (Depend kind a b) steps reply is carried orderly =
     let both = depend_live opening steps kind a b reply is carried in record {
@@ -304,15 +335,28 @@ orderly_more opening (Depend kind a b) steps reply is carried orderly =
         | inl here ↦ (subst (λ m. lists (initiated steps) m ≡ true) here.0 (live_known steps a.0 both.1), subst (λ m. lists (initiated steps) m ≡ true) here.1 (live_known steps b.0 both.2))
         | inr before ↦ orderly.dependencies_known k u v before
       ];
+      openers_known = orderly.openers_known;
     }
-orderly_more opening (Commit t) steps reply is carried orderly = record { different = orderly.different; begun_known = orderly.begun_known; owners_known = orderly.owners_known; completed_known = orderly.completed_known; permits_known = orderly.permits_known; dependencies_known = orderly.dependencies_known }
-orderly_more opening (Abort t) steps reply is carried orderly = record { different = orderly.different; begun_known = orderly.begun_known; owners_known = orderly.owners_known; completed_known = orderly.completed_known; permits_known = orderly.permits_known; dependencies_known = orderly.dependencies_known }
-orderly_more opening (WaitFor t) steps reply is carried orderly = record { different = orderly.different; begun_known = orderly.begun_known; owners_known = orderly.owners_known; completed_known = orderly.completed_known; permits_known = orderly.permits_known; dependencies_known = orderly.dependencies_known }
+orderly_more opening (Commit t) steps reply is carried orderly = record { different = orderly.different; begun_known = orderly.begun_known; owners_known = orderly.owners_known; completed_known = orderly.completed_known; permits_known = orderly.permits_known; dependencies_known = orderly.dependencies_known; openers_known = orderly.openers_known }
+orderly_more opening (Abort t) steps reply is carried orderly = record { different = orderly.different; begun_known = orderly.begun_known; owners_known = orderly.owners_known; completed_known = orderly.completed_known; permits_known = orderly.permits_known; dependencies_known = orderly.dependencies_known; openers_known = orderly.openers_known }
+orderly_more opening (WaitFor t) steps reply is carried orderly = record { different = orderly.different; begun_known = orderly.begun_known; owners_known = orderly.owners_known; completed_known = orderly.completed_known; permits_known = orderly.permits_known; dependencies_known = orderly.dependencies_known; openers_known = orderly.openers_known }
+orderly_more opening (PermitAny giver obs ops) steps reply is carried orderly = record {
+  different = orderly.different;
+  begun_known = orderly.begun_known;
+  owners_known = orderly.owners_known;
+  completed_known = orderly.completed_known;
+  permits_known = orderly.permits_known;
+  dependencies_known = orderly.dependencies_known;
+  openers_known = λ n x op opens. elim (lone_or (in_set (Listed obs) x && has_op ops op) giver.0 n (openers steps x op) opens) [
+    | inl here ↦ subst (λ m. lists (initiated steps) m ≡ true) here (live_known steps giver.0 (open_live opening steps giver obs ops reply is carried))
+    | inr before ↦ orderly.openers_known n x op before
+  ];
+}
 
 -- each legal history is orderly
 pub legal_orderly : (opening : Opening) (entries : List Entry) → IsLegal opening entries → IsOrderly (applied entries)
-unfolding IsLegal applied initiated begun completed lists operations permits dependencies has_arrow
-legal_orderly opening [] legal = record { different = tt; begun_known = λ n done. done; owners_known = λ n owns. owns; completed_known = λ n done. done; permits_known = λ u t x op arrow. absurd (false≢true arrow); dependencies_known = λ kind u v arrow. absurd (false≢true arrow) }
+unfolding IsLegal applied initiated begun completed lists operations permits openers dependencies has_arrow
+legal_orderly opening [] legal = record { different = tt; begun_known = λ n done. done; owners_known = λ n owns. owns; completed_known = λ n done. done; permits_known = λ u t x op arrow. absurd (false≢true arrow); dependencies_known = λ kind u v arrow. absurd (false≢true arrow); openers_known = λ n x op opens. absurd (false≢true opens) }
 legal_orderly opening (entry ∷ older) legal = go (takes_effect entry.0 entry.1) refl (legal_orderly opening older legal.1) where
   go : (carried : Bool) → takes_effect entry.0 entry.1 ≡ carried → IsOrderly (applied older) → IsOrderly (cond carried (entry.0 ∷ applied older) (applied older))
   go true e orderly = orderly_more opening entry.0 (applied older) entry.1 legal.0 e orderly
@@ -342,3 +386,4 @@ ended_initiated (Depend kind a b ∷ steps) n h = ended_initiated steps n (subst
 ended_initiated (Commit t ∷ steps) n h = ended_more End'.Committed steps (commits steps t.0) n (commits_live steps t.0 n) (ended_initiated steps n) (subst (λ (e : Option End). is_some e ≡ true) (commit_ends t steps n) h)
 ended_initiated (Abort t ∷ steps) n h = ended_more End'.Aborted steps (aborts steps t.0) n (aborts_live steps t.0 n) (ended_initiated steps n) (subst (λ (e : Option End). is_some e ≡ true) (abort_ends t steps n) h)
 ended_initiated (WaitFor t ∷ steps) n h = ended_initiated steps n (subst (λ (e : Option End). is_some e ≡ true) (option_or_none (end_of steps n)) h)
+ended_initiated (PermitAny giver obs ops ∷ steps) n h = ended_initiated steps n (subst (λ (e : Option End). is_some e ≡ true) (option_or_none (end_of steps n)) h)

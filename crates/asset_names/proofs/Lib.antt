@@ -4,6 +4,7 @@ pub mod DoubleLemmas
 pub mod PermitLemmas
 pub mod Cases
 pub mod PermitCases
+pub mod OpenCases
 pub mod DelegateCases
 pub mod DependCases
 pub mod AddCases

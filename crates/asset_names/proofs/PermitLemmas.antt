@@ -12,7 +12,7 @@ use Rattle.asset_names.specs.InSet.{in_set}
 use Rattle.asset_names.specs.Arrows.{Arrow, linked, among, has_arrow, Chain}
 use Rattle.asset_names.specs.Arrows.Chain.{stay, along}
 use Rattle.asset_names.specs.Endings.{live}
-use Rattle.asset_names.specs.Operations.{permits, permitted_by, allows}
+use Rattle.asset_names.specs.Operations.{permits, permitted_by, permits_along}
 use Rattle.asset_names.specs.OpSets.{has_op, OpSet}
 use Rattle.asset_names.proofs.Arrows.{linked_refl, linked_trans, chain_from_linked}
 
@@ -78,11 +78,11 @@ has_among test (arrow ∷ arrows) u v = go (eqb arrow.0 u) refl (eqb arrow.1 v) 
   go false e to f true k ih = rw (e, ih) refl
   go false e to f false k ih = ih
 
--- who allows whom, by any arrows that lead as the permits between live transactions do
-pub allows_linked : (steps : List Step) (x : ℕ) (op : Op) (arrows : List Arrow) → ((u v : ℕ) → has_arrow arrows u v ≡ (live steps u && live steps v && has_arrow (permits steps x op) u v))
-    → (u t : ℕ) → linked arrows u t ≡ allows steps u t x op
-unfolding allows
-allows_linked steps x op arrows same u t = linked_same arrows (among (live steps) (permits steps x op)) (λ u v. same u v ∙ sym (has_among (live steps) (permits steps x op) u v)) u t
+-- along permits, by any arrows that lead as the permits between live transactions do
+pub along_linked : (steps : List Step) (x : ℕ) (op : Op) (arrows : List Arrow) → ((u v : ℕ) → has_arrow arrows u v ≡ (live steps u && live steps v && has_arrow (permits steps x op) u v))
+    → (u t : ℕ) → linked arrows u t ≡ permits_along steps u t x op
+unfolding permits_along
+along_linked steps x op arrows same u t = linked_same arrows (among (live steps) (permits steps x op)) (λ u v. same u v ∙ sym (has_among (live steps) (permits steps x op) u v)) u t
 
 -- the arrows after a permit
 pub arrows_permitted : (giver taker : Txn) (obs : ObSet) (ops : OpSet) (steps : List Step) (x : ℕ) (op : Op) (u v : ℕ)

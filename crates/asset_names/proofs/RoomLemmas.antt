@@ -7,7 +7,7 @@ use Rattle.asset_names.specs.declared.statuses.End.{End}
 use Rattle.asset_names.specs.declared.statuses.End.TheVariants as End'
 use Rattle.asset_names.specs.declared.names.Txn.{Txn}
 use Rattle.asset_names.specs.declared.steps.Step.{Step}
-use Rattle.asset_names.specs.declared.steps.Step.TheVariants.{Initiate, Begin, Read, Write, Add, Complete, Permit, Delegate, Depend, Commit, Abort, WaitFor}
+use Rattle.asset_names.specs.declared.steps.Step.TheVariants.{Initiate, Begin, Read, Write, Add, Complete, Permit, PermitAny, Delegate, Depend, Commit, Abort, WaitFor}
 use Rattle.asset_names.specs.Arrows.{lists}
 use Rattle.asset_names.specs.Steps.{Opening, Entry, takes_effect, applied, initiated, initiated_by, begun, completed, completed_by}
 use Rattle.asset_names.specs.Endings.{ended_by, end_of, live, status, status_of}
@@ -89,6 +89,10 @@ owed_add t x d steps = sum_same _ _ (initiated steps) (λ n listed. same_parts s
 pub owed_permit : (giver taker : Txn) (obs : _) (ops : _) (steps : List Step) → owed (Permit giver taker obs ops ∷ steps) ≡ owed steps
 unfolding owed initiated initiated_by completed completed_by end_of ended_by
 owed_permit giver taker obs ops steps = sum_same _ _ (initiated steps) (λ n listed. same_parts steps (Permit giver taker obs ops ∷ steps) n refl refl (option_or_none (end_of steps n)))
+
+pub owed_open : (giver : Txn) (obs : _) (ops : _) (steps : List Step) → owed (PermitAny giver obs ops ∷ steps) ≡ owed steps
+unfolding owed initiated initiated_by completed completed_by end_of ended_by
+owed_open giver obs ops steps = sum_same _ _ (initiated steps) (λ n listed. same_parts steps (PermitAny giver obs ops ∷ steps) n refl refl (option_or_none (end_of steps n)))
 
 pub owed_delegate : (giver taker : Txn) (obs : _) (steps : List Step) → owed (Delegate giver taker obs ∷ steps) ≡ owed steps
 unfolding owed initiated initiated_by completed completed_by end_of ended_by
@@ -216,6 +220,7 @@ owed_new opening steps (Depend kind a b) reply orderly is effect new = absurd (f
 owed_new opening steps (Commit t) reply orderly is effect new = absurd (false≢true new)
 owed_new opening steps (Abort t) reply orderly is effect new = absurd (false≢true new)
 owed_new opening steps (WaitFor t) reply orderly is effect new = absurd (false≢true new)
+owed_new opening steps (PermitAny giver obs ops) reply orderly is effect new = absurd (false≢true new)
 
 -- a step that took effect, initiates nobody, and is no complete, commit or abort that changes a status leaves what is owed
 pub owed_stays : (steps : List Step) (step : Step) (reply : Reply) → IsOrderly steps → takes_effect step reply ≡ true → changes_status steps step reply ≡ false → initiates step ≡ false → owed (step ∷ steps) ≡ owed steps
@@ -236,6 +241,7 @@ owed_stays steps (Abort t) reply orderly effect quiet other =
     let dead : live steps t.0 ≡ false = sym (ap (λ b. b && live steps t.0) effect) ∙ quiet in
     owed_unended (aborts steps t.0) End'.Aborted steps (Abort t ∷ steps) refl refl (abort_ends t steps) (λ n. aborts_nobody steps t.0 n dead)
 owed_stays steps (WaitFor t) reply orderly effect quiet other = owed_wait t steps
+owed_stays steps (PermitAny giver obs ops) reply orderly effect quiet other = owed_open giver obs ops steps
 
 -- a step that changes a status for good frees at least the entry that it takes
 owed_less : (opening : Opening) (steps : List Step) (step : Step) (reply : Reply) → IsOrderly steps → answer opening steps step ≡ Answer reply → changes_status steps step reply ≡ true → (takes_effect step reply ≡ true) × (owed (step ∷ steps) + 1 ≤ owed steps)
@@ -256,6 +262,7 @@ owed_less opening steps (Permit giver taker obs ops) reply orderly is changes = 
 owed_less opening steps (Delegate giver taker obs) reply orderly is changes = absurd (false≢true changes)
 owed_less opening steps (Depend kind a b) reply orderly is changes = absurd (false≢true changes)
 owed_less opening steps (WaitFor t) reply orderly is changes = absurd (false≢true changes)
+owed_less opening steps (PermitAny giver obs ops) reply orderly is changes = absurd (false≢true changes)
 
 -- such a step finds room in each legal history that fits
 pub ending_fits : (opening : Opening) (entries : List Entry) (step : Step) (reply : Reply) (room : ℕ) → IsLegal opening entries → fits (applied entries) (length entries) room ≡ true

@@ -6,7 +6,7 @@ use Rattle.asset_names.specs.declared.names.Ob.{Ob}
 use Rattle.asset_names.specs.declared.operations.Op.TheVariants as Op'
 use Rattle.asset_names.specs.declared.steps.Kind.{Kind}
 use Rattle.asset_names.specs.declared.steps.Step.{Step}
-use Rattle.asset_names.specs.declared.steps.Step.TheVariants.{Initiate, Begin, Read, Write, Add, Complete, Permit, Delegate, Depend, Commit, Abort, WaitFor}
+use Rattle.asset_names.specs.declared.steps.Step.TheVariants.{Initiate, Begin, Read, Write, Add, Complete, Permit, PermitAny, Delegate, Depend, Commit, Abort, WaitFor}
 use Rattle.asset_names.specs.declared.sets.ObSet.{ObSet}
 use Rattle.asset_names.specs.declared.sets.ObSet.TheVariants.{All, Listed}
 use Rattle.asset_names.specs.Sets.{no_object_name}
@@ -115,6 +115,7 @@ rules_for opening steps (Write t x v) = unknown steps t ∷ ended steps t ∷ no
 rules_for opening steps (Add t x d) = unknown steps t ∷ ended steps t ∷ not_running steps t ∷ no_object opening x ∷ []
 rules_for opening steps (Complete t) = unknown steps t ∷ ended steps t ∷ not_running steps t ∷ []
 rules_for opening steps (Permit giver taker obs ops) = one_name giver taker ∷ unknown steps giver ∷ unknown steps taker ∷ ended steps giver ∷ ended steps taker ∷ no_object_of opening obs ∷ []
+rules_for opening steps (PermitAny giver obs ops) = unknown steps giver ∷ ended steps giver ∷ no_object_of opening (Listed obs) ∷ []
 rules_for opening steps (Delegate giver taker obs) = one_name giver taker ∷ unknown steps giver ∷ unknown steps taker ∷ ended steps giver ∷ ended steps taker ∷ no_object_of opening obs ∷ []
 rules_for opening steps (Depend kind a b) = one_name a b ∷ unknown steps a ∷ unknown steps b ∷ ended steps a ∷ ended steps b ∷ cycle steps kind a b ∷ []
 rules_for opening steps (Commit t) = unknown steps t ∷ []
@@ -157,6 +158,7 @@ unrefused opening steps (Write t x v) = cond (free steps t.0 x.0 Op'.Write) (Ans
 unrefused opening steps (Add t x d) = cond (free steps t.0 x.0 Op'.Add) (Answer Reply'.Done) Wait
 unrefused opening steps (Complete t) = Answer Reply'.Done
 unrefused opening steps (Permit giver taker obs ops) = Answer Reply'.Done
+unrefused opening steps (PermitAny giver obs ops) = Answer Reply'.Done
 unrefused opening steps (Delegate giver taker obs) = Answer Reply'.Done
 unrefused opening steps (Depend kind a b) = Answer Reply'.Done
 unrefused opening steps (Commit t) = commit_outcome (status steps t.0) (may_commit steps t.0)
@@ -178,6 +180,7 @@ takes_memory (Read t x) = true
 takes_memory (Write t x v) = true
 takes_memory (Add t x d) = true
 takes_memory (Permit giver taker obs ops) = true
+takes_memory (PermitAny giver obs ops) = true
 takes_memory (Delegate giver taker obs) = true
 takes_memory (Depend kind a b) = true
 takes_memory step = false

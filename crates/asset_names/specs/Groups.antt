@@ -1,14 +1,15 @@
 -- Groups of transactions that shared something or asked to, which of them are dead, and a history without dead groups.
-use Rattle.std.specs.Prelude.{ℕ, Bool, true, false, not, ◌&&◌, List, [], ◌∷◌, ◌++◌, filter, flat_map, Option, Some}
+use Rattle.std.specs.Prelude.{ℕ, Bool, true, false, cond, not, ◌==◌, ◌&&◌, ◌||◌, map, List, [], ◌∷◌, ◌++◌, filter, flat_map, Option, Some}
 use Rattle.std.specs.List.{list_any}
 use Rattle.asset_names.specs.declared.names.Txn.{Txn}
+use Rattle.asset_names.specs.declared.names.Ob.{Ob}
 use Rattle.asset_names.specs.declared.steps.Step.{Step}
-use Rattle.asset_names.specs.declared.steps.Step.TheVariants.{Initiate, Begin, Read, Write, Add, Complete, Permit, Delegate, Depend, Commit, Abort, WaitFor}
+use Rattle.asset_names.specs.declared.steps.Step.TheVariants.{Initiate, Begin, Read, Write, Add, Complete, Permit, PermitAny, Delegate, Depend, Commit, Abort, WaitFor}
 use Rattle.asset_names.specs.declared.statuses.End.{End}
 use Rattle.asset_names.specs.declared.statuses.End.TheVariants as End'
 use Rattle.asset_names.specs.Arrows.{Arrow, linked}
 use Rattle.asset_names.specs.Paths.{both_ways}
-use Rattle.asset_names.specs.Steps.{Entry, applied}
+use Rattle.asset_names.specs.Steps.{Entry, takes_effect, applied}
 use Rattle.asset_names.specs.Endings.{end_of}
 
 -- the transaction that a step acts on, the first of two; a parent is not acted on
@@ -20,6 +21,7 @@ actor (Write t x v) = t
 actor (Add t x d) = t
 actor (Complete t) = t
 actor (Permit giver taker obs ops) = giver
+actor (PermitAny giver obs ops) = giver
 actor (Delegate giver taker obs) = giver
 actor (Depend kind a b) = a
 actor (Commit t) = t
@@ -33,9 +35,27 @@ partner (Delegate giver taker obs) = taker
 partner (Depend kind a b) = b
 partner step = actor step
 
--- the joins that an entry makes, refused or not, over the older entries: of the two transactions that its step acts on
+-- whether a step asks for an operation on x
+unfoldable pub operates_on : Step → ℕ → Bool
+operates_on (Read t y) x = y.0 == x
+operates_on (Write t y v) x = y.0 == x
+operates_on (Add t y d) x = y.0 == x
+operates_on step x = false
+
+-- whether an open permit opens an object that another step operates on
+unfoldable pub opens_for : Step → Step → Bool
+opens_for (PermitAny giver obs ops) step = list_any (λ (y : Ob). operates_on step y.0) obs
+opens_for other step = false
+
+-- the joins of a step with older ones, all of which took effect: an open permit joins its giver with each transaction that
+-- operates on an object that it opens, earlier or later
+unfoldable pub met : Step → List Step → List Arrow
+met step older = map (λ (other : Step). ((actor step).0, (actor other).0)) (filter (λ (other : Step). opens_for step other || opens_for other step) older)
+
+-- the joins that an entry makes over the older entries: of the two transactions that its step acts on, refused or not; and of
+-- those who meet by an open permit
 unfoldable pub joined_by : Entry → List Entry → List Arrow
-joined_by entry older = ((actor entry.0).0, (partner entry.0).0) ∷ []
+joined_by entry older = ((actor entry.0).0, (partner entry.0).0) ∷ cond (takes_effect entry.0 entry.1) (met entry.0 (applied older)) []
 
 -- all joins, those of the newest entry first
 unfoldable pub joins : List Entry → List Arrow

@@ -1,14 +1,15 @@
 -- Operations, who is responsible for them, who holds what, permits and who allows whom, and the value of an object.
-use Rattle.std.specs.Prelude.{ℕ, ℤ, pos, ◌+ℤ◌, Bool, true, false, cond, not, ◌==◌, ◌&&◌, List, [], ◌∷◌, ◌++◌, map, filter, Option, Some, None, is_some, unwrap_or, option_map, find}
+use Rattle.std.specs.Prelude.{ℕ, ℤ, pos, ◌+ℤ◌, Bool, true, false, cond, not, ◌==◌, ◌&&◌, ◌||◌, List, [], ◌∷◌, ◌++◌, map, filter, Option, Some, None, is_some, unwrap_or, option_map, find}
 use Rattle.std.specs.List.{list_any}
 use Rattle.std.specs.Int.{w64, int_wrap}
 use Rattle.asset_names.specs.declared.names.Ob.{Ob}
 use Rattle.asset_names.specs.declared.operations.Op.{Op}
 use Rattle.asset_names.specs.declared.operations.Op.TheVariants as Op'
 use Rattle.asset_names.specs.declared.sets.ObSet.{ObSet}
+use Rattle.asset_names.specs.declared.sets.ObSet.TheVariants.{Listed}
 use Rattle.asset_names.specs.declared.steps.Step.{Step}
-use Rattle.asset_names.specs.declared.steps.Step.TheVariants.{Read, Write, Add, Permit, Delegate}
-use Rattle.asset_names.specs.Arrows.{Arrow, linked, among}
+use Rattle.asset_names.specs.declared.steps.Step.TheVariants.{Read, Write, Add, Permit, PermitAny, Delegate}
+use Rattle.asset_names.specs.Arrows.{Arrow, lists, linked, among}
 use Rattle.asset_names.specs.OpSets.{has_op}
 use Rattle.asset_names.specs.InSet.{in_set}
 use Rattle.asset_names.specs.Steps.{Opening}
@@ -89,10 +90,30 @@ unfoldable pub permits : List Step → ℕ → Op → List Arrow
 permits [] x op = []
 permits (step ∷ older) x op = permitted_by step older (permits older x op) x op ++ permits older x op
 
--- u allows t to do op on x: they are one, or a chain of live transactions leads from u to t, each of which
--- permits it to the next
+-- the names that a step adds to those who permit op on x to anybody, over the steps before it and their names: an open
+-- permit adds its giver, if it covers op on x; a delegation adds its taker, if the giver is one of them and hands over x
+unfoldable pub opened_by : Step → List Step → List ℕ → ℕ → Op → List ℕ
+opened_by (PermitAny giver obs ops) older names x op = cond (in_set (Listed obs) x && has_op ops op) (giver.0 ∷ []) []
+opened_by (Delegate giver taker obs) older names x op = cond ((in_set obs x && holds_object older giver.0 x) && lists names giver.0) (taker.0 ∷ []) []
+opened_by step older names x op = []
+
+-- those who permit op on x to anybody
+unfoldable pub openers : List Step → ℕ → Op → List ℕ
+openers [] x op = []
+openers (step ∷ older) x op = opened_by step older (openers older x op) x op ++ openers older x op
+
+-- a chain of live transactions leads from u to t, each of which permits op on x to the next; or they are one
+unfoldable pub permits_along : List Step → ℕ → ℕ → ℕ → Op → Bool
+permits_along steps u t x op = linked (among (live steps) (permits steps x op)) u t
+
+-- a chain of live transactions leads from u to one who permits op on x to anybody
+unfoldable pub reaches_opener : List Step → ℕ → ℕ → Op → Bool
+reaches_opener steps u x op = list_any (λ a. live steps a && permits_along steps u a x op) (openers steps x op)
+
+-- u allows t to do op on x: they are one, or a chain of live transactions leads from u to t, or t is live and such a chain
+-- leads to one who permits it to anybody
 unfoldable pub allows : List Step → ℕ → ℕ → ℕ → Op → Bool
-allows steps u t x op = linked (among (live steps) (permits steps x op)) u t
+allows steps u t x op = permits_along steps u t x op || live steps t && reaches_opener steps u x op
 
 -- the operation blocks t from doing op on x: it is another live transaction's, conflicts with op, and its owner
 -- does not allow t to do op on x

@@ -7,7 +7,7 @@ use Rattle.asset_names.specs.declared.steps.Step.TheVariants.{Read, Write, Add}
 use Rattle.asset_names.specs.declared.replies.Reply.TheVariants as Reply'
 use Rattle.asset_names.specs.Steps.{Opening, Entry, takes_effect, applied}
 use Rattle.asset_names.specs.Endings.{end_of}
-use Rattle.asset_names.specs.Operations.{Use, reads, writes, adds, Operation, operations, stands, opening_value, after_use}
+use Rattle.asset_names.specs.Operations.{Use, writes, adds, Operation, operations, stands, opening_value, after_use}
 use Rattle.asset_names.specs.Groups.{same_group, was_committed}
 
 -- an operation, and the number of its entry, from 0

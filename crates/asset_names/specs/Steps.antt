@@ -3,7 +3,7 @@ use Rattle.std.specs.Prelude.{ℕ, ℤ, pos, Bool, true, false, cond, ◌==◌, 
 use Rattle.asset_names.specs.declared.names.Txn.{Txn}
 use Rattle.asset_names.specs.declared.names.Ob.{Ob}
 use Rattle.asset_names.specs.declared.steps.Step.{Step}
-use Rattle.asset_names.specs.declared.steps.Step.TheVariants.{Initiate, Begin, Read, Write, Add, Complete, Permit, Delegate, Depend, Commit, Abort}
+use Rattle.asset_names.specs.declared.steps.Step.TheVariants.{Initiate, Begin, Read, Write, Add, Complete, Permit, PermitAny, Delegate, Depend, Commit, Abort}
 use Rattle.asset_names.specs.declared.replies.Reply.{Reply}
 use Rattle.asset_names.specs.declared.replies.Reply.TheVariants as Reply'
 
@@ -24,6 +24,7 @@ takes_effect (Write t x v) Reply'.Done = true
 takes_effect (Add t x d) Reply'.Done = true
 takes_effect (Complete t) Reply'.Done = true
 takes_effect (Permit giver taker obs ops) Reply'.Done = true
+takes_effect (PermitAny giver obs ops) Reply'.Done = true
 takes_effect (Delegate giver taker obs) Reply'.Done = true
 takes_effect (Depend kind a b) Reply'.Done = true
 takes_effect (Commit t) Reply'.Committed = true

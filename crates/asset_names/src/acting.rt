@@ -19,6 +19,7 @@ pub fn actor(step: &Step) -> Txn
         Step::Add { t, .. } => *t,
         Step::Complete { t } => *t,
         Step::Permit { giver, .. } => *giver,
+        Step::PermitAny { giver, .. } => *giver,
         Step::Delegate { giver, .. } => *giver,
         Step::Depend { a, .. } => *a,
         Step::Commit { t } => *t,

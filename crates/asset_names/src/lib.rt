@@ -23,7 +23,7 @@ pub use operations::{Op, Ops};
 pub use outcomes::{commit_outcome, takes_effect, wait_outcome};
 pub use refusals::{
     refusal_between, refusal_to_abort, refusal_to_begin, refusal_to_depend, refusal_to_find,
-    refusal_to_initiate, refusal_to_operate, refusal_to_work,
+    refusal_to_initiate, refusal_to_open, refusal_to_operate, refusal_to_work,
 };
 pub use replies::{Fault, NoMemory, Outcome, Refusal, Reply};
 pub use sets::{MOST_OBJECTS, ObList, ObSet, SetFault};

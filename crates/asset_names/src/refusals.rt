@@ -128,6 +128,21 @@ pub fn refusal_between(
     }
 }
 
+/// Returns why the giver may not permit anything to anybody; `missing` is the least object of the list that does not exist,
+/// if there is one. The refusals in order: Unknown, Ended, NoObject of `missing`.
+#[tactic(auto, unfolding(crate::specs::Answers::first_refusal, crate::specs::Answers::has_ended, crate::specs::Answers::missing_rule))]
+pub fn refusal_to_open(giver: Txn, status: Status, missing: Option<Ob>) -> Option<Refusal>
+    ensures { result ≡ first_refusal ((is_unknown status, Refusal.Unknown giver) ∷ (has_ended status, Refusal.Ended giver) ∷ missing_rule missing ∷ []) }
+{
+    if status.is_unknown() {
+        Some(Refusal::Unknown(giver))
+    } else if status.has_ended() {
+        Some(Refusal::Ended(giver))
+    } else {
+        missing.map(Refusal::NoObject)
+    }
+}
+
 /// Returns why no dependency may be made between two transactions, as far as their statuses say. The refusals in order:
 /// Same if the two are one transaction; Unknown of the source, then of the dependent; Ended of the source, then of the
 /// dependent. What is left is whether it would close a cycle.

@@ -5,7 +5,7 @@ ghost use Rattle.asset_names.specs.Steps.{value_asked};
 
 use crate::names::{Ob, Txn};
 use crate::operations::Ops;
-use crate::sets::ObSet;
+use crate::sets::{ObList, ObSet};
 
 /// A kind of dependency between two transactions.
 #[derive(Clone, Copy, Debug, PartialEq, Eq)]
@@ -56,6 +56,12 @@ pub enum Step {
         giver: Txn,
         taker: Txn,
         obs: ObSet,
+        ops: Ops,
+    },
+    /// Lets anybody do the operations on the objects although they conflict with the giver's own.
+    PermitAny {
+        giver: Txn,
+        obs: ObList,
         ops: Ops,
     },
     /// Hands over to the taker what the giver did on the objects: from then on the taker is responsible for

@@ -162,7 +162,7 @@ module _ (p : Parts) (size : ℕ) (valid : IsValid p size) (x : ℕ) (op : Op) w
       ])
 
   -- to one who takes nothing no other leads
-  nothing_leads : (giver taker : Txn) → ((c : ℕ) → seat p.seats c ≡ Some taker → ⊥) → eqb giver.0 taker.0 ≡ false → leads_by (descriptors_of p.permits) giver.0 taker.0 x op ≡ false
+  pub nothing_leads : (giver taker : Txn) → ((c : ℕ) → seat p.seats c ≡ Some taker → ⊥) → eqb giver.0 taker.0 ≡ false → leads_by (descriptors_of p.permits) giver.0 taker.0 x op ≡ false
   unfolding leads_by
   nothing_leads giver taker absent another =
       false_from_ne_true _ (λ way. true≢false (sym (closed_linked (λ n. not (eqb n taker.0)) (arrows_for (descriptors_of p.permits) x op) closed giver.0 taker.0 way (ap not another)) ∙ ap not (eq-eqb taker.0 taker.0 refl))) where

@@ -14,11 +14,11 @@ use Rattle.asset_picture.specs.Layout.{pieces, x_at, y_at, bow_at, pale}
 
 -- the colours on a light screen
 unfoldable pub light_text : List ℕ
-light_text = codes "<style>\n.page{fill:#ffffff}.even{fill:#f3f5f8}.odd{fill:#e8ecf1}\ntext{font:11px ui-monospace,Menlo,Consolas,'DejaVu Sans Mono',monospace;fill:#1f2328;text-anchor:middle}\n.name{font-size:13px;font-weight:bold;text-anchor:end}.note,.step{font-size:10px;fill:#59636e}\n.note,.key,.row{text-anchor:start}.object{font-weight:bold}\n.lane{fill:none;stroke-width:5;stroke:#818b98}\n.committed .lane{stroke:#2da44e}.aborted .lane{stroke:#e5534b}.live .lane{stroke:#539bf5}\n.read circle{fill:#ffffff;stroke:#1f2328;stroke-width:2}.write rect{fill:#1f2328}.add path{fill:none;stroke:#1f2328;stroke-width:3}\n.arrow{fill:none;stroke-width:1.5}.source{stroke:#818b98;stroke-width:1;stroke-opacity:.7;marker-end:url(#s)}\n.permit{stroke:#8250df;marker-end:url(#p)}.delegate{stroke:#bc4c00;stroke-width:2.5;marker-end:url(#d)}\n.cd,.ad,.gc{stroke:#0e8a93;marker-end:url(#t)}.cd{stroke-dasharray:4 3}.gc{marker-start:url(#u)}\n.dead{opacity:.5}\n"
+light_text = codes "<style>\n.page{fill:#ffffff}.even{fill:#f3f5f8}.odd{fill:#e8ecf1}\ntext{font:11px ui-monospace,Menlo,Consolas,'DejaVu Sans Mono',monospace;fill:#1f2328;text-anchor:middle}\n.name{font-size:13px;font-weight:bold;text-anchor:end}.note,.step{font-size:10px;fill:#59636e}\n.note,.key,.row{text-anchor:start}.object{font-weight:bold}\n.lane{fill:none;stroke-width:5;stroke:#818b98}\n.committed .lane{stroke:#2da44e}.aborted .lane{stroke:#e5534b}.live .lane{stroke:#539bf5}\n.read circle{fill:#ffffff;stroke:#1f2328;stroke-width:2}.write rect{fill:#1f2328}.add path{fill:none;stroke:#1f2328;stroke-width:3}\n.arrow{fill:none;stroke-width:1.5}.source{stroke:#818b98;stroke-width:1;stroke-opacity:.7;marker-end:url(#s)}\n.permit,.open{stroke:#8250df}.permit{marker-end:url(#p)}.delegate{stroke:#bc4c00;stroke-width:2.5;marker-end:url(#d)}\n.cd,.ad,.gc{stroke:#0e8a93;marker-end:url(#t)}.cd{stroke-dasharray:4 3}.gc{marker-start:url(#u)}\n.dead{opacity:.5}\n"
 
 -- and on a dark one
 unfoldable pub dark_text : List ℕ
-dark_text = codes "@media (prefers-color-scheme:dark){\n.page{fill:#0d1117}.even{fill:#171d26}.odd{fill:#1f2733}text{fill:#e6edf3}.note,.step{fill:#9198a1}\n.read circle{fill:#0d1117;stroke:#e6edf3}.write rect{fill:#e6edf3}.add path{stroke:#e6edf3}.permit{stroke:#a475f9}\n}\n</style>\n"
+dark_text = codes "@media (prefers-color-scheme:dark){\n.page{fill:#0d1117}.even{fill:#171d26}.odd{fill:#1f2733}text{fill:#e6edf3}.note,.step{fill:#9198a1}\n.read circle{fill:#0d1117;stroke:#e6edf3}.write rect{fill:#e6edf3}.add path{stroke:#e6edf3}.permit,.open{stroke:#a475f9}\n}\n</style>\n"
 
 -- the heads of arrows, and the page
 unfoldable pub heads_text : List ℕ
@@ -30,7 +30,7 @@ style_text = light_text ++ (dark_text ++ heads_text)
 
 -- what the shapes and colours mean
 unfoldable pub legend_text : List ℕ
-legend_text = codes "<g class='committed'><path class='lane' d='M20 22H50'/></g><text class='key' x='56' y='26'>committed</text>\n<g class='aborted'><path class='lane' d='M140 22H170'/></g><text class='key' x='176' y='26'>aborted</text>\n<g class='live'><path class='lane' d='M250 22H280'/></g><text class='key' x='286' y='26'>live</text>\n<g class='read' transform='translate(345 22)'><circle r='5'/></g><text class='key' x='356' y='26'>read</text>\n<g class='write' transform='translate(415 22)'><rect x='-5' y='-5' width='10' height='10'/></g><text class='key' x='426' y='26'>write</text>\n<g class='add' transform='translate(475 22)'><path d='M-6 0H6M0-6V6'/></g><text class='key' x='486' y='26'>add</text>\n<text class='note' x='522' y='26'>below a mark: object, value; pale: dead group</text>\n<path class='arrow source' d='M20 44H50'/><text class='key' x='56' y='48'>read to its source</text>\n<path class='arrow permit' d='M200 44H230'/><text class='key' x='236' y='48'>permit</text>\n<path class='arrow delegate' d='M300 44H330'/><text class='key' x='336' y='48'>delegate</text>\n<path class='arrow cd' d='M415 44H445'/><text class='key' x='451' y='48'>depend cd</text>\n<path class='arrow ad' d='M530 44H560'/><text class='key' x='566' y='48'>ad</text>\n<path class='arrow gc' d='M600 44H630'/><text class='key' x='636' y='48'>gc</text>\n"
+legend_text = codes "<g class='committed'><path class='lane' d='M20 22H50'/></g><text class='key' x='56' y='26'>committed</text>\n<g class='aborted'><path class='lane' d='M140 22H170'/></g><text class='key' x='176' y='26'>aborted</text>\n<g class='live'><path class='lane' d='M250 22H280'/></g><text class='key' x='286' y='26'>live</text>\n<g class='read' transform='translate(345 22)'><circle r='5'/></g><text class='key' x='356' y='26'>read</text>\n<g class='write' transform='translate(415 22)'><rect x='-5' y='-5' width='10' height='10'/></g><text class='key' x='426' y='26'>write</text>\n<g class='add' transform='translate(475 22)'><path d='M-6 0H6M0-6V6'/></g><text class='key' x='486' y='26'>add</text>\n<text class='note' x='522' y='26'>below a mark: object, value; pale: dead group</text>\n<path class='arrow source' d='M20 44H50'/><text class='key' x='56' y='48'>read to its source</text>\n<path class='arrow permit' d='M200 44H230'/><text class='key' x='236' y='48'>permit</text>\n<path class='arrow delegate' d='M300 44H330'/><text class='key' x='336' y='48'>delegate</text>\n<path class='arrow cd' d='M415 44H445'/><text class='key' x='451' y='48'>depend cd</text>\n<path class='arrow ad' d='M530 44H560'/><text class='key' x='566' y='48'>ad</text>\n<path class='arrow gc' d='M600 44H630'/><text class='key' x='636' y='48'>gc</text>\n<path class='arrow open' d='M684 44m-8 0a8 8 0 1 0 16 0a8 8 0 1 0-16 0'/><text class='key' x='698' y='48'>open permit</text>\n"
 
 -- the start of a picture of this size
 unfoldable pub open_text : ℕ → ℕ → List ℕ
@@ -112,6 +112,7 @@ mark_text wide mark = pieces (mark_start_text wide mark ∷ shape_text mark.op �
 unfoldable pub drawn_word : ArrowKind → List ℕ
 drawn_word ArrowKind'.Source = codes "source"
 drawn_word ArrowKind'.Permit = codes "permit"
+drawn_word ArrowKind'.Open = codes "open"
 drawn_word ArrowKind'.Delegate = codes "delegate"
 drawn_word ArrowKind'.Cd = codes "cd"
 drawn_word ArrowKind'.Ad = codes "ad"
@@ -122,9 +123,10 @@ unfoldable pub bow_text : Bool → Arrow → List ℕ
 bow_text wide arrow = pieces (codes "C" ∷ decimal (x_at wide arrow.from) ∷ codes " " ∷ decimal (bow_at arrow.row) ∷ codes " " ∷ decimal (x_at wide arrow.to) ∷ codes " " ∷ decimal (bow_at arrow.to_row)
     ∷ codes " " ∷ decimal (x_at wide arrow.to) ∷ codes " " ∷ [])
 
--- what is between the ends of an arrow: a bow, or a line up or down
+-- what is between the ends of an arrow: a bow, a ring round the lane, or a line up or down
 unfoldable pub way_text : Bool → Arrow → ArrowKind → List ℕ
 way_text wide arrow ArrowKind'.Source = bow_text wide arrow
+way_text wide arrow ArrowKind'.Open = codes "m-8 0a8 8 0 1 0 16 0a8 8 0 1 0-16 0V"
 way_text wide arrow kind = codes "V"
 
 -- the start of an arrow

@@ -16,6 +16,7 @@ fn drawn_word(kind: ArrowKind) -> &'static str
     match kind {
         ArrowKind::Source => "source",
         ArrowKind::Permit => "permit",
+        ArrowKind::Open => "open",
         ArrowKind::Delegate => "delegate",
         ArrowKind::Cd => "cd",
         ArrowKind::Ad => "ad",
@@ -43,6 +44,7 @@ fn push_way(text: &mut String, wide: bool, arrow: &Arrow, kind: ArrowKind) -> Re
     match kind {
         ArrowKind::Source => push_bow(text, wide, arrow),
         ArrowKind::Permit => text.push_str("V"),
+        ArrowKind::Open => text.push_str("m-8 0a8 8 0 1 0 16 0a8 8 0 1 0-16 0V"),
         ArrowKind::Delegate => text.push_str("V"),
         ArrowKind::Cd => text.push_str("V"),
         ArrowKind::Ad => text.push_str("V"),

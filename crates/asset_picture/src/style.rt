@@ -15,7 +15,7 @@ text{font:11px ui-monospace,Menlo,Consolas,'DejaVu Sans Mono',monospace;fill:#1f
 .committed .lane{stroke:#2da44e}.aborted .lane{stroke:#e5534b}.live .lane{stroke:#539bf5}
 .read circle{fill:#ffffff;stroke:#1f2328;stroke-width:2}.write rect{fill:#1f2328}.add path{fill:none;stroke:#1f2328;stroke-width:3}
 .arrow{fill:none;stroke-width:1.5}.source{stroke:#818b98;stroke-width:1;stroke-opacity:.7;marker-end:url(#s)}
-.permit{stroke:#8250df;marker-end:url(#p)}.delegate{stroke:#bc4c00;stroke-width:2.5;marker-end:url(#d)}
+.permit,.open{stroke:#8250df}.permit{marker-end:url(#p)}.delegate{stroke:#bc4c00;stroke-width:2.5;marker-end:url(#d)}
 .cd,.ad,.gc{stroke:#0e8a93;marker-end:url(#t)}.cd{stroke-dasharray:4 3}.gc{marker-start:url(#u)}
 .dead{opacity:.5}
 ";
@@ -23,7 +23,7 @@ text{font:11px ui-monospace,Menlo,Consolas,'DejaVu Sans Mono',monospace;fill:#1f
 const DARK: &str = "\
 @media (prefers-color-scheme:dark){
 .page{fill:#0d1117}.even{fill:#171d26}.odd{fill:#1f2733}text{fill:#e6edf3}.note,.step{fill:#9198a1}
-.read circle{fill:#0d1117;stroke:#e6edf3}.write rect{fill:#e6edf3}.add path{stroke:#e6edf3}.permit{stroke:#a475f9}
+.read circle{fill:#0d1117;stroke:#e6edf3}.write rect{fill:#e6edf3}.add path{stroke:#e6edf3}.permit,.open{stroke:#a475f9}
 }
 </style>
 ";
@@ -53,6 +53,7 @@ const LEGEND: &str = "\
 <path class='arrow cd' d='M415 44H445'/><text class='key' x='451' y='48'>depend cd</text>
 <path class='arrow ad' d='M530 44H560'/><text class='key' x='566' y='48'>ad</text>
 <path class='arrow gc' d='M600 44H630'/><text class='key' x='636' y='48'>gc</text>
+<path class='arrow open' d='M684 44m-8 0a8 8 0 1 0 16 0a8 8 0 1 0-16 0'/><text class='key' x='698' y='48'>open permit</text>
 ";
 
 /// Appends the colours on a light screen.

@@ -10,7 +10,7 @@ use std::alloc::Global;
 pub(crate) const ROOM: usize = 1_000;
 
 /// The last line of the legend: shapes come after it.
-const LAST_OF_LEGEND: &str = "y='48'>gc</text>\n";
+const LAST_OF_LEGEND: &str = "y='48'>open permit</text>\n";
 
 /// Returns the history that a script leaves over three objects, and the first line whose step has another outcome.
 pub(crate) fn left_by(alloc: Global, script: &str) -> Result<(History, Option<usize>), OpenFault> {

@@ -7,7 +7,8 @@ use asset_history::History;
 use asset_names::{Kind, NoMemory, Ob, Reply, Step, Txn};
 use asset_sources::{Source, source};
 use asset_test_tools::{
-    abort, add, begin, commit, complete, delegate, depend, initiate, next, permit, read, write,
+    abort, add, begin, commit, complete, delegate, depend, initiate, next, ops_of, permit,
+    permit_any, read, write,
 };
 use std::alloc::Global;
 use std::test::Fail;
@@ -22,7 +23,7 @@ fn step_of(number: u64) -> Step {
     let t = (number >> 40) % NAMES;
     let u = (number >> 30) % NAMES;
     let x = (number >> 20) % 3 + 1;
-    match (number >> 10) % 13 {
+    match (number >> 10) % 14 {
         0 => initiate(t),
         1 => begin(t),
         2 => complete(t),
@@ -30,6 +31,7 @@ fn step_of(number: u64) -> Step {
         4 => abort(t),
         5 => permit(t, u, &[Ob(x)], (true, true)),
         6 => delegate(t, u, &[Ob(x)]),
+        13 => permit_any(t, &[Ob(x)], ops_of(number)),
         7 => depend(Kind::Ad, t, u),
         8 => write(t, x, x as i64),
         12 => add(t, x, x as i64),
@@ -55,13 +57,15 @@ fn steps_are_drawn(core: &mut Core) -> Option<u64> {
     None
 }
 
-/// Returns how many reads, writes, adds and arrows an entry has; a read has an arrow if its source is an entry.
+/// Returns how many reads, writes, adds and arrows an entry has; a read has an arrow if its source is an entry. The ring of an
+/// open permit counts as an arrow.
 fn row_of(step: &Step, reply: &Reply, from_entry: bool) -> [usize; 4] {
     match (step, reply) {
         (Step::Read { .. }, Reply::Value(_)) => [1, 0, 0, usize::from(from_entry)],
         (Step::Write { .. }, Reply::Done) => [0, 1, 0, 0],
         (Step::Add { .. }, Reply::Done) => [0, 0, 1, 0],
         (Step::Permit { .. }, Reply::Done) => [0, 0, 0, 1],
+        (Step::PermitAny { .. }, Reply::Done) => [0, 0, 0, 1],
         (Step::Delegate { .. }, Reply::Done) => [0, 0, 0, 1],
         (Step::Depend { .. }, Reply::Done) => [0, 0, 0, 1],
         _ => [0, 0, 0, 0],

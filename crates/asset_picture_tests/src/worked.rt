@@ -33,6 +33,32 @@ const PERMITTED_DRAWN: &str = "\
 </svg>
 ";
 
+/// 8 reads what 7 lets anybody read, and aborts.
+const OPENED: &str = "\
+    initiate 7: ok\nbegin 7: ok\nwrite 7 1 50: ok\ninitiate 8: ok\nbegin 8: ok\npermit 7 any r 1: ok\n\
+    read 8 1: 50\nabort 8: aborted\n";
+
+/// The two are of one group, and a ring stands round the lane of 7 where it opens the object.
+const OPENED_LANES: &str = "\
+<g class='live dead' transform='translate(0 108)'><rect class='even' y='-26' width='100%' height='56'/>\
+<text class='note' x='16' y='-12'>group 0 dead</text><text class='name' x='230' dx='-12' y='5'>7</text>\
+<path class='lane' d='M230 0v-7v14v-7H614'/></g>
+<g class='aborted dead' transform='translate(0 164)'><rect class='even' y='-26' width='100%' height='56'/>\
+<text class='note' x='16' y='-12'>group 0 dead</text><text class='name' x='374' dx='-12' y='5'>8</text>\
+<path class='lane' d='M374 0v-7v14v-7H566v-7v14'/></g>
+";
+
+const OPENED_RING: &str = "\
+<text class='step' x='566' y='76'>7</text>
+<path class='arrow open dead' d='M470 108 m-8 0a8 8 0 1 0 16 0a8 8 0 1 0-16 0V108'/>
+<path class='arrow source dead' d='M518 164 C518 130 326 74 326 108'/>
+<g class='write dead' transform='translate(326 108)'><rect x='-5' y='-5' width='10' height='10'/>\
+<text class='object' y='17'>1</text><text y='28'>50</text></g>
+<g class='read dead' transform='translate(518 164)'><circle r='5'/>\
+<text class='object' y='17'>1</text><text y='28'>50</text></g>
+</svg>
+";
+
 /// 7 hands its write over to 8, and both commit at once. 9, which nobody joins, reads an opening value; the step of 5 is
 /// refused.
 const HANDED: &str = "\
@@ -139,6 +165,13 @@ fn has_ends(picture: &Option<String>, start: &str, end: &str) -> bool {
 fn permitted_read_has_an_arrow_to_its_source(rt: HostRuntime) -> Result<(), Fail> {
     let picture = drawn(rt.alloc(), PERMITTED)?;
     assert!(rt; has_parts(&picture, SMALL, PERMITTED_DRAWN));
+    Ok(())
+}
+
+#[test]
+fn open_permit_is_a_ring(rt: HostRuntime) -> Result<(), Fail> {
+    let picture = drawn(rt.alloc(), OPENED)?;
+    assert!(rt; has_ends(&picture, OPENED_LANES, OPENED_RING));
     Ok(())
 }
 

@@ -15,7 +15,7 @@ use Rattle.asset_names.specs.declared.sets.ObSet.TheVariants.{All, Listed}
 use Rattle.asset_names.specs.declared.steps.Kind.{Kind}
 use Rattle.asset_names.specs.declared.steps.Kind.TheVariants.{Cd, Ad, Gc}
 use Rattle.asset_names.specs.declared.steps.Step.{Step}
-use Rattle.asset_names.specs.declared.steps.Step.TheVariants.{Initiate, Begin, Read, Write, Add, Complete, Permit, Delegate, Depend, Commit, Abort, WaitFor}
+use Rattle.asset_names.specs.declared.steps.Step.TheVariants.{Initiate, Begin, Read, Write, Add, Complete, Permit, PermitAny, Delegate, Depend, Commit, Abort, WaitFor}
 use Rattle.asset_names.specs.OpSets.{OpSet}
 use Rattle.asset_grammar.specs.Lines.{Lacks}
 use Rattle.asset_printing.specs.Printed.{AreNumbers, kind_text, list_text, more_text, object_text, ops_text, parent_words, set_text, step_text, step_words}
@@ -125,6 +125,7 @@ plain_words (Write t x v) h = (plain_text (codes "write") refl refl, (plain_numb
 plain_words (Add t x d) h = (plain_text (codes "add") refl refl, (plain_number t.0 h.0, (plain_number x.0 h.1, (plain_value d h.2, tt))))
 plain_words (Complete t) h = (plain_text (codes "complete") refl refl, (plain_number t.0 h, tt))
 plain_words (Permit giver taker obs ops) h = (plain_text (codes "permit") refl refl, (plain_number giver.0 h.0, (plain_number taker.0 h.1, (plain_ops ops, (plain_set obs h.2, tt)))))
+plain_words (PermitAny giver obs ops) h = (plain_text (codes "permit") refl refl, (plain_number giver.0 h.0, (plain_text (codes "any") refl refl, (plain_ops ops, (plain_set (Listed obs) h.1, tt)))))
 plain_words (Delegate giver taker obs) h = (plain_text (codes "delegate") refl refl, (plain_number giver.0 h.0, (plain_number taker.0 h.1, (plain_set obs h.2, tt))))
 plain_words (Depend kind a b) h = (plain_text (codes "depend") refl refl, (plain_kind kind, (plain_number a.0 h.0, (plain_number b.0 h.1, tt))))
 plain_words (Commit t) h = (plain_text (codes "commit") refl refl, (plain_number t.0 h, tt))
@@ -142,6 +143,7 @@ few_words (Write t x v) = omega arith
 few_words (Add t x d) = omega arith
 few_words (Complete t) = omega arith
 few_words (Permit giver taker obs ops) = omega arith
+few_words (PermitAny giver obs ops) = omega arith
 few_words (Delegate giver taker obs) = omega arith
 few_words (Depend kind a b) = omega arith
 few_words (Commit t) = omega arith

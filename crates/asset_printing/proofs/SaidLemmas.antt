@@ -5,7 +5,7 @@ use Rattle.asset_names.specs.declared.names.Ob.{Ob}
 use Rattle.asset_names.specs.declared.sets.ObSet.{ObSet}
 use Rattle.asset_names.specs.declared.sets.ObSet.TheVariants.{All, Listed}
 use Rattle.asset_names.specs.declared.steps.Step.{Step}
-use Rattle.asset_names.specs.declared.steps.Step.TheVariants.{Initiate, Begin, Read, Write, Add, Complete, Permit, Delegate, Depend, Commit, Abort, WaitFor}
+use Rattle.asset_names.specs.declared.steps.Step.TheVariants.{Initiate, Begin, Read, Write, Add, Complete, Permit, PermitAny, Delegate, Depend, Commit, Abort, WaitFor}
 use Rattle.asset_grammar.specs.declared.grammar.Command.{Command}
 use Rattle.asset_grammar.specs.declared.grammar.Command.TheVariants.{Ask, Object}
 use Rattle.asset_grammar.specs.declared.grammar.Line.TheVariants as Line'
@@ -16,7 +16,7 @@ use Rattle.asset_printing.specs.Printed.{AreNumbers, object_text, parent_words, 
 use Rattle.asset_grammar.specs.Writable.{IsSet, IsWritable, IsWritableObject}
 use Rattle.asset_printing.proofs.PlainLemmas.{object_short, step_short}
 use Rattle.asset_printing.proofs.SetLemmas.{set_reads_all, set_lacks_all, set_reads_listed, set_lacks_listed}
-use Rattle.asset_printing.proofs.StepLemmas.{abort_reads, add_reads, begin_reads, child_reads, commit_reads, complete_reads, delegate_reads, depend_reads, initiate_reads, object_reads, permit_reads, read_reads, wait_reads, write_reads}
+use Rattle.asset_printing.proofs.StepLemmas.{abort_reads, add_reads, begin_reads, child_reads, commit_reads, complete_reads, delegate_reads, depend_reads, initiate_reads, object_reads, open_reads, permit_reads, read_reads, wait_reads, write_reads}
 
 set_reads : (obs : ObSet) → IsSet obs → set_of (set_text obs) ≡ Some obs
 unfolding AreNumbers
@@ -39,6 +39,7 @@ step_reads (Write t x v) h = write_reads t x v h.0 h.1 h.2
 step_reads (Add t x d) h = add_reads t x d h.0 h.1 h.2
 step_reads (Complete t) h = complete_reads t h
 step_reads (Permit giver taker obs ops) h = permit_reads giver taker obs ops h.0 h.1 h.3 (set_reads obs h.2) (set_lacks obs h.2)
+step_reads (PermitAny giver obs ops) h = open_reads giver obs ops h.0 h.2 (set_reads (Listed obs) h.1) (set_lacks (Listed obs) h.1)
 step_reads (Delegate giver taker obs) h = delegate_reads giver taker obs h.0 h.1 (set_reads obs h.2) (set_lacks obs h.2)
 step_reads (Depend kind a b) h = depend_reads kind a b h.0 h.1
 step_reads (Commit t) h = commit_reads t h
@@ -56,6 +57,7 @@ step_shown (Write t x v) = refl
 step_shown (Add t x d) = refl
 step_shown (Complete t) = refl
 step_shown (Permit giver taker obs ops) = refl
+step_shown (PermitAny giver obs ops) = refl
 step_shown (Delegate giver taker obs) = refl
 step_shown (Depend kind a b) = refl
 step_shown (Commit t) = refl

@@ -80,6 +80,14 @@ list_not_all : (x : Ob) (objects : List Ob) → x.0 < 2 ^ 64 → bytes_eq (list_
 unfolding list_text
 list_not_all x objects small = not_all (decimal x.0) (more_text objects) (decimal_nonempty x.0 small) (digits_decimal own x.0 small)
 
+-- and than `any`
+not_any : (bs : List ℕ) → 0 < length bs → list_all is_ascii_digit bs ≡ true → bytes_eq bs (codes "any") ≡ false
+not_any [] some digits = absurd (omega (arith, some))
+not_any (b ∷ bs) some digits = rw (digit_is_not 97 b refl (and_parts _ _ digits).0) refl
+
+pub number_not_any : (number : ℕ) → number < 2 ^ 64 → bytes_eq (decimal number) (codes "any") ≡ false
+number_not_any number small = not_any (decimal number) (decimal_nonempty number small) (digits_decimal own number small)
+
 -- a list of objects that is printed reads back
 pub list_reads : (objects : List Ob) → 0 < length objects → length objects ≤ 16 → IsStrictlyIncreasing (numbers objects) → AreNumbers objects → set_of (list_text objects) ≡ Some (Listed objects)
 unfolding set_of listed

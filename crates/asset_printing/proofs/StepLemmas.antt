@@ -1,18 +1,19 @@
 -- A line that is printed reads back.
-use Rattle.std.proofs.Common.{◌≡◌, ◌<◌, ◌^◌, ◌||◌, Bool, true, false, [], ◌∷◌, refl}
+use Rattle.std.proofs.Common.{◌≡◌, ◌<◌, ◌^◌, ◌||◌, Bool, true, false, List, [], ◌∷◌, refl}
 use Rattle.std.specs.Prelude.{ℤ, Some, None, codes}
 use Rattle.std.specs.Int.Signed.{mag}
 use Rattle.std.specs.Fmt.{decimal, signed_decimal}
 use Rattle.asset_names.specs.declared.names.Txn.{Txn}
 use Rattle.asset_names.specs.declared.names.Ob.{Ob}
 use Rattle.asset_names.specs.declared.sets.ObSet.{ObSet}
+use Rattle.asset_names.specs.declared.sets.ObSet.TheVariants.{Listed}
 use Rattle.asset_names.specs.OpSets.{OpSet}
 use Rattle.asset_names.specs.declared.steps.Kind.{Kind}
 use Rattle.asset_names.specs.declared.steps.Kind.TheVariants.{Cd, Ad, Gc}
 use Rattle.asset_names.specs.declared.steps.Step.TheVariants as Step'
 use Rattle.asset_grammar.specs.declared.grammar.Command.TheVariants.{Ask, Object}
 use Rattle.asset_grammar.specs.DependOperands.{kind_of, kind_and_txns}
-use Rattle.asset_grammar.specs.PermitOperands.{txns_ops_and_set, txns_and_set}
+use Rattle.asset_grammar.specs.PermitOperands.{permit_step, taker_of, txn_taker_ops_and_set, txns_and_set}
 use Rattle.asset_grammar.specs.Operands.{txn_of, ob_of, both, all_three, one_txn, txn_and_parent, txn_and_object, object_and_value, txn_object_and_value}
 use Rattle.asset_grammar.specs.Grammar.{step_by, object_command, step_command, command_from, command_of}
 use Rattle.asset_grammar.specs.Keywords.{keyword_text, all_keywords, keyword_of}
@@ -21,6 +22,7 @@ use Rattle.asset_grammar.specs.Sets.{ops_of, set_of}
 use Rattle.asset_grammar.specs.Words.{words}
 use Rattle.asset_grammar.proofs.NumberLaws.{number_of-decimal, value_of-signed_decimal}
 use Rattle.asset_printing.specs.Printed.{kind_text, object_text, ops_text, parent_words, set_text, step_text, step_words}
+use Rattle.asset_printing.proofs.SetLemmas.{number_not_any}
 use Rattle.asset_printing.proofs.WordLemmas.{cut_again, number_lacks, text_lacks, value_lacks}
 
 pub object_reads : (x : Ob) (v : ℤ) → x.0 < 2 ^ 64 → mag v < 2 ^ 63 → command_of (object_text x v) ≡ Some (Object (x, v))
@@ -155,13 +157,27 @@ ops_lack ops = go ops.read ops.write ops.add refl refl refl where
   go false false true r w a = rw (r, w, a) (text_lacks 32 (codes "a") refl)
   go false false false r w a = rw (r, w, a) (text_lacks 32 (codes "") refl)
 
+taker_reads : (taker : Txn) → taker.0 < 2 ^ 64 → taker_of (decimal taker.0) ≡ Some (Some taker)
+unfolding taker_of txn_of
+taker_reads taker small = rw (number_not_any taker.0 small, number_of-decimal taker.0 small) refl
+
 pub permit_reads : (giver taker : Txn) (obs : ObSet) (ops : OpSet) → giver.0 < 2 ^ 64 → taker.0 < 2 ^ 64 → (ops.read || ops.write || ops.add) ≡ true → set_of (set_text obs) ≡ Some obs → Lacks 32 (set_text obs) → command_of (step_text (Step'.Permit giver taker obs ops)) ≡ Some (Ask (Step'.Permit giver taker obs ops))
-unfolding step_text step_words command_of words command_from step_command step_by keyword_of keyword_text all_keywords txn_of txns_ops_and_set both
+unfolding step_text step_words command_of words command_from step_command step_by keyword_of keyword_text all_keywords txn_of taker_of permit_step txn_taker_ops_and_set both
 permit_reads giver taker obs ops giver_small taker_small some back lacks =
     rw (
       cut_again 32 (codes "permit") (decimal giver.0 ∷ decimal taker.0 ∷ ops_text ops ∷ set_text obs ∷ []) (text_lacks 32 (codes "permit") refl) (number_lacks 32 giver.0 refl giver_small, (number_lacks 32 taker.0 refl taker_small, (ops_lack ops, (lacks, tt)))),
       number_of-decimal giver.0 giver_small,
-      number_of-decimal taker.0 taker_small,
+      taker_reads taker taker_small,
+      ops_read ops some,
+      back,
+    ) refl
+
+pub open_reads : (giver : Txn) (obs : List Ob) (ops : OpSet) → giver.0 < 2 ^ 64 → (ops.read || ops.write || ops.add) ≡ true → set_of (set_text (Listed obs)) ≡ Some (Listed obs) → Lacks 32 (set_text (Listed obs)) → command_of (step_text (Step'.PermitAny giver obs ops)) ≡ Some (Ask (Step'.PermitAny giver obs ops))
+unfolding step_text step_words command_of words command_from step_command step_by keyword_of keyword_text all_keywords txn_of taker_of permit_step txn_taker_ops_and_set both
+open_reads giver obs ops giver_small some back lacks =
+    rw (
+      cut_again 32 (codes "permit") (decimal giver.0 ∷ codes "any" ∷ ops_text ops ∷ set_text (Listed obs) ∷ []) (text_lacks 32 (codes "permit") refl) (number_lacks 32 giver.0 refl giver_small, (text_lacks 32 (codes "any") refl, (ops_lack ops, (lacks, tt)))),
+      number_of-decimal giver.0 giver_small,
       ops_read ops some,
       back,
     ) refl

@@ -9,7 +9,7 @@ use Rattle.asset_names.specs.declared.sets.ObSet.TheVariants.{All, Listed}
 use Rattle.asset_names.specs.declared.steps.Kind.{Kind}
 use Rattle.asset_names.specs.declared.steps.Kind.TheVariants.{Cd, Ad, Gc}
 use Rattle.asset_names.specs.declared.steps.Step.{Step}
-use Rattle.asset_names.specs.declared.steps.Step.TheVariants.{Initiate, Begin, Read, Write, Add, Complete, Permit, Delegate, Depend, Commit, Abort, WaitFor}
+use Rattle.asset_names.specs.declared.steps.Step.TheVariants.{Initiate, Begin, Read, Write, Add, Complete, Permit, PermitAny, Delegate, Depend, Commit, Abort, WaitFor}
 use Rattle.asset_names.specs.OpSets.{OpSet}
 
 -- objects have numbers below 2 ^ 64
@@ -54,6 +54,7 @@ step_words (Write t x v) = codes "write" ∷ decimal t.0 ∷ decimal x.0 ∷ sig
 step_words (Add t x d) = codes "add" ∷ decimal t.0 ∷ decimal x.0 ∷ signed_decimal d ∷ []
 step_words (Complete t) = codes "complete" ∷ decimal t.0 ∷ []
 step_words (Permit giver taker obs ops) = codes "permit" ∷ decimal giver.0 ∷ decimal taker.0 ∷ ops_text ops ∷ set_text obs ∷ []
+step_words (PermitAny giver obs ops) = codes "permit" ∷ decimal giver.0 ∷ codes "any" ∷ ops_text ops ∷ set_text (Listed obs) ∷ []
 step_words (Delegate giver taker obs) = codes "delegate" ∷ decimal giver.0 ∷ decimal taker.0 ∷ set_text obs ∷ []
 step_words (Depend kind a b) = codes "depend" ∷ kind_text kind ∷ decimal a.0 ∷ decimal b.0 ∷ []
 step_words (Commit t) = codes "commit" ∷ decimal t.0 ∷ []

@@ -4,11 +4,11 @@ ghost use Rattle.std.specs.Fmt.{decimal, signed_decimal};
 ghost use Rattle.std.specs.Int.Signed.{mag};
 ghost use Rattle.asset_grammar.specs.Grammar.{command_of};
 ghost use Rattle.asset_grammar.specs.declared.grammar.Command.TheVariants.{Ask, Object as ObjectOf};
-ghost use Rattle.asset_names.specs.declared.steps.Step.TheVariants.{Initiate, Permit, Delegate};
+ghost use Rattle.asset_names.specs.declared.steps.Step.TheVariants.{Initiate, Permit, PermitAny, Delegate};
 ghost use Rattle.asset_printing.specs.Printed.{kind_text, object_text, ops_text, step_text};
 
-use crate::sets::push_set;
-use asset_names::{Kind, Ob, ObSet, Op, Ops, Step, Txn, value_asked};
+use crate::sets::{push_objects, push_set};
+use asset_names::{Kind, Ob, ObList, ObSet, Op, Ops, Step, Txn, value_asked};
 use std::alloc::AllocError;
 
 /// Appends a word and a number.
@@ -105,6 +105,18 @@ fn push_permit(
     push_set(text, obs)
 }
 
+/// Appends the line of an open permit.
+#[tactic(auto, unfolding(crate::specs::Printed::step_text, crate::specs::Printed::step_words))]
+fn push_open_permit(text: &mut String, giver: Txn, obs: &ObList, ops: Ops) -> Result<(), AllocError>
+    ensures text { OnOk result (string_bytes text.new ≡ string_bytes text.old ++ step_text (PermitAny giver obs.now ops)) }
+    ensures reads { OnOk result (command_of (step_text (PermitAny giver obs.now ops)) ≡ Some (Ask (PermitAny giver obs.now ops))) }
+{
+    push_one(text, "permit", giver.0)?;
+    text.push_str(" any")?;
+    text.push_str(ops_word(ops))?;
+    push_objects(text, obs)
+}
+
 /// Appends the line of a delegation.
 #[tactic(auto, unfolding(crate::specs::Printed::step_text, crate::specs::Printed::step_words))]
 fn push_delegation(text: &mut String, giver: Txn, taker: Txn, obs: &ObSet) -> Result<(), AllocError>
@@ -141,6 +153,7 @@ pub fn push_step(text: &mut String, step: &Step) -> Result<(), AllocError>
             obs,
             ops,
         } => push_permit(text, giver, taker, &obs, ops),
+        Step::PermitAny { giver, obs, ops } => push_open_permit(text, giver, &obs, ops),
         Step::Delegate { giver, taker, obs } => push_delegation(text, giver, taker, &obs),
         Step::Depend { kind, a, b } => push_two(text, depend_words(kind), a.0, b.0),
         Step::Commit { t } => push_one(text, "commit", t.0),

@@ -1,11 +1,12 @@
 //! Sets of objects as words.
 ghost use Rattle.std.specs.Prelude.{◌≡◌, ◌++◌, ◌<◌, ◌≤◌, ◌^◌, ◌∷◌, OnOk, Some, length, string_bytes};
 ghost use Rattle.std.specs.Fmt.{decimal};
+ghost use Rattle.asset_names.specs.declared.sets.ObSet.TheVariants.{Listed};
 ghost use Rattle.asset_grammar.specs.Lines.{Lacks};
 ghost use Rattle.asset_grammar.specs.Sets.{set_of};
 ghost use Rattle.asset_printing.specs.Printed.{AreNumbers, list_text, more_text, set_text};
 
-use asset_names::{Ob, ObSet};
+use asset_names::{Ob, ObList, ObSet};
 use std::alloc::AllocError;
 
 /// Appends a number. It is passed by itself, so that the proof knows its range.
@@ -50,6 +51,16 @@ fn push_list(text: &mut String, objects: &[Ob]) -> Result<(), AllocError>
     }
 }
 
+/// Appends a list of objects as a word.
+#[tactic(auto, unfolding(crate::specs::Printed::set_text))]
+pub(crate) fn push_objects(text: &mut String, list: &ObList) -> Result<(), AllocError>
+    ensures text { OnOk result (string_bytes text.new ≡ string_bytes text.old ++ set_text (Listed list.now)) }
+    ensures reads { OnOk result (set_of (set_text (Listed list.now)) ≡ Some (Listed list.now)) }
+    ensures word { OnOk result (Lacks 32 (set_text (Listed list.now))) }
+{
+    push_list(text, list.objects())
+}
+
 /// Appends a set of objects as a word.
 #[tactic(auto, unfolding(crate::specs::Printed::set_text))]
 pub(crate) fn push_set(text: &mut String, obs: &ObSet) -> Result<(), AllocError>
@@ -59,6 +70,6 @@ pub(crate) fn push_set(text: &mut String, obs: &ObSet) -> Result<(), AllocError>
 {
     match obs {
         ObSet::All => text.push_str("all"),
-        ObSet::Listed(list) => push_list(text, list.objects()),
+        ObSet::Listed(list) => push_objects(text, list),
     }
 }

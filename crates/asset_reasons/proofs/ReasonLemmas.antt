@@ -1,27 +1,30 @@
 -- A line has a reason exactly if it is bad.
 use Rattle.std.proofs.Common.{◌≡◌, ℕ, Bool, true, false, cond, List, [], ◌∷◌, inl, inr, length, Option, None, Some, refl, ap, ◌∙◌, sym}
-use Rattle.std.specs.Prelude.{is_some, not, option_map, nat_lt, codes}
+use Rattle.std.specs.Prelude.{is_some, not, option_and_then, option_map, nat_lt, codes}
 use Rattle.std.specs.Str.{bytes_eq}
 use Rattle.std.proofs.lemmas.Bool.{cases_Bool}
 use Rattle.asset_grammar.specs.declared.grammar.Command.{Command}
-use Rattle.asset_grammar.specs.declared.grammar.Command.TheVariants.{Object}
+use Rattle.asset_grammar.specs.declared.grammar.Command.TheVariants.{Ask, Object}
 use Rattle.asset_grammar.specs.declared.grammar.Line.TheVariants as Line'
 use Rattle.asset_grammar.specs.DependOperands.{kind_and_txns}
 use Rattle.asset_grammar.specs.Grammar.{command_from, command_of, is_blank, line_by, line_of, object_command, step_by, step_command}
 use Rattle.asset_grammar.specs.Keywords.{all_keywords, keyword_of, keyword_text}
 use Rattle.asset_grammar.specs.Operands.{object_and_value, one_txn, txn_and_object, txn_and_parent, txn_object_and_value}
-use Rattle.asset_grammar.specs.PermitOperands.{txns_ops_and_set, txns_and_set}
+use Rattle.asset_grammar.specs.PermitOperands.{txn_taker_ops_and_set, txns_and_set}
 use Rattle.asset_grammar.specs.Words.{words}
 use Rattle.asset_reasons.specs.declared.reasons.Reason.TheVariants.{TooLong}
 use Rattle.asset_reasons.specs.declared.reasons.Shape.{Shape}
 use Rattle.asset_reasons.specs.declared.reasons.Shape.TheVariants.{ObjectAndValue, TxnAndParent, OneTxn, TxnAndObject, TxnObjectAndValue, TxnObjectAndAmount, TxnsOpsAndSet, TxnsAndSet, KindAndTxns}
 use Rattle.asset_reasons.specs.Mistakes.{HasReasonIfBad, is_bad, mistake_by, reason_of, shape_mistake, shape_of, step_shape, spelled, words_mistake}
-use Rattle.asset_reasons.proofs.ShapeLemmas.{is_read, shape_told, some_mapped}
+use Rattle.asset_reasons.proofs.ShapeLemmas.{is_read, permit_made, shape_told, some_mapped}
 
 -- the words of a shape are wrong exactly if what is read of them is nothing
 told : {A B : Type 0} (first : List ℕ) (operands : List (List ℕ)) (shape : Shape) (read : Option A) (f : A → B) (g : B → Command) → is_read shape operands ≡ is_some read
     → is_some (shape_mistake first shape operands) ≡ not (is_some (option_map g (option_map f read)))
 told first operands shape read f g e = shape_told first shape operands ∙ ap not (e ∙ sym (some_mapped g (option_map f read) ∙ some_mapped f read))
+
+permit_told : (first : List ℕ) (operands : List (List ℕ)) → is_some (shape_mistake first TxnsOpsAndSet operands) ≡ not (is_some (option_map Ask (option_and_then permit_made (txn_taker_ops_and_set operands))))
+permit_told first operands = shape_told first TxnsOpsAndSet operands ∙ ap not (sym (some_mapped Ask (option_and_then permit_made (txn_taker_ops_and_set operands))))
 
 -- the words after a keyword are wrong exactly if they ask for no step
 step_told : (first : List ℕ) (operands : List (List ℕ)) → is_some (mistake_by (step_shape first) first operands) ≡ not (is_some (step_command first operands))
@@ -46,7 +49,7 @@ step_told first operands =
                                     | inl e5 ↦ rw (e0, e1, e2, e3, e4, e5) (told first operands OneTxn (one_txn operands) _ _ refl)
                                     | inr e5 ↦
                                         elim (cases_Bool (bytes_eq (codes "permit") first)) [
-                                          | inl e6 ↦ rw (e0, e1, e2, e3, e4, e5, e6) (told first operands TxnsOpsAndSet (txns_ops_and_set operands) _ _ refl)
+                                          | inl e6 ↦ rw (e0, e1, e2, e3, e4, e5, e6) (permit_told first operands)
                                           | inr e6 ↦
                                               elim (cases_Bool (bytes_eq (codes "commit") first)) [
                                                 | inl e7 ↦ rw (e0, e1, e2, e3, e4, e5, e6, e7) (told first operands OneTxn (one_txn operands) _ _ refl)

@@ -47,6 +47,10 @@ number_mistake word = cond (is_some (number_of word)) None (Some (why_no_number 
 unfoldable pub unsigned : List ℕ → List ℕ
 unsigned word = drop (cond (begins_with 45 word) 1 0) word
 
+-- what is wrong with a word that is to be a number or `any`
+unfoldable pub taker_mistake : List ℕ → Option Reason
+taker_mistake word = cond (bytes_eq word (codes "any")) None (number_mistake word)
+
 -- why a word is no value
 unfoldable pub why_no_value : List ℕ → Reason
 why_no_value word =
@@ -87,6 +91,10 @@ why_no_set objects =
 unfoldable pub set_mistake : List ℕ → Option Found
 set_mistake word = cond (is_some (set_of word)) None (Some (why_no_set (parts 44 word)))
 
+-- what is wrong with a word that is to be a set of objects other than `all`
+unfoldable pub list_mistake : List ℕ → Option Found
+list_mistake word = cond (not (bytes_eq word (codes "all")) && is_some (set_of word)) None (Some (why_no_set (parts 44 word)))
+
 -- a reason that is about the word
 abbrev pub about : List ℕ → Reason → Found
 about word reason = (reason, word)
@@ -94,9 +102,11 @@ about word reason = (reason, word)
 -- what is wrong with a word that is to be such an operand
 unfoldable pub operand_mistake : Operand → List ℕ → Option Found
 operand_mistake Operand'.Number word = option_map (about word) (number_mistake word)
+operand_mistake Operand'.Taker word = option_map (about word) (taker_mistake word)
 operand_mistake Operand'.Value word = option_map (about word) (value_mistake word)
 operand_mistake Operand'.Operations word = option_map (about word) (ops_mistake word)
 operand_mistake Operand'.Set word = set_mistake word
+operand_mistake Operand'.List word = list_mistake word
 operand_mistake Operand'.Kind word = option_map (about word) (kind_mistake word)
 
 -- there is a word for each operand, and no other word
@@ -117,17 +127,23 @@ unfoldable pub is_single : List (List ℕ) → Bool
 is_single [] = false
 is_single (word ∷ rest) = fits [] rest
 
--- the operands of a shape; a parent is one of them unless one word alone is there
-unfoldable pub operands_of : Shape → Bool → List Operand
-operands_of ObjectAndValue single = Operand'.Number ∷ Operand'.Value ∷ []
-operands_of TxnAndParent single = Operand'.Number ∷ cond single [] (Operand'.Number ∷ [])
-operands_of OneTxn single = Operand'.Number ∷ []
-operands_of TxnAndObject single = Operand'.Number ∷ Operand'.Number ∷ []
-operands_of TxnObjectAndValue single = Operand'.Number ∷ Operand'.Number ∷ Operand'.Value ∷ []
-operands_of TxnObjectAndAmount single = Operand'.Number ∷ Operand'.Number ∷ Operand'.Value ∷ []
-operands_of TxnsOpsAndSet single = Operand'.Number ∷ Operand'.Number ∷ Operand'.Operations ∷ Operand'.Set ∷ []
-operands_of TxnsAndSet single = Operand'.Number ∷ Operand'.Number ∷ Operand'.Set ∷ []
-operands_of KindAndTxns single = Operand'.Kind ∷ Operand'.Number ∷ Operand'.Number ∷ []
+-- the word after the first one is `any`
+unfoldable pub names_anybody : List (List ℕ) → Bool
+names_anybody [] = false
+names_anybody (word ∷ []) = false
+names_anybody (word ∷ next ∷ rest) = bytes_eq next (codes "any")
+
+-- the operands of a shape: a parent is one of them unless one word alone is there, and a permit to anybody has objects in a list
+unfoldable pub operands_of : Shape → Bool → Bool → List Operand
+operands_of ObjectAndValue single anybody = Operand'.Number ∷ Operand'.Value ∷ []
+operands_of TxnAndParent single anybody = Operand'.Number ∷ cond single [] (Operand'.Number ∷ [])
+operands_of OneTxn single anybody = Operand'.Number ∷ []
+operands_of TxnAndObject single anybody = Operand'.Number ∷ Operand'.Number ∷ []
+operands_of TxnObjectAndValue single anybody = Operand'.Number ∷ Operand'.Number ∷ Operand'.Value ∷ []
+operands_of TxnObjectAndAmount single anybody = Operand'.Number ∷ Operand'.Number ∷ Operand'.Value ∷ []
+operands_of TxnsOpsAndSet single anybody = Operand'.Number ∷ Operand'.Taker ∷ Operand'.Operations ∷ cond anybody Operand'.List Operand'.Set ∷ []
+operands_of TxnsAndSet single anybody = Operand'.Number ∷ Operand'.Number ∷ Operand'.Set ∷ []
+operands_of KindAndTxns single anybody = Operand'.Kind ∷ Operand'.Number ∷ Operand'.Number ∷ []
 
 -- which operands the keyword of a step wants
 unfoldable pub step_shape : List ℕ → Option Shape
@@ -156,7 +172,7 @@ why_unknown word = cond (list_any is_ascii_uppercase word) CapitalLetter Unknown
 -- what is wrong with the words after a first word of this shape
 unfoldable pub shape_mistake : List ℕ → Shape → List (List ℕ) → Option Found
 shape_mistake first shape operands =
-    cond (fits (operands_of shape (is_single operands)) operands) (first_mistake (operands_of shape (is_single operands)) operands) (Some (Wants shape, first))
+    cond (fits (operands_of shape (is_single operands) (names_anybody operands)) operands) (first_mistake (operands_of shape (is_single operands) (names_anybody operands)) operands) (Some (Wants shape, first))
 
 -- what is wrong with a first word, or with the words after it if it has a shape
 unfoldable pub mistake_by : Option Shape → List ℕ → List (List ℕ) → Option Found

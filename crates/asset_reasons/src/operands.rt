@@ -3,7 +3,7 @@ ghost use Rattle.std.specs.Prelude.{◌≡◌, ◌||◌, [], codes, cond, nat_lt
 ghost use Rattle.std.specs.Str.{bytes_eq};
 ghost use Rattle.asset_grammar.specs.Sets.{gathered, is_list, one_more_object, ops_of, set_of};
 ghost use Rattle.asset_grammar.specs.Words.{parts};
-ghost use Rattle.asset_reasons.specs.Mistakes.{Finds, about, has_empty, kind_mistake, operand_mistake, ops_mistake, part_mistake, set_mistake, why_no_set};
+ghost use Rattle.asset_reasons.specs.Mistakes.{Finds, about, has_empty, kind_mistake, list_mistake, operand_mistake, ops_mistake, part_mistake, set_mistake, taker_mistake, why_no_set};
 
 use crate::numbers::{number_mistake, number_of, value_mistake, why_no_number};
 use crate::parts::Parts;
@@ -46,6 +46,9 @@ const GROUP: &[u8] = b"gc";
 
 /// The word for all objects.
 const ALL: &[u8] = b"all";
+
+/// The word for anybody.
+pub(crate) const ANY: &[u8] = b"any";
 
 /// Returns whether a word writes operations that have Add.
 fn has_add(word: &[u8]) -> bool
@@ -217,6 +220,30 @@ fn set_mistake(word: &[u8]) -> Option<Mistake<'_>>
     }
 }
 
+/// Returns what is wrong with a word that is to be a set of objects other than `all`.
+#[tactic(auto, unfolding(crate::specs::Mistakes::list_mistake))]
+fn list_mistake(word: &[u8]) -> Option<Mistake<'_>>
+    ensures { Finds result (list_mistake word.now) }
+{
+    if word != ALL && is_set(word) {
+        None
+    } else {
+        Some(why_no_set(word))
+    }
+}
+
+/// Returns what is wrong with a word that is to be a number or `any`.
+#[tactic(auto, unfolding(crate::specs::Mistakes::taker_mistake))]
+fn taker_mistake(word: &[u8]) -> Option<Reason>
+    ensures { result ≡ taker_mistake word.now }
+{
+    if word == ANY {
+        None
+    } else {
+        number_mistake(word)
+    }
+}
+
 /// Returns a reason as one that is about the word.
 fn about(word: &[u8], reason: Option<Reason>) -> Option<Mistake<'_>>
     ensures { Finds result (option_map (about word.now) reason) }
@@ -234,9 +261,11 @@ pub(crate) fn operand_mistake(operand: Operand, word: &[u8]) -> Option<Mistake<'
 {
     match operand {
         Operand::Number => about(word, number_mistake(word)),
+        Operand::Taker => about(word, taker_mistake(word)),
         Operand::Value => about(word, value_mistake(word)),
         Operand::Operations => about(word, ops_mistake(word)),
         Operand::Set => set_mistake(word),
+        Operand::List => list_mistake(word),
         Operand::Kind => about(word, kind_mistake(word)),
     }
 }

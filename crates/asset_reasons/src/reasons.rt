@@ -5,12 +5,16 @@
 pub enum Operand {
     /// The number of a transaction or of an object.
     Number,
+    /// The number of a transaction, or `any`.
+    Taker,
     /// A value.
     Value,
     /// Operations.
     Operations,
     /// A set of objects.
     Set,
+    /// A set of objects other than `all`.
+    List,
     /// A kind of dependency.
     Kind,
 }
@@ -30,7 +34,7 @@ pub enum Shape {
     TxnObjectAndValue,
     /// A transaction, an object and an amount to add.
     TxnObjectAndAmount,
-    /// Two transactions, operations and a set of objects.
+    /// Two transactions, operations and a set of objects; `any` in place of the second transaction is anybody.
     TxnsOpsAndSet,
     /// Two transactions and a set of objects.
     TxnsAndSet,

@@ -1,12 +1,13 @@
 //! Why the words of a line are wrong, and why a line is bad.
-ghost use Rattle.std.specs.Prelude.{◌≡◌, drop};
+ghost use Rattle.std.specs.Prelude.{◌≡◌, true, drop};
+ghost use Rattle.asset_reasons.specs.declared.reasons.Shape.TheVariants.{TxnsOpsAndSet};
 ghost use Rattle.std.specs.Char.{is_ascii_uppercase};
 ghost use Rattle.std.specs.List.{list_any};
 ghost use Rattle.asset_grammar.specs.Grammar.{is_blank};
 ghost use Rattle.asset_grammar.specs.Words.{words};
-ghost use Rattle.asset_reasons.specs.Mistakes.{Finds, first_mistake, fits, is_single, mistake_by, operands_of, reason_of, second_word, shape_mistake, shape_of, step_shape, why_unknown, words_mistake};
+ghost use Rattle.asset_reasons.specs.Mistakes.{Finds, first_mistake, fits, is_single, mistake_by, names_anybody, operands_of, reason_of, second_word, shape_mistake, shape_of, step_shape, why_unknown, words_mistake};
 
-use crate::operands::operand_mistake;
+use crate::operands::{ANY, operand_mistake};
 use crate::parts::Parts;
 use crate::reasons::{Mistake, Operand, Reason, Shape};
 use crate::spelling::spelling;
@@ -99,10 +100,33 @@ fn shape_of(word: &[u8]) -> Option<Shape>
     }
 }
 
-/// Returns the operands of a shape; a parent is one of them unless one word alone is there.
+/// Returns the operands of a permit: to anybody it has objects in a list.
 #[tactic(auto, unfolding(crate::specs::Mistakes::operands_of))]
-fn operands_of(shape: Shape, single: bool) -> &'static [Operand]
-    ensures { result.now ≡ operands_of shape single }
+fn permit_operands(anybody: bool) -> &'static [Operand]
+    ensures { result.now ≡ operands_of TxnsOpsAndSet true anybody }
+{
+    if anybody {
+        &[
+            Operand::Number,
+            Operand::Taker,
+            Operand::Operations,
+            Operand::List,
+        ]
+    } else {
+        &[
+            Operand::Number,
+            Operand::Taker,
+            Operand::Operations,
+            Operand::Set,
+        ]
+    }
+}
+
+/// Returns the operands of a shape: a parent is one of them unless one word alone is there, and a permit to anybody has objects in a
+/// list.
+#[tactic(auto, unfolding(crate::specs::Mistakes::operands_of))]
+fn operands_of(shape: Shape, single: bool, anybody: bool) -> &'static [Operand]
+    ensures { result.now ≡ operands_of shape single anybody }
 {
     match shape {
         Shape::ObjectAndValue => &[Operand::Number, Operand::Value],
@@ -117,12 +141,7 @@ fn operands_of(shape: Shape, single: bool) -> &'static [Operand]
         Shape::TxnAndObject => &[Operand::Number, Operand::Number],
         Shape::TxnObjectAndValue => &[Operand::Number, Operand::Number, Operand::Value],
         Shape::TxnObjectAndAmount => &[Operand::Number, Operand::Number, Operand::Value],
-        Shape::TxnsOpsAndSet => &[
-            Operand::Number,
-            Operand::Number,
-            Operand::Operations,
-            Operand::Set,
-        ],
+        Shape::TxnsOpsAndSet => permit_operands(anybody),
         Shape::TxnsAndSet => &[Operand::Number, Operand::Number, Operand::Set],
         Shape::KindAndTxns => &[Operand::Kind, Operand::Number, Operand::Number],
     }
@@ -155,6 +174,20 @@ fn is_single(words: &mut Parts<'_>) -> bool
         Some(_) => match words.next() {
             Some(_) => false,
             None => true,
+        },
+        None => false,
+    }
+}
+
+/// Returns whether the word after the first one is `any`.
+#[tactic(auto, unfolding(crate::specs::Mistakes::names_anybody))]
+fn names_anybody(words: &mut Parts<'_>) -> bool
+    ensures { result ≡ names_anybody words.old }
+{
+    match words.next() {
+        Some(_) => match words.next() {
+            Some(word) => word == ANY,
+            None => false,
         },
         None => false,
     }
@@ -196,7 +229,8 @@ fn shape_mistake<'a>(line: &'a [u8], first: &'a [u8], shape: Shape) -> Option<Mi
     ensures { Finds result (shape_mistake first.now shape (drop 1 (words line.now))) }
 {
     let single = is_single(&mut after_first(line));
-    let operands = operands_of(shape, single);
+    let anybody = names_anybody(&mut after_first(line));
+    let operands = operands_of(shape, single, anybody);
     if fits(operands, &mut after_first(line)) {
         return first_mistake(operands, &mut after_first(line));
     }

@@ -4,12 +4,16 @@ use Rattle.std.specs.List.{list_any}
 use Rattle.std.proofs.lemmas.List.Elements.{filter-append}
 use Rattle.std.proofs.lemmas.List.Folds.{list_any-append}
 use Rattle.asset_names.specs.declared.operations.Op.{Op}
-use Rattle.asset_names.specs.Arrows.{Arrow, linked, among}
+use Rattle.asset_names.specs.declared.steps.Step.{Step}
+use Rattle.asset_names.specs.Arrows.{Arrow, lists, linked, among}
 use Rattle.asset_names.specs.Steps.{Entry, applied}
-use Rattle.asset_names.specs.Operations.{permits, copied}
+use Rattle.asset_names.specs.Endings.{live}
+use Rattle.asset_names.specs.Operations.{permits, openers, permits_along, copied}
 use Rattle.asset_names.proofs.ListLemmas.{any_map, any_filter, all_and}
 use Rattle.asset_reference.specs.declared.allowing.Added.{Added}
 use Rattle.asset_reference.specs.declared.allowing.Added.TheVariants.{Nothing, One, Copies}
+use Rattle.asset_reference.specs.declared.openers.Opened.{Opened}
+use Rattle.asset_reference.specs.Opening.{opened_names, reached}
 use Rattle.asset_reference.specs.Allowing.{added_arrows, goes_along, leads_on, leads_by}
 use Rattle.asset_reference.proofs.AppliedLemmas.{reverse_take_item}
 use Rattle.asset_reference.proofs.WayLemmas.{or_none}
@@ -106,3 +110,37 @@ leads_added test others (Copies giver taker) arrows a b =
 
       leads : Arrow → Bool
       leads arrow = eqb arrow.0 a && on arrow
+
+-- those who permit to anybody by the first entries of a number: whom the newest of them adds, and the others
+pub openers_more : (entries : List Entry) (i : ℕ) (item : Entry) (opened : Opened) (x : ℕ) (op : Op) → i < length entries → item ≡ get_or entries i item
+    → openers (applied (item ∷ reverse (take i entries))) x op
+    ≡ opened_names opened (openers (applied (reverse (take i entries))) x op) ++ openers (applied (reverse (take i entries))) x op
+    → openers (applied (reverse (take (i + 1) entries))) x op
+    ≡ opened_names opened (openers (applied (reverse (take i entries))) x op) ++ openers (applied (reverse (take i entries))) x op
+openers_more entries i item opened x op below is adds = ap (λ list. openers (applied list) x op) (reverse_take_item entries i item below is) ∙ adds
+
+-- whether one of them is reached
+pub reached_more : (steps : List Step) (u : ℕ) (entries : List Entry) (i : ℕ) (item : Entry) (opened : Opened) (x : ℕ) (op : Op) → i < length entries → item ≡ get_or entries i item
+    → openers (applied (item ∷ reverse (take i entries))) x op
+    ≡ opened_names opened (openers (applied (reverse (take i entries))) x op) ++ openers (applied (reverse (take i entries))) x op
+    → reached steps u x op (openers (applied (reverse (take (i + 1) entries))) x op)
+    ≡ (reached steps u x op (opened_names opened (openers (applied (reverse (take i entries))) x op)) || reached steps u x op (openers (applied (reverse (take i entries))) x op))
+unfolding reached
+reached_more steps u entries i item opened x op below is adds =
+    ap (list_any leads) (openers_more entries i item opened x op below is adds)
+    ∙ list_any-append leads (opened_names opened (openers (applied (reverse (take i entries))) x op)) (openers (applied (reverse (take i entries))) x op) where
+      leads : ℕ → Bool
+      leads a = live steps a && permits_along steps u a x op
+
+-- whether a name is one of them
+pub opens_last : (entries : List Entry) (count : ℕ) (item : Entry) (opened : Opened) (n x : ℕ) (op : Op) → 0 < count → count ≤ length entries → item ≡ get_or entries (count - 1) item
+    → openers (applied (item ∷ reverse (take (count - 1) entries))) x op
+    ≡ opened_names opened (openers (applied (reverse (take (count - 1) entries))) x op) ++ openers (applied (reverse (take (count - 1) entries))) x op
+    → lists (openers (applied (reverse (take count entries))) x op) n
+    ≡ (lists (opened_names opened (openers (applied (reverse (take (count - 1) entries))) x op)) n || lists (openers (applied (reverse (take (count - 1) entries))) x op) n)
+unfolding lists
+opens_last entries count item opened n x op some within is adds =
+    let one_more : count ≡ count - 1 + 1 = omega (arith, some) in
+    ap (λ number. lists (openers (applied (reverse (take number entries))) x op) n) one_more
+    ∙ ap (λ list. lists list n) (openers_more entries (count - 1) item opened x op (omega (arith, some, within)) is adds)
+    ∙ list_any-append (λ m. eqb m n) (opened_names opened (openers (applied (reverse (take (count - 1) entries))) x op)) (openers (applied (reverse (take (count - 1) entries))) x op)

@@ -3,7 +3,7 @@ use Rattle.std.proofs.Common.{◌≡◌, ℕ, ◌+◌, ◌-◌, ◌<◌, ◌≤�
 use Rattle.std.specs.Option.{option_or}
 use Rattle.asset_names.specs.declared.statuses.End.TheVariants as End'
 use Rattle.asset_names.specs.declared.steps.Step.{Step}
-use Rattle.asset_names.specs.declared.steps.Step.TheVariants.{Initiate, Begin, Read, Write, Add, Complete, Permit, Delegate, Depend, Commit, Abort, WaitFor}
+use Rattle.asset_names.specs.declared.steps.Step.TheVariants.{Initiate, Begin, Read, Write, Add, Complete, Permit, PermitAny, Delegate, Depend, Commit, Abort, WaitFor}
 use Rattle.asset_names.specs.Steps.{Entry, takes_effect, applied}
 use Rattle.asset_names.specs.Endings.{end_of, ended_by, live}
 use Rattle.asset_names.proofs.Common.{option_or_none}
@@ -29,6 +29,7 @@ end_at_step (Write u x v) steps t = refl
 end_at_step (Add u x d) steps t = refl
 end_at_step (Complete u) steps t = refl
 end_at_step (Permit giver taker obs ops) steps t = refl
+end_at_step (PermitAny giver obs ops) steps t = refl
 end_at_step (Delegate giver taker obs) steps t = refl
 end_at_step (Depend kind a b) steps t = refl
 end_at_step (Commit u) steps t = ap (λ takes. option_or (end_of steps t) (cond takes (Some End'.Committed) None)) (ap (λ linked. live steps u.0 && linked) (sym (classes_are steps u.0 t)) ∙ turned (live steps u.0) _)

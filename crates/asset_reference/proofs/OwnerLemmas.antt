@@ -3,7 +3,7 @@ use Rattle.std.proofs.Common.{◌≡◌, ℕ, ◌+◌, ◌-◌, ◌<◌, Bool, t
 use Rattle.std.proofs.lemmas.List.{take_all, drop_all, at_drop_more, map-id}
 use Rattle.asset_names.specs.declared.sets.ObSet.{ObSet}
 use Rattle.asset_names.specs.declared.steps.Step.{Step}
-use Rattle.asset_names.specs.declared.steps.Step.TheVariants.{Initiate, Begin, Read, Write, Add, Complete, Permit, Delegate, Depend, Commit, Abort, WaitFor}
+use Rattle.asset_names.specs.declared.steps.Step.TheVariants.{Initiate, Begin, Read, Write, Add, Complete, Permit, PermitAny, Delegate, Depend, Commit, Abort, WaitFor}
 use Rattle.asset_names.specs.InSet.{in_set}
 use Rattle.asset_names.specs.Steps.{Entry, takes_effect, applied}
 use Rattle.asset_names.specs.Operations.{Operation, operations, operated, handed_over}
@@ -34,6 +34,7 @@ owned_at_step (Write u y v) steps later = refl
 owned_at_step (Add u y d) steps later = refl
 owned_at_step (Complete u) steps later = refl
 owned_at_step (Permit giver taker obs ops) steps later = refl
+owned_at_step (PermitAny giver obs ops) steps later = refl
 owned_at_step (Delegate giver taker obs) steps later = owned_handed giver.0 taker.0 obs later (operations steps)
 owned_at_step (Depend kind a b) steps later = refl
 owned_at_step (Commit u) steps later = refl

@@ -4,7 +4,7 @@ use Rattle.std.specs.Prelude.{ℤ}
 use Rattle.asset_names.specs.declared.operations.Op.{Op}
 use Rattle.asset_names.specs.declared.steps.Step.{Step}
 use Rattle.asset_names.specs.Steps.{Entry, takes_effect, applied}
-use Rattle.asset_names.specs.Operations.{Operation, permits, permitted_by, value_after}
+use Rattle.asset_names.specs.Operations.{Operation, permits, permitted_by, openers, opened_by, value_after}
 use Rattle.asset_reference.specs.Scans.{value_past}
 use Rattle.asset_names.proofs.AppliedLemmas.{applied_with_effect, applied_without_effect}
 
@@ -28,5 +28,15 @@ unfolding permits
 permits_at_entry x op entry older = at_applied (λ steps. permits steps x op) entry older ∙ go (takes_effect entry.0 entry.1) where
   go : (carried : Bool) → cond carried (permitted_by entry.0 (applied older) (permits (applied older) x op) x op ++ permits (applied older) x op) (permits (applied older) x op)
       ≡ cond carried (permitted_by entry.0 (applied older) (permits (applied older) x op) x op) [] ++ permits (applied older) x op
+  go true = refl
+  go false = refl
+
+-- those who permit to anybody after one more entry
+pub openers_at_entry : (x : ℕ) (op : Op) (entry : Entry) (older : List Entry) →
+    openers (applied (entry ∷ older)) x op ≡ cond (takes_effect entry.0 entry.1) (opened_by entry.0 (applied older) (openers (applied older) x op) x op) [] ++ openers (applied older) x op
+unfolding openers
+openers_at_entry x op entry older = at_applied (λ steps. openers steps x op) entry older ∙ go (takes_effect entry.0 entry.1) where
+  go : (carried : Bool) → cond carried (opened_by entry.0 (applied older) (openers (applied older) x op) x op ++ openers (applied older) x op) (openers (applied older) x op)
+      ≡ cond carried (opened_by entry.0 (applied older) (openers (applied older) x op) x op) [] ++ openers (applied older) x op
   go true = refl
   go false = refl

@@ -4,7 +4,7 @@ use Rattle.std.specs.List.{list_all}
 use Rattle.std.proofs.lemmas.List.Folds.{list_any-append}
 use Rattle.asset_names.specs.declared.steps.Kind.TheVariants.{Cd, Ad, Gc}
 use Rattle.asset_names.specs.declared.steps.Step.{Step}
-use Rattle.asset_names.specs.declared.steps.Step.TheVariants.{Initiate, Begin, Read, Write, Add, Complete, Permit, Delegate, Depend, Commit, Abort, WaitFor}
+use Rattle.asset_names.specs.declared.steps.Step.TheVariants.{Initiate, Begin, Read, Write, Add, Complete, Permit, PermitAny, Delegate, Depend, Commit, Abort, WaitFor}
 use Rattle.asset_names.specs.Arrows.{Arrow, among}
 use Rattle.asset_names.specs.Paths.{same_kind, has_outside}
 use Rattle.asset_names.specs.Steps.{Entry, takes_effect, applied, initiated, initiated_by}
@@ -43,6 +43,7 @@ outside_at_step steps t (Write u x v) some = refl
 outside_at_step steps t (Add u x d) some = refl
 outside_at_step steps t (Complete u) some = refl
 outside_at_step steps t (Permit giver taker obs ops) some = refl
+outside_at_step steps t (PermitAny giver obs ops) some = refl
 outside_at_step steps t (Delegate giver taker obs) some = refl
 outside_at_step steps t (Depend Gc a b) some = refl
 outside_at_step steps t (Depend Cd a b) some = first_of (outside_by steps t a.0 b.0) _ _ where

@@ -1,7 +1,7 @@
 -- One more step and what it says of a name.
 use Rattle.std.proofs.Common.{◌≡◌, ℕ, Bool, true, false, cond, List, ◌∷◌, refl}
 use Rattle.asset_names.specs.declared.steps.Step.{Step}
-use Rattle.asset_names.specs.declared.steps.Step.TheVariants.{Initiate, Begin, Read, Write, Add, Complete, Permit, Delegate, Depend, Commit, Abort, WaitFor}
+use Rattle.asset_names.specs.declared.steps.Step.TheVariants.{Initiate, Begin, Read, Write, Add, Complete, Permit, PermitAny, Delegate, Depend, Commit, Abort, WaitFor}
 use Rattle.asset_names.specs.Arrows.{lists}
 use Rattle.asset_names.specs.Steps.{Entry, takes_effect, applied, initiated, initiated_by, begun, begun_by, completed, completed_by}
 use Rattle.asset_names.proofs.AppliedLemmas.{applied_with_effect, applied_without_effect}
@@ -16,6 +16,7 @@ track_of_more (Write u x v) steps t = refl
 track_of_more (Add u x d) steps t = refl
 track_of_more (Complete u) steps t = refl
 track_of_more (Permit giver taker obs ops) steps t = refl
+track_of_more (PermitAny giver obs ops) steps t = refl
 track_of_more (Delegate giver taker obs) steps t = refl
 track_of_more (Depend kind a b) steps t = refl
 track_of_more (Commit u) steps t = refl

@@ -5,7 +5,7 @@ use Rattle.std.proofs.lemmas.List.Folds.{list_any-append}
 use Rattle.std.proofs.lemmas.Bool.{false≢true, eqb-true}
 use Rattle.asset_names.specs.declared.steps.Kind.TheVariants.{Cd, Ad, Gc}
 use Rattle.asset_names.specs.declared.steps.Step.{Step}
-use Rattle.asset_names.specs.declared.steps.Step.TheVariants.{Initiate, Begin, Read, Write, Add, Complete, Permit, Delegate, Depend, Commit, Abort, WaitFor}
+use Rattle.asset_names.specs.declared.steps.Step.TheVariants.{Initiate, Begin, Read, Write, Add, Complete, Permit, PermitAny, Delegate, Depend, Commit, Abort, WaitFor}
 use Rattle.asset_names.specs.Arrows.{Arrow, has_arrow, linked, among}
 use Rattle.asset_names.specs.Paths.{same_kind, both_ways, leads}
 use Rattle.asset_names.specs.Steps.{Entry, takes_effect, applied}
@@ -117,6 +117,7 @@ ways_of_classes (Write t x v ∷ steps) = ways_of_classes steps
 ways_of_classes (Add t x d ∷ steps) = ways_of_classes steps
 ways_of_classes (Complete t ∷ steps) = ways_of_classes steps
 ways_of_classes (Permit giver taker obs ops ∷ steps) = ways_of_classes steps
+ways_of_classes (PermitAny giver obs ops ∷ steps) = ways_of_classes steps
 ways_of_classes (Delegate giver taker obs ∷ steps) = ways_of_classes steps
 ways_of_classes (Commit t ∷ steps) = ways_of_classes steps
 ways_of_classes (Abort t ∷ steps) = ways_of_classes steps
@@ -161,6 +162,7 @@ has_aborts (Write t x w ∷ steps) u v = has_aborts steps u v
 has_aborts (Add t x d ∷ steps) u v = has_aborts steps u v
 has_aborts (Complete t ∷ steps) u v = has_aborts steps u v
 has_aborts (Permit giver taker obs ops ∷ steps) u v = has_aborts steps u v
+has_aborts (PermitAny giver obs ops ∷ steps) u v = has_aborts steps u v
 has_aborts (Delegate giver taker obs ∷ steps) u v = has_aborts steps u v
 has_aborts (Commit t ∷ steps) u v = has_aborts steps u v
 has_aborts (Abort t ∷ steps) u v = has_aborts steps u v
@@ -188,6 +190,7 @@ has_paths (Write t x w ∷ steps) u v = has_paths steps u v
 has_paths (Add t x d ∷ steps) u v = has_paths steps u v
 has_paths (Complete t ∷ steps) u v = has_paths steps u v
 has_paths (Permit giver taker obs ops ∷ steps) u v = has_paths steps u v
+has_paths (PermitAny giver obs ops ∷ steps) u v = has_paths steps u v
 has_paths (Delegate giver taker obs ∷ steps) u v = has_paths steps u v
 has_paths (Commit t ∷ steps) u v = has_paths steps u v
 has_paths (Abort t ∷ steps) u v = has_paths steps u v

@@ -1,13 +1,15 @@
 //! Who allows whom, by going over the entries from the newest on.
 
-ghost use Rattle.std.specs.Prelude.{◌≡◌, ◌≤◌, ◌++◌, List, ◌∷◌, length, reverse, take};
+ghost use Rattle.std.specs.Prelude.{◌≡◌, ◌<◌, ◌≤◌, ◌+◌, ◌||◌, ◌&&◌, ◌++◌, List, ◌∷◌, length, reverse, take};
 ghost use Rattle.asset_names.specs.Arrows.{Arrow, among, linked};
 ghost use Rattle.asset_names.specs.Steps.{applied};
 ghost use Rattle.asset_names.specs.Endings.{live};
-ghost use Rattle.asset_names.specs.Operations.{permits, permitted_by, allows};
+ghost use Rattle.asset_names.specs.Operations.{permits, permitted_by, openers, permits_along, reaches_opener, allows};
 ghost use Rattle.asset_reference.specs.Allowing.{added_arrows, goes_along, leads_on, leads_by};
+ghost use Rattle.asset_reference.specs.Opening.{opened_names, reached};
 
 use crate::holding::holds_object;
+use crate::openers::{Opened, opened_at, opens_within};
 use crate::tracks::is_live;
 use asset_names::{Ob, Op, Reply, Step, Txn, takes_effect};
 
@@ -153,10 +155,70 @@ fn leads_by(
     }
 }
 
+/// Returns whether permits to named transactions lead from `u` to `t` between live ones, or they are one.
+#[tactic(auto, unfolding(asset_names::specs::Operations::permits_along))]
+fn permits_along(entries: &[(Step, Reply)], u: Txn, t: Txn, x: Ob, op: Op) -> bool
+    ensures { result ≡ permits_along (applied (reverse entries.now)) u.0 t.0 x.0 op }
+{
+    allows_within(entries, entries.len(), (u, t), x, op)
+}
+
+/// Returns whether `a` is live and permits lead from `u` to it.
+#[tactic(auto)]
+fn leads_to(entries: &[(Step, Reply)], u: Txn, a: Txn, x: Ob, op: Op) -> bool
+    ensures { result ≡ (live (applied (reverse entries.now)) a.0 && permits_along (applied (reverse entries.now)) u.0 a.0 x.0 op) }
+{
+    is_live(entries, a) && permits_along(entries, u, a, x, op)
+}
+
+/// Returns whether permits lead from `u` to whom the next entry adds to those who permit `op` on `x` to anybody by the
+/// first `count` entries.
+#[tactic(auto, unfolding(crate::specs::Opening::opened_names, crate::specs::Opening::reached))]
+fn reaches_by(
+    entries: &[(Step, Reply)],
+    count: usize,
+    opened: Opened,
+    u: Txn,
+    x: Ob,
+    op: Op,
+) -> bool
+    requires { count ≤ length entries.now }
+    ensures { result ≡ reached (applied (reverse entries.now)) u.0 x.0 op (opened_names opened (openers (applied (reverse (take count entries.now))) x.0 op)) }
+{
+    match opened {
+        Opened::Nobody => false,
+        Opened::Giver(giver) => leads_to(entries, u, giver, x, op),
+        Opened::Taker(giver, taker) => {
+            opens_within(entries, count, giver, x, op) && leads_to(entries, u, taker, x, op)
+        }
+    }
+}
+
+/// Returns whether permits lead from `u` to whom the entry of this index adds to those who permit `op` on `x` to anybody.
+fn reaches_at(entries: &[(Step, Reply)], index: usize, u: Txn, x: Ob, op: Op) -> bool
+    requires { index < length entries.now }
+    ensures { reached (applied (reverse entries.now)) u.0 x.0 op (openers (applied (reverse (take (index + 1) entries.now))) x.0 op)
+        ≡ (result || reached (applied (reverse entries.now)) u.0 x.0 op (openers (applied (reverse (take index entries.now))) x.0 op)) }
+{
+    let opened = opened_at(&entries[..index], &entries[index], x, op);
+    reaches_by(entries, index, opened, u, x, op)
+}
+
+/// Returns whether permits lead from `u` to one who permits `op` on `x` to anybody.
+fn reaches_opener(entries: &[(Step, Reply)], u: Txn, x: Ob, op: Op) -> bool
+    ensures { result ≡ reaches_opener (applied (reverse entries.now)) u.0 x.0 op }
+{
+    let mut reached = false;
+    'entries: for index in 0..entries.len() {
+        reached = reaches_at(entries, index, u, x, op) || reached;
+    }
+    reached
+}
+
 /// Returns whether `u` allows `t` to do `op` on `x`.
 #[tactic(auto, unfolding(asset_names::specs::Operations::allows))]
 pub fn allows(entries: &[(Step, Reply)], u: Txn, t: Txn, x: Ob, op: Op) -> bool
     ensures { result ≡ allows (applied (reverse entries.now)) u.0 t.0 x.0 op }
 {
-    allows_within(entries, entries.len(), (u, t), x, op)
+    permits_along(entries, u, t, x, op) || is_live(entries, t) && reaches_opener(entries, u, x, op)
 }

@@ -53,6 +53,7 @@ fn unrefused(opening: &[(Ob, i64)], entries: &[(Step, Reply)], step: &Step) -> O
         | Step::Begin { .. }
         | Step::Complete { .. }
         | Step::Permit { .. }
+        | Step::PermitAny { .. }
         | Step::Delegate { .. }
         | Step::Depend { .. } => Outcome::Answer(Reply::Done),
         Step::Read { t, x } if is_free(entries, t, x, Op::Read) => {

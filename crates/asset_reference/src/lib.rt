@@ -8,6 +8,7 @@ mod depending;
 mod endings;
 mod freedom;
 mod holding;
+mod openers;
 mod openings;
 mod operating;
 mod refusals;

@@ -1,10 +1,11 @@
 //! The objects that exist, and their opening values.
 
 ghost use Rattle.std.specs.Prelude.{◌≡◌, not, find};
+ghost use Rattle.asset_names.specs.declared.sets.ObSet.TheVariants as ObSet';
 ghost use Rattle.asset_names.specs.Operations.{opening_at, exists};
 ghost use Rattle.asset_names.specs.Answers.{missing_in};
 
-use asset_names::{Ob, ObSet};
+use asset_names::{Ob, ObList, ObSet};
 
 /// Returns the opening value of an object, and `None` if there is no such object.
 #[tactic(auto, unfolding(asset_names::specs::Operations::opening_at))]
@@ -35,6 +36,14 @@ fn first_missing(opening: &[(Ob, i64)], objects: &[Ob]) -> Option<Ob>
     objects.iter().copied().find(|x| is_missing(opening, *x))
 }
 
+/// Returns the least object of the list that does not exist, if there is one.
+#[tactic(auto, unfolding(asset_names::specs::Answers::missing_in))]
+pub fn missing_among(opening: &[(Ob, i64)], list: &ObList) -> Option<Ob>
+    ensures { result ≡ missing_in opening.now (ObSet'.Listed list.now) }
+{
+    first_missing(opening, list.objects())
+}
+
 /// Returns the least object of the set that does not exist, if there is one.
 #[tactic(auto, unfolding(asset_names::specs::Answers::missing_in))]
 pub fn missing_in(opening: &[(Ob, i64)], obs: &ObSet) -> Option<Ob>
@@ -42,6 +51,6 @@ pub fn missing_in(opening: &[(Ob, i64)], obs: &ObSet) -> Option<Ob>
 {
     match obs {
         ObSet::All => None,
-        ObSet::Listed(list) => first_missing(opening, list.objects()),
+        ObSet::Listed(list) => missing_among(opening, list),
     }
 }

@@ -5,11 +5,12 @@ ghost use Rattle.asset_names.specs.Steps.{applied};
 ghost use Rattle.asset_names.specs.Answers.{first_refusal, rules_for, one_name, unknown, ended, cycle};
 
 use crate::depending::would_cycle;
-use crate::openings::{missing_in, opening_at};
+use crate::openings::{missing_among, missing_in, opening_at};
 use crate::tracks::status_after;
 use asset_names::{
     Kind, Ob, Refusal, Reply, Step, Txn, refusal_between, refusal_to_abort, refusal_to_begin,
-    refusal_to_depend, refusal_to_find, refusal_to_initiate, refusal_to_operate, refusal_to_work,
+    refusal_to_depend, refusal_to_find, refusal_to_initiate, refusal_to_open, refusal_to_operate,
+    refusal_to_work,
 };
 
 /// Returns why no dependency of `b` on `a` may be made: as far as their statuses say, and if it would close a cycle.
@@ -51,6 +52,10 @@ pub fn refusal(opening: &[(Ob, i64)], entries: &[(Step, Reply)], step: &Step) ->
             status_after(entries, taker),
             missing_in(opening, &obs),
         ),
+        Step::PermitAny { giver, obs, .. } => {
+            let missing = missing_among(opening, &obs);
+            refusal_to_open(giver, status_after(entries, giver), missing)
+        }
         Step::Depend { kind, a, b } => refusal_of_dependency(entries, kind, a, b),
         Step::Commit { t } | Step::WaitFor { t } => refusal_to_find(t, status_after(entries, t)),
         Step::Abort { t } => refusal_to_abort(t, status_after(entries, t)),

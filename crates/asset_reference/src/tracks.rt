@@ -64,6 +64,7 @@ impl Track {
             | Step::Write { .. }
             | Step::Add { .. }
             | Step::Permit { .. }
+            | Step::PermitAny { .. }
             | Step::Delegate { .. }
             | Step::Depend { .. }
             | Step::Commit { .. }

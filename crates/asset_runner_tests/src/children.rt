@@ -8,7 +8,7 @@ use crate::bodies::{answers_for, gives_up, writes};
 use crate::gates::Open;
 use crate::running::{Closing, Setting, Wanted, initiated, open_manager, run_and_close};
 use asset_manager::{Manager, Session};
-use asset_names::{Fault, Kind, Ob, ObSet, Op, Ops, Outcome, Reply, Txn};
+use asset_names::{Fault, Kind, Ob, ObList, ObSet, Op, Ops, Outcome, Reply, Txn};
 use asset_runner::{Body, ChildEnd, Finished, JobEnd, Plan, Tx};
 use asset_test_tools::initiate;
 use std::sync::atomic::{AtomicU64, Ordering};
@@ -334,6 +334,55 @@ fn body_permits_delegates_and_depends(rt: HostRuntime) -> Result<(), Fail> {
     assert_eq!(rt;
         (left.as_wanted, left.audit, notes.shown()),
         (true, Ok(()), (0, 3))
+    );
+    Ok(())
+}
+
+/// Lets anybody read object 1; is done. Notes whether it was answered `Done`.
+fn opens_one<R: Wait>(rt: &R, tx: Tx, notes: &Notes) -> Finished
+    ensures { result.of ≡ Some tx.manager }
+{
+    let mut tx = tx;
+    let opened = is_done(tx.permit_any(rt, ObList::one(Ob(1)), Ops::only(Op::Read)));
+    notes.read.store(u64::from(opened), Ordering::SeqCst);
+    tx.done(rt)
+}
+
+#[test]
+fn body_permits_anybody(rt: HostRuntime) -> Result<(), Fail> {
+    let alloc = rt.alloc();
+    let notes = Arc::new(alloc, Notes::none())?;
+    let theirs = Arc::try_clone(&notes)?;
+    let seven: Body = Box::new(alloc, move |tx: Tx| opens_one(&rt, tx, &theirs))?;
+    let Setting {
+        manager,
+        shared,
+        session,
+        other,
+    } = open_manager(alloc)?;
+    let mut plan = Plan::new(alloc, shared, session, Some(1_000));
+    let refused = initiated(&rt, &mut plan, 7, seven);
+    let wanted = Wanted {
+        ends: &[(7, JobEnd::Committed)],
+        left: &[],
+        history: "\
+            initiate 7: ok\nbegin 7: ok\npermit 7 any r 1: ok\ncomplete 7: ok\ncommit 7: committed\n",
+    };
+    let left = run_and_close(
+        &rt,
+        alloc,
+        manager,
+        plan,
+        other,
+        1,
+        &Open,
+        Closing::All,
+        &wanted,
+    )?;
+    assert_eq!(rt; (refused, left.cause, left.wrong), (None, None, None));
+    assert_eq!(rt;
+        (left.as_wanted, left.audit, notes.shown()),
+        (true, Ok(()), (0, 1))
     );
     Ok(())
 }

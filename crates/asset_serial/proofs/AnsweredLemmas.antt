@@ -1,9 +1,10 @@
 -- Whose commits were answered, who has committed, and who shares nothing.
-use Rattle.std.proofs.Common.{◌≡◌, ℕ, ◌<◌, ◌+◌, Bool, true, false, cond, not, eqb, ◌&&◌, ◌||◌, List, [], ◌∷◌, ◌++◌, length, get_or, take, reverse, refl, sym, ◌∙◌, ap, inl, inr, ◌⊎◌, Some, None, arith}
+use Rattle.std.proofs.Common.{◌≡◌, ℕ, ◌<◌, ◌+◌, Bool, true, false, cond, not, eqb, ◌&&◌, ◌||◌, List, [], ◌∷◌, ◌++◌, length, get_or, map, take, reverse, refl, sym, ◌∙◌, ap, inl, inr, ◌⊎◌, Some, None, arith}
 use Rattle.std.specs.Prelude.{Option, slice_get, is_some, ◌↔◌}
 use Rattle.std.specs.List.{list_all}
 use Rattle.std.proofs.lemmas.Bool.{cases_eq, or_cases, or_left, or_right, and_parts, and_from, eqb-true, eq-eqb, false≢true}
-use Rattle.std.proofs.lemmas.List.{reverse-append, get_or_append_left, get_or_push, length_push}
+use Rattle.std.proofs.lemmas.List.Folds.{list_all-append}
+use Rattle.std.proofs.lemmas.List.{reverse-append, map_more, get_or_append_left, get_or_push, length_push}
 use Rattle.std.proofs.lemmas.Option.{slice_get_cases}
 use Rattle.asset_names.specs.declared.names.Txn.{Txn}
 use Rattle.asset_names.specs.declared.steps.Step.{Step}
@@ -14,16 +15,17 @@ use Rattle.asset_names.specs.declared.replies.Outcome.TheVariants.{Answer}
 use Rattle.asset_names.specs.Arrows.{Arrow, lists, has_arrow}
 use Rattle.asset_names.specs.Steps.{Opening, Entry, takes_effect, applied}
 use Rattle.asset_names.specs.Endings.{end_of, live}
-use Rattle.asset_names.specs.Groups.{actor, partner, joins, joined_by, was_committed}
+use Rattle.asset_names.specs.Groups.{actor, partner, joins, was_committed}
 use Rattle.asset_names.specs.Answers.{answer, IsLegal}
 use Rattle.asset_names.proofs.Common.{both_follow}
 use Rattle.asset_names.proofs.EndLemmas.{live_parts, commits, commit_ends}
 use Rattle.asset_names.proofs.ListLemmas.{lists_at}
 use Rattle.asset_laws.specs.Serial.{committed_by as named_by, committed_names, is_apart, shares_nothing, CommittedShareNothing}
 use Rattle.asset_laws.proofs.KeepLinks.{Keeps}
-use Rattle.asset_laws.proofs.GroupLemmas.{keeps_respects}
+use Rattle.asset_laws.proofs.GroupLemmas.{later_join, keeps_respects}
 use Rattle.asset_history.specs.Committing.{committed_by, passes, has_commit, commit_at}
 use Rattle.asset_history.proofs.EntryLemmas.{next_entry}
+use Rattle.asset_meetings.specs.Meetings.{arrows_of, partners}
 use Rattle.asset_deletion.specs.Named.{with_name}
 use Rattle.asset_deletion.proofs.DeadLemmas.{committed_by_member, member_committed, committed_after, committed_stays}
 use Rattle.asset_deletion.proofs.NameLemmas.{with_new, with_old}
@@ -165,9 +167,22 @@ sharing_found opening entries legal =
 
 -- one more entry
 pub apart_more : (test : ℕ → Bool) (entries : List Entry) (i : ℕ) (entry : Entry) → slice_get entries i ≡ Some entry
-    → list_all (is_apart test) (joins (reverse (take (i + 1) entries))) ≡ (is_apart test ((actor entry.0).0, (partner entry.0).0) && list_all (is_apart test) (joins (reverse (take i entries))))
-unfolding joins joined_by
+    → list_all (is_apart test) (partners (reverse (take (i + 1) entries))) ≡ (is_apart test ((actor entry.0).0, (partner entry.0).0) && list_all (is_apart test) (partners (reverse (take i entries))))
+unfolding partners
 apart_more test entries i entry at = rw (next_entry entries i entry at) refl
+
+-- one more meeting
+pub met_more : (test : ℕ → Bool) (met : List (Txn × Txn)) (k : ℕ) (none : Txn × Txn) → k < length met
+    → list_all (is_apart test) (arrows_of (take (k + 1) met)) ≡ (list_all (is_apart test) (arrows_of (take k met)) && is_apart test ((get_or met k none).0.0, (get_or met k none).1.0))
+unfolding arrows_of
+met_more test met k none below =
+    let pair : Txn × Txn → Arrow = λ join. (join.0.0, join.1.0) in
+    ap (list_all (is_apart test)) (map_more pair met k none below)
+    ∙ list_all-append (is_apart test) (map pair (take k met)) (pair (get_or met k none) ∷ [])
+    ∙ ap (λ b. list_all (is_apart test) (map pair (take k met)) && b) (alone (is_apart test (pair (get_or met k none)))) where
+      alone : (b : Bool) → (b && true) ≡ b
+      alone true = refl
+      alone false = refl
 
 -- ---- the order of commits
 commit_is : (step : Step) (reply : Reply) (t : Txn) → committed_by step reply ≡ Some t → (step ≡ Commit t) × (reply ≡ Reply'.Committed)
@@ -209,13 +224,12 @@ one_more opening t older legal is known same = go (live (applied older) t.0) ref
   go false e = with_old (answered_names older) t.0 (known t.0 (old e)) ∙ same
 
 share_rest : (entry : Entry) (older : List Entry) → CommittedShareNothing (entry ∷ older) → CommittedShareNothing older
-unfolding joins joined_by has_arrow
 share_rest entry older share u v h some =
     let later : (committed (entry ∷ older) u || committed (entry ∷ older) v) ≡ true = elim (or_cases (committed older u) (committed older v) some) [
       | inl first ↦ or_left _ _ (committed_stays entry older u first)
       | inr second ↦ or_right (committed (entry ∷ older) u) _ (committed_stays entry older v second)
     ] in
-    share u v (or_right (eqb (actor entry.0).0 u && eqb (partner entry.0).0 v) _ h) later
+    share u v (later_join entry older u v h) later
 
 pub answered_apart : (opening : Opening) (entries : List Entry) → IsLegal opening entries → CommittedShareNothing entries → Apart (lists (answered_names entries)) (joins entries)
 answered_apart opening entries legal share = apart_weaker (committed entries) (lists (answered_names entries)) (joins entries) (answered_committed opening entries legal) share

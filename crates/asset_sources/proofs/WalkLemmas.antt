@@ -8,7 +8,7 @@ use Rattle.std.proofs.Math.Nat.{eq-or-lt_of_le}
 use Rattle.asset_names.specs.declared.names.Txn.{Txn}
 use Rattle.asset_names.specs.declared.names.Ob.{Ob}
 use Rattle.asset_names.specs.declared.steps.Step.{Step}
-use Rattle.asset_names.specs.declared.steps.Step.TheVariants.{Initiate, Begin, Read, Write, Add, Complete, Permit, Delegate, Depend, Commit, Abort, WaitFor}
+use Rattle.asset_names.specs.declared.steps.Step.TheVariants.{Initiate, Begin, Read, Write, Add, Complete, Permit, PermitAny, Delegate, Depend, Commit, Abort, WaitFor}
 use Rattle.asset_names.specs.declared.replies.Reply.{Reply}
 use Rattle.asset_names.specs.declared.replies.Reply.TheVariants as Reply'
 use Rattle.asset_names.specs.Steps.{Opening, Entry, takes_effect, applied}
@@ -72,6 +72,7 @@ effect_writing n (Write t x v) (Reply'.Refused refusal) = refl
 effect_writing n (Add t x v) (Reply'.Refused refusal) = refl
 effect_writing n (Complete t) reply = refl
 effect_writing n (Permit giver taker obs ops) reply = refl
+effect_writing n (PermitAny giver obs ops) reply = refl
 effect_writing n (Delegate giver taker obs) reply = refl
 effect_writing n (Depend kind a b) reply = refl
 effect_writing n (Commit t) reply = refl
@@ -92,6 +93,7 @@ effect_reading older (Write t x v) reply = refl
 effect_reading older (Add t x v) reply = refl
 effect_reading older (Complete t) reply = refl
 effect_reading older (Permit giver taker obs ops) reply = refl
+effect_reading older (PermitAny giver obs ops) reply = refl
 effect_reading older (Delegate giver taker obs) reply = refl
 effect_reading older (Depend kind a b) reply = refl
 effect_reading older (Commit t) reply = refl
@@ -159,6 +161,7 @@ no_read older (Write t x v) reply other = refl
 no_read older (Add t x v) reply other = refl
 no_read older (Complete t) reply other = refl
 no_read older (Permit giver taker obs ops) reply other = refl
+no_read older (PermitAny giver obs ops) reply other = refl
 no_read older (Delegate giver taker obs) reply other = refl
 no_read older (Depend kind a b) reply other = refl
 no_read older (Commit t) reply other = refl
@@ -179,6 +182,7 @@ no_value older (Write t x v) reply other = refl
 no_value older (Add t x v) reply other = refl
 no_value older (Complete t) reply other = refl
 no_value older (Permit giver taker obs ops) reply other = refl
+no_value older (PermitAny giver obs ops) reply other = refl
 no_value older (Delegate giver taker obs) reply other = refl
 no_value older (Depend kind a b) reply other = refl
 no_value older (Commit t) reply other = refl

@@ -7,7 +7,7 @@ use Rattle.asset_names.specs.declared.operations.Op.TheVariants as Op'
 use Rattle.asset_names.specs.declared.statuses.Status.{Status}
 use Rattle.asset_names.specs.declared.statuses.Status.TheVariants as Status'
 use Rattle.asset_names.specs.declared.steps.Step.{Step}
-use Rattle.asset_names.specs.declared.steps.Step.TheVariants.{Initiate, Begin, Read, Write, Add, Complete, Permit, Delegate, Depend, Commit, Abort, WaitFor}
+use Rattle.asset_names.specs.declared.steps.Step.TheVariants.{Initiate, Begin, Read, Write, Add, Complete, Permit, PermitAny, Delegate, Depend, Commit, Abort, WaitFor}
 use Rattle.asset_names.specs.declared.replies.Refusal.{Refusal}
 use Rattle.asset_names.specs.declared.replies.Reply.{Reply}
 use Rattle.asset_names.specs.declared.replies.Outcome.{Outcome}
@@ -15,7 +15,7 @@ use Rattle.asset_names.specs.declared.replies.Outcome.TheVariants.{Answer, Wait}
 use Rattle.asset_names.specs.Steps.{Opening, takes_effect}
 use Rattle.asset_names.specs.Endings.{status, is_live_status}
 use Rattle.asset_names.specs.Answers.{answer, outcome_unless, unrefused, rules_for, first_refusal, unknown, ended, taken, begun_before, is_unknown, has_ended, has_begun, is_running, may_commit, commit_outcome}
-use Rattle.asset_names.proofs.LegalLemmas.{effect_unrefused, first_none, complete_runs, permit_live, delegate_live, depend_live}
+use Rattle.asset_names.proofs.LegalLemmas.{effect_unrefused, first_none, complete_runs, permit_live, open_live, delegate_live, depend_live}
 use Rattle.asset_trans.specs.TransRows.{status_in}
 use Rattle.asset_ends.specs.Shows.{Shows}
 use Rattle.asset_ends.specs.Standing.{Standing, values_of, is_free_for}
@@ -118,6 +118,7 @@ ready opening steps tables (Complete t) reply stand is carried = stand.statuses 
 ready opening steps tables (Permit giver taker obs ops) reply stand is carried =
     let both = permit_live opening steps giver taker obs ops reply is carried in
     (live_shown opening steps _ _ _ _ _ giver.0 stand ∙ both.0, live_shown opening steps _ _ _ _ _ taker.0 stand ∙ both.1)
+ready opening steps tables (PermitAny giver obs ops) reply stand is carried = live_shown opening steps _ _ _ _ _ giver.0 stand ∙ open_live opening steps giver obs ops reply is carried
 ready opening steps tables (Delegate giver taker obs) reply stand is carried =
     let both = delegate_live opening steps giver taker obs reply is carried in
     (live_shown opening steps _ _ _ _ _ giver.0 stand ∙ both.1, live_shown opening steps _ _ _ _ _ taker.0 stand ∙ both.2)
@@ -145,6 +146,7 @@ may_wait opening steps tables (Initiate t parent) stand is = tt
 may_wait opening steps tables (Begin t) stand is = tt
 may_wait opening steps tables (Complete t) stand is = tt
 may_wait opening steps tables (Permit giver taker obs ops) stand is = tt
+may_wait opening steps tables (PermitAny giver obs ops) stand is = tt
 may_wait opening steps tables (Delegate giver taker obs) stand is = tt
 may_wait opening steps tables (Depend kind a b) stand is = tt
 may_wait opening steps tables (Commit t) stand is = tt

@@ -6,10 +6,11 @@ use Rattle.std.proofs.lemmas.Bool.{false≢true}
 use Rattle.asset_names.specs.declared.names.Txn.{Txn}
 use Rattle.asset_names.specs.declared.names.Ob.{Ob}
 use Rattle.asset_names.specs.declared.sets.ObSet.{ObSet}
+use Rattle.asset_names.specs.declared.sets.ObSet.TheVariants.{Listed}
 use Rattle.asset_names.specs.declared.statuses.Status.{Status}
 use Rattle.asset_names.specs.declared.statuses.Status.TheVariants as Status'
 use Rattle.asset_names.specs.declared.steps.Kind.{Kind}
-use Rattle.asset_names.specs.declared.steps.Step.TheVariants.{Permit, Delegate, Depend}
+use Rattle.asset_names.specs.declared.steps.Step.TheVariants.{Permit, PermitAny, Delegate, Depend}
 use Rattle.asset_names.specs.declared.replies.Refusal.{Refusal}
 use Rattle.asset_names.specs.declared.replies.Refusal.TheVariants.{Unknown, Ended, Same, Cycle}
 use Rattle.asset_names.specs.declared.replies.Reply.TheVariants.{Done, Refused}
@@ -102,6 +103,41 @@ permit_lacks before later giver taker obs ops missing lacks none same = lacking 
 pub delegate_lacks : (before later : Standing) (giver taker : Txn) (obs : ObSet) (missing : Option Ob) → IsMissing before obs missing → first_refusal (share_rules before giver taker missing) ≡ None → ShowAlike later before → Lacked before (Delegate giver taker obs) later
 unfolding takes_effect takes_memory
 delegate_lacks before later giver taker obs missing lacks none same = lacking before later (Delegate giver taker obs) Done refl (delegate_given before giver taker obs missing lacks none) refl same
+
+-- Permits to anybody
+
+abbrev pub giver_rules : Status → Txn → List Rule → List Rule
+giver_rules gives giver rules = (is_unknown gives, Unknown giver) ∷ (has_ended gives, Ended giver) ∷ rules
+
+-- a giver to whom nothing is refused is live
+pub giver_live : (gives : Status) (giver : Txn) (rules : List Rule) → first_refusal (giver_rules gives giver rules) ≡ None → is_live_status gives ≡ true
+giver_live gives giver rules none =
+    let one = first_none _ _ none in
+    let two = first_none _ _ one.1 in
+    standing_live gives one.0 two.0
+
+abbrev pub open_rules : Standing → Txn → Option Ob → List Rule
+open_rules tables giver missing = giver_rules (status_in tables.trans giver.0) giver (missing_rule missing ∷ [])
+
+decides_open : (tables : Standing) (giver : Txn) (obs : List Ob) (ops : _) (missing : Option Ob) → IsMissing tables (Listed obs) missing → Decides (open_rules tables giver missing) tables (PermitAny giver obs ops)
+unfolding rules_for unknown ended no_object_of
+decides_open tables giver obs ops missing is = λ opening steps stand. rw (is opening steps stand, stand.statuses giver.0) refl
+
+pub open_refused : (tables : Standing) (giver : Txn) (obs : List Ob) (ops : _) (missing : Option Ob) (refusal : Refusal) → IsMissing tables (Listed obs) missing → first_refusal (open_rules tables giver missing) ≡ Some refusal → Stepped tables (PermitAny giver obs ops) (Answer (Refused refusal)) tables
+unfolding takes_effect
+open_refused tables giver obs ops missing refusal lacks is = refused_by _ tables (PermitAny giver obs ops) refusal (decides_open tables giver obs ops missing lacks) is refl
+
+open_given : (tables : Standing) (giver : Txn) (obs : List Ob) (ops : _) (missing : Option Ob) → IsMissing tables (Listed obs) missing → first_refusal (open_rules tables giver missing) ≡ None → ForShown tables (λ opening steps. answer opening steps (PermitAny giver obs ops) ≡ Answer Done)
+unfolding unrefused
+open_given tables giver obs ops missing lacks none = λ opening steps stand. given_by _ tables (PermitAny giver obs ops) opening steps (Answer Done) stand (decides_open tables giver obs ops missing lacks) none refl
+
+pub open_done : (before later : Standing) (giver : Txn) (obs : List Ob) (ops : _) (missing : Option Ob) → IsMissing before (Listed obs) missing → first_refusal (open_rules before giver missing) ≡ None → ShowsWith before (PermitAny giver obs ops) later → later.locks ≡ before.locks → Stepped before (PermitAny giver obs ops) (Answer Done) later
+unfolding takes_effect locks_after
+open_done before later giver obs ops missing lacks none stands locks = effective before later (PermitAny giver obs ops) Done (open_given before giver obs ops missing lacks none) refl (λ opening steps stand orderly. stands opening steps stand) locks
+
+pub open_lacks : (before later : Standing) (giver : Txn) (obs : List Ob) (ops : _) (missing : Option Ob) → IsMissing before (Listed obs) missing → first_refusal (open_rules before giver missing) ≡ None → SameView later before → Lacked before (PermitAny giver obs ops) later
+unfolding takes_effect takes_memory
+open_lacks before later giver obs ops missing lacks none same = lacking before later (PermitAny giver obs ops) Done refl (open_given before giver obs ops missing lacks none) refl (same_alike later before same)
 
 -- Dependencies
 

@@ -3,7 +3,7 @@ use Rattle.std.specs.Prelude.{◌≡◌, ℕ, ℤ, pos, Bool, true, false, cond,
 use Rattle.asset_names.specs.declared.operations.Op.TheVariants as Op'
 use Rattle.asset_names.specs.declared.statuses.Status.TheVariants as Status'
 use Rattle.asset_names.specs.declared.steps.Step.{Step}
-use Rattle.asset_names.specs.declared.steps.Step.TheVariants.{Initiate, Begin, Read, Write, Add, Complete, Permit, Delegate, Depend, Commit, Abort, WaitFor}
+use Rattle.asset_names.specs.declared.steps.Step.TheVariants.{Initiate, Begin, Read, Write, Add, Complete, Permit, PermitAny, Delegate, Depend, Commit, Abort, WaitFor}
 use Rattle.asset_names.specs.declared.replies.Reply.TheVariants as Reply'
 use Rattle.asset_names.specs.declared.replies.Outcome.{Outcome}
 use Rattle.asset_names.specs.declared.replies.Outcome.TheVariants.{Answer, Wait}
@@ -31,6 +31,7 @@ IsReady (Write t x v) tables = (status_in tables.trans t.0 ≡ Status'.Running) 
 IsReady (Add t x d) tables = (status_in tables.trans t.0 ≡ Status'.Running) × (is_free_for tables t.0 x.0 Op'.Add ≡ true) × (has_object (cells tables.objects) x.0 ≡ true)
 IsReady (Complete t) tables = status_in tables.trans t.0 ≡ Status'.Running
 IsReady (Permit giver taker obs ops) tables = (is_live_status (status_in tables.trans giver.0) ≡ true) × (is_live_status (status_in tables.trans taker.0) ≡ true)
+IsReady (PermitAny giver obs ops) tables = is_live_status (status_in tables.trans giver.0) ≡ true
 IsReady (Delegate giver taker obs) tables = (is_live_status (status_in tables.trans giver.0) ≡ true) × (is_live_status (status_in tables.trans taker.0) ≡ true)
 IsReady (Depend kind a b) tables = (is_live_status (status_in tables.trans a.0) ≡ true) × (is_live_status (status_in tables.trans b.0) ≡ true) × (would_cycle_in tables.deps kind a.0 b.0 ≡ false)
 IsReady (Commit t) tables = is_live_status (status_in tables.trans t.0) ≡ true → may_commit_in tables t.0 ≡ true

@@ -1,6 +1,7 @@
 //! What the tables answer to a step: the first refusal that applies, or else what the step itself says.
 
 ghost use Rattle.std.specs.Prelude.{◌≡◌, ℤ, not, find, [], ◌∷◌, None, false};
+ghost use Rattle.asset_names.specs.declared.sets.ObSet.TheVariants.{Listed};
 ghost use Rattle.asset_names.specs.declared.steps.Step.{Step};
 ghost use Rattle.asset_names.specs.Endings.{status};
 ghost use Rattle.asset_names.specs.Answers.{answer, first_refusal, rules_for, unrefused, unknown, ended, not_running, no_object, one_name, cycle, is_unknown, commit_outcome, may_commit, missing_in, no_object_of};
@@ -11,9 +12,9 @@ ghost use Rattle.asset_steps.specs.Ready.{value_or_zero, read_outcome};
 
 use asset_ends::{Tables, Update};
 use asset_names::{
-    Kind, Ob, ObSet, Op, Outcome, Refusal, Reply, Step, Txn, commit_outcome, refusal_between,
-    refusal_to_abort, refusal_to_begin, refusal_to_depend, refusal_to_find, refusal_to_initiate,
-    refusal_to_operate, refusal_to_work, wait_outcome,
+    Kind, Ob, ObList, ObSet, Op, Outcome, Refusal, Reply, Step, Txn, commit_outcome,
+    refusal_between, refusal_to_abort, refusal_to_begin, refusal_to_depend, refusal_to_find,
+    refusal_to_initiate, refusal_to_open, refusal_to_operate, refusal_to_work, wait_outcome,
 };
 
 /// Returns the first refusal of a step, if one applies. Nothing changes.
@@ -35,6 +36,7 @@ fn refusal(tables: &mut Tables, step: &Step) -> Option<Refusal>
             obs,
             ..
         } => refusal_to_share(tables, giver, taker, &obs),
+        Step::PermitAny { giver, obs, .. } => refusal_of_opening(tables, giver, &obs),
         Step::Delegate { giver, taker, obs } => refusal_to_share(tables, giver, taker, &obs),
         Step::Depend { kind, a, b } => refusal_of_dependency(tables, kind, a, b),
         Step::Commit { t } => refusal_to_find(t, tables.status(t)),
@@ -63,6 +65,14 @@ fn refusal_to_share(tables: &Tables, giver: Txn, taker: Txn, obs: &ObSet) -> Opt
         tables.status(taker),
         missing,
     )
+}
+
+/// Returns why the giver may not permit anything on the objects to anybody, and `None` if it may.
+fn refusal_of_opening(tables: &Tables, giver: Txn, obs: &ObList) -> Option<Refusal>
+    ensures { ForShown tables.now (λ opening steps. result ≡ first_refusal (unknown steps giver ∷ ended steps giver ∷ no_object_of opening (Listed obs.now) ∷ [])) }
+{
+    let missing = missing(tables, &ObSet::Listed(*obs));
+    refusal_to_open(giver, tables.status(giver), missing)
 }
 
 /// Returns why `b` may not be made to depend on `a`, and `None` if it may. Whether that would close a cycle is looked at
@@ -179,6 +189,7 @@ fn unrefused(tables: &mut Tables, step: &Step) -> Outcome
         Step::Begin { .. } => Outcome::Answer(Reply::Done),
         Step::Complete { .. } => Outcome::Answer(Reply::Done),
         Step::Permit { .. } => Outcome::Answer(Reply::Done),
+        Step::PermitAny { .. } => Outcome::Answer(Reply::Done),
         Step::Delegate { .. } => Outcome::Answer(Reply::Done),
         Step::Depend { .. } => Outcome::Answer(Reply::Done),
         Step::Read { t, x } => read_outcome(tables, t, x),

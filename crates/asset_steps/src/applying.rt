@@ -56,6 +56,7 @@ fn apply_step(tables: &mut Tables, step: &Step) -> Result<(), NoMemory>
             obs,
             ops,
         } => tables.permit(giver, taker, obs, ops),
+        Step::PermitAny { giver, obs, ops } => tables.permit_any(giver, obs, ops),
         Step::Delegate { giver, taker, obs } => tables.delegate(giver, taker, &obs),
         Step::Depend { kind, a, b } => tables.depend(kind, a, b),
         Step::Commit { t } => {
@@ -149,6 +150,7 @@ pub fn wait(tables: &mut Tables, step: &Step)
         Step::Begin { .. } => {}
         Step::Complete { .. } => {}
         Step::Permit { .. } => {}
+        Step::PermitAny { .. } => {}
         Step::Delegate { .. } => {}
         Step::Depend { .. } => {}
         Step::Commit { .. } => {}

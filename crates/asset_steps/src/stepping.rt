@@ -12,9 +12,10 @@ ghost use Rattle.asset_steps.specs.Stepped.{Lacked, Stepped};
 use crate::answering::missing;
 use asset_ends::{Tables, Tried, Update};
 use asset_names::{
-    Kind, NoMemory, Ob, ObSet, Ops, Outcome, Refusal, Reply, Status, Step, Txn, commit_outcome,
-    refusal_between, refusal_to_abort, refusal_to_begin, refusal_to_depend, refusal_to_find,
-    refusal_to_initiate, refusal_to_operate, refusal_to_work, value_asked, wait_outcome,
+    Kind, NoMemory, Ob, ObList, ObSet, Ops, Outcome, Refusal, Reply, Status, Step, Txn,
+    commit_outcome, refusal_between, refusal_to_abort, refusal_to_begin, refusal_to_depend,
+    refusal_to_find, refusal_to_initiate, refusal_to_open, refusal_to_operate, refusal_to_work,
+    value_asked, wait_outcome,
 };
 use asset_seats::Sitter;
 
@@ -219,6 +220,22 @@ fn permit_if_any(
     }
 }
 
+/// Lets anybody share objects, unless that is refused.
+fn open_if_any(tables: &mut Tables, giver: Txn, obs: &ObList, ops: Ops) -> Result<Outcome, NoMemory>
+    ensures stepped { IfOk result (λ outcome. Stepped tables.old (Step.PermitAny giver obs.now ops) outcome tables.new) }
+    ensures lacked { OnErr result (Lacked tables.old (Step.PermitAny giver obs.now ops) tables.new) }
+{
+    let missing = missing(tables, &ObSet::Listed(*obs));
+    let (gives, from) = tables.find(giver);
+    match refusal_to_open(giver, gives, missing) {
+        Some(refusal) => Ok(Outcome::Answer(Reply::Refused(refusal))),
+        None => {
+            tables.permit_any_at(from, *obs, ops)?;
+            Ok(Outcome::Answer(Reply::Done))
+        }
+    }
+}
+
 /// Hands objects over to the taker, unless that is refused.
 #[inline(always)]
 fn delegate_if_any(
@@ -286,6 +303,11 @@ pub fn step_at_once(tables: &mut Tables, step: &Step) -> Result<Outcome, NoMemor
             ref obs,
             ops,
         } => permit_if_any(tables, giver, taker, obs, ops),
+        Step::PermitAny {
+            giver,
+            ref obs,
+            ops,
+        } => open_if_any(tables, giver, obs, ops),
         Step::Delegate {
             giver,
             taker,

@@ -13,6 +13,6 @@ pub use many_permits::{END, FIRST, ONE, Side, pair};
 pub use plain_labels::{join_in, label_in};
 pub use sets::listed;
 pub use steps::{
-    abort, add, begin, commit, complete, delegate, depend, initiate, permit, permit_ops, read,
-    wait, write,
+    abort, add, begin, commit, complete, delegate, depend, initiate, permit, permit_any,
+    permit_ops, read, wait, write,
 };

@@ -1,7 +1,7 @@
 //! Short words for the steps that the tests ask.
 
 use crate::sets::listed;
-use asset_names::{Kind, Ob, Ops, Step, Txn};
+use asset_names::{Kind, Ob, ObList, Ops, Step, Txn};
 
 /// Returns the step that initiates `t` without a parent.
 pub fn initiate(t: u64) -> Step {
@@ -77,6 +77,18 @@ pub fn permit_ops(giver: u64, taker: u64, objects: &[Ob], ops: Ops) -> Step {
         taker: Txn(taker),
         obs: listed(objects),
         ops,
+    }
+}
+
+/// Returns a permit of one transaction to anybody on 1 to 16 objects. For another number of them, the step that begins it.
+pub fn permit_any(giver: u64, objects: &[Ob], ops: Ops) -> Step {
+    match ObList::of(objects) {
+        Ok(obs) => Step::PermitAny {
+            giver: Txn(giver),
+            obs,
+            ops,
+        },
+        Err(_) => begin(giver),
     }
 }
 

@@ -4,7 +4,8 @@ use asset_core_tests::{ROOM, THREE, ask, opened};
 use asset_names::{Kind, NoMemory, Ob, Op, Outcome, Reply, Status, Step, Txn};
 use asset_reference::{answer, status_after};
 use asset_test_tools::{
-    abort, add, begin, commit, complete, delegate, depend, initiate, next, permit, read, write,
+    abort, add, begin, commit, complete, delegate, depend, initiate, next, ops_of, permit,
+    permit_any, read, write,
 };
 use std::test::Fail;
 
@@ -18,7 +19,7 @@ fn drawn(number: u64) -> Step {
     let t = 5 + (number >> 40) % 5;
     let u = 5 + (number >> 30) % 5;
     let x = 1 + (number >> 20) % 3;
-    match (number >> 50) % 18 {
+    match (number >> 50) % 19 {
         0 | 1 => initiate(t),
         2 | 3 => begin(t),
         4 | 5 => read(t, x),
@@ -29,6 +30,7 @@ fn drawn(number: u64) -> Step {
         10 => abort(t),
         11 => permit(t, u, &[Ob(x)], (number % 3 != 0, number % 3 != 1)),
         12 => delegate(t, u, &[Ob(x)]),
+        18 => permit_any(t, &[Ob(x)], ops_of(number)),
         13 => depend(Kind::Gc, t, u),
         14 => depend(Kind::Cd, t, u),
         _ => depend(Kind::Ad, t, u),

@@ -19,10 +19,11 @@ class StepKind(IntEnum):
     ABORT = 10
     WAIT_FOR = 11
     ADD = 12
+    PERMIT_ANY = 13
 
 
 class Operations(IntEnum):
-    """What a permit lets its taker do, and what a waiter asked to do."""
+    """What a permit lets its taker do, or anybody, and what a waiter asked to do."""
 
     READ = 1
     WRITE = 2

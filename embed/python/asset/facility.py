@@ -174,6 +174,11 @@ class Asset:
         self._list(objects)
         return self.ask(6, giver, taker, detail=operations)
 
+    def permit_any(self, giver: int, operations: Operations, objects: Iterable[int]) -> Answer:
+        """Lets anybody do operations on 1 to 16 objects, as long as the giver is live, although they conflict with its own."""
+        self._list(objects)
+        return self.ask(13, giver, detail=operations)
+
     def delegate(self, giver: int, taker: int, objects: Objects = ALL) -> Answer:
         """Hands over to the taker what the giver did on 1 to 16 objects, or on all."""
         self._list(objects)

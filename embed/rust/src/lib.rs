@@ -57,7 +57,7 @@ pub enum Operation {
     Add,
 }
 
-/// What a permit lets its taker do.
+/// What a permit lets its taker do, or anybody.
 #[derive(Clone, Copy, Debug, PartialEq, Eq)]
 pub enum Operations {
     Read,
@@ -91,6 +91,8 @@ pub enum Step {
     Add { transaction: u64, object: u64, amount: i64 },
     Complete { transaction: u64 },
     Permit { giver: u64, taker: u64, operations: Operations, objects: Objects },
+    /// Lets anybody do the operations on the objects, as long as the giver is live.
+    PermitAny { giver: u64, operations: Operations, objects: List },
     Delegate { giver: u64, taker: u64, objects: Objects },
     Depend { tie: Tie, source: u64, dependent: u64 },
     Commit { transaction: u64 },

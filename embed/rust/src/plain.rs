@@ -35,6 +35,32 @@ fn with_objects(step: sys::Step, objects: Objects) -> sys::Step {
     }
 }
 
+/// Returns the number of operations.
+fn number(operations: Operations) -> u32 {
+    match operations {
+        Operations::Read => 1,
+        Operations::Write => 2,
+        Operations::ReadAndWrite => 3,
+        Operations::Add => 4,
+        Operations::ReadAndAdd => 5,
+        Operations::WriteAndAdd => 6,
+        Operations::All => 7,
+    }
+}
+
+/// Returns the operations of a plain step that the library wrote.
+fn operations(step: &sys::Step) -> Operations {
+    match step.detail {
+        1 => Operations::Read,
+        2 => Operations::Write,
+        3 => Operations::ReadAndWrite,
+        4 => Operations::Add,
+        5 => Operations::ReadAndAdd,
+        6 => Operations::WriteAndAdd,
+        _ => Operations::All,
+    }
+}
+
 /// Returns the plain step of a step.
 pub(crate) fn step(step: Step) -> sys::Step {
     match step {
@@ -45,17 +71,9 @@ pub(crate) fn step(step: Step) -> sys::Step {
         Step::Write { transaction, object, value } => sys::Step { value, ..bare(4, 0, transaction, object) },
         Step::Add { transaction, object, amount } => sys::Step { value: amount, ..bare(12, 0, transaction, object) },
         Step::Complete { transaction } => bare(5, 0, transaction, 0),
-        Step::Permit { giver, taker, operations, objects } => {
-            let detail = match operations {
-                Operations::Read => 1,
-                Operations::Write => 2,
-                Operations::ReadAndWrite => 3,
-                Operations::Add => 4,
-                Operations::ReadAndAdd => 5,
-                Operations::WriteAndAdd => 6,
-                Operations::All => 7,
-            };
-            with_objects(bare(6, detail, giver, taker), objects)
+        Step::Permit { giver, taker, operations, objects } => with_objects(bare(6, number(operations), giver, taker), objects),
+        Step::PermitAny { giver, operations, objects } => {
+            with_objects(bare(13, number(operations), giver, 0), Objects::Listed(objects))
         }
         Step::Delegate { giver, taker, objects } => with_objects(bare(7, 0, giver, taker), objects),
         Step::Depend { tie, source, dependent } => {
@@ -72,11 +90,16 @@ pub(crate) fn step(step: Step) -> sys::Step {
     }
 }
 
+/// Returns the list of a plain step.
+fn listed(step: &sys::Step) -> List {
+    List { count: step.count as usize, objects: step.objects }
+}
+
 /// Returns the objects that a plain step lists.
 fn objects(step: &sys::Step) -> Objects {
     match step.count {
         u64::MAX => Objects::All,
-        count => Objects::Listed(List { count: count as usize, objects: step.objects }),
+        _ => Objects::Listed(listed(step)),
     }
 }
 
@@ -90,16 +113,7 @@ pub(crate) fn asked(step: &sys::Step) -> Step {
         4 => Step::Write { transaction, object, value: step.value },
         5 => Step::Complete { transaction },
         6 => {
-            let operations = match step.detail {
-                1 => Operations::Read,
-                2 => Operations::Write,
-                3 => Operations::ReadAndWrite,
-                4 => Operations::Add,
-                5 => Operations::ReadAndAdd,
-                6 => Operations::WriteAndAdd,
-                _ => Operations::All,
-            };
-            Step::Permit { giver: step.first, taker: step.second, operations, objects: objects(step) }
+            Step::Permit { giver: step.first, taker: step.second, operations: operations(step), objects: objects(step) }
         }
         7 => Step::Delegate { giver: step.first, taker: step.second, objects: objects(step) },
         8 => {
@@ -114,6 +128,7 @@ pub(crate) fn asked(step: &sys::Step) -> Step {
         10 => Step::Abort { transaction },
         11 => Step::WaitFor { transaction },
         12 => Step::Add { transaction, object, amount: step.value },
+        13 => Step::PermitAny { giver: step.first, operations: operations(step), objects: listed(step) },
         kind => unreachable!("step of kind {kind}"),
     }
 }

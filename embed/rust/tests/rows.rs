@@ -2,14 +2,17 @@
 
 use asset::{sys, Answer, Asset, Error, List, Objects, Operation, Operations, Refusal, Status, Step, Tie};
 
+/// Reads a list of objects: numbers with commas between them.
+fn list(word: &str) -> List {
+    let objects: Vec<u64> = word.split(',').map(|part| part.parse().unwrap()).collect();
+    List::new(&objects).unwrap()
+}
+
 /// Reads a set of objects: `all`, or numbers with commas between them.
 fn set(word: &str) -> Objects {
     match word {
         "all" => Objects::All,
-        word => {
-            let objects: Vec<u64> = word.split(',').map(|part| part.parse().unwrap()).collect();
-            Objects::Listed(List::new(&objects).unwrap())
-        }
+        word => Objects::Listed(list(word)),
     }
 }
 
@@ -35,7 +38,10 @@ fn step(line: &str) -> Step {
                 "rwa" => Operations::All,
                 word => panic!("operations {word}"),
             };
-            Step::Permit { giver: n(1), taker: n(2), operations, objects: set(words[4]) }
+            match words[2] {
+                "any" => Step::PermitAny { giver: n(1), operations, objects: list(words[4]) },
+                _ => Step::Permit { giver: n(1), taker: n(2), operations, objects: set(words[4]) },
+            }
         }
         "delegate" => Step::Delegate { giver: n(1), taker: n(2), objects: set(words[3]) },
         "depend" => {
@@ -81,16 +87,18 @@ fn text(answer: &Result<Answer, Error>) -> String {
 
 /// Returns the step with its objects in rising order, as an entry has them.
 fn as_recorded(step: Step) -> Step {
+    let rising = |list: List| {
+        let mut objects = list.objects().to_vec();
+        objects.sort_unstable();
+        List::new(&objects).unwrap()
+    };
     let sorted = |objects: Objects| match objects {
         Objects::All => Objects::All,
-        Objects::Listed(list) => {
-            let mut objects = list.objects().to_vec();
-            objects.sort_unstable();
-            Objects::Listed(List::new(&objects).unwrap())
-        }
+        Objects::Listed(list) => Objects::Listed(rising(list)),
     };
     match step {
         Step::Permit { giver, taker, operations, objects } => Step::Permit { giver, taker, operations, objects: sorted(objects) },
+        Step::PermitAny { giver, operations, objects } => Step::PermitAny { giver, operations, objects: rising(objects) },
         Step::Delegate { giver, taker, objects } => Step::Delegate { giver, taker, objects: sorted(objects) },
         step => step,
     }
@@ -161,7 +169,7 @@ fn wrong_arguments_of_the_header() {
         let objects = [sys::Object { name: 1, value: 1 }];
         assert_eq!(sys::asset_open(&mut closed, objects.as_ptr(), 1, 10, &mut twice), 0);
         assert_eq!(sys::asset_open(&mut closed, objects.as_ptr(), 1, 10, &mut twice), 4);
-        for kind in [0, 13, 99, u32::MAX] {
+        for kind in [0, 14, 99, u32::MAX] {
             step.kind = kind;
             assert_eq!(sys::asset_step(&mut closed, &step, &mut answer), 7);
         }
@@ -169,6 +177,8 @@ fn wrong_arguments_of_the_header() {
             step = sys::Step { kind: 7, first: 7, second: 8, count, ..sys::Step::default() };
             assert_eq!(sys::asset_step(&mut closed, &step, &mut answer), 7);
         }
+        step = sys::Step { kind: 13, detail: 1, first: 7, count: u64::MAX, ..sys::Step::default() };
+        assert_eq!(sys::asset_step(&mut closed, &step, &mut answer), 7);
         let mut len = 77;
         assert_eq!((sys::asset_len(&mut closed, &mut len), len), (0, 0));
         assert_eq!(sys::asset_close(&mut closed), 0);

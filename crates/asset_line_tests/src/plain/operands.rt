@@ -2,7 +2,10 @@
 
 use crate::plain::sets::{kind, ops, set};
 use crate::plain::words::{Words, number, value};
-use asset_names::{Ob, Step, Txn};
+use asset_names::{Ob, ObSet, Step, Txn};
+
+/// The word for anybody.
+const ANY: &[u8] = b"any";
 
 /// Returns the next word as a transaction.
 fn txn(words: &mut Words<'_>) -> Option<Txn> {
@@ -84,10 +87,26 @@ pub(crate) fn add(mut words: Words<'_>) -> Option<Step> {
     Some(Step::Add { t, x, d })
 }
 
+/// Returns a permit to anybody by the words after `any`.
+fn permit_any(giver: Txn, mut words: Words<'_>) -> Option<Step> {
+    let ops = ops(words.next_word()?)?;
+    let ObSet::Listed(obs) = set(words.next_word()?)? else {
+        return None;
+    };
+    if !is_over(&mut words) {
+        return None;
+    }
+    Some(Step::PermitAny { giver, obs, ops })
+}
+
 /// Returns a permit.
 pub(crate) fn permit(mut words: Words<'_>) -> Option<Step> {
     let giver = txn(&mut words)?;
-    let taker = txn(&mut words)?;
+    let word = words.next_word()?;
+    if word == ANY {
+        return permit_any(giver, words);
+    }
+    let taker = number(word)?;
     let ops = ops(words.next_word()?)?;
     let obs = set(words.next_word()?)?;
     if !is_over(&mut words) {
@@ -95,7 +114,7 @@ pub(crate) fn permit(mut words: Words<'_>) -> Option<Step> {
     }
     Some(Step::Permit {
         giver,
-        taker,
+        taker: Txn(taker),
         obs,
         ops,
     })

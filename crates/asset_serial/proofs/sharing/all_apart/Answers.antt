@@ -4,14 +4,14 @@ use Rattle.std.proofs.lemmas.List.{length-reverse, reverse-reverse, take_all}
 use Rattle.std.proofs.lemmas.Option.{slice_get_cases}
 use Rattle.asset_names.specs.Arrows.{lists}
 use Rattle.asset_names.specs.Steps.{Entry}
-use Rattle.asset_names.specs.Groups.{joins}
+use Rattle.asset_meetings.specs.Meetings.{partners}
 use Rattle.asset_laws.specs.Serial.{is_apart}
 use Rattle.asset_serial.proofs.AnsweredLemmas.{apart_more}
 use Rattle.asset_serial.proofs.sharing.all_apart.Goals as goal
 use Rattle.asset_serial.proofs.sharing.all_apart.Goals.{then-not-apart_at, else-not-apart_at}
 
 pub entries-init : goal.entries-init
-unfolding joins
+unfolding partners
 entries-init c = refl
 
 pub entries-preserved : goal.entries-preserved
@@ -20,7 +20,7 @@ entries-preserved c =
     let entries = reverse all in
     let i = c.entries.i in
     let named = lists c.args.names.now.keys in
-    let before = list_all (is_apart named) (joins (reverse (take i entries))) in
+    let before = list_all (is_apart named) (partners (reverse (take i entries))) in
     elim (slice_get_cases entries i).1 [
       | inl here ↦
           let next = apart_more named entries i here.0 here.2 in
@@ -37,4 +37,4 @@ returns-clause-apart c =
     let all = c.args.history.now.entries in
     let whole : reverse (take c.entries.i (reverse all)) ≡ all =
     ap reverse (take_all c.entries.i (reverse all) (omega (arith, c.entries-test.false, c.len-i-end.ensures.len, length-reverse all))) ∙ reverse-reverse all in
-    c.entries.invariant ∙ ap (λ (l : List Entry). list_all (is_apart (lists c.args.names.now.keys)) (joins l)) whole
+    c.entries.invariant ∙ ap (λ (l : List Entry). list_all (is_apart (lists c.args.names.now.keys)) (partners l)) whole

@@ -55,6 +55,10 @@ pub returns-in-Permit-clause-refusal : goal.returns-in-Permit-clause-refusal
 unfolding rules_for
 returns-in-Permit-clause-refusal c = λ opening steps stand. rw c.in-Permit.is (c.refusal_to_share.ensures opening steps stand)
 
+pub returns-in-PermitAny-clause-refusal : goal.returns-in-PermitAny-clause-refusal
+unfolding rules_for
+returns-in-PermitAny-clause-refusal c = λ opening steps stand. rw c.in-PermitAny.is (c.refusal_of_opening.ensures opening steps stand)
+
 pub returns-in-Delegate-clause-refusal : goal.returns-in-Delegate-clause-refusal
 unfolding rules_for
 returns-in-Delegate-clause-refusal c = λ opening steps stand. rw c.in-Delegate.is (c.refusal_to_share-in-Delegate.ensures opening steps stand)

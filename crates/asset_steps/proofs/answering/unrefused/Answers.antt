@@ -45,6 +45,10 @@ returns-in-WaitFor-clause-outcome c = λ opening steps stand first.
     let known : c.status.result ≡ status steps c.in-WaitFor.t.0 = c.status.ensures.shown opening steps stand in
     rw (c.in-WaitFor.is, ← known) c.wait_outcome.ensures
 
+pub returns-in-PermitAny-clause-outcome : goal.returns-in-PermitAny-clause-outcome
+unfolding unrefused
+returns-in-PermitAny-clause-outcome c = λ opening steps stand first. rw c.in-PermitAny.is refl
+
 pub returns-in-Permit-clause-outcome : goal.returns-in-Permit-clause-outcome
 unfolding unrefused
 returns-in-Permit-clause-outcome c = λ opening steps stand first. rw c.in-Permit.is refl

@@ -1,4 +1,4 @@
-use Rattle.std.proofs.Common.{◌≡◌, true, false, sym, ◌∙◌, refl}
+use Rattle.std.proofs.Common.{true, false, sym, ◌∙◌}
 use Rattle.asset_steps.proofs.OperationLemmas.{update_unrefused}
 use Rattle.asset_steps.proofs.answering.update_outcome.Goals as goal
 

@@ -56,6 +56,17 @@ pub returns-in-WaitFor-clause-locks : goal.returns-in-WaitFor-clause-locks
 unfolding locks_after
 returns-in-WaitFor-clause-locks c = rw c.in-WaitFor.is refl
 
+pub returns-in-PermitAny-clause-stand : goal.returns-in-PermitAny-clause-stand
+returns-in-PermitAny-clause-stand c = rw c.in-PermitAny.is (on_ok c.permit_any.result (λ stands. λ opening steps stand orderly. stands opening steps stand) c.permit_any.ensures.stand)
+
+pub returns-in-PermitAny-clause-locks : goal.returns-in-PermitAny-clause-locks
+unfolding locks_after
+returns-in-PermitAny-clause-locks c = rw c.in-PermitAny.is (always_ok c.permit_any.result c.permit_any.ensures.locks)
+
+pub returns-in-PermitAny-clause-memory : goal.returns-in-PermitAny-clause-memory
+unfolding takes_memory
+returns-in-PermitAny-clause-memory c = rw c.in-PermitAny.is (always_err c.permit_any.result refl)
+
 pub returns-in-Permit-clause-stand : goal.returns-in-Permit-clause-stand
 returns-in-Permit-clause-stand c = rw c.in-Permit.is (on_ok c.permit.result (λ stands. λ opening steps stand orderly. stands opening steps stand) c.permit.ensures.stand)
 

@@ -39,6 +39,10 @@ pub returns-in-WaitFor-clause-locks : goal.returns-in-WaitFor-clause-locks
 unfolding locks_waiting
 returns-in-WaitFor-clause-locks c = rw c.in-WaitFor.is refl
 
+pub returns-in-PermitAny-clause-locks : goal.returns-in-PermitAny-clause-locks
+unfolding locks_waiting
+returns-in-PermitAny-clause-locks c = rw c.in-PermitAny.is refl
+
 pub returns-in-Permit-clause-locks : goal.returns-in-Permit-clause-locks
 unfolding locks_waiting
 returns-in-Permit-clause-locks c = rw c.in-Permit.is refl

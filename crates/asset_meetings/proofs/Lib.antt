@@ -1,0 +1,4 @@
+pub mod UseLemmas
+pub mod MeetLemmas
+pub mod FewLemmas
+pub mod SameLemmas

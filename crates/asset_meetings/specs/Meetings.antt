@@ -1,0 +1,24 @@
+-- Joins that say who met.
+use Rattle.std.specs.Prelude.{◌≡◌, ℕ, Bool, true, List, ◌++◌, map}
+use Rattle.std.specs.List.{list_all}
+use Rattle.asset_names.specs.declared.names.Txn.{Txn}
+use Rattle.asset_names.specs.Arrows.{Arrow, lists, has_arrow, linked}
+use Rattle.asset_names.specs.Paths.{both_ways}
+use Rattle.asset_names.specs.Steps.{Entry}
+use Rattle.asset_names.specs.Groups.{actor, partner, acted_on, joins, same_group}
+use Rattle.asset_laws.specs.Serial.{is_apart}
+
+-- an arrow for each join
+unfoldable pub arrows_of : List (Txn × Txn) → List Arrow
+arrows_of found = map (λ (join : Txn × Txn). (join.0.0, join.1.0)) found
+
+-- the join of the two transactions that an entry's step acts on
+unfoldable pub partners : List Entry → List Arrow
+partners entries = map (λ (entry : Entry). ((actor entry.0).0, (partner entry.0).0)) entries
+
+-- The joins are of transactions that some step acts on. With the two transactions of each entry they make the groups of the
+-- entries, and join whoever passes a test with another exactly if some join of the entries does.
+pub record AreMeetings (entries : List Entry) (found : List (Txn × Txn)) : Type 0 where
+  pub named : (u v : ℕ) → has_arrow (arrows_of found) u v ≡ true → (lists (acted_on entries) u ≡ true) × (lists (acted_on entries) v ≡ true)
+  pub groups : (u v : ℕ) → linked (both_ways (arrows_of found ++ partners entries)) u v ≡ same_group entries u v
+  pub apart : (test : ℕ → Bool) → list_all (is_apart test) (arrows_of found ++ partners entries) ≡ list_all (is_apart test) (joins entries)

@@ -1,0 +1,79 @@
+//! The joins of those who met.
+
+ghost use Rattle.std.specs.Prelude.{◌≡◌, ◌++◌, nat_eq, OnOk, IfOk};
+ghost use Rattle.indexmap.specs.IndexMap.{get};
+ghost use Rattle.asset_meetings.specs.Uses.{joins_of, joined_with, meetings_of, openings};
+ghost use Rattle.asset_meetings.specs.Meetings.{AreMeetings};
+
+use crate::noting::{Users, first_users};
+use crate::uses::{Use, openings, operations};
+use asset_history::History;
+use asset_names::{NoMemory, Txn};
+use std::alloc::{AllocError, Global};
+
+/// Appends the join of a user with the one who is noted for the object, if there is one.
+#[tactic(auto, unfolding(crate::specs::Uses::joins_of))]
+fn push_join(joins: &mut Vec<(Txn, Txn)>, noted: &Users, used: Use) -> Result<(), AllocError>
+    ensures { OnOk result (joins.new.items ≡ joins.old.items ++ joins_of used.t (get nat_eq noted.now used.x.0)) }
+{
+    if let Some(other) = noted.get(&used.x.0) {
+        joins.push((used.t, *other))?;
+    }
+    Ok(())
+}
+
+/// Appends the join of each user with the one who is noted for its object, if there is one.
+fn push_joins(joins: &mut Vec<(Txn, Txn)>, noted: &Users, uses: &[Use]) -> Result<(), AllocError>
+    ensures { OnOk result (joins.new.items ≡ joins.old.items ++ joined_with (get nat_eq noted.now) uses.now) }
+{
+    'uses: for k in 0..uses.len() {
+        push_join(joins, noted, uses[k])?;
+    }
+    Ok(())
+}
+
+/// Returns the joins of those who met, if these opened objects: each opener of an object with its first operator, and each
+/// operator with its first opener.
+fn joins_of_openings(
+    alloc: Global,
+    history: &History,
+    opened: &[Use],
+) -> Result<Vec<(Txn, Txn)>, AllocError>
+    requires { opened.now ≡ openings history.now.entries }
+    ensures { IfOk result (λ joins. joins.items ≡ meetings_of history.now.entries) }
+{
+    let openers = first_users(alloc, opened)?;
+    let operated = operations(alloc, history, &openers)?;
+    let operators = first_users(alloc, &operated)?;
+    let mut joins = Vec::new(alloc);
+    push_joins(&mut joins, &operators, opened)?;
+    push_joins(&mut joins, &openers, &operated)?;
+    Ok(joins)
+}
+
+/// Returns the joins of those who met, as `meetings` does.
+fn joins_of_history(alloc: Global, history: &History) -> Result<Vec<(Txn, Txn)>, AllocError>
+    ensures { IfOk result (λ joins. joins.items ≡ meetings_of history.now.entries) }
+{
+    let opened = openings(alloc, history)?;
+    if opened.is_empty() {
+        return Ok(Vec::new(alloc));
+    }
+    joins_of_openings(alloc, history, &opened)
+}
+
+/// Returns joins that say who met by open permits, or `NoMemory` if memory runs out. With the two transactions of each entry
+/// they make the groups of the history, and no transaction that shares something is missed.
+///
+/// If an object has an opener and an operator, all its openers and operators are of one group. So each opener is joined with
+/// the first operator, and each operator with the first opener: at most as many joins as objects in open permits and
+/// operations on them. It takes time that is nearly in proportion to the entries. If there is no open permit, it goes over the
+/// entries once, reads no step back and takes no memory.
+pub fn meetings(alloc: Global, history: &History) -> Result<Vec<(Txn, Txn)>, NoMemory>
+    ensures { IfOk result (λ joins. AreMeetings history.now.entries joins.items) }
+{
+    match joins_of_history(alloc, history) {
+        Ok(joins) => Ok(joins),
+        Err(_) => Err(NoMemory),
+    }
+}
