@@ -86,6 +86,9 @@ class Script:
     def permit(self, giver, taker, ops, objects):
         self.say(f"permit {giver} {taker} {ops} {objects}")
 
+    def open(self, giver, ops, objects):
+        self.say(f"permit {giver} any {ops} {objects}")
+
     def delegate(self, giver, taker, objects):
         self.say(f"delegate {giver} {taker} {objects}")
 
@@ -329,6 +332,76 @@ def one_giver(steps, seed):
     return script
 
 
+# Permits to anybody.
+
+
+def one_opener(steps, seed):
+    """One transaction lets anybody read what it wrote; a live reader for every five steps does, and half of them abort."""
+    script = Script(steps, seed, 16)
+    opener = script.start()
+    for x in range(1, 17):
+        script.write(opener, x)
+    script.open(opener, "r", ",".join(map(str, range(1, 17))))
+    readers = []
+    while script.has_room(5):
+        readers.append(script.start())
+        script.read(readers[-1], script.object())
+    script.finish_shuffled(readers, aborts=0.5)
+    script.finish(opener)
+    return script
+
+
+def drafts(steps, seed):
+    """Each transaction writes an object and lets anybody read it; the four that began before it do, and end in turn."""
+    script = Script(steps, seed, 1000)
+    live = []
+    while script.has_room(9):
+        author = script.start()
+        x = author % 1000 + 1
+        script.write(author, x)
+        script.open(author, "r", x)
+        for reader, _ in live:
+            script.read(reader, x)
+        live.append((author, x))
+        if len(live) > 4:
+            script.finish(live.pop(0)[0])
+    for author, _ in live:
+        script.finish(author)
+    return script
+
+
+def open_chains_of_64(steps, seed):
+    """Chains of 64 as above, whose last permits anybody; a stranger writes what the first wrote, and all end."""
+    script = Script(steps, seed, 2000)
+    while script.has_room(6 * 65 + 4):
+        chain = script.start_many(64)
+        stranger = script.start()
+        x = script.object()
+        script.write(chain[0], x)
+        permit_each_next(script, chain, x)
+        script.open(chain[-1], "rw", x)
+        script.write(stranger, x)
+        script.read(stranger, x)
+        script.finish_some([stranger, *reversed(chain)], 0.0)
+    return script
+
+
+def one_long_open_chain(steps, seed):
+    """One chain as above, whose last permits anybody; five strangers write, one after another, and all end."""
+    script = Script(steps, seed, 1)
+    strangers = script.start_many(5)
+    chain = script.start_many(max(2, steps // 6 - 5))
+    permit_each_next(script, chain, 1)
+    script.open(chain[-1], "rw", 1)
+    script.write(chain[0], 1)
+    for t in strangers:
+        script.write(t, 1)
+        script.finish(t)
+    script.finish_some(chain[::2], 0.0)
+    script.finish_some(chain[1::2], 1.0)
+    return script
+
+
 def two_writers(steps, seed):
     """Two transactions permit each other everything and write one object in turn; one aborts, one commits."""
     script = Script(steps, seed, 1)
@@ -551,6 +624,10 @@ LOADS = {
         one_long_chain,
         standing_permits,
         one_giver,
+        one_opener,
+        drafts,
+        open_chains_of_64,
+        one_long_open_chain,
         two_writers,
         many_children,
         to_and_fro,
