@@ -10,7 +10,7 @@ use Rattle.asset_names.specs.OpSets.{OpSet}
 use Rattle.asset_grammar.specs.Operands.{txn_of, both}
 use Rattle.asset_grammar.specs.Sets.{ops_of, set_of}
 
--- anybody, as the taker of a permit: a word that is `any`, and no transaction
+-- anybody, as the taker of a permit: named by the word `any` alone, and then no transaction
 unfoldable pub any_of : List ℕ → Option (Option Txn)
 any_of word = cond (bytes_eq word (codes "any")) (Some None) None
 

@@ -1,5 +1,5 @@
 //! The first words of step lines.
-ghost use Rattle.std.specs.Prelude.{◌≡◌, option_map};
+ghost use Rattle.std.specs.Prelude.{◌≡◌, None, option_map};
 ghost use Rattle.asset_grammar.specs.Grammar.{step_by};
 ghost use Rattle.asset_grammar.specs.Keywords.{likely_keyword, TakesKeyword};
 ghost use Rattle.asset_grammar.specs.PermitOperands.{permit_step};
@@ -99,32 +99,38 @@ fn initiate(operands: &mut Words<'_>, step: &mut Step) -> Option<()>
     Some(())
 }
 
-/// Returns the permit with these operands: to the taker, or to anybody on the objects that are listed. `None` if it is to anybody
-/// on all objects.
+/// Puts the open permit on the objects into the slot. Returns `None`, and leaves the slot, if they are all objects.
 #[tactic(auto, unfolding(crate::specs::PermitOperands::permit_step))]
-fn permit_step(giver: Txn, taker: Option<Txn>, ops: Ops, obs: ObSet) -> Option<Step>
-    ensures { result ≡ permit_step giver taker ops obs }
+fn open(giver: Txn, obs: &ObSet, ops: Ops, step: &mut Step) -> Option<()>
+    ensures { option_map (λ done. step.new) result ≡ permit_step giver None ops obs.now }
 {
-    match (taker, obs) {
-        (Some(taker), obs) => Some(Step::Permit {
-            giver,
-            taker,
-            obs,
-            ops,
-        }),
-        (None, ObSet::Listed(obs)) => Some(Step::PermitAny { giver, obs, ops }),
-        (None, ObSet::All) => None,
+    match *obs {
+        ObSet::Listed(obs) => {
+            *step = Step::PermitAny { giver, obs, ops };
+            Some(())
+        }
+        ObSet::All => None,
     }
 }
 
 /// Puts the permit with these operands into the slot.
-#[tactic(auto, unfolding(crate::specs::Grammar::step_by))]
+#[tactic(auto, unfolding(crate::specs::Grammar::step_by, crate::specs::PermitOperands::permit_step))]
 fn permit(operands: &mut Words<'_>, step: &mut Step) -> Option<()>
     ensures { Reads (step_by Permit) operands.old (option_map (λ done. step.new) result) operands.new }
 {
     let ((giver, taker), (ops, obs)) = operands.txn_taker_ops_and_set()?;
-    *step = permit_step(giver, taker, ops, obs)?;
-    Some(())
+    match taker {
+        Some(taker) => {
+            *step = Step::Permit {
+                giver,
+                taker,
+                obs,
+                ops,
+            };
+            Some(())
+        }
+        None => open(giver, &obs, ops, step),
+    }
 }
 
 /// Puts the delegation with these operands into the slot.

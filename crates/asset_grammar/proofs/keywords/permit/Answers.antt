@@ -1,7 +1,0 @@
-use Rattle.std.proofs.Common.{rules}
-use Rattle.asset_grammar.specs.Grammar.{step_by}
-use Rattle.asset_grammar.proofs.keywords.permit.Goals as goal
-
-pub returns : goal.returns
-unfolding step_by
-returns c = search rules
