@@ -1,9 +1,11 @@
 //! The tests of adds from scripts to tables: the worked rows by every word, the calls of the tables, and many adders of one
-//! object. The calls that run a script by a word are public: other tests of scripts make them too.
+//! object. The calls that run a script by a word, and those that ask steps of the tables, are public: other tests make them too.
 #![tactic(auto)]
 
+mod steps;
 mod words;
 
+pub use steps::{first_other_outcome, open_tables};
 pub use words::{first_other_work, writes};
 
 #[cfg(test)]

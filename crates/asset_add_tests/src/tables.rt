@@ -1,31 +1,13 @@
 //! Adds as calls of the tables, which answer for no refusal.
 
+use crate::steps::{first_other_outcome, open_tables};
 use asset_ends::Tables;
-use asset_names::{NoMemory, Ob, Outcome, Reply, Status, Step, Txn};
-use asset_objects::ObjectsFault;
-use asset_steps::step_at_once;
+use asset_names::{NoMemory, Ob, Outcome, Reply, Status, Txn};
 use asset_test_tools::{abort, begin, commit, complete, initiate, read};
-use std::alloc::Global;
 use std::test::Fail;
 
 /// One object with 100.
 const ONE: [(Ob, i64); 1] = [(Ob(1), 100)];
-
-/// Opens the tables of this object. If memory runs out once, the same call is made again.
-fn open(alloc: Global) -> Result<Tables, ObjectsFault> {
-    match Tables::open(alloc, &ONE) {
-        Ok(tables) => Ok(tables),
-        Err(_) => Tables::open(alloc, &ONE),
-    }
-}
-
-/// Asks a step. If memory runs out once, the same step is asked again.
-fn ask(tables: &mut Tables, step: &Step) -> Option<Outcome> {
-    match step_at_once(tables, step) {
-        Ok(outcome) => Some(outcome),
-        Err(NoMemory) => step_at_once(tables, step).ok(),
-    }
-}
 
 /// Adds if the transaction runs and the object exists, and returns whether it did.
 fn add_once(tables: &mut Tables, t: u64, x: u64, d: i64) -> Result<bool, NoMemory> {
@@ -45,16 +27,6 @@ fn add(tables: &mut Tables, t: u64, x: u64, d: i64) -> bool {
     }
 }
 
-/// Returns the first of the steps, from 0 on, that has another outcome than the one beside it.
-fn first_other(tables: &mut Tables, steps: &[(Step, Outcome)]) -> Option<usize> {
-    for (index, (step, outcome)) in steps.iter().enumerate() {
-        if ask(tables, step) != Some(*outcome) {
-            return Some(index);
-        }
-    }
-    None
-}
-
 /// Starts transactions 7, 8 and 9. Returns whether they are new.
 fn start_three(tables: &mut Tables) -> bool {
     let done = Outcome::Answer(Reply::Done);
@@ -66,7 +38,7 @@ fn start_three(tables: &mut Tables) -> bool {
         (initiate(9), done),
         (begin(9), done),
     ];
-    first_other(tables, &steps).is_none()
+    first_other_outcome(tables, &steps).is_none()
 }
 
 /// Ends 8 by a commit and 7 by an abort, and reads between them. Returns the first step that has another outcome.
@@ -79,7 +51,7 @@ fn ends(tables: &mut Tables) -> Option<usize> {
         (abort(7), Outcome::Answer(Reply::Aborted)),
         (read(9, 1), Outcome::Answer(Reply::Value(107))),
     ];
-    first_other(tables, &steps)
+    first_other_outcome(tables, &steps)
 }
 
 /// Returns whether both adds are granted, whether an add to no object is not, and the first step of the ends that has
@@ -93,7 +65,7 @@ fn two_adders(tables: &mut Tables) -> (bool, bool, Option<usize>) {
 
 #[test]
 fn adds_of_the_tables_go_together(rt: HostRuntime) -> Result<(), Fail> {
-    let mut tables = open(rt.alloc())?;
+    let mut tables = open_tables(rt.alloc(), &ONE)?;
     let shown = two_adders(&mut tables);
     let value = tables.value(Ob(1));
     drop(tables);

@@ -56,12 +56,20 @@ fn drawn(number: u64) -> Step {
     }
 }
 
-/// Begins all transactions, and plays drawn steps. Some wait, and some are refused. Returns the first number that met a fault.
-fn steps_are_drawn(core: &mut Core, seed: u64) -> Option<u64> {
-    for t in 0..NAMES {
+/// Initiates and begins the transactions below `count`. Returns the first that met a fault.
+pub(crate) fn begin_all(core: &mut Core, count: u64) -> Option<u64> {
+    for t in 0..count {
         if ask(core, &initiate(t)).is_err() || ask(core, &begin(t)).is_err() {
             return Some(t);
         }
+    }
+    None
+}
+
+/// Begins all transactions, and plays drawn steps. Some wait, and some are refused. Returns the first number that met a fault.
+fn steps_are_drawn(core: &mut Core, seed: u64) -> Option<u64> {
+    if let Some(t) = begin_all(core, NAMES) {
+        return Some(t);
     }
     let mut number = seed;
     for _ in 0..DRAWN {

@@ -90,6 +90,19 @@ const REFUSED_IN_ORDER: &str = "\
     object 1 100\nobject 2 200\ninitiate 7\npermit 7 any rwa 2,1\nbegin 7\npermit 7 any w 5,1,4\n\
     complete 7\npermit 7 any a 1\nabort 7\npermit 7 any r 1\npermit 7 any r 9\npermit 8 any r 9\n";
 
+/// Its listing: each permit with its objects in order, also one that is refused.
+const REFUSED_IN_ORDER_LISTED: &str = "\
+    3       0       initiate 7                      ok\n\
+    4       1       permit 7 any rwa 1,2            ok\n\
+    5       2       begin 7                         ok\n\
+    6       3       permit 7 any w 1,4,5            refused no object 4\n\
+    7       4       complete 7                      ok\n\
+    8       5       permit 7 any a 1                ok\n\
+    9       6       abort 7                         aborted\n\
+    10      7       permit 7 any r 1                refused ended 7\n\
+    11      8       permit 7 any r 9                refused ended 7\n\
+    12      9       permit 8 any r 9                refused unknown 8\n";
+
 #[test]
 fn refusals_of_open_permits_come_in_order(rt: HostRuntime) -> Result<(), Fail> {
     let replies = "\
@@ -97,7 +110,10 @@ fn refusals_of_open_permits_come_in_order(rt: HostRuntime) -> Result<(), Fail> {
         refused unknown 8\n";
     let texts = [
         (Work::Run, replies),
+        (Work::Steps, REFUSED_IN_ORDER_LISTED),
         (Work::Report(Report::Groups), "0 dead 7\n1 dead 8\n"),
+        (Work::Sources, ""),
+        (Work::Report(Report::Pruned), "object 1 100\nobject 2 200\n"),
     ];
     let other = first_other_work(rt.alloc(), REFUSED_IN_ORDER, &texts);
     assert_eq!(rt; other, None);

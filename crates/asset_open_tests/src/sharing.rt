@@ -1,12 +1,12 @@
 //! Whether those who committed share something after drawn steps with open permits, beside a comparison of every two entries.
 
-use crate::drawn::opens_for;
+use crate::drawn::{begin_all, opens_for};
 use asset_core::{Core, OpenFault};
 use asset_core_tests::{ask, opened};
 use asset_history::History;
 use asset_names::{NoMemory, Ob, Reply, Step, Txn, actor, partner, takes_effect};
 use asset_serial::committed_share_nothing;
-use asset_test_tools::{begin, commit, complete, initiate, next, ops_of, permit_any, read, write};
+use asset_test_tools::{commit, complete, next, ops_of, permit_any, read, write};
 use std::alloc::Global;
 use std::test::Fail;
 
@@ -48,10 +48,8 @@ fn drawn(number: u64) -> Step {
 /// Begins all transactions and plays drawn steps; then half of the transactions complete and commit. Some wait. Returns the
 /// first number that met a fault.
 fn steps_are_drawn(core: &mut Core, seed: u64) -> Option<u64> {
-    for t in 0..NAMES {
-        if ask(core, &initiate(t)).is_err() || ask(core, &begin(t)).is_err() {
-            return Some(t);
-        }
+    if let Some(t) = begin_all(core, NAMES) {
+        return Some(t);
     }
     let mut number = seed;
     for _ in 0..DRAWN {

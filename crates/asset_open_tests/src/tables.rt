@@ -1,31 +1,13 @@
 //! Open permits as calls of the tables, which answer for no refusal.
 
+use asset_add_tests::{first_other_outcome, open_tables};
 use asset_ends::Tables;
-use asset_names::{NoMemory, Ob, ObList, Op, Ops, Outcome, Reply, Status, Step, Txn};
-use asset_objects::ObjectsFault;
-use asset_steps::step_at_once;
+use asset_names::{NoMemory, Ob, ObList, Op, Ops, Outcome, Reply, Status, Txn};
 use asset_test_tools::{abort, begin, complete, initiate, read, write};
-use std::alloc::Global;
 use std::test::Fail;
 
 /// Two objects.
 const TWO: [(Ob, i64); 2] = [(Ob(1), 100), (Ob(2), 200)];
-
-/// Opens the tables of these objects. If memory runs out once, the same call is made again.
-fn open(alloc: Global) -> Result<Tables, ObjectsFault> {
-    match Tables::open(alloc, &TWO) {
-        Ok(tables) => Ok(tables),
-        Err(_) => Tables::open(alloc, &TWO),
-    }
-}
-
-/// Asks a step. If memory runs out once, the same step is asked again.
-fn ask(tables: &mut Tables, step: &Step) -> Option<Outcome> {
-    match step_at_once(tables, step) {
-        Ok(outcome) => Some(outcome),
-        Err(NoMemory) => step_at_once(tables, step).ok(),
-    }
-}
 
 /// Lets anybody do an operation on an object if the giver is live, and returns whether it did.
 fn permit_once(tables: &mut Tables, giver: u64, x: u64, op: Op) -> Result<bool, NoMemory> {
@@ -45,16 +27,6 @@ fn permit(tables: &mut Tables, giver: u64, x: u64, op: Op) -> bool {
     }
 }
 
-/// Returns the first of the steps, from 0 on, that has another outcome than the one beside it.
-fn first_other(tables: &mut Tables, steps: &[(Step, Outcome)]) -> Option<usize> {
-    for (index, (step, outcome)) in steps.iter().enumerate() {
-        if ask(tables, step) != Some(*outcome) {
-            return Some(index);
-        }
-    }
-    None
-}
-
 /// Starts transactions 7, 8 and 9, of which 7 writes object 1. Returns whether all is done.
 fn seven_writes(tables: &mut Tables) -> bool {
     let done = Outcome::Answer(Reply::Done);
@@ -68,7 +40,7 @@ fn seven_writes(tables: &mut Tables) -> bool {
         (write(7, 1, 50), done),
         (read(8, 1), Outcome::Wait),
     ];
-    first_other(tables, &steps).is_none()
+    first_other_outcome(tables, &steps).is_none()
 }
 
 /// Reads what 7 has opened, and asks for what it has not; then 7 aborts. Returns the first step that has another outcome.
@@ -83,7 +55,7 @@ fn others_read(tables: &mut Tables) -> Option<usize> {
         (abort(8), Outcome::Answer(Reply::Aborted)),
         (write(9, 1, 70), Outcome::Answer(Reply::Done)),
     ];
-    first_other(tables, &steps)
+    first_other_outcome(tables, &steps)
 }
 
 /// Returns whether 7 may open an object, the first step after that which has another outcome, and whether 7 may open one
@@ -97,7 +69,7 @@ fn opens(tables: &mut Tables) -> (bool, Option<usize>, bool) {
 
 #[test]
 fn open_permit_of_the_tables_lets_anybody_read(rt: HostRuntime) -> Result<(), Fail> {
-    let mut tables = open(rt.alloc())?;
+    let mut tables = open_tables(rt.alloc(), &TWO)?;
     let shown = opens(&mut tables);
     let (value, status) = (tables.value(Ob(1)), tables.status(Txn(9)));
     drop(tables);
