@@ -12,10 +12,10 @@ use Rattle.asset_names.proofs.ListLemmas.{listed_at, lists_at}
 use Rattle.asset_labels.specs.Numbered.{groups_before, group_numbers, group_count}
 use Rattle.asset_labels.proofs.NumberLemmas.{before_more, number_at, numbers_long}
 use Rattle.asset_labels.specs.Labelled.{merged}
-use Rattle.asset_meetings.specs.Uses.{meetings_of}
-use Rattle.asset_meetings.specs.Meetings.{arrows_of, partners}
+use Rattle.asset_meetings.specs.Users.{meetings_of}
+use Rattle.asset_meetings.specs.Meetings.{join_arrows, partners}
 use Rattle.asset_meetings.proofs.SameLemmas.{are_meetings}
-use Rattle.asset_deletion.specs.Named.{with_name, names_of, led_by, joined, Means, IsNumbered}
+use Rattle.asset_deletion.specs.Named.{with_name, names_of, joined_through, joined, Means, IsNumbered}
 use Rattle.asset_deletion.specs.Grouping.{Grouping, first_labels, grouping_of, number_in, same_number, dead_in, dead_at}
 use Rattle.asset_deletion.proofs.MeansLemmas.{merged_means, named_means, no_entries, means_alike, one_joins, entry_joins}
 use Rattle.asset_deletion.proofs.NameLemmas.{with_new, with_old, with_name_at, all_acted}
@@ -90,28 +90,28 @@ two_named leads names labels a b means =
     (labels_after, subst (λ (x : ℕ). Means (joined leads a x) after labels_after) j.2 one)
 
 -- those of partners
-partners_labelled : (entries : List Entry) → (labels : List ℕ) × Means (led_by (partners entries)) (names_of entries) labels
+partners_labelled : (entries : List Entry) → (labels : List ℕ) × Means (joined_through (partners entries)) (names_of entries) labels
 unfolding names_of
 partners_labelled [] = ([], no_entries)
 partners_labelled (entry ∷ older) =
     let before = partners_labelled older in
-    let after = two_named (led_by (partners older)) (names_of older) before.0 (actor entry.0).0 (partner entry.0).0 before.1 in
-    (after.0, means_alike (joined (led_by (partners older)) (actor entry.0).0 (partner entry.0).0) (led_by (partners (entry ∷ older))) _ _ (λ n m. sym (entry_joins entry older n m)) after.1)
+    let after = two_named (joined_through (partners older)) (names_of older) before.0 (actor entry.0).0 (partner entry.0).0 before.1 in
+    (after.0, means_alike (joined (joined_through (partners older)) (actor entry.0).0 (partner entry.0).0) (joined_through (partners (entry ∷ older))) _ _ (λ n m. sym (entry_joins entry older n m)) after.1)
 
 -- a join of two who are named
-two_joined : (joins : List Arrow) (names labels : List ℕ) (a b : ℕ) → Means (led_by joins) names labels → lists names a ≡ true → lists names b ≡ true → (more : List ℕ) × Means (led_by ((a, b) ∷ joins)) names more
+two_joined : (joins : List Arrow) (names labels : List ℕ) (a b : ℕ) → Means (joined_through joins) names labels → lists names a ≡ true → lists names b ≡ true → (more : List ℕ) × Means (joined_through ((a, b) ∷ joins)) names more
 two_joined joins names labels a b means is_a is_b =
     let i = listed_at names a is_a in
     let j = listed_at names b is_b in
     let more : List ℕ = merged labels (get_or labels i.0 0) (get_or labels j.0 0) in
-    let joint : Means (joined (led_by joins) (get_or names i.0 0) (get_or names j.0 0)) names more = merged_means (led_by joins) names labels i.0 j.0 means i.1 j.1 in
-    let one : Means (joined (led_by joins) a (get_or names j.0 0)) names more = subst (λ (x : ℕ). Means (joined (led_by joins) x (get_or names j.0 0)) names more) i.2 joint in
-    let both : Means (joined (led_by joins) a b) names more = subst (λ (x : ℕ). Means (joined (led_by joins) a x) names more) j.2 one in
-    (more, means_alike (joined (led_by joins) a b) (led_by ((a, b) ∷ joins)) names more (λ n m. sym (one_joins joins a b n m)) both)
+    let joint : Means (joined (joined_through joins) (get_or names i.0 0) (get_or names j.0 0)) names more = merged_means (joined_through joins) names labels i.0 j.0 means i.1 j.1 in
+    let one : Means (joined (joined_through joins) a (get_or names j.0 0)) names more = subst (λ (x : ℕ). Means (joined (joined_through joins) x (get_or names j.0 0)) names more) i.2 joint in
+    let both : Means (joined (joined_through joins) a b) names more = subst (λ (x : ℕ). Means (joined (joined_through joins) a x) names more) j.2 one in
+    (more, means_alike (joined (joined_through joins) a b) (joined_through ((a, b) ∷ joins)) names more (λ n m. sym (one_joins joins a b n m)) both)
 
 -- those of more joins
-all_joined : (met joins : List Arrow) (names labels : List ℕ) → Means (led_by joins) names labels → ((u v : ℕ) → has_arrow met u v ≡ true → (lists names u ≡ true) × (lists names v ≡ true))
-    → (more : List ℕ) × Means (led_by (met ++ joins)) names more
+all_joined : (met joins : List Arrow) (names labels : List ℕ) → Means (joined_through joins) names labels → ((u v : ℕ) → has_arrow met u v ≡ true → (lists names u ≡ true) × (lists names v ≡ true))
+    → (more : List ℕ) × Means (joined_through (met ++ joins)) names more
 unfolding has_arrow
 all_joined [] joins names labels means named = (labels, means)
 all_joined (arrow ∷ met) joins names labels means named =
@@ -120,12 +120,12 @@ all_joined (arrow ∷ met) joins names labels means named =
     two_joined (met ++ joins) names before.0 arrow.0 arrow.1 before.1 here.0 here.1
 
 pub labels_exist : (entries : List Entry) → (labels : List ℕ) × Means (same_group entries) (names_of entries) labels
-unfolding led_by
+unfolding joined_through
 labels_exist entries =
     let met = are_meetings entries in
     let first = partners_labelled entries in
-    let all = all_joined (arrows_of (meetings_of entries)) (partners entries) (names_of entries) first.0 first.1 (λ u v h. let acted = met.named u v h in (all_acted entries u ∙ acted.0, all_acted entries v ∙ acted.1)) in
-    (all.0, means_alike (led_by (arrows_of (meetings_of entries) ++ partners entries)) (same_group entries) (names_of entries) all.0 met.groups all.1)
+    let all = all_joined (join_arrows (meetings_of entries)) (partners entries) (names_of entries) first.0 first.1 (λ u v h. let acted = met.named u v h in (all_acted entries u ∙ acted.0, all_acted entries v ∙ acted.1)) in
+    (all.0, means_alike (joined_through (join_arrows (meetings_of entries) ++ partners entries)) (same_group entries) (names_of entries) all.0 met.groups all.1)
 
 pub entries_numbered : (entries : List Entry) → IsNumbered (same_group entries) (names_of entries) (grouping_of entries).numbers (grouping_of entries).count
 unfolding grouping_of

@@ -12,7 +12,7 @@ use Rattle.asset_names.proofs.ListLemmas.{lists_at}
 use Rattle.asset_labels.specs.Labelled.{relabelled, merged}
 use Rattle.asset_labels.proofs.LabelLemmas.{old_at, last_at}
 use Rattle.asset_meetings.specs.Meetings.{partners}
-use Rattle.asset_deletion.specs.Named.{led_by, along, joined, Means}
+use Rattle.asset_deletion.specs.Named.{joined_through, along, joined, Means}
 
 -- ---- a label after a join
 renamed : ℕ → ℕ → ℕ → ℕ
@@ -164,17 +164,17 @@ named_means leads names labels n means new =
     }
 
 -- ---- the groups of entries
-pub no_entries : Means (led_by (partners [])) [] []
-unfolding led_by partners both_ways linked
+pub no_entries : Means (joined_through (partners [])) [] []
+unfolding joined_through partners both_ways linked
 no_entries = record { long = refl; low = λ k below. absurd (omega arith); own = λ k below. absurd (omega arith); same = λ i j is_i is_j. absurd (omega arith); first = λ n m not. refl; second = λ n m not. refl }
 
 -- one more join
-pub one_joins : (joins : List Arrow) (a b n m : ℕ) → led_by ((a, b) ∷ joins) n m ≡ joined (led_by joins) a b n m
-unfolding led_by both_ways linked joined along
+pub one_joins : (joins : List Arrow) (a b n m : ℕ) → joined_through ((a, b) ∷ joins) n m ≡ joined (joined_through joins) a b n m
+unfolding joined_through both_ways linked joined along
 one_joins joins a b n m = refl
 
 -- an entry joins its two transactions
-pub entry_joins : (entry : Entry) (older : List Entry) (n m : ℕ) → led_by (partners (entry ∷ older)) n m ≡ joined (led_by (partners older)) (actor entry.0).0 (partner entry.0).0 n m
+pub entry_joins : (entry : Entry) (older : List Entry) (n m : ℕ) → joined_through (partners (entry ∷ older)) n m ≡ joined (joined_through (partners older)) (actor entry.0).0 (partner entry.0).0 n m
 unfolding partners
 entry_joins entry older n m = one_joins (partners older) (actor entry.0).0 (partner entry.0).0 n m
 

@@ -17,7 +17,7 @@ use Rattle.asset_names.proofs.Common.{eqb-flip}
 use Rattle.asset_names.proofs.ListLemmas.{any_alike, lists_pushed}
 use Rattle.asset_history.specs.Acting.{both_of}
 use Rattle.asset_deletion.specs.Grouping.{named}
-use Rattle.asset_deletion.specs.Named.{with_name, names_of, led_by, joined}
+use Rattle.asset_deletion.specs.Named.{with_name, names_of, joined_through, joined}
 use Rattle.asset_deletion.proofs.MeansLemmas.{entry_joins}
 
 -- ---- one more name
@@ -56,12 +56,12 @@ pair t u = (t, u)
 -- what the entry at i adds to the names and joins
 pub entry_named : (entries : List Entry) (i : ℕ) (t u : Txn) → Some (pair t u) ≡ option_map both_of (slice_get entries i)
     → (names_of (reverse (take (i + 1) entries)) ≡ with_name (with_name (names_of (reverse (take i entries))) t.0) u.0)
-    × ((n m : ℕ) → joined (led_by (partners (reverse (take i entries)))) t.0 u.0 n m ≡ led_by (partners (reverse (take (i + 1) entries))) n m)
+    × ((n m : ℕ) → joined (joined_through (partners (reverse (take i entries)))) t.0 u.0 n m ≡ joined_through (partners (reverse (take (i + 1) entries))) n m)
 unfolding names_of
 entry_named entries i t u is = go (slice_get entries i) refl is where
   go : (found : Option Entry) → slice_get entries i ≡ found → Some (pair t u) ≡ option_map both_of found
       → (names_of (reverse (take (i + 1) entries)) ≡ with_name (with_name (names_of (reverse (take i entries))) t.0) u.0)
-      × ((n m : ℕ) → joined (led_by (partners (reverse (take i entries)))) t.0 u.0 n m ≡ led_by (partners (reverse (take (i + 1) entries))) n m)
+      × ((n m : ℕ) → joined (joined_through (partners (reverse (take i entries)))) t.0 u.0 n m ≡ joined_through (partners (reverse (take (i + 1) entries))) n m)
   go None at is = absurd (cc)
   go (Some entry) at is =
       let same : pair t u ≡ both_of entry = cc in

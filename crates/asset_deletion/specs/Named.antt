@@ -15,8 +15,8 @@ names_of [] = []
 names_of (entry ∷ older) = with_name (with_name (names_of older) (actor entry.0).0) (partner entry.0).0
 
 -- whether joins lead from one name to the other, in either direction
-unfoldable pub led_by : List Arrow → ℕ → ℕ → Bool
-led_by joins n m = linked (both_ways joins) n m
+unfoldable pub joined_through : List Arrow → ℕ → ℕ → Bool
+joined_through joins n m = linked (both_ways joins) n m
 
 -- n leads to m as before, or by one arrow from a to b
 unfoldable pub along : (ℕ → ℕ → Bool) → ℕ → ℕ → ℕ → ℕ → Bool

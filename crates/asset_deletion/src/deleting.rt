@@ -1,6 +1,6 @@
 //! A history without dead groups.
 
-ghost use Rattle.std.specs.Prelude.{◌≡◌, ◌≤◌, ℕ, true, cond, length, map, reverse, slice_get, Some, IfOk};
+ghost use Rattle.std.specs.Prelude.{◌≡◌, true, length, map, reverse, slice_get, Some, IfOk};
 ghost use Rattle.asset_names.specs.declared.names.Txn.{Txn as Name};
 ghost use Rattle.asset_names.specs.Steps.{Entry};
 ghost use Rattle.asset_names.specs.Groups.{actor, kept, without};

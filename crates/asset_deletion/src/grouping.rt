@@ -5,7 +5,7 @@ ghost use Rattle.asset_names.specs.Groups.{same_group};
 ghost use Rattle.asset_deletion.specs.Grouping.{grouping_of};
 ghost use Rattle.asset_deletion.specs.Grouped.{AreGroups};
 ghost use Rattle.asset_meetings.specs.Meetings.{partners};
-ghost use Rattle.asset_deletion.specs.Named.{names_of, led_by, Means};
+ghost use Rattle.asset_deletion.specs.Named.{names_of, joined_through, Means};
 
 use crate::grouped::Groups;
 use crate::joining::join_met;
@@ -41,7 +41,7 @@ fn with_meetings(
     mut labels: Labels,
 ) -> Result<Groups, NoMemory>
     requires names { names.keys ≡ names_of history.now.entries }
-    requires means { Means (led_by (partners history.now.entries)) names.keys labels }
+    requires means { Means (joined_through (partners history.now.entries)) names.keys labels }
     ensures { IfOk result (λ g. g ≡ grouping_of history.now.entries) }
 {
     let met = meetings(alloc, history)?;

@@ -2,8 +2,8 @@
 
 ghost use Rattle.std.specs.Prelude.{◌≡◌, ◌++◌, ◌<◌, ℕ, Bool, true, List, length, slice_index};
 ghost use Rattle.asset_names.specs.Arrows.{Arrow, lists, has_arrow};
-ghost use Rattle.asset_meetings.specs.Meetings.{arrows_of};
-ghost use Rattle.asset_deletion.specs.Named.{led_by, joined, Means};
+ghost use Rattle.asset_meetings.specs.Meetings.{join_arrows};
+ghost use Rattle.asset_deletion.specs.Named.{joined_through, joined, Means};
 
 use asset_labels::Labels;
 use asset_names::Txn;
@@ -36,9 +36,9 @@ fn join_named(names: &IndexSet<u64>, labels: &mut Labels, t: Txn, u: Txn)
 
 /// Joins the groups of each two who met, all of whom are named.
 pub(crate) fn join_met(names: &IndexSet<u64>, labels: &mut Labels, met: &[(Txn, Txn)])
-    requires named { (u v : ℕ) → has_arrow (arrows_of met.now) u v ≡ true → (lists names.now.keys u ≡ true) × (lists names.now.keys v ≡ true) }
+    requires named { (u v : ℕ) → has_arrow (join_arrows met.now) u v ≡ true → (lists names.now.keys u ≡ true) × (lists names.now.keys v ≡ true) }
     requires long { length labels.old ≡ length names.now.keys }
-    ensures { (joins : List Arrow) → Means (led_by joins) names.now.keys labels.old → Means (led_by (arrows_of met.now ++ joins)) names.now.keys labels.new }
+    ensures { (joins : List Arrow) → Means (joined_through joins) names.now.keys labels.old → Means (joined_through (join_arrows met.now ++ joins)) names.now.keys labels.new }
 {
     let mut k = met.len();
     'met: while k > 0 {

@@ -1,6 +1,6 @@
 //! The pass over a history that finds the groups in which nobody has committed.
 
-ghost use Rattle.std.specs.Prelude.{◌≡◌, ℕ, ◌<◌, Bool, true, false, not, ◌&&◌, length, reverse, slice_get, slice_index, slice_index_or};
+ghost use Rattle.std.specs.Prelude.{◌≡◌, ℕ, ◌<◌, Bool, true, false, not, ◌&&◌, length, slice_index, slice_index_or};
 ghost use Rattle.asset_names.specs.Groups.{same_group, dead};
 ghost use Rattle.asset_deletion.specs.Named.{IsNumbered};
 

@@ -4,7 +4,7 @@ ghost use Rattle.std.specs.Prelude.{◌≡◌, ℕ, ◌<◌, Bool, [], length, r
 ghost use Rattle.std.specs.Option.{option_map};
 ghost use Rattle.asset_history.specs.Acting.{both_of};
 ghost use Rattle.asset_meetings.specs.Meetings.{partners};
-ghost use Rattle.asset_deletion.specs.Named.{with_name, names_of, led_by, joined, Means};
+ghost use Rattle.asset_deletion.specs.Named.{with_name, names_of, joined_through, joined, Means};
 
 use asset_history::History;
 use asset_labels::Labels;
@@ -58,8 +58,8 @@ fn join_names(
     Ok(())
 }
 
-/// Names the transactions of a history in order of first use, and labels each by the first name of those to whom it is joined by
-/// the two transactions of entries. If memory runs out, names and labels are of no more use.
+/// Names the transactions of a history in order of first use, joins the two that each entry's step acts on, and labels each by
+/// the first name of those who are joined with it. If memory runs out, names and labels are of no more use.
 pub(crate) fn name_groups(
     history: &History,
     names: &mut IndexSet<u64>,
@@ -68,7 +68,7 @@ pub(crate) fn name_groups(
     requires names { names.old.keys ≡ [] }
     requires labels { labels.old ≡ [] }
     ensures names { OnOk result (names.new.keys ≡ names_of history.now.entries) }
-    ensures means { OnOk result (Means (led_by (partners history.now.entries)) names.new.keys labels.new) }
+    ensures means { OnOk result (Means (joined_through (partners history.now.entries)) names.new.keys labels.new) }
 {
     'entries: for i in 0..history.len() {
         if let Some((t, u)) = joined_at(history, i) {

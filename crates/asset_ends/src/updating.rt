@@ -1,7 +1,7 @@
 //! Writes and adds: the steps that change an object.
 
 ghost use Rattle.std.specs.Prelude.{◌≡◌, true, Some};
-ghost use Rattle.asset_objects.specs.Cells.{Cell, cells, updated, has_object, change_at};
+ghost use Rattle.asset_objects.specs.Cells.{cells, updated, has_object, change_at};
 ghost use Rattle.asset_objects.specs.Placed.{objects_in, IsTied};
 ghost use Rattle.asset_seats.specs.Seated.{HasSeat};
 ghost use Rattle.asset_ends.specs.Updates.{op_of, effect_of};

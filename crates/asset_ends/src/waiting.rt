@@ -2,7 +2,6 @@
 
 ghost use Rattle.std.specs.Prelude.{◌≡◌, ◌&&◌, ◌||◌, ◌==◌, ℕ, IfOk, OnOk};
 ghost use Rattle.asset_names.specs.Arrows.{lists};
-ghost use Rattle.asset_names.specs.declared.statuses.Status.{Status as StatusOf};
 ghost use Rattle.asset_locks.specs.Blocking.{is_blocker_in, request_in};
 ghost use Rattle.asset_locks.specs.LockTable.{carries};
 ghost use Rattle.asset_locks.specs.Tied.{rows_in, IsTied};
@@ -19,7 +18,6 @@ use crate::seating::sitter_of;
 use crate::tables::Tables;
 use asset_locks::{NameSet, SeatedLocks};
 use asset_names::{NoMemory, Ob, Op, Status, Txn};
-use asset_permits::SeatedPermits;
 use asset_seats::{Seats, Sitter};
 use asset_trans::Trans;
 use std::alloc::Global;

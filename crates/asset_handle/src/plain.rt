@@ -3,7 +3,7 @@
 /// How many objects a step can list.
 pub const SLOTS: usize = 16;
 
-/// The count of a set of all objects.
+/// The count that stands for all objects.
 pub const ALL: u64 = u64::MAX;
 
 /// An object with its opening value.

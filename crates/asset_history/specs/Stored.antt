@@ -119,7 +119,7 @@ sets_after step sets = sets
 unfoldable pub permit_entry : ReplyTag → ℕ → OpSet → Txn → Txn → ObSet → Entry
 permit_entry tag missing ops giver taker obs = (Permit giver taker obs ops, reply_of_two giver taker (object_at obs missing) tag)
 
--- the step of a permit to anybody by its set, which is a list
+-- the step of a permit to anybody by its set, which is a list: no entry that a history keeps has the last case
 unfoldable pub opened_step : Txn → ObSet → OpSet → Step
 opened_step giver (Listed obs) ops = PermitAny giver obs ops
 opened_step giver All ops = Permit giver giver All ops

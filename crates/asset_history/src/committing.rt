@@ -25,6 +25,7 @@ impl Stored {
                 ReplyTag::Committed => Some(t),
                 _ => None,
             },
+            // Its step depends on its set, so it has a case of its own.
             Stored::PermitAny { .. } => None,
             _ => None,
         }

@@ -45,6 +45,7 @@ impl Stored {
                 ReplyTag::Done => Some((t, x)),
                 _ => None,
             },
+            // Its step depends on its set, so it has a case of its own.
             Stored::PermitAny { .. } => None,
             _ => None,
         }

@@ -216,7 +216,7 @@ fn permits_to_add_are_read(rt: HostRuntime) {
     );
 }
 
-/// Returns whether the line lends operations of 7 to anybody on the objects with these numbers.
+/// Returns whether the line is an open permit of 7, of the operations on the objects with these numbers.
 fn opens(line: &[u8], ops: Option<Ops>, numbers: &[u64]) -> bool {
     match (ops, set_of(numbers)) {
         (Some(ops), ObSet::Listed(obs)) => asks(

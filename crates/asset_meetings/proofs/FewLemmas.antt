@@ -17,33 +17,33 @@ use Rattle.asset_names.specs.Groups.{actor, operates_on}
 use Rattle.asset_names.proofs.ListLemmas.{any_map, any_and}
 use Rattle.asset_names.proofs.DependLemmas.{has_append}
 use Rattle.asset_history.specs.Operating.{operator_of, opener_of}
-use Rattle.asset_meetings.specs.declared.uses.Use.{Use}
-use Rattle.asset_meetings.specs.Uses.{uses_of, opened_by, openings, operated_by, operations, first_user, joins_of, joined_with, meetings_by, meetings_of}
-use Rattle.asset_meetings.specs.Meetings.{arrows_of}
+use Rattle.asset_meetings.specs.declared.users.User.{User}
+use Rattle.asset_meetings.specs.Users.{users_of, opener_users, openers_of, operator_users, operators_of, first_user, joins_of, joined_with, meetings_by, meetings_of}
+use Rattle.asset_meetings.specs.Meetings.{join_arrows}
 use Rattle.asset_meetings.proofs.MeetLemmas.{opened_obs, opens_on, opens, operates, Meet}
 
 -- whether t uses x
-has_use : List Use → ℕ → ℕ → Bool
-has_use uses t x = list_any (λ (used : Use). eqb used.x.0 x && eqb used.t.0 t) uses
+has_user : List User → ℕ → ℕ → Bool
+has_user users t x = list_any (λ (used : User). eqb used.x.0 x && eqb used.t.0 t) users
 
-has_uses : (ones others : List Use) (t x : ℕ) → has_use (ones ++ others) t x ≡ (has_use ones t x || has_use others t x)
-unfolding has_use
-has_uses ones others t x = list_any-append (λ (used : Use). eqb used.x.0 x && eqb used.t.0 t) ones others
+has_uses : (ones others : List User) (t x : ℕ) → has_user (ones ++ others) t x ≡ (has_user ones t x || has_user others t x)
+unfolding has_user
+has_uses ones others t x = list_any-append (λ (used : User). eqb used.x.0 x && eqb used.t.0 t) ones others
 
--- ---- openings are those of the steps that took effect
+-- ---- the openers are those of the steps that took effect
 
-uses_has : (t : Txn) (obs : List Ob) (a x : ℕ) → has_use (uses_of t obs) a x ≡ (list_any (λ (y : Ob). eqb y.0 x) obs && eqb t.0 a)
-unfolding has_use uses_of
+uses_has : (t : Txn) (obs : List Ob) (a x : ℕ) → has_user (users_of t obs) a x ≡ (list_any (λ (y : Ob). eqb y.0 x) obs && eqb t.0 a)
+unfolding has_user users_of
 uses_has t obs a x =
-    any_map (λ (used : Use). eqb used.x.0 x && eqb used.t.0 a) (λ (y : Ob). record { t = t; x = y }) obs
+    any_map (λ (used : User). eqb used.x.0 x && eqb used.t.0 a) (λ (y : Ob). record { t = t; x = y }) obs
     ∙ any_and (λ (y : Ob). eqb y.0 x) (eqb t.0 a) obs
 
 none_of : (a b : Bool) → false ≡ (a && (false && b))
 none_of true b = refl
 none_of false b = refl
 
-opened_here : (step : Step) (reply : Reply) (a x : ℕ) → has_use (opened_by (opener_of step reply)) a x ≡ (takes_effect step reply && (opens_on step x && eqb (actor step).0 a))
-unfolding has_use opened_by opener_of takes_effect opens_on opened_obs actor
+opened_here : (step : Step) (reply : Reply) (a x : ℕ) → has_user (opener_users (opener_of step reply)) a x ≡ (takes_effect step reply && (opens_on step x && eqb (actor step).0 a))
+unfolding has_user opener_users opener_of takes_effect opens_on opened_obs actor
 opened_here (PermitAny giver obs ops) Reply'.Done a x = uses_has giver obs a x
 opened_here (PermitAny giver obs ops) (Reply'.Value v) a x = refl
 opened_here (PermitAny giver obs ops) Reply'.Committed a x = refl
@@ -76,21 +76,21 @@ applied_more test entry older = go (takes_effect entry.0 entry.1) where
   go true = refl
   go false = refl
 
-openings_are : (entries : List Entry) (a x : ℕ) → has_use (openings entries) a x ≡ opens (applied entries) a x
-unfolding openings opens applied has_use
-openings_are [] a x = refl
-openings_are (entry ∷ older) a x =
-    has_uses (openings older) (opened_by (opener_of entry.0 entry.1)) a x
-    ∙ or_back (has_use (openings older) a x) (has_use (opened_by (opener_of entry.0 entry.1)) a x)
-    ∙ (λ i. opened_here entry.0 entry.1 a x i || openings_are older a x i)
+openers_are : (entries : List Entry) (a x : ℕ) → has_user (openers_of entries) a x ≡ opens (applied entries) a x
+unfolding openers_of opens applied has_user
+openers_are [] a x = refl
+openers_are (entry ∷ older) a x =
+    has_uses (openers_of older) (opener_users (opener_of entry.0 entry.1)) a x
+    ∙ or_back (has_user (openers_of older) a x) (has_user (opener_users (opener_of entry.0 entry.1)) a x)
+    ∙ (λ i. opened_here entry.0 entry.1 a x i || openers_are older a x i)
     ∙ sym (applied_more (λ (step : Step). opens_on step x && eqb (actor step).0 a) entry older)
 
--- ---- operations are those of the steps that took effect, of the objects for which somebody is noted
+-- ---- the operators are those of the steps that took effect, of the objects for which somebody is noted
 
-one_use : (noted : ℕ → Option Txn) (u : Txn) (y : Ob) (t x : ℕ) → has_use (operated_by noted (Some (u, y))) t x ≡ (is_some (noted x) && (eqb y.0 x && eqb u.0 t))
-unfolding has_use operated_by
+one_use : (noted : ℕ → Option Txn) (u : Txn) (y : Ob) (t x : ℕ) → has_user (operator_users noted (Some (u, y))) t x ≡ (is_some (noted x) && (eqb y.0 x && eqb u.0 t))
+unfolding has_user operator_users
 one_use noted u y t x = go (eqb y.0 x) refl (is_some (noted y.0)) refl where
-  go : (here : Bool) → eqb y.0 x ≡ here → (there : Bool) → is_some (noted y.0) ≡ there → has_use (cond there (record { t = u; x = y } ∷ []) []) t x ≡ (is_some (noted x) && (here && eqb u.0 t))
+  go : (here : Bool) → eqb y.0 x ≡ here → (there : Bool) → is_some (noted y.0) ≡ there → has_user (cond there (record { t = u; x = y } ∷ []) []) t x ≡ (is_some (noted x) && (here && eqb u.0 t))
   go false is true at = rw (is) (none_of (is_some (noted x)) (eqb u.0 t))
   go false is false at = none_of (is_some (noted x)) (eqb u.0 t)
   go true is true at = rw (is, ap (λ z. is_some (noted z)) (sym (eqb-true y.0 x is)) ∙ at) (alone (eqb u.0 t)) where
@@ -107,8 +107,8 @@ none_at_all true b c = none_of b c
 none_at_all false b c = refl
 
 operated_here : (noted : ℕ → Option Txn) (step : Step) (reply : Reply) (t x : ℕ)
-    → has_use (operated_by noted (operator_of step reply)) t x ≡ (is_some (noted x) && (takes_effect step reply && (operates_on step x && eqb (actor step).0 t)))
-unfolding has_use operated_by operator_of takes_effect operates_on actor
+    → has_user (operator_users noted (operator_of step reply)) t x ≡ (is_some (noted x) && (takes_effect step reply && (operates_on step x && eqb (actor step).0 t)))
+unfolding has_user operator_users operator_of takes_effect operates_on actor
 operated_here noted (Read u y) (Reply'.Value v) t x = one_use noted u y t x
 operated_here noted (Read u y) Reply'.Done t x = none_of (is_some (noted x)) (eqb y.0 x && eqb u.0 t)
 operated_here noted (Read u y) Reply'.Committed t x = none_of (is_some (noted x)) (eqb y.0 x && eqb u.0 t)
@@ -139,69 +139,69 @@ apart_or : (a b c : Bool) → ((a && b) || (a && c)) ≡ (a && (b || c))
 apart_or true b c = refl
 apart_or false b c = refl
 
-operations_are : (noted : ℕ → Option Txn) (entries : List Entry) (t x : ℕ) → has_use (operations noted entries) t x ≡ (is_some (noted x) && operates (applied entries) t x)
-unfolding operations operates has_use applied
-operations_are noted [] t x = none_of (is_some (noted x)) true
-operations_are noted (entry ∷ older) t x =
+operators_are : (noted : ℕ → Option Txn) (entries : List Entry) (t x : ℕ) → has_user (operators_of noted entries) t x ≡ (is_some (noted x) && operates (applied entries) t x)
+unfolding operators_of operates has_user applied
+operators_are noted [] t x = none_of (is_some (noted x)) true
+operators_are noted (entry ∷ older) t x =
     let here = takes_effect entry.0 entry.1 && (operates_on entry.0 x && eqb (actor entry.0).0 t) in
     let before = list_any (λ (step : Step). operates_on step x && eqb (actor step).0 t) (applied older) in
-    has_uses (operations noted older) (operated_by noted (operator_of entry.0 entry.1)) t x
-    ∙ or_back (has_use (operations noted older) t x) (has_use (operated_by noted (operator_of entry.0 entry.1)) t x)
-    ∙ (λ i. operated_here noted entry.0 entry.1 t x i || operations_are noted older t x i)
+    has_uses (operators_of noted older) (operator_users noted (operator_of entry.0 entry.1)) t x
+    ∙ or_back (has_user (operators_of noted older) t x) (has_user (operator_users noted (operator_of entry.0 entry.1)) t x)
+    ∙ (λ i. operated_here noted entry.0 entry.1 t x i || operators_are noted older t x i)
     ∙ apart_or (is_some (noted x)) here before
     ∙ ap (λ b. is_some (noted x) && b) (sym (applied_more (λ (step : Step). operates_on step x && eqb (actor step).0 t) entry older))
 
 -- ---- first users
 
-first_uses : (uses : List Use) (x : ℕ) (s : Txn) → first_user uses x ≡ Some s → has_use uses s.0 x ≡ true
-unfolding first_user has_use
+first_uses : (users : List User) (x : ℕ) (s : Txn) → first_user users x ≡ Some s → has_user users s.0 x ≡ true
+unfolding first_user has_user
 first_uses [] x s is = absurd cc
-first_uses (used ∷ uses) x s is = go (λ found. first_uses uses x s found) (eqb used.x.0 x) refl is where
-  go : (first_user uses x ≡ Some s → has_use uses s.0 x ≡ true) → (here : Bool) → eqb used.x.0 x ≡ here → cond here (Some used.t) (first_user uses x) ≡ Some s → ((here && eqb used.t.0 s.0) || has_use uses s.0 x) ≡ true
+first_uses (used ∷ users) x s is = go (λ found. first_uses users x s found) (eqb used.x.0 x) refl is where
+  go : (first_user users x ≡ Some s → has_user users s.0 x ≡ true) → (here : Bool) → eqb used.x.0 x ≡ here → cond here (Some used.t) (first_user users x) ≡ Some s → ((here && eqb used.t.0 s.0) || has_user users s.0 x) ≡ true
   go rest true at found = let same : used.t ≡ s = cc in or_left _ _ (eq-eqb used.t.0 s.0 (ap (λ (t : Txn). t.0) same))
   go rest false at found = rest found
 
-first_found : (uses : List Use) (t x : ℕ) → has_use uses t x ≡ true → (s : Txn) × (first_user uses x ≡ Some s)
-unfolding first_user has_use
+first_found : (users : List User) (t x : ℕ) → has_user users t x ≡ true → (s : Txn) × (first_user users x ≡ Some s)
+unfolding first_user has_user
 first_found [] t x h = absurd (false≢true h)
-first_found (used ∷ uses) t x h = go (λ some. first_found uses t x some) (eqb used.x.0 x) h where
-  go : (has_use uses t x ≡ true → (s : Txn) × (first_user uses x ≡ Some s)) → (here : Bool) → ((here && eqb used.t.0 t) || has_use uses t x) ≡ true → (s : Txn) × (cond here (Some used.t) (first_user uses x) ≡ Some s)
+first_found (used ∷ users) t x h = go (λ some. first_found users t x some) (eqb used.x.0 x) h where
+  go : (has_user users t x ≡ true → (s : Txn) × (first_user users x ≡ Some s)) → (here : Bool) → ((here && eqb used.t.0 t) || has_user users t x) ≡ true → (s : Txn) × (cond here (Some used.t) (first_user users x) ≡ Some s)
   go rest true some = (used.t, refl)
   go rest false some = rest some
 
 -- ---- the joins of users with those who are noted
 
-joined_there : (noted : ℕ → Option Txn) (uses : List Use) (t x : ℕ) (s : Txn) → has_use uses t x ≡ true → noted x ≡ Some s → has_arrow (arrows_of (joined_with noted uses)) t s.0 ≡ true
-unfolding has_use joined_with arrows_of has_arrow joins_of
+joined_there : (noted : ℕ → Option Txn) (users : List User) (t x : ℕ) (s : Txn) → has_user users t x ≡ true → noted x ≡ Some s → has_arrow (join_arrows (joined_with noted users)) t s.0 ≡ true
+unfolding has_user joined_with join_arrows has_arrow joins_of
 joined_there noted [] t x s h is = absurd (false≢true h)
-joined_there noted (used ∷ uses) t x s h is =
-    ap (λ arrows. has_arrow arrows t s.0) (map-append (λ (join : Txn × Txn). (join.0.0, join.1.0)) (joins_of used.t (noted used.x.0)) (joined_with noted uses))
-    ∙ has_append (arrows_of (joins_of used.t (noted used.x.0))) (arrows_of (joined_with noted uses)) t s.0
+joined_there noted (used ∷ users) t x s h is =
+    ap (λ arrows. has_arrow arrows t s.0) (map-append (λ (join : Txn × Txn). (join.0.0, join.1.0)) (joins_of used.t (noted used.x.0)) (joined_with noted users))
+    ∙ has_append (join_arrows (joins_of used.t (noted used.x.0))) (join_arrows (joined_with noted users)) t s.0
     ∙ elim (or_cases (eqb used.x.0 x && eqb used.t.0 t) _ h) [
       | inl here ↦
           let parts = and_parts (eqb used.x.0 x) _ here in
-          or_left (has_arrow (arrows_of (joins_of used.t (noted used.x.0))) t s.0) _ (noted_there (noted used.x.0) (ap noted (eqb-true used.x.0 x parts.0) ∙ is) parts.1)
-      | inr later ↦ or_right (has_arrow (arrows_of (joins_of used.t (noted used.x.0))) t s.0) _ (joined_there noted uses t x s later is)
+          or_left (has_arrow (join_arrows (joins_of used.t (noted used.x.0))) t s.0) _ (noted_there (noted used.x.0) (ap noted (eqb-true used.x.0 x parts.0) ∙ is) parts.1)
+      | inr later ↦ or_right (has_arrow (join_arrows (joins_of used.t (noted used.x.0))) t s.0) _ (joined_there noted users t x s later is)
     ] where
-      noted_there : (at : Option Txn) → at ≡ Some s → eqb used.t.0 t ≡ true → has_arrow (arrows_of (joins_of used.t at)) t s.0 ≡ true
+      noted_there : (at : Option Txn) → at ≡ Some s → eqb used.t.0 t ≡ true → has_arrow (join_arrows (joins_of used.t at)) t s.0 ≡ true
       noted_there None none same = absurd cc
       noted_there (Some other) same_one same = let one : other ≡ s = cc in or_left _ _ (and_from _ _ same (eq-eqb other.0 s.0 (ap (λ (m : Txn). m.0) one)))
 
-joined_real : (noted : ℕ → Option Txn) (uses : List Use) (t v : ℕ) → has_arrow (arrows_of (joined_with noted uses)) t v ≡ true
-    → (x : ℕ) × (s : Txn) × (has_use uses t x ≡ true) × (noted x ≡ Some s) × (s.0 ≡ v)
-unfolding has_use joined_with arrows_of has_arrow joins_of
+joined_real : (noted : ℕ → Option Txn) (users : List User) (t v : ℕ) → has_arrow (join_arrows (joined_with noted users)) t v ≡ true
+    → (x : ℕ) × (s : Txn) × (has_user users t x ≡ true) × (noted x ≡ Some s) × (s.0 ≡ v)
+unfolding has_user joined_with join_arrows has_arrow joins_of
 joined_real noted [] t v h = absurd (false≢true h)
-joined_real noted (used ∷ uses) t v h =
-    let split = sym (ap (λ arrows. has_arrow arrows t v) (map-append (λ (join : Txn × Txn). (join.0.0, join.1.0)) (joins_of used.t (noted used.x.0)) (joined_with noted uses))
-    ∙ has_append (arrows_of (joins_of used.t (noted used.x.0))) (arrows_of (joined_with noted uses)) t v) ∙ h in
-    elim (or_cases (has_arrow (arrows_of (joins_of used.t (noted used.x.0))) t v) _ split) [
+joined_real noted (used ∷ users) t v h =
+    let split = sym (ap (λ arrows. has_arrow arrows t v) (map-append (λ (join : Txn × Txn). (join.0.0, join.1.0)) (joins_of used.t (noted used.x.0)) (joined_with noted users))
+    ∙ has_append (join_arrows (joins_of used.t (noted used.x.0))) (join_arrows (joined_with noted users)) t v) ∙ h in
+    elim (or_cases (has_arrow (join_arrows (joins_of used.t (noted used.x.0))) t v) _ split) [
       | inl here ↦ go (noted used.x.0) refl here
       | inr later ↦
-          let found = joined_real noted uses t v later in
+          let found = joined_real noted users t v later in
           (found.0, found.1, or_right (eqb used.x.0 found.0 && eqb used.t.0 t) _ found.2, found.3, found.4)
     ] where
-      go : (at : Option Txn) → noted used.x.0 ≡ at → has_arrow (arrows_of (joins_of used.t at)) t v ≡ true
-          → (x : ℕ) × (s : Txn) × (((eqb used.x.0 x && eqb used.t.0 t) || has_use uses t x) ≡ true) × (noted x ≡ Some s) × (s.0 ≡ v)
+      go : (at : Option Txn) → noted used.x.0 ≡ at → has_arrow (join_arrows (joins_of used.t at)) t v ≡ true
+          → (x : ℕ) × (s : Txn) × (((eqb used.x.0 x && eqb used.t.0 t) || has_user users t x) ≡ true) × (noted x ≡ Some s) × (s.0 ≡ v)
       go None is some = absurd (false≢true some)
       go (Some s) is some = elim (or_cases (eqb used.t.0 t && eqb s.0 v) _ some) [
         | inl one ↦
@@ -213,9 +213,9 @@ joined_real noted (used ∷ uses) t v h =
 -- ---- the few joins
 
 -- each is of two who meet
-pub few_met : (entries : List Entry) (u v : ℕ) → has_arrow (arrows_of (meetings_of entries)) u v ≡ true → Meet (applied entries) u v
-unfolding meetings_of meetings_by arrows_of
-few_met entries u v h = elim (or_cases (has_arrow (arrows_of (joined_with (first_user operated) opened)) u v) _ split) [
+pub few_met : (entries : List Entry) (u v : ℕ) → has_arrow (join_arrows (meetings_of entries)) u v ≡ true → Meet (applied entries) u v
+unfolding meetings_of meetings_by join_arrows
+few_met entries u v h = elim (or_cases (has_arrow (join_arrows (joined_with (first_user operated) opened)) u v) _ split) [
   | inl one ↦
       let found = joined_real (first_user operated) opened u v one in
       let second = first_uses operated found.0 found.1 found.3 in
@@ -225,31 +225,31 @@ few_met entries u v h = elim (or_cases (has_arrow (arrows_of (joined_with (first
       let second = first_uses opened found.0 found.1 found.3 in
       (found.0, inr (operation u found.0 found.2, subst (λ n. opens (applied entries) n found.0 ≡ true) found.4 (opening found.1.0 found.0 second)))
 ] where
-  opened : List Use
-  opened = openings entries
+  opened : List User
+  opened = openers_of entries
 
-  operated : List Use
-  operated = operations (first_user opened) entries
+  operated : List User
+  operated = operators_of (first_user opened) entries
 
-  split : (has_arrow (arrows_of (joined_with (first_user operated) opened)) u v || has_arrow (arrows_of (joined_with (first_user opened) operated)) u v) ≡ true
+  split : (has_arrow (join_arrows (joined_with (first_user operated) opened)) u v || has_arrow (join_arrows (joined_with (first_user opened) operated)) u v) ≡ true
   split =
       sym (ap (λ arrows. has_arrow arrows u v) (map-append (λ (join : Txn × Txn). (join.0.0, join.1.0)) (joined_with (first_user operated) opened) (joined_with (first_user opened) operated))
-      ∙ has_append (arrows_of (joined_with (first_user operated) opened)) (arrows_of (joined_with (first_user opened) operated)) u v) ∙ h
+      ∙ has_append (join_arrows (joined_with (first_user operated) opened)) (join_arrows (joined_with (first_user opened) operated)) u v) ∙ h
 
-  opening : (n x : ℕ) → has_use opened n x ≡ true → opens (applied entries) n x ≡ true
-  opening n x used = sym (openings_are entries n x) ∙ used
+  opening : (n x : ℕ) → has_user opened n x ≡ true → opens (applied entries) n x ≡ true
+  opening n x used = sym (openers_are entries n x) ∙ used
 
-  operation : (n x : ℕ) → has_use operated n x ≡ true → operates (applied entries) n x ≡ true
-  operation n x used = (and_parts (is_some (first_user opened x)) _ (sym (operations_are (first_user opened) entries n x) ∙ used)).1
+  operation : (n x : ℕ) → has_user operated n x ≡ true → operates (applied entries) n x ≡ true
+  operation n x used = (and_parts (is_some (first_user opened x)) _ (sym (operators_are (first_user opened) entries n x) ∙ used)).1
 
 -- an opener and an operator are joined by three of them, through the first operator s and the first opener g
 pub few_through : (entries : List Entry) (a t x : ℕ) → opens (applied entries) a x ≡ true → operates (applied entries) t x ≡ true
-    → (g s : ℕ) × (has_arrow (arrows_of (meetings_of entries)) a s ≡ true) × (has_arrow (arrows_of (meetings_of entries)) g s ≡ true) × (has_arrow (arrows_of (meetings_of entries)) t g ≡ true)
-unfolding meetings_of meetings_by arrows_of
+    → (g s : ℕ) × (has_arrow (join_arrows (meetings_of entries)) a s ≡ true) × (has_arrow (join_arrows (meetings_of entries)) g s ≡ true) × (has_arrow (join_arrows (meetings_of entries)) t g ≡ true)
+unfolding meetings_of meetings_by join_arrows
 few_through entries a t x opening operation =
-    let opens_x = openings_are entries a x ∙ opening in
+    let opens_x = openers_are entries a x ∙ opening in
     let first = first_found opened a x opens_x in
-    let operates_x = operations_are (first_user opened) entries t x ∙ and_from _ _ (ap is_some first.1) operation in
+    let operates_x = operators_are (first_user opened) entries t x ∙ and_from _ _ (ap is_some first.1) operation in
     let other = first_found operated t x operates_x in (
       first.0.0,
       other.0.0,
@@ -257,20 +257,20 @@ few_through entries a t x opening operation =
       left first.0.0 other.0.0 (joined_there (first_user operated) opened first.0.0 x other.0 (first_uses opened x first.0 first.1) other.1),
       right t first.0.0 (joined_there (first_user opened) operated t x first.0 operates_x first.1),
     ) where
-      opened : List Use
-      opened = openings entries
+      opened : List User
+      opened = openers_of entries
 
-      operated : List Use
-      operated = operations (first_user opened) entries
+      operated : List User
+      operated = operators_of (first_user opened) entries
 
-      both : (u v : ℕ) → has_arrow (arrows_of (joined_with (first_user operated) opened ++ joined_with (first_user opened) operated)) u v
-          ≡ (has_arrow (arrows_of (joined_with (first_user operated) opened)) u v || has_arrow (arrows_of (joined_with (first_user opened) operated)) u v)
+      both : (u v : ℕ) → has_arrow (join_arrows (joined_with (first_user operated) opened ++ joined_with (first_user opened) operated)) u v
+          ≡ (has_arrow (join_arrows (joined_with (first_user operated) opened)) u v || has_arrow (join_arrows (joined_with (first_user opened) operated)) u v)
       both u v =
           ap (λ arrows. has_arrow arrows u v) (map-append (λ (join : Txn × Txn). (join.0.0, join.1.0)) (joined_with (first_user operated) opened) (joined_with (first_user opened) operated))
-          ∙ has_append (arrows_of (joined_with (first_user operated) opened)) (arrows_of (joined_with (first_user opened) operated)) u v
+          ∙ has_append (join_arrows (joined_with (first_user operated) opened)) (join_arrows (joined_with (first_user opened) operated)) u v
 
-      left : (u v : ℕ) → has_arrow (arrows_of (joined_with (first_user operated) opened)) u v ≡ true → has_arrow (arrows_of (joined_with (first_user operated) opened ++ joined_with (first_user opened) operated)) u v ≡ true
+      left : (u v : ℕ) → has_arrow (join_arrows (joined_with (first_user operated) opened)) u v ≡ true → has_arrow (join_arrows (joined_with (first_user operated) opened ++ joined_with (first_user opened) operated)) u v ≡ true
       left u v h = both u v ∙ or_left _ _ h
 
-      right : (u v : ℕ) → has_arrow (arrows_of (joined_with (first_user opened) operated)) u v ≡ true → has_arrow (arrows_of (joined_with (first_user operated) opened ++ joined_with (first_user opened) operated)) u v ≡ true
-      right u v h = both u v ∙ or_right (has_arrow (arrows_of (joined_with (first_user operated) opened)) u v) _ h
+      right : (u v : ℕ) → has_arrow (join_arrows (joined_with (first_user opened) operated)) u v ≡ true → has_arrow (join_arrows (joined_with (first_user operated) opened ++ joined_with (first_user opened) operated)) u v ≡ true
+      right u v h = both u v ∙ or_right (has_arrow (join_arrows (joined_with (first_user operated) opened)) u v) _ h

@@ -1,4 +1,4 @@
-pub mod UseLemmas
+pub mod UserLemmas
 pub mod MeetLemmas
 pub mod FewLemmas
 pub mod SameLemmas

@@ -12,8 +12,8 @@ use Rattle.asset_names.proofs.Arrows.{linked_refl, linked_trans, chain_from_link
 use Rattle.asset_names.proofs.PermitLemmas.{has_listed, linked_has}
 use Rattle.asset_names.proofs.DependLemmas.{has_append, has_both}
 use Rattle.asset_laws.specs.Serial.{is_apart}
-use Rattle.asset_meetings.specs.Uses.{meetings_of}
-use Rattle.asset_meetings.specs.Meetings.{arrows_of, partners, AreMeetings}
+use Rattle.asset_meetings.specs.Users.{meetings_of}
+use Rattle.asset_meetings.specs.Meetings.{join_arrows, partners, AreMeetings}
 use Rattle.asset_meetings.proofs.MeetLemmas.{Meet, partner_joined, meeting_joined, join_met, opener_acts, operator_acts}
 use Rattle.asset_meetings.proofs.FewLemmas.{few_met, few_through}
 
@@ -26,7 +26,7 @@ joins_one arrows m n h = linked_has (both_ways arrows) m n (has_both arrows m n 
 joins_back : (arrows : List Arrow) (m n : ℕ) → has_arrow arrows n m ≡ true → linked (both_ways arrows) m n ≡ true
 joins_back arrows m n h = linked_has (both_ways arrows) m n (has_both arrows m n ∙ or_right (has_arrow arrows m n) _ h)
 
--- where each arrow is linked by others both ways, whatever they link is
+-- if others link each arrow both ways, they link whatever the arrows link
 linked_by : (ones others : List Arrow) → ((u v : ℕ) → has_arrow ones u v ≡ true → (linked (both_ways others) u v ≡ true) × (linked (both_ways others) v u ≡ true))
     → (a b : ℕ) → linked (both_ways ones) a b ≡ true → linked (both_ways others) a b ≡ true
 linked_by ones others each a b h = go a b (chain_from_linked (both_ways ones) a b h) where
@@ -43,19 +43,19 @@ linked_by ones others each a b h = go a b (chain_from_linked (both_ways ones) a 
 -- ---- groups
 
 few : List Entry → List Arrow
-few entries = arrows_of (meetings_of entries) ++ partners entries
+few entries = join_arrows (meetings_of entries) ++ partners entries
 
-in_few : (entries : List Entry) (u v : ℕ) → has_arrow (arrows_of (meetings_of entries)) u v ≡ true → has_arrow (few entries) u v ≡ true
+in_few : (entries : List Entry) (u v : ℕ) → has_arrow (join_arrows (meetings_of entries)) u v ≡ true → has_arrow (few entries) u v ≡ true
 unfolding few
-in_few entries u v h = has_append (arrows_of (meetings_of entries)) (partners entries) u v ∙ or_left _ _ h
+in_few entries u v h = has_append (join_arrows (meetings_of entries)) (partners entries) u v ∙ or_left _ _ h
 
 in_partners : (entries : List Entry) (u v : ℕ) → has_arrow (partners entries) u v ≡ true → has_arrow (few entries) u v ≡ true
 unfolding few
-in_partners entries u v h = has_append (arrows_of (meetings_of entries)) (partners entries) u v ∙ or_right (has_arrow (arrows_of (meetings_of entries)) u v) _ h
+in_partners entries u v h = has_append (join_arrows (meetings_of entries)) (partners entries) u v ∙ or_right (has_arrow (join_arrows (meetings_of entries)) u v) _ h
 
 from_few : (entries : List Entry) (u v : ℕ) → has_arrow (few entries) u v ≡ true → (Meet (applied entries) u v) ⊎ (has_arrow (partners entries) u v ≡ true)
 unfolding few
-from_few entries u v h = elim (or_cases (has_arrow (arrows_of (meetings_of entries)) u v) _ (sym (has_append (arrows_of (meetings_of entries)) (partners entries) u v) ∙ h)) [
+from_few entries u v h = elim (or_cases (has_arrow (join_arrows (meetings_of entries)) u v) _ (sym (has_append (join_arrows (meetings_of entries)) (partners entries) u v) ∙ h)) [
   | inl one ↦ inl (few_met entries u v one)
   | inr one ↦ inr one
 ]
@@ -69,7 +69,7 @@ met_joined entries u v (x, inr one) = elim (meeting_joined entries v u x one.1 o
 ]
 
 -- and by the few joins
-through : (entries : List Entry) (a t x : ℕ) → (g s : ℕ) × (has_arrow (arrows_of (meetings_of entries)) a s ≡ true) × (has_arrow (arrows_of (meetings_of entries)) g s ≡ true) × (has_arrow (arrows_of (meetings_of entries)) t g ≡ true)
+through : (entries : List Entry) (a t x : ℕ) → (g s : ℕ) × (has_arrow (join_arrows (meetings_of entries)) a s ≡ true) × (has_arrow (join_arrows (meetings_of entries)) g s ≡ true) × (has_arrow (join_arrows (meetings_of entries)) t g ≡ true)
     → (linked (both_ways (few entries)) a t ≡ true) × (linked (both_ways (few entries)) t a ≡ true)
 through entries a t x (g, s, first, between, second) =
     let arrows = both_ways (few entries) in
@@ -143,7 +143,7 @@ apart_back test u v apart = apart_from test v u (λ some. sym (apart_says test u
   turned false true h = refl
   turned false false h = h
 
--- where the joins through the first of each are apart, so are an opener and an operator
+-- if the joins through the first of each are apart, so are an opener and an operator
 apart_through : (test : ℕ → Bool) (a t g s : ℕ) → is_apart test (a, s) ≡ true → is_apart test (g, s) ≡ true → is_apart test (t, g) ≡ true → is_apart test (a, t) ≡ true
 apart_through test a t g s first between second = apart_from test a t (λ some. elim (or_cases (test a) _ some) [
   | inl by_a ↦

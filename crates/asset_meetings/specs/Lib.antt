@@ -1,2 +1,2 @@
-pub mod Uses
+pub mod Users
 pub mod Meetings

@@ -9,8 +9,8 @@ use Rattle.asset_names.specs.Groups.{actor, partner, acted_on, joins, same_group
 use Rattle.asset_laws.specs.Serial.{is_apart}
 
 -- an arrow for each join
-unfoldable pub arrows_of : List (Txn × Txn) → List Arrow
-arrows_of found = map (λ (join : Txn × Txn). (join.0.0, join.1.0)) found
+unfoldable pub join_arrows : List (Txn × Txn) → List Arrow
+join_arrows found = map (λ (join : Txn × Txn). (join.0.0, join.1.0)) found
 
 -- the join of the two transactions that an entry's step acts on
 unfoldable pub partners : List Entry → List Arrow
@@ -19,6 +19,6 @@ partners entries = map (λ (entry : Entry). ((actor entry.0).0, (partner entry.0
 -- The joins are of transactions that some step acts on. With the two transactions of each entry they make the groups of the
 -- entries, and join whoever passes a test with another exactly if some join of the entries does.
 pub record AreMeetings (entries : List Entry) (found : List (Txn × Txn)) : Type 0 where
-  pub named : (u v : ℕ) → has_arrow (arrows_of found) u v ≡ true → (lists (acted_on entries) u ≡ true) × (lists (acted_on entries) v ≡ true)
-  pub groups : (u v : ℕ) → linked (both_ways (arrows_of found ++ partners entries)) u v ≡ same_group entries u v
-  pub apart : (test : ℕ → Bool) → list_all (is_apart test) (arrows_of found ++ partners entries) ≡ list_all (is_apart test) (joins entries)
+  pub named : (u v : ℕ) → has_arrow (join_arrows found) u v ≡ true → (lists (acted_on entries) u ≡ true) × (lists (acted_on entries) v ≡ true)
+  pub groups : (u v : ℕ) → linked (both_ways (join_arrows found ++ partners entries)) u v ≡ same_group entries u v
+  pub apart : (test : ℕ → Bool) → list_all (is_apart test) (join_arrows found ++ partners entries) ≡ list_all (is_apart test) (joins entries)

@@ -2,18 +2,18 @@
 
 ghost use Rattle.std.specs.Prelude.{◌≡◌, ◌++◌, nat_eq, OnOk, IfOk};
 ghost use Rattle.indexmap.specs.IndexMap.{get};
-ghost use Rattle.asset_meetings.specs.Uses.{joins_of, joined_with, meetings_of, openings};
+ghost use Rattle.asset_meetings.specs.Users.{joins_of, joined_with, meetings_of, openers_of};
 ghost use Rattle.asset_meetings.specs.Meetings.{AreMeetings};
 
-use crate::noting::{Users, first_users};
-use crate::uses::{Use, openings, operations};
+use crate::noting::{FirstUsers, first_users};
+use crate::users::{User, openers_of, operators_of};
 use asset_history::History;
 use asset_names::{NoMemory, Txn};
 use std::alloc::{AllocError, Global};
 
 /// Appends the join of a user with the one who is noted for the object, if there is one.
-#[tactic(auto, unfolding(crate::specs::Uses::joins_of))]
-fn push_join(joins: &mut Vec<(Txn, Txn)>, noted: &Users, used: Use) -> Result<(), AllocError>
+#[tactic(auto, unfolding(crate::specs::Users::joins_of))]
+fn push_join(joins: &mut Vec<(Txn, Txn)>, noted: &FirstUsers, used: User) -> Result<(), AllocError>
     ensures { OnOk result (joins.new.items ≡ joins.old.items ++ joins_of used.t (get nat_eq noted.now used.x.0)) }
 {
     if let Some(other) = noted.get(&used.x.0) {
@@ -23,27 +23,31 @@ fn push_join(joins: &mut Vec<(Txn, Txn)>, noted: &Users, used: Use) -> Result<()
 }
 
 /// Appends the join of each user with the one who is noted for its object, if there is one.
-fn push_joins(joins: &mut Vec<(Txn, Txn)>, noted: &Users, uses: &[Use]) -> Result<(), AllocError>
-    ensures { OnOk result (joins.new.items ≡ joins.old.items ++ joined_with (get nat_eq noted.now) uses.now) }
+fn push_joins(
+    joins: &mut Vec<(Txn, Txn)>,
+    noted: &FirstUsers,
+    users: &[User],
+) -> Result<(), AllocError>
+    ensures { OnOk result (joins.new.items ≡ joins.old.items ++ joined_with (get nat_eq noted.now) users.now) }
 {
-    'uses: for k in 0..uses.len() {
-        push_join(joins, noted, uses[k])?;
+    'users: for k in 0..users.len() {
+        push_join(joins, noted, users[k])?;
     }
     Ok(())
 }
 
 /// Returns the joins of those who met, if these opened objects: each opener of an object with its first operator, and each
 /// operator with its first opener.
-fn joins_of_openings(
+fn joins_of_openers(
     alloc: Global,
     history: &History,
-    opened: &[Use],
+    opened: &[User],
 ) -> Result<Vec<(Txn, Txn)>, AllocError>
-    requires { opened.now ≡ openings history.now.entries }
+    requires { opened.now ≡ openers_of history.now.entries }
     ensures { IfOk result (λ joins. joins.items ≡ meetings_of history.now.entries) }
 {
     let openers = first_users(alloc, opened)?;
-    let operated = operations(alloc, history, &openers)?;
+    let operated = operators_of(alloc, history, &openers)?;
     let operators = first_users(alloc, &operated)?;
     let mut joins = Vec::new(alloc);
     push_joins(&mut joins, &operators, opened)?;
@@ -55,11 +59,11 @@ fn joins_of_openings(
 fn joins_of_history(alloc: Global, history: &History) -> Result<Vec<(Txn, Txn)>, AllocError>
     ensures { IfOk result (λ joins. joins.items ≡ meetings_of history.now.entries) }
 {
-    let opened = openings(alloc, history)?;
+    let opened = openers_of(alloc, history)?;
     if opened.is_empty() {
         return Ok(Vec::new(alloc));
     }
-    joins_of_openings(alloc, history, &opened)
+    joins_of_openers(alloc, history, &opened)
 }
 
 /// Returns joins that say who met by open permits, or `NoMemory` if memory runs out. With the two transactions of each entry

@@ -61,8 +61,7 @@ Rule = Bool × Refusal
 unfoldable pub unknown : List Step → Txn → Rule
 unknown steps t = (is_unknown (status steps t.0), Refusal'.Unknown t)
 
--- a begin, a transaction's own work, and a permit, a delegation or a dependency between it and another are refused if it
--- has ended
+-- a begin, a transaction's own work, and a permit, a delegation or a dependency that names it are refused if it has ended
 unfoldable pub ended : List Step → Txn → Rule
 ended steps t = (has_ended (status steps t.0), Refusal'.Ended t)
 

@@ -42,13 +42,13 @@ operates_on (Write t y v) x = y.0 == x
 operates_on (Add t y d) x = y.0 == x
 operates_on step x = false
 
--- whether an open permit opens an object that another step operates on
+-- whether an open permit lists an object that another step operates on, whatever operations it permits
 unfoldable pub opens_for : Step → Step → Bool
 opens_for (PermitAny giver obs ops) step = list_any (λ (y : Ob). operates_on step y.0) obs
 opens_for other step = false
 
 -- the joins of a step with older ones, all of which took effect: an open permit joins its giver with each transaction that
--- operates on an object that it opens, earlier or later
+-- operates on an object that it lists, earlier or later
 unfoldable pub met : Step → List Step → List Arrow
 met step older = map (λ (other : Step). ((actor step).0, (actor other).0)) (filter (λ (other : Step). opens_for step other || opens_for other step) older)
 

@@ -128,8 +128,8 @@ pub fn refusal_between(
     }
 }
 
-/// Returns why the giver may not permit anything to anybody; `missing` is the least object of the list that does not exist,
-/// if there is one. The refusals in order: Unknown, Ended, NoObject of `missing`.
+/// Returns why an open permit of the giver is refused; `missing` is the least object of its list that does not exist, if
+/// there is one. The refusals in order: Unknown, Ended, NoObject of `missing`.
 #[tactic(auto, unfolding(crate::specs::Answers::first_refusal, crate::specs::Answers::has_ended, crate::specs::Answers::missing_rule))]
 pub fn refusal_to_open(giver: Txn, status: Status, missing: Option<Ob>) -> Option<Refusal>
     ensures { result ≡ first_refusal ((is_unknown status, Refusal.Unknown giver) ∷ (has_ended status, Refusal.Ended giver) ∷ missing_rule missing ∷ []) }

@@ -103,7 +103,7 @@ impl SeatedPermits {
     /// allows anybody to do it. The giver may be the opener itself. No permit changes.
     ///
     /// While no open permit was given, the cost is constant. It takes no memory.
-    pub fn reaches_opener(&mut self, seats: &Seats, giver: Sitter, x: Ob, op: Op) -> bool
+    pub(crate) fn reaches_opener(&mut self, seats: &Seats, giver: Sitter, x: Ob, op: Op) -> bool
         requires tied { IsTied self.old seats.now }
         requires giver { HasSeat seats.now giver }
         ensures reaches { result ≡ reaches_opener (permits_in self.old) giver.t.0 x.0 op }

@@ -13,7 +13,7 @@ use Rattle.asset_names.proofs.ListLemmas.{any_map, any_filter, all_and}
 use Rattle.asset_reference.specs.declared.allowing.Added.{Added}
 use Rattle.asset_reference.specs.declared.allowing.Added.TheVariants.{Nothing, One, Copies}
 use Rattle.asset_reference.specs.declared.openers.Opened.{Opened}
-use Rattle.asset_reference.specs.Opening.{opened_names, reached}
+use Rattle.asset_reference.specs.Openers.{opened_names, reached}
 use Rattle.asset_reference.specs.Allowing.{added_arrows, goes_along, leads_on, leads_by}
 use Rattle.asset_reference.proofs.AppliedLemmas.{reverse_take_item}
 use Rattle.asset_reference.proofs.WayLemmas.{or_none}

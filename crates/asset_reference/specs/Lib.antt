@@ -5,4 +5,4 @@ pub mod Sources
 pub mod Owners
 pub mod Scans
 pub mod Allowing
-pub mod Opening
+pub mod Openers

@@ -6,7 +6,7 @@ ghost use Rattle.asset_names.specs.Steps.{applied};
 ghost use Rattle.asset_names.specs.Endings.{live};
 ghost use Rattle.asset_names.specs.Operations.{permits, permitted_by, openers, permits_along, reaches_opener, allows};
 ghost use Rattle.asset_reference.specs.Allowing.{added_arrows, goes_along, leads_on, leads_by};
-ghost use Rattle.asset_reference.specs.Opening.{opened_names, reached};
+ghost use Rattle.asset_reference.specs.Openers.{opened_names, reached};
 
 use crate::holding::holds_object;
 use crate::openers::{Opened, opened_at, opens_within};
@@ -173,7 +173,7 @@ fn leads_to(entries: &[(Step, Reply)], u: Txn, a: Txn, x: Ob, op: Op) -> bool
 
 /// Returns whether permits lead from `u` to whom the next entry adds to those who permit `op` on `x` to anybody by the
 /// first `count` entries.
-#[tactic(auto, unfolding(crate::specs::Opening::opened_names, crate::specs::Opening::reached))]
+#[tactic(auto, unfolding(crate::specs::Openers::opened_names, crate::specs::Openers::reached))]
 fn reaches_by(
     entries: &[(Step, Reply)],
     count: usize,

@@ -4,7 +4,7 @@ ghost use Rattle.std.specs.Prelude.{◌≡◌, ◌≤◌, ◌||◌, ◌++◌, Li
 ghost use Rattle.asset_names.specs.Arrows.{lists};
 ghost use Rattle.asset_names.specs.Steps.{applied};
 ghost use Rattle.asset_names.specs.Operations.{openers, opened_by};
-ghost use Rattle.asset_reference.specs.Opening.{opened_names};
+ghost use Rattle.asset_reference.specs.Openers.{opened_names};
 
 use crate::holding::holds_object;
 use asset_names::{Ob, Op, Reply, Step, Txn, takes_effect};
@@ -20,7 +20,7 @@ pub enum Opened {
 }
 
 /// Returns whom a step that takes effect after these entries adds to those who permit `op` on `x` to anybody.
-#[tactic(auto, unfolding(crate::specs::Opening::opened_names, asset_names::specs::Operations::opened_by, asset_names::specs::InSet::in_set))]
+#[tactic(auto, unfolding(crate::specs::Openers::opened_names, asset_names::specs::Operations::opened_by, asset_names::specs::InSet::in_set))]
 fn opened_by(older: &[(Step, Reply)], step: &Step, x: Ob, op: Op) -> Opened
     ensures { (names : List ℕ) → opened_names result names ≡ opened_by step.now (applied (reverse older.now)) names x.0 op }
 {
@@ -34,7 +34,7 @@ fn opened_by(older: &[(Step, Reply)], step: &Step, x: Ob, op: Op) -> Opened
 }
 
 /// Returns whom an entry adds to those who permit `op` on `x` to anybody by the entries before it.
-#[tactic(auto, unfolding(crate::specs::Opening::opened_names), using(crate::proofs::ScanLemmas::openers_at_entry))]
+#[tactic(auto, unfolding(crate::specs::Openers::opened_names), using(crate::proofs::ScanLemmas::openers_at_entry))]
 pub fn opened_at(older: &[(Step, Reply)], entry: &(Step, Reply), x: Ob, op: Op) -> Opened
     ensures { openers (applied (entry.now ∷ reverse older.now)) x.0 op
         ≡ opened_names result (openers (applied (reverse older.now)) x.0 op) ++ openers (applied (reverse older.now)) x.0 op }
@@ -63,7 +63,7 @@ pub fn opens_within(entries: &[(Step, Reply)], count: usize, n: Txn, x: Ob, op: 
 /// Returns whether `n` is whom the next entry adds to those who permit `op` on `x` to anybody by the first `count`
 /// entries.
 #[cycle(opening)]
-#[tactic(auto, unfolding(crate::specs::Opening::opened_names, asset_names::specs::Arrows::lists))]
+#[tactic(auto, unfolding(crate::specs::Openers::opened_names, asset_names::specs::Arrows::lists))]
 fn opens_by(entries: &[(Step, Reply)], count: usize, opened: Opened, n: Txn, x: Ob, op: Op) -> bool
     requires { count ≤ length entries.now }
     ensures { result ≡ lists (opened_names opened (openers (applied (reverse (take count entries.now))) x.0 op)) n.0 }

@@ -25,7 +25,7 @@ use Rattle.asset_laws.proofs.KeepLinks.{Keeps}
 use Rattle.asset_laws.proofs.GroupLemmas.{later_join, keeps_respects}
 use Rattle.asset_history.specs.Committing.{committed_by, passes, has_commit, commit_at}
 use Rattle.asset_history.proofs.EntryLemmas.{next_entry}
-use Rattle.asset_meetings.specs.Meetings.{arrows_of, partners}
+use Rattle.asset_meetings.specs.Meetings.{join_arrows, partners}
 use Rattle.asset_deletion.specs.Named.{with_name}
 use Rattle.asset_deletion.proofs.DeadLemmas.{committed_by_member, member_committed, committed_after, committed_stays}
 use Rattle.asset_deletion.proofs.NameLemmas.{with_new, with_old}
@@ -173,8 +173,8 @@ apart_more test entries i entry at = rw (next_entry entries i entry at) refl
 
 -- one more meeting
 pub met_more : (test : ℕ → Bool) (met : List (Txn × Txn)) (k : ℕ) (none : Txn × Txn) → k < length met
-    → list_all (is_apart test) (arrows_of (take (k + 1) met)) ≡ (list_all (is_apart test) (arrows_of (take k met)) && is_apart test ((get_or met k none).0.0, (get_or met k none).1.0))
-unfolding arrows_of
+    → list_all (is_apart test) (join_arrows (take (k + 1) met)) ≡ (list_all (is_apart test) (join_arrows (take k met)) && is_apart test ((get_or met k none).0.0, (get_or met k none).1.0))
+unfolding join_arrows
 met_more test met k none below =
     let pair : Txn × Txn → Arrow = λ join. (join.0.0, join.1.0) in
     ap (list_all (is_apart test)) (map_more pair met k none below)

@@ -1,6 +1,6 @@
 //! The entries of each of those who are named, as indices.
 
-ghost use Rattle.std.specs.Prelude.{◌≡◌, ◌≤◌, ℕ, nat_eq, length, reverse, slice_get, Some, IfOk};
+ghost use Rattle.std.specs.Prelude.{◌≡◌, ◌≤◌, nat_eq, length, reverse, slice_get, Some, IfOk};
 ghost use Rattle.std.specs.List.{position_or_len};
 ghost use Rattle.asset_names.specs.Steps.{Entry};
 ghost use Rattle.asset_names.specs.Answers.{IsLegal};

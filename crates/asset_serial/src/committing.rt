@@ -1,7 +1,6 @@
 //! The transactions whose commits were answered, in the order of these.
 
-ghost use Rattle.std.specs.Prelude.{◌≡◌, ◌≤◌, [], length, OnOk, IfOk};
-ghost use Rattle.asset_names.specs.Answers.{IsLegal};
+ghost use Rattle.std.specs.Prelude.{◌≡◌, [], OnOk, IfOk};
 ghost use Rattle.asset_deletion.specs.Named.{with_name};
 ghost use Rattle.asset_serial.specs.Answered.{answered_names};
 

@@ -1,12 +1,12 @@
 //! Whether those who committed shared nothing.
 
-ghost use Rattle.std.specs.Prelude.{◌≡◌, ◌++◌, ◌↔◌, ◌<◌, length, reverse, slice_get, Some, IfOk, IsTrue};
+ghost use Rattle.std.specs.Prelude.{◌≡◌, ◌++◌, ◌↔◌, ◌<◌, reverse, slice_get, Some, IfOk, IsTrue};
 ghost use Rattle.std.specs.List.{list_all};
 ghost use Rattle.asset_names.specs.Arrows.{lists};
 ghost use Rattle.asset_names.specs.Steps.{Entry};
 ghost use Rattle.asset_names.specs.Groups.{actor, partner};
 ghost use Rattle.asset_names.specs.Answers.{IsLegal};
-ghost use Rattle.asset_meetings.specs.Meetings.{arrows_of, partners};
+ghost use Rattle.asset_meetings.specs.Meetings.{join_arrows, partners};
 ghost use Rattle.asset_laws.specs.Serial.{is_apart, shares_nothing, CommittedShareNothing};
 
 use crate::committing::committed_names;
@@ -30,16 +30,16 @@ pub fn committed_share_nothing(alloc: Global, history: &History) -> Result<bool,
 
 /// Returns whether nobody who is named is joined with another transaction, by an entry or by a meeting.
 fn are_all_apart(history: &History, met: &[(Txn, Txn)], names: &IndexSet<u64>) -> bool
-    ensures apart { result ≡ list_all (is_apart (lists names.now.keys)) (arrows_of met.now ++ partners history.now.entries) }
+    ensures apart { result ≡ list_all (is_apart (lists names.now.keys)) (join_arrows met.now ++ partners history.now.entries) }
     ensures legal { IsLegal history.now.opening history.now.entries }
 {
     let partners_apart = all_apart(history, names);
     partners_apart && met_apart(met, names)
 }
 
-/// Returns whether no two who met are different with one of them named.
+/// Returns whether nobody who is named met another transaction.
 fn met_apart(met: &[(Txn, Txn)], names: &IndexSet<u64>) -> bool
-    ensures { result ≡ list_all (is_apart (lists names.now.keys)) (arrows_of met.now) }
+    ensures { result ≡ list_all (is_apart (lists names.now.keys)) (join_arrows met.now) }
 {
     let mut apart = true;
     'met: for k in 0..met.len() {

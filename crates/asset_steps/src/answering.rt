@@ -36,7 +36,7 @@ fn refusal(tables: &mut Tables, step: &Step) -> Option<Refusal>
             obs,
             ..
         } => refusal_to_share(tables, giver, taker, &obs),
-        Step::PermitAny { giver, obs, .. } => refusal_of_opening(tables, giver, &obs),
+        Step::PermitAny { giver, obs, .. } => refusal_to_open_list(tables, giver, &obs),
         Step::Delegate { giver, taker, obs } => refusal_to_share(tables, giver, taker, &obs),
         Step::Depend { kind, a, b } => refusal_of_dependency(tables, kind, a, b),
         Step::Commit { t } => refusal_to_find(t, tables.status(t)),
@@ -67,8 +67,8 @@ fn refusal_to_share(tables: &Tables, giver: Txn, taker: Txn, obs: &ObSet) -> Opt
     )
 }
 
-/// Returns why the giver may not permit anything on the objects to anybody, and `None` if it may.
-fn refusal_of_opening(tables: &Tables, giver: Txn, obs: &ObList) -> Option<Refusal>
+/// Returns why an open permit of the giver on these objects is refused, and `None` if it is not.
+fn refusal_to_open_list(tables: &Tables, giver: Txn, obs: &ObList) -> Option<Refusal>
     ensures { ForShown tables.now (λ opening steps. result ≡ first_refusal (unknown steps giver ∷ ended steps giver ∷ no_object_of opening (Listed obs.now) ∷ [])) }
 {
     let missing = missing(tables, &ObSet::Listed(*obs));

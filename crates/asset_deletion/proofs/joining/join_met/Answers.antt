@@ -2,14 +2,14 @@ use Rattle.std.proofs.Common.{◌≡◌, ℕ, ◌-◌, ◌++◌, List, length, d
 use Rattle.std.proofs.lemmas.List.{drop_all}
 use Rattle.asset_names.specs.declared.names.Txn.{Txn}
 use Rattle.asset_names.specs.Arrows.{Arrow}
-use Rattle.asset_meetings.specs.Meetings.{arrows_of}
-use Rattle.asset_deletion.specs.Named.{led_by, Means}
+use Rattle.asset_meetings.specs.Meetings.{join_arrows}
+use Rattle.asset_deletion.specs.Named.{joined_through, Means}
 use Rattle.asset_deletion.proofs.JoinLemmas.{met_at, met_before}
 use Rattle.asset_deletion.proofs.joining.join_met.Goals as goal
 
 -- no join after the last one
-none_left : (met : List (Txn × Txn)) (joins : List Arrow) (names labels : List ℕ) → Means (led_by joins) names labels → Means (led_by (arrows_of (drop (length met) met) ++ joins)) names labels
-unfolding arrows_of
+none_left : (met : List (Txn × Txn)) (joins : List Arrow) (names labels : List ℕ) → Means (joined_through joins) names labels → Means (joined_through (join_arrows (drop (length met) met) ++ joins)) names labels
+unfolding join_arrows
 none_left met joins names labels means = rw (drop_all (length met) met (omega arith)) means
 
 pub met-init : goal.met-init
@@ -34,11 +34,11 @@ met-preserved c = record {
       let k = c.met.k in
       let none : Txn × Txn = (record { 0 = 0 }, record { 0 = 0 }) in
       met_before met joins c.args.names.now.keys c.join_named.new.labels (k - 1) k none (omega (arith, c.met-test.true, c.met.invariant.within)) (omega (arith, c.met-test.true))
-      (c.join_named.ensures.means (led_by (arrows_of (drop k met) ++ joins)) (c.met.invariant.means joins means));
+      (c.join_named.ensures.means (joined_through (join_arrows (drop k met) ++ joins)) (c.met.invariant.means joins means));
 }
 
 pub returns : goal.returns
 returns c = λ joins means.
     let met = c.args.met.now in
     let all : drop c.met.k met ≡ met = ap (λ (k : ℕ). drop k met) (let none : c.met.k ≡ 0 = omega (arith, c.met-test.false) in none) in
-    subst (λ (l : List (Txn × Txn)). Means (led_by (arrows_of l ++ joins)) c.args.names.now.keys c.met.labels) all (c.met.invariant.means joins means)
+    subst (λ (l : List (Txn × Txn)). Means (joined_through (join_arrows l ++ joins)) c.args.names.now.keys c.met.labels) all (c.met.invariant.means joins means)

@@ -1,7 +1,7 @@
 use Rattle.std.proofs.Common.{◌+◌, sym, ◌∙◌, ap, reverse, take, arith}
 use Rattle.std.proofs.lemmas.List.{length-reverse}
 use Rattle.asset_meetings.specs.Meetings.{partners}
-use Rattle.asset_deletion.specs.Named.{with_name, names_of, led_by, joined}
+use Rattle.asset_deletion.specs.Named.{with_name, names_of, joined_through, joined}
 use Rattle.asset_deletion.proofs.MeansLemmas.{no_entries, means_alike}
 use Rattle.asset_deletion.proofs.NameLemmas.{entry_named, entry_there}
 use Rattle.asset_deletion.proofs.naming.name_groups.Goals as goal
@@ -23,7 +23,7 @@ entries-preserved c =
           let after = w.in_ok-join_names.ensures in
           rw (w.names-is, w.labels-is) (record {
             names = after.names ∙ ap (λ l. with_name (with_name l w.in-Some.t.0) w.in-Some.u.0) kept.names ∙ sym is.0;
-            means = means_alike (joined (led_by (partners older)) w.in-Some.t.0 w.in-Some.u.0) (led_by (partners (reverse (take (i + 1) entries)))) _ _ is.1 (after.means (led_by (partners older)) kept.means);
+            means = means_alike (joined (joined_through (partners older)) w.in-Some.t.0 w.in-Some.u.0) (joined_through (partners (reverse (take (i + 1) entries)))) _ _ is.1 (after.means (joined_through (partners older)) kept.means);
           })
       | in_default w ↦ absurd (entry_there entries i (omega (arith, c.entries-test.true, c.len-i-end.ensures.len, length-reverse c.args.history.now.entries)) w.in_default.ensures)
     ]

@@ -1,6 +1,6 @@
 use Rattle.std.proofs.Common.{◌≡◌, List, [], ◌∷◌, length, refl, sym, ◌∙◌, arith}
 use Rattle.std.proofs.lemmas.Bool.{eqb-true}
-use Rattle.asset_meetings.proofs.UseLemmas.{none_meet}
+use Rattle.asset_meetings.proofs.UserLemmas.{none_meet}
 use Rattle.asset_meetings.proofs.joining.joins_of_history.Goals as goal
 
 -- a list of length 0

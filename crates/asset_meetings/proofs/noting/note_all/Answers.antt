@@ -1,15 +1,15 @@
 use Rattle.std.proofs.Common.{sym, ap, ◌∙◌, get_or}
-use Rattle.asset_meetings.specs.declared.uses.Use.{Use}
-use Rattle.asset_meetings.specs.Uses.{first_user, noted_by}
-use Rattle.asset_meetings.proofs.UseLemmas.{first_more}
+use Rattle.asset_meetings.specs.declared.users.User.{User}
+use Rattle.asset_meetings.specs.Users.{first_user, noted_by}
+use Rattle.asset_meetings.proofs.UserLemmas.{first_more}
 use Rattle.asset_meetings.proofs.noting.note_all.Goals as goal
 
-pub uses-init : goal.uses-init
+pub users-init : goal.users-init
 unfolding first_user
-uses-init c = c.requires
+users-init c = c.requires
 
-pub uses-preserved : goal.uses-preserved
-uses-preserved c = λ y.
-    let uses = c.args.uses.now in
-    let nobody : Use = record { t = record { 0 = 0 }; x = record { 0 = 0 } } in
-    c.in_ok-note.ensures y ∙ ap (λ found. noted_by found (get_or uses c.uses.k nobody) y) (c.uses.invariant y) ∙ sym (first_more uses c.uses.k nobody y c.uses-test.true)
+pub users-preserved : goal.users-preserved
+users-preserved c = λ y.
+    let users = c.args.users.now in
+    let nobody : User = record { t = record { 0 = 0 }; x = record { 0 = 0 } } in
+    c.in_ok-note.ensures y ∙ ap (λ found. noted_by found (get_or users c.users.k nobody) y) (c.users.invariant y) ∙ sym (first_more users c.users.k nobody y c.users-test.true)

@@ -1,7 +1,7 @@
 use Rattle.std.proofs.Common.{◌∙◌, ◌||◌, ap, reverse, take, sym}
 use Rattle.asset_names.specs.Steps.{applied}
 use Rattle.asset_names.specs.Operations.{openers}
-use Rattle.asset_reference.specs.Opening.{reached}
+use Rattle.asset_reference.specs.Openers.{reached}
 use Rattle.asset_reference.proofs.AllowLemmas.{reached_more}
 use Rattle.asset_reference.proofs.allowing.reaches_at.Goals as goal
 

@@ -2,7 +2,7 @@ use Rattle.std.proofs.Common.{◌≡◌, length, reverse, refl, ap, arith, ◌�
 use Rattle.std.proofs.lemmas.List.{take_all}
 use Rattle.asset_names.specs.Steps.{applied}
 use Rattle.asset_names.specs.Operations.{openers, reaches_opener}
-use Rattle.asset_reference.specs.Opening.{reached}
+use Rattle.asset_reference.specs.Openers.{reached}
 use Rattle.asset_reference.proofs.allowing.reaches_opener.Goals as goal
 
 pub entries-init : goal.entries-init

@@ -1,7 +1,7 @@
 use Rattle.std.proofs.Common.{◌≡◌, reverse, take}
 use Rattle.asset_names.specs.Steps.{applied}
 use Rattle.asset_names.specs.Operations.{openers}
-use Rattle.asset_reference.specs.Opening.{reached}
+use Rattle.asset_reference.specs.Openers.{reached}
 use Rattle.asset_reference.proofs.allowing.reaches_opener.Given as goal
 
 -- what the entries so far say

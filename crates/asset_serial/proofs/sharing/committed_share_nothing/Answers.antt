@@ -5,17 +5,17 @@ use Rattle.asset_names.specs.Arrows.{lists}
 use Rattle.asset_names.specs.Groups.{joins}
 use Rattle.asset_names.specs.Steps.{Entry}
 use Rattle.asset_laws.specs.Serial.{is_apart, shares_nothing}
-use Rattle.asset_meetings.specs.Meetings.{arrows_of, partners, AreMeetings}
+use Rattle.asset_meetings.specs.Meetings.{join_arrows, partners, AreMeetings}
 use Rattle.asset_serial.specs.Answered.{answered_names}
 use Rattle.asset_serial.proofs.AnsweredLemmas.{sharing_found, sharing_law}
 use Rattle.asset_serial.proofs.sharing.committed_share_nothing.Goals as goal
 
 -- joins of those who met and of partners say whether all are apart
 found : (entries : List Entry) (names given : List ℕ) (met slice : List (Txn × Txn)) → names ≡ given → slice ≡ met → AreMeetings entries met
-    → list_all (is_apart (lists names)) (arrows_of slice ++ partners entries) ≡ list_all (is_apart (lists given)) (joins entries)
+    → list_all (is_apart (lists names)) (join_arrows slice ++ partners entries) ≡ list_all (is_apart (lists given)) (joins entries)
 found entries names given met slice is same are =
-    ap (λ (l : List ℕ). list_all (is_apart (lists l)) (arrows_of slice ++ partners entries)) is
-    ∙ ap (λ (l : List (Txn × Txn)). list_all (is_apart (lists given)) (arrows_of l ++ partners entries)) same
+    ap (λ (l : List ℕ). list_all (is_apart (lists l)) (join_arrows slice ++ partners entries)) is
+    ∙ ap (λ (l : List (Txn × Txn)). list_all (is_apart (lists given)) (join_arrows l ++ partners entries)) same
     ∙ are.apart (lists given)
 
 pub returns-clause-exact : goal.returns-clause-exact

@@ -57,7 +57,7 @@ returns-in-Permit-clause-refusal c = λ opening steps stand. rw c.in-Permit.is (
 
 pub returns-in-PermitAny-clause-refusal : goal.returns-in-PermitAny-clause-refusal
 unfolding rules_for
-returns-in-PermitAny-clause-refusal c = λ opening steps stand. rw c.in-PermitAny.is (c.refusal_of_opening.ensures opening steps stand)
+returns-in-PermitAny-clause-refusal c = λ opening steps stand. rw c.in-PermitAny.is (c.refusal_to_open_list.ensures opening steps stand)
 
 pub returns-in-Delegate-clause-refusal : goal.returns-in-Delegate-clause-refusal
 unfolding rules_for

@@ -2,7 +2,7 @@ use Rattle.std.proofs.Common.{◌≡◌}
 use Rattle.asset_names.specs.declared.sets.ObSet.TheVariants.{Listed}
 use Rattle.asset_names.specs.Endings.{status}
 use Rattle.asset_names.specs.Answers.{unknown, ended, missing_in, no_object_of}
-use Rattle.asset_steps.proofs.answering.refusal_of_opening.Goals as goal
+use Rattle.asset_steps.proofs.answering.refusal_to_open_list.Goals as goal
 
 pub returns : goal.returns
 unfolding unknown ended no_object_of
