@@ -1,4 +1,4 @@
-//! The tests of the containers: chains, rows and columns, lists, buckets, labels and cycles. They call what is public.
+//! The tests of the containers: chains, rows and columns, lists, buckets, labels, names in groups and cycles. They call what is public.
 #![tactic(auto)]
 
 #[cfg(test)]
@@ -13,3 +13,5 @@ mod cycles;
 mod labels;
 #[cfg(test)]
 mod lists;
+#[cfg(test)]
+mod name_groups;

@@ -1,0 +1,5 @@
+pub mod NamesInGroups
+pub mod Trees
+pub mod Index
+pub mod Roots
+pub mod Valid
