@@ -21,12 +21,12 @@ fn with_room(alloc: Global, room: usize) -> Result<NameGroups, AllocError> {
     }
 }
 
-/// Returns the node of a name, which is added if there is room.
+/// Returns the node of a name. One that is new is added if there is room.
 fn node_of(groups: &mut NameGroups, t: u64) -> Option<usize> {
-    if groups.len() < groups.room() || groups.find(t).is_some() {
+    if groups.len() < groups.room() {
         Some(groups.node_of(t))
     } else {
-        None
+        groups.find(t)
     }
 }
 
