@@ -177,16 +177,26 @@ fn joined_by_step(groups: &mut NameGroups, step: usize) -> bool {
     joined
 }
 
+/// Joins each second group of `step` names with the one before it. Returns whether all could.
+fn pairs_are_joined(groups: &mut NameGroups, step: usize) -> bool {
+    if step == 0 || step >= MANY {
+        return false;
+    }
+    let mut joined = true;
+    for i in 0..MANY - step {
+        if i % (2 * step) == 0 {
+            joined = joined && join(groups, name_at(i + step), name_at(i));
+        }
+    }
+    joined
+}
+
 /// Adds many names, flags the first, and joins pairs, then pairs of pairs, and so on, so that trees grow deep. Returns whether all
 /// could.
 fn joined_by_doubling(groups: &mut NameGroups) -> bool {
     let mut joined = names_are_added(groups, MANY) && flag(groups, name_at(0));
     for step in [1, 2, 4, 8, 16, 32, 64, 128, 256, 512] {
-        for i in 0..MANY {
-            if i % (2 * step) == 0 && i + step < MANY {
-                joined = joined && join(groups, name_at(i + step), name_at(i));
-            }
-        }
+        joined = joined && pairs_are_joined(groups, step);
     }
     joined
 }
