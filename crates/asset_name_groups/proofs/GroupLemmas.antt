@@ -70,8 +70,8 @@ flags_one links forest group is =
       ]
 
 -- two groups with one root are one
-same_first : (links : List Link) (a b : Tree) → IsTree links a → IsTree links b → a.root ≡ b.root → a.label ≡ b.label
-same_first links a b is too same = sym (label_is_its links a a.root is (root_is_own links a is)) ∙ label_is_its links b a.root too (root_is_own links a is ∙ same)
+same_label : (links : List Link) (a b : Tree) → IsTree links a → IsTree links b → a.root ≡ b.root → a.label ≡ b.label
+same_label links a b is too same = sym (label_is_its links a a.root is (root_is_own links a is)) ∙ label_is_its links b a.root too (root_is_own links a is ∙ same)
 
 -- ---- what is shown
 pub label_of_tree : (links : List Link) (group : Tree) (k : ℕ) → IsTree links group → group.root ≡ root_in links k → k < length links → get_or (labels_in links) k 0 ≡ group.label
@@ -86,21 +86,21 @@ pub joined_shown : (names : List ℕ) (room : ℕ) (links later : List Link) (a 
 unfolding with_join
 joined_shown names room links later a b i j first second labels flags =
     let all_labels = labels ∙ (λ n. merged (labels_in links) (sym first n) (sym second n)) in
-    let all_marks = flags ∙ (λ n. merged_flags (labels_in links) (flags_in links) (sym first n) (sym second n)) in
-    λ n. record { names = names; labels = all_labels n; flags = all_marks n; room = room }
+    let all_flags = flags ∙ (λ n. merged_flags (labels_in links) (flags_in links) (sym first n) (sym second n)) in
+    λ n. record { names = names; labels = all_labels n; flags = all_flags n; room = room }
 
 pub joined_already : (names : List ℕ) (room : ℕ) (links : List Link) → IsForest links → (a b : Tree) (i j : ℕ) → IsTree links a → IsTree links b → a.root ≡ b.root → get_or (labels_in links) i 0 ≡ a.label → get_or (labels_in links) j 0 ≡ b.label
     → record { names = names; labels = labels_in links; flags = flags_in links; room = room } ≡ with_join (record { names = names; labels = labels_in links; flags = flags_in links; room = room }) i j
 joined_already names room links forest a b i j is too same first second =
-    joined_shown names room links links a a i j first (second ∙ sym (same_first links a b is too same)) (sym (merged_one (labels_in links) a.label)) (sym (flags_one links forest a is))
+    joined_shown names room links links a a i j first (second ∙ sym (same_label links a b is too same)) (sym (merged_one (labels_in links) a.label)) (sym (flags_one links forest a is))
 
 pub flagged_shown : (names : List ℕ) (room : ℕ) (links later : List Link) (group : Tree) (k : ℕ) → get_or (labels_in links) k 0 ≡ group.label
     → labels_in later ≡ labels_in links → flags_in later ≡ flags_with (labels_in links) (flags_in links) group.label
     → record { names = names; labels = labels_in later; flags = flags_in later; room = room } ≡ with_flag (record { names = names; labels = labels_in links; flags = flags_in links; room = room }) k
 unfolding with_flag
 flagged_shown names room links later group k first labels flags =
-    let all_marks = flags ∙ (λ n. flags_with (labels_in links) (flags_in links) (sym first n)) in
-    λ n. record { names = names; labels = labels n; flags = all_marks n; room = room }
+    let all_flags = flags ∙ (λ n. flags_with (labels_in links) (flags_in links) (sym first n)) in
+    λ n. record { names = names; labels = labels n; flags = all_flags n; room = room }
 
 -- ---- one more name
 pub still_different : (names : List ℕ) (t : ℕ) → ((i j : ℕ) → i < length names → j < length names → get_or names i 0 ≡ get_or names j 0 → i ≡ j) → has_name names t ≡ false

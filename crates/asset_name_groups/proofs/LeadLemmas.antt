@@ -186,18 +186,21 @@ module _ (links later : List Link) (lower upper : Tree) (is : IsLed links later 
   led_forest = record { upward = led_upward; own = led_own; least = led_least }
 
   -- ---- all labels and flags
+  -- what a node of either group has, and any other node
+  by_group : {A : Type 0} (k : ℕ) (x joint own : A) → k < length links → ((root_in links k ≡ lower.root) ⊎ (root_in links k ≡ upper.root) → x ≡ joint) → (root_in links k ≢ lower.root → root_in links k ≢ upper.root → x ≡ own)
+      → x ≡ cond (eqb (label_in links k) lower.label || eqb (label_in links k) upper.label) joint own
+  by_group k x joint own within either neither = elim (cases_eq (root_in links k) lower.root) [
+    | inl at ↦ either (inl at) ∙ sym (one_of (label_in links k) lower.label upper.label joint own (inl (label_is_its links lower k is.lower_is at)))
+    | inr not ↦ elim (cases_eq (root_in links k) upper.root) [
+      | inl at ↦ either (inr at) ∙ sym (one_of (label_in links k) lower.label upper.label joint own (inr (label_is_its links upper k is.upper_is at)))
+      | inr too ↦
+          neither not too
+          ∙ sym (none_of (label_in links k) lower.label upper.label joint own (λ label. not (root_by_label links is.forest lower is.lower_is k within label)) (λ label. too (root_by_label links is.forest upper is.upper_is k within label)))
+    ]
+  ]
+
   label_merged : (k : ℕ) → k < length links → label_in later k ≡ cond (eqb (label_in links k) lower.label || eqb (label_in links k) upper.label) (min lower.label upper.label) (label_in links k)
-  label_merged k within =
-      let inside : k < length later = omega (arith, within, is.size) in
-      elim (cases_eq (root_in links k) lower.root) [
-        | inl at ↦ label_of_both k inside (inl at) ∙ sym (one_of (label_in links k) lower.label upper.label _ _ (inl (label_is_its links lower k is.lower_is at)))
-        | inr not ↦ elim (cases_eq (root_in links k) upper.root) [
-          | inl at ↦ label_of_both k inside (inr at) ∙ sym (one_of (label_in links k) lower.label upper.label _ _ (inr (label_is_its links upper k is.upper_is at)))
-          | inr too ↦
-              label_of_other k inside not too
-              ∙ sym (none_of (label_in links k) lower.label upper.label _ _ (λ label. not (root_by_label links is.forest lower is.lower_is k within label)) (λ label. too (root_by_label links is.forest upper is.upper_is k within label)))
-        ]
-      ]
+  label_merged k within = let inside : k < length later = omega (arith, within, is.size) in by_group k _ _ _ within (label_of_both k inside) (label_of_other k inside)
 
   pub led_labels : labels_in later ≡ merged (labels_in links) lower.label upper.label
   led_labels =
@@ -210,19 +213,9 @@ module _ (links later : List Link) (lower upper : Tree) (is : IsLed links later 
       ∙ merged_is (labels_in links) lower.label upper.label
 
   flag_merged : (k : ℕ) → k < length links → flag_in later k ≡ cond (eqb (label_in links k) lower.label || eqb (label_in links k) upper.label) (lower.is_flagged || upper.is_flagged) (flag_in links k)
-  flag_merged k within =
-      let inside : k < length later = omega (arith, within, is.size) in
-      elim (cases_eq (root_in links k) lower.root) [
-        | inl at ↦ flag_of_both k inside (inl at) ∙ sym (one_of (label_in links k) lower.label upper.label _ _ (inl (label_is_its links lower k is.lower_is at)))
-        | inr not ↦ elim (cases_eq (root_in links k) upper.root) [
-          | inl at ↦ flag_of_both k inside (inr at) ∙ sym (one_of (label_in links k) lower.label upper.label _ _ (inr (label_is_its links upper k is.upper_is at)))
-          | inr too ↦
-              flag_of_other k inside not too
-              ∙ sym (none_of (label_in links k) lower.label upper.label _ _ (λ label. not (root_by_label links is.forest lower is.lower_is k within label)) (λ label. too (root_by_label links is.forest upper is.upper_is k within label)))
-        ]
-      ]
+  flag_merged k within = let inside : k < length later = omega (arith, within, is.size) in by_group k _ _ _ within (flag_of_both k inside) (flag_of_other k inside)
 
-  -- the mark at the first node of a group is that of the group
+  -- the flag at the label of a group is that of the group
   flag_at_label : (group : Tree) → IsTree links group → flag_at (flags_in links) group.label ≡ group.is_flagged
   flag_at_label group there = flag_is links group.label (first_within links is.forest group there) ∙ flag_is_its links group group.label there (first_root links is.forest group there)
 
