@@ -188,7 +188,7 @@ uint32_t asset_len(struct asset *asset, size_t *len);
 uint32_t asset_entry(struct asset *asset, size_t index, struct asset_step *step, struct asset_answer *answer);
 
 /* Tells the number of the group of a transaction: those of one group shared something or asked to, directly or through others.
- * Groups are numbered from 0 in order of their first transactions. Goes over the whole history. Answers ASSET_CLOSED, ASSET_ABSENT
+ * Groups are numbered from 0 in order of their first transactions. Goes over all transactions. Answers ASSET_CLOSED, ASSET_ABSENT
  * if no step names the transaction, and ASSET_NO_MEMORY. */
 uint32_t asset_group_of(struct asset *asset, uint64_t transaction, size_t *group);
 

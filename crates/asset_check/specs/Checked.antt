@@ -3,7 +3,7 @@ use Rattle.std.specs.Prelude.{ℕ, ℤ, ◌+◌, cond, List, [], ◌∷◌, ◌+
 use Rattle.asset_names.specs.declared.names.Ob.{Ob}
 use Rattle.asset_names.specs.Steps.{Opening}
 use Rattle.asset_names.specs.Operations.{exists}
-use Rattle.asset_history.specs.Recorded.{opened}
+use Rattle.asset_entries.specs.Recorded.{opened}
 use Rattle.asset_grammar.specs.declared.grammar.Command.TheVariants.{Object, Ask}
 use Rattle.asset_grammar.specs.declared.grammar.Line.{Line}
 use Rattle.asset_grammar.specs.declared.grammar.Line.TheVariants.{Blank, Command, Bad}

@@ -34,7 +34,7 @@ pub struct Checker {
 }
 
 impl Model for Checker {
-    ghost use Rattle.asset_history.specs.Recorded.{objects_of};
+    ghost use Rattle.asset_entries.specs.Recorded.{objects_of};
     ghost use Rattle.asset_names.specs.Sets.{HasNoDouble};
     ghost use Rattle.asset_check.specs.Checked.{Seen};
     ghost use Rattle.asset_check.specs.Checking.{seen_in};
@@ -48,7 +48,7 @@ impl Model for Checker {
 
 impl Checker {
     ghost use Rattle.std.specs.Prelude.{◌≡◌, ℕ, List, [], Some, None, IfOk, OnOk, IfErr, OnErr};
-    ghost use Rattle.asset_history.specs.Recorded.{objects_of};
+    ghost use Rattle.asset_entries.specs.Recorded.{objects_of};
     ghost use Rattle.asset_names.specs.declared.steps.Step.{Step as StepAsked};
     ghost use Rattle.asset_names.specs.Steps.{Opening};
     ghost use Rattle.asset_names.specs.Sets.{HasNoDouble};

@@ -7,7 +7,7 @@ use Rattle.asset_names.specs.Steps.{Opening}
 use Rattle.asset_names.specs.Answers.{IsLegal}
 use Rattle.asset_names.specs.Operations.{exists}
 use Rattle.asset_names.specs.Sets.{HasNoDouble, twice}
-use Rattle.asset_history.specs.Recorded.{Recorded, objects_of, opened, answer_to, after, with_entry, has_room}
+use Rattle.asset_entries.specs.Recorded.{Recorded, objects_of, opened, answer_to, after, with_entry, has_room}
 use Rattle.asset_grammar.specs.declared.grammar.Command.TheVariants.{Ask, Object}
 use Rattle.asset_grammar.specs.declared.grammar.Line.{Line}
 use Rattle.asset_grammar.specs.declared.grammar.Line.TheVariants.{Blank, Command, Bad}

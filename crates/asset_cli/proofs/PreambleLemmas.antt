@@ -11,7 +11,7 @@ use Rattle.asset_grammar.specs.declared.grammar.Line.TheVariants.{Command}
 use Rattle.asset_grammar.specs.declared.grammar.Line.TheVariants as Line'
 use Rattle.asset_cli.specs.declared.preamble.ObjectLine.TheVariants.{More, First, Bad}
 use Rattle.asset_grammar.specs.Grammar.{line_of}
-use Rattle.asset_history.specs.Recorded.{opened}
+use Rattle.asset_entries.specs.Recorded.{opened}
 use Rattle.asset_cli.specs.Transcript.{objects_transcript, object_line, steps_from, steps_transcript, stopped}
 use Rattle.asset_cli.specs.Preamble.{bad_line, begun_by, beginning, transcript_begun, Takes}
 use Rattle.asset_cli.specs.declared.prints.Prints.{Prints}

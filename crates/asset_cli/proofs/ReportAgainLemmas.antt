@@ -5,8 +5,8 @@ use Rattle.asset_names.specs.declared.replies.Outcome.{Outcome}
 use Rattle.asset_names.specs.Steps.{Opening}
 use Rattle.asset_names.specs.Operations.{exists}
 use Rattle.asset_names.specs.Groups.{without}
-use Rattle.asset_history.specs.Recorded.{Recorded, opened, answer_to, has_room}
-use Rattle.asset_deletion.specs.Named.{names_of}
+use Rattle.asset_entries.specs.Recorded.{Recorded, opened, answer_to, has_room}
+use Rattle.asset_history.specs.Named.{names_of}
 use Rattle.asset_laws.specs.Serial.{serial, shares_nothing}
 use Rattle.asset_laws.proofs.GroupLemmas.{without_legal}
 use Rattle.asset_laws.proofs.SerialLemmas.{serial_legal}

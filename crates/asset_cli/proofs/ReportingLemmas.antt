@@ -1,6 +1,6 @@
 -- A report after what was played.
 use Rattle.std.proofs.Common.{◌≡◌, ℕ, List, ◌++◌, refl, sym, append_assoc}
-use Rattle.asset_history.specs.Recorded.{Recorded}
+use Rattle.asset_entries.specs.Recorded.{Recorded}
 use Rattle.asset_cli.specs.declared.ends.RunEnd.{RunEnd}
 use Rattle.asset_cli.specs.declared.ends.RunEnd.TheVariants as RunEnd'
 use Rattle.asset_cli.specs.declared.rendering.Played.TheVariants as Played'

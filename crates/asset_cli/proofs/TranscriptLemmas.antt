@@ -3,7 +3,7 @@ use Rattle.std.proofs.Common.{◌≡◌, ℕ, ◌+◌, Bool, true, false, List, 
 use Rattle.std.specs.Prelude.{ℤ, Option}
 use Rattle.asset_names.specs.declared.names.Ob.{Ob}
 use Rattle.asset_names.specs.declared.steps.Step.{Step}
-use Rattle.asset_history.specs.Recorded.{Recorded, answer_to}
+use Rattle.asset_entries.specs.Recorded.{Recorded, answer_to}
 use Rattle.asset_grammar.specs.declared.grammar.Command.TheVariants.{Object, Ask}
 use Rattle.asset_grammar.specs.declared.grammar.Line.TheVariants.{Blank, Command, Bad}
 use Rattle.asset_cli.specs.declared.ends.RunEnd.{RunEnd}

@@ -3,8 +3,8 @@ use Rattle.std.specs.Prelude.{◌≡◌, ℕ, ◌+◌, true, List, [], ◌∷◌
 use Rattle.asset_names.specs.Steps.{Opening, Entry, applied}
 use Rattle.asset_names.specs.Room.{fits}
 use Rattle.asset_names.specs.Groups.{without}
-use Rattle.asset_history.specs.Recorded.{Recorded}
-use Rattle.asset_deletion.specs.Named.{names_of}
+use Rattle.asset_entries.specs.Recorded.{Recorded}
+use Rattle.asset_history.specs.Named.{names_of}
 use Rattle.asset_laws.specs.Serial.{serial}
 use Rattle.asset_grammar.specs.Texts.{reply_line}
 use Rattle.asset_cli.specs.declared.ends.RunEnd.TheVariants.{Finished}

@@ -1,6 +1,6 @@
 -- How a text grows towards a transcript, and what is left when it ends.
 use Rattle.std.specs.Prelude.{◌≡◌, ℕ, List, ◌++◌, Option, None, Some}
-use Rattle.asset_history.specs.Recorded.{Recorded}
+use Rattle.asset_entries.specs.Recorded.{Recorded}
 use Rattle.asset_cli.specs.declared.ends.RunEnd.{RunEnd}
 use Rattle.asset_cli.specs.declared.ends.RunEnd.TheVariants as RunEnd'
 use Rattle.asset_cli.specs.declared.rendering.Played.{Played}

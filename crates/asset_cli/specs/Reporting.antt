@@ -1,7 +1,7 @@
 -- What scripts are run for: their transcript, or a report on the history that they leave.
 use Rattle.std.specs.Prelude.{ℕ, cond, List, ◌++◌}
 use Rattle.asset_laws.specs.Serial.{shares_nothing}
-use Rattle.asset_history.specs.Recorded.{Recorded}
+use Rattle.asset_entries.specs.Recorded.{Recorded}
 use Rattle.asset_reports.specs.Reports.{pruned_text, serial_text}
 use Rattle.asset_reports.specs.Groups.{groups_text}
 use Rattle.asset_reports.specs.Sources.{sources_text}

@@ -1,4 +1,4 @@
-//! The tests of the containers: chains, rows and columns, lists, buckets, labels, names in groups and cycles. They call what is public.
+//! The tests of the containers: chains, rows and columns, lists, buckets, names in groups and cycles. They call what is public.
 #![tactic(auto)]
 
 #[cfg(test)]
@@ -9,8 +9,6 @@ mod chains;
 mod crossed;
 #[cfg(test)]
 mod cycles;
-#[cfg(test)]
-mod labels;
 #[cfg(test)]
 mod lists;
 #[cfg(test)]

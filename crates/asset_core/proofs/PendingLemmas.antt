@@ -33,7 +33,7 @@ use Rattle.asset_locks.specs.Blocking.{request_in}
 use Rattle.asset_locks.proofs.HandLaws.{handed_name, handed_pending}
 use Rattle.asset_trans.specs.TransRows.{status_in}
 use Rattle.asset_ends.specs.Standing.{Standing, values_of}
-use Rattle.asset_history.specs.Recorded.{after}
+use Rattle.asset_entries.specs.Recorded.{after}
 use Rattle.asset_core.specs.Pending.{Pending, asker_after, request_after, request_of, pending_of, new_asker, waiter_of, waiting_for}
 use Rattle.asset_steps.specs.Ready.{locks_after, locks_waiting, released}
 use Rattle.asset_core.specs.Tables.{asker_of, pending_in}

@@ -10,7 +10,7 @@ use Rattle.asset_names.specs.Room.{owed, fits, changes_status, initiates}
 use Rattle.asset_names.proofs.AppliedLemmas.{applied_with_effect, applied_without_effect}
 use Rattle.asset_names.proofs.LegalLemmas.{legal_orderly}
 use Rattle.asset_names.proofs.RoomLemmas.{ending_fits, owed_new, owed_stays}
-use Rattle.asset_history.specs.Recorded.{Recorded, answer_to, has_room}
+use Rattle.asset_entries.specs.Recorded.{Recorded, answer_to, has_room}
 
 -- room for one entry, and for two more that an initiate may be owed, is room for any answer
 pub step_room : (history : Recorded) (step : Step) (reply : Reply) → IsLegal history.opening history.entries → answer_to history step ≡ Answer reply

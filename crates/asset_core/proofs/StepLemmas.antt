@@ -8,7 +8,7 @@ use Rattle.asset_names.specs.declared.replies.Outcome.TheVariants.{Answer, Wait}
 use Rattle.asset_names.specs.Steps.{takes_effect}
 use Rattle.asset_names.specs.Answers.{takes_memory, outcome_takes_effect}
 use Rattle.asset_names.specs.Sources.{is_operation}
-use Rattle.asset_history.specs.Recorded.{answer_to, after, with_entry, has_room, is_ending}
+use Rattle.asset_entries.specs.Recorded.{answer_to, after, with_entry, has_room, is_ending}
 use Rattle.asset_core.specs.Pending.{Facility, pending_after}
 use Rattle.asset_core.specs.Stepped.{IsStep}
 

@@ -16,7 +16,7 @@ use Rattle.asset_names.proofs.LegalLemmas.{legal_orderly, initiate_new}
 use Rattle.asset_names.specs.Orderly.{IsOrderly}
 use Rattle.asset_trans.specs.TransRows.{owed_in}
 use Rattle.asset_ends.specs.Standing.{Standing, values_of}
-use Rattle.asset_history.specs.Recorded.{Recorded}
+use Rattle.asset_entries.specs.Recorded.{Recorded}
 use Rattle.asset_ends.specs.Shows.{Shows}
 use Rattle.asset_core.specs.Pending.{Pending, asker_after, new_asker}
 use Rattle.asset_steps.specs.Ready.{locks_after}

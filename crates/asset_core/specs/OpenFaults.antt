@@ -1,5 +1,5 @@
 -- When nothing is opened.
-pub use Rattle.asset_history.specs.Recorded.{objects_of}
+pub use Rattle.asset_entries.specs.Recorded.{objects_of}
 use Rattle.std.specs.Prelude.{ℕ, ◌≤◌}
 use Rattle.asset_names.specs.Sets.{IsLeastDouble, HasNoDouble}
 use Rattle.asset_names.specs.Steps.{Opening}

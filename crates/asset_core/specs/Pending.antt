@@ -11,7 +11,7 @@ use Rattle.asset_names.specs.declared.replies.Outcome.TheVariants.{Answer, Wait}
 use Rattle.asset_names.specs.Steps.{Opening, takes_effect, applied}
 use Rattle.asset_names.specs.Endings.{live}
 use Rattle.asset_names.specs.Answers.{outcome_takes_effect}
-use Rattle.asset_history.specs.Recorded.{Recorded, opened, after}
+use Rattle.asset_entries.specs.Recorded.{Recorded, opened, after}
 
 -- a live transaction with its pending request: the last one that waits, if there is one
 pub record Pending : Type 0 where

@@ -7,7 +7,7 @@ use Rattle.asset_names.specs.declared.replies.Fault.{Fault}
 use Rattle.asset_names.specs.declared.replies.Fault.TheVariants.{Full, NoMemory}
 use Rattle.asset_names.specs.Answers.{takes_memory, outcome_takes_effect}
 use Rattle.asset_names.specs.Sources.{is_operation}
-use Rattle.asset_history.specs.Recorded.{answer_to, after, has_room, is_ending}
+use Rattle.asset_entries.specs.Recorded.{answer_to, after, has_room, is_ending}
 use Rattle.asset_core.specs.Pending.{Facility, pending_after}
 
 -- The outcome is the answer to the step. A reply is one entry more, and a wait is none; pending requests change as

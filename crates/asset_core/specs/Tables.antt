@@ -4,7 +4,7 @@ use Rattle.asset_names.specs.Steps.{applied}
 use Rattle.asset_names.specs.Answers.{IsLegal}
 use Rattle.asset_names.specs.Room.{owed}
 use Rattle.asset_locks.specs.LockTable as Locks
-use Rattle.asset_history.specs.Recorded.{Recorded}
+use Rattle.asset_entries.specs.Recorded.{Recorded}
 use Rattle.asset_core.specs.Pending.{Pending}
 use Rattle.asset_ends.specs.Standing.{Standing, values_of}
 use Rattle.asset_ends.specs.Shows.{Shows}

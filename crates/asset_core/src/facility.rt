@@ -62,7 +62,8 @@ impl Core {
     ghost use Rattle.asset_names.specs.Operations.{holds, value_if_any};
     ghost use Rattle.asset_names.specs.declared.replies.Outcome.TheVariants.{Answer, Wait as Waits};
     ghost use Rattle.asset_names.specs.Room.{initiates, owed, fits, changes_status};
-    ghost use Rattle.asset_history.specs.Recorded.{answer_to, after, has_room, is_ending};
+    ghost use Rattle.asset_entries.specs.Recorded.{answer_to, after, has_room, is_ending};
+    ghost use Rattle.asset_history.specs.Sharing.{first_of, group_committed};
     ghost use Rattle.asset_core.specs.OpenFaults.{objects_of};
     ghost use Rattle.asset_names.specs.Arrows.{lists};
     ghost use Rattle.asset_ends.specs.Waits.{is_blocker, is_unfinished, is_outside_source};
@@ -314,6 +315,22 @@ impl Core {
         ensures { result ≡ status (applied self.now.history.entries) t.0 }
     {
         self.tables.status(t)
+    }
+
+    /// Returns the first of the transactions with whom `t` has come to share, in the order in which steps first acted on them, and
+    /// `None` if no step acts on `t`. It may be `t` itself. It takes nearly constant time, and no memory.
+    pub fn first_of(&self, t: Txn) -> Option<Txn>
+        ensures { result ≡ first_of self.now.history.entries t.0 }
+    {
+        self.history.first_of(t)
+    }
+
+    /// Returns whether somebody with whom `t` has come to share has committed, or `t` itself; if no step acts on `t`, it is false. It
+    /// takes nearly constant time, and no memory.
+    pub fn group_committed(&self, t: Txn) -> bool
+        ensures { result ≡ group_committed self.now.history.entries t.0 }
+    {
+        self.history.group_committed(t)
     }
 
     /// Returns the value of an object, and `None` if there is no such object.

@@ -1,7 +1,7 @@
 //! Histories that are appended to, and empty ones like them.
 
 ghost use Rattle.std.specs.Prelude.{◌≡◌, [], IsTrue, IfOk};
-ghost use Rattle.asset_history.specs.Recorded.{opened as first, answer_to, after};
+ghost use Rattle.asset_entries.specs.Recorded.{opened as first, answer_to, after};
 
 use crate::again::{ask, opened};
 use asset_core::Core;
@@ -109,7 +109,7 @@ fn first_other(history: &History, other: &History) -> Option<usize> {
 }
 
 /// Returns whether an empty history like the facility's becomes like it again, as all steps are asked and appended.
-#[tactic(auto, unfolding(asset_history::specs::Recorded::opened))]
+#[tactic(auto, unfolding(asset_entries::specs::Recorded::opened))]
 fn are_appended(core: &mut Core, obs: &ObSet) -> bool
     requires { core.old.history.entries ≡ [] }
 {
@@ -126,7 +126,7 @@ fn are_appended(core: &mut Core, obs: &ObSet) -> bool
 }
 
 #[test]
-#[tactic(auto, unfolding(asset_core::specs::Pending::facility_of, asset_history::specs::Recorded::opened))]
+#[tactic(auto, unfolding(asset_core::specs::Pending::facility_of, asset_entries::specs::Recorded::opened))]
 fn entries_are_appended(rt: HostRuntime) -> Result<(), Fail> {
     let obs = ObSet::Listed(ObList::of(&[Ob(1), Ob(2)])?);
     let mut core = opened(rt.alloc(), &TWO, ROOM)?;

@@ -1,19 +1,18 @@
 -- What the groups of a history are, in the words of a reader.
 use Rattle.std.proofs.Common.{◌≡◌, ℕ, ◌<◌, Bool, true, false, cond, eqb, List, [], ◌∷◌, ◌++◌, length, get_or, refl, sym, ap, subst, ◌∙◌, arith, suc, zero, inl, inr}
-use Rattle.std.specs.Prelude.{Result, Ok, Err, IfOk}
 use Rattle.std.proofs.lemmas.Bool.{cases_eq, eqb-true}
-use Rattle.asset_names.specs.declared.replies.NoMemory.{NoMemory}
 use Rattle.asset_names.specs.Arrows.{lists}
 use Rattle.asset_names.specs.Steps.{Entry}
 use Rattle.asset_names.specs.Groups.{actor, partner, same_group}
 use Rattle.asset_names.specs.Orderly.{Distinct}
 use Rattle.asset_names.proofs.ListLemmas.{distinct_pushed}
-use Rattle.asset_labels.specs.Numbered.{groups_before, group_numbers, group_count}
-use Rattle.asset_labels.proofs.NumberLemmas.{before_more, number_at}
-use Rattle.asset_deletion.specs.Named.{with_name, names_of, Means}
-use Rattle.asset_deletion.specs.Grouping.{Grouping, first_labels, grouping_of}
+use Rattle.asset_deletion.specs.Numbered.{groups_before, group_numbers, group_count}
+use Rattle.asset_deletion.proofs.NumberLemmas.{before_more, number_at}
+use Rattle.asset_history.specs.Named.{with_name, names_of}
+use Rattle.asset_deletion.specs.Named.{Means}
+use Rattle.asset_deletion.specs.Grouping.{first_labels, grouping_of}
 use Rattle.asset_deletion.specs.Grouped.{IsFirst, AreGroups}
-use Rattle.asset_deletion.proofs.NameLemmas.{all_acted}
+use Rattle.asset_history.proofs.NameLemmas.{all_acted}
 use Rattle.asset_deletion.proofs.GroupingLemmas.{labels_first, labels_exist, entries_numbered}
 
 -- ---- the names
@@ -88,8 +87,3 @@ groups_are entries = record {
       let own = first_own (same_group entries) (names_of entries) labels i means (omega arith) first in
       let other = first_own (same_group entries) (names_of entries) labels j means below second in
       rw (number_at labels i (omega (arith, means.long)), number_at labels j (omega (arith, means.long)), own, other) (before_more labels j i less own)
-
--- so are the groups that a call gives
-pub given_groups : (entries : List Entry) (result : Result Grouping NoMemory) → IfOk result (λ g. g ≡ grouping_of entries) → IfOk result (λ g. AreGroups entries g)
-given_groups entries (Ok g) is = subst (AreGroups entries) (sym is) (groups_are entries)
-given_groups entries (Err fault) is = tt

@@ -1,25 +1,23 @@
 -- The numbers of groups, and what they say of entries.
-use Rattle.std.proofs.Common.{◌≡◌, ℕ, ◌<◌, ◌≤◌, Bool, true, not, cond, ltb, ◌&&◌, eqb, List, [], ◌∷◌, ◌++◌, length, get_or, map, refl, sym, ap, subst, ◌∙◌, arith, inl, inr, ◌⊎◌, Some, None, false}
+use Rattle.std.proofs.Common.{◌≡◌, ℕ, ◌<◌, ◌≤◌, Bool, true, not, suc, zero, cond, ltb, ◌&&◌, eqb, List, [], ◌∷◌, length, get_or, map, refl, sym, ap, ◌∙◌, arith, inl, inr, ◌⊎◌, Some, None, false}
 use Rattle.std.specs.Prelude.{Option, position, is_some}
 use Rattle.std.specs.List.{position_or_len}
-use Rattle.std.proofs.lemmas.Bool.{ltb-false, cases_eq, cases_lt, eq-eqb, ne_eqb, false≢true, or_left, or_right, and_from}
-use Rattle.std.proofs.lemmas.List.{length-map, get_or-map, ext_get_or, get_or_push, length_push}
+use Rattle.std.proofs.lemmas.Bool.{eqb-true, ltb-false, cases_eq, cases_lt, eq-eqb, ne_eqb, false≢true}
+use Rattle.std.proofs.lemmas.List.{length-map, get_or-map, ext_get_or}
 use Rattle.std.proofs.lemmas.List.Sums.{position_or_len_is, prefix_len_passes}
-use Rattle.asset_names.specs.Arrows.{Arrow, lists, has_arrow}
+use Rattle.std.proofs.lemmas.List.Quantifiers.{position-Some}
+use Rattle.asset_names.specs.Arrows.{lists}
 use Rattle.asset_names.specs.Steps.{Entry}
-use Rattle.asset_names.specs.Groups.{actor, partner, same_group, dead}
+use Rattle.asset_names.specs.Groups.{same_group, dead}
+use Rattle.asset_names.proofs.Common.{both_follow}
 use Rattle.asset_names.proofs.ListLemmas.{listed_at, lists_at}
-use Rattle.asset_labels.specs.Numbered.{groups_before, group_numbers, group_count}
-use Rattle.asset_labels.proofs.NumberLemmas.{before_more, number_at, numbers_long}
-use Rattle.asset_labels.specs.Labelled.{merged}
-use Rattle.asset_meetings.specs.Users.{meetings_of}
-use Rattle.asset_meetings.specs.Meetings.{join_arrows, partners}
-use Rattle.asset_meetings.proofs.SameLemmas.{are_meetings}
-use Rattle.asset_deletion.specs.Named.{with_name, names_of, joined_through, joined, Means, IsNumbered}
+use Rattle.asset_laws.proofs.GroupLemmas.{group_refl, group_sym, group_trans, group_alike}
+use Rattle.asset_history.specs.Named.{names_of}
+use Rattle.asset_history.proofs.ShareLemmas.{alone}
+use Rattle.asset_deletion.specs.Named.{Means, IsNumbered}
+use Rattle.asset_deletion.specs.Numbered.{groups_before, group_numbers, group_count}
 use Rattle.asset_deletion.specs.Grouping.{Grouping, first_labels, grouping_of, number_in, same_number, dead_in, dead_at}
-use Rattle.asset_deletion.proofs.MeansLemmas.{merged_means, named_means, no_entries, means_alike, one_joins, entry_joins}
-use Rattle.asset_deletion.proofs.NameLemmas.{with_new, with_old, with_name_at, all_acted}
-use Rattle.asset_deletion.proofs.MarkLemmas.{listed_where}
+use Rattle.asset_deletion.proofs.NumberLemmas.{before_more, number_at, numbers_long}
 
 -- ---- labels that mean groups are the indices of first names
 pub labels_first : (leads : ℕ → ℕ → Bool) (names labels : List ℕ) → Means leads names labels → labels ≡ first_labels leads names
@@ -63,69 +61,74 @@ numbers_mean leads names labels means = record {
 
 -- ---- each history has labels
 
--- a name is among the names with it, and labels mean them
-one_named : (leads : ℕ → ℕ → Bool) (names labels : List ℕ) (n : ℕ) → Means leads names labels → (more : List ℕ) × (Means leads (with_name names n) more) × (lists (with_name names n) n ≡ true)
-one_named leads names labels n means = go (lists names n) refl where
-  go : (b : Bool) → lists names n ≡ b → (more : List ℕ) × (Means leads (with_name names n) more) × (lists (with_name names n) n ≡ true)
-  go true e = (labels, rw (with_old names n e) means, rw (with_old names n e) e)
-  go false e = (
-    labels ++ length labels ∷ [],
-    rw (with_new names n e) (named_means leads names labels n means e),
-    rw (with_new names n e) (lists_at (names ++ n ∷ []) n (length names) (omega (arith, length_push names n)) (get_or_push names n 0 (length names) refl)),
-  )
+-- the first of the names that passes a test, up to one that does
+first_where : (test : ℕ → Bool) (names : List ℕ) (k : ℕ) → k < length names → test (get_or names k 0) ≡ true → (l : ℕ) × (l ≤ k) × (test (get_or names l 0) ≡ true) × ((j : ℕ) → j < l → test (get_or names j 0) ≡ false)
+first_where test [] k below h = absurd (omega (arith, below))
+first_where test (n ∷ names) k below h = go k below h (test n) refl (λ m less there. first_where test names m less there) where
+  Found : ℕ → Type 0
+  Found m = (l : ℕ) × (l ≤ m) × (test (get_or (n ∷ names) l 0) ≡ true) × ((j : ℕ) → j < l → test (get_or (n ∷ names) j 0) ≡ false)
 
-two_named : (leads : ℕ → ℕ → Bool) (names labels : List ℕ) (a b : ℕ) → Means leads names labels → (more : List ℕ) × Means (joined leads a b) (with_name (with_name names a) b) more
-two_named leads names labels a b means =
-    let first = one_named leads names labels a means in
-    let second = one_named leads (with_name names a) first.0 b first.1 in
-    let after = with_name (with_name names a) b in
-    let i = listed_at (with_name names a) a first.2 in
-    let j = listed_at after b second.2 in
-    let stays = with_name_at (with_name names a) b i.0 i.1 in
-    let is_a : get_or after i.0 0 ≡ a = stays.1 ∙ i.2 in
-    let labels_now = second.0 in
-    let labels_after : List ℕ = merged labels_now (get_or labels_now i.0 0) (get_or labels_now j.0 0) in
-    let joint : Means (joined leads (get_or after i.0 0) (get_or after j.0 0)) after labels_after = merged_means leads after labels_now i.0 j.0 second.1 stays.0 j.1 in
-    let one : Means (joined leads a (get_or after j.0 0)) after labels_after = subst (λ (x : ℕ). Means (joined leads x (get_or after j.0 0)) after labels_after) is_a joint in
-    (labels_after, subst (λ (x : ℕ). Means (joined leads a x) after labels_after) j.2 one)
+  go : (m : ℕ) → m < length (n ∷ names) → test (get_or (n ∷ names) m 0) ≡ true → (b : Bool) → test n ≡ b
+      → ((o : ℕ) → o < length names → test (get_or names o 0) ≡ true → (l : ℕ) × (l ≤ o) × (test (get_or names l 0) ≡ true) × ((j : ℕ) → j < l → test (get_or names j 0) ≡ false)) → Found m
+  go m less there true is rest = (0, omega arith, is, λ j none. absurd (omega (arith, none)))
+  go zero less there false is rest = absurd (false≢true (sym is ∙ there))
+  go (suc m) less there false is rest = let found = rest m (omega (arith, less)) there in (suc found.0, omega (arith, found.1), found.2, before found.0 found.3) where
+    before : (l : ℕ) → ((j : ℕ) → j < l → test (get_or names j 0) ≡ false) → (j : ℕ) → j < suc l → test (get_or (n ∷ names) j 0) ≡ false
+    before l none zero less = is
+    before l none (suc j) less = none j (omega (arith, less))
 
--- those of partners
-partners_labelled : (entries : List Entry) → (labels : List ℕ) × Means (joined_through (partners entries)) (names_of entries) labels
-unfolding names_of
-partners_labelled [] = ([], no_entries)
-partners_labelled (entry ∷ older) =
-    let before = partners_labelled older in
-    let after = two_named (joined_through (partners older)) (names_of older) before.0 (actor entry.0).0 (partner entry.0).0 before.1 in
-    (after.0, means_alike (joined (joined_through (partners older)) (actor entry.0).0 (partner entry.0).0) (joined_through (partners (entry ∷ older))) _ _ (λ n m. sym (entry_joins entry older n m)) after.1)
+module _ (entries : List Entry) where
+  names : List ℕ
+  names = names_of entries
 
--- a join of two who are named
-two_joined : (joins : List Arrow) (names labels : List ℕ) (a b : ℕ) → Means (joined_through joins) names labels → lists names a ≡ true → lists names b ≡ true → (more : List ℕ) × Means (joined_through ((a, b) ∷ joins)) names more
-two_joined joins names labels a b means is_a is_b =
-    let i = listed_at names a is_a in
-    let j = listed_at names b is_b in
-    let more : List ℕ = merged labels (get_or labels i.0 0) (get_or labels j.0 0) in
-    let joint : Means (joined (joined_through joins) (get_or names i.0 0) (get_or names j.0 0)) names more = merged_means (joined_through joins) names labels i.0 j.0 means i.1 j.1 in
-    let one : Means (joined (joined_through joins) a (get_or names j.0 0)) names more = subst (λ (x : ℕ). Means (joined (joined_through joins) x (get_or names j.0 0)) names more) i.2 joint in
-    let both : Means (joined (joined_through joins) a b) names more = subst (λ (x : ℕ). Means (joined (joined_through joins) a x) names more) j.2 one in
-    (more, means_alike (joined (joined_through joins) a b) (joined_through ((a, b) ∷ joins)) names more (λ n m. sym (one_joins joins a b n m)) both)
+  leads : ℕ → ℕ → Bool
+  leads = same_group entries
 
--- those of more joins
-all_joined : (met joins : List Arrow) (names labels : List ℕ) → Means (joined_through joins) names labels → ((u v : ℕ) → has_arrow met u v ≡ true → (lists names u ≡ true) × (lists names v ≡ true))
-    → (more : List ℕ) × Means (joined_through (met ++ joins)) names more
-unfolding has_arrow
-all_joined [] joins names labels means named = (labels, means)
-all_joined (arrow ∷ met) joins names labels means named =
-    let before = all_joined met joins names labels means (λ u v h. named u v (or_right (eqb arrow.0 u && eqb arrow.1 v) _ h)) in
-    let here = named arrow.0 arrow.1 (or_left _ _ (and_from _ _ (eq-eqb arrow.0 arrow.0 refl) (eq-eqb arrow.1 arrow.1 refl))) in
-    two_joined (met ++ joins) names before.0 arrow.0 arrow.1 before.1 here.0 here.1
+  label : ℕ → ℕ
+  label n = position_or_len (λ m. leads m n) names
+
+  -- the label of the name at k
+  found : (k : ℕ) → k < length names → (l : ℕ) × (label (get_or names k 0) ≡ l) × (l ≤ k) × (leads (get_or names l 0) (get_or names k 0) ≡ true) × ((j : ℕ) → j < l → leads (get_or names j 0) (get_or names k 0) ≡ false)
+  unfolding label leads
+  found k below =
+      let n = get_or names k 0 in
+      let first = first_where (λ m. same_group entries m n) names k below (group_refl entries n) in
+      (first.0, position_or_len_is (λ m. same_group entries m n) names first.0 0 (omega (arith, first.1, below)) first.3 (λ less. first.2), first.1, first.2, first.3)
+
+  -- names of one group have one label
+  label_same : (n m : ℕ) → same_group entries n m ≡ true → label n ≡ label m
+  unfolding label leads
+  label_same n m same = ap (λ (test : ℕ → Bool). position_or_len test names) (λ i u. group_alike entries n m u same i)
+
+  label_at : (k : ℕ) → k < length names → get_or (first_labels leads names) k 0 ≡ label (get_or names k 0)
+  unfolding first_labels label
+  label_at k below = get_or-map (λ n. position_or_len (λ m. leads m n) names) names k 0 0 below
+
+  labels_mean : Means (same_group entries) (names_of entries) (first_labels (same_group entries) (names_of entries))
+  unfolding names leads first_labels
+  labels_mean = record {
+    long = length-map names (λ n. position_or_len (λ m. leads m n) names);
+    low = λ k below. let one = found k below in omega (arith, label_at k below, one.1, one.2);
+    own = λ k below.
+        let one = found k below in
+        let inside : one.0 < length names = omega (arith, one.2, below) in
+        ap (λ l. get_or (first_labels leads names) l 0) (label_at k below ∙ one.1) ∙ label_at one.0 inside ∙ label_same (get_or names one.0 0) (get_or names k 0) one.3 ∙ sym (label_at k below);
+    same = λ i j is_i is_j.
+        let a = get_or names i 0 in
+        let b = get_or names j 0 in
+        rw (label_at i is_i, label_at j is_j) (both_follow (eqb (label a) (label b)) (same_group entries a b)
+        (λ h.
+        let one = found i is_i in
+        let other = found j is_j in
+        let at : one.0 ≡ other.0 = sym one.1 ∙ eqb-true (label a) (label b) h ∙ other.1 in
+        group_trans entries a (get_or names one.0 0) b (group_sym entries (get_or names one.0 0) a one.3) (ap (λ l. same_group entries (get_or names l 0) b) at ∙ other.3))
+        (λ h. eq-eqb (label a) (label b) (label_same a b h)));
+    first = λ n m none. both_follow (same_group entries n m) (eqb n m) (λ h. eq-eqb n m (sym (alone entries m n none (group_sym entries n m h)))) (λ h. ap (same_group entries n) (sym (eqb-true n m h)) ∙ group_refl entries n);
+    second = λ n m none. both_follow (same_group entries n m) (eqb n m) (λ h. eq-eqb n m (alone entries n m none h)) (λ h. ap (same_group entries n) (sym (eqb-true n m h)) ∙ group_refl entries n);
+  }
 
 pub labels_exist : (entries : List Entry) → (labels : List ℕ) × Means (same_group entries) (names_of entries) labels
-unfolding joined_through
-labels_exist entries =
-    let met = are_meetings entries in
-    let first = partners_labelled entries in
-    let all = all_joined (join_arrows (meetings_of entries)) (partners entries) (names_of entries) first.0 first.1 (λ u v h. let acted = met.named u v h in (all_acted entries u ∙ acted.0, all_acted entries v ∙ acted.1)) in
-    (all.0, means_alike (joined_through (join_arrows (meetings_of entries) ++ partners entries)) (same_group entries) (names_of entries) all.0 met.groups all.1)
+labels_exist entries = (first_labels (same_group entries) (names_of entries), labels_mean entries)
 
 pub entries_numbered : (entries : List Entry) → IsNumbered (same_group entries) (names_of entries) (grouping_of entries).numbers (grouping_of entries).count
 unfolding grouping_of
@@ -152,6 +155,10 @@ grouping_is entries names numbers labels is_dead named means numbered counted ma
     λ i. record { names = named i; numbers = numbers_are i; count = count_is i; dead = dead_are i }
 
 -- ---- what a grouping says of entries
+-- where a name is listed
+pub listed_where : (names : List ℕ) (t k : ℕ) → Some k ≡ position (eqb t) names → (k < length names) × (get_or names k 0 ≡ t)
+listed_where names t k is = let at = position-Some (eqb t) names k 0 (sym is) in (at.0, sym (eqb-true t (get_or names k 0) at.1))
+
 missing_from : (names : List ℕ) (n : ℕ) → position (eqb n) names ≡ None → length names ≤ position_or_len (eqb n) names
 missing_from names n e = go (ltb (position_or_len (eqb n) names) (length names)) refl e where
   go : (b : Bool) → ltb (position_or_len (eqb n) names) (length names) ≡ b → cond b (Some (position_or_len (eqb n) names)) None ≡ None → length names ≤ position_or_len (eqb n) names

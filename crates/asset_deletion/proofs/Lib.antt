@@ -1,8 +1,6 @@
-pub mod MeansLemmas
 pub mod NameLemmas
-pub mod DeadLemmas
-pub mod MarkLemmas
 pub mod GroupingLemmas
 pub mod WithoutLemmas
 pub mod GroupedLemmas
-pub mod JoinLemmas
+pub mod NumberLemmas
+pub mod ReadLemmas

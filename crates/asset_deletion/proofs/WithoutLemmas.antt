@@ -5,7 +5,7 @@ use Rattle.std.specs.List.{list_any}
 use Rattle.std.proofs.lemmas.Bool.{or_cases, or_left, or_right, and_parts, and_from, cases_eq, eqb-true, eq-eqb, ne_eqb, false≢true}
 use Rattle.std.proofs.lemmas.List.{take_more, get_or-set_same, get_or-set_other, get_or-map}
 use Rattle.std.proofs.lemmas.List.Folds.{list_any-append}
-use Rattle.asset_history.proofs.EntryLemmas.{next_entry, between}
+use Rattle.asset_entries.proofs.EntryLemmas.{next_entry, between}
 use Rattle.asset_names.specs.declared.names.Txn.{Txn}
 use Rattle.asset_names.specs.declared.replies.Outcome.TheVariants.{Answer}
 use Rattle.asset_names.specs.Arrows.{lists}
@@ -15,7 +15,7 @@ use Rattle.asset_names.specs.Answers.{answer, IsLegal}
 use Rattle.asset_names.proofs.Common.{both_follow}
 use Rattle.asset_names.proofs.ListLemmas.{any_map, any_alike, listed_any}
 use Rattle.asset_laws.proofs.GroupLemmas.{group_refl, group_sym, dead_alike, stays_answered}
-use Rattle.asset_deletion.specs.Named.{with_name, names_of}
+use Rattle.asset_history.specs.Named.{with_name, names_of}
 use Rattle.asset_deletion.specs.Grouping.{Grouping, grouping_of, number_in, same_number, dead_in, dead_at}
 use Rattle.asset_deletion.specs.Going.{takes_along, goes, keeps, AreBelow, SaysWhoStays}
 use Rattle.asset_deletion.proofs.GroupingLemmas.{entries_numbered, name_position, named_in_group, dead_in_group, same_in_group}

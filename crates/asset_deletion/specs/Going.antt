@@ -5,7 +5,7 @@ use Rattle.asset_names.specs.declared.names.Txn.{Txn}
 use Rattle.asset_names.specs.Arrows.{lists}
 use Rattle.asset_names.specs.Steps.{Entry}
 use Rattle.asset_names.specs.Groups.{stays}
-use Rattle.asset_deletion.specs.Named.{names_of}
+use Rattle.asset_history.specs.Named.{names_of}
 use Rattle.asset_deletion.specs.Grouping.{Grouping, number_in, same_number, dead_in, dead_at}
 
 -- whether the transaction is of the group with this number, and that group is dead

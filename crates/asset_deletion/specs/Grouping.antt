@@ -2,11 +2,10 @@
 use Rattle.std.specs.Prelude.{ℕ, Bool, false, ◌==◌, nat_eq, List, map, Option, Some, None, position, slice_index, slice_index_or}
 use Rattle.std.specs.List.{position_or_len}
 use Rattle.std.specs.Option.{option_map}
-use Rattle.asset_names.specs.declared.names.Txn.{Txn}
 use Rattle.asset_names.specs.Steps.{Entry}
 use Rattle.asset_names.specs.Groups.{same_group, dead}
-use Rattle.asset_labels.specs.Numbered.{group_numbers, group_count}
-use Rattle.asset_deletion.specs.Named.{names_of}
+use Rattle.asset_history.specs.Named.{names_of}
+use Rattle.asset_deletion.specs.Numbered.{group_numbers, group_count}
 
 -- the names in order of first use, the number of each name's group, how many groups there are, and whether each name's
 -- group is dead
@@ -28,10 +27,6 @@ grouping_of entries = record {
   count = group_count (first_labels (same_group entries) (names_of entries));
   dead = map (dead entries) (names_of entries);
 }
-
--- a transaction by its name
-abbrev pub named : ℕ → Txn
-named n = record { 0 = n }
 
 -- the number of n's group, if n is named
 unfoldable pub number_in : Grouping → ℕ → Option ℕ

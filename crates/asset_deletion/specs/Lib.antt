@@ -1,4 +1,5 @@
 pub mod Grouping
+pub mod Numbered
 pub mod Named
 pub mod Going
 pub mod Grouped

@@ -5,8 +5,8 @@ ghost use Rattle.asset_names.specs.declared.names.Txn.{Txn as Name};
 ghost use Rattle.asset_names.specs.Steps.{Entry};
 ghost use Rattle.asset_names.specs.Groups.{actor, kept, without};
 ghost use Rattle.asset_names.specs.Answers.{IsLegal};
-ghost use Rattle.asset_history.specs.Recorded.{opened};
-ghost use Rattle.asset_deletion.specs.Named.{names_of};
+ghost use Rattle.asset_entries.specs.Recorded.{opened};
+ghost use Rattle.asset_history.specs.Named.{names_of};
 ghost use Rattle.asset_deletion.specs.Going.{keeps, AreBelow, SaysWhoStays};
 
 use crate::going::{dead_groups, going_with};

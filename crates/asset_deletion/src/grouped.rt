@@ -36,8 +36,9 @@ impl Groups {
     ghost use Rattle.asset_names.specs.Arrows.{lists};
     ghost use Rattle.asset_names.specs.Steps.{Entry};
     ghost use Rattle.asset_names.specs.Groups.{same_group, dead};
-    ghost use Rattle.asset_deletion.specs.Named.{names_of};
-    ghost use Rattle.asset_deletion.specs.Grouping.{grouping_of, named, number_in, same_number, dead_in};
+    ghost use Rattle.asset_history.specs.Named.{names_of};
+    ghost use Rattle.asset_history.specs.Sharing.{named};
+    ghost use Rattle.asset_deletion.specs.Grouping.{grouping_of, number_in, same_number, dead_in};
 
     /// Returns how many groups there are.
     pub fn count(&self) -> usize

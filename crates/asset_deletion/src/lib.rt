@@ -6,9 +6,7 @@ mod deleting;
 mod going;
 mod grouped;
 mod grouping;
-mod joining;
-mod marking;
-mod naming;
+mod reading;
 
 pub use deleting::{without, without_dead};
 pub use grouped::Groups;

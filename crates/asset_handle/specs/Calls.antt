@@ -11,7 +11,7 @@ use Rattle.asset_names.specs.Answers.{takes_memory, outcome_takes_effect}
 use Rattle.asset_names.specs.Endings.{status}
 use Rattle.asset_names.specs.Operations.{value_if_any}
 use Rattle.asset_names.specs.Sources.{is_operation}
-use Rattle.asset_history.specs.Recorded.{answer_to, after, has_room, is_ending, objects_of}
+use Rattle.asset_entries.specs.Recorded.{answer_to, after, has_room, is_ending, objects_of}
 use Rattle.asset_core.specs.Pending.{Facility, facility_of, pending_after, waiting_for}
 use Rattle.asset_core.specs.OpenFaults.{IsCapacity, MayOpen}
 use Rattle.asset_deletion.specs.Grouping.{grouping_of, number_in}

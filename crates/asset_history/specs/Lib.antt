@@ -1,6 +1,6 @@
-pub mod Recorded
-pub mod Stored
-pub mod StoredSets
-pub mod Committing
-pub mod Acting
-pub mod Operating
+pub mod Named
+pub mod Uses
+pub mod Together
+pub mod Users
+pub mod Kept
+pub mod Sharing

@@ -1,75 +1,61 @@
-//! A history: the opening, and the entries in order.
+//! A history: the opening, the entries in order, and the groups of those on whom they act.
 
-use crate::stored::Stored;
-use crate::stored_set::{copy_set, push_set};
-use crate::stored_sets::StoredSets;
+use crate::labelling::KeptGroups;
+use asset_entries::Entries;
+use asset_name_groups::NameGroups;
 use asset_names::{NoMemory, Ob, ObList, Reply, Step, Txn};
-use std::alloc::{AllocError, Global};
+use std::alloc::Global;
 use std::marker::Model;
 
 /// The opening values of the objects, of which none is given twice, and the entries: each is a step with its reply. A
 /// history is always legal: each reply is the one answer to its step after the entries before it. Contracts see the
 /// opening, the entries with the newest first, and the capacity.
+///
+/// It also keeps, as entries come, the groups of the transactions that their steps act on, and who of them has committed.
 #[derive(Drop)]
 pub struct History {
-    opening: Vec<(Ob, i64)>,
-    entries: Vec<Stored>,
-    sets: StoredSets,
-    capacity: usize,
+    entries: Entries,
+    kept: KeptGroups,
 }
 
 impl Model for History {
-    ghost use Rattle.std.specs.Prelude.{vec_capacity};
-    ghost use Rattle.asset_history.specs.Recorded.{Recorded};
-    ghost use Rattle.asset_history.specs.Stored.{entries_of, IsValid};
+    ghost use Rattle.std.specs.Prelude.{nat_eq};
+    ghost use Rattle.indexmap.specs.IndexMap.{get, spare};
+    ghost use Rattle.asset_entries.specs.Recorded.{Recorded};
+    ghost use Rattle.asset_history.specs.Kept.{IsHistory};
 
     ghost Value = { Recorded };
 
-    ghost view = { λ h. record { opening = h.opening.items; entries = entries_of h.sets.sets h.entries.items; capacity = h.capacity } };
+    ghost view = { λ history. history.entries };
 
-    ghost invariant = { λ h. IsValid h.opening.items h.entries.items h.sets.sets h.capacity (vec_capacity h.entries) h.sets.room };
+    ghost invariant = { λ history. IsHistory history.entries.opening history.entries.entries history.entries.capacity history.kept.groups (get nat_eq history.kept.users) (spare history.kept.users) history.kept.is_opened };
 }
 
 impl History {
     ghost use Rattle.std.specs.Prelude.{◌≡◌, ◌<◌, ◌≤◌, ◌↔◌, ◌^◌, [], length, reverse, slice_get, IfOk, IsTrue, Some};
     ghost use Rattle.std.specs.Option.{option_map};
-    ghost use Rattle.asset_history.specs.Acting.{both_of};
-    ghost use Rattle.asset_history.specs.Committing.{commit_at};
-    ghost use Rattle.asset_history.specs.Operating.{operator_at, opener_at};
+    ghost use Rattle.asset_entries.specs.Acting.{both_of};
+    ghost use Rattle.asset_entries.specs.Committing.{commit_at};
+    ghost use Rattle.asset_entries.specs.Operating.{operator_at, opener_at};
+    ghost use Rattle.asset_history.specs.Kept.{AreLabels};
+    ghost use Rattle.asset_history.specs.Sharing.{first_of, group_committed};
     ghost use Rattle.asset_names.specs.Sets.{HasNoDouble};
     ghost use Rattle.asset_names.specs.Answers.{IsLegal};
     ghost use Rattle.asset_names.specs.Steps.{Entry};
     ghost use Rattle.asset_names.specs.declared.replies.Outcome.TheVariants.{Answer};
-    ghost use Rattle.asset_history.specs.Recorded.{objects_of, opened, answer_to, with_entry};
+    ghost use Rattle.asset_entries.specs.Recorded.{objects_of, opened, answer_to, with_entry};
 
-    /// Returns a history of these opening values without entries, with room for `capacity` of them. No object is given
-    /// twice. It takes that room here, and fails if memory runs out.
+    /// Returns a history of these opening values without entries, with room for `capacity` of them and for the names of twice as
+    /// many transactions. No object is given twice. It takes that room here, and fails if memory runs out.
     pub fn open(alloc: Global, opening: &[(Ob, i64)], capacity: usize) -> Result<History, NoMemory>
         requires different { HasNoDouble (objects_of opening.now) }
         ensures { IfOk result (λ history. history ≡ opened opening.now capacity) }
     {
-        match History::with_room(alloc, opening, capacity) {
-            Ok(history) => Ok(history),
+        let entries = Entries::open(alloc, opening, capacity)?;
+        match KeptGroups::with_room(alloc, opening.len(), capacity) {
+            Ok(kept) => Ok(History { entries, kept }),
             Err(_) => Err(NoMemory),
         }
-    }
-
-    /// Returns a history without entries, as `open` does.
-    #[tactic(auto, unfolding(crate::specs::Recorded::opened, crate::specs::Stored::entries_of))]
-    fn with_room(
-        alloc: Global,
-        opening: &[(Ob, i64)],
-        capacity: usize,
-    ) -> Result<History, AllocError>
-        requires different { HasNoDouble (objects_of opening.now) }
-        ensures { IfOk result (λ history. history ≡ opened opening.now capacity) }
-    {
-        Ok(History {
-            opening: opening.to_vec(alloc)?,
-            entries: Vec::with_capacity(alloc, capacity)?,
-            sets: StoredSets::with_room(alloc, capacity)?,
-            capacity,
-        })
     }
 
     /// Returns a history of the same opening values with the same room, without entries. It takes that room here, and
@@ -77,7 +63,7 @@ impl History {
     pub fn empty_like(&self) -> Result<History, NoMemory>
         ensures { IfOk result (λ history. history ≡ opened self.now.opening self.now.capacity) }
     {
-        History::open(*self.entries.allocator(), self.opening(), self.room())
+        History::open(self.entries.allocator(), self.opening(), self.room())
     }
 
     /// Returns the objects with their opening values, in the order in which they were given. None is given twice.
@@ -85,7 +71,7 @@ impl History {
         ensures given { result.now ≡ self.now.opening }
         ensures different { HasNoDouble (objects_of self.now.opening) }
     {
-        self.opening.as_slice()
+        self.entries.opening()
     }
 
     /// Returns the number of entries.
@@ -102,7 +88,7 @@ impl History {
     pub fn is_empty(&self) -> bool
         ensures { IsTrue result ↔ (self.now.entries ≡ []) }
     {
-        self.len() == 0
+        self.entries.is_empty()
     }
 
     /// Returns the entry at the index, oldest first from 0, and `None` past the end.
@@ -111,10 +97,7 @@ impl History {
         ensures entry { result ≡ slice_get (reverse self.now.entries) index }
         ensures legal { IsLegal self.now.opening self.now.entries }
     {
-        match self.entries.get(index) {
-            Some(stored) => Some(stored.entry(&self.sets)),
-            None => None,
-        }
+        self.entries.entry(index)
     }
 
     /// Puts the step of the entry at the index, oldest first from 0, into the slot, and returns its reply; `None` past the end,
@@ -125,10 +108,7 @@ impl History {
         ensures entry { option_map (λ reply. (step.new, reply)) result ≡ slice_get (reverse self.now.entries) index }
         ensures legal { IsLegal self.now.opening self.now.entries }
     {
-        match self.entries.as_slice().get(index) {
-            Some(stored) => Some(stored.put(&self.sets, step)),
-            None => None,
-        }
+        self.entries.entry_into(index, step)
     }
 
     /// Returns whether there is an entry at the index, oldest first from 0, and it is that of the step with the reply. If
@@ -137,10 +117,7 @@ impl History {
     pub fn records(&self, index: usize, step: &Step, reply: Reply) -> bool
         ensures { IsTrue result ↔ (slice_get (reverse self.now.entries) index ≡ Some (step.now, reply)) }
     {
-        match self.entries.as_slice().get(index) {
-            Some(stored) => stored.records(&self.sets, step, reply),
-            None => false,
-        }
+        self.entries.records(index, step, reply)
     }
 
     /// Returns the two transactions that the step of the entry at the index acts on, oldest first from 0, and `None` past
@@ -149,10 +126,7 @@ impl History {
     pub fn acted_on(&self, index: usize) -> Option<(Txn, Txn)>
         ensures { result ≡ option_map both_of (slice_get (reverse self.now.entries) index) }
     {
-        match self.entries.as_slice().get(index) {
-            Some(stored) => Some(stored.both()),
-            None => None,
-        }
+        self.entries.acted_on(index)
     }
 
     /// Returns the same as `committed_at`.
@@ -160,10 +134,7 @@ impl History {
     pub(crate) fn commit_at(&self, index: usize) -> Option<Txn>
         ensures { result ≡ commit_at (slice_get (reverse self.now.entries) index) }
     {
-        match self.entries.as_slice().get(index) {
-            Some(stored) => stored.committed(),
-            None => None,
-        }
+        self.entries.commit_at(index)
     }
 
     /// Returns the transaction and the object of the operation at the index, oldest first from 0, if the entry there is an
@@ -172,10 +143,7 @@ impl History {
     pub fn operator(&self, index: usize) -> Option<(Txn, Ob)>
         ensures { result ≡ operator_at (slice_get (reverse self.now.entries) index) }
     {
-        match self.entries.as_slice().get(index) {
-            Some(stored) => stored.operator(),
-            None => None,
-        }
+        self.entries.operator(index)
     }
 
     /// Returns the giver and the objects of the open permit at the index, oldest first from 0, if the entry there is an open
@@ -184,17 +152,14 @@ impl History {
     pub fn opener(&self, index: usize) -> Option<(Txn, ObList)>
         ensures { result ≡ opener_at (slice_get (reverse self.now.entries) index) }
     {
-        match self.entries.as_slice().get(index) {
-            Some(stored) => stored.opener(&self.sets),
-            None => None,
-        }
+        self.entries.opener(index)
     }
 
     /// Returns the number of entries that there is room for in all: the capacity, and not the room that is left.
     pub fn room(&self) -> usize
         ensures { result ≡ self.now.capacity }
     {
-        self.capacity
+        self.entries.room()
     }
 
     /// Appends the step with its reply, which is its one answer here. The room was taken when the history was
@@ -215,9 +180,9 @@ impl History {
         requires room { length self.old.entries < self.old.capacity }
         ensures { self.new ≡ with_entry self.old step.now reply }
     {
-        let stored = Stored::of(step, reply, self.sets.len());
-        push_set(&mut self.sets, step);
-        self.entries.push(stored).unwrap();
+        let newest = self.entries.len();
+        self.entries.append_lent(step, reply);
+        self.kept.note_newest(&self.entries, newest);
     }
 
     /// Appends the entry at the index of another history, oldest first from 0, as it is stored there: its step is not read
@@ -230,9 +195,43 @@ impl History {
         requires room { length self.old.entries < self.old.capacity }
         ensures { (entry : Entry) → slice_get (reverse other.now.entries) index ≡ Some entry → self.new ≡ with_entry self.old entry.0 entry.1 }
     {
-        let stored = other.entries[index];
-        let moved = stored.moved(self.sets.len());
-        copy_set(&mut self.sets, &other.sets, &stored);
-        self.entries.push(moved).unwrap();
+        let newest = self.entries.len();
+        self.entries.append_from(&other.entries, index);
+        self.kept.note_newest(&self.entries, newest);
+    }
+
+    /// Returns the transactions that steps act on, in order of first use and of a step the first before the second, in their groups;
+    /// that of a group in which a member has committed is flagged.
+    pub fn groups(&self) -> &NameGroups
+        ensures labels { AreLabels self.now.entries result.now }
+        ensures legal { IsLegal self.now.opening self.now.entries }
+    {
+        let _len = self.entries.len();
+        &self.kept.groups
+    }
+
+    /// Returns the first of the transactions of t's group, in the order in which steps first acted on them, and `None` if no step
+    /// acts on t. It takes nearly constant time, and no memory.
+    pub fn first_of(&self, t: Txn) -> Option<Txn>
+        ensures { result ≡ first_of self.now.entries t.0 }
+    {
+        let groups = self.groups();
+        groups.laws();
+        match groups.find(t.0) {
+            Some(node) => Some(Txn(groups.name(groups.label(node)))),
+            None => None,
+        }
+    }
+
+    /// Returns whether a transaction of t's group has committed; if no step acts on t, it is false. It takes nearly constant time,
+    /// and no memory.
+    pub fn group_committed(&self, t: Txn) -> bool
+        ensures { result ≡ group_committed self.now.entries t.0 }
+    {
+        let groups = self.groups();
+        match groups.find(t.0) {
+            Some(node) => groups.is_flagged(node),
+            None => false,
+        }
     }
 }

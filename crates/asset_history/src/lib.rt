@@ -1,14 +1,13 @@
-//! A history as it is kept: the opening and the entries of answered steps, in room that is taken when it is opened.
+//! A history as it is kept: the opening and the entries of answered steps, and the groups of those on whom the steps act. Their room is
+//! taken when it is opened.
 #![tactic(auto)]
 
 mod committing;
 mod history;
-mod operating;
-mod recording;
-mod reply_tag;
-mod stored;
-mod stored_set;
-mod stored_sets;
+mod joining;
+mod labelling;
+mod noting;
+mod users;
 
 pub use committing::committed_at;
 pub use history::History;

@@ -14,7 +14,7 @@ use Rattle.asset_names.specs.Steps.{Entry, takes_effect}
 use Rattle.asset_names.specs.Sources.{is_operation}
 use Rattle.asset_names.specs.Groups.{actor}
 use Rattle.asset_deletion.specs.Grouping.{Grouping, grouping_of}
-use Rattle.asset_history.proofs.EntryLemmas.{between}
+use Rattle.asset_entries.proofs.EntryLemmas.{between}
 use Rattle.asset_sources.proofs.WalkLemmas.{older_length}
 use Rattle.asset_lanes.specs.declared.marking.Mark.{Mark}
 use Rattle.asset_lanes.specs.Lanes.{row_of, lane_names}

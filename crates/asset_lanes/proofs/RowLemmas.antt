@@ -11,7 +11,7 @@ use Rattle.asset_names.specs.Arrows.{lists}
 use Rattle.asset_names.specs.Steps.{Entry}
 use Rattle.asset_names.specs.Groups.{actor, acted_on, acted_on_by}
 use Rattle.asset_names.proofs.ListLemmas.{listed_at, lists_at}
-use Rattle.asset_history.proofs.EntryLemmas.{between}
+use Rattle.asset_entries.proofs.EntryLemmas.{between}
 use Rattle.asset_buckets.specs.Bucketed.{indices_of, indices_below}
 use Rattle.asset_deletion.specs.Grouping.{grouping_of}
 use Rattle.asset_deletion.proofs.GroupedLemmas.{groups_are}

@@ -5,8 +5,8 @@ use Rattle.asset_names.specs.Steps.{Entry, takes_effect, applied}
 use Rattle.asset_names.specs.Endings.{status}
 use Rattle.asset_names.specs.Answers.{IsLegal}
 use Rattle.asset_names.proofs.LegalLemmas.{legal_orderly}
-use Rattle.asset_history.specs.Recorded.{Recorded}
-use Rattle.asset_history.proofs.EntryLemmas.{next_entry}
+use Rattle.asset_entries.specs.Recorded.{Recorded}
+use Rattle.asset_entries.proofs.EntryLemmas.{next_entry}
 use Rattle.asset_ends.specs.Shows.{Shows}
 use Rattle.asset_ends.specs.Shown.{ShowsEntry}
 use Rattle.asset_ends.specs.Standing.{Standing, values_of}

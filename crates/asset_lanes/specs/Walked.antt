@@ -1,7 +1,7 @@
 -- How far a walk over a history has come.
 use Rattle.std.specs.Prelude.{ℕ, List, reverse, take}
 use Rattle.asset_names.specs.Steps.{Entry, applied}
-use Rattle.asset_history.specs.Recorded.{Recorded}
+use Rattle.asset_entries.specs.Recorded.{Recorded}
 use Rattle.asset_ends.specs.Shows.{Shows}
 use Rattle.asset_ends.specs.Standing.{Standing, values_of}
 

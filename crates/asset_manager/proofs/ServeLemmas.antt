@@ -8,7 +8,7 @@ use Rattle.asset_names.specs.Steps.{Opening, applied, initiated}
 use Rattle.asset_names.specs.Answers.{IsLegal}
 use Rattle.asset_names.specs.Counted.{counts_of, ended_count, IsBelow}
 use Rattle.asset_names.proofs.CountLemmas.{counts_grow}
-use Rattle.asset_history.specs.Recorded.{Recorded, opened, answer_to, after, with_entry}
+use Rattle.asset_entries.specs.Recorded.{Recorded, opened, answer_to, after, with_entry}
 use Rattle.asset_core.specs.Pending.{Facility, facility_of}
 use Rattle.asset_core.specs.Stepped.{IsStep}
 use Rattle.asset_counts.specs.Shown.{no_counts}

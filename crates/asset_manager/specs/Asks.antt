@@ -1,7 +1,8 @@
 -- What a call through the lock tells its session. Nobody can say which history the facility has when the lock is got,
 -- so it is said that there is one.
-use Rattle.std.specs.Prelude.{◌≡◌, ◌≤◌, ◌<◌, ℕ, ◌⊎◌, ◌++◌, ◌∷◌, [], List, length, Option, Some, None, Result, Ok, Err}
+use Rattle.std.specs.Prelude.{◌≡◌, ◌≤◌, ◌<◌, ℕ, Bool, ◌⊎◌, ◌++◌, ◌∷◌, [], List, length, Option, Some, None, Result, Ok, Err}
 use Rattle.atomic_table.specs.Seated.{TableId}
+use Rattle.asset_names.specs.declared.names.Txn.{Txn}
 use Rattle.asset_names.specs.declared.steps.Step.{Step}
 use Rattle.asset_names.specs.declared.replies.Reply.{Reply}
 use Rattle.asset_names.specs.declared.replies.Outcome.{Outcome}
@@ -10,7 +11,8 @@ use Rattle.asset_names.specs.declared.replies.Fault.{Fault}
 use Rattle.asset_names.specs.declared.replies.Fault.TheVariants.{NoMemory}
 use Rattle.asset_names.specs.declared.counts.Counts.{Counts}
 use Rattle.asset_names.specs.Answers.{IsLegal}
-use Rattle.asset_history.specs.Recorded.{Recorded, answer_to}
+use Rattle.asset_entries.specs.Recorded.{Recorded, answer_to}
+use Rattle.asset_history.specs.Sharing.{first_of, group_committed}
 use Rattle.asset_audit.specs.Audited.{Call}
 use Rattle.asset_core.specs.Pending.{Facility}
 use Rattle.asset_core.specs.Stepped.{IsStep}
@@ -56,6 +58,18 @@ pub record IsAnswer (step : Step) (outcome : Outcome) : Type 0 where
   pub history : Recorded
   pub legal : IsLegal history.opening history.entries
   pub answered : outcome ≡ answer_to history step
+
+-- the result is the first of those with whom t shares, after some legal history
+pub record IsFirst (t : Txn) (result : Option Txn) : Type 0 where
+  pub history : Recorded
+  pub legal : IsLegal history.opening history.entries
+  pub is : result ≡ first_of history.entries t.0
+
+-- the result says whether one of those with whom t shares has committed, after some legal history
+pub record HasCommitted (t : Txn) (result : Bool) : Type 0 where
+  pub history : Recorded
+  pub legal : IsLegal history.opening history.entries
+  pub is : result ≡ group_committed history.entries t.0
 
 -- the result of a call that ends with no wait
 abbrev pub as_outcome : Result Reply Fault → Result Outcome Fault

@@ -7,7 +7,7 @@ use crate::session::Session;
 use asset_audit::{AuditFault, audit};
 use asset_core::{Core, History};
 use asset_counts::{Publisher, Watch};
-use asset_names::{Fault, NoMemory, Outcome, Reply, Step};
+use asset_names::{Fault, NoMemory, Outcome, Reply, Step, Txn};
 use std::alloc::Global;
 use std::marker::Model;
 use std::sync::Arc;
@@ -121,6 +121,7 @@ impl Book {
     ghost use Rattle.asset_names.specs.Counted.{counts_of};
     ghost use Rattle.asset_audit.specs.Audited.{IsAudit, HasEach};
     ghost use Rattle.asset_core.specs.Stepped.{IsStep};
+    ghost use Rattle.asset_history.specs.Sharing.{first_of, group_committed};
     ghost use Rattle.asset_manager.specs.Listed.{Lists};
     ghost use Rattle.asset_manager.specs.Booked.{IsValid};
     ghost use Rattle.asset_manager.specs.Serves.{Serves};
@@ -189,6 +190,24 @@ impl Book {
             Ok(Outcome::Wait) => Ok(Outcome::Wait),
             Err(fault) => Err(fault),
         }
+    }
+
+    /// Returns the first of those with whom `t` has come to share, as `Core::first_of` does.
+    pub fn first_of(&self, t: Txn) -> Option<Txn>
+        ensures first { result ≡ first_of self.now.facility.history.entries t.0 }
+        ensures valid { IsValid self.now }
+    {
+        self.laws();
+        self.core.first_of(t)
+    }
+
+    /// Returns whether somebody with whom `t` has come to share has committed, as `Core::group_committed` does.
+    pub fn group_committed(&self, t: Txn) -> bool
+        ensures committed { result ≡ group_committed self.now.facility.history.entries t.0 }
+        ensures valid { IsValid self.now }
+    {
+        self.laws();
+        self.core.group_committed(t)
     }
 
     /// Returns the history, and the audit of the sessions against it. It does not allocate.

@@ -8,13 +8,13 @@ ghost use Rattle.asset_audit.specs.Audited.{IsAudit, HasEach};
 ghost use Rattle.asset_core.specs.OpenFaults.{MayOpen, IsOpenFault};
 ghost use Rattle.asset_counts.specs.Shown.{no_counts};
 ghost use Rattle.asset_manager.specs.Serves.{IsServed};
-ghost use Rattle.asset_manager.specs.Asks.{Asks, as_outcome};
+ghost use Rattle.asset_manager.specs.Asks.{Asks, IsFirst, HasCommitted, as_outcome};
 
 use crate::book::{Book, Closed};
 use crate::session::Session;
 use asset_core::{Core, OpenFault};
 use asset_counts::{Publisher, Watch, WatchPass};
-use asset_names::{Fault, NoMemory, Ob, Outcome, Reply, Step};
+use asset_names::{Fault, NoMemory, Ob, Outcome, Reply, Step, Txn};
 use std::alloc::Global;
 use std::hint::spin_loop;
 use std::marker::Model;
@@ -237,6 +237,22 @@ impl Manager {
             self.sleepers.fetch_sub(1, Ordering::SeqCst);
         }
         unreachable!()
+    }
+
+    /// Returns the first of those with whom `t` has come to share, under the lock.
+    pub(crate) fn first_of<R: Wait>(&self, rt: &R, t: Txn) -> Option<Txn>
+        ensures { IsFirst t result }
+    {
+        let book = self.lock(rt);
+        book.first_of(t)
+    }
+
+    /// Returns whether somebody with whom `t` has come to share has committed, under the lock.
+    pub(crate) fn group_committed<R: Wait>(&self, rt: &R, t: Txn) -> bool
+        ensures { HasCommitted t result }
+    {
+        let book = self.lock(rt);
+        book.group_committed(t)
     }
 
     /// Wakes all who sleep until somebody's step is answered, if there are any.

@@ -9,13 +9,13 @@ ghost use Rattle.asset_names.specs.Answers.{takes_memory};
 ghost use Rattle.asset_names.specs.Counted.{IsBelow};
 ghost use Rattle.asset_counts.specs.Pass.{IsOf};
 ghost use Rattle.asset_manager.specs.Listed.{IsListed};
-ghost use Rattle.asset_manager.specs.Asks.{AreOfOne, Asks, IsAnswer, SawLast, as_outcome};
+ghost use Rattle.asset_manager.specs.Asks.{AreOfOne, Asks, IsAnswer, IsFirst, HasCommitted, SawLast, as_outcome};
 
 use crate::book::CallList;
 use crate::manager::Manager;
 use asset_audit::Calls;
 use asset_counts::{Watch, WatchPass};
-use asset_names::{Fault, NoMemory, Outcome, Reply, Step};
+use asset_names::{Fault, NoMemory, Outcome, Reply, Step, Txn};
 use crossbeam_utils::Backoff;
 use std::alloc::Global;
 use std::marker::Model;
@@ -308,6 +308,24 @@ impl Session {
             Ok(Outcome::Wait) => Ok(Outcome::Wait),
             Err(fault) => Err(fault),
         }
+    }
+
+    /// Returns the first of those with whom `t` has come to share, in the order in which steps first acted on them, and `None` if no
+    /// step acts on `t`. It may be `t` itself. It takes the lock once, and no memory; the answer is that of the history at that moment.
+    pub fn first_of<R: Wait>(&self, rt: &R, manager: &Manager, t: Txn) -> Option<Txn>
+        requires { IsOf self.now.of manager.now }
+        ensures { IsFirst t result }
+    {
+        manager.first_of(rt, t)
+    }
+
+    /// Returns whether somebody with whom `t` has come to share has committed, or `t` itself. It takes the lock once, and no memory;
+    /// the answer is that of the history at that moment.
+    pub fn group_committed<R: Wait>(&self, rt: &R, manager: &Manager, t: Txn) -> bool
+        requires { IsOf self.now.of manager.now }
+        ensures { HasCommitted t result }
+    {
+        manager.group_committed(rt, t)
     }
 
     /// Waits for a while until another number of transactions than `known` has ended, and returns how many have. It takes no

@@ -16,11 +16,12 @@ use Rattle.asset_names.specs.Steps.{Entry, takes_effect, applied}
 use Rattle.asset_names.specs.Groups.{actor, operates_on}
 use Rattle.asset_names.proofs.ListLemmas.{any_map, any_and}
 use Rattle.asset_names.proofs.DependLemmas.{has_append}
-use Rattle.asset_history.specs.Operating.{operator_of, opener_of}
+use Rattle.asset_entries.specs.Operating.{operator_of, opener_of}
 use Rattle.asset_meetings.specs.declared.users.User.{User}
 use Rattle.asset_meetings.specs.Users.{users_of, opener_users, openers_of, operator_users, operators_of, first_user, joins_of, joined_with, meetings_by, meetings_of}
 use Rattle.asset_meetings.specs.Meetings.{join_arrows}
-use Rattle.asset_meetings.proofs.MeetLemmas.{opened_obs, opens_on, opens, operates, Meet}
+use Rattle.asset_history.specs.Uses.{opened_obs, has_object, opens_on, opens, operates}
+use Rattle.asset_history.proofs.MeetLemmas.{Meet}
 
 -- whether t uses x
 has_user : List User → ℕ → ℕ → Bool
@@ -43,7 +44,7 @@ none_of true b = refl
 none_of false b = refl
 
 opened_here : (step : Step) (reply : Reply) (a x : ℕ) → has_user (opener_users (opener_of step reply)) a x ≡ (takes_effect step reply && (opens_on step x && eqb (actor step).0 a))
-unfolding has_user opener_users opener_of takes_effect opens_on opened_obs actor
+unfolding has_user opener_users opener_of takes_effect opens_on has_object opened_obs actor
 opened_here (PermitAny giver obs ops) Reply'.Done a x = uses_has giver obs a x
 opened_here (PermitAny giver obs ops) (Reply'.Value v) a x = refl
 opened_here (PermitAny giver obs ops) Reply'.Committed a x = refl

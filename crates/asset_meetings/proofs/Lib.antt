@@ -1,4 +1,3 @@
 pub mod UserLemmas
-pub mod MeetLemmas
 pub mod FewLemmas
 pub mod SameLemmas

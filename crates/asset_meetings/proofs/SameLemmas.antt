@@ -2,43 +2,20 @@
 use Rattle.std.proofs.Common.{◌≡◌, ℕ, Bool, true, false, not, eqb, ◌&&◌, ◌||◌, List, [], ◌∷◌, ◌++◌, refl, sym, ap, ◌∙◌, ◌⊎◌, inl, inr}
 use Rattle.std.specs.List.{list_all}
 use Rattle.std.proofs.lemmas.Bool.{or_cases, or_left, or_right, and_parts, and_from, eqb-true, eq-eqb, false≢true}
-use Rattle.asset_names.specs.Arrows.{Arrow, lists, has_arrow, linked, Chain}
-use Rattle.asset_names.specs.Arrows.Chain.{stay, along}
+use Rattle.asset_names.specs.Arrows.{Arrow, has_arrow, linked}
 use Rattle.asset_names.specs.Paths.{both_ways}
 use Rattle.asset_names.specs.Steps.{Entry, applied}
-use Rattle.asset_names.specs.Groups.{joins, same_group, acted_on}
+use Rattle.asset_names.specs.Groups.{joins, same_group}
 use Rattle.asset_names.proofs.Common.{both_follow}
-use Rattle.asset_names.proofs.Arrows.{linked_refl, linked_trans, chain_from_linked}
-use Rattle.asset_names.proofs.PermitLemmas.{has_listed, linked_has}
-use Rattle.asset_names.proofs.DependLemmas.{has_append, has_both}
+use Rattle.asset_names.proofs.Arrows.{linked_trans}
+use Rattle.asset_names.proofs.DependLemmas.{has_append}
 use Rattle.asset_laws.specs.Serial.{is_apart}
 use Rattle.asset_meetings.specs.Users.{meetings_of}
-use Rattle.asset_meetings.specs.Meetings.{join_arrows, partners, AreMeetings}
-use Rattle.asset_meetings.proofs.MeetLemmas.{Meet, partner_joined, meeting_joined, join_met, opener_acts, operator_acts}
+use Rattle.asset_history.specs.Uses.{partners}
+use Rattle.asset_meetings.specs.Meetings.{join_arrows, AreMeetings}
+use Rattle.asset_history.proofs.LinkLemmas.{joins_one, joins_back, linked_by}
+use Rattle.asset_history.proofs.MeetLemmas.{Meet, partner_joined, meeting_joined, join_met, meet_acts}
 use Rattle.asset_meetings.proofs.FewLemmas.{few_met, few_through}
-
--- ---- what joins link
-
--- an arrow, or its reverse, links
-joins_one : (arrows : List Arrow) (m n : ℕ) → has_arrow arrows m n ≡ true → linked (both_ways arrows) m n ≡ true
-joins_one arrows m n h = linked_has (both_ways arrows) m n (has_both arrows m n ∙ or_left _ _ h)
-
-joins_back : (arrows : List Arrow) (m n : ℕ) → has_arrow arrows n m ≡ true → linked (both_ways arrows) m n ≡ true
-joins_back arrows m n h = linked_has (both_ways arrows) m n (has_both arrows m n ∙ or_right (has_arrow arrows m n) _ h)
-
--- if others link each arrow both ways, they link whatever the arrows link
-linked_by : (ones others : List Arrow) → ((u v : ℕ) → has_arrow ones u v ≡ true → (linked (both_ways others) u v ≡ true) × (linked (both_ways others) v u ≡ true))
-    → (a b : ℕ) → linked (both_ways ones) a b ≡ true → linked (both_ways others) a b ≡ true
-linked_by ones others each a b h = go a b (chain_from_linked (both_ways ones) a b h) where
-  step : (u v : ℕ) → has_arrow (both_ways ones) u v ≡ true → linked (both_ways others) u v ≡ true
-  step u v arrow = elim (or_cases (has_arrow ones u v) _ (sym (has_both ones u v) ∙ arrow)) [
-    | inl there ↦ (each u v there).0
-    | inr back ↦ (each v u back).1
-  ]
-
-  go : (a b : ℕ) → Chain (both_ways ones) a b → linked (both_ways others) a b ≡ true
-  go a b (stay n) = linked_refl (both_ways others) a
-  go a c (along m b n first rest) = linked_trans (both_ways others) a b c (step a b (has_listed (both_ways ones) a b first)) (go b c rest)
 
 -- ---- groups
 
@@ -190,14 +167,10 @@ same_apart entries test = both_follow _ _ there back where
 
 -- ---- all of it
 
-both_act : (entries : List Entry) (u v : ℕ) → Meet (applied entries) u v → (lists (acted_on entries) u ≡ true) × (lists (acted_on entries) v ≡ true)
-both_act entries u v (x, inl one) = (opener_acts entries u x one.0, operator_acts entries v x one.1)
-both_act entries u v (x, inr one) = (operator_acts entries u x one.0, opener_acts entries v x one.1)
-
 pub are_meetings : (entries : List Entry) → AreMeetings entries (meetings_of entries)
 unfolding few
 are_meetings entries = record {
-  named = λ u v h. both_act entries u v (few_met entries u v h);
+  named = λ u v h. meet_acts entries u v (few_met entries u v h);
   groups = same_linked entries;
   apart = same_apart entries;
 }

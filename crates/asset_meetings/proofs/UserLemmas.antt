@@ -7,8 +7,8 @@ use Rattle.std.proofs.lemmas.Option.{slice_get_cases}
 use Rattle.asset_names.specs.declared.names.Txn.{Txn}
 use Rattle.asset_names.specs.declared.names.Ob.{Ob}
 use Rattle.asset_names.specs.Steps.{Entry}
-use Rattle.asset_history.specs.Operating.{operator_of, operator_at, opener_at}
-use Rattle.asset_history.proofs.EntryLemmas.{next_entry}
+use Rattle.asset_entries.specs.Operating.{operator_of, operator_at, opener_at}
+use Rattle.asset_entries.proofs.EntryLemmas.{next_entry}
 use Rattle.asset_meetings.specs.declared.users.User.{User}
 use Rattle.asset_meetings.specs.Users.{users_of, opener_users, openers_of, operator_users, operators_of, noted_by, first_user, joins_of, joined_with, meetings_by, meetings_of}
 

@@ -5,16 +5,13 @@ use Rattle.asset_names.specs.declared.names.Txn.{Txn}
 use Rattle.asset_names.specs.Arrows.{Arrow, lists, has_arrow, linked}
 use Rattle.asset_names.specs.Paths.{both_ways}
 use Rattle.asset_names.specs.Steps.{Entry}
-use Rattle.asset_names.specs.Groups.{actor, partner, acted_on, joins, same_group}
+use Rattle.asset_names.specs.Groups.{acted_on, joins, same_group}
+use Rattle.asset_history.specs.Uses.{partners}
 use Rattle.asset_laws.specs.Serial.{is_apart}
 
 -- an arrow for each join
 unfoldable pub join_arrows : List (Txn × Txn) → List Arrow
 join_arrows found = map (λ (join : Txn × Txn). (join.0.0, join.1.0)) found
-
--- the join of the two transactions that an entry's step acts on
-unfoldable pub partners : List Entry → List Arrow
-partners entries = map (λ (entry : Entry). ((actor entry.0).0, (partner entry.0).0)) entries
 
 -- The joins are of transactions that some step acts on. With the two transactions of each entry they make the groups of the
 -- entries, and join whoever passes a test with another exactly if some join of the entries does.

@@ -3,7 +3,7 @@ use Rattle.std.specs.Prelude.{ℕ, cond, ◌==◌, List, [], ◌∷◌, ◌++◌
 use Rattle.asset_names.specs.declared.names.Txn.{Txn}
 use Rattle.asset_names.specs.declared.names.Ob.{Ob}
 use Rattle.asset_names.specs.Steps.{Entry}
-use Rattle.asset_history.specs.Operating.{operator_of, opener_of}
+use Rattle.asset_entries.specs.Operating.{operator_of, opener_of}
 use Rattle.asset_meetings.specs.declared.users.User.{User}
 
 -- t as a user of each object

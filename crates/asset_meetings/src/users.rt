@@ -2,7 +2,7 @@
 
 ghost use Rattle.std.specs.Prelude.{◌≡◌, ◌++◌, nat_eq, reverse, slice_get, OnOk, IfOk};
 ghost use Rattle.indexmap.specs.IndexMap.{get};
-ghost use Rattle.asset_history.specs.Operating.{operator_at};
+ghost use Rattle.asset_entries.specs.Operating.{operator_at};
 ghost use Rattle.asset_meetings.specs.Users.{users_of, opener_users, openers_of, operator_users, operators_of};
 
 use crate::noting::FirstUsers;

@@ -14,7 +14,7 @@ use Rattle.asset_names.specs.declared.replies.Outcome.TheVariants.{Answer}
 use Rattle.asset_names.specs.Steps.{Opening, Entry, applied}
 use Rattle.asset_names.specs.Endings.{end_of, status}
 use Rattle.asset_names.specs.Answers.{IsLegal, may_commit, outcome_unless}
-use Rattle.asset_history.specs.Committing.{committed_by}
+use Rattle.asset_entries.specs.Committing.{committed_by}
 use Rattle.asset_models.specs.declared.parts.Act.{Act}
 use Rattle.asset_models.specs.declared.parts.Act.TheVariants as Act'
 use Rattle.asset_models.specs.declared.parts.Part.{Part}

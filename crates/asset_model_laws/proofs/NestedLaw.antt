@@ -12,7 +12,7 @@ use Rattle.asset_names.specs.declared.replies.Reply.TheVariants as Reply'
 use Rattle.asset_names.specs.Steps.{Opening, Entry, applied}
 use Rattle.asset_names.specs.Endings.{end_of}
 use Rattle.asset_names.specs.Answers.{IsLegal, answer, first_refusal, rules_for, unrefused}
-use Rattle.asset_history.specs.Committing.{committed_by}
+use Rattle.asset_entries.specs.Committing.{committed_by}
 use Rattle.asset_models.specs.declared.parts.Part.{Part}
 use Rattle.asset_models.specs.declared.parts.ModelEnd.{ModelEnd}
 use Rattle.asset_models.specs.declared.parts.ModelEnd.TheVariants as ModelEnd'

@@ -4,7 +4,7 @@ use Rattle.asset_names.specs.declared.names.Txn.{Txn}
 use Rattle.asset_names.specs.declared.statuses.End.TheVariants.{Committed, Aborted}
 use Rattle.asset_names.specs.Steps.{Entry, applied}
 use Rattle.asset_names.specs.Endings.{end_of}
-use Rattle.asset_history.specs.Committing.{committed_by}
+use Rattle.asset_entries.specs.Committing.{committed_by}
 use Rattle.asset_models.specs.declared.parts.Part.{Part}
 use Rattle.asset_model_laws.specs.Ended.{AllEnded}
 

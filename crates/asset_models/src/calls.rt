@@ -31,7 +31,7 @@ impl Asset for Core {
 
     ghost calls = { calls_of };
 
-    #[tactic(auto, unfolding(crate::specs::Calls::called, crate::specs::Calls::calls_of, asset_history::specs::Recorded::after, asset_history::specs::Recorded::with_entry))]
+    #[tactic(auto, unfolding(crate::specs::Calls::called, crate::specs::Calls::calls_of, asset_entries::specs::Recorded::after, asset_entries::specs::Recorded::with_entry))]
     fn step(&mut self, step: Step) -> Result<Outcome, Fault>
         ensures calls { calls_of self.new ≡ called (calls_of self.old) step result }
         ensures asked { IsStep self.old step result self.new }
@@ -39,7 +39,7 @@ impl Asset for Core {
         Core::step(self, step)
     }
 
-    #[tactic(auto, unfolding(crate::specs::Calls::called, crate::specs::Calls::calls_of, asset_history::specs::Recorded::after, asset_history::specs::Recorded::with_entry))]
+    #[tactic(auto, unfolding(crate::specs::Calls::called, crate::specs::Calls::calls_of, asset_entries::specs::Recorded::after, asset_entries::specs::Recorded::with_entry))]
     fn step_lent(&mut self, step: &Step) -> Result<Outcome, Fault>
         ensures calls { calls_of self.new ≡ called (calls_of self.old) step.now result }
         ensures asked { IsStep self.old step.now result self.new }

@@ -9,7 +9,7 @@ use Rattle.std.proofs.lemmas.List.FromFn.{length-map-range_with_len, get_or-map-
 use Rattle.asset_name_groups.specs.declared.links.Link.{Link}
 use Rattle.asset_name_groups.specs.declared.links.Link.TheVariants.{Root}
 use Rattle.asset_name_groups.specs.declared.trees.Tree.{Tree}
-use Rattle.asset_labels.specs.Labelled.{merged}
+use Rattle.asset_name_groups.specs.Labelled.{merged}
 use Rattle.asset_name_groups.specs.NamesInGroups.{has_name, flag_at, merged_flags, with_join, flags_with, with_flag, IsSound}
 use Rattle.asset_name_groups.specs.Trees.{root_in, label_in, labels_in, flags_in, IsForest}
 use Rattle.asset_name_groups.specs.Roots.{IsTree}

@@ -3,7 +3,7 @@ use Rattle.std.proofs.Common.{◌≡◌, ◌≢◌, ℕ, ◌||◌, min, cond, eq
 use Rattle.std.specs.List.{range_with_len}
 use Rattle.std.proofs.lemmas.Bool.{or_left, or_right, and_from, lt-ltb, eq-eqb, cases_lt}
 use Rattle.asset_name_groups.specs.declared.trees.Tree.{Tree}
-use Rattle.asset_labels.specs.Labelled.{merged}
+use Rattle.asset_name_groups.specs.Labelled.{merged}
 use Rattle.asset_name_groups.specs.NamesInGroups.{flag_at, merged_flags}
 use Rattle.asset_name_groups.specs.Roots.{stays_above}
 use Rattle.asset_name_groups.proofs.LabelLemmas.{merged_is}

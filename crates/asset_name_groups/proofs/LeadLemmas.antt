@@ -7,7 +7,7 @@ use Rattle.std.proofs.lemmas.List.FromFn.{length-map-range_with_len, get_or-map-
 use Rattle.asset_name_groups.specs.declared.links.Link.{Link}
 use Rattle.asset_name_groups.specs.declared.links.Link.TheVariants.{Below, Root}
 use Rattle.asset_name_groups.specs.declared.trees.Tree.{Tree}
-use Rattle.asset_labels.specs.Labelled.{merged}
+use Rattle.asset_name_groups.specs.Labelled.{merged}
 use Rattle.asset_name_groups.specs.NamesInGroups.{flag_at, merged_flags}
 use Rattle.asset_name_groups.specs.Trees.{link_at, rank_of, steps_bound, root_in, label_in, flag_in, labels_in, flags_in, label_by, flag_by, IsUpward, IsForest}
 use Rattle.asset_name_groups.specs.Roots.{root_link, joined_tree, raised, stays_above, IsTree}

@@ -1,3 +1,4 @@
+pub mod Labelled
 pub mod NamesInGroups
 pub mod Trees
 pub mod Index

@@ -1,7 +1,7 @@
 -- Names in groups: the name of each node, the label of its group, and whether its group is flagged.
 use Rattle.std.specs.Prelude.{◌≡◌, ℕ, ◌+◌, ◌<◌, ◌≤◌, ◌^◌, Bool, false, cond, ◌||◌, ◌==◌, List, [], ◌∷◌, ◌++◌, length, map, slice_index, slice_index_or}
 use Rattle.std.specs.List.{list_any, range_with_len}
-use Rattle.asset_labels.specs.Labelled.{merged}
+use Rattle.asset_name_groups.specs.Labelled.{merged}
 
 -- names in order; for each, by its node, the label of its group, which is the first node of it, and whether its group is flagged;
 -- and how many names there is room for

@@ -1,7 +1,7 @@
 //! Walks to roots, and joins, flags and additions.
 
 ghost use Rattle.std.specs.Prelude.{◌≡◌, ◌≢◌, ◌+◌, ◌<◌, ◌≤◌, ◌^◌, true, false, [], ◌∷◌, ◌++◌, length, slice_set, vec_capacity};
-ghost use Rattle.asset_labels.specs.Labelled.{merged};
+ghost use Rattle.asset_name_groups.specs.Labelled.{merged};
 ghost use Rattle.asset_name_groups.specs.declared.links.Link.TheVariants.{Below};
 ghost use Rattle.asset_name_groups.specs.Trees.{labels_in, flags_in, root_in, IsForest};
 ghost use Rattle.asset_name_groups.specs.Roots.{joined_tree, root_link, stays_above, IsTree};

@@ -21,7 +21,7 @@ use Rattle.asset_grammar.specs.Sets.{set_of, gathered, one_more_object, listed}
 use Rattle.asset_grammar.proofs.NumberLemmas.{own}
 use Rattle.asset_grammar.proofs.NumberLaws.{number_of-decimal}
 use Rattle.asset_grammar.proofs.SetLemmas.{makes_list}
-use Rattle.asset_history.proofs.StoredSetLemmas.{rising_already, rising_differ}
+use Rattle.asset_entries.proofs.StoredSetLemmas.{rising_already, rising_differ}
 use Rattle.asset_printing.specs.Printed.{AreNumbers, list_text, more_text, set_text}
 use Rattle.asset_printing.proofs.WordLemmas.{digit_is_not, number_lacks, text_lacks}
 

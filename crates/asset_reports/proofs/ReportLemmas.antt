@@ -1,7 +1,7 @@
 -- What one more object or entry adds to a report.
 use Rattle.std.proofs.Common.{◌≡◌, ℕ, ◌+◌, false, List, [], ◌∷◌, ◌++◌, Some, None, take, reverse, refl, sym, ap, ◌∙◌, append_assoc, append-nil}
 use Rattle.std.specs.Prelude.{ℤ, slice_get}
-use Rattle.asset_history.proofs.EntryLemmas.{next_entry}
+use Rattle.asset_entries.proofs.EntryLemmas.{next_entry}
 use Rattle.asset_names.specs.declared.names.Ob.{Ob}
 use Rattle.asset_names.specs.Steps.{Opening, Entry}
 use Rattle.asset_printing.specs.Printed.{step_text}

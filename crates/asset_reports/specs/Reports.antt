@@ -4,8 +4,8 @@ use Rattle.asset_names.specs.declared.names.Ob.{Ob}
 use Rattle.asset_names.specs.Steps.{Opening, Entry}
 use Rattle.asset_names.specs.Groups.{without}
 use Rattle.asset_laws.specs.Serial.{serial, shares_nothing}
-use Rattle.asset_history.specs.Recorded.{Recorded}
-use Rattle.asset_deletion.specs.Named.{names_of}
+use Rattle.asset_entries.specs.Recorded.{Recorded}
+use Rattle.asset_history.specs.Named.{names_of}
 use Rattle.asset_printing.specs.Printed.{object_text, step_text}
 
 -- the line of an object with its value

@@ -3,7 +3,7 @@
 ghost use Rattle.std.specs.Prelude.{◌≡◌, ◌++◌, ◌∷◌, [], OnOk, Some, reverse, slice_get, string_bytes};
 ghost use Rattle.asset_names.specs.Steps.{Entry};
 ghost use Rattle.asset_names.specs.Groups.{without};
-ghost use Rattle.asset_deletion.specs.Named.{names_of};
+ghost use Rattle.asset_history.specs.Named.{names_of};
 ghost use Rattle.asset_printing.specs.Printed.{step_text};
 ghost use Rattle.asset_reports.specs.Reports.{opening_line, opening_text, steps_text, history_text, pruned_text};
 

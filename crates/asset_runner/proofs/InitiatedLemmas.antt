@@ -12,7 +12,7 @@ use Rattle.asset_names.specs.declared.replies.Fault.TheVariants.{Full, NoMemory}
 use Rattle.asset_names.specs.Steps.{Opening, applied}
 use Rattle.asset_names.specs.Answers.{answer, rules_for, first_refusal, outcome_unless, unrefused, taken}
 use Rattle.asset_audit.specs.Audited.{Call}
-use Rattle.asset_history.specs.Recorded.{answer_to}
+use Rattle.asset_entries.specs.Recorded.{answer_to}
 use Rattle.asset_manager.specs.Listed.{IsListed}
 use Rattle.asset_manager.specs.Asks.{IsAnswer}
 use Rattle.asset_runner.specs.declared.plan.Cause.{Cause}

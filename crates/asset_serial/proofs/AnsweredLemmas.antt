@@ -23,12 +23,13 @@ use Rattle.asset_names.proofs.ListLemmas.{lists_at}
 use Rattle.asset_laws.specs.Serial.{committed_by as named_by, committed_names, is_apart, shares_nothing, CommittedShareNothing}
 use Rattle.asset_laws.proofs.KeepLinks.{Keeps}
 use Rattle.asset_laws.proofs.GroupLemmas.{later_join, keeps_respects}
-use Rattle.asset_history.specs.Committing.{committed_by, passes, has_commit, commit_at}
-use Rattle.asset_history.proofs.EntryLemmas.{next_entry}
-use Rattle.asset_meetings.specs.Meetings.{join_arrows, partners}
-use Rattle.asset_deletion.specs.Named.{with_name}
-use Rattle.asset_deletion.proofs.DeadLemmas.{committed_by_member, member_committed, committed_after, committed_stays}
-use Rattle.asset_deletion.proofs.NameLemmas.{with_new, with_old}
+use Rattle.asset_entries.specs.Committing.{committed_by, passes, has_commit, commit_at}
+use Rattle.asset_entries.proofs.EntryLemmas.{next_entry}
+use Rattle.asset_history.specs.Uses.{partners}
+use Rattle.asset_meetings.specs.Meetings.{join_arrows}
+use Rattle.asset_history.specs.Named.{with_name}
+use Rattle.asset_history.proofs.DeadLemmas.{committed_by_member, member_committed, committed_after, committed_stays}
+use Rattle.asset_history.proofs.NameLemmas.{with_new, with_old}
 use Rattle.asset_serial.specs.Answered.{with_answered, answered_names}
 
 -- ---- names

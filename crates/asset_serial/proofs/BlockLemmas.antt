@@ -22,7 +22,7 @@ use Rattle.asset_laws.proofs.SerialWorld.{flat_same}
 use Rattle.asset_laws.proofs.SerialLemmas.{serial_legal}
 use Rattle.asset_buckets.specs.Bucketed.{indices_below, indices_of, buckets_of}
 use Rattle.asset_buckets.proofs.BucketLemmas.{next_below}
-use Rattle.asset_history.specs.Recorded.{Recorded, opened}
+use Rattle.asset_entries.specs.Recorded.{Recorded, opened}
 use Rattle.asset_serial.specs.Answered.{answered_names, number_of, numbers_of, blocks_of}
 use Rattle.asset_serial.specs.Following.{alone, entry_at, entries_at, entries_in, followed_by, Follows}
 use Rattle.asset_serial.proofs.AnsweredLemmas.{Once, answered_are, answered_once}

@@ -8,7 +8,7 @@ use Rattle.asset_names.specs.declared.replies.Outcome.TheVariants.{Answer}
 use Rattle.asset_names.specs.Steps.{Entry}
 use Rattle.asset_names.specs.Answers.{IsLegal}
 use Rattle.asset_laws.proofs.GroupLemmas.{legal_rest}
-use Rattle.asset_history.specs.Recorded.{Recorded, answer_to, with_entry}
+use Rattle.asset_entries.specs.Recorded.{Recorded, answer_to, with_entry}
 use Rattle.asset_serial.specs.Following.{followed_by, Follows}
 
 -- ---- nothing, one entry, and more

@@ -2,7 +2,7 @@
 use Rattle.std.specs.Prelude.{ℕ, ◌+◌, ◌≤◌, List, [], ◌∷◌, ◌++◌, length, reverse, flat_map, slice_get, Option, Some, None}
 use Rattle.asset_names.specs.Steps.{Entry}
 use Rattle.asset_names.specs.Answers.{IsLegal}
-use Rattle.asset_history.specs.Recorded.{Recorded}
+use Rattle.asset_entries.specs.Recorded.{Recorded}
 
 -- the entry alone, if there is one
 unfoldable pub alone : Option Entry → List Entry

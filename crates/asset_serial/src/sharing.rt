@@ -6,7 +6,8 @@ ghost use Rattle.asset_names.specs.Arrows.{lists};
 ghost use Rattle.asset_names.specs.Steps.{Entry};
 ghost use Rattle.asset_names.specs.Groups.{actor, partner};
 ghost use Rattle.asset_names.specs.Answers.{IsLegal};
-ghost use Rattle.asset_meetings.specs.Meetings.{join_arrows, partners};
+ghost use Rattle.asset_history.specs.Uses.{partners};
+ghost use Rattle.asset_meetings.specs.Meetings.{join_arrows};
 ghost use Rattle.asset_laws.specs.Serial.{is_apart, shares_nothing, CommittedShareNothing};
 
 use crate::committing::committed_names;

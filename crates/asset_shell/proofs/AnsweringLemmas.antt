@@ -5,7 +5,7 @@ use Rattle.asset_names.specs.declared.names.Ob.{Ob}
 use Rattle.asset_names.specs.declared.steps.Step.{Step}
 use Rattle.asset_names.specs.Steps.{Opening}
 use Rattle.asset_names.specs.Operations.{exists}
-use Rattle.asset_history.specs.Recorded.{Recorded, opened, answer_to}
+use Rattle.asset_entries.specs.Recorded.{Recorded, opened, answer_to}
 use Rattle.asset_core.specs.Pending.{Facility}
 use Rattle.asset_grammar.specs.declared.grammar.Command.TheVariants.{Ask}
 use Rattle.asset_grammar.specs.declared.grammar.Line.TheVariants.{Command}

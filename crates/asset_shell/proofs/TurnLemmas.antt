@@ -5,7 +5,7 @@ use Rattle.std.proofs.lemmas.Bool.{OnTrue_from}
 use Rattle.std.proofs.lemmas.List.{length-take-le}
 use Rattle.std.specs.Io.KnownBytes.{Appends, Consumes, IsAtEnd, Keeps}
 use Rattle.std.proofs.KnownBytes.{Appends-nil, Appends-trans, Consumes-kept, Consumes-nil, Consumes-trans}
-use Rattle.asset_history.specs.Recorded.{opened}
+use Rattle.asset_entries.specs.Recorded.{opened}
 use Rattle.asset_grammar.specs.Lines.{lines}
 use Rattle.asset_cli.specs.declared.ends.RunEnd.{RunEnd}
 use Rattle.asset_cli.specs.declared.faults.ScriptFault.{ScriptFault}

@@ -1,7 +1,7 @@
 -- What an answerer of lines shows.
 use Rattle.std.specs.Prelude.{◌≡◌, ℕ, Bool, true, false, List, [], Option, None, Some}
 use Rattle.asset_names.specs.Steps.{Opening}
-use Rattle.asset_history.specs.Recorded.{Recorded, opened}
+use Rattle.asset_entries.specs.Recorded.{Recorded, opened}
 use Rattle.asset_core.specs.Pending.{Facility}
 use Rattle.asset_grammar.specs.declared.grammar.Said.{Said}
 use Rattle.asset_grammar.specs.declared.grammar.Said.TheVariants.{Ask}

@@ -2,7 +2,7 @@
 ghost use Rattle.std.specs.Prelude.{◌≡◌, ◌++◌, true, Option, None, Some, is_some, OnOk, IfErr, string_bytes};
 ghost use Rattle.asset_core.specs.OpenFaults.{IsCapacity};
 ghost use Rattle.asset_reasons.specs.Mistakes.{Finds, Found};
-ghost use Rattle.asset_history.specs.Recorded.{answer_to};
+ghost use Rattle.asset_entries.specs.Recorded.{answer_to};
 ghost use Rattle.asset_grammar.specs.Texts.{bad_line};
 ghost use Rattle.asset_cli.specs.Transcript.{joined_by};
 ghost use Rattle.asset_shell.specs.Sessions.{outcome_text};

@@ -12,7 +12,7 @@ use Rattle.asset_names.specs.declared.replies.Reply.TheVariants as Reply'
 use Rattle.asset_names.specs.Steps.{Opening, Entry}
 use Rattle.asset_names.specs.Sources.{source, added, IsAlone, IsOwnOrCommitted, AreOwnOrCommitted}
 use Rattle.asset_names.specs.Answers.{IsLegal}
-use Rattle.asset_history.specs.Recorded.{Recorded}
+use Rattle.asset_entries.specs.Recorded.{Recorded}
 use Rattle.asset_sources.specs.declared.sourced.Source.{Source}
 use Rattle.asset_sources.specs.Sourced.{source_from, source_at, sources_of, read_of}
 use Rattle.asset_sources.proofs.WalkLemmas.{alone_found, each_source, listed_front, listed_end}

@@ -21,8 +21,8 @@ use Rattle.asset_laws.specs.Renumbered.{source_number, writing, reading, renumbe
 use Rattle.asset_laws.proofs.GroupLemmas.{legal_rest}
 use Rattle.asset_laws.proofs.RenumberLemmas.{value_is_source, renumbered_legal, effect_same}
 use Rattle.asset_laws.proofs.SourceLemmas.{alone_source}
-use Rattle.asset_history.specs.Recorded.{Recorded, objects_of}
-use Rattle.asset_history.proofs.EntryLemmas.{next_entry, between}
+use Rattle.asset_entries.specs.Recorded.{Recorded, objects_of}
+use Rattle.asset_entries.proofs.EntryLemmas.{next_entry, between}
 use Rattle.asset_ends.specs.Shows.{Shows}
 use Rattle.asset_ends.specs.Standing.{Standing, values_of}
 use Rattle.asset_steps.specs.Ready.{IsReady}

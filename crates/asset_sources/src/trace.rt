@@ -21,7 +21,7 @@ pub struct Trace {
 
 impl Model for Trace {
     ghost use Rattle.std.specs.Prelude.{◌≡◌};
-    ghost use Rattle.asset_history.specs.Recorded.{Recorded};
+    ghost use Rattle.asset_entries.specs.Recorded.{Recorded};
     ghost use Rattle.asset_sources.specs.Sourced.{sources_of};
 
     ghost Value = { Recorded };

@@ -4,7 +4,7 @@ use Rattle.std.specs.Prelude.{Result, Ok, Err, OnOk, IfOk}
 use Rattle.asset_names.specs.Steps.{applied}
 use Rattle.asset_names.specs.declared.steps.Step.{Step}
 use Rattle.asset_names.specs.declared.replies.Outcome.{Outcome}
-use Rattle.asset_history.specs.Recorded.{Recorded, answer_to, after, has_room, opened}
+use Rattle.asset_entries.specs.Recorded.{Recorded, answer_to, after, has_room, opened}
 use Rattle.asset_core.specs.Pending.{Facility, facility_of, pending_after}
 use Rattle.asset_grammar.specs.declared.grammar.Command.TheVariants.{Object, Ask}
 use Rattle.asset_grammar.specs.declared.grammar.Line.{Line}

@@ -6,7 +6,7 @@ use Rattle.asset_names.specs.declared.replies.Fault.{Fault}
 use Rattle.asset_names.specs.declared.replies.Fault.TheVariants.{Full}
 use Rattle.asset_names.specs.declared.replies.Outcome.{Outcome}
 use Rattle.asset_names.specs.declared.steps.Step.{Step}
-use Rattle.asset_history.specs.Recorded.{answer_to, after, has_room}
+use Rattle.asset_entries.specs.Recorded.{answer_to, after, has_room}
 use Rattle.asset_core.specs.Pending.{Facility, pending_after}
 use Rattle.asset_core.specs.Stepped.{IsStep}
 use Rattle.asset_grammar.specs.declared.grammar.Command.TheVariants.{Object, Ask}

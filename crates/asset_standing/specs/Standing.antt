@@ -2,7 +2,7 @@
 use Rattle.std.specs.Prelude.{ℕ, ◌+◌, cond, List, [], ◌∷◌, Option, None, Some}
 use Rattle.asset_names.specs.declared.steps.Step.{Step}
 use Rattle.asset_names.specs.declared.replies.Outcome.{Outcome}
-use Rattle.asset_history.specs.Recorded.{answer_to, after, has_room}
+use Rattle.asset_entries.specs.Recorded.{answer_to, after, has_room}
 use Rattle.asset_core.specs.Pending.{Facility, facility_of, pending_after}
 use Rattle.asset_grammar.specs.declared.grammar.Command.TheVariants.{Object, Ask}
 use Rattle.asset_grammar.specs.declared.grammar.Line.{Line}

@@ -16,7 +16,7 @@ use Rattle.asset_names.specs.Orderly.{Distinct}
 use Rattle.asset_names.proofs.Common.{eqb-flip}
 use Rattle.asset_names.proofs.ListLemmas.{any_alike}
 use Rattle.asset_names.proofs.LegalLemmas.{legal_orderly}
-use Rattle.asset_history.proofs.EntryLemmas.{next_entry, between}
+use Rattle.asset_entries.proofs.EntryLemmas.{next_entry, between}
 use Rattle.asset_ends.proofs.EnrolledLemmas.{lists_filter}
 use Rattle.asset_ends.proofs.HistoryLemmas.{lists_reverse, reverse-cons}
 use Rattle.asset_waits.specs.Live.{initiated_if, initiated_in, with_name, with_live, live_among}

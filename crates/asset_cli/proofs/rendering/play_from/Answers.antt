@@ -1,6 +1,6 @@
 use Rattle.std.proofs.Common.{◌≡◌, ℕ, ap, ◌∙◌, refl}
 use Rattle.asset_names.specs.Steps.{Opening}
-use Rattle.asset_history.specs.Recorded.{opened}
+use Rattle.asset_entries.specs.Recorded.{opened}
 use Rattle.asset_core.specs.Pending.{Facility, facility_of}
 use Rattle.asset_cli.specs.declared.preamble.ObjectLine.{ObjectLine}
 use Rattle.asset_cli.specs.declared.preamble.ObjectLine.TheVariants.{More, First, Bad}

@@ -1,5 +1,5 @@
 use Rattle.std.proofs.Common.{sym, ap, ◌∙◌}
-use Rattle.asset_history.specs.Recorded.{Recorded, after, with_entry}
+use Rattle.asset_entries.specs.Recorded.{Recorded, after, with_entry}
 use Rattle.asset_core_tests.proofs.history.follow.Goals as goal
 
 pub returns-in-Ok-Answer : goal.returns-in-Ok-Answer

@@ -3,7 +3,7 @@ use Rattle.std.proofs.lemmas.List.{length-reverse, length-take}
 use Rattle.std.proofs.lemmas.Option.{slice_get_cases}
 use Rattle.asset_names.specs.Steps.{Entry}
 use Rattle.asset_names.specs.Groups.{kept}
-use Rattle.asset_history.specs.Recorded.{Recorded, opened, answer_to, with_entry}
+use Rattle.asset_entries.specs.Recorded.{Recorded, opened, answer_to, with_entry}
 use Rattle.asset_deletion.specs.Going.{keeps}
 use Rattle.asset_deletion.proofs.WithoutLemmas.{answer_left, kept_next, kept_few}
 use Rattle.asset_deletion.proofs.deleting.copy_staying.Goals as goal

@@ -1,7 +1,7 @@
 use Rattle.std.proofs.Common.{◌≡◌, ◌∙◌, ap, Some}
 use Rattle.std.specs.Option.{option_map}
 use Rattle.asset_names.specs.declared.names.Txn.{Txn}
-use Rattle.asset_history.specs.Acting.{both_of}
+use Rattle.asset_entries.specs.Acting.{both_of}
 use Rattle.asset_lanes.specs.Uses.{index_in, asker_of}
 use Rattle.asset_lanes.proofs.asking.asker_at.Goals as goal
 

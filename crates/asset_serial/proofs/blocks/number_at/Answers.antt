@@ -2,7 +2,7 @@ use Rattle.std.proofs.Common.{◌≡◌, ◌∙◌, ap, eqb, Some}
 use Rattle.std.specs.List.{position_or_len}
 use Rattle.std.specs.Option.{option_map}
 use Rattle.asset_names.specs.declared.names.Txn.{Txn}
-use Rattle.asset_history.specs.Acting.{both_of}
+use Rattle.asset_entries.specs.Acting.{both_of}
 use Rattle.asset_serial.specs.Answered.{number_of}
 use Rattle.asset_serial.proofs.blocks.number_at.Goals as goal
 

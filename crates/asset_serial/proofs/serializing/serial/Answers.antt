@@ -4,7 +4,7 @@ use Rattle.asset_names.specs.Operations.{value}
 use Rattle.asset_names.specs.Answers.{IsLegal}
 use Rattle.asset_laws.specs.Serial.{serial, CommittedShareNothing}
 use Rattle.asset_laws.proofs.SerialLemmas.{serial_legal, serial_values}
-use Rattle.asset_history.specs.Recorded.{Recorded, opened}
+use Rattle.asset_entries.specs.Recorded.{Recorded, opened}
 use Rattle.asset_serial.specs.Answered.{answered_names, blocks_of}
 use Rattle.asset_serial.specs.Following.{entries_in, followed_by}
 use Rattle.asset_serial.proofs.BlockLemmas.{serial_copied, serial_follows, serial_followed}

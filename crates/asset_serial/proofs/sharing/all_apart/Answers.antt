@@ -4,7 +4,7 @@ use Rattle.std.proofs.lemmas.List.{length-reverse, reverse-reverse, take_all}
 use Rattle.std.proofs.lemmas.Option.{slice_get_cases}
 use Rattle.asset_names.specs.Arrows.{lists}
 use Rattle.asset_names.specs.Steps.{Entry}
-use Rattle.asset_meetings.specs.Meetings.{partners}
+use Rattle.asset_history.specs.Uses.{partners}
 use Rattle.asset_laws.specs.Serial.{is_apart}
 use Rattle.asset_serial.proofs.AnsweredLemmas.{apart_more}
 use Rattle.asset_serial.proofs.sharing.all_apart.Goals as goal

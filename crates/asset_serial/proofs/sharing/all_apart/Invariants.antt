@@ -1,7 +1,7 @@
 use Rattle.std.proofs.Common.{◌≡◌, take, reverse}
 use Rattle.std.specs.List.{list_all}
 use Rattle.asset_names.specs.Arrows.{lists}
-use Rattle.asset_meetings.specs.Meetings.{partners}
+use Rattle.asset_history.specs.Uses.{partners}
 use Rattle.asset_laws.specs.Serial.{is_apart}
 use Rattle.asset_serial.proofs.sharing.all_apart.Given as goal
 

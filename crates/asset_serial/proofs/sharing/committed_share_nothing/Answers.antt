@@ -5,7 +5,8 @@ use Rattle.asset_names.specs.Arrows.{lists}
 use Rattle.asset_names.specs.Groups.{joins}
 use Rattle.asset_names.specs.Steps.{Entry}
 use Rattle.asset_laws.specs.Serial.{is_apart, shares_nothing}
-use Rattle.asset_meetings.specs.Meetings.{join_arrows, partners, AreMeetings}
+use Rattle.asset_meetings.specs.Meetings.{join_arrows, AreMeetings}
+use Rattle.asset_history.specs.Uses.{partners}
 use Rattle.asset_serial.specs.Answered.{answered_names}
 use Rattle.asset_serial.proofs.AnsweredLemmas.{sharing_found, sharing_law}
 use Rattle.asset_serial.proofs.sharing.committed_share_nothing.Goals as goal

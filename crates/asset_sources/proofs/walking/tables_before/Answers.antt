@@ -3,7 +3,7 @@ use Rattle.std.specs.Prelude.{IfOk}
 use Rattle.asset_names.specs.Sets.{HasNoDouble}
 use Rattle.asset_names.specs.Steps.{Opening, applied}
 use Rattle.asset_laws.specs.Renumbered.{renumbered, zeroed}
-use Rattle.asset_history.specs.Recorded.{objects_of}
+use Rattle.asset_entries.specs.Recorded.{objects_of}
 use Rattle.asset_ends.specs.Shows.{Shows}
 use Rattle.asset_ends.specs.Standing.{values_of}
 use Rattle.asset_sources.proofs.WalkLemmas.{objects_zeroed}

@@ -1,4 +1,4 @@
-use Rattle.asset_history.specs.Recorded.{answer_to}
+use Rattle.asset_entries.specs.Recorded.{answer_to}
 use Rattle.asset_core.proofs.facility.Core.answer.Goals as goal
 
 pub returns-clause-answer : goal.returns-clause-answer

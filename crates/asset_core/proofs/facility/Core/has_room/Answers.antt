@@ -3,7 +3,7 @@ use Rattle.std.proofs.lemmas.Bool.{le-leb, leb-true, true≢false}
 use Rattle.asset_names.specs.Steps.{applied}
 use Rattle.asset_names.specs.Room.{fits}
 use Rattle.asset_names.proofs.RoomLemmas.{ending_fits}
-use Rattle.asset_history.specs.Recorded.{answer_to, has_room, is_ending}
+use Rattle.asset_entries.specs.Recorded.{answer_to, has_room, is_ending}
 use Rattle.asset_core.proofs.facility.Core.has_room.Goals as goal
 
 pub returns-then-is_ending-clause-room : goal.returns-then-is_ending-clause-room

@@ -2,7 +2,7 @@ use Rattle.std.proofs.Common.{refl, arith}
 use Rattle.asset_names.specs.Steps.{applied, initiated}
 use Rattle.asset_names.specs.Answers.{IsLegal}
 use Rattle.asset_names.specs.Room.{owed}
-use Rattle.asset_history.specs.Recorded.{opened}
+use Rattle.asset_entries.specs.Recorded.{opened}
 use Rattle.asset_core.specs.Pending.{facility_of}
 use Rattle.asset_core.specs.Tables.{pending_in}
 use Rattle.asset_core.proofs.facility.Core.over.Goals as goal

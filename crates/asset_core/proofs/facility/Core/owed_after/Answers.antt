@@ -3,7 +3,7 @@ use Rattle.asset_names.specs.Steps.{applied}
 use Rattle.asset_names.specs.Room.{owed}
 use Rattle.asset_names.proofs.AppliedLemmas.{applied_with_effect, applied_without_effect}
 use Rattle.asset_names.proofs.RoomLemmas.{owed_new, owed_stays}
-use Rattle.asset_history.specs.Recorded.{answer_to}
+use Rattle.asset_entries.specs.Recorded.{answer_to}
 use Rattle.asset_core.proofs.ValidLemmas.{valid_owed, valid_orderly}
 use Rattle.asset_core.proofs.facility.Core.owed_after.Goals as goal
 use Rattle.asset_core.proofs.facility.Core.owed_after.Goals.{else-effect-via-then-effect+else-initiates, else-effect-via-else-effect}

@@ -2,7 +2,7 @@ use Rattle.std.proofs.Common.{◌∙◌, refl, sym, ap, arith}
 use Rattle.std.proofs.lemmas.Bool.{leb-true}
 use Rattle.asset_names.specs.Room.{fits}
 use Rattle.asset_names.specs.Answers.{IsLegal}
-use Rattle.asset_history.specs.Recorded.{answer_to, after, with_entry, has_room, is_ending}
+use Rattle.asset_entries.specs.Recorded.{answer_to, after, with_entry, has_room, is_ending}
 use Rattle.asset_core.specs.Pending.{pending_after}
 use Rattle.asset_core.specs.Tables.{pending_in}
 use Rattle.asset_steps.proofs.ReadyLemmas.{ready}

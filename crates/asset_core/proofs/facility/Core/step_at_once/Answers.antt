@@ -3,7 +3,7 @@ use Rattle.std.proofs.lemmas.Bool.{leb-true}
 use Rattle.asset_names.specs.Steps.{applied}
 use Rattle.asset_names.specs.Room.{fits}
 use Rattle.asset_names.specs.Answers.{IsLegal}
-use Rattle.asset_history.specs.Recorded.{answer_to, after, with_entry, has_room, is_ending}
+use Rattle.asset_entries.specs.Recorded.{answer_to, after, with_entry, has_room, is_ending}
 use Rattle.asset_core.specs.Pending.{pending_after}
 use Rattle.asset_core.specs.Tables.{pending_in}
 use Rattle.asset_steps.specs.Stepped.{ShowsOutcome, locks_with}

@@ -1,5 +1,5 @@
 use Rattle.std.proofs.Common.{◌∙◌, sym, ap}
-use Rattle.asset_history.specs.Recorded.{answer_to, after}
+use Rattle.asset_entries.specs.Recorded.{answer_to, after}
 use Rattle.asset_core.specs.Pending.{pending_after}
 use Rattle.asset_core.specs.Tables.{pending_in}
 use Rattle.asset_steps.proofs.ReadyLemmas.{may_wait}

@@ -1,7 +1,7 @@
 use Rattle.std.proofs.Common.{◌≡◌, false, get_or, refl, sym, ap, ◌∙◌, arith}
 use Rattle.std.proofs.lemmas.List.{get_or_read, get_or-map}
 use Rattle.asset_deletion.specs.Grouping.{Grouping, dead_in, dead_at}
-use Rattle.asset_deletion.proofs.MarkLemmas.{listed_where}
+use Rattle.asset_deletion.proofs.GroupingLemmas.{listed_where}
 use Rattle.asset_deletion.proofs.GroupingLemmas.{dead_in_group}
 use Rattle.asset_deletion.proofs.grouped.Groups.is_dead.Goals as goal
 

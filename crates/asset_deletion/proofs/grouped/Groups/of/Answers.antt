@@ -2,7 +2,7 @@ use Rattle.std.proofs.Common.{◌≡◌, get_or, refl, ap, ◌∙◌, arith}
 use Rattle.std.specs.Prelude.{is_some}
 use Rattle.std.proofs.lemmas.List.{get_or_read}
 use Rattle.asset_deletion.specs.Grouping.{Grouping, number_in}
-use Rattle.asset_deletion.proofs.MarkLemmas.{listed_where}
+use Rattle.asset_deletion.proofs.GroupingLemmas.{listed_where}
 use Rattle.asset_deletion.proofs.GroupingLemmas.{named_in_group}
 use Rattle.asset_deletion.proofs.grouped.Groups.of.Goals as goal
 

@@ -1,72 +1,72 @@
-use Rattle.std.proofs.Common.{◌≡◌, ◌<◌, ◌∙◌, refl, sym, ap, arith, length, reverse, Some}
-use Rattle.std.specs.Prelude.{slice_get}
-use Rattle.std.proofs.lemmas.List.{length-append}
-use Rattle.std.proofs.lemmas.Option.{slice_get-get_or}
-use Rattle.asset_names.specs.Answers.{IsLegal}
-use Rattle.asset_history.specs.Stored.{entry_of}
-use Rattle.asset_history.specs.Recorded.{answer_to, with_entry}
-use Rattle.asset_history.proofs.SameLemmas.{some_is_one}
-use Rattle.asset_history.proofs.StoredLemmas.{entries_moved, entries_length, entry_stored, entry_there, there_moved, sets_more}
+use Rattle.std.proofs.Common.{◌≡◌, ℕ, ◌<◌, List, length, reverse, sym, ap, ◌∙◌, arith, Some, inl, inr}
+use Rattle.std.specs.Prelude.{nat_eq, slice_get}
+use Rattle.std.proofs.lemmas.List.{length-reverse}
+use Rattle.std.proofs.lemmas.Option.{slice_get_cases}
+use Rattle.indexmap.specs.IndexMap.{get, spare}
+use Rattle.asset_names.specs.Steps.{Entry}
+use Rattle.asset_names.specs.declared.replies.Outcome.TheVariants.{Answer}
+use Rattle.asset_entries.specs.Recorded.{Recorded, answer_to}
+use Rattle.asset_history.proofs.HistoryLemmas.{capacity_next, size_next, legal_next, labels_next_ready, kept_next_ready}
 use Rattle.asset_history.proofs.history.History.append_from.Goals as goal
 
-pub index-requires : goal.index-requires
-index-requires c =
-    let others = c.other.inside in
-    omega (arith, rw (← c.other.view_is, entries_length others.sets.sets others.entries.items) at c.requires.there)
+-- the entry that is appended
+entry_at : (entries : List Entry) (i : ℕ) → i < length entries → (entry : Entry) × (slice_get (reverse entries) i ≡ Some entry)
+entry_at entries i below = elim (slice_get_cases (reverse entries) i).1 [
+  | inl here ↦ (here.0, here.2)
+  | inr past ↦ absurd (omega (arith, past.0, length-reverse entries))
+]
 
-pub copy_set-requires-clause-there : goal.copy_set-requires-clause-there
-copy_set-requires-clause-there c =
-    let others = c.other.inside in
-    let below : c.args.index < length others.entries.items = omega (arith, rw (← c.other.view_is, entries_length others.sets.sets others.entries.items) at c.requires.there) in
-    rw c.index.ensures (entry_there (length others.sets.sets) others.entries.items c.args.index _ below c.other.invariant.there)
+pub note_newest-requires-clause-newest : goal.note_newest-requires-clause-newest
+note_newest-requires-clause-newest c =
+    let old = c.self.inside.entries in
+    let new = c.append_from.new.self in
+    let one = entry_at c.other.inside.entries.entries c.args.index (rw (← c.other.view_is) at c.requires.there) in
+    let is = c.append_from.ensures one.0 one.1 in
+    size_next old new one.0.0 one.0.1 c.len-newest.result is c.len-newest.ensures.len
 
-pub copy_set-requires-clause-room : goal.copy_set-requires-clause-room
-copy_set-requires-clause-room c = omega (arith, rw (← c.self.view_is, entries_length c.self.inside.sets.sets c.self.inside.entries.items) at c.requires.room, c.self.invariant.fewer, c.self.invariant.taken_sets)
+pub note_newest-requires-clause-legal : goal.note_newest-requires-clause-legal
+note_newest-requires-clause-legal c =
+    let old = c.self.inside.entries in
+    let new = c.append_from.new.self in
+    let one = entry_at c.other.inside.entries.entries c.args.index (rw (← c.other.view_is) at c.requires.there) in
+    let is = c.append_from.ensures one.0 one.1 in
+    let there = ap (λ (history : Recorded). slice_get (reverse history.entries) c.args.index) (sym c.other.view_is) ∙ one.1 in
+    let answered : answer_to old one.0.0 ≡ Answer one.0.1 = ap (λ (history : Recorded). answer_to history one.0.0) c.self.view_is ∙ c.requires.answer one.0 there in
+    legal_next old new one.0.0 one.0.1 c.len-newest.result is c.len-newest.ensures.len c.len-newest.ensures.legal answered
 
-pub unwrap-requires : goal.unwrap-requires
-unwrap-requires c =
-    let below = rw (← c.self.view_is, entries_length c.self.inside.sets.sets c.self.inside.entries.items) at c.requires.room in
-    c.push.ensures.succeeds (omega (arith, below, c.self.invariant.taken))
+pub note_newest-requires-clause-labels : goal.note_newest-requires-clause-labels
+note_newest-requires-clause-labels c =
+    let old = c.self.inside.entries in
+    let new = c.append_from.new.self in
+    let one = entry_at c.other.inside.entries.entries c.args.index (rw (← c.other.view_is) at c.requires.there) in
+    let is = c.append_from.ensures one.0 one.1 in
+    labels_next_ready old new one.0.0 one.0.1 c.len-newest.result is c.len-newest.ensures.len c.self.inside.kept.groups c.self.invariant.labels
+
+pub note_newest-requires-clause-kept : goal.note_newest-requires-clause-kept
+note_newest-requires-clause-kept c =
+    let old = c.self.inside.entries in
+    let new = c.append_from.new.self in
+    let one = entry_at c.other.inside.entries.entries c.args.index (rw (← c.other.view_is) at c.requires.there) in
+    let is = c.append_from.ensures one.0 one.1 in
+    let kept = c.self.inside.kept in
+    kept_next_ready old new one.0.0 one.0.1 c.len-newest.result is c.len-newest.ensures.len (get nat_eq kept.users) (spare kept.users) kept.is_opened kept.groups c.self.invariant.users
+
+pub note_newest-requires-clause-room : goal.note_newest-requires-clause-room
+note_newest-requires-clause-room c =
+    let old = c.self.inside.entries in
+    let new = c.append_from.new.self in
+    let one = entry_at c.other.inside.entries.entries c.args.index (rw (← c.other.view_is) at c.requires.there) in
+    let is = c.append_from.ensures one.0 one.1 in
+    omega (arith, rw (← c.self.view_is) at c.requires.room, c.self.invariant.room, size_next old new one.0.0 one.0.1 c.len-newest.result is c.len-newest.ensures.len, c.len-newest.ensures.len)
 
 pub invariant_of-self : goal.invariant_of-self
-unfolding IsLegal answer_to
 invariant_of-self c =
-    let others = c.other.inside in
-    let own = c.self.inside in
-    let stored = c.index.result.now in
-    let kept = c.self.invariant in
-    let pushed = rw (c.unwrap.ensures, c.moved-moved.ensures) at c.push.ensures.items in
-    let count : c.len.result ≡ length own.sets.sets = omega (arith, c.len.ensures) in
-    let below = rw (← c.self.view_is, entries_length own.sets.sets own.entries.items) at c.requires.room in
-    let within : c.args.index < length others.entries.items = omega (arith, rw (← c.other.view_is, entries_length others.sets.sets others.entries.items) at c.requires.there) in
-    let found : slice_get others.entries.items c.args.index ≡ Some stored = slice_get-get_or others.entries.items c.args.index stored within ∙ ap Some (sym c.index.ensures) in
-    let at : slice_get (reverse c.args.other.now.entries) c.args.index ≡ Some (entry_of others.sets.sets stored) = rw (← c.other.view_is, entry_stored others.sets.sets others.entries.items c.args.index, found) refl in
-    let answered = rw (← c.self.view_is) at (c.requires.answer (entry_of others.sets.sets stored) at) in
+    let old = c.self.inside.entries in
+    let new = c.append_from.new.self in
+    let one = entry_at c.other.inside.entries.entries c.args.index (rw (← c.other.view_is) at c.requires.there) in
+    let is = c.append_from.ensures one.0 one.1 in
     record {
-      different = kept.different;
-      legal = rw (pushed, c.copy_set.ensures.sets, entries_moved others.sets.sets own.sets.sets stored own.entries.items c.len.result count kept.there) (answered, kept.legal);
-      there = rw (pushed, c.copy_set.ensures.sets) (there_moved others.sets.sets own.sets.sets stored own.entries.items c.len.result count kept.there);
-      fewer = rw (pushed, c.copy_set.ensures.sets, length-append) (omega (arith, kept.fewer, (sets_more (entry_of others.sets.sets stored).0 own.sets.sets).1));
-      within = rw (pushed, length-append) (omega (arith, below));
-      taken = omega (arith, kept.taken, c.push.ensures.capacity);
-      taken_sets = omega (arith, kept.taken_sets, c.copy_set.ensures.room);
+      labels = c.note_newest.ensures.labels;
+      users = c.note_newest.ensures.kept;
+      room = omega (arith, c.note_newest.ensures.room, c.self.invariant.room, capacity_next old new one.0.0 one.0.1 c.len-newest.result is c.len-newest.ensures.len);
     }
-
-pub returns : goal.returns
-unfolding with_entry
-returns c = λ entry at.
-    let others = c.other.inside in
-    let own = c.self.inside in
-    let stored = c.index.result.now in
-    let count : c.len.result ≡ length own.sets.sets = omega (arith, c.len.ensures) in
-    let within : c.args.index < length others.entries.items = omega (arith, rw (← c.other.view_is, entries_length others.sets.sets others.entries.items) at c.requires.there) in
-    let found : slice_get others.entries.items c.args.index ≡ Some stored = slice_get-get_or others.entries.items c.args.index stored within ∙ ap Some (sym c.index.ensures) in
-    let here : slice_get (reverse c.args.other.now.entries) c.args.index ≡ Some (entry_of others.sets.sets stored) = rw (← c.other.view_is, entry_stored others.sets.sets others.entries.items c.args.index, found) refl in
-    let same : entry_of others.sets.sets stored ≡ entry = some_is_one _ _ (sym here ∙ at) in
-    rw (
-      ← c.self.view_is,
-      ← same,
-      rw (c.unwrap.ensures, c.moved-moved.ensures) at c.push.ensures.items,
-      c.copy_set.ensures.sets,
-      entries_moved others.sets.sets own.sets.sets stored own.entries.items c.len.result count c.self.invariant.there,
-    ) refl

@@ -1,8 +1,11 @@
-use Rattle.std.proofs.Common.{rules}
+use Rattle.std.specs.Prelude.{nat_eq}
+use Rattle.indexmap.specs.IndexMap.{get, spare}
+use Rattle.asset_entries.specs.Recorded.{opened}
+use Rattle.asset_history.proofs.HistoryLemmas.{nothing_kept}
 use Rattle.asset_history.proofs.history.History.open.Goals as goal
 
-pub returns-in-Ok : goal.returns-in-Ok
-returns-in-Ok c = search rules
-
-pub returns-in-Err : goal.returns-in-Err
-returns-in-Err c = search rules
+pub invariant_of-result : goal.invariant_of-result
+unfolding opened
+invariant_of-result c =
+    let kept = c.in-Ok.kept in
+    rw c.in_ok-entries.ensures (nothing_kept c.args.opening.now c.args.capacity (get nat_eq kept.users) (spare kept.users) kept.is_opened kept.groups c.in-Ok.ensures.groups c.in-Ok.ensures.closed c.in-Ok.ensures.users c.in-Ok.ensures.room)

@@ -1,6 +1,6 @@
 use Rattle.std.proofs.Common.{rules, ◌∙◌, sym, ap}
 use Rattle.asset_names.specs.Counted.{counts_of}
-use Rattle.asset_history.specs.Recorded.{Recorded}
+use Rattle.asset_entries.specs.Recorded.{Recorded}
 use Rattle.asset_manager.proofs.ServeLemmas.{wait_is_same, answer_counts, rises_from, answer_is_legal, wait_is_legal}
 use Rattle.asset_manager.proofs.book.Book.ask.Goals as goal
 

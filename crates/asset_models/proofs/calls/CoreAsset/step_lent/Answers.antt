@@ -1,5 +1,5 @@
 use Rattle.std.proofs.Common.{rules}
-use Rattle.asset_history.specs.Recorded.{after, with_entry}
+use Rattle.asset_entries.specs.Recorded.{after, with_entry}
 use Rattle.asset_models.specs.Calls.{called, calls_of}
 use Rattle.asset_models.proofs.calls.CoreAsset.step_lent.Goals as goal
 

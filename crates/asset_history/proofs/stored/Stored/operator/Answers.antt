@@ -1,8 +1,0 @@
-use Rattle.std.proofs.Common.{rules}
-use Rattle.asset_history.proofs.OperatingLemmas.{opened_operates}
-use Rattle.asset_history.specs.Stored.{entry_of, open_entry}
-use Rattle.asset_history.proofs.stored.Stored.operator.Goals as goal
-
-pub returns-in-PermitAny : goal.returns-in-PermitAny
-unfolding entry_of open_entry
-returns-in-PermitAny c = search (opened_operates, rules)

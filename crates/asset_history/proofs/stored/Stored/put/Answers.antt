@@ -1,7 +1,0 @@
-use Rattle.std.proofs.Common.{rules}
-use Rattle.asset_history.specs.Stored.{entry_of, value_stored, delegate_entry, has_set}
-use Rattle.asset_history.proofs.stored.Stored.put.Goals as goal
-
-pub returns-in-Delegate : goal.returns-in-Delegate
-unfolding entry_of value_stored delegate_entry has_set
-returns-in-Delegate c = search rules

@@ -1,0 +1,64 @@
+-- What a history keeps beside its entries.
+use Rattle.std.specs.Prelude.{◌≡◌, ℕ, ◌<◌, ◌≤◌, Bool, true, false, nat_eq, List, [], ◌∷◌, ◌*◌, length, reverse, take, slice_get, Option, Some, None, is_some}
+use Rattle.asset_names.specs.Arrows.{Arrow, has_arrow}
+use Rattle.asset_names.specs.Steps.{Opening, Entry, applied}
+use Rattle.asset_names.specs.Groups.{actor, partner, joins, same_group}
+use Rattle.asset_names.specs.Operations.{exists}
+use Rattle.asset_entries.specs.Committing.{has_commit}
+use Rattle.asset_name_groups.specs.NamesInGroups.{NamesInGroups, flag_at}
+use Rattle.asset_history.specs.declared.users.Users.{Users}
+use Rattle.asset_history.specs.Named.{names_of}
+use Rattle.asset_history.specs.Uses.{opens, operates}
+use Rattle.asset_history.specs.Together.{name_at, label_at, AreOfEntries, AreFlagged}
+use Rattle.asset_history.specs.Users.{SayAll}
+
+-- The names are those of the entries, in order of first use. Two have one label exactly if they are of one group, and a group is
+-- flagged exactly if a commit of a member was answered with `Committed`.
+pub record AreLabels (entries : List Entry) (groups : NamesInGroups) : Type 0 where
+  pub names : groups.names ≡ names_of entries
+  pub same : (i j : ℕ) → i < length groups.names → j < length groups.names → nat_eq (label_at groups i) (label_at groups j) ≡ same_group entries (name_at groups i) (name_at groups j)
+  pub flags : (k : ℕ) → k < length groups.names → flag_at groups.flags k ≡ has_commit (same_group entries (name_at groups k)) entries
+
+-- the first i entries
+abbrev pub before : List Entry → ℕ → List Entry
+before all i = reverse (take i (reverse all))
+
+-- what is kept of each object says who uses it by the first i entries
+abbrev pub SayUsers : NamesInGroups → List Entry → ℕ → (ℕ → Option Users) → Type 0
+SayUsers groups all i found = SayAll groups all (opens (applied (before all i))) (operates (applied (before all i))) found
+
+-- labels keep two names in one group if an arrow leads from one to the other
+abbrev pub Respect : NamesInGroups → List Arrow → Type 0
+Respect groups arrows = (u v : ℕ) → has_arrow arrows u v ≡ true → (i j : ℕ) → i < length groups.names → j < length groups.names → name_at groups i ≡ u → name_at groups j ≡ v → label_at groups i ≡ label_at groups j
+
+-- The names of all entries are there, in groups that are those of the older entries with the two of the newest one joined, and that are
+-- flagged by the older ones.
+pub record AreNamed (all older : List Entry) (pair : Arrow) (groups : NamesInGroups) : Type 0 where
+  pub names : groups.names ≡ names_of all
+  pub of_entries : AreOfEntries all groups
+  pub joined_before : Respect groups (joins older)
+  pub joined_now : Respect groups (pair ∷ [])
+  pub flagged : AreFlagged older groups
+
+-- the two transactions that the step at the index acts on
+unfoldable pub pair_of : Option Entry → Arrow
+pair_of (Some entry) = ((actor entry.0).0, (partner entry.0).0)
+pair_of None = (0, 0)
+
+abbrev pub pair_at : List Entry → ℕ → Arrow
+pair_at all i = pair_of (slice_get (reverse all) i)
+
+-- Users are kept from the first open permit on, which is when an object is opened: what is kept says who uses objects by the
+-- entries so far, which are among all. Until then there is room for the users of each object.
+pub record AreKept (opening : Opening) (all entries : List Entry) (found : ℕ → Option Users) (spare : ℕ) (is_opened : Bool) (groups : NamesInGroups) : Type 0 where
+  pub closed : is_opened ≡ false → (a x : ℕ) → opens (applied entries) a x ≡ false
+  pub room : is_opened ≡ false → length opening ≤ spare
+  pub empty : is_opened ≡ false → (x : ℕ) → found x ≡ None
+  pub there : is_opened ≡ true → (x : ℕ) → exists opening x ≡ true → is_some (found x) ≡ true
+  pub say : is_opened ≡ true → SayAll groups all (opens (applied entries)) (operates (applied entries)) found
+
+-- what a history keeps beside its entries: the labels of their groups, the users of objects, and room for two names for each entry
+pub record IsHistory (opening : Opening) (entries : List Entry) (capacity : ℕ) (groups : NamesInGroups) (found : ℕ → Option Users) (spare : ℕ) (is_opened : Bool) : Type 0 where
+  pub labels : AreLabels entries groups
+  pub users : AreKept opening entries entries found spare is_opened groups
+  pub room : 2 * capacity ≤ groups.room

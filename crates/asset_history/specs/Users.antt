@@ -1,0 +1,63 @@
+-- What is kept of the users of an object, and what it says of them.
+use Rattle.std.specs.Prelude.{◌≡◌, ℕ, ◌<◌, Bool, true, false, ◌||◌, ◌&&◌, ◌==◌, cond, List, Option, Some, None, length}
+use Rattle.asset_history.specs.declared.users.Users.{Users}
+use Rattle.asset_history.specs.declared.users.Users.TheVariants as Users'
+use Rattle.asset_name_groups.specs.NamesInGroups.{NamesInGroups}
+use Rattle.asset_names.specs.declared.steps.Step.{Step}
+use Rattle.asset_names.specs.Steps.{Entry, applied}
+use Rattle.asset_history.specs.Together.{name_at, IsWith}
+use Rattle.asset_history.specs.Uses.{opens, operates}
+
+-- those who pass the test, and t if the condition holds
+unfoldable pub also : Bool → ℕ → (ℕ → Bool) → ℕ → Bool
+also holds t test u = (holds && t == u) || test u
+
+-- who uses x, on the side of openers or on the other
+unfoldable pub uses_as : Bool → List Step → ℕ → ℕ → Bool
+uses_as as_opener steps t x = cond as_opener (opens steps t x) (operates steps t x)
+
+-- Only openers use the object, or only operators: `mine` are they, among all of the history, and `others` would be the rest. The
+-- node is of one of them, and of the group of all if they are one.
+pub record AreOfOneSide (groups : NamesInGroups) (mine others all_mine : ℕ → Bool) (node : ℕ) (are_one : Bool) : Type 0 where
+  pub within : node < length groups.names
+  pub user : all_mine (name_at groups node) ≡ true
+  pub none : (u : ℕ) → others u ≡ false
+  pub one : are_one ≡ true → (u : ℕ) → mine u ≡ true → IsWith groups u node
+
+-- Somebody opens the object and somebody operates on it, in all of the history. The node is of a user, and of the group of all
+-- users so far.
+pub record HaveMet (groups : NamesInGroups) (openers operators all_openers all_operators : ℕ → Bool) (node : ℕ) : Type 0 where
+  pub within : node < length groups.names
+  pub user : (all_openers (name_at groups node) || all_operators (name_at groups node)) ≡ true
+  pub opened : (a : ℕ) × (all_openers a ≡ true)
+  pub operated : (t : ℕ) × (all_operators t ≡ true)
+  pub one : (u : ℕ) → (openers u || operators u) ≡ true → IsWith groups u node
+
+-- what is kept says who uses the object so far
+unfoldable pub AreSaid : NamesInGroups → (ℕ → Bool) → (ℕ → Bool) → (ℕ → Bool) → (ℕ → Bool) → Users → Type 0
+AreSaid groups openers operators all_openers all_operators Users'.Nobody = (u : ℕ) → (openers u || operators u) ≡ false
+AreSaid groups openers operators all_openers all_operators (Users'.OneSide true node are_one) = AreOfOneSide groups openers operators all_openers node are_one
+AreSaid groups openers operators all_openers all_operators (Users'.OneSide false node are_one) = AreOfOneSide groups operators openers all_operators node are_one
+AreSaid groups openers operators all_openers all_operators (Users'.Met node) = HaveMet groups openers operators all_openers all_operators node
+
+-- the node that is kept, and the first one if nobody uses the object
+unfoldable pub node_in : Users → ℕ
+node_in Users'.Nobody = 0
+node_in (Users'.OneSide opens node are_one) = node
+node_in (Users'.Met node) = node
+
+-- what is kept of an object; nobody uses one of which nothing is kept
+unfoldable pub users_or_nobody : Option Users → Users
+users_or_nobody (Some users) = users
+users_or_nobody None = Users'.Nobody
+
+-- what is kept says of each object who uses it: `openers` and `operators`, which are among those of all entries
+abbrev pub SayAll : NamesInGroups → List Entry → (ℕ → ℕ → Bool) → (ℕ → ℕ → Bool) → (ℕ → Option Users) → Type 0
+SayAll groups all openers operators found = (x : ℕ) → AreSaid groups (λ a. openers a x) (λ t. operators t x) (λ a. opens (applied all) a x) (λ t. operates (applied all) t x) (users_or_nobody (found x))
+
+-- users who are among those of all entries
+abbrev pub AreAmong : (ℕ → Bool) → (ℕ → Bool) → Type 0
+AreAmong some all = (u : ℕ) → some u ≡ true → all u ≡ true
+
+abbrev pub AreAmongAll : (ℕ → ℕ → Bool) → (ℕ → ℕ → Bool) → Type 0
+AreAmongAll some all = (u x : ℕ) → some u x ≡ true → all u x ≡ true

@@ -1,3 +1,0 @@
-pub mod LabelLemmas
-pub mod JoinLemmas
-pub mod NumberLemmas

@@ -1,3 +1,0 @@
-pub mod Forest
-pub mod Labelled
-pub mod Numbered
