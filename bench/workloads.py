@@ -370,6 +370,39 @@ def drafts(steps, seed):
     return script
 
 
+def open_each(script, giver, ops):
+    """Lets anybody do the operations on all objects, sixteen by each permit."""
+    for first in range(1, script.objects + 1, 16):
+        script.open(giver, ops, ",".join(map(str, range(first, min(first + 16, script.objects + 1)))))
+
+
+def opened_late(steps, seed):
+    """Short transactions write some objects, and then one lets anybody read all of them."""
+    script = Script(steps, seed, min(1000, steps // 10))
+    while script.has_room(10 + script.objects // 16):
+        t = script.start()
+        script.write(t, script.object())
+        script.finish(t)
+    opener = script.start()
+    open_each(script, opener, "r")
+    script.finish(opener)
+    return script
+
+
+def two_openers(steps, seed):
+    """Two let anybody write all of some objects, and short transactions write them, one after another."""
+    script = Script(steps, seed, min(1000, steps // 10))
+    openers = script.start_many(2)
+    for t in openers:
+        open_each(script, t, "rw")
+    while script.has_room(5):
+        t = script.start()
+        script.write(t, script.object())
+        script.finish(t)
+    script.finish_some(openers, 0.0)
+    return script
+
+
 def open_chains_of_64(steps, seed):
     """Chains of 64 as above, whose last permits anybody; a stranger writes what the first wrote, and all end."""
     script = Script(steps, seed, 2000)
@@ -626,6 +659,8 @@ LOADS = {
         one_giver,
         one_opener,
         drafts,
+        opened_late,
+        two_openers,
         open_chains_of_64,
         one_long_open_chain,
         two_writers,
