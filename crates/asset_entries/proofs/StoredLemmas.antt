@@ -1,11 +1,11 @@
 -- What is stored is what was recorded.
-use Rattle.std.proofs.Common.{◌≡◌, ℕ, zero, suc, get_or, ◌+◌, ◌<◌, ◌≤◌, true, List, [], ◌∷◌, ◌++◌, length, map, reverse, refl, sym, ◌∙◌, ap, arith}
-use Rattle.std.specs.Prelude.{slice_get, Some, option_map}
-use Rattle.std.proofs.lemmas.Bool.{and_parts, ltb-true, lt-ltb}
+use Rattle.std.proofs.Common.{◌≡◌, ℕ, zero, suc, get_or, ◌+◌, ◌<◌, ◌≤◌, true, false, ltb, List, [], ◌∷◌, ◌++◌, length, map, reverse, refl, sym, ◌∙◌, ap, arith}
+use Rattle.std.specs.Prelude.{slice_get, Some, None, option_map}
+use Rattle.std.proofs.lemmas.Bool.{and_parts, ltb-true, ltb-false, lt-ltb}
 use Rattle.std.proofs.lemmas.List.{map-append, reverse-append, length-append, length-reverse, length-map, reverse-reverse, get_or_append_left}
 use Rattle.std.proofs.lemmas.List.Folds.{list_all-append}
 use Rattle.std.proofs.Math.Seq.{get_or-append_seam}
-use Rattle.std.proofs.lemmas.Option.{slice_get-get_or, slice_get-map}
+use Rattle.std.proofs.lemmas.Option.{slice_get-get_or, slice_get_past, slice_get-map}
 use Rattle.asset_names.specs.declared.steps.Step.{Step}
 use Rattle.asset_names.specs.declared.steps.Step.TheVariants.{Initiate, Begin, Read, Write, Add, Complete, Permit, PermitAny, Delegate, Depend, Commit, Abort, WaitFor}
 use Rattle.asset_names.specs.declared.replies.Reply.{Reply}
@@ -258,6 +258,15 @@ entries_length sets entries = length-reverse (map (entry_of sets) entries) ∙ l
 pub entry_stored : (sets : List StoredSet) (entries : List Stored) (index : ℕ) → slice_get (reverse (entries_of sets entries)) index ≡ option_map (entry_of sets) (slice_get entries index)
 unfolding entries_of
 entry_stored sets entries index = ap (λ es. slice_get es index) (reverse-reverse (map (entry_of sets) entries)) ∙ slice_get-map (entry_of sets) entries index
+
+-- whoever finds what is stored at an index finds the entry there, and past the end there is none
+pub entry_found : (sets : List StoredSet) (entries : List Stored) (index : ℕ) (stored : Stored) → true ≡ ltb index (length entries) → stored ≡ get_or entries index stored → slice_get (reverse (entries_of sets entries)) index ≡ Some (entry_of sets stored)
+entry_found sets entries index stored within is =
+    let found : slice_get entries index ≡ Some stored = slice_get-get_or entries index stored (ltb-true _ _ (sym within)) ∙ ap Some (sym is) in
+    entry_stored sets entries index ∙ ap (option_map (entry_of sets)) found
+
+pub entry_absent : (sets : List StoredSet) (entries : List Stored) (index : ℕ) → false ≡ ltb index (length entries) → slice_get (reverse (entries_of sets entries)) index ≡ None
+entry_absent sets entries index past = entry_stored sets entries index ∙ ap (option_map (entry_of sets)) (slice_get_past entries index (ltb-false _ _ (sym past)))
 
 -- what is stored at an index is there
 pub entry_there : (count : ℕ) (entries : List Stored) (index : ℕ) (d : Stored) → index < length entries → all_have_sets count entries ≡ true → has_set count (get_or entries index d) ≡ true
