@@ -2,7 +2,7 @@
 use Rattle.std.proofs.Common.{◌≡◌, ℕ, ◌<◌, Bool, true, false, cond, not, eqb, ◌&&◌, ◌||◌, List, length, get_or, refl, sym, ap, subst, ◌∙◌, arith, inl, inr, Some}
 use Rattle.std.specs.Prelude.{Option}
 use Rattle.std.specs.Bool.{beq}
-use Rattle.std.proofs.lemmas.Bool.{or_cases, or_left, or_right, eqb-true, false≢true}
+use Rattle.std.proofs.lemmas.Bool.{or_cases, or_left, or_right, and_parts, eqb-true, false≢true}
 use Rattle.asset_names.specs.Steps.{Entry, applied}
 use Rattle.asset_names.specs.Groups.{same_group}
 use Rattle.asset_name_groups.specs.NamesInGroups.{NamesInGroups}
@@ -64,6 +64,10 @@ more_of_side g mine others all_mine first node are_one still within stay said = 
     | inr before ↦ said.one (stay is_still).0 u before
   ];
 }
+
+-- all users are of one group with one more
+pub still_one : (are_one still : Bool) (a b : ℕ) → still ≡ (are_one && eqb a b) → still ≡ true → (are_one ≡ true) × (a ≡ b)
+still_one are_one still a b is h = let parts = and_parts are_one (eqb a b) (sym is ∙ h) in (parts.0, eqb-true a b parts.1)
 
 pub said_more : (g : NamesInGroups) (o p O P : ℕ → Bool) (as_opener : Bool) (first node : ℕ) (are_one still : Bool) → node < length g.names → (still ≡ true → (are_one ≡ true) × (label_at g first ≡ label_at g node))
     → AreSaid g o p O P (Users'.OneSide as_opener first are_one) → AreSaid g (also as_opener (name_at g node) o) (also (not as_opener) (name_at g node) p) O P (Users'.OneSide as_opener first still)

@@ -24,7 +24,7 @@ AreOfEntries entries groups = (i j : ℕ) → i < length groups.names → j < le
 abbrev pub commits : List Entry → ℕ → Bool
 commits entries t = has_commit (nat_eq t) entries
 
--- a group is flagged if an answered commit of one of its names was `Committed`
+-- a group is flagged exactly if a commit of one of its names was answered with `Committed`
 pub record AreFlagged (entries : List Entry) (groups : NamesInGroups) : Type 0 where
   pub by : (k : ℕ) → k < length groups.names → flag_at groups.flags k ≡ true → (m : ℕ) × (m < length groups.names) × (label_at groups m ≡ label_at groups k) × (commits entries (name_at groups m) ≡ true)
   pub flagged : (k m : ℕ) → k < length groups.names → m < length groups.names → label_at groups m ≡ label_at groups k → commits entries (name_at groups m) ≡ true → flag_at groups.flags k ≡ true

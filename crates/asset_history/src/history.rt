@@ -206,6 +206,7 @@ impl History {
         ensures labels { AreLabels self.now.entries result.now }
         ensures legal { IsLegal self.now.opening self.now.entries }
     {
+        // Its clauses say that the entries are legal.
         let _len = self.entries.len();
         &self.kept.groups
     }

@@ -3,7 +3,7 @@
 //! If somebody opens an object and somebody operates on it, all its users are of one group. Until then those of one side may be of
 //! several.
 
-ghost use Rattle.std.specs.Prelude.{◌≡◌, ℕ, ◌<◌, Bool, true, false, length, not};
+ghost use Rattle.std.specs.Prelude.{◌≡◌, ℕ, ◌<◌, Bool, true, false, ◌&&◌, nat_eq, length, not};
 ghost use Rattle.asset_names.specs.Groups.{same_group};
 ghost use Rattle.asset_names.specs.Steps.{applied};
 ghost use Rattle.asset_history.specs.Named.{names_of};
@@ -62,12 +62,12 @@ fn meet(groups: &mut NameGroups, entries: &Entries, node: usize, are_one: bool, 
     }
 }
 
-/// Returns whether users that are of one group, if `are_one`, still are with one more: whether they are, and it is of the group of the
-/// node, which is one of them.
+/// Returns whether all users of an object are of one group with one more: whether they were, and it is of the group of the node, which is
+/// one of them.
 fn stay_one(groups: &NameGroups, node: usize, are_one: bool, other: usize) -> bool
     requires node { node < length groups.now.names }
     requires other { other < length groups.now.names }
-    ensures { result ≡ true → (are_one ≡ true) × (label_at groups.now node ≡ label_at groups.now other) }
+    ensures { result ≡ (are_one && nat_eq (label_at groups.now node) (label_at groups.now other)) }
 {
     are_one && groups.label(node) == groups.label(other)
 }

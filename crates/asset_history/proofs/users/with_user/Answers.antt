@@ -2,7 +2,7 @@ use Rattle.asset_names.specs.Steps.{applied}
 use Rattle.asset_history.specs.Uses.{opens, operates, uses}
 use Rattle.asset_history.specs.Users.{uses_as, node_in}
 use Rattle.asset_history.proofs.LabelLemmas.{joined_none}
-use Rattle.asset_history.proofs.SaidLemmas.{said_first, said_more, said_met, said_more_met, together_now, together_met, beq_true}
+use Rattle.asset_history.proofs.SaidLemmas.{said_first, said_more, said_met, said_more_met, together_now, together_met, beq_true, still_one}
 use Rattle.asset_history.proofs.users.with_user.Goals as goal
 
 pub stay_one-requires-clause-node : goal.stay_one-requires-clause-node
@@ -20,7 +20,7 @@ returns-then-opens-used-clause-said c = λ openers operators among_openers among
     let g = c.args.groups.now in (
       joined_none all g,
       rw (beq_true c.in-OneSide.opens c.args.used.opens c.if-opens-used.true)
-          (said_more g openers operators (λ a. opens (applied all) a x) (λ t. operates (applied all) t x) c.in-OneSide.opens c.in-OneSide.node c.args.used.node c.in-OneSide.are_one c.stay_one.result c.requires.node c.stay_one.ensures (rw c.in-OneSide.is at said)),
+          (said_more g openers operators (λ a. opens (applied all) a x) (λ t. operates (applied all) t x) c.in-OneSide.opens c.in-OneSide.node c.args.used.node c.in-OneSide.are_one c.stay_one.result c.requires.node (still_one c.in-OneSide.are_one c.stay_one.result _ _ c.stay_one.ensures) (rw c.in-OneSide.is at said)),
     )
 
 pub meet-requires-clause-node : goal.meet-requires-clause-node
