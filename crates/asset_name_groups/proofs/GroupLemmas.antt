@@ -150,10 +150,10 @@ sound names before last links room a b c valid = record {
 }
 
 -- ---- no names
-pub none_valid : (last : List ℕ) (room a b c : ℕ) → length last ≡ room + 1 → ((k : ℕ) → k < length last → get_or last k 0 ≡ 0) → room + 1 < 2 ^ 32 → room ≤ a → room ≤ b → room ≤ c → IsValid [] [] last [] room a b c
+pub none_valid : (last : List ℕ) (room a b c : ℕ) → 0 < length last → ((k : ℕ) → k < length last → get_or last k 0 ≡ 0) → room + 1 < 2 ^ 32 → room ≤ a → room ≤ b → room ≤ c → IsValid [] [] last [] room a b c
 unfolding last_in
-none_valid last room a b c long empty small for_names for_before for_links = record {
-  indexed = record { has_buckets = omega (arith, long); long = refl; last_is = λ bucket below. empty bucket below; before_is = λ k below. absurd (omega (arith, below)) };
+none_valid last room a b c some empty small for_names for_before for_links = record {
+  indexed = record { has_buckets = some; long = refl; last_is = λ bucket below. empty bucket below; before_is = λ k below. absurd (omega (arith, below)) };
   different = λ i j first second same. absurd (omega (arith, first));
   forest = record {
     upward = λ k rank above below. absurd (not_both (Root 0 false 0) rank above 0 0 false below refl);

@@ -9,6 +9,9 @@ use std::marker::Model;
 /// The most names that there can be room for: a node and 1 take 32 bits.
 pub const MOST_NAMES: usize = 0xFFFF_FFFE;
 
+/// How many names there are for each bucket, if all names that there is room for are there.
+const NAMES_A_BUCKET: usize = 4;
+
 /// Names in groups. The node of a name is its index in the order in which names came. Contracts see the names, the label of each
 /// node, which is the first node of its group, whether its group is flagged, and how many names there is room for.
 ///
@@ -41,7 +44,7 @@ impl NameGroups {
     ghost use Rattle.std.specs.Prelude.{◌≡◌, ◌+◌, ◌<◌, ◌≤◌, ◌^◌, false, length, slice_index, IfOk, IfSome, IfNone};
     ghost use Rattle.asset_name_groups.specs.NamesInGroups.{flag_at, has_name, none_named, one_more, with_flag, with_join, with_name, IsSound};
 
-    /// Returns groups of no names, with room for `room` names. It takes 24 bytes for each name and 4 more, and fails if memory runs
+    /// Returns groups of no names, with room for `room` names. It takes 21 bytes for each name and 4 more, and fails if memory runs
     /// out or `room` is above `MOST_NAMES`.
     pub fn with_room(alloc: Global, room: usize) -> Result<NameGroups, AllocError>
         ensures { IfOk result (λ groups. groups ≡ none_named room) }
@@ -60,7 +63,7 @@ impl NameGroups {
         Ok(NameGroups {
             names: Vec::with_capacity(alloc, room)?,
             before: Vec::with_capacity(alloc, room)?,
-            last: vec![in alloc; 0; room + 1]?,
+            last: vec![in alloc; 0; room / NAMES_A_BUCKET + 1]?,
             links: Vec::with_capacity(alloc, room)?,
             room,
         })
