@@ -8,6 +8,7 @@ pub mod SaidLemmas
 pub mod NoteLemmas
 pub mod NextLemmas
 pub mod ObjectLemmas
+pub mod StayLemmas
 pub mod FlagLemmas
 pub mod StepLemmas
 pub mod KnownLemmas

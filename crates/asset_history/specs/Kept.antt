@@ -1,10 +1,11 @@
 -- What a history keeps beside its entries.
-use Rattle.std.specs.Prelude.{◌≡◌, ℕ, ◌<◌, ◌≤◌, Bool, true, false, nat_eq, List, [], ◌∷◌, ◌*◌, length, reverse, take, slice_get, Option, Some, None, is_some}
+use Rattle.std.specs.Prelude.{◌≡◌, ℕ, ◌<◌, ◌≤◌, Bool, true, false, nat_eq, not, ◌&&◌, List, [], ◌∷◌, ◌*◌, length, reverse, take, slice_get, Option, Some, None, is_some}
 use Rattle.asset_names.specs.Arrows.{Arrow, has_arrow}
 use Rattle.asset_names.specs.Steps.{Opening, Entry, applied}
 use Rattle.asset_names.specs.Groups.{actor, partner, joins, same_group}
 use Rattle.asset_names.specs.Operations.{exists}
-use Rattle.asset_entries.specs.Committing.{has_commit}
+use Rattle.asset_entries.specs.Committing.{commit_at, has_commit}
+use Rattle.asset_entries.specs.Knowing.{is_of_known_at}
 use Rattle.asset_name_groups.specs.NamesInGroups.{NamesInGroups, flag_at}
 use Rattle.asset_history.specs.declared.users.Users.{Users}
 use Rattle.asset_history.specs.Named.{names_of}
@@ -47,6 +48,10 @@ pair_of None = (0, 0)
 
 abbrev pub pair_at : List Entry → ℕ → Arrow
 pair_at all i = pair_of (slice_get (reverse all) i)
+
+-- whether the entry, if there is one, is of one transaction that was known, and commits nobody
+abbrev pub leaves_groups_at : Option Entry → Bool
+leaves_groups_at entry = is_of_known_at entry && not (is_some (commit_at entry))
 
 -- Users are kept from the first open permit on, which is when an object is opened: what is kept says who uses objects by the
 -- entries so far, which are among all. Until then there is room for the users of each object.

@@ -1,8 +1,8 @@
 //! The groups that are kept beside the entries of a history.
 
-ghost use Rattle.std.specs.Prelude.{◌≡◌, ◌+◌, ◌*◌, ◌≤◌, length};
+ghost use Rattle.std.specs.Prelude.{◌≡◌, ◌+◌, ◌*◌, ◌≤◌, length, reverse, slice_get};
 ghost use Rattle.asset_names.specs.Answers.{IsLegal};
-ghost use Rattle.asset_history.specs.Kept.{before, pair_at, AreLabels, AreNamed};
+ghost use Rattle.asset_history.specs.Kept.{before, leaves_groups_at, pair_at, AreLabels, AreNamed};
 ghost use Rattle.asset_history.specs.Named.{names_of};
 ghost use Rattle.asset_history.specs.Together.{AreFlagged, HaveGrown};
 
@@ -45,6 +45,15 @@ fn name_newest(groups: &mut NameGroups, entries: &Entries, newest: usize)
             groups.laws();
         }
     }
+}
+
+/// Returns whether the newest entry is of one transaction that was known, and commits nobody. Such an entry leaves names, groups and
+/// flags as they are, and opens no object.
+#[inline(always)]
+fn leaves_groups(entries: &Entries, newest: usize) -> bool
+    ensures { result ≡ leaves_groups_at (slice_get (reverse entries.now.entries) newest) }
+{
+    entries.is_of_known(newest) && entries.commit_at(newest).is_none()
 }
 
 /// Flags the group of whoever committed by the newest entry.
@@ -131,8 +140,8 @@ impl KeptGroups {
         }
     }
 
-    /// Names, flags and joins what the newest entry does. It does not allocate.
-    pub(crate) fn note_newest(&mut self, entries: &Entries, newest: usize)
+    /// Does what `note_newest` does, whatever the newest entry is.
+    fn note_any(&mut self, entries: &Entries, newest: usize)
         requires newest { length entries.now.entries ≡ newest + 1 }
         requires legal { IsLegal entries.now.opening entries.now.entries }
         requires labels { AreLabels (before entries.now.entries newest) self.old.groups }
@@ -146,5 +155,25 @@ impl KeptGroups {
         flag_newest(&mut self.groups, entries, newest);
         self.note_users(entries, newest);
         self.groups.laws();
+    }
+
+    /// Names, flags and joins what the newest entry does. It does not allocate. Most entries do none of it, and that takes one look
+    /// at the entry.
+    #[inline(always)]
+    pub(crate) fn note_newest(&mut self, entries: &Entries, newest: usize)
+        requires newest { length entries.now.entries ≡ newest + 1 }
+        requires legal { IsLegal entries.now.opening entries.now.entries }
+        requires labels { AreLabels (before entries.now.entries newest) self.old.groups }
+        requires kept { AreKept entries.now.opening (before entries.now.entries newest) (before entries.now.entries newest) (get nat_eq self.old.users) (spare self.old.users) self.old.is_opened self.old.groups }
+        requires room { 2 * length entries.now.entries ≤ self.old.groups.room }
+        ensures labels { AreLabels entries.now.entries self.new.groups }
+        ensures kept { AreKept entries.now.opening entries.now.entries entries.now.entries (get nat_eq self.new.users) (spare self.new.users) self.new.is_opened self.new.groups }
+        ensures room { self.new.groups.room ≡ self.old.groups.room }
+    {
+        self.groups.laws();
+        if !self.is_opened && leaves_groups(entries, newest) {
+            return;
+        }
+        self.note_any(entries, newest);
     }
 }

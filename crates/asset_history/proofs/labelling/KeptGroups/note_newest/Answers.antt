@@ -1,20 +1,17 @@
+use Rattle.std.proofs.Common.{sym, ◌∙◌}
 use Rattle.std.specs.Prelude.{nat_eq}
 use Rattle.indexmap.specs.IndexMap.{get, spare}
-use Rattle.asset_history.specs.Together.{HaveGrown}
-use Rattle.asset_history.proofs.LabelLemmas.{grown_trans}
-use Rattle.asset_history.proofs.HistoryLemmas.{kept_wider, labels_next, grown_same}
+use Rattle.asset_history.proofs.StayLemmas.{stay_kept, stay_labels}
 use Rattle.asset_history.proofs.labelling.KeptGroups.note_newest.Goals as goal
 
-pub note_users-requires-clause-kept : goal.note_users-requires-clause-kept
-note_users-requires-clause-kept c =
+pub returns-then-leaves_groups-clause-labels : goal.returns-then-leaves_groups-clause-labels
+returns-then-leaves_groups-clause-labels c =
     let old = c.args.self.now in
-    let named = c.name_newest.new.groups in
-    let flagged = c.flag_newest.new.groups in
-    let grown : HaveGrown old.groups flagged = grown_trans old.groups named flagged c.name_newest.ensures.grown (grown_same named flagged c.flag_newest.ensures.names c.flag_newest.ensures.labels) in
-    kept_wider c.args.entries.now.opening c.args.entries.now.entries c.args.newest (get nat_eq old.users) (spare old.users) old.is_opened old.groups flagged grown c.requires.kept
+    stay_labels c.args.entries.now.opening c.args.entries.now.entries c.args.newest c.requires.newest c.requires.legal (sym c.leaves_groups.ensures ∙ c.if-leaves_groups.true)
+    (get nat_eq old.users) (spare old.users) old.is_opened old.groups c.if-not-self.true c.requires.kept c.laws.ensures c.requires.labels
 
-pub returns-clause-labels : goal.returns-clause-labels
-returns-clause-labels c =
-    let new = c.note_users.new.self in
-    labels_next c.args.entries.now.opening c.args.entries.now.entries c.args.newest (get nat_eq new.users) (spare new.users) new.is_opened c.name_newest.new.groups c.flag_newest.new.groups new.groups c.requires.newest
-    c.name_newest.ensures.named c.flag_newest.ensures.names c.flag_newest.ensures.labels c.flag_newest.ensures.flagged c.note_users.ensures.joined c.laws.ensures c.note_users.ensures.kept
+pub returns-then-leaves_groups-clause-kept : goal.returns-then-leaves_groups-clause-kept
+returns-then-leaves_groups-clause-kept c =
+    let old = c.args.self.now in
+    stay_kept c.args.entries.now.opening c.args.entries.now.entries c.args.newest c.requires.newest c.requires.legal (sym c.leaves_groups.ensures ∙ c.if-leaves_groups.true)
+    (get nat_eq old.users) (spare old.users) old.is_opened old.groups c.if-not-self.true c.requires.kept
