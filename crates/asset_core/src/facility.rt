@@ -194,8 +194,8 @@ impl Core {
         }
     }
 
-    /// Asks for a step: finds its answer first, and then whether there is room for it.
-    #[inline(always)]
+    /// Asks for a step: finds its answer first, and then whether there is room for it. Only a facility that is nearly full asks so.
+    #[inline(never)]
     fn ask(&mut self, step: &Step) -> Result<Outcome, Fault>
         ensures { IsStep self.old step.now result self.new }
     {
