@@ -1,9 +1,9 @@
 -- The names in buckets: for each node the one before it in its bucket, and for each bucket the last one.
-use Rattle.std.specs.Prelude.{◌≡◌, ℕ, zero, suc, ◌*◌, ◌/◌, ◌%◌, ◌<◌, cond, ◌==◌, List, length, slice_index}
+use Rattle.std.specs.Prelude.{◌≡◌, ℕ, zero, suc, ◌+◌, ◌*◌, ◌/◌, ◌%◌, ◌<◌, cond, ◌==◌, List, length, slice_index}
 
--- the bucket of a name among `buckets` buckets
+-- the bucket of a name among `buckets` buckets: the names of a block of 64 are in buckets that follow each other
 unfoldable pub bucket_in : ℕ → ℕ → ℕ
-bucket_in t buckets = ((t * 0x9E37_79B9_7F4A_7C15) % 0x1_0000_0000_0000_0000 / 0x1_0000_0000) % buckets
+bucket_in t buckets = ((t / 64 * 0x9E37_79B9_7F4A_7C15) % 0x1_0000_0000_0000_0000 / 0x1_0000_0000 + t % 64) % buckets
 
 -- 1 and the last node below n whose name is in the bucket, or 0 if there is none
 unfoldable pub last_in : List ℕ → ℕ → ℕ → ℕ → ℕ

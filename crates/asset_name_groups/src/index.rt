@@ -3,15 +3,20 @@
 ghost use Rattle.std.specs.Prelude.{◌≡◌, ◌≢◌, ℕ, ◌<◌, ◌≤◌, ◌^◌, ◌+◌, [], ◌∷◌, ◌++◌, length, slice_index, vec_capacity, IfSome, IfNone};
 ghost use Rattle.asset_name_groups.specs.Index.{bucket_in, IsIndexed};
 
-/// Returns the bucket of a name among `buckets` buckets.
+/// How many names that follow each other are in buckets that do.
+const NAMES_A_BLOCK: u64 = 64;
+
+/// Returns the bucket of a name among `buckets` buckets. Names are mostly given in order, and those of one block are near each other,
+/// so that a new name seldom misses the processor's caches.
 #[inline(always)]
 fn bucket_of(t: u64, buckets: usize) -> usize
     requires { 0 < buckets }
     ensures bucket { result ≡ bucket_in t buckets }
     ensures within { result < buckets }
 {
-    let mixed = t.wrapping_mul(0x9E37_79B9_7F4A_7C15) / 0x1_0000_0000;
-    mixed as usize % buckets
+    let block = t / NAMES_A_BLOCK;
+    let mixed = block.wrapping_mul(0x9E37_79B9_7F4A_7C15) / 0x1_0000_0000;
+    (mixed + t % NAMES_A_BLOCK) as usize % buckets
 }
 
 /// Returns the node of the name, if it is there. It looks at the names of one bucket, from the last one to the first.
