@@ -159,6 +159,45 @@ fn names_are_added(groups: &mut NameGroups, count: usize) -> bool {
     true
 }
 
+/// Where names that follow each other begin: amid names that are kept near each other.
+const FIRST: u64 = 1_000_040;
+
+/// Adds many names that follow each other. Returns whether each has its node.
+fn names_are_added_in_order(groups: &mut NameGroups) -> bool {
+    for node in 0..MANY {
+        if node_of(groups, FIRST.wrapping_add(node as u64)) != Some(node) {
+            return false;
+        }
+    }
+    true
+}
+
+/// Returns whether each of those names is found.
+fn names_are_found(groups: &NameGroups) -> bool {
+    for node in 0..MANY {
+        if groups.find(FIRST.wrapping_add(node as u64)) != Some(node) {
+            return false;
+        }
+    }
+    true
+}
+
+#[test]
+fn names_in_order_are_found(rt: HostRuntime) -> Result<(), Fail> {
+    let mut groups = with_room(rt.alloc(), MANY)?;
+    let added = names_are_added_in_order(&mut groups);
+    let found = names_are_found(&groups);
+    let beside = (
+        groups.find(FIRST - 1),
+        groups.find(FIRST.wrapping_add(MANY as u64)),
+    );
+    drop(groups);
+    assert!(rt; added);
+    assert!(rt; found);
+    assert_eq!(rt; beside, (None, None));
+    Ok(())
+}
+
 /// Adds many names, flags the last, and joins them from the last to the first. Returns whether all could.
 fn joined_backwards(groups: &mut NameGroups) -> bool {
     let mut joined = names_are_added(groups, MANY) && flag(groups, name_at(MANY - 1));
