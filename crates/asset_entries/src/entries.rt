@@ -31,7 +31,7 @@ impl Model for Entries {
 }
 
 impl Entries {
-    ghost use Rattle.std.specs.Prelude.{◌≡◌, ◌<◌, ◌≤◌, ◌↔◌, ◌^◌, [], length, reverse, slice_get, is_some, IfOk, IsTrue, Some};
+    ghost use Rattle.std.specs.Prelude.{◌≡◌, ◌<◌, ◌≤◌, ◌↔◌, ◌^◌, [], length, reverse, slice_get, IfOk, IsTrue, Some};
     ghost use Rattle.std.specs.Option.{option_map};
     ghost use Rattle.asset_entries.specs.Acting.{both_of};
     ghost use Rattle.asset_entries.specs.Committing.{commit_at};
@@ -198,18 +198,6 @@ impl Entries {
         match self.entries.as_slice().get(index) {
             Some(stored) => stored.opener(&self.sets),
             None => None,
-        }
-    }
-
-    /// Returns whether the entry at the index, oldest first from 0, is an open permit that took effect. Only of a permit to anybody
-    /// the objects are read back.
-    #[inline(always)]
-    pub fn opens(&self, index: usize) -> bool
-        ensures { result ≡ is_some (opener_at (slice_get (reverse self.now.entries) index)) }
-    {
-        match self.entries.as_slice().get(index) {
-            Some(stored) => stored.opens(&self.sets),
-            None => false,
         }
     }
 

@@ -21,7 +21,7 @@ fn opener_with(giver: Txn, obs: ObSet) -> Option<(Txn, ObList)>
 }
 
 impl Stored {
-    ghost use Rattle.std.specs.Prelude.{◌≡◌, List, length, true, is_some};
+    ghost use Rattle.std.specs.Prelude.{◌≡◌, List, length, true};
     ghost use Rattle.asset_entries.specs.Operating.{operator_of, opener_of};
     ghost use Rattle.asset_entries.specs.StoredSets.{StoredSet};
     ghost use Rattle.asset_entries.specs.Stored.{entry_of, has_set};
@@ -70,28 +70,6 @@ impl Stored {
                 _ => None,
             },
             _ => None,
-        }
-    }
-
-    /// Returns whether the permit to anybody took effect. It reads the set back.
-    fn opens_by_set(&self, sets: &StoredSets) -> bool
-        requires { has_set (length sets.now.sets) self.now ≡ true }
-        ensures { result ≡ is_some (opener_of (entry_of sets.now.sets self.now).0 (entry_of sets.now.sets self.now).1) }
-    {
-        self.opener(sets).is_some()
-    }
-
-    /// Returns whether the entry is an open permit that took effect. Its set, if it has one, is among the stored sets.
-    #[inline(always)]
-    #[tactic(auto, unfolding(crate::specs::Operating::opener_of, crate::specs::Stored::entry_of, crate::specs::Stored::permit_entry, crate::specs::Stored::delegate_entry))]
-    pub(crate) fn opens(&self, sets: &StoredSets) -> bool
-        requires { has_set (length sets.now.sets) self.now ≡ true }
-        ensures { result ≡ is_some (opener_of (entry_of sets.now.sets self.now).0 (entry_of sets.now.sets self.now).1) }
-    {
-        match *self {
-            // No other entry is an open permit, so that only for this one a set is read back.
-            Stored::PermitAny { .. } => self.opens_by_set(sets),
-            _ => false,
         }
     }
 }

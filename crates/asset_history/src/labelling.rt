@@ -119,7 +119,7 @@ impl KeptGroups {
         ensures kept { AreKept entries.now.opening entries.now.entries (before entries.now.entries newest) (get nat_eq self.new.users) (spare self.new.users) self.new.is_opened self.new.groups }
         ensures closed { self.new.is_opened ≡ false → opener_at (slice_get (reverse entries.now.entries) newest) ≡ None }
     {
-        if !self.is_opened && entries.opens(newest) {
+        if !self.is_opened && entries.opener(newest).is_some() {
             note_first(&mut self.groups, &mut self.users, entries, newest);
             self.is_opened = true;
         }
