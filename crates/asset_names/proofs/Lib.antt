@@ -1,6 +1,7 @@
 pub mod Common
 pub mod Arrows
 pub mod DoubleLemmas
+pub mod NumberLemmas
 pub mod PermitLemmas
 pub mod Cases
 pub mod PermitCases

@@ -1,5 +1,6 @@
 pub mod Arrows
 pub mod Sets
+pub mod Numbered
 pub mod Valid
 pub mod InSet
 pub mod OpSets
