@@ -11,7 +11,7 @@ const ONE: [(Ob, i64); 1] = [(Ob(1), 100)];
 
 /// Adds if the transaction runs and the object exists, and returns whether it did.
 fn add_once(tables: &mut Tables, t: u64, x: u64, d: i64) -> Result<bool, NoMemory> {
-    let exists = tables.value(Ob(x)).is_some();
+    let exists = tables.number(Ob(x)).is_some();
     match tables.status(Txn(t)) {
         Status::Running if exists => tables.add(Txn(t), Ob(x), d),
         _ => Ok(false),

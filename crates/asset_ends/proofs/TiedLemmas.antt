@@ -54,6 +54,7 @@ tied_same written table given links seats new tied same = record {
   locks = LockSeats.tied_same table seats new same tied.locks;
   permits = permits_same given seats new tied.permits same;
   deps = DepSeats.tied_same links seats new tied.deps same;
+  numbers = tied.numbers;
 }
 
 -- one more sits down
@@ -64,6 +65,7 @@ tied_sits written table given links seats new s t absent tied objects free sits 
   locks = LockSeats.tied_sits table seats new s t free sits absent room.locks tied.locks;
   permits = permits_sits given seats new s t tied.permits free sits room.permits;
   deps = DepSeats.tied_sits links seats new s t tied.deps free sits room.deps;
+  numbers = tied.numbers;
 }
 
 -- who is live is allowed by each who leads to an opener

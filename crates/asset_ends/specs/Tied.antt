@@ -1,5 +1,5 @@
 -- What ties the tables to the seats.
-use Rattle.std.specs.Prelude.{ℕ, List}
+use Rattle.std.specs.Prelude.{◌≡◌, ℕ, List}
 use Rattle.asset_seats.specs.Seated.{Seated}
 use Rattle.asset_objects.specs.Placed as Objects
 use Rattle.asset_permits.specs.Valid as Permits
@@ -9,12 +9,14 @@ use Rattle.asset_trans.specs.TransRows.{NamedTransRow}
 use Rattle.asset_ends.specs.declared.parts.Parts.{Parts}
 use Rattle.asset_ends.specs.Standing.{AreEnrolled, LiveAreSeated}
 
--- writes, locks, permits and dependencies are those of transactions that have seats
+-- writes, locks, permits and dependencies are those of transactions that have seats, and the locks know each object by the number
+-- that it has among the objects
 pub record AreTied (written : Objects.ObjectParts) (table : Locks.LockParts) (given : Permits.PermitTable) (links : Deps.LinkTable) (seating : Seated) : Type 0 where
   pub objects : Objects.IsTied written seating
   pub locks : Locks.IsTied table seating
   pub permits : Permits.IsTied given seating
   pub deps : Deps.IsTied links seating
+  pub numbers : table.store.objects ≡ written.objects
 
 -- the tables are tied to the seats that stand beside them
 abbrev pub PartsAreTied : Parts → Type 0

@@ -1,6 +1,7 @@
 //! Whether an object is free for a transaction, which may have no seat.
 
 ghost use Rattle.std.specs.Prelude.{◌≡◌};
+ghost use Rattle.asset_names.specs.Numbered.{number_in};
 ghost use Rattle.asset_locks.specs.LockTable.{is_free_in};
 ghost use Rattle.asset_locks.specs.Tied.{rows_in, IsTied};
 ghost use Rattle.asset_permits.specs.Valid.{permits_in, IsTied as ArePermitsTied};
@@ -37,27 +38,29 @@ impl Allows for NoPermits {
     }
 }
 
-/// Returns whether `x` is free for `t` to do `op`. Nothing changes.
+/// Returns whether `x`, whose number is given if it exists, is free for `t` to do `op`. Nothing changes.
 pub(crate) fn is_free(
     trans: &Trans,
     seats: &Seats,
     locks: &SeatedLocks,
     permits: &mut SeatedPermits,
     t: Txn,
+    number: Option<usize>,
     x: Ob,
     op: Op,
 ) -> bool
     requires seated { LiveAreSeated trans.now seats.now }
     requires locks { IsTied locks.now seats.now }
+    requires number { number ≡ number_in locks.now.store.objects x.0 }
     requires permits { ArePermitsTied permits.old seats.now }
     ensures free { result ≡ is_free_in (rows_in seats.now locks.now) (λ u. allows_in trans.now (permits_in permits.old) u t.0 x.0 op) t.0 x.0 op }
     ensures permits { permits.new ≡ permits.old }
 {
     match sitter_of(trans, seats, t) {
-        Some(one) => locks.is_free(seats, one, x, op, permits),
+        Some(one) => locks.is_free(seats, one, number, x, op, permits),
         None => {
             let one = Sitter { t, at: 0 };
-            locks.is_free(seats, one, x, op, &mut NoPermits)
+            locks.is_free(seats, one, number, x, op, &mut NoPermits)
         }
     }
 }

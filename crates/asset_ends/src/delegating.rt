@@ -1,10 +1,11 @@
 //! A transaction hands over what it did.
 
-ghost use Rattle.std.specs.Prelude.{◌≡◌, ℕ, ◌==◌, ◌&&◌, ◌||◌, filter, OnOk, OnErr};
+ghost use Rattle.std.specs.Prelude.{◌≡◌, ℕ, ◌==◌, ◌&&◌, ◌||◌, Some, filter, OnOk, OnErr};
 ghost use Rattle.asset_names.specs.declared.names.Ob.{Ob as Object};
 ghost use Rattle.asset_names.specs.declared.operations.Op.{Op};
 ghost use Rattle.asset_names.specs.Arrows.{lists};
-ghost use Rattle.asset_names.specs.InSet.{in_set};
+ghost use Rattle.asset_names.specs.InSet.{in_set, only_in};
+ghost use Rattle.asset_names.specs.Numbered.{number_in};
 ghost use Rattle.asset_names.specs.Sets.{numbers};
 ghost use Rattle.asset_locks.specs.LockTable.{held_in};
 ghost use Rattle.asset_locks.specs.Tied.{rows_in, IsTied};
@@ -20,7 +21,7 @@ use asset_seats::{Seats, Sitter};
 use std::alloc::Global;
 
 /// Gives the taker a copy of each of the giver's permits on each of the objects on which the giver has a lock. Nothing is
-/// listed if the giver permits nobody anything.
+/// listed if the giver permits nobody anything. If the set lists one object, its number is given, if it exists.
 fn copy_permits(
     alloc: Global,
     seats: &Seats,
@@ -29,8 +30,10 @@ fn copy_permits(
     giver: Sitter,
     taker: Sitter,
     obs: &ObSet,
+    only: Option<usize>,
 ) -> Result<(), NoMemory>
     requires locks { IsTied locks.now seats.now }
+    requires only { (x : Object) → only_in obs.now ≡ Some x → only ≡ number_in locks.now.store.objects x.0 }
     requires permits { ArePermitsTied permits.old seats.now }
     requires giver { HasSeat seats.now giver }
     requires taker { HasSeat seats.now taker }
@@ -43,12 +46,15 @@ fn copy_permits(
     if !permits.gives(seats, giver) {
         return Ok(());
     }
-    let moved = locks.held_among(alloc, seats, giver, obs)?;
+    let moved = locks.held_among(alloc, seats, giver, obs, only)?;
     permits.copy_for(seats, giver, taker, &moved)
 }
 
 impl Tables {
-    ghost use Rattle.std.specs.Prelude.{◌≡◌, true, OnOk, OnErr};
+    ghost use Rattle.std.specs.Prelude.{◌≡◌, true, Some, OnOk, OnErr};
+    ghost use Rattle.asset_names.specs.declared.names.Ob.{Ob};
+    ghost use Rattle.asset_names.specs.InSet.{only_in};
+    ghost use Rattle.asset_objects.specs.Cells.{number_of};
     ghost use Rattle.asset_names.specs.declared.steps.Step.{Step};
     ghost use Rattle.asset_names.specs.Endings.{is_live_status};
     ghost use Rattle.asset_locks.specs.LockTable.{hand_over_in};
@@ -70,17 +76,25 @@ impl Tables {
     {
         let (_, from) = self.find(giver);
         let (_, to) = self.find(taker);
-        self.delegate_at(from, to, obs)
+        let only = self.number_of_only(obs);
+        self.delegate_at(from, to, obs, only)
     }
 
     /// Does what `delegate` does, for transactions whose seats are found. Both are live, and the seats are those of their
-    /// rows. If memory runs out, the answer is `NoMemory`, and nothing that any call shows has changed.
+    /// rows. If the set lists one object, its number is given, if it exists. If memory runs out, the answer is `NoMemory`, and nothing that any call shows has changed.
     #[inline(always)]
-    pub fn delegate_at(&mut self, from: Sitter, to: Sitter, obs: &ObSet) -> Result<(), NoMemory>
+    pub fn delegate_at(
+        &mut self,
+        from: Sitter,
+        to: Sitter,
+        obs: &ObSet,
+        only: Option<usize>,
+    ) -> Result<(), NoMemory>
         requires giver { is_live_status (status_in self.old.trans from.t.0) ≡ true }
         requires taker { is_live_status (status_in self.old.trans to.t.0) ≡ true }
         requires giver_seat { from.at ≡ seat_in self.old.trans from.t.0 }
         requires taker_seat { to.at ≡ seat_in self.old.trans to.t.0 }
+        requires only { (x : Ob) → only_in obs.now ≡ Some x → only ≡ number_of self.old.objects x.0 }
         ensures stand { OnOk result (ShowsWith self.old (Step.Delegate from.t to.t obs.now) self.new) }
         ensures locks { OnOk result (self.new.locks ≡ hand_over_in from.t.0 to.t.0 obs.now self.old.locks) }
         ensures unchanged { OnErr result (ShowAlike self.new self.old) }
@@ -93,11 +107,12 @@ impl Tables {
             from,
             to,
             obs,
+            only,
         )?;
-        self.parts.locks.hand_over(&self.parts.seats, from, to, obs);
-        self.parts
-            .objects
-            .hand_over(&self.parts.seats, from, to, obs);
+        let parts = &mut self.parts;
+        let seats = &parts.seats;
+        parts.locks.hand_over(seats, from, to, obs, only);
+        parts.objects.hand_over(seats, from, to, obs, only);
         Ok(())
     }
 }

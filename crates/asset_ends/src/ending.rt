@@ -34,6 +34,7 @@ fn end_writes(objects: &mut SeatedObjects, seats: &Seats, one: Sitter, how: End)
     requires sits { HasSeat seats.now one }
     ensures leaves { (left : Seated) → ((c : ℕ) → seat left c ≡ cond (c == one.at) None (seat seats.now c)) → AreWritesTied objects.new left }
     ensures cells { cells (objects_in objects.new) ≡ change_each (ended how (λ n. n == one.t.0)) (cells (objects_in objects.old)) }
+    ensures objects { objects.new.objects ≡ objects.old.objects }
 {
     match how {
         End::Committed => objects.settle(seats, one),

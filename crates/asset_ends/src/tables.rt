@@ -4,7 +4,7 @@ use crate::asking::is_free;
 use crate::parts::Parts;
 use asset_deps::SeatedDeps;
 use asset_locks::SeatedLocks;
-use asset_names::{End, NoMemory, Ob, Op, Status, Txn};
+use asset_names::{End, NoMemory, Ob, ObSet, Op, Status, Txn};
 use asset_objects::{ObjectsFault, SeatedObjects};
 use asset_permits::SeatedPermits;
 use asset_seats::{Seats, Sitter};
@@ -37,8 +37,10 @@ impl Model for Tables {
 }
 
 impl Tables {
-    ghost use Rattle.std.specs.Prelude.{◌≡◌, ℕ, slice_get, [], None, OnOk, IfOk, IfErr};
+    ghost use Rattle.std.specs.Prelude.{◌≡◌, ℕ, slice_get, [], None, Some, is_some, OnOk, IfOk, IfErr};
+    ghost use Rattle.asset_names.specs.declared.names.Ob.{Ob as Object};
     ghost use Rattle.asset_names.specs.declared.operations.Op.{Op as Operation};
+    ghost use Rattle.asset_names.specs.InSet.{only_in};
     ghost use Rattle.asset_names.specs.Steps.{Opening};
     ghost use Rattle.asset_names.specs.Orderly.{IsOrderly};
     ghost use Rattle.asset_names.specs.Endings.{status};
@@ -46,7 +48,7 @@ impl Tables {
     ghost use Rattle.asset_names.specs.Operations.{allows, free, value_if_any};
     ghost use Rattle.asset_names.specs.Sets.{HasNoDouble};
     ghost use Rattle.asset_objects.specs.Faults.{objects_of, IsObjectsFault};
-    ghost use Rattle.asset_objects.specs.Cells.{cells, value_in, opened};
+    ghost use Rattle.asset_objects.specs.Cells.{cells, number_of, has_object, value_in, opened};
     ghost use Rattle.asset_objects.specs.Placed.{objects_in, IsTied};
     ghost use Rattle.asset_seats.specs.Seated.{Seated, seat};
     ghost use Rattle.asset_locks.specs.LockTable.{waiters_in};
@@ -65,7 +67,10 @@ impl Tables {
         ensures different { OnOk result (HasNoDouble (objects_of opening.now)) }
         ensures fault { IfErr result (λ fault. IsObjectsFault opening.now fault) }
     {
-        Ok(Tables::over(alloc, SeatedObjects::open(alloc, opening)?))
+        match Tables::over(alloc, SeatedObjects::open(alloc, opening)?) {
+            Ok(tables) => Ok(tables),
+            Err(NoMemory) => Err(ObjectsFault::NoMemory),
+        }
     }
 
     /// Returns the tables of an opening that gives no object twice, before the first step. It fails only if memory
@@ -75,24 +80,26 @@ impl Tables {
         ensures shows { IfOk result (λ tables. Shows opening.now [] (values_of tables)) }
         ensures locks { IfOk result (λ tables. tables.locks ≡ []) }
     {
-        Ok(Tables::over(alloc, SeatedObjects::open_distinct(alloc, opening)?))
+        Tables::over(alloc, SeatedObjects::open_distinct(alloc, opening)?)
     }
 
-    /// Returns the tables over objects at their opening values.
-    fn over(alloc: Global, objects: SeatedObjects) -> Tables
+    /// Returns the tables over objects at their opening values. It fails only if memory runs out.
+    fn over(alloc: Global, objects: SeatedObjects) -> Result<Tables, NoMemory>
         requires { (seats : Seated) → ((c : ℕ) → seat seats c ≡ None) → IsTied objects seats }
-        ensures shows { (opening : Opening) → cells (objects_in objects) ≡ opened opening → Shows opening [] (values_of result) }
-        ensures locks { result.locks ≡ [] }
+        ensures shows { IfOk result (λ tables. (opening : Opening) → cells (objects_in objects) ≡ opened opening → Shows opening [] (values_of tables)) }
+        ensures locks { IfOk result (λ tables. tables.locks ≡ []) }
     {
+        let mut locks = SeatedLocks::new(alloc);
+        locks.add_objects(objects.objects())?;
         let parts = Parts {
             seats: Seats::new(alloc),
             objects,
-            locks: SeatedLocks::new(alloc),
+            locks,
             permits: SeatedPermits::new(alloc),
             trans: Trans::new(alloc),
             deps: SeatedDeps::new(alloc),
         };
-        Tables { alloc, parts }
+        Ok(Tables { alloc, parts })
     }
 
     /// Returns the status of a transaction: Unknown if it was never initiated.
@@ -133,6 +140,25 @@ impl Tables {
         self.parts.trans.ended(how)
     }
 
+    /// Returns the number of an object, by which objects and locks are asked: its index in the order of the opening. It is `None`
+    /// if there is no such object. The calls that take a number, such as `read_at`, take it from here.
+    #[inline(always)]
+    pub fn number(&self, x: Ob) -> Option<usize>
+        ensures number { result ≡ number_of self.now.objects x.0 }
+        ensures exists { is_some result ≡ has_object (cells self.now.objects) x.0 }
+    {
+        self.parts.objects.number(x)
+    }
+
+    /// Returns the number of the one object that the set lists. It is `None` if the set is not of one object, and if there is no
+    /// such object.
+    #[inline(always)]
+    pub fn number_of_only(&self, set: &ObSet) -> Option<usize>
+        ensures { (x : Object) → only_in set.now ≡ Some x → result ≡ number_of self.now.objects x.0 }
+    {
+        self.parts.objects.number_of_only(set)
+    }
+
     /// Returns the value of an object, and `None` if there is no such object.
     pub fn value(&self, x: Ob) -> Option<i64>
         ensures cell { result ≡ value_in (cells self.now.objects) x.0 }
@@ -157,12 +183,14 @@ impl Tables {
         ensures allowed { ForShown self.old (λ opening steps. (u v y : ℕ) (o : Operation) → allows_in self.old.trans self.old.permits u v y o ≡ allows steps u v y o) }
         ensures same { self.new ≡ self.old }
     {
+        let number = self.parts.objects.number(x);
         is_free(
             &self.parts.trans,
             &self.parts.seats,
             &self.parts.locks,
             &mut self.parts.permits,
             t,
+            number,
             x,
             op,
         )

@@ -1,7 +1,8 @@
 //! Writes and adds: the steps that change an object.
 
-ghost use Rattle.std.specs.Prelude.{◌≡◌, true, Some};
-ghost use Rattle.asset_objects.specs.Cells.{cells, updated, has_object, change_at};
+ghost use Rattle.std.specs.Prelude.{◌≡◌, ℕ, ◌<◌, true, Some, length};
+ghost use Rattle.asset_names.specs.Numbered.{number_in};
+ghost use Rattle.asset_objects.specs.Cells.{cells, updated, change_at};
 ghost use Rattle.asset_objects.specs.Placed.{objects_in, IsTied};
 ghost use Rattle.asset_seats.specs.Seated.{HasSeat};
 ghost use Rattle.asset_ends.specs.Updates.{op_of, effect_of};
@@ -33,20 +34,28 @@ impl Update {
     }
 }
 
-/// Changes an object, which exists, with the memory that is reserved.
+/// Changes the object of this number with the memory that is reserved.
 #[inline(always)]
 #[tactic(auto, unfolding(crate::specs::Updates::effect_of))]
-fn change(objects: &mut SeatedObjects, seats: &Seats, one: Sitter, x: Ob, update: Update, v: i64)
+fn change(
+    objects: &mut SeatedObjects,
+    seats: &Seats,
+    one: Sitter,
+    number: usize,
+    update: Update,
+    v: i64,
+)
     requires tied { IsTied objects.old seats.now }
     requires sits { HasSeat seats.now one }
-    requires exists { has_object (cells (objects_in objects.old)) x.0 ≡ true }
+    requires exists { number < length objects.old.objects }
     requires reserved { objects.old.reserved ≡ true }
     ensures tied { IsTied objects.new seats.now }
-    ensures cells { cells (objects_in objects.new) ≡ change_at x.0 (updated (Some one.t.0) (effect_of update v)) (cells (objects_in objects.old)) }
+    ensures cells { (x : ℕ) → number_in objects.old.objects x ≡ Some number → cells (objects_in objects.new) ≡ change_at x (updated (Some one.t.0) (effect_of update v)) (cells (objects_in objects.old)) }
+    ensures objects { objects.new.objects ≡ objects.old.objects }
 {
     match update {
-        Update::Write => objects.write(seats, one, x, v),
-        Update::Add => objects.add(seats, one, x, v),
+        Update::Write => objects.write(seats, one, number, v),
+        Update::Add => objects.add(seats, one, number, v),
     }
 }
 
@@ -55,7 +64,7 @@ impl Tables {
     ghost use Rattle.asset_names.specs.declared.steps.Step.{Step};
     ghost use Rattle.asset_names.specs.declared.operations.Op.{Op as Operation};
     ghost use Rattle.asset_names.specs.declared.statuses.Status.{Status};
-    ghost use Rattle.asset_objects.specs.Cells.{cells, has_object, change_at, updated};
+    ghost use Rattle.asset_objects.specs.Cells.{cells, number_of, has_object, change_at, updated};
     ghost use Rattle.asset_locks.specs.Valid.{after_ask};
     ghost use Rattle.asset_trans.specs.TransRows.{status_in, seat_in};
     ghost use Rattle.asset_ends.specs.Shown.{ShowsWithIf};
@@ -76,7 +85,8 @@ impl Tables {
         ensures unchanged { OnErr result (SameView self.new self.old) }
     {
         let (_, one) = self.find(t);
-        self.update_at(one, x, Update::Write, v)
+        let number = self.number(x).unwrap();
+        self.update_at(one, number, x, Update::Write, v)
     }
 
     /// Adds the amount to an object for a transaction that runs, which holds it by an add from then on; the sum wraps to 64
@@ -93,23 +103,25 @@ impl Tables {
         ensures unchanged { OnErr result (SameView self.new self.old) }
     {
         let (_, one) = self.find(t);
-        self.update_at(one, x, Update::Add, d)
+        let number = self.number(x).unwrap();
+        self.update_at(one, number, x, Update::Add, d)
     }
 
-    /// Does what `write` or `add` does, for a transaction whose seat is found. The transaction runs, the seat is that of its row,
-    /// and the object exists. If memory runs out for the lock or for the record of an update that is granted, the answer is
+    /// Does what `write` or `add` does, for a transaction whose seat is found and an object whose number is. The transaction runs,
+    /// and the seat is that of its row. If memory runs out for the lock or for the record of an update that is granted, the answer is
     /// `NoMemory`, and nothing that any call shows has changed.
     #[inline(always)]
     pub fn update_at(
         &mut self,
         one: Sitter,
+        number: usize,
         x: Ob,
         update: Update,
         v: i64,
     ) -> Result<bool, NoMemory>
         requires runs { status_in self.old.trans one.t.0 ≡ Status.Running }
         requires seat { one.at ≡ seat_in self.old.trans one.t.0 }
-        requires exists { has_object (cells self.old.objects) x.0 ≡ true }
+        requires number { number_of self.old.objects x.0 ≡ Some number }
         ensures answer { IfOk result (λ updated. updated ≡ is_free_for self.old one.t.0 x.0 (op_of update)) }
         ensures stand { OnOk result (ShowsWithIf self.old (is_free_for self.old one.t.0 x.0 (op_of update)) (step_of update one.t x v) self.new) }
         ensures locks { OnOk result (self.new.locks ≡ after_ask (is_free_for self.old one.t.0 x.0 (op_of update)) one.t.0 x (op_of update) self.old.locks) }
@@ -117,8 +129,8 @@ impl Tables {
         ensures unchanged { OnErr result (SameView self.new self.old) }
     {
         match self.parts.objects.reserve_write() {
-            Ok(()) => self.update_reserved(one, x, update, v),
-            Err(fault) => self.wait_unless_free(one, x, update.op(), fault),
+            Ok(()) => self.update_reserved(one, number, x, update, v),
+            Err(fault) => self.wait_unless_free(one, number, x, update.op(), fault),
         }
     }
 
@@ -127,13 +139,14 @@ impl Tables {
     fn update_reserved(
         &mut self,
         one: Sitter,
+        number: usize,
         x: Ob,
         update: Update,
         v: i64,
     ) -> Result<bool, NoMemory>
         requires runs { status_in self.old.trans one.t.0 ≡ Status.Running }
         requires seat { one.at ≡ seat_in self.old.trans one.t.0 }
-        requires exists { has_object (cells self.old.objects) x.0 ≡ true }
+        requires number { number_of self.old.objects x.0 ≡ Some number }
         requires reserved { self.old.objects.reserved ≡ true }
         ensures answer { IfOk result (λ updated. updated ≡ is_free_for self.old one.t.0 x.0 (op_of update)) }
         ensures rows { self.new.trans ≡ self.old.trans }
@@ -144,9 +157,9 @@ impl Tables {
         ensures memory { IsErr result → is_free_for self.old one.t.0 x.0 (op_of update) ≡ true }
         ensures unchanged { OnErr result (self.new ≡ self.old) }
     {
-        if self.hold(one, x, update.op())? {
+        if self.hold(one, number, x, update.op())? {
             let parts = &mut self.parts;
-            change(&mut parts.objects, &parts.seats, one, x, update, v);
+            change(&mut parts.objects, &parts.seats, one, number, update, v);
             Ok(true)
         } else {
             Ok(false)
@@ -158,12 +171,14 @@ impl Tables {
     fn wait_unless_free(
         &mut self,
         one: Sitter,
+        number: usize,
         x: Ob,
         op: Op,
         fault: NoMemory,
     ) -> Result<bool, NoMemory>
         requires runs { status_in self.old.trans one.t.0 ≡ Status.Running }
         requires seat { one.at ≡ seat_in self.old.trans one.t.0 }
+        requires number { number_of self.old.objects x.0 ≡ Some number }
         ensures answer { IfOk result (λ updated. updated ≡ is_free_for self.old one.t.0 x.0 op) }
         ensures blocked { OnOk result (is_free_for self.old one.t.0 x.0 op ≡ false) }
         ensures rows { self.new.trans ≡ self.old.trans }
@@ -177,6 +192,6 @@ impl Tables {
         if self.is_free(one.t, x, op) {
             return Err(fault);
         }
-        self.hold(one, x, op)
+        self.hold(one, number, x, op)
     }
 }

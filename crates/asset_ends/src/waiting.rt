@@ -2,6 +2,7 @@
 
 ghost use Rattle.std.specs.Prelude.{◌≡◌, ◌&&◌, ◌||◌, ◌==◌, ℕ, IfOk, OnOk};
 ghost use Rattle.asset_names.specs.Arrows.{lists};
+ghost use Rattle.asset_names.specs.Numbered.{number_in};
 ghost use Rattle.asset_locks.specs.Blocking.{is_blocker_in, request_in};
 ghost use Rattle.asset_locks.specs.LockTable.{carries};
 ghost use Rattle.asset_locks.specs.Tied.{rows_in, IsTied};
@@ -82,32 +83,49 @@ fn marked(alloc: Global, parts: &Parts, who: Who) -> Result<NameSet, NoMemory>
 fn blockers(alloc: Global, parts: &mut Parts, t: Txn, x: Ob, op: Op) -> Result<NameSet, NoMemory>
     requires seated { LiveAreSeated parts.old.trans parts.old.seats }
     requires locks { IsTied parts.old.locks parts.old.seats }
+    requires numbers { parts.old.locks.store.objects ≡ parts.old.objects.objects }
     requires permits { ArePermitsTied parts.old.permits parts.old.seats }
     ensures named { IfOk result (λ found. (u : ℕ) → lists found.keys u ≡ is_blocker_in (rows_in parts.old.seats parts.old.locks) (λ n. allows_in parts.old.trans (permits_in parts.old.permits) n t.0 x.0 op) t.0 x.0 op u) }
     ensures same { parts.new ≡ parts.old }
 {
+    let number = parts.objects.number(x);
     match sitter_of(&parts.trans, &parts.seats, t) {
-        Some(one) => parts
-            .locks
-            .blockers(alloc, &parts.seats, one, x, op, &mut parts.permits),
+        Some(one) => parts.locks.blockers(
+            alloc,
+            &parts.seats,
+            one,
+            number,
+            x,
+            op,
+            &mut parts.permits,
+        ),
         None => {
             let one = Sitter { t, at: 0 };
             parts
                 .locks
-                .blockers(alloc, &parts.seats, one, x, op, &mut NoPermits)
+                .blockers(alloc, &parts.seats, one, number, x, op, &mut NoPermits)
         }
     }
 }
 
-/// Returns whether a lock of `t` on `x` carries `op`, by the tables.
-fn carries(trans: &Trans, seats: &Seats, locks: &SeatedLocks, t: Txn, x: Ob, op: Op) -> bool
+/// Returns whether a lock of `t` on `x`, whose number is given if it exists, carries `op`, by the tables.
+fn carries(
+    trans: &Trans,
+    seats: &Seats,
+    locks: &SeatedLocks,
+    t: Txn,
+    number: Option<usize>,
+    x: Ob,
+    op: Op,
+) -> bool
     requires seated { LiveAreSeated trans.now seats.now }
     requires locks { IsTied locks.now seats.now }
+    requires number { number ≡ number_in locks.now.store.objects x.0 }
     requires enrolled { AreEnrolled trans.now (rows_in seats.now locks.now) }
     ensures { result ≡ carries (rows_in seats.now locks.now) t.0 x.0 op }
 {
     match sitter_of(trans, seats, t) {
-        Some(one) => locks.carries(seats, one, x, op),
+        Some(one) => locks.carries(seats, one, number, x, op),
         None => false,
     }
 }
@@ -147,11 +165,13 @@ impl Tables {
         ensures carried { result ≡ carries self.now.locks t.0 x.0 op }
         ensures shown { ForShown self.now (λ opening steps. result ≡ holds steps t.0 x.0 op) }
     {
+        let number = self.parts.objects.number(x);
         carries(
             &self.parts.trans,
             &self.parts.seats,
             &self.parts.locks,
             t,
+            number,
             x,
             op,
         )

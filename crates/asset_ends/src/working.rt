@@ -7,12 +7,12 @@ use asset_names::{NoMemory, Ob, ObList, ObSet, Op, Ops, Txn};
 use asset_seats::Sitter;
 
 impl Tables {
-    ghost use Rattle.std.specs.Prelude.{◌≡◌, cond, is_some, true, false, None, OnOk, OnErr, IfOk, IsErr};
+    ghost use Rattle.std.specs.Prelude.{◌≡◌, cond, is_some, true, false, None, Some, OnOk, OnErr, IfOk, IsErr};
     ghost use Rattle.asset_names.specs.declared.steps.Step.{Step};
     ghost use Rattle.asset_names.specs.declared.operations.Op.{Op as Operation};
     ghost use Rattle.asset_names.specs.declared.statuses.Status.{Status};
     ghost use Rattle.asset_names.specs.Endings.{is_live_status};
-    ghost use Rattle.asset_objects.specs.Cells.{cells, value_in};
+    ghost use Rattle.asset_objects.specs.Cells.{cells, number_of, has_object, value_in};
     ghost use Rattle.asset_locks.specs.LockTable.{enrol_in, enrolled_in};
     ghost use Rattle.asset_locks.specs.Valid.{after_ask};
     ghost use Rattle.asset_trans.specs.TransRows.{status_in, seat_in};
@@ -51,13 +51,20 @@ impl Tables {
         self.parts.trans.begin(t);
     }
 
-    /// Asks the locks for an object for a transaction that runs and has this seat: returns whether it holds the object by the
-    /// operation from then on. If the object is not free, the request is pending, which takes no memory. If memory runs out
-    /// for the lock, nothing changes.
+    /// Asks the locks for an object, whose number is given, for a transaction that runs and has this seat: returns whether it
+    /// holds the object by the operation from then on. If the object is not free, the request is pending, which takes no memory.
+    /// If memory runs out for the lock, nothing changes.
     #[inline(always)]
-    pub(crate) fn hold(&mut self, one: Sitter, x: Ob, op: Op) -> Result<bool, NoMemory>
+    pub(crate) fn hold(
+        &mut self,
+        one: Sitter,
+        number: usize,
+        x: Ob,
+        op: Op,
+    ) -> Result<bool, NoMemory>
         requires runs { status_in self.old.trans one.t.0 ≡ Status.Running }
         requires seat { one.at ≡ seat_in self.old.trans one.t.0 }
+        requires number { number_of self.old.objects x.0 ≡ Some number }
         ensures enrolled { is_some (enrolled_in self.old.locks one.t.0) ≡ true }
         ensures granted { IfOk result (λ granted. granted ≡ is_free_for self.old one.t.0 x.0 op) }
         ensures rows { self.new.trans ≡ self.old.trans }
@@ -68,21 +75,22 @@ impl Tables {
         ensures memory { IsErr result → is_free_for self.old one.t.0 x.0 op ≡ true }
         ensures unchanged { OnErr result (self.new ≡ self.old) }
     {
-        match self
-            .parts
+        let parts = &mut self.parts;
+        match parts
             .locks
-            .ask(&self.parts.seats, one, x, op, &mut self.parts.permits)?
+            .ask(&parts.seats, one, number, x, op, &mut parts.permits)?
         {
             Asked::Granted => Ok(true),
             Asked::Pending => Ok(false),
         }
     }
 
-    /// Reads an object for a transaction that runs, which holds it by a read from then on. If the object is not free, the
-    /// answer is `None`, and the request is pending. That takes no memory; if memory runs out for the lock, nothing
+    /// Reads an object, which exists, for a transaction that runs, which holds it by a read from then on. If the object is not
+    /// free, the answer is `None`, and the request is pending. That takes no memory; if memory runs out for the lock, nothing
     /// changes.
     pub fn read(&mut self, t: Txn, x: Ob) -> Result<Option<i64>, NoMemory>
         requires runs { status_in self.old.trans t.0 ≡ Status.Running }
+        requires exists { has_object (cells self.old.objects) x.0 ≡ true }
         ensures answer { IfOk result (λ read. read ≡ cond (is_free_for self.old t.0 x.0 Operation.Read) (value_in (cells self.old.objects) x.0) None) }
         ensures stand { OnOk result (ShowsWithIf self.old (is_free_for self.old t.0 x.0 Operation.Read) (Step.Read t x) self.new) }
         ensures locks { OnOk result (self.new.locks ≡ after_ask (is_free_for self.old t.0 x.0 Operation.Read) t.0 x Operation.Read self.old.locks) }
@@ -90,34 +98,27 @@ impl Tables {
         ensures unchanged { OnErr result (SameView self.new self.old) }
     {
         let (_, one) = self.find(t);
-        let value = self.value(x);
-        self.read_at(one, x, value)
+        let number = self.number(x).unwrap();
+        self.read_at(one, number, x)
     }
 
-    /// Does what `read` does, for a transaction whose seat is found and an object whose value is. The transaction runs, the
-    /// seat is that of its row, and the value is `None` if there is no such object. If memory runs out for the lock, the
-    /// answer is `NoMemory`, and nothing changes.
+    /// Does what `read` does, for a transaction whose seat is found and an object whose number is. The transaction runs, and the
+    /// seat is that of its row. If memory runs out for the lock, the answer is `NoMemory`, and nothing changes.
     #[inline(always)]
-    pub fn read_at(
-        &mut self,
-        one: Sitter,
-        x: Ob,
-        value: Option<i64>,
-    ) -> Result<Option<i64>, NoMemory>
+    pub fn read_at(&mut self, one: Sitter, number: usize, x: Ob) -> Result<Option<i64>, NoMemory>
         requires runs { status_in self.old.trans one.t.0 ≡ Status.Running }
         requires seat { one.at ≡ seat_in self.old.trans one.t.0 }
-        requires value { value ≡ value_in (cells self.old.objects) x.0 }
+        requires number { number_of self.old.objects x.0 ≡ Some number }
         ensures answer { IfOk result (λ read. read ≡ cond (is_free_for self.old one.t.0 x.0 Operation.Read) (value_in (cells self.old.objects) x.0) None) }
         ensures stand { OnOk result (ShowsWithIf self.old (is_free_for self.old one.t.0 x.0 Operation.Read) (Step.Read one.t x) self.new) }
         ensures locks { OnOk result (self.new.locks ≡ after_ask (is_free_for self.old one.t.0 x.0 Operation.Read) one.t.0 x Operation.Read self.old.locks) }
         ensures memory { IsErr result → is_free_for self.old one.t.0 x.0 Operation.Read ≡ true }
         ensures unchanged { OnErr result (SameView self.new self.old) }
     {
-        if self.hold(one, x, Op::Read)? {
-            Ok(value)
-        } else {
-            Ok(None)
+        if !self.hold(one, number, x, Op::Read)? {
+            return Ok(None);
         }
+        Ok(Some(self.parts.objects.value_at(number)))
     }
 
     /// Completes a transaction that runs.

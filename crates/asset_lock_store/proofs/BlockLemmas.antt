@@ -15,7 +15,8 @@ use Rattle.asset_lists.specs.declared.part.Section.TheVariants.{Front, Middle, B
 use Rattle.asset_lists.specs.Parted.{part_of}
 use Rattle.asset_seats.specs.Seated.{Seated, seat}
 use Rattle.asset_lock_store.specs.LockRules.{is_on, one_conflicts, conflicts_on, blocks, excludes}
-use Rattle.asset_lock_store.specs.Stored.{Stored, lock_at, locks_at, number_in, part_for, is_others, name_of, name_blocks, key_blocks, class_of, meets, IsStored}
+use Rattle.asset_names.specs.Numbered.{number_in}
+use Rattle.asset_lock_store.specs.Stored.{Stored, lock_at, locks_at, part_for, is_others, name_of, name_blocks, key_blocks, class_of, meets, IsStored}
 use Rattle.asset_lock_store.specs.Looked.{looks_at}
 use Rattle.asset_lock_store.proofs.WalkLemmas.{others_own, blocked_by}
 use Rattle.asset_lock_store.proofs.SuspendLemmas.{on_object, in_list}

@@ -18,7 +18,8 @@ use Rattle.asset_lists.specs.declared.part.Section.TheVariants.{Front}
 use Rattle.asset_lists.specs.Parted.{Parted, part_of, IsAt, AreKeys}
 use Rattle.asset_seats.specs.Seated.{Seated, seat}
 use Rattle.asset_lock_store.specs.LockRules.{is_on, carries_on, blocks}
-use Rattle.asset_lock_store.specs.Stored.{Stored, lock_at, locks_at, number_in, part_for, name_of, key_blocks, IsStored}
+use Rattle.asset_names.specs.Numbered.{number_in}
+use Rattle.asset_lock_store.specs.Stored.{Stored, lock_at, locks_at, part_for, name_of, key_blocks, IsStored}
 use Rattle.asset_lock_store.specs.Looked.{looks_at, is_named, key_named}
 use Rattle.asset_lock_store.specs.Gathered.{blocks_as, IsGathered}
 use Rattle.asset_lock_store.proofs.LockLemmas.{on_to}

@@ -17,7 +17,8 @@ use Rattle.asset_chains.proofs.KeyLemmas.{without_unlisted}
 use Rattle.asset_lists.specs.Parted.{part_of, IsChangedAt}
 use Rattle.asset_lock_store.specs.declared.lock.Lock.{Lock}
 use Rattle.asset_lock_store.specs.LockRules.{is_on, one_conflicts, both_conflict, conflicts_on, suspended, taken, granted_own, new_lock, ops_with, is_some_op}
-use Rattle.asset_lock_store.specs.Stored.{Stored, lock_at, locks_at, number_in, part_for, class_of, IsPlaced, IsStored, IsSuspended, IsAdded, IsDropped, IsGrown}
+use Rattle.asset_names.specs.Numbered.{number_in}
+use Rattle.asset_lock_store.specs.Stored.{Stored, lock_at, locks_at, part_for, class_of, IsPlaced, IsStored, IsSuspended, IsAdded, IsDropped, IsGrown}
 use Rattle.asset_lock_store.proofs.StoreLemmas.{stored_changed, same_lock}
 use Rattle.asset_lock_store.proofs.OpsLemmas.{some_with, with_same, with_only, conflict_swapped, conflict_before, conflict_only}
 use Rattle.asset_lock_store.proofs.LockLemmas.{on_to, on_from, off_from}
@@ -269,6 +270,7 @@ grown_twice old more most first second = record {
   chains = λ c. second.chains c ∙ first.chains c;
   homes = λ k. second.homes k ∙ first.homes k;
   seats = omega (arith, first.seats, second.seats);
+  objects = second.objects ∙ first.objects;
 }
 
 -- a lock is added after more room is made
@@ -282,6 +284,7 @@ added_later old more new key c lock grown added = record {
   chain = added.chain ∙ ap (λ l. l ++ key ∷ []) (grown.chains c);
   chains = λ d apart. added.chains d apart ∙ grown.chains d;
   seats = omega (arith, grown.seats, added.seats);
+  objects = added.objects ∙ grown.objects;
 }
 
 -- the lock of a seat on an object is the one that is found

@@ -13,7 +13,8 @@ use Rattle.asset_chains.proofs.KeyLemmas.{without_unlisted}
 use Rattle.asset_lists.specs.Parted.{part_of, IsChangedAt}
 use Rattle.asset_lock_store.specs.declared.lock.Lock.{Lock}
 use Rattle.asset_lock_store.specs.LockRules.{is_on, both_conflict, both_ops, merged, is_some_op}
-use Rattle.asset_lock_store.specs.Stored.{Stored, lock_at, locks_at, number_in, part_for, class_of, IsPlaced, IsStored, IsDropped, IsMoved, IsHanded}
+use Rattle.asset_names.specs.Numbered.{number_in}
+use Rattle.asset_lock_store.specs.Stored.{Stored, lock_at, locks_at, part_for, class_of, IsPlaced, IsStored, IsDropped, IsMoved, IsHanded}
 use Rattle.asset_lock_store.proofs.StoreLemmas.{stored_changed, written, read_lock}
 use Rattle.asset_lock_store.proofs.GrantLemmas.{found_here, none_here, seat_one}
 use Rattle.asset_lock_store.proofs.MergeLemmas.{with_ops, merged_here, merged_apart, ops_one, moved_here, moved_alone}
@@ -49,6 +50,7 @@ moved_chain old gone table key from to sound home seat unlinks_it pushes_it none
       chains = λ d apart. more.chains d apart ∙ chains d;
       homes = moved_homes old.by_owner gone table key from to home seat unlinks_it pushes_it;
       seats = more.same_chains ∙ less.same_chains;
+      objects = refl;
     } where
       differ : to ≡ from → ⊥
       differ is = both_ways (is_on (lock_at old.locks key).object.0 (lock_at old.locks key)) (none key (home ∙ ap (λ (n : ℕ). Some n) (sym is))) (on_from _ _ refl)
@@ -205,12 +207,13 @@ module _ (old new : Stored) (stored : IsStored old) (sound : IsSound old.by_owne
       | inl here ↦ inr (seat_one d to (sym at ∙ moved.homes k ∙ ap (λ (b : Bool). cond b (Some to) (home_of old.by_owner k)) here))
       | inr apart ↦ inl (sym (moved.homes k ∙ ap (λ (b : Bool). cond b (Some to) (home_of old.by_owner k)) apart) ∙ at)
     ];
+    objects = moved.objects;
   }
 
   -- or it had one
   module _ (half : Stored) (other : ℕ) (there : home_of old.by_owner other ≡ Some to) (on : is_on (lock_at old.locks key).object.0 (lock_at old.locks other) ≡ true)
       (locks : (k : ℕ) → lock_at half.locks k ≡ cond (eqb k other) (with_ops (lock_at old.locks key).ops (lock_at old.locks other)) (lock_at old.locks k)) (of_owner : half.by_owner ≡ old.by_owner)
-      (dropped : IsDropped key half new) where
+      (of_objects : half.objects ≡ old.objects) (dropped : IsDropped key half new) where
     chain_now : (d : ℕ) → chain_of new.by_owner d ≡ without key (chain_of old.by_owner d)
     chain_now d = dropped.chains d ∙ ap (λ (t : Chained). without key (chain_of t d)) of_owner
 
@@ -260,6 +263,7 @@ module _ (old new : Stored) (stored : IsStored old) (sound : IsSound old.by_owne
         | inl here ↦ absurd (some_is_not_none d (sym at ∙ dropped.homes k ∙ ap (λ (b : Bool). cond b None (home_of half.by_owner k)) here))
         | inr apart ↦ inl (ap (λ (t : Chained). home_of t k) (sym of_owner) ∙ sym (dropped.homes k ∙ ap (λ (b : Bool). cond b None (home_of half.by_owner k)) apart) ∙ at)
       ];
+      objects = dropped.objects ∙ of_objects;
     } where
       fused : (keys : List ℕ) → map (merged (lock_at old.locks key ∷ [])) (map (lock_at old.locks) keys) ≡ map (λ k. merged (lock_at old.locks key ∷ []) (lock_at old.locks k)) keys
       fused [] = refl

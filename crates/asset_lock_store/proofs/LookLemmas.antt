@@ -14,7 +14,8 @@ use Rattle.asset_lists.specs.Parted.{part_of, is_up_to, beside, IsAt, AreKeys, A
 use Rattle.asset_seats.specs.Seated.{Seated, seat}
 use Rattle.asset_lock_store.specs.declared.looking.Look.{Look}
 use Rattle.asset_lock_store.specs.LockRules.{is_on, one_conflicts, conflicts_on}
-use Rattle.asset_lock_store.specs.Stored.{Stored, lock_at, number_in, part_for, name_of, key_blocks, class_of, IsStored}
+use Rattle.asset_names.specs.Numbered.{number_in}
+use Rattle.asset_lock_store.specs.Stored.{Stored, lock_at, part_for, name_of, key_blocks, class_of, IsStored}
 use Rattle.asset_lock_store.specs.Looked.{look_with, is_named, name_conflicts, key_named, key_conflicts, looks_at, is_looked_at, IsSeen, IsLook, IsLookedAt, IsNoted}
 use Rattle.asset_lock_store.proofs.BlockLemmas.{if_some, absent_unnumbered, looked_at}
 use Rattle.asset_lock_store.proofs.SuspendLemmas.{on_object, in_list}

@@ -1,13 +1,8 @@
 -- Locks in a slab and its chains, and what a change of them leaves.
-use Rattle.std.proofs.Common.{◌≡◌, ℕ, ◌+◌, ◌≤◌, ◌<◌, ltb, not, ◌++◌, Bool, true, false, eqb, cond, ◌&&◌, ◌||◌, List, [], ◌∷◌, length, Option, Some, None, is_some, refl, sym, ap, subst, ◌∙◌, inl, inr, arith}
+use Rattle.std.proofs.Common.{◌≡◌, ℕ, ◌≤◌, ◌<◌, Bool, true, false, eqb, cond, ◌&&◌, List, [], length, Option, Some, None, is_some, refl, sym, ap, subst, ◌∙◌, inl, inr, arith}
 use Rattle.std.specs.Prelude.{unwrap_or, slice_index_or}
-use Rattle.std.specs.List.{list_any, position_or_len}
-use Rattle.std.proofs.lemmas.List.Quantifiers.{position-Some}
-use Rattle.std.proofs.lemmas.List.Folds.{position_or_len_push}
-use Rattle.std.proofs.lemmas.List.Sums.{prefix_len-le-length}
-use Rattle.std.proofs.lemmas.List.{length-append}
 use Rattle.std.proofs.Math.Bool.{and_comm}
-use Rattle.std.proofs.lemmas.Bool.{eqb-true, eqb-false, eq-eqb, ne_eqb, cases_Bool, both_ways, ltb-true, ltb-false, lt-ltb}
+use Rattle.std.proofs.lemmas.Bool.{eqb-true, eqb-false, eq-eqb, cases_Bool, both_ways}
 use Rattle.slab.specs.Slab.{Slab, get, with_value, Updates, ContainsKey}
 use Rattle.slab.proofs.SlabLemmas.{Updates-with_value}
 use Rattle.asset_names.specs.declared.names.Ob.{Ob}
@@ -24,7 +19,9 @@ use Rattle.asset_lists.proofs.Laws.{no_part_of}
 use Rattle.asset_chains.proofs.SoundLemmas.{no_home_of}
 use Rattle.asset_lock_store.specs.declared.lock.Lock.{Lock}
 use Rattle.asset_lock_store.specs.LockRules.{is_on, both_conflict, is_some_op, paused}
-use Rattle.asset_lock_store.specs.Stored.{Stored, no_lock, lock_at, number_in, part_for, class_of, IsPlaced, IsStored}
+use Rattle.asset_names.specs.Numbered.{number_in}
+use Rattle.asset_names.proofs.NumberLemmas.{number_reads}
+use Rattle.asset_lock_store.specs.Stored.{Stored, no_lock, lock_at, part_for, class_of, IsPlaced, IsStored}
 use Rattle.asset_lock_store.proofs.OpsLemmas.{conflict_swapped}
 
 -- ---- reads and writes of the slab
@@ -300,78 +297,9 @@ stored_nothing store locks objects of_object of_owner = record {
   no_lock_at : (k : ℕ) → get store.locks k ≡ None
   no_lock_at k = ap (λ (l : List (Option Lock)). slice_index_or l k None) locks
 
--- ---- numbers of objects
-number_parts : (objects : List Ob) (x n : ℕ) → number_in objects x ≡ Some n → (position_or_len (λ (y : Ob). eqb x y.0) objects ≡ n) × (n < length objects)
-unfolding number_in
-number_parts objects x n is = go (ltb at (length objects)) refl where
-  at : ℕ
-  at = position_or_len (λ (y : Ob). eqb x y.0) objects
-
-  go : (b : Bool) → ltb at (length objects) ≡ b → (at ≡ n) × (n < length objects)
-  go true e =
-      let same : Some at ≡ Some n = sym (ap (λ (b : Bool). cond b (Some at) None) e) ∙ is in
-      let here : at ≡ n = cc same in
-      (here, subst (λ m. m < length objects) here (ltb-true at (length objects) e))
-  go false e = absurd (some_is_not_none n (sym is ∙ ap (λ (b : Bool). cond b (Some at) None) e))
-
-number_from : (objects : List Ob) (x : ℕ) → position_or_len (λ (y : Ob). eqb x y.0) objects < length objects → number_in objects x ≡ Some (position_or_len (λ (y : Ob). eqb x y.0) objects)
-unfolding number_in
-number_from objects x within = ap (λ (b : Bool). cond b (Some (position_or_len (λ (y : Ob). eqb x y.0) objects)) None) (lt-ltb _ _ within)
-
-pub number_within : (objects : List Ob) (x n : ℕ) → number_in objects x ≡ Some n → n < length objects
-number_within objects x n is = (number_parts objects x n is).1
-
--- two objects have two numbers
-pub number_one : (objects : List Ob) (x y n : ℕ) → number_in objects x ≡ Some n → number_in objects y ≡ Some n → x ≡ y
-unfolding number_in
-number_one objects x y n first second =
-    let none : Ob = record { 0 = 0 } in
-    let one = position-Some (λ (o : Ob). eqb x o.0) objects n none first in
-    let other = position-Some (λ (o : Ob). eqb y o.0) objects n none second in
-    eqb-true x _ one.1 ∙ sym (eqb-true y _ other.1)
-
--- one more object leaves the numbers of the others
-pub number_more : (objects : List Ob) (y : Ob) (x n : ℕ) → number_in objects x ≡ Some n → number_in (objects ++ y ∷ []) x ≡ Some n
-number_more objects y x n is =
-    let parts = number_parts objects x n is in
-    let at = position_or_len_push (λ (o : Ob). eqb x o.0) objects y in
-    let other : eqb (position_or_len (λ (o : Ob). eqb x o.0) objects) (length objects) ≡ false = ne_eqb _ _ (λ same. absurd (omega (arith, parts.0, parts.1, same))) in
-    let same : position_or_len (λ (o : Ob). eqb x o.0) (objects ++ y ∷ []) ≡ n = at ∙ ap (λ (b : Bool). cond b (length objects + cond (eqb x y.0) 0 1) (position_or_len (λ (o : Ob). eqb x o.0) objects)) other ∙ parts.0 in
-    number_from (objects ++ y ∷ []) x (omega (arith, same, parts.1, length-append objects (y ∷ []))) ∙ ap Some same
-
-absent : (objects : List Ob) (y : Ob) → number_in objects y.0 ≡ None → position_or_len (λ (o : Ob). eqb y.0 o.0) objects ≡ length objects
-unfolding number_in
-absent objects y none = go (ltb at (length objects)) refl where
-  at : ℕ
-  at = position_or_len (λ (o : Ob). eqb y.0 o.0) objects
-
-  go : (b : Bool) → ltb at (length objects) ≡ b → at ≡ length objects
-  go true e = absurd (some_is_not_none at (sym (ap (λ (b : Bool). cond b (Some at) None) e) ∙ none))
-  go false e = omega (arith, ltb-false at (length objects) e, prefix_len-le-length (λ (o : Ob). not (eqb y.0 o.0)) objects)
-
--- and has the next number itself
-pub number_new : (objects : List Ob) (y : Ob) → number_in objects y.0 ≡ None → number_in (objects ++ y ∷ []) y.0 ≡ Some (length objects)
-number_new objects y none =
-    let at = position_or_len_push (λ (o : Ob). eqb y.0 o.0) objects y in
-    let is = absent objects y none in
-    let same : position_or_len (λ (o : Ob). eqb y.0 o.0) (objects ++ y ∷ []) ≡ length objects =
-    at ∙ ap (λ (b : Bool). cond b (length objects + cond (eqb y.0 y.0) 0 1) (position_or_len (λ (o : Ob). eqb y.0 o.0) objects)) (eq-eqb _ _ is) ∙ ap (λ (b : Bool). length objects + cond b 0 1) (eq-eqb y.0 y.0 refl) ∙ omega arith in
-    number_from (objects ++ y ∷ []) y.0 (omega (arith, same, length-append objects (y ∷ []))) ∙ ap Some same
-
-unlisted_at : (test : Ob → Bool) (objects : List Ob) → position_or_len test objects ≡ length objects → list_any test objects ≡ false
-unlisted_at test [] e = refl
-unlisted_at test (o ∷ objects) e = elim (cases_Bool (test o)) [
-  | inl here ↦ absurd (omega (arith, e, ap (λ (b : Bool). cond (not b) (1 + position_or_len test objects) 0) here))
-  | inr other ↦ ap (λ (b : Bool). b || list_any test objects) other ∙ unlisted_at test objects (omega (arith, e, ap (λ (b : Bool). cond (not b) (1 + position_or_len test objects) 0) other))
-]
-
--- an object without a number is not listed
-pub unnumbered : (objects : List Ob) (y : Ob) → number_in objects y.0 ≡ None → list_any (λ (o : Ob). eqb y.0 o.0) objects ≡ false
-unnumbered objects y none = unlisted_at (λ (o : Ob). eqb y.0 o.0) objects (absent objects y none)
-
 -- the list of an object is among the lists
 pub list_there : (store : Stored) → IsStored store → (x n : ℕ) → number_in store.objects x ≡ Some n → n < store.by_object.lists
-list_there store stored x n is = omega (arith, number_within store.objects x n is, stored.lists)
+list_there store stored x n is = omega (arith, (number_reads store.objects x n is).0, stored.lists)
 
 -- two parts are of one object, and one part of its list
 pub parts_one : (n m : ℕ) (w v : Section) → part_for n w ≡ part_for m v → (n ≡ m) × (w ≡ v)

@@ -11,8 +11,10 @@ use Rattle.asset_lists.specs.declared.part.Section.TheVariants.{Front, Middle, B
 use Rattle.asset_lists.specs.Parted.{Parted, part_of, is_up_to, beside, AreKeys, AreKeysUpTo}
 use Rattle.asset_lock_store.specs.declared.lock.Lock.{Lock}
 use Rattle.asset_lock_store.specs.LockRules.{is_on, both_conflict, excludes, suspended, paused, is_some_op}
-use Rattle.asset_lock_store.specs.Stored.{Stored, lock_at, number_in, part_for, same_section, is_in, is_others, class_of, meets, IsStored, IsSuspended}
-use Rattle.asset_lock_store.proofs.StoreLemmas.{stored_changed, number_one, parts_one}
+use Rattle.asset_names.specs.Numbered.{number_in}
+use Rattle.asset_lock_store.specs.Stored.{Stored, lock_at, part_for, same_section, is_in, is_others, class_of, meets, IsStored, IsSuspended}
+use Rattle.asset_names.proofs.NumberLemmas.{number_one}
+use Rattle.asset_lock_store.proofs.StoreLemmas.{stored_changed, parts_one}
 use Rattle.asset_lock_store.proofs.WalkLemmas.{passed_lock, others_own, others_from}
 use Rattle.asset_lock_store.proofs.ListLemmas.{twice_passed, at_lists, lists_at, lists_in}
 use Rattle.asset_lock_store.proofs.LockLemmas.{on_to, on_from}

@@ -1,5 +1,5 @@
 -- How locks are stored: in a slab, beside lists of its keys by object, and chains of them by the seat of the owner.
-use Rattle.std.specs.Prelude.{◌≡◌, ℕ, ◌<◌, ◌≤◌, Bool, true, false, cond, not, ◌==◌, ◌&&◌, ◌||◌, ◌⊎◌, List, [], ◌∷◌, ◌++◌, length, map, position, Option, Some, None, is_some, unwrap_or}
+use Rattle.std.specs.Prelude.{◌≡◌, ℕ, ◌<◌, ◌≤◌, Bool, true, false, cond, not, ◌==◌, ◌&&◌, ◌||◌, ◌⊎◌, List, [], ◌∷◌, ◌++◌, length, map, Option, Some, None, is_some, unwrap_or}
 use Rattle.slab.specs.Slab.{Slab, get, HasRoomFor}
 use Rattle.asset_chains.specs.Chained.{Chained, chain_of, home_of, without}
 use Rattle.asset_lists.specs.declared.part.Part.{Part}
@@ -9,6 +9,7 @@ use Rattle.asset_lists.specs.Parted.{Parted, part_of}
 use Rattle.asset_names.specs.declared.names.Txn.{Txn}
 use Rattle.asset_names.specs.declared.names.Ob.{Ob}
 use Rattle.asset_names.specs.declared.operations.Op.{Op}
+use Rattle.asset_names.specs.Numbered.{number_in}
 use Rattle.asset_seats.specs.Seated.{Seated, seat}
 use Rattle.asset_lock_store.specs.declared.lock.Lock.{Lock}
 use Rattle.asset_names.specs.OpSets.{OpSet}
@@ -17,7 +18,7 @@ use Rattle.asset_lock_store.specs.LockRules.{suspended, with_moved, is_some_op, 
 pub record Stored : Type 0 where
   -- the locks, by key
   pub locks : Slab Lock
-  -- the objects that ever had a lock
+  -- the objects that may have locks, in the order of their numbers
   pub objects : List Ob
   -- of each object the keys of its locks, by the part that `class_of` says
   pub by_object : Parted
@@ -35,10 +36,6 @@ lock_at locks k = unwrap_or (get locks k) no_lock
 -- the locks of a seat, in order of first grant
 unfoldable pub locks_at : Stored → ℕ → List Lock
 locks_at store c = map (lock_at store.locks) (chain_of store.by_owner c)
-
--- the number of an object, if it ever had a lock
-unfoldable pub number_in : List Ob → ℕ → Option ℕ
-number_in objects x = position (λ (y : Ob). x == y.0) objects
 
 -- the part of its object's list that a lock with these operations is in: those that only read are in the back part, those
 -- that only add in the middle part, and in the front part those that conflict with each other lock
@@ -113,6 +110,7 @@ pub record IsGrown (old new : Stored) : Type 0 where
   pub chains : (c : ℕ) → chain_of new.by_owner c ≡ chain_of old.by_owner c
   pub homes : (k : ℕ) → home_of new.by_owner k ≡ home_of old.by_owner k
   pub seats : length old.by_owner.chains ≤ length new.by_owner.chains
+  pub objects : new.objects ≡ old.objects
 
 -- one lock is gone
 pub record IsDropped (key : ℕ) (old new : Stored) : Type 0 where
@@ -120,6 +118,7 @@ pub record IsDropped (key : ℕ) (old new : Stored) : Type 0 where
   pub chains : (c : ℕ) → chain_of new.by_owner c ≡ without key (chain_of old.by_owner c)
   pub homes : (k : ℕ) → home_of new.by_owner k ≡ cond (k == key) None (home_of old.by_owner k)
   pub seats : length new.by_owner.chains ≡ length old.by_owner.chains
+  pub objects : new.objects ≡ old.objects
 
 -- one lock is another seat's, at the end of those of this seat
 pub record IsMoved (key to : ℕ) (old new : Stored) : Type 0 where
@@ -128,6 +127,7 @@ pub record IsMoved (key to : ℕ) (old new : Stored) : Type 0 where
   pub chains : (d : ℕ) → (d ≡ to → ⊥) → chain_of new.by_owner d ≡ without key (chain_of old.by_owner d)
   pub homes : (k : ℕ) → home_of new.by_owner k ≡ cond (k == key) (Some to) (home_of old.by_owner k)
   pub seats : length new.by_owner.chains ≡ length old.by_owner.chains
+  pub objects : new.objects ≡ old.objects
 
 -- one lock of a seat is another's: by itself, or as one with the lock that the other has on its object
 pub record IsHanded (key from to : ℕ) (old new : Stored) : Type 0 where
@@ -137,6 +137,7 @@ pub record IsHanded (key from to : ℕ) (old new : Stored) : Type 0 where
   pub others : (d : ℕ) → (d ≡ from → ⊥) → (d ≡ to → ⊥) → locks_at new d ≡ locks_at old d
   pub seats : length new.by_owner.chains ≡ length old.by_owner.chains
   pub holders : (k d : ℕ) → home_of new.by_owner k ≡ Some d → (home_of old.by_owner k ≡ Some d) ⊎ (d ≡ to)
+  pub objects : new.objects ≡ old.objects
 
 -- there is room for one more lock at this key
 pub record HasKey (store : Stored) (key : ℕ) : Type 0 where
@@ -163,3 +164,4 @@ pub record IsAdded (key c : ℕ) (lock : Lock) (old new : Stored) : Type 0 where
   pub chain : chain_of new.by_owner c ≡ chain_of old.by_owner c ++ key ∷ []
   pub chains : (d : ℕ) → (d ≡ c → ⊥) → chain_of new.by_owner d ≡ chain_of old.by_owner d
   pub seats : length old.by_owner.chains ≤ length new.by_owner.chains
+  pub objects : new.objects ≡ old.objects

@@ -21,7 +21,8 @@ impl LockStore {
     ghost use Rattle.asset_lists.specs.Parted.{part_of};
     ghost use Rattle.asset_seats.specs.Seated.{seat};
     ghost use Rattle.asset_lock_store.specs.LockRules.{blocks};
-    ghost use Rattle.asset_lock_store.specs.Stored.{name_of, key_blocks, locks_at, number_in, part_for};
+    ghost use Rattle.asset_names.specs.Numbered.{number_in};
+    ghost use Rattle.asset_lock_store.specs.Stored.{name_of, key_blocks, locks_at, part_for};
     ghost use Rattle.asset_lock_store.specs.Looked.{looks_at};
     ghost use Rattle.asset_lock_store.specs.Gathered.{blocks_as, IsGathered};
 

@@ -30,7 +30,8 @@ impl LockStore {
     ghost use Rattle.asset_names.specs.OpSets.{with_op, only_op};
     ghost use Rattle.asset_chains.specs.Chained.{chain_of, home_of};
     ghost use Rattle.asset_lock_store.specs.LockRules.{is_on, conflicts_on, taken, suspended, granted_own, ops_with, new_lock, both_conflict, is_some_op};
-    ghost use Rattle.asset_lock_store.specs.Stored.{lock_at, locks_at, number_in, IsGrown, IsSuspended, IsAdded, HasKey};
+    ghost use Rattle.asset_names.specs.Numbered.{number_in};
+    ghost use Rattle.asset_lock_store.specs.Stored.{lock_at, locks_at, IsGrown, IsSuspended, IsAdded, HasKey};
     ghost use Rattle.asset_lock_store.specs.Looked.{IsNoted};
 
     /// Grants `op` on `x`, whose number is given, to the seat, after a look for `op`, and suspends each conflicting lock of
@@ -38,12 +39,12 @@ impl LockStore {
     pub fn grant(
         &mut self,
         look: Look,
-        number: Option<usize>,
+        number: usize,
         c: usize,
         x: Ob,
         op: Op,
     ) -> Result<(), NoMemory>
-        requires number { number ≡ number_in self.old.objects x.0 }
+        requires number { number_in self.old.objects x.0 ≡ Some number }
         requires noted { IsNoted self.old c x.0 op look }
         requires seat { c < length self.old.by_owner.chains }
         ensures own { OnOk result (locks_at self.new c ≡ granted_own x op (locks_at self.old c)) }
@@ -52,9 +53,10 @@ impl LockStore {
         ensures unchanged { OnErr result ((d : ℕ) → locks_at self.new d ≡ locks_at self.old d) }
         ensures seats { length self.old.by_owner.chains ≤ length self.new.by_owner.chains }
         ensures holders { (k d : ℕ) → home_of self.new.by_owner k ≡ Some d → (home_of self.old.by_owner k ≡ Some d) ⊎ (d ≡ c) }
+        ensures objects { self.new.objects ≡ self.old.objects }
     {
         self.laws();
-        match self.own_key(look, number, c, x, op) {
+        match self.own_key(look, Some(number), c, x, op) {
             Some(key) => {
                 self.take(key, c, op, look.conflicts);
                 Ok(())
@@ -75,6 +77,7 @@ impl LockStore {
         ensures own { locks_at self.new c ≡ map (taken (lock_at self.old.locks key).object.0 op) (locks_at self.old c) }
         ensures others { (d : ℕ) → (d ≡ c → ⊥) → locks_at self.new d ≡ map (suspended (lock_at self.old.locks key).object.0 (with_op op (lock_at self.old.locks key).ops)) (locks_at self.old d) }
         ensures by_owner { self.new.by_owner ≡ self.old.by_owner }
+        ensures objects { self.new.objects ≡ self.old.objects }
     {
         self.laws();
         if self.lock(key).has(op) {
@@ -119,6 +122,7 @@ impl LockStore {
         requires apart { (j c d : ℕ) → home_of self.old.by_owner key ≡ Some c → home_of self.old.by_owner j ≡ Some d → (d ≡ c → ⊥) → (lock_at self.old.locks j).object.0 ≡ (lock_at self.old.locks key).object.0 → both_conflict (lock_at self.old.locks j).ops (with_op op (lock_at self.old.locks key).ops) ≡ true → (lock_at self.old.locks j).granted ≡ false }
         ensures locks { (k : ℕ) → lock_at self.new.locks k ≡ cond (k == key) (record (lock_at self.old.locks key) { ops = with_op op (lock_at self.old.locks key).ops; granted = true }) (lock_at self.old.locks k) }
         ensures by_owner { self.new.by_owner ≡ self.old.by_owner }
+        ensures objects { self.new.objects ≡ self.old.objects }
     {
         self.laws();
         let before = self.lock(key).ops;
@@ -135,20 +139,19 @@ impl LockStore {
     /// granted, no lock of another conflicts with it. If memory runs out, no lock changes.
     fn add_lock(
         &mut self,
-        number: Option<usize>,
+        number: usize,
         c: usize,
         x: Ob,
         op: Op,
         granted: bool,
     ) -> Result<usize, NoMemory>
-        requires number { number ≡ number_in self.old.objects x.0 }
+        requires number { number_in self.old.objects x.0 ≡ Some number }
         requires seat { c < length self.old.by_owner.chains }
         requires none { (k : ℕ) → home_of self.old.by_owner k ≡ Some c → is_on x.0 (lock_at self.old.locks k) ≡ false }
         requires alone { granted ≡ true → (k d : ℕ) → home_of self.old.by_owner k ≡ Some d → (d ≡ c → ⊥) → conflicts_on x.0 op (lock_at self.old.locks k) ≡ false }
         ensures added { IfOk result (λ key. IsAdded key c (record (new_lock x op) { granted = granted }) self.old self.new) }
         ensures unchanged { OnErr result (IsGrown self.old self.new) }
     {
-        let number = self.number_for(number, x)?;
         let key = self.reserve_key()?;
         self.insert(
             key,
@@ -163,41 +166,10 @@ impl LockStore {
         Ok(key)
     }
 
-    /// Returns the number of the object, which is given one if it has none. If memory runs out, no lock changes.
-    fn number_for(&mut self, number: Option<usize>, x: Ob) -> Result<usize, NoMemory>
-        requires { number ≡ number_in self.old.objects x.0 }
-        ensures number { IfOk result (λ number. number_in self.new.objects x.0 ≡ Some number) }
-        ensures grown { IsGrown self.old self.new }
-    {
-        match number {
-            Some(number) => Ok(number),
-            None => self.add_object(x),
-        }
-    }
-
-    /// Gives the object a number, and a list. If memory runs out, no lock changes.
-    fn add_object(&mut self, x: Ob) -> Result<usize, NoMemory>
-        requires { number_in self.old.objects x.0 ≡ None }
-        ensures number { IfOk result (λ number. number_in self.new.objects x.0 ≡ Some number) }
-        ensures grown { IsGrown self.old self.new }
-    {
-        self.laws();
-        let number = self.objects.len();
-        match self.by_object.add_lists(number) {
-            Ok(()) => {}
-            Err(_) => return Err(NoMemory),
-        }
-        match self.objects.insert(x) {
-            Ok(_) => Ok(number),
-            Err(_) => Err(NoMemory),
-        }
-    }
-
     /// Makes room for one more lock, and returns its key. If memory runs out, no lock changes.
     fn reserve_key(&mut self) -> Result<usize, NoMemory>
         ensures room { IfOk result (HasKey self.new) }
         ensures grown { IsGrown self.old self.new }
-        ensures objects { self.new.objects ≡ self.old.objects }
     {
         match self.locks.reserve(1) {
             Ok(()) => {}

@@ -43,41 +43,48 @@ fn add_ops(locks: &mut Slab<Lock>, key: usize, ops: Ops)
 impl LockStore {
     ghost use Rattle.std.specs.Prelude.{◌≡◌, ◌==◌, ℕ, ◌<◌, ◌⊎◌, cond, true, false, filter, length, Some, is_some};
     ghost use Rattle.asset_names.specs.declared.sets.ObSet.{ObSet as ObjectSet};
+    ghost use Rattle.asset_names.specs.declared.names.Ob.{Ob as Object};
     ghost use Rattle.asset_names.specs.InSet.{only_in};
+    ghost use Rattle.asset_names.specs.Numbered.{number_in};
     ghost use Rattle.asset_chains.specs.Chained.{home_of};
     ghost use Rattle.asset_lock_store.specs.LockRules.{is_on, both_ops, moved, left, with_moved};
     ghost use Rattle.asset_lock_store.specs.Stored.{lock_at, locks_at, IsMoved, IsHanded};
 
     /// Moves the giver's locks on objects of the set to the taker's seat, each at the end or as one with the taker's lock
     /// on its object, which is suspended then. The cost is that of a look at each lock of the giver, and of a search for
-    /// each that moves; of a set that lists one object, that of a search for each of the two locks on it.
-    pub fn hand_over(&mut self, from: usize, to: usize, objects: &ObSet)
+    /// each that moves; of a set that lists one object, whose number is given if it has one, that of a search for each of the
+    /// two locks on it.
+    pub fn hand_over(&mut self, from: usize, to: usize, objects: &ObSet, only: Option<usize>)
         requires apart { from ≡ to → ⊥ }
         requires seat { to < length self.old.by_owner.chains }
+        requires only { (x : Object) → only_in objects.now ≡ Some x → only ≡ number_in self.old.objects x.0 }
         ensures giver { locks_at self.new from ≡ left objects.now (locks_at self.old from) }
         ensures taker { locks_at self.new to ≡ with_moved (filter (moved objects.now) (locks_at self.old from)) (locks_at self.old to) }
         ensures others { (d : ℕ) → (d ≡ from → ⊥) → (d ≡ to → ⊥) → locks_at self.new d ≡ locks_at self.old d }
         ensures seats { length self.new.by_owner.chains ≡ length self.old.by_owner.chains }
         ensures holders { (k d : ℕ) → home_of self.new.by_owner k ≡ Some d → (home_of self.old.by_owner k ≡ Some d) ⊎ (d ≡ to) }
+        ensures objects { self.new.objects ≡ self.old.objects }
     {
         match objects.only() {
-            Some(x) => self.hand_one(from, to, x),
+            Some(x) => self.hand_one(from, to, x, only),
             None => self.hand_each(from, to, objects),
         }
     }
 
-    /// Moves the giver's lock on the object, if it has one, as `hand_over` does.
-    fn hand_one(&mut self, from: usize, to: usize, x: Ob)
+    /// Moves the giver's lock on the object, whose number is given, if it has one, as `hand_over` does.
+    fn hand_one(&mut self, from: usize, to: usize, x: Ob, number: Option<usize>)
         requires apart { from ≡ to → ⊥ }
         requires seat { to < length self.old.by_owner.chains }
+        requires number { number ≡ number_in self.old.objects x.0 }
         ensures giver { (set : ObjectSet) → only_in set ≡ Some x → locks_at self.new from ≡ left set (locks_at self.old from) }
         ensures taker { (set : ObjectSet) → only_in set ≡ Some x → locks_at self.new to ≡ with_moved (filter (moved set) (locks_at self.old from)) (locks_at self.old to) }
         ensures others { (d : ℕ) → (d ≡ from → ⊥) → (d ≡ to → ⊥) → locks_at self.new d ≡ locks_at self.old d }
         ensures seats { length self.new.by_owner.chains ≡ length self.old.by_owner.chains }
         ensures holders { (k d : ℕ) → home_of self.new.by_owner k ≡ Some d → (home_of self.old.by_owner k ≡ Some d) ⊎ (d ≡ to) }
+        ensures objects { self.new.objects ≡ self.old.objects }
     {
         self.laws();
-        if let Some(key) = self.key_on(self.number(x), from, x) {
+        if let Some(key) = self.key_on(number, from, x) {
             self.hand_key(key, to);
         }
     }
@@ -91,6 +98,7 @@ impl LockStore {
         ensures others { (d : ℕ) → (d ≡ from → ⊥) → (d ≡ to → ⊥) → locks_at self.new d ≡ locks_at self.old d }
         ensures seats { length self.new.by_owner.chains ≡ length self.old.by_owner.chains }
         ensures holders { (k d : ℕ) → home_of self.new.by_owner k ≡ Some d → (home_of self.old.by_owner k ≡ Some d) ⊎ (d ≡ to) }
+        ensures objects { self.new.objects ≡ self.old.objects }
     {
         self.laws();
         let mut next = self.by_owner.first(from);
@@ -138,6 +146,7 @@ impl LockStore {
         requires { is_some (home_of self.old.by_owner key) ≡ true }
         ensures locks { (k : ℕ) → lock_at self.new.locks k ≡ cond (k == key) (record (lock_at self.old.locks key) { ops = both_ops (lock_at self.old.locks key).ops ops; granted = false }) (lock_at self.old.locks k) }
         ensures by_owner { self.new.by_owner ≡ self.old.by_owner }
+        ensures objects { self.new.objects ≡ self.old.objects }
     {
         self.laws();
         let all = both(self.lock(key).ops, ops);

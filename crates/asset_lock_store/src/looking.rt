@@ -49,7 +49,8 @@ impl LockStore {
     ghost use Rattle.asset_lists.specs.Parted.{part_of, IsAt};
     ghost use Rattle.asset_seats.specs.Seated.{seat, HasSeat};
     ghost use Rattle.asset_lock_store.specs.LockRules.{blocks};
-    ghost use Rattle.asset_lock_store.specs.Stored.{name_of, locks_at, number_in, part_for};
+    ghost use Rattle.asset_names.specs.Numbered.{number_in};
+    ghost use Rattle.asset_lock_store.specs.Stored.{name_of, locks_at, part_for};
     ghost use Rattle.asset_lock_store.specs.Looked.{looks_at, IsLook, IsLookedAt};
 
     /// Returns who has the lock at the key, if anybody has it.

@@ -24,6 +24,7 @@ impl LockStore {
         ensures others { (d : ℕ) → (d ≡ c → ⊥) → locks_at self.new d ≡ locks_at self.old d }
         ensures seats { length self.new.by_owner.chains ≡ length self.old.by_owner.chains }
         ensures holders { (k d : ℕ) → home_of self.new.by_owner k ≡ Some d → (home_of self.old.by_owner k ≡ Some d) × (d ≡ c → ⊥) }
+        ensures objects { self.new.objects ≡ self.old.objects }
     {
         self.laws();
         'keys: while let Some(key) = self.by_owner.first(c) {

@@ -28,6 +28,7 @@ pub(crate) fn is_others(by_owner: &Chains, key: usize, c: usize) -> bool
 
 impl LockStore {
     ghost use Rattle.std.specs.Prelude.{◌≡◌, ℕ, true, false, Some, map, filter, slice_get, ◌++◌, IfOk, OnOk, IfSome, IfNone};
+    ghost use Rattle.asset_names.specs.declared.names.Ob.{Ob as Object};
     ghost use Rattle.asset_names.specs.declared.sets.ObSet.{ObSet as ObjectSet};
     ghost use Rattle.asset_names.specs.InSet.{in_set, only_in};
     ghost use Rattle.asset_chains.specs.Chained.{home_of};
@@ -35,7 +36,8 @@ impl LockStore {
     ghost use Rattle.asset_lists.specs.Parted.{part_of};
     ghost use Rattle.asset_lock_store.specs.declared.lock.Lock.{Lock as Held};
     ghost use Rattle.asset_lock_store.specs.LockRules.{is_on};
-    ghost use Rattle.asset_lock_store.specs.Stored.{class_of, lock_at, locks_at, number_in, part_for, is_others};
+    ghost use Rattle.asset_names.specs.Numbered.{number_in};
+    ghost use Rattle.asset_lock_store.specs.Stored.{class_of, lock_at, locks_at, part_for, is_others};
     ghost use Rattle.asset_lock_store.specs.Looked.{IsNoted};
 
     /// Returns the key of a lock of the part that is the seat's, if there is one.
@@ -172,19 +174,21 @@ impl LockStore {
     }
 
     /// Returns the objects of the set on which the seat has a lock, in order of first grant. If memory runs out, the
-    /// answer is `NoMemory`. It looks at each lock of the seat; for a set that lists one object, it searches for the lock
-    /// on it.
+    /// answer is `NoMemory`. It looks at each lock of the seat; for a set that lists one object, whose number is given if it has
+    /// one, it searches for the lock on it.
     pub fn held_among(
         &self,
         alloc: Global,
         c: usize,
         objects: &ObSet,
+        only: Option<usize>,
     ) -> Result<HeldObjects, NoMemory>
+        requires { (x : Object) → only_in objects.now ≡ Some x → only ≡ number_in self.now.objects x.0 }
         ensures { IfOk result (λ held. held.items ≡ filter (λ (x : Ob). in_set objects.now x.0) (map (λ (lock : Held). lock.object) (locks_at self.now c))) }
     {
         let mut held = SmallVec::new(alloc);
         let added = match objects.only() {
-            Some(x) => self.add_one(c, x, &mut held),
+            Some(x) => self.add_one(c, x, only, &mut held),
             None => self.add_held(c, objects, &mut held),
         };
         match added {
@@ -193,12 +197,19 @@ impl LockStore {
         }
     }
 
-    /// Adds the object if the seat has a lock on it, unless memory runs out.
-    fn add_one(&self, c: usize, x: Ob, held: &mut HeldObjects) -> Result<(), NoMemory>
+    /// Adds the object, whose number is given, if the seat has a lock on it, unless memory runs out.
+    fn add_one(
+        &self,
+        c: usize,
+        x: Ob,
+        number: Option<usize>,
+        held: &mut HeldObjects,
+    ) -> Result<(), NoMemory>
+        requires { number ≡ number_in self.now.objects x.0 }
         ensures { OnOk result ((set : ObjectSet) → only_in set ≡ Some x → held.new.items ≡ held.old.items ++ filter (λ (y : Ob). in_set set y.0) (map (λ (lock : Held). lock.object) (locks_at self.now c))) }
     {
         self.laws();
-        let Some(_key) = self.key_on(self.number(x), c, x) else {
+        let Some(_key) = self.key_on(number, c, x) else {
             return Ok(());
         };
         match held.push(x) {

@@ -9,17 +9,18 @@ use asset_chains::Chains;
 use asset_lists::{KeyLists, Part, Section};
 use asset_names::{NoMemory, Ob, Op, Ops};
 use asset_seats::add_chains;
-use indexmap::IndexSet;
 use slab::Slab;
 use std::alloc::Global;
 use std::marker::Model;
 
 /// The locks of each seat, in order of first grant. Contracts see the locks by their keys, and the keys in the lists of
 /// objects and in the chains of seats.
+///
+/// An object has a number, by which the store is asked, and which the caller knows: the store has no index of names.
 #[derive(Drop)]
 pub struct LockStore {
     pub(crate) locks: Slab<Lock>,
-    pub(crate) objects: IndexSet<Ob>,
+    pub(crate) objects: Vec<Ob>,
     pub(crate) by_object: KeyLists,
     pub(crate) by_owner: Chains,
 }
@@ -29,9 +30,9 @@ impl Model for LockStore {
 
     ghost Value = { Stored };
 
-    ghost view = { λ s. record { locks = s.locks; objects = s.objects.keys; by_object = s.by_object; by_owner = s.by_owner } };
+    ghost view = { λ s. record { locks = s.locks; objects = s.objects.items; by_object = s.by_object; by_owner = s.by_owner } };
 
-    ghost invariant = { λ s. IsStored (record { locks = s.locks; objects = s.objects.keys; by_object = s.by_object; by_owner = s.by_owner }) };
+    ghost invariant = { λ s. IsStored (record { locks = s.locks; objects = s.objects.items; by_object = s.by_object; by_owner = s.by_owner }) };
 }
 
 /// Returns the part of the locks that conflict with each other lock, in the list of the object of this number.
@@ -82,17 +83,18 @@ pub(crate) fn part_of(number: usize, ops: Ops) -> Part
 }
 
 impl LockStore {
-    ghost use Rattle.std.specs.Prelude.{◌≡◌, ℕ, ◌<◌, [], length, OnOk};
+    ghost use Rattle.std.specs.Prelude.{◌≡◌, ℕ, ◌<◌, [], ◌∷◌, ◌++◌, length, OnOk, OnErr};
     ghost use Rattle.asset_chains.specs.Chained.{chain_of, home_of, IsSound};
-    ghost use Rattle.asset_lock_store.specs.Stored.{IsStored, IsGrown, lock_at, locks_at, number_in};
+    ghost use Rattle.asset_lock_store.specs.Stored.{IsStored, IsGrown, lock_at, locks_at};
 
-    /// Returns no locks. It does not allocate.
+    /// Returns no locks, on no objects. It does not allocate.
     pub fn new(alloc: Global) -> LockStore
-        ensures { result.by_owner.homes ≡ [] }
+        ensures homes { result.by_owner.homes ≡ [] }
+        ensures objects { result.objects ≡ [] }
     {
         LockStore {
             locks: Slab::new(alloc),
-            objects: IndexSet::new(alloc),
+            objects: Vec::new(alloc),
             by_object: KeyLists::new(alloc),
             by_owner: Chains::new(alloc),
         }
@@ -114,12 +116,40 @@ impl LockStore {
         add_chains(&mut self.by_owner, c)
     }
 
-    /// Returns the number of the object, if it ever had a lock.
-    #[tactic(auto, unfolding(crate::specs::Stored::number_in))]
-    pub fn number(&self, x: Ob) -> Option<usize>
-        ensures { result ≡ number_in self.now.objects x.0 }
+    /// Returns the objects that may have locks, in the order of their numbers.
+    pub fn objects(&self) -> &[Ob]
+        ensures { result.now ≡ self.now.objects }
     {
-        self.objects.get_index_of(&x)
+        self.objects.as_slice()
+    }
+
+    /// Gives the object the next number, and a list. If memory runs out, no object gets one. No lock changes.
+    pub fn add_object(&mut self, x: Ob) -> Result<(), NoMemory>
+        ensures added { OnOk result (self.new.objects ≡ self.old.objects ++ x ∷ []) }
+        ensures unchanged { OnErr result (self.new.objects ≡ self.old.objects) }
+        ensures locks { self.new.locks ≡ self.old.locks }
+        ensures by_owner { self.new.by_owner ≡ self.old.by_owner }
+    {
+        match self.by_object.add_lists(self.objects.len()) {
+            Ok(()) => {}
+            Err(_) => return Err(NoMemory),
+        }
+        match self.objects.push(x) {
+            Ok(()) => Ok(()),
+            Err(_) => Err(NoMemory),
+        }
+    }
+
+    /// Gives each of the objects the next number, in order. If memory runs out, some may have got one. No lock changes.
+    pub fn add_objects(&mut self, objects: &[Ob]) -> Result<(), NoMemory>
+        ensures added { OnOk result (self.new.objects ≡ self.old.objects ++ objects.now) }
+        ensures locks { self.new.locks ≡ self.old.locks }
+        ensures by_owner { self.new.by_owner ≡ self.old.by_owner }
+    {
+        'objects: for x in objects {
+            self.add_object(*x)?;
+        }
+        Ok(())
     }
 
     /// Returns the lock at the key.

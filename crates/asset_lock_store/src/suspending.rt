@@ -41,7 +41,8 @@ impl LockStore {
     ghost use Rattle.std.specs.Prelude.{◌≡◌, ℕ, true, Some};
     ghost use Rattle.asset_chains.specs.Chained.{home_of};
     ghost use Rattle.asset_lock_store.specs.LockRules.{suspended};
-    ghost use Rattle.asset_lock_store.specs.Stored.{number_in, IsSuspended};
+    ghost use Rattle.asset_names.specs.Numbered.{number_in};
+    ghost use Rattle.asset_lock_store.specs.Stored.{IsSuspended};
 
     /// Suspends each lock on the object of this number that conflicts with these operations, but the one of the seat. It
     /// looks at no lock that only reads if the operations only read, and at none that only adds if they only add.

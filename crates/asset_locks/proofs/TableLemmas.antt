@@ -24,7 +24,9 @@ use Rattle.asset_locks.specs.Tied.{name_or_zero, pending_at, row_at, rows_of, Ar
 use Rattle.asset_locks.specs.Blocking.{is_blocker_in, request_of, request_in}
 use Rattle.asset_lock_store.proofs.GrantLemmas.{grown_same}
 use Rattle.asset_lock_store.proofs.WalkLemmas.{get_first, get_later}
-use Rattle.asset_lock_store.proofs.LockLemmas.{on_to}
+use Rattle.asset_lock_store.proofs.LockLemmas.{on_to, on_from}
+use Rattle.asset_lock_store.proofs.BlockLemmas.{absent_unnumbered}
+use Rattle.asset_names.specs.Numbered.{number_in}
 
 -- one map after another
 pub fused : {X Y : Type 0} (f : ℕ → X) (g : X → Y) (keys : List ℕ) → map g (map f keys) ≡ map (λ k. g (f k)) keys
@@ -185,6 +187,16 @@ module _ (seats : Seated) (pending : List PendingRequest) (order : Chained) (sto
           let at = row_found n who e in
           let there = find_found (is_on x) (lock_at store.locks) (chain_of store.by_owner at.0) lock (ap (λ (w : Enrolled). find (is_on x) w.locks) at.4 ∙ sym (ap (λ (o : Option Enrolled). find (is_on x) (locks_or_none o)) e) ∙ found) in
           (there.0, at.0, at.1, at.2, at.3, owners.at_home at.0 there.0 there.1, there.3, ap (λ (l : Lock). l.object.0) (sym there.3) ∙ on_to x _ there.2)
+
+    -- nobody has a lock on an object without a number
+    pub none_without_number : (n x : ℕ) → number_in store.objects x ≡ None → lock_in (rows_of seats pending order store) n x ≡ None
+    none_without_number n x none = go (lock_in (rows_of seats pending order store) n x) refl where
+      go : (o : Option Lock) → lock_in (rows_of seats pending order store) n x ≡ o → lock_in (rows_of seats pending order store) n x ≡ None
+      go None e = e
+      go (Some lock) e =
+          let found = lock_found n x lock e in
+          let on : is_on x (lock_at store.locks found.0) ≡ true = on_from x _ (ap (λ (l : Lock). l.object.0) found.6 ∙ found.7) in
+          absurd (true≢false (sym on ∙ absent_unnumbered store stored x none found.0 found.1 found.5))
 
     names_distinct : IsDistinct eqb (names_in (rows_of seats pending order store))
     unfolding names_in rows_of
@@ -370,7 +382,7 @@ releases_nobody seats pending order store seated sound t absent =
 -- ---- one more is enrolled
 -- what is kept already is kept
 pub grown_self : (store : Stored) → IsGrown store store
-grown_self store = record { locks = λ k. refl; chains = λ c. refl; homes = λ k. refl; seats = omega arith }
+grown_self store = record { locks = λ k. refl; chains = λ c. refl; homes = λ k. refl; seats = omega arith; objects = refl }
 
 -- room changes nothing
 module _ (seats : Seated) (pending : List PendingRequest) (order : Chained) (store : Stored) (longer : List PendingRequest) (grown : Chained) (roomy : Stored)

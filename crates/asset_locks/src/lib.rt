@@ -7,6 +7,7 @@
 
 mod asked;
 mod locks;
+mod naming;
 mod room;
 mod seating;
 mod table;

@@ -1,26 +1,30 @@
 //! The table of locks by name, and its calls.
 
 use crate::asked::Asked;
+use crate::naming::{number_for, number_of, number_of_only};
 use crate::seating::{seat_for, sitter_in};
 use crate::table::SeatedLocks;
 use asset_lock_store::{HeldObjects, LockState};
 use asset_names::{NoMemory, Ob, ObSet, Op, Txn};
 use asset_permits::Permits;
 use asset_seats::{Seats, Sitter};
+use indexmap::IndexSet;
 use smallvec::SmallVec;
 use std::alloc::Global;
 use std::marker::Model;
 
 /// The locks on objects, and the enrolled transactions with what each holds and waits for. Contracts see a row for each
 /// enrolled transaction, in order of enrolment; nobody sees in which order locks were granted on an object. Exactly those
-/// who are enrolled have a seat, by which the table is asked.
+/// who are enrolled have a seat, and each object that ever had a lock has a number, by which the table is asked.
 #[derive(Drop)]
 pub struct Locks {
     seats: Seats,
+    objects: IndexSet<Ob>,
     table: SeatedLocks,
 }
 
 impl Model for Locks {
+    ghost use Rattle.std.specs.Prelude.{◌≡◌};
     ghost use Rattle.asset_locks.specs.LockTable.{LockTable};
     ghost use Rattle.asset_locks.specs.Tied.{rows_in, IsTied, SittersAreEnrolled};
 
@@ -28,7 +32,7 @@ impl Model for Locks {
 
     ghost view = { λ l. rows_in l.seats l.table };
 
-    ghost invariant = { λ l. IsTied l.table l.seats × SittersAreEnrolled l.seats (rows_in l.seats l.table) };
+    ghost invariant = { λ l. IsTied l.table l.seats × SittersAreEnrolled l.seats (rows_in l.seats l.table) × (l.table.store.objects ≡ l.objects.keys) };
 }
 
 impl Locks {
@@ -44,6 +48,7 @@ impl Locks {
     {
         Locks {
             seats: Seats::new(alloc),
+            objects: IndexSet::new(alloc),
             table: SeatedLocks::new(alloc),
         }
     }
@@ -75,7 +80,9 @@ impl Locks {
     {
         // Permits by name look at nobody's seat, so one without a seat may ask.
         let asker = Sitter { t, at: 0 };
-        self.table.is_free(&self.seats, asker, x, op, permits)
+        let number = number_of(&self.objects, x);
+        self.table
+            .is_free(&self.seats, asker, number, x, op, permits)
     }
 
     /// Asks for `op` on `x` for `t`, which is enrolled. If `x` is free for it, `t` is granted a lock that carries `op`
@@ -95,8 +102,11 @@ impl Locks {
         ensures unchanged { OnErr result (self.new ≡ self.old) }
         ensures permits { permits.new ≡ permits.old }
     {
+        self.table.laws(&self.seats);
+        self.table.unnumbered(&self.seats, x);
+        let number = number_for(&mut self.objects, &mut self.table, x)?;
         let asker = sitter_in(&self.seats, &self.table, t);
-        self.table.ask(&self.seats, asker, x, op, permits)
+        self.table.ask(&self.seats, asker, number, x, op, permits)
     }
 
     /// Returns the state of the lock that `t` has on `x`, if it has one. It looks at the locks of `t` or at those on `x`,
@@ -107,7 +117,8 @@ impl Locks {
     {
         self.table.laws(&self.seats);
         let at = self.seats.seat_of(t)?;
-        self.table.status(&self.seats, Sitter { t, at }, x)
+        let number = number_of(&self.objects, x);
+        self.table.status(&self.seats, Sitter { t, at }, number, x)
     }
 
     /// Returns the object at the index among those on which `t` has a lock, in order of first grant from 0, and `None`
@@ -138,7 +149,9 @@ impl Locks {
         match self.seats.seat_of(t) {
             Some(at) => {
                 let holder = Sitter { t, at };
-                self.table.held_among(alloc, &self.seats, holder, objects)
+                let only = number_of_only(&self.objects, objects);
+                self.table
+                    .held_among(alloc, &self.seats, holder, objects, only)
             }
             None => Ok(SmallVec::new(alloc)),
         }
@@ -179,6 +192,7 @@ impl Locks {
     {
         let from = sitter_in(&self.seats, &self.table, giver);
         let to = sitter_in(&self.seats, &self.table, taker);
-        self.table.hand_over(&self.seats, from, to, objects);
+        let only = number_of_only(&self.objects, objects);
+        self.table.hand_over(&self.seats, from, to, objects, only);
     }
 }

@@ -20,6 +20,7 @@ pub(crate) fn seat_for(
     requires { IsTied table.old seats.old }
     ensures tied { IsTied table.new seats.new }
     ensures rows { rows_in seats.new table.new ≡ rows_in seats.old table.old }
+    ensures objects { table.new.store.objects ≡ table.old.store.objects }
     ensures name { IfOk result (λ sitter. sitter.t ≡ t) }
     ensures sits { IfOk result (λ sitter. HasSeat seats.new sitter) }
     ensures others { IfOk result (λ sitter. (c : ℕ) (u : Name) → seat seats.new c ≡ Some u → (seat seats.old c ≡ Some u) ⊎ (u ≡ t)) }

@@ -1,9 +1,9 @@
 -- Updates that become another transaction's.
-use Rattle.std.proofs.Common.{◌≡◌, ℕ, Bool, true, false, cond, eqb, ◌||◌, List, [], ◌∷◌, map, get_or, Option, Some, None, refl, sym, ap, ◌∙◌}
+use Rattle.std.proofs.Common.{◌≡◌, ℕ, Bool, true, false, cond, eqb, ◌||◌, List, [], ◌∷◌, map, Option, Some, None, refl, sym, ap, ◌∙◌}
 use Rattle.std.specs.Prelude.{ℤ, ◌+ℤ◌}
 use Rattle.std.specs.Option.{option_map}
 use Rattle.std.specs.List.{list_any}
-use Rattle.std.proofs.lemmas.Bool.{eqb-true, eqb-false, eq-eqb, ne_eqb}
+use Rattle.std.proofs.lemmas.Bool.{eqb-true}
 use Rattle.std.proofs.lemmas.Option.{slice_get-get_or}
 use Rattle.asset_names.specs.declared.names.Ob.{Ob}
 use Rattle.asset_names.proofs.Common.{eqb-flip}
@@ -20,8 +20,10 @@ use Rattle.std.specs.Int.{w64, int_wrap}
 use Rattle.asset_objects.proofs.UpdateLemmas.{handed_lasting}
 use Rattle.asset_records.specs.Handed.{renamed}
 use Rattle.asset_objects.specs.Cells.{Cell, ObjectTable, cells, fresh, wrote, added, has_wrote, is_owned, updated, lasting, has_update, handed_update, handed_cell, change_where}
-use Rattle.asset_objects.specs.Placed.{below, base_of, stood, grown, recorded_cell, value_at, cell_at, index_of, is_in, is_among, object_table}
-use Rattle.asset_objects.proofs.PlacedLemmas.{index_reads, cells_placed}
+use Rattle.asset_objects.specs.Placed.{below, base_of, stood, grown, recorded_cell, value_at, cell_at, is_in, is_among, object_table}
+use Rattle.asset_names.specs.Numbered.{number_in}
+use Rattle.asset_objects.proofs.PlacedLemmas.{cells_placed}
+use Rattle.asset_names.proofs.NumberLemmas.{number_reads, number_same}
 
 -- ---- one record
 below_renamed : (giver taker : ℕ) (value : ℤ) (one : Record) → below value (renamed giver taker one) ≡ below value one
@@ -63,32 +65,22 @@ cell_renamed giver taker records value =
     ∙ grown_renamed giver taker (fresh (base_of records value)) records value
 
 -- ---- an object by its index
-same_index : (objects : List Ob) (x y j i : ℕ) → index_of objects x ≡ Some j → index_of objects y ≡ Some i → eqb j i ≡ eqb x y
-same_index objects x y j i at_x at_y = go (eqb x y) refl where
-  go : (b : Bool) → eqb x y ≡ b → eqb j i ≡ b
-  go true e =
-      let both : Some j ≡ Some i = sym at_x ∙ ap (index_of objects) (eqb-true x y e) ∙ at_y in
-      let same : j ≡ i = cc both in
-      eq-eqb j i same
-  go false e =
-      ne_eqb j i (λ same. eqb-false x y e (sym ((index_reads objects x j at_x).1 (record { 0 = 0 })) ∙ ap (λ (n : ℕ). (get_or objects n (record { 0 = 0 })).0) same ∙ (index_reads objects y i at_y).1 (record { 0 = 0 })))
-
-pub one_handed : (giver taker : ℕ) (objects : List Ob) (x j : ℕ) (old new : List (List Record)) → index_of objects x ≡ Some j → ((i : ℕ) → on new i ≡ cond (eqb i j) (map (renamed giver taker) (on old i)) (on old i))
-    → (y i : ℕ) → index_of objects y ≡ Some i → on new i ≡ cond (eqb x y) (map (renamed giver taker) (on old i)) (on old i)
-one_handed giver taker objects x j old new at changes y i there = changes i ∙ ap (λ (b : Bool). cond b (map (renamed giver taker) (on old i)) (on old i)) (eqb-flip i j ∙ same_index objects x y j i at there)
+pub one_handed : (giver taker : ℕ) (objects : List Ob) (x j : ℕ) (old new : List (List Record)) → number_in objects x ≡ Some j → ((i : ℕ) → on new i ≡ cond (eqb i j) (map (renamed giver taker) (on old i)) (on old i))
+    → (y i : ℕ) → number_in objects y ≡ Some i → on new i ≡ cond (eqb x y) (map (renamed giver taker) (on old i)) (on old i)
+one_handed giver taker objects x j old new at changes y i there = changes i ∙ ap (λ (b : Bool). cond b (map (renamed giver taker) (on old i)) (on old i)) (eqb-flip i j ∙ number_same objects x y j i at there)
 
 -- an object that does not exist is none of those that do
-pub none_handed : (giver taker : ℕ) (objects : List Ob) (x : ℕ) (lists : List (List Record)) → index_of objects x ≡ None → (y i : ℕ) → index_of objects y ≡ Some i → on lists i ≡ cond (eqb x y) (map (renamed giver taker) (on lists i)) (on lists i)
+pub none_handed : (giver taker : ℕ) (objects : List Ob) (x : ℕ) (lists : List (List Record)) → number_in objects x ≡ None → (y i : ℕ) → number_in objects y ≡ Some i → on lists i ≡ cond (eqb x y) (map (renamed giver taker) (on lists i)) (on lists i)
 none_handed giver taker objects x lists none y i there = go (eqb x y) refl where
   go : (b : Bool) → eqb x y ≡ b → on lists i ≡ cond b (map (renamed giver taker) (on lists i)) (on lists i)
-  go true e = let wrong : None ≡ Some i = sym none ∙ ap (index_of objects) (eqb-true x y e) ∙ there in absurd (cc wrong)
+  go true e = let wrong : None ≡ Some i = sym none ∙ ap (number_in objects) (eqb-true x y e) ∙ there in absurd (cc wrong)
   go false e = refl
 
 -- the object with an index is in the set exactly if its name is
-pub among_is : (objects : List Ob) (set : ObSet) (y i : ℕ) → index_of objects y ≡ Some i → is_among objects set i ≡ in_set set y
+pub among_is : (objects : List Ob) (set : ObSet) (y i : ℕ) → number_in objects y ≡ Some i → is_among objects set i ≡ in_set set y
 unfolding is_among is_in
 among_is objects set y i there =
-    let reads = index_reads objects y i there in
+    let reads = number_reads objects y i there in
     ap (is_in set) (slice_get-get_or objects i (record { 0 = 0 }) reads.0) ∙ ap (in_set set) (reads.1 (record { 0 = 0 }))
 
 -- a set that lists one object alone has that one
@@ -138,13 +130,13 @@ any_updated t records value = any_grown (λ n. eqb n t) (fresh (base_of records 
 
 -- an object whose cell has an update of the transaction's has a record of it
 pub updated_on : (objects : List Ob) (values : List ℤ) (lists : List (List Record)) (reserved : Bool) (visits : ℕ) (table : ObjectTable) (t x : ℕ) (cell : Cell) → object_table objects values lists reserved visits ≡ table → cells table x ≡ Some cell
-    → has_update t cell ≡ true → (i : ℕ) × (index_of objects x ≡ Some i) × (list_any (is_of t) (on lists i) ≡ true)
+    → has_update t cell ≡ true → (i : ℕ) × (number_in objects x ≡ Some i) × (list_any (is_of t) (on lists i) ≡ true)
 unfolding has_update cell_at
-updated_on objects values lists reserved visits table t x cell view there has = go (index_of objects x) refl where
-  at : option_map (cell_at values lists) (index_of objects x) ≡ Some cell
+updated_on objects values lists reserved visits table t x cell view there has = go (number_in objects x) refl where
+  at : option_map (cell_at values lists) (number_in objects x) ≡ Some cell
   at = sym (cells_placed objects values lists reserved visits x) ∙ ap (λ (table : ObjectTable). cells table x) view ∙ there
 
-  go : (o : Option ℕ) → index_of objects x ≡ o → (i : ℕ) × (index_of objects x ≡ Some i) × (list_any (is_of t) (on lists i) ≡ true)
+  go : (o : Option ℕ) → number_in objects x ≡ o → (i : ℕ) × (number_in objects x ≡ Some i) × (list_any (is_of t) (on lists i) ≡ true)
   go None e = let wrong : None ≡ Some cell = ap (option_map (cell_at values lists)) (sym e) ∙ at in absurd (cc wrong)
   go (Some i) e =
       let both : Some (cell_at values lists i) ≡ Some cell = ap (option_map (cell_at values lists)) (sym e) ∙ at in
@@ -153,7 +145,7 @@ updated_on objects values lists reserved visits table t x cell view there has = 
 
 -- ---- what callers see
 pub where_handed : (test : ℕ → Bool) (giver taker : ℕ) (objects : List Ob) (values : List ℤ) (old new : List (List Record)) (reserved : Bool) (visits after : ℕ)
-    → ((y i : ℕ) → index_of objects y ≡ Some i → on new i ≡ cond (test y) (map (renamed giver taker) (on old i)) (on old i))
+    → ((y i : ℕ) → number_in objects y ≡ Some i → on new i ≡ cond (test y) (map (renamed giver taker) (on old i)) (on old i))
     → cells (object_table objects values new reserved after) ≡ change_where test (handed_cell giver taker) (cells (object_table objects values old reserved visits))
 unfolding change_where cell_at
 where_handed test giver taker objects values old new reserved visits after handed = λ k. λ y. each y k where
@@ -166,7 +158,7 @@ where_handed test giver taker objects values old new reserved visits after hande
   nothing true = refl
   nothing false = refl
 
-  go : (y : ℕ) (o : Option ℕ) → index_of objects y ≡ o → option_map (cell_at values new) o ≡ cond (test y) (option_map (handed_cell giver taker) (option_map (cell_at values old) o)) (option_map (cell_at values old) o)
+  go : (y : ℕ) (o : Option ℕ) → number_in objects y ≡ o → option_map (cell_at values new) o ≡ cond (test y) (option_map (handed_cell giver taker) (option_map (cell_at values old) o)) (option_map (cell_at values old) o)
   go y None there = nothing (test y)
   go y (Some i) there = by_case (test y) i (handed y i there)
 
@@ -174,5 +166,5 @@ where_handed test giver taker objects values old new reserved visits after hande
       ≡ cond (test y) (option_map (handed_cell giver taker) (cells (object_table objects values old reserved visits) y)) (cells (object_table objects values old reserved visits) y)
   each y =
       cells_placed objects values new reserved after y
-      ∙ go y (index_of objects y) refl
+      ∙ go y (number_in objects y) refl
       ∙ ap (λ (o : Option Cell). cond (test y) (option_map (handed_cell giver taker) o) o) (sym (cells_placed objects values old reserved visits y))

@@ -1,10 +1,10 @@
 -- The objects by their indexes, and what callers see of them.
-use Rattle.std.proofs.Common.{◌≡◌, ℕ, ◌+◌, ◌<◌, ◌≤◌, suc, zero, Bool, true, false, cond, not, eqb, ltb, ◌||◌, List, [], ◌∷◌, ◌++◌, length, map, find, drop, get_or, set, w64, refl, sym, ap, ◌∙◌, arith, Option, Some, None}
+use Rattle.std.proofs.Common.{◌≡◌, ℕ, ◌+◌, ◌<◌, ◌≤◌, suc, zero, Bool, true, false, cond, not, eqb, ◌||◌, List, [], ◌∷◌, ◌++◌, length, map, find, drop, get_or, set, w64, refl, sym, ap, ◌∙◌, arith, Option, Some, None}
 use Rattle.std.specs.Prelude.{ℤ, pos, slice_set, is_some}
 use Rattle.std.specs.Option.{option_map}
-use Rattle.std.specs.List.{list_any, count_by, position, position_or_len}
+use Rattle.std.specs.List.{list_any, count_by}
 use Rattle.std.specs.Bool.{OnTrue}
-use Rattle.std.proofs.lemmas.Bool.{eqb-true, eqb-false, eq-eqb, ne_eqb, ltb-true, ltb-false, lt-ltb, not-true}
+use Rattle.std.proofs.lemmas.Bool.{eqb-true, eqb-false, not-true}
 use Rattle.std.proofs.lemmas.List.{get_or-set_same, get_or-set_other, get_or_past, length-append, map-append}
 use Rattle.std.proofs.lemmas.List.Sums.{sum_by-cons, sum_by-drop_more}
 use Rattle.std.proofs.Math.ListN.{drop_of_length-le}
@@ -19,10 +19,12 @@ use Rattle.asset_names.proofs.DoubleLemmas.{no_double_push, lists_numbers}
 use Rattle.asset_records.specs.declared.records.Record.{Record}
 use Rattle.asset_records.specs.Listed.{on, ChangesOn, is_owned as owned}
 use Rattle.asset_records.proofs.ListedLemmas.{read_more}
-use Rattle.asset_objects.specs.Cells.{Cell, ObjectTable, cells, fresh, opened, shown, value_in, has_object, is_owned, change_at, change_each, updates_by}
+use Rattle.asset_objects.specs.Cells.{Cell, ObjectTable, named_in, number_of, cells, fresh, opened, shown, value_in, has_object, is_owned, change_at, change_each, updates_by}
 use Rattle.asset_objects.specs.Faults.{objects_of}
-use Rattle.asset_records.specs.Listed.{records_by}
-use Rattle.asset_objects.specs.Placed.{word, base_of, grown, recorded_cell, value_at, cell_at, index_of, rows_from, object_table, IsOpened}
+use Rattle.asset_records.specs.Listed.{records_by, lists_in}
+use Rattle.asset_objects.specs.Placed.{word, base_of, grown, recorded_cell, value_at, cell_at, rows_from, object_table, objects_in, ObjectParts, IsOpened}
+use Rattle.asset_names.specs.Numbered.{number_in}
+use Rattle.asset_names.proofs.NumberLemmas.{number_same}
 use Rattle.asset_objects.proofs.UpdateLemmas.{updates_in}
 use Rattle.asset_objects.proofs.CellLemmas.{owned_by, updates_count, shown_in_place}
 
@@ -38,46 +40,12 @@ value_set values i value new is within j = go (eqb i j) refl where
   go false e = get_or-set_other values i j value (pos 0) (λ same. eqb-false i j e (sym same))
 
 -- ---- an object by its index
-pub index_reads : (objects : List Ob) (x i : ℕ) → index_of objects x ≡ Some i → (i < length objects) × ((none : Ob) → (get_or objects i none).0 ≡ x)
-unfolding index_of
-index_reads [] x i is = cc is
-index_reads (y ∷ ys) x i is = go (λ j. index_reads ys x j) (eqb y.0 x) refl (index_of ys x) refl is where
-  go : ((j : ℕ) → index_of ys x ≡ Some j → (j < length ys) × ((none : Ob) → (get_or ys j none).0 ≡ x)) → (b : Bool) → eqb y.0 x ≡ b → (o : Option ℕ) → index_of ys x ≡ o → cond b (Some 0) (option_map suc o) ≡ Some i → (i < length (y ∷ ys)) × ((none : Ob) → (get_or (y ∷ ys) i none).0 ≡ x)
-  go ih true e o rest found =
-      let zero_is : 0 ≡ i = cc found in
-      (omega (arith, zero_is), λ none. ap (λ (n : ℕ). (get_or (y ∷ ys) n none).0) (sym zero_is) ∙ eqb-true y.0 x e)
-  go ih false e None rest found = cc found
-  go ih false e (Some j) rest found =
-      let next : suc j ≡ i = cc found in
-      let later = ih j rest in
-      (omega (arith, next, later.0), λ none. ap (λ (n : ℕ). (get_or (y ∷ ys) n none).0) (sym next) ∙ later.1 none)
-
-ltb-past : (m n : ℕ) → n ≤ m → ltb m n ≡ false
-ltb-past m n past = go (ltb m n) refl where
-  go : (b : Bool) → ltb m n ≡ b → ltb m n ≡ false
-  go true below = absurd (omega (arith, past, ltb-true m n below))
-  go false above = above
-
--- the index that a search finds
-pub index_found : (test : Ob → Bool) (x : ℕ) → ((y : Ob) → test y ≡ eqb x y.0) → (objects : List Ob) → position test objects ≡ index_of objects x
-unfolding index_of
-index_found test x h [] = refl
-index_found test x h (y ∷ ys) = go (test y) (position_or_len test ys) (index_found test x h ys) ∙ ap (λ (b : Bool). cond b (Some 0) (option_map suc (index_of ys x))) (h y ∙ eqb-flip x y.0) where
-  stays : (n many : ℕ) (b : Bool) → ltb n many ≡ b → cond (ltb (1 + n) (suc many)) (Some (1 + n)) None ≡ option_map suc (cond b (Some n) None)
-  stays n many true below = rw (lt-ltb (1 + n) (suc many) (omega (arith, ltb-true n many below))) (ap Some (omega arith))
-  stays n many false past = rw (ltb-past (1 + n) (suc many) (omega (arith, ltb-false n many past))) refl
-
-  go : (b : Bool) (n : ℕ) → cond (ltb n (length ys)) (Some n) None ≡ index_of ys x
-      → cond (ltb (cond (not b) (1 + n) 0) (suc (length ys))) (Some (cond (not b) (1 + n) 0)) None ≡ cond b (Some 0) (option_map suc (index_of ys x))
-  go true n ih = rw (lt-ltb 0 (suc (length ys)) (omega arith)) refl
-  go false n ih = stays n (length ys) (ltb n (length ys)) refl ∙ ap (option_map suc) ih
-
 -- the rows show each object by its index
 cells_from : (i : ℕ) (objects : List Ob) (values : List ℤ) (lists : List (List Record)) (x : ℕ)
-    → option_map (λ (row : ℕ × Cell). row.1) (find (λ (row : ℕ × Cell). eqb row.0 x) (rows_from i objects values lists)) ≡ option_map (λ (j : ℕ). cell_at values lists (i + j)) (index_of objects x)
-unfolding rows_from index_of
+    → option_map (λ (row : ℕ × Cell). row.1) (find (λ (row : ℕ × Cell). eqb row.0 x) (rows_from i objects values lists)) ≡ option_map (λ (j : ℕ). cell_at values lists (i + j)) (number_in objects x)
+unfolding rows_from number_in
 cells_from i [] values lists x = refl
-cells_from i (y ∷ ys) values lists x = go (eqb y.0 x) (index_of ys x) (cells_from (i + 1) ys values lists x) where
+cells_from i (y ∷ ys) values lists x = go (eqb y.0 x) (number_in ys x) (cells_from (i + 1) ys values lists x) where
   go : (b : Bool) (o : Option ℕ)
       → option_map (λ (row : ℕ × Cell). row.1) (find (λ (row : ℕ × Cell). eqb row.0 x) (rows_from (i + 1) ys values lists)) ≡ option_map (λ (j : ℕ). cell_at values lists (i + 1 + j)) o
       → option_map (λ (row : ℕ × Cell). row.1) (cond b (Some (y.0, cell_at values lists i)) (find (λ (row : ℕ × Cell). eqb row.0 x) (rows_from (i + 1) ys values lists)))
@@ -87,9 +55,9 @@ cells_from i (y ∷ ys) values lists x = go (eqb y.0 x) (index_of ys x) (cells_f
   go false (Some j) ih = ih ∙ ap (λ (n : ℕ). Some (cell_at values lists n)) (omega arith)
 
 pub cells_placed : (objects : List Ob) (values : List ℤ) (lists : List (List Record)) (reserved : Bool) (visits x : ℕ)
-    → cells (object_table objects values lists reserved visits) x ≡ option_map (cell_at values lists) (index_of objects x)
+    → cells (object_table objects values lists reserved visits) x ≡ option_map (cell_at values lists) (number_in objects x)
 unfolding cells object_table
-cells_placed objects values lists reserved visits x = cells_from 0 objects values lists x ∙ go (index_of objects x) where
+cells_placed objects values lists reserved visits x = cells_from 0 objects values lists x ∙ go (number_in objects x) where
   go : (o : Option ℕ) → option_map (λ (j : ℕ). cell_at values lists (0 + j)) o ≡ option_map (cell_at values lists) o
   go None = refl
   go (Some j) = ap (λ (n : ℕ). Some (cell_at values lists n)) (omega arith)
@@ -123,10 +91,10 @@ value_fits [] fits i = zero_word where
 value_fits (v ∷ values) fits zero = cc (ap (λ (l : List ℤ). get_or l 0 (pos 0)) fits)
 value_fits (v ∷ values) fits (suc i) = value_fits values (ap (drop 1) fits) i
 
-opened_value : (opening : Opening) (x : ℕ) → option_map (value_at (map (λ (pair : Ob × ℤ). pair.1) opening)) (index_of (map (λ (pair : Ob × ℤ). pair.0) opening) x) ≡ opening_at opening x
-unfolding opening_at index_of value_at
+opened_value : (opening : Opening) (x : ℕ) → option_map (value_at (map (λ (pair : Ob × ℤ). pair.1) opening)) (number_in (map (λ (pair : Ob × ℤ). pair.0) opening) x) ≡ opening_at opening x
+unfolding opening_at number_in value_at
 opened_value [] x = refl
-opened_value (pair ∷ pairs) x = go (eqb pair.0.0 x) (index_of (map (λ (p : Ob × ℤ). p.0) pairs) x) (opened_value pairs x) where
+opened_value (pair ∷ pairs) x = go (eqb pair.0.0 x) (number_in (map (λ (p : Ob × ℤ). p.0) pairs) x) (opened_value pairs x) where
   go : (b : Bool) (o : Option ℕ) → option_map (value_at (map (λ (p : Ob × ℤ). p.1) pairs)) o ≡ option_map (λ (p : Ob × ℤ). p.1) (find (λ (p : Ob × ℤ). eqb p.0.0 x) pairs)
       → option_map (value_at (pair.1 ∷ map (λ (p : Ob × ℤ). p.1) pairs)) (cond b (Some 0) (option_map suc o))
       ≡ option_map (λ (p : Ob × ℤ). p.1) (cond b (Some pair) (find (λ (p : Ob × ℤ). eqb p.0.0 x) pairs))
@@ -145,8 +113,8 @@ cells_opened opening objects values lists reserved visits is = λ i. λ x. each 
   each : (x : ℕ) → cells (object_table objects values lists reserved visits) x ≡ option_map fresh (opening_at opening x)
   each x =
       cells_placed objects values lists reserved visits x
-      ∙ go x (index_of objects x)
-      ∙ ap (option_map fresh) ((λ i. option_map (value_at (is.valued i)) (index_of (is.named i) x)) ∙ opened_value opening x)
+      ∙ go x (number_in objects x)
+      ∙ ap (option_map fresh) ((λ i. option_map (value_at (is.valued i)) (number_in (is.named i) x)) ∙ opened_value opening x)
 
 -- ---- what callers see of a change
 -- a change of each object
@@ -161,26 +129,16 @@ each_changed change objects values after old new reserved kept visits visited h 
   each : (x : ℕ) → cells (object_table objects after new kept visited) x ≡ option_map change (cells (object_table objects values old reserved visits) x)
   each x =
       cells_placed objects after new kept visited x
-      ∙ go (index_of objects x)
+      ∙ go (number_in objects x)
       ∙ ap (option_map change) (sym (cells_placed objects values old reserved visits x))
 
 -- a change of the object with this index
-pub one_changed : (change : Cell → Cell) (x i : ℕ) (objects : List Ob) (values after : List ℤ) (old new : List (List Record)) (reserved kept : Bool) (visits visited : ℕ) → index_of objects x ≡ Some i
+pub one_changed : (change : Cell → Cell) (x i : ℕ) (objects : List Ob) (values after : List ℤ) (old new : List (List Record)) (reserved kept : Bool) (visits visited : ℕ) → number_in objects x ≡ Some i
     → ((j : ℕ) → cell_at after new j ≡ cond (eqb i j) (change (cell_at values old j)) (cell_at values old j))
     → cells (object_table objects after new kept visited) ≡ change_at x change (cells (object_table objects values old reserved visits))
 unfolding change_at
 one_changed change x i objects values after old new reserved kept visits visited is h = λ k. λ y. each y k where
-  -- the index is that of the object alone
-  one_index : (y j : ℕ) → index_of objects y ≡ Some j → eqb i j ≡ eqb x y
-  one_index y j there = go (eqb x y) refl where
-    go : (b : Bool) → eqb x y ≡ b → eqb i j ≡ b
-    go true e =
-        let same : Some i ≡ Some j = sym is ∙ ap (index_of objects) (eqb-true x y e) ∙ there in
-        eq-eqb i j (cc same)
-    go false e =
-        ne_eqb i j (λ same. eqb-false x y e (sym ((index_reads objects x i is).1 (record { 0 = 0 })) ∙ ap (λ (n : ℕ). (get_or objects n (record { 0 = 0 })).0) same ∙ (index_reads objects y j there).1 (record { 0 = 0 })))
-
-  go : (y : ℕ) (o : Option ℕ) → index_of objects y ≡ o → option_map (cell_at after new) o ≡ cond (eqb x y) (option_map change (option_map (cell_at values old) o)) (option_map (cell_at values old) o)
+  go : (y : ℕ) (o : Option ℕ) → number_in objects y ≡ o → option_map (cell_at after new) o ≡ cond (eqb x y) (option_map change (option_map (cell_at values old) o)) (option_map (cell_at values old) o)
   go y None there = by_case (eqb x y) where
     none : Option Cell
     none = None
@@ -188,7 +146,7 @@ one_changed change x i objects values after old new reserved kept visits visited
     by_case : (b : Bool) → none ≡ cond b none none
     by_case true = refl
     by_case false = refl
-  go y (Some j) there = ap Some (h j ∙ ap (λ (b : Bool). cond b (change (cell_at values old j)) (cell_at values old j)) (one_index y j there)) ∙ by_case (eqb x y) where
+  go y (Some j) there = ap Some (h j ∙ ap (λ (b : Bool). cond b (change (cell_at values old j)) (cell_at values old j)) (number_same objects x y i j is there)) ∙ by_case (eqb x y) where
     by_case : (b : Bool) → Some (cond b (change (cell_at values old j)) (cell_at values old j)) ≡ cond b (Some (change (cell_at values old j))) (Some (cell_at values old j))
     by_case true = refl
     by_case false = refl
@@ -197,26 +155,26 @@ one_changed change x i objects values after old new reserved kept visits visited
       ≡ cond (eqb x y) (option_map change (cells (object_table objects values old reserved visits) y)) (cells (object_table objects values old reserved visits) y)
   each y =
       cells_placed objects after new kept visited y
-      ∙ go y (index_of objects y) refl
+      ∙ go y (number_in objects y) refl
       ∙ ap (λ (o : Option Cell). cond (eqb x y) (option_map change o) o) (sym (cells_placed objects values old reserved visits y))
 
 -- ---- what callers see of one object
 pub cell_found : (objects : List Ob) (values : List ℤ) (lists : List (List Record)) (reserved : Bool) (visits : ℕ) (table : ObjectTable) (x : ℕ) → object_table objects values lists reserved visits ≡ table
-    → cells table x ≡ option_map (cell_at values lists) (index_of objects x)
+    → cells table x ≡ option_map (cell_at values lists) (number_in objects x)
 cell_found objects values lists reserved visits table x view = sym (ap (λ (t : ObjectTable). cells t x) view) ∙ cells_placed objects values lists reserved visits x
 
 pub value_found : (objects : List Ob) (values : List ℤ) (lists : List (List Record)) (reserved : Bool) (visits : ℕ) (table : ObjectTable) (x : ℕ) → object_table objects values lists reserved visits ≡ table
-    → value_in (cells table) x ≡ option_map (λ (i : ℕ). word (value_at values i)) (index_of objects x)
+    → value_in (cells table) x ≡ option_map (λ (i : ℕ). word (value_at values i)) (number_in objects x)
 unfolding value_in cell_at
-value_found objects values lists reserved visits table x view = ap (option_map shown) (cell_found objects values lists reserved visits table x view) ∙ go (index_of objects x) where
+value_found objects values lists reserved visits table x view = ap (option_map shown) (cell_found objects values lists reserved visits table x view) ∙ go (number_in objects x) where
   go : (o : Option ℕ) → option_map shown (option_map (cell_at values lists) o) ≡ option_map (λ (i : ℕ). word (value_at values i)) o
   go None = refl
   go (Some j) = ap Some (shown_in_place (on lists j) (value_at values j))
 
 pub has_index : (objects : List Ob) (values : List ℤ) (lists : List (List Record)) (reserved : Bool) (visits : ℕ) (table : ObjectTable) (x : ℕ) → object_table objects values lists reserved visits ≡ table
-    → has_object (cells table) x ≡ is_some (index_of objects x)
+    → has_object (cells table) x ≡ is_some (number_in objects x)
 unfolding has_object
-has_index objects values lists reserved visits table x view = ap is_some (cell_found objects values lists reserved visits table x view) ∙ go (index_of objects x) where
+has_index objects values lists reserved visits table x view = ap is_some (cell_found objects values lists reserved visits table x view) ∙ go (number_in objects x) where
   go : (o : Option ℕ) → is_some (option_map (cell_at values lists) o) ≡ is_some o
   go None = refl
   go (Some j) = refl
@@ -321,3 +279,37 @@ has_value table x = go (cells table x) where
   go : (cell : Option Cell) → is_some (option_map shown cell) ≡ is_some cell
   go None = refl
   go (Some cell) = refl
+
+pub no_value : (table : ObjectTable) (x : ℕ) → has_object (cells table) x ≡ false → value_in (cells table) x ≡ None
+unfolding value_in has_object
+no_value table x none = go (cells table x) none where
+  go : (cell : Option Cell) → is_some cell ≡ false → option_map shown cell ≡ None
+  go None is = refl
+  go (Some cell) is = cc is
+
+-- ---- the numbers of objects, as callers see them
+named_rows : (i : ℕ) (objects : List Ob) (values : List ℤ) (lists : List (List Record)) → map {A = ℕ × Cell} {B = Ob} (λ (row : ℕ × Cell). record { 0 = row.0 }) (rows_from i objects values lists) ≡ objects
+unfolding rows_from
+named_rows i [] values lists = refl
+named_rows i (x ∷ xs) values lists = ap (λ (l : List Ob). x ∷ l) (named_rows (i + 1) xs values lists)
+
+pub number_named : (parts : ObjectParts) (x : ℕ) → number_of (objects_in parts) x ≡ number_in parts.objects x
+unfolding number_of named_in object_table
+number_named parts x = ap (λ (l : List Ob). number_in l x) (named_rows 0 parts.objects parts.values (lists_in parts.records))
+
+-- an object exists if it has a number
+pub number_known : (table : ObjectTable) (x : ℕ) → is_some (number_of table x) ≡ has_object (cells table) x
+unfolding number_of named_in cells has_object number_in
+number_known table x = go table.rows where
+  suc_known : (o : Option ℕ) → is_some (option_map suc o) ≡ is_some o
+  suc_known None = refl
+  suc_known (Some n) = refl
+
+  go : (rows : List (ℕ × Cell)) → is_some (number_in (map {A = ℕ × Cell} {B = Ob} (λ (row : ℕ × Cell). record { 0 = row.0 }) rows) x) ≡ is_some (option_map (λ (row : ℕ × Cell). row.1) (find (λ (row : ℕ × Cell). eqb row.0 x) rows))
+  go [] = refl
+  go (row ∷ rows) = by_case (eqb row.0 x) (suc_known (number_in (map {A = ℕ × Cell} {B = Ob} (λ (row : ℕ × Cell). record { 0 = row.0 }) rows) x) ∙ go rows) where
+    by_case : (b : Bool)
+        → is_some (option_map suc (number_in (map {A = ℕ × Cell} {B = Ob} (λ (row : ℕ × Cell). record { 0 = row.0 }) rows) x)) ≡ is_some (option_map (λ (row : ℕ × Cell). row.1) (find (λ (row : ℕ × Cell). eqb row.0 x) rows))
+        → is_some (cond b (Some 0) (option_map suc (number_in (map {A = ℕ × Cell} {B = Ob} (λ (row : ℕ × Cell). record { 0 = row.0 }) rows) x))) ≡ is_some (option_map (λ (row : ℕ × Cell). row.1) (cond b (Some row) (find (λ (row : ℕ × Cell). eqb row.0 x) rows)))
+    by_case true rest = refl
+    by_case false rest = rest

@@ -2,6 +2,8 @@
 use Rattle.std.specs.Prelude.{ℕ, ℤ, ◌+ℤ◌, Bool, true, false, cond, ◌==◌, List, [], ◌∷◌, find, map, Option, None, Some, option_map, is_some}
 use Rattle.std.specs.List.{count_by, list_any, sum_by}
 use Rattle.std.specs.Int.{w64, int_wrap}
+use Rattle.asset_names.specs.declared.names.Ob.{Ob}
+use Rattle.asset_names.specs.Numbered.{number_in}
 use Rattle.asset_names.specs.declared.statuses.End.{End}
 use Rattle.asset_names.specs.declared.statuses.End.TheVariants.{Committed, Aborted}
 use Rattle.asset_names.specs.Steps.{Opening}
@@ -31,6 +33,14 @@ pub record ObjectTable : Type 0 where
   pub rows : List (ℕ × Cell)
   pub reserved : Bool
   pub visits : ℕ
+
+-- the objects, in the order of the opening
+unfoldable pub named_in : ObjectTable → List Ob
+named_in table = map (λ (row : ℕ × Cell). record { 0 = row.0 }) table.rows
+
+-- the number of an object: how many objects stand before it in the opening
+unfoldable pub number_of : ObjectTable → ℕ → Option ℕ
+number_of table x = number_in (named_in table) x
 
 -- the cells of a table
 unfoldable pub cells : ObjectTable → Cells

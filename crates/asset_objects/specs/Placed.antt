@@ -1,6 +1,6 @@
 -- How the table is stored: the objects in the order of the opening, and of each the value in place and the records of the
 -- updates that stand, oldest first. The record of a write has what the write found, and that of an add its amount.
-use Rattle.std.specs.Prelude.{◌≡◌, ℕ, ℤ, ◌-ℤ◌, pos, ◌+◌, ◌<◌, suc, Bool, true, false, cond, ◌==◌, List, [], ◌∷◌, length, map, slice_get, slice_index_or, Option, Some, None, option_map}
+use Rattle.std.specs.Prelude.{◌≡◌, ℕ, ℤ, ◌-ℤ◌, pos, ◌+◌, ◌<◌, Bool, true, false, List, [], ◌∷◌, length, map, slice_get, slice_index_or, Option, Some, None}
 use Rattle.std.specs.Int.{w64, int_wrap}
 use Rattle.asset_names.specs.declared.names.Ob.{Ob}
 use Rattle.asset_names.specs.declared.sets.ObSet.{ObSet}
@@ -58,11 +58,6 @@ cell_at values lists i = recorded_cell (on lists i) (value_at values i)
 unfoldable pub restored_value : Option Mend → ℤ → ℤ
 restored_value None value = value
 restored_value (Some mend) value = mended mend value
-
--- the index of an object among these, if it is there
-unfoldable pub index_of : List Ob → ℕ → Option ℕ
-index_of [] x = None
-index_of (y ∷ ys) x = cond (y.0 == x) (Some 0) (option_map suc (index_of ys x))
 
 -- the rows of these objects, whose indexes begin at i
 unfoldable pub rows_from : ℕ → List Ob → List ℤ → List (List Record) → List (ℕ × Cell)

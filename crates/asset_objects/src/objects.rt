@@ -95,7 +95,8 @@ impl Objects {
         ensures visits { self.new.visits ≡ self.old.visits }
     {
         let owner = seat_for(&mut self.seats, &self.table, t);
-        self.table.write(&self.seats, owner, x, v);
+        let number = self.table.number(x).unwrap();
+        self.table.write(&self.seats, owner, number, v);
     }
 
     /// Adds the amount to the object, which exists: its value is the sum, which wraps to 64 bits. It uses the memory that
@@ -108,7 +109,8 @@ impl Objects {
         ensures visits { self.new.visits ≡ self.old.visits }
     {
         let owner = seat_for(&mut self.seats, &self.table, t);
-        self.table.add(&self.seats, owner, x, amount);
+        let number = self.table.number(x).unwrap();
+        self.table.add(&self.seats, owner, number, amount);
     }
 
     /// Takes back the updates of the transaction: each object is as it would be without them. It touches the records of the
@@ -159,7 +161,8 @@ impl Objects {
             Some(from) => {
                 self.table.few_seats();
                 let to = seat_for(&mut self.seats, &self.table, taker);
-                self.table.hand_over(&self.seats, from, to, objects);
+                let only = self.table.number_of_only(objects);
+                self.table.hand_over(&self.seats, from, to, objects, only);
             }
             None => self.table.pass_over(&self.seats, giver),
         }

@@ -45,10 +45,12 @@ impl SeatedObjects {
     ghost use Rattle.slab.specs.Slab.{slab_len};
     ghost use Rattle.asset_chains.specs.Chained.{chain_of, first_of};
     ghost use Rattle.asset_names.specs.declared.names.Txn.{Txn as Name};
+    ghost use Rattle.asset_names.specs.declared.names.Ob.{Ob as Object};
     ghost use Rattle.asset_names.specs.declared.statuses.End.{End};
     ghost use Rattle.asset_names.specs.Steps.{Opening};
     ghost use Rattle.asset_names.specs.Sets.{HasNoDouble};
-    ghost use Rattle.asset_names.specs.InSet.{in_set};
+    ghost use Rattle.asset_names.specs.InSet.{in_set, only_in};
+    ghost use Rattle.asset_names.specs.Numbered.{number_in};
     ghost use Rattle.asset_seats.specs.Seated.{Seated, seat, HasSeat};
     ghost use Rattle.asset_records.specs.Listed.{lists_in, seat_column, HasNone, IsNoMore};
     ghost use Rattle.asset_objects.specs.Cells.{Cell, cells, opened, value_in, has_object, has_update, written, increased, ended, undone, settled, handed_cell, change_at, change_each, change_where, updates_by, standing};
@@ -107,10 +109,43 @@ impl SeatedObjects {
     pub fn make_room(&mut self, c: usize) -> Result<(), NoMemory>
         ensures room { OnOk result (HasRoom self.new c) }
         ensures shown { objects_in self.new ≡ objects_in self.old }
+        ensures objects { self.new.objects ≡ self.old.objects }
         ensures few { IsNoMore self.old.records self.new.records }
         ensures tied { (seats : Seated) → IsTied self.old seats → IsTied self.new seats }
     {
         self.placed.records.make_room(c)
+    }
+
+    /// Returns the objects, in the order of the opening.
+    pub fn objects(&self) -> &[Ob]
+        ensures { result.now ≡ self.now.objects }
+    {
+        self.placed.objects.as_slice()
+    }
+
+    /// Returns the number of an object, by which the table is asked: its index in the order of the opening. It is `None` if there
+    /// is no such object.
+    pub fn number(&self, x: Ob) -> Option<usize>
+        ensures number { result ≡ number_in self.now.objects x.0 }
+        ensures exists { is_some result ≡ has_object (cells (objects_in self.now)) x.0 }
+    {
+        self.placed.objects.get_index_of(&x)
+    }
+
+    /// Returns the number of the one object that the set lists. It is `None` if the set is not of one object, and if there is no
+    /// such object.
+    pub fn number_of_only(&self, set: &ObSet) -> Option<usize>
+        ensures { (x : Object) → only_in set.now ≡ Some x → result ≡ number_in self.now.objects x.0 }
+    {
+        self.number(set.only()?)
+    }
+
+    /// Returns the value of the object of this number.
+    pub fn value_at(&self, number: usize) -> i64
+        requires { number < length self.now.objects }
+        ensures { (x : ℕ) → number_in self.now.objects x ≡ Some number → value_in (cells (objects_in self.now)) x ≡ Some result }
+    {
+        self.placed.values[number]
     }
 
     /// Returns the value of an object, and `None` if there is no such object.
@@ -118,8 +153,8 @@ impl SeatedObjects {
         ensures value { result ≡ value_in (cells (objects_in self.now)) x.0 }
         ensures exists { is_some result ≡ has_object (cells (objects_in self.now)) x.0 }
     {
-        let i = self.placed.objects.get_index_of(&x)?;
-        Some(self.placed.values[i])
+        let number = self.number(x)?;
+        Some(self.value_at(number))
     }
 
     /// Reserves the memory for one more write or add. The reservation stands until then.
@@ -131,6 +166,7 @@ impl SeatedObjects {
         ensures standing { self.old.reserved ≡ true → IsOk result }
         ensures unchanged { OnErr result (objects_in self.new ≡ objects_in self.old) }
         ensures visits { self.new.visits ≡ self.old.visits }
+        ensures objects { self.new.objects ≡ self.old.objects }
         ensures few { IsNoMore self.old.records self.new.records }
         ensures tied { (seats : Seated) → IsTied self.old seats → IsTied self.new seats }
     {
@@ -141,47 +177,47 @@ impl SeatedObjects {
         Ok(())
     }
 
-    /// Writes the value to the object, which exists. It uses the memory that `reserve_write` reserved. Other
+    /// Writes the value to the object of this number. It uses the memory that `reserve_write` reserved. Other
     /// objects do not change.
-    pub fn write(&mut self, seats: &Seats, owner: Sitter, x: Ob, v: i64)
+    pub fn write(&mut self, seats: &Seats, owner: Sitter, number: usize, v: i64)
         requires tied { IsTied self.old seats.now }
         requires sits { HasSeat seats.now owner }
-        requires exists { has_object (cells (objects_in self.old)) x.0 ≡ true }
+        requires exists { number < length self.old.objects }
         requires reserved { self.old.reserved ≡ true }
         ensures tied { IsTied self.new seats.now }
-        ensures cells { cells (objects_in self.new) ≡ change_at x.0 (written owner.t.0 v) (cells (objects_in self.old)) }
+        ensures cells { (x : ℕ) → number_in self.old.objects x ≡ Some number → cells (objects_in self.new) ≡ change_at x (written owner.t.0 v) (cells (objects_in self.old)) }
+        ensures objects { self.new.objects ≡ self.old.objects }
         ensures len { slab_len self.new.records.items ≡ slab_len self.old.records.items + 1 }
         ensures columns { length self.new.records.columns.chains ≡ length self.old.records.columns.chains }
         ensures visits { self.new.visits ≡ self.old.visits }
         ensures reserved { self.new.reserved ≡ false }
     {
-        let i = self.placed.objects.get_index_of(&x).unwrap();
-        let before = self.placed.values[i];
-        self.placed.values[i] = v;
+        let before = self.placed.values[number];
+        self.placed.values[number] = v;
         let change = Change::Wrote { before };
-        self.placed.records.push(seats, owner, i, change);
+        self.placed.records.push(seats, owner, number, change);
         self.reserved = false;
     }
 
-    /// Adds the amount to the object, which exists: its value is the sum, which wraps to 64 bits. It uses the memory that
+    /// Adds the amount to the object of this number: its value is the sum, which wraps to 64 bits. It uses the memory that
     /// `reserve_write` reserved. Other objects do not change.
-    pub fn add(&mut self, seats: &Seats, owner: Sitter, x: Ob, amount: i64)
+    pub fn add(&mut self, seats: &Seats, owner: Sitter, number: usize, amount: i64)
         requires tied { IsTied self.old seats.now }
         requires sits { HasSeat seats.now owner }
-        requires exists { has_object (cells (objects_in self.old)) x.0 ≡ true }
+        requires exists { number < length self.old.objects }
         requires reserved { self.old.reserved ≡ true }
         ensures tied { IsTied self.new seats.now }
-        ensures cells { cells (objects_in self.new) ≡ change_at x.0 (increased owner.t.0 amount) (cells (objects_in self.old)) }
+        ensures cells { (x : ℕ) → number_in self.old.objects x ≡ Some number → cells (objects_in self.new) ≡ change_at x (increased owner.t.0 amount) (cells (objects_in self.old)) }
+        ensures objects { self.new.objects ≡ self.old.objects }
         ensures len { slab_len self.new.records.items ≡ slab_len self.old.records.items + 1 }
         ensures columns { length self.new.records.columns.chains ≡ length self.old.records.columns.chains }
         ensures visits { self.new.visits ≡ self.old.visits }
         ensures reserved { self.new.reserved ≡ false }
     {
-        let i = self.placed.objects.get_index_of(&x).unwrap();
-        let before = self.placed.values[i];
-        self.placed.values[i] = before.wrapping_add(amount);
+        let before = self.placed.values[number];
+        self.placed.values[number] = before.wrapping_add(amount);
         let change = Change::Added { amount };
-        self.placed.records.push(seats, owner, i, change);
+        self.placed.records.push(seats, owner, number, change);
         self.reserved = false;
     }
 
@@ -195,6 +231,7 @@ impl SeatedObjects {
         ensures cells { cells (objects_in self.new) ≡ change_each (undone (λ n. n == t.t.0)) (cells (objects_in self.old)) }
         ensures visits { self.new.visits ≤ 4 * updates_by (λ n. n == t.t.0) (objects_in self.old).rows }
         ensures reserved { self.new.reserved ≡ self.old.reserved }
+        ensures objects { self.new.objects ≡ self.old.objects }
         ensures few { IsNoMore self.old.records self.new.records }
     {
         let placed = &mut self.placed;
@@ -213,6 +250,7 @@ impl SeatedObjects {
         ensures cells { cells (objects_in self.new) ≡ change_each (settled (λ n. n == t.t.0)) (cells (objects_in self.old)) }
         ensures visits { self.new.visits + 4 * standing (objects_in self.new).rows ≤ 4 * standing (objects_in self.old).rows }
         ensures reserved { self.new.reserved ≡ self.old.reserved }
+        ensures objects { self.new.objects ≡ self.old.objects }
         ensures few { IsNoMore self.old.records self.new.records }
     {
         let placed = &mut self.placed;
@@ -224,21 +262,38 @@ impl SeatedObjects {
     /// one, which changes nothing.
     ///
     /// It takes no memory. It looks at the giver's records, and at those beside the ones that change; for a set that lists
-    /// one object, at the records on it if they are fewer.
-    pub fn hand_over(&mut self, seats: &Seats, giver: Sitter, taker: Sitter, objects: &ObSet)
+    /// one object, whose number is given if it exists, at the records on it if they are fewer.
+    pub fn hand_over(
+        &mut self,
+        seats: &Seats,
+        giver: Sitter,
+        taker: Sitter,
+        objects: &ObSet,
+        only: Option<usize>,
+    )
         requires tied { IsTied self.old seats.now }
         requires giver { HasSeat seats.now giver }
         requires taker { HasSeat seats.now taker }
+        requires only { (x : Object) → only_in objects.now ≡ Some x → only ≡ number_in self.old.objects x.0 }
         ensures tied { IsTied self.new seats.now }
         ensures cells { cells (objects_in self.new) ≡ change_where (in_set objects.now) (handed_cell giver.t.0 taker.t.0) (cells (objects_in self.old)) }
         ensures counted { (taker.t.0 == giver.t.0) ≡ false → (x : ℕ) (cell : Cell) → cells (objects_in self.old) x ≡ Some cell → in_set objects.now x ≡ true → has_update giver.t.0 cell ≡ true → 1 ≤ self.new.visits }
         ensures visits { self.new.visits ≤ 4 * updates_by (λ n. n == giver.t.0) (objects_in self.old).rows }
         ensures reserved { self.new.reserved ≡ self.old.reserved }
+        ensures objects { self.new.objects ≡ self.old.objects }
         ensures few { IsNoMore self.old.records self.new.records }
     {
         let placed = &mut self.placed;
         let records = &mut placed.records;
-        self.visits = handing::hand_over(&placed.objects, records, seats, giver, taker, objects);
+        self.visits = handing::hand_over(
+            &placed.objects,
+            records,
+            seats,
+            giver,
+            taker,
+            objects,
+            only,
+        );
     }
 
     /// Passes over a transaction that has no update: an end or a hand-over of it changes nothing, and visits no record.

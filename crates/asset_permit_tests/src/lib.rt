@@ -8,6 +8,8 @@ mod open_permits;
 #[cfg(test)]
 mod permits;
 #[cfg(test)]
+mod seated_locks;
+#[cfg(test)]
 mod seated_permits;
 #[cfg(test)]
 mod sizes;

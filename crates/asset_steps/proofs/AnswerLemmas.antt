@@ -1,10 +1,13 @@
 -- What the tables are asked for an answer, put together.
-use Rattle.std.proofs.Common.{◌≡◌, Bool, true, false, cond, not, List, [], ◌∷◌, ◌++◌, refl, sym, ◌∙◌, Some, None}
+use Rattle.std.proofs.Common.{◌≡◌, Bool, true, false, cond, not, List, [], ◌∷◌, ◌++◌, refl, sym, ap, ◌∙◌, Some, None}
 use Rattle.std.specs.Prelude.{find}
 use Rattle.std.specs.Option.{option_or}
 use Rattle.std.proofs.lemmas.Bool.{not-false, false≢true}
 use Rattle.asset_names.specs.declared.names.Txn.{Txn}
 use Rattle.asset_names.specs.declared.names.Ob.{Ob}
+use Rattle.asset_names.specs.declared.sets.ObSet.{ObSet}
+use Rattle.asset_names.specs.declared.sets.ObSet.TheVariants.{All, Listed}
+use Rattle.asset_names.specs.InSet.{only_in}
 use Rattle.asset_names.specs.declared.operations.Op.TheVariants as Op'
 use Rattle.asset_names.specs.declared.steps.Step.{Step}
 use Rattle.asset_names.specs.declared.steps.Step.TheVariants.{Read, Write, Add}
@@ -13,7 +16,7 @@ use Rattle.asset_names.specs.declared.statuses.Status.{Status}
 use Rattle.asset_names.specs.declared.statuses.Status.TheVariants as Status'
 use Rattle.asset_names.specs.Endings.{status, is_live_status}
 use Rattle.asset_names.specs.Operations.{exists, value, value_if_any}
-use Rattle.asset_names.specs.Answers.{Rule, unrefused, rules_for, first_refusal, unknown, ended, not_running, no_object, is_running, is_unknown, commit_outcome}
+use Rattle.asset_names.specs.Answers.{Rule, missing_in, unrefused, rules_for, first_refusal, unknown, ended, not_running, no_object, is_running, is_unknown, commit_outcome}
 use Rattle.asset_names.proofs.LegalLemmas.{first_none}
 use Rattle.asset_objects.specs.Cells.{cells, value_in, has_object}
 use Rattle.asset_ends.specs.Standing.{Standing, values_of, is_free_for}
@@ -76,3 +79,14 @@ ended_outcome Status'.Unknown one other known dead = absurd (false≢true (sym k
 ended_outcome Status'.Initiated one other known dead = absurd (false≢true (sym dead))
 ended_outcome Status'.Running one other known dead = absurd (false≢true (sym dead))
 ended_outcome Status'.Completed one other known dead = absurd (false≢true (sym dead))
+
+-- of a set that lists one object, that one is missing if it does not exist
+pub missing_one : (opening : Opening) (obs : ObSet) (x : Ob) → only_in obs ≡ Some x → missing_in opening obs ≡ cond (exists opening x.0) None (Some x)
+unfolding missing_in only_in
+missing_one opening All x only = cc only
+missing_one opening (Listed []) x only = cc only
+missing_one opening (Listed (y ∷ [])) x only = let same : y ≡ x = cc only in ap (λ (z : Ob). find (λ (w : Ob). not (exists opening w.0)) (z ∷ [])) same ∙ go (exists opening x.0) where
+  go : (b : Bool) → cond (not b) (Some x) None ≡ cond b None (Some x)
+  go true = refl
+  go false = refl
+missing_one opening (Listed (y ∷ z ∷ objects)) x only = cc only

@@ -105,7 +105,7 @@ ready opening steps tables (Begin t) reply stand is carried =
 ready opening steps tables (Read t x) reply stand is carried =
     let none = effect_unrefused opening steps (Read t x) reply is carried in
     let there = read_unrefused opening steps t x none in
-    (runs opening steps tables t.0 stand there.0, free_shown opening steps _ _ _ _ _ t.0 x.0 Op'.Read stand ∙ free_if _ reply _ (answered_unrefused opening steps (Read t x) (Answer reply) is none))
+    (runs opening steps tables t.0 stand there.0, free_shown opening steps _ _ _ _ _ t.0 x.0 Op'.Read stand ∙ free_if _ reply _ (answered_unrefused opening steps (Read t x) (Answer reply) is none), object_exists opening steps tables x.0 stand ∙ there.1)
 ready opening steps tables (Write t x v) reply stand is carried =
     let none = effect_unrefused opening steps (Write t x v) reply is carried in
     let there = write_unrefused opening steps t x v none in
@@ -133,7 +133,8 @@ pub may_wait : (opening : Opening) (steps : List Step) (tables : Standing) (step
 unfolding unrefused is_free_for
 may_wait opening steps tables (Read t x) stand is =
     let none = waits_unrefused opening steps (Read t x) is in
-    (runs opening steps tables t.0 stand (read_unrefused opening steps t x none).0, free_shown opening steps _ _ _ _ _ t.0 x.0 Op'.Read stand ∙ blocked_if _ _ (answered_unrefused opening steps (Read t x) Wait is none))
+    let there = read_unrefused opening steps t x none in
+    (runs opening steps tables t.0 stand there.0, free_shown opening steps _ _ _ _ _ t.0 x.0 Op'.Read stand ∙ blocked_if _ _ (answered_unrefused opening steps (Read t x) Wait is none), object_exists opening steps tables x.0 stand ∙ there.1)
 may_wait opening steps tables (Write t x v) stand is =
     let none = waits_unrefused opening steps (Write t x v) is in
     let there = write_unrefused opening steps t x v none in

@@ -26,7 +26,7 @@ read_outcome tables t x = cond (is_free_for tables t x Op'.Read) (Answer (Reply'
 abbrev pub IsReady : Step → Standing → Type 0
 IsReady (Initiate t parent) tables = status_in tables.trans t.0 ≡ Status'.Unknown
 IsReady (Begin t) tables = status_in tables.trans t.0 ≡ Status'.Initiated
-IsReady (Read t x) tables = (status_in tables.trans t.0 ≡ Status'.Running) × (is_free_for tables t.0 x.0 Op'.Read ≡ true)
+IsReady (Read t x) tables = (status_in tables.trans t.0 ≡ Status'.Running) × (is_free_for tables t.0 x.0 Op'.Read ≡ true) × (has_object (cells tables.objects) x.0 ≡ true)
 IsReady (Write t x v) tables = (status_in tables.trans t.0 ≡ Status'.Running) × (is_free_for tables t.0 x.0 Op'.Write ≡ true) × (has_object (cells tables.objects) x.0 ≡ true)
 IsReady (Add t x d) tables = (status_in tables.trans t.0 ≡ Status'.Running) × (is_free_for tables t.0 x.0 Op'.Add ≡ true) × (has_object (cells tables.objects) x.0 ≡ true)
 IsReady (Complete t) tables = status_in tables.trans t.0 ≡ Status'.Running
@@ -40,7 +40,7 @@ IsReady (WaitFor t) tables = Unit {0}
 
 -- what a request that is to wait asks of the tables
 abbrev pub MayWait : Step → Standing → Type 0
-MayWait (Read t x) tables = (status_in tables.trans t.0 ≡ Status'.Running) × (is_free_for tables t.0 x.0 Op'.Read ≡ false)
+MayWait (Read t x) tables = (status_in tables.trans t.0 ≡ Status'.Running) × (is_free_for tables t.0 x.0 Op'.Read ≡ false) × (has_object (cells tables.objects) x.0 ≡ true)
 MayWait (Write t x v) tables = (status_in tables.trans t.0 ≡ Status'.Running) × (is_free_for tables t.0 x.0 Op'.Write ≡ false) × (has_object (cells tables.objects) x.0 ≡ true)
 MayWait (Add t x d) tables = (status_in tables.trans t.0 ≡ Status'.Running) × (is_free_for tables t.0 x.0 Op'.Add ≡ false) × (has_object (cells tables.objects) x.0 ≡ true)
 MayWait step tables = Unit {0}

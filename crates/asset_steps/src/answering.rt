@@ -1,11 +1,13 @@
 //! What the tables answer to a step: the first refusal that applies, or else what the step itself says.
 
-ghost use Rattle.std.specs.Prelude.{◌≡◌, ℤ, not, find, [], ◌∷◌, None, false};
+ghost use Rattle.std.specs.Prelude.{◌≡◌, ℤ, not, find, [], ◌∷◌, None, Some, false};
+ghost use Rattle.asset_names.specs.declared.names.Ob.{Ob as Object};
 ghost use Rattle.asset_names.specs.declared.sets.ObSet.TheVariants.{Listed};
+ghost use Rattle.asset_names.specs.InSet.{only_in};
 ghost use Rattle.asset_names.specs.declared.steps.Step.{Step};
 ghost use Rattle.asset_names.specs.Endings.{status};
 ghost use Rattle.asset_names.specs.Answers.{answer, first_refusal, rules_for, unrefused, unknown, ended, not_running, no_object, one_name, cycle, is_unknown, commit_outcome, may_commit, missing_in, no_object_of};
-ghost use Rattle.asset_objects.specs.Cells.{cells, has_object};
+ghost use Rattle.asset_objects.specs.Cells.{cells, has_object, number_of};
 ghost use Rattle.asset_ends.specs.Shown.{ForShown};
 ghost use Rattle.asset_ends.specs.Updates.{step_of};
 ghost use Rattle.asset_steps.specs.Ready.{value_or_zero, read_outcome};
@@ -106,6 +108,20 @@ pub(crate) fn missing(tables: &Tables, obs: &ObSet) -> Option<Ob>
     match obs {
         ObSet::All => None,
         ObSet::Listed(list) => first_missing(tables, list.objects()),
+    }
+}
+
+/// Returns the least object of the set that does not exist, if there is one. If the set lists one object, its number is given,
+/// if it exists, so that it is not looked for.
+#[inline(always)]
+pub(crate) fn missing_beside(tables: &Tables, obs: &ObSet, only: Option<usize>) -> Option<Ob>
+    requires { (x : Object) → only_in obs.now ≡ Some x → only ≡ number_of tables.now.objects x.0 }
+    ensures { ForShown tables.now (λ opening steps. result ≡ missing_in opening obs.now) }
+{
+    match obs.only() {
+        Some(_) if only.is_some() => None,
+        Some(x) => Some(x),
+        None => missing(tables, obs),
     }
 }
 

@@ -96,6 +96,7 @@ fn abort(tables: &mut Tables, t: Txn)
 fn wait_to_read(tables: &mut Tables, t: Txn, x: Ob)
     requires runs { status_in tables.old.trans t.0 ≡ Status.Running }
     requires blocked { is_free_for tables.old t.0 x.0 Operation.Read ≡ false }
+    requires exists { has_object (cells tables.old.objects) x.0 ≡ true }
     ensures stand { ShowsStill tables.old tables.new }
     ensures locks { tables.new.locks ≡ wait_in t.0 x Operation.Read tables.old.locks }
 {
@@ -114,7 +115,8 @@ fn wait_to_update(tables: &mut Tables, t: Txn, x: Ob, update: Update, v: i64)
     ensures locks { tables.new.locks ≡ wait_in t.0 x (op_of update) tables.old.locks }
 {
     let (_, one) = tables.find(t);
-    match tables.update_at(one, x, update, v) {
+    let number = tables.number(x).unwrap();
+    match tables.update_at(one, number, x, update, v) {
         Ok(_) => {}
         Err(_) => unreachable!(),
     }

@@ -1,15 +1,15 @@
 //! Steps that take effect, or are pending, while they are answered, so that rows and locks are not looked for again.
 
-ghost use Rattle.std.specs.Prelude.{◌≡◌, true, IfOk, OnErr};
+ghost use Rattle.std.specs.Prelude.{◌≡◌, true, is_some, IfOk, OnErr};
 ghost use Rattle.asset_names.specs.declared.steps.Step.{Step};
 ghost use Rattle.asset_names.specs.declared.statuses.Status.{Status};
 ghost use Rattle.asset_names.specs.Endings.{is_live_status};
-ghost use Rattle.asset_objects.specs.Cells.{cells, has_object, value_in};
+ghost use Rattle.asset_objects.specs.Cells.{cells, has_object, number_of};
 ghost use Rattle.asset_trans.specs.TransRows.{status_in, seat_in};
 ghost use Rattle.asset_ends.specs.Updates.{step_of};
 ghost use Rattle.asset_steps.specs.Stepped.{Lacked, Stepped};
 
-use crate::answering::missing;
+use crate::answering::{missing, missing_beside};
 use asset_ends::{Tables, Tried, Update};
 use asset_names::{
     Kind, NoMemory, Ob, ObList, ObSet, Ops, Outcome, Refusal, Reply, Status, Step, Txn,
@@ -48,22 +48,23 @@ fn begin_if_any(tables: &mut Tables, t: Txn) -> Outcome
     }
 }
 
-/// Reads an object that exists for a transaction that runs, or makes the read its pending request.
+/// Reads an object that exists, whose number is given, for a transaction that runs, or makes the read its pending request.
 #[inline(always)]
 fn read_found(
     tables: &mut Tables,
     one: Sitter,
+    number: Option<usize>,
     x: Ob,
-    value: Option<i64>,
 ) -> Result<Outcome, NoMemory>
     requires runs { status_in tables.old.trans one.t.0 ≡ Status.Running }
     requires seat { one.at ≡ seat_in tables.old.trans one.t.0 }
     requires exists { has_object (cells tables.old.objects) x.0 ≡ true }
-    requires value { value ≡ value_in (cells tables.old.objects) x.0 }
+    requires number { number ≡ number_of tables.old.objects x.0 }
+    requires known { is_some number ≡ true }
     ensures stepped { IfOk result (λ outcome. Stepped tables.old (Step.Read one.t x) outcome tables.new) }
     ensures lacked { OnErr result (Lacked tables.old (Step.Read one.t x) tables.new) }
 {
-    match tables.read_at(one, x, value) {
+    match tables.read_at(one, number.unwrap(), x) {
         Ok(Some(v)) => Ok(Outcome::Answer(Reply::Value(v))),
         Ok(None) => Ok(Outcome::Wait),
         Err(fault) => Err(fault),
@@ -76,19 +77,21 @@ fn read_if_any(tables: &mut Tables, t: Txn, x: Ob) -> Result<Outcome, NoMemory>
     ensures stepped { IfOk result (λ outcome. Stepped tables.old (Step.Read t x) outcome tables.new) }
     ensures lacked { OnErr result (Lacked tables.old (Step.Read t x) tables.new) }
 {
-    let value = tables.value(x);
+    let number = tables.number(x);
     let (status, one) = tables.find(t);
-    match refusal_to_operate(t, status, x, value.is_some()) {
+    match refusal_to_operate(t, status, x, number.is_some()) {
         Some(refusal) => Ok(Outcome::Answer(Reply::Refused(refusal))),
-        None => read_found(tables, one, x, value),
+        None => read_found(tables, one, number, x),
     }
 }
 
-/// Writes or adds to an object that exists for a transaction that runs, or makes that its pending request.
+/// Writes or adds to an object that exists, whose number is given, for a transaction that runs, or makes that its pending
+/// request.
 #[inline(always)]
 fn update_found(
     tables: &mut Tables,
     one: Sitter,
+    number: Option<usize>,
     x: Ob,
     update: Update,
     v: i64,
@@ -96,10 +99,12 @@ fn update_found(
     requires runs { status_in tables.old.trans one.t.0 ≡ Status.Running }
     requires seat { one.at ≡ seat_in tables.old.trans one.t.0 }
     requires exists { has_object (cells tables.old.objects) x.0 ≡ true }
+    requires number { number ≡ number_of tables.old.objects x.0 }
+    requires known { is_some number ≡ true }
     ensures stepped { IfOk result (λ outcome. Stepped tables.old (step_of update one.t x v) outcome tables.new) }
     ensures lacked { OnErr result (Lacked tables.old (step_of update one.t x v) tables.new) }
 {
-    match tables.update_at(one, x, update, v) {
+    match tables.update_at(one, number.unwrap(), x, update, v) {
         Ok(true) => Ok(Outcome::Answer(Reply::Done)),
         Ok(false) => Ok(Outcome::Wait),
         Err(fault) => Err(fault),
@@ -118,11 +123,11 @@ fn update_if_any(
     ensures stepped { IfOk result (λ outcome. Stepped tables.old (step_of update t x v) outcome tables.new) }
     ensures lacked { OnErr result (Lacked tables.old (step_of update t x v) tables.new) }
 {
-    let exists = tables.value(x).is_some();
+    let number = tables.number(x);
     let (status, one) = tables.find(t);
-    match refusal_to_operate(t, status, x, exists) {
+    match refusal_to_operate(t, status, x, number.is_some()) {
         Some(refusal) => Ok(Outcome::Answer(Reply::Refused(refusal))),
-        None => update_found(tables, one, x, update, v),
+        None => update_found(tables, one, number, x, update, v),
     }
 }
 
@@ -247,13 +252,14 @@ fn delegate_if_any(
     ensures stepped { IfOk result (λ outcome. Stepped tables.old (Step.Delegate giver taker obs.now) outcome tables.new) }
     ensures lacked { OnErr result (Lacked tables.old (Step.Delegate giver taker obs.now) tables.new) }
 {
-    let missing = missing(tables, obs);
+    let only = tables.number_of_only(obs);
+    let missing = missing_beside(tables, obs, only);
     let (gives, from) = tables.find(giver);
     let (takes, to) = tables.find(taker);
     match refusal_between(giver, gives, taker, takes, missing) {
         Some(refusal) => Ok(Outcome::Answer(Reply::Refused(refusal))),
         None => {
-            tables.delegate_at(from, to, obs)?;
+            tables.delegate_at(from, to, obs, only)?;
             Ok(Outcome::Answer(Reply::Done))
         }
     }
@@ -280,8 +286,8 @@ fn depend_if_any(tables: &mut Tables, kind: Kind, a: Txn, b: Txn) -> Result<Outc
 }
 
 /// Asks for a step: returns its answer, and makes it take effect if it does, or pending if it is a request that
-/// waits. The row of a transaction is looked for once, and again if the step changes it or is a dependency; the locks on
-/// an object are looked at once, unless memory runs out. It answers `NoMemory` if the step would take effect and memory
+/// waits. The row of a transaction is looked for once, and again if the step changes it or is a dependency; an object that is
+/// read, written or added to is looked for once; the locks on it are looked at once, unless memory runs out. It answers `NoMemory` if the step would take effect and memory
 /// runs out, and the tables then show what they did before.
 #[inline(always)]
 pub fn step_at_once(tables: &mut Tables, step: &Step) -> Result<Outcome, NoMemory>

@@ -8,8 +8,6 @@ mod locks;
 #[cfg(test)]
 mod locks_beside_list;
 #[cfg(test)]
-mod seated_locks;
-#[cfg(test)]
 mod sizes;
 #[cfg(test)]
 mod tables;

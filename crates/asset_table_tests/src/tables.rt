@@ -51,10 +51,11 @@ fn start(tables: &mut Tables, t: u64) -> bool {
     initiated && begin(tables, t)
 }
 
-/// Reads if the transaction runs: the value, and `None` if the request waits or the transaction does not run.
+/// Reads if the transaction runs and the object exists: the value, and `None` if the request waits or the transaction does not run.
 fn read_once(tables: &mut Tables, t: u64, x: u64) -> Result<Option<i64>, NoMemory> {
+    let exists = tables.number(Ob(x)).is_some();
     match tables.status(Txn(t)) {
-        Status::Running => tables.read(Txn(t), Ob(x)),
+        Status::Running if exists => tables.read(Txn(t), Ob(x)),
         _ => Ok(None),
     }
 }
@@ -72,7 +73,7 @@ pub(crate) fn read(tables: &mut Tables, t: u64, x: u64) -> Option<i64> {
 
 /// Writes if the transaction runs and the object exists, and returns whether it wrote.
 fn write_once(tables: &mut Tables, t: u64, x: u64, v: i64) -> Result<bool, NoMemory> {
-    let exists = tables.value(Ob(x)).is_some();
+    let exists = tables.number(Ob(x)).is_some();
     match tables.status(Txn(t)) {
         Status::Running if exists => tables.write(Txn(t), Ob(x), v),
         _ => Ok(false),

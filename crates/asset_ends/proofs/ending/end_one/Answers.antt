@@ -1,4 +1,4 @@
-use Rattle.std.proofs.Common.{◌∙◌}
+use Rattle.std.proofs.Common.{sym, ◌∙◌}
 use Rattle.asset_deps.specs.Valid.{marked_of}
 use Rattle.asset_deps.proofs.TableLemmas.{marked_left, marked_gone}
 use Rattle.asset_ends.proofs.EndingLemmas.{one_left}
@@ -7,7 +7,7 @@ use Rattle.asset_ends.proofs.ending.end_one.Goals as goal
 pub returns-clause-tied : goal.returns-clause-tied
 returns-clause-tied c =
     let left = c.leave.new.self in
-    record { objects = c.end_writes.ensures.leaves left c.leave.ensures.seats; locks = (c.release.ensures.leaves left c.leave.ensures.seats).0; permits = c.drop_all.ensures.leaves left c.leave.ensures.seats; deps = c.end.ensures.leaves left c.leave.ensures.seats }
+    record { objects = c.end_writes.ensures.leaves left c.leave.ensures.seats; locks = (c.release.ensures.leaves left c.leave.ensures.seats).0; permits = c.drop_all.ensures.leaves left c.leave.ensures.seats; deps = c.end.ensures.leaves left c.leave.ensures.seats; numbers = c.release.ensures.objects ∙ c.requires.tied.numbers ∙ sym c.end_writes.ensures.objects }
 
 pub returns-clause-ended : goal.returns-clause-ended
 returns-clause-ended c =

@@ -25,13 +25,13 @@ pub returns-in_err-make_room-4-clause-tied : goal.returns-in_err-make_room-4-cla
 returns-in_err-make_room-4-clause-tied c =
     let seats = c.args.seats.now in
     tied_same c.make_room.new.self c.make_room-2.new.self c.make_room-3.new.self c.make_room-4.new.self seats c.reserve.new.self
-    (record { objects = c.make_room.ensures.tied seats c.requires.tied.objects; locks = c.make_room-2.ensures.tied seats c.requires.tied.locks; permits = c.make_room-3.ensures.tied seats c.requires.tied.permits; deps = c.make_room-4.ensures.tied seats c.requires.tied.deps }) c.reserve.ensures.seats
+    (record { objects = c.make_room.ensures.tied seats c.requires.tied.objects; locks = c.make_room-2.ensures.tied seats c.requires.tied.locks; permits = c.make_room-3.ensures.tied seats c.requires.tied.permits; deps = c.make_room-4.ensures.tied seats c.requires.tied.deps; numbers = c.make_room-2.ensures.objects ∙ c.requires.tied.numbers ∙ sym c.make_room.ensures.objects }) c.reserve.ensures.seats
 
 pub returns-clause-tied : goal.returns-clause-tied
 returns-clause-tied c =
     let seats = c.args.seats.now in
     tied_same c.make_room.new.self c.make_room-2.new.self c.make_room-3.new.self c.make_room-4.new.self seats c.reserve.new.self
-    (record { objects = c.make_room.ensures.tied seats c.requires.tied.objects; locks = c.make_room-2.ensures.tied seats c.requires.tied.locks; permits = c.make_room-3.ensures.tied seats c.requires.tied.permits; deps = c.make_room-4.ensures.tied seats c.requires.tied.deps }) c.reserve.ensures.seats
+    (record { objects = c.make_room.ensures.tied seats c.requires.tied.objects; locks = c.make_room-2.ensures.tied seats c.requires.tied.locks; permits = c.make_room-3.ensures.tied seats c.requires.tied.permits; deps = c.make_room-4.ensures.tied seats c.requires.tied.deps; numbers = c.make_room-2.ensures.objects ∙ c.requires.tied.numbers ∙ sym c.make_room.ensures.objects }) c.reserve.ensures.seats
 
 pub returns-clause-room : goal.returns-clause-room
 returns-clause-room c = (sym c.vacant-vacant.ensures, c.in_ok-reserve.ensures.room, record { objects = c.in_ok-make_room.ensures.room; locks = c.in_ok-make_room-2.ensures.room; permits = c.in_ok-make_room-3.ensures.room; deps = c.in_ok-make_room-4.ensures.room })
@@ -44,18 +44,18 @@ returns-in_err-make_room-clause-tied c =
     let seats = c.args.seats.now in
     let tied = c.requires.tied in
     tied_same c.make_room.new.self c.args.locks.now c.args.permits.now c.args.deps.now seats c.reserve.new.self
-    (record { objects = c.make_room.ensures.tied seats tied.objects; locks = tied.locks; permits = tied.permits; deps = tied.deps }) c.reserve.ensures.seats
+    (record { objects = c.make_room.ensures.tied seats tied.objects; locks = tied.locks; permits = tied.permits; deps = tied.deps; numbers = tied.numbers ∙ sym c.make_room.ensures.objects }) c.reserve.ensures.seats
 
 pub returns-in_err-make_room-2-clause-tied : goal.returns-in_err-make_room-2-clause-tied
 returns-in_err-make_room-2-clause-tied c =
     let seats = c.args.seats.now in
     let tied = c.requires.tied in
     tied_same c.make_room.new.self c.make_room-2.new.self c.args.permits.now c.args.deps.now seats c.reserve.new.self
-    (record { objects = c.make_room.ensures.tied seats tied.objects; locks = c.make_room-2.ensures.tied seats tied.locks; permits = tied.permits; deps = tied.deps }) c.reserve.ensures.seats
+    (record { objects = c.make_room.ensures.tied seats tied.objects; locks = c.make_room-2.ensures.tied seats tied.locks; permits = tied.permits; deps = tied.deps; numbers = c.make_room-2.ensures.objects ∙ tied.numbers ∙ sym c.make_room.ensures.objects }) c.reserve.ensures.seats
 
 pub returns-in_err-make_room-3-clause-tied : goal.returns-in_err-make_room-3-clause-tied
 returns-in_err-make_room-3-clause-tied c =
     let seats = c.args.seats.now in
     let tied = c.requires.tied in
     tied_same c.make_room.new.self c.make_room-2.new.self c.make_room-3.new.self c.args.deps.now seats c.reserve.new.self
-    (record { objects = c.make_room.ensures.tied seats tied.objects; locks = c.make_room-2.ensures.tied seats tied.locks; permits = c.make_room-3.ensures.tied seats tied.permits; deps = tied.deps }) c.reserve.ensures.seats
+    (record { objects = c.make_room.ensures.tied seats tied.objects; locks = c.make_room-2.ensures.tied seats tied.locks; permits = c.make_room-3.ensures.tied seats tied.permits; deps = tied.deps; numbers = c.make_room-2.ensures.objects ∙ tied.numbers ∙ sym c.make_room.ensures.objects }) c.reserve.ensures.seats

@@ -1,30 +1,21 @@
-use Rattle.std.proofs.Common.{◌≡◌, ℕ, Some, None, refl, sym, ap, ◌∙◌}
+use Rattle.std.proofs.Common.{◌≡◌, ℕ, Some, None, sym, ap, ◌∙◌}
 use Rattle.std.specs.List.{list_any}
 use Rattle.asset_records.specs.Listed.{lists_in, on, is_of}
-use Rattle.asset_objects.specs.Placed.{index_of}
-use Rattle.asset_objects.proofs.PlacedLemmas.{index_found}
 use Rattle.asset_objects.proofs.HandLemmas.{one_handed, none_handed}
 use Rattle.asset_objects.proofs.handing.hand_over_one.Goals as goal
 
 pub returns-in-Some-clause-lists : goal.returns-in-Some-clause-lists
-returns-in-Some-clause-lists c =
-    let at : index_of c.args.objects.now.keys c.args.x.0 ≡ Some c.in-Some.i = sym (c.in-Some.ensures.index ∙ index_found _ c.args.x.0 (λ y. refl) c.args.objects.now.keys) in
-    one_handed c.args.giver.t.0 c.args.taker.t.0 c.args.objects.now.keys c.args.x.0 c.in-Some.i (lists_in c.args.records.now) (lists_in c.hand_over_on.new.self) at c.hand_over_on.ensures.lists
+returns-in-Some-clause-lists c = λ objects x y i at there.
+    one_handed c.args.giver.t.0 c.args.taker.t.0 objects x c.in-Some.number (lists_in c.args.records.now) (lists_in c.hand_over_on.new.self) (sym at ∙ c.in-Some.is) c.hand_over_on.ensures.lists y i there
 
 pub returns-in-Some-clause-counted : goal.returns-in-Some-clause-counted
 returns-in-Some-clause-counted c = λ apart i there wrote.
-    let at : index_of c.args.objects.now.keys c.args.x.0 ≡ Some c.in-Some.i = sym (c.in-Some.ensures.index ∙ index_found _ c.args.x.0 (λ y. refl) c.args.objects.now.keys) in
-    let both : Some i ≡ Some c.in-Some.i = sym there ∙ at in
-    let same : i ≡ c.in-Some.i = cc both in
-    c.hand_over_on.ensures.counted apart (sym (ap (λ (n : ℕ). list_any (is_of c.args.giver.t.0) (on (lists_in c.args.records.now) n)) same) ∙ wrote)
+    let both : Some c.in-Some.number ≡ Some i = sym c.in-Some.is ∙ there in
+    let same : c.in-Some.number ≡ i = cc both in
+    c.hand_over_on.ensures.counted apart (ap (λ (n : ℕ). list_any (is_of c.args.giver.t.0) (on (lists_in c.args.records.now) n)) same ∙ wrote)
 
 pub returns-in-None-clause-lists : goal.returns-in-None-clause-lists
-returns-in-None-clause-lists c =
-    let at : index_of c.args.objects.now.keys c.args.x.0 ≡ None = sym (index_found _ c.args.x.0 (λ y. refl) c.args.objects.now.keys) ∙ sym c.in-None.ensures.index in
-    none_handed c.args.giver.t.0 c.args.taker.t.0 c.args.objects.now.keys c.args.x.0 (lists_in c.args.records.now) at
+returns-in-None-clause-lists c = λ objects x y i at there. none_handed c.args.giver.t.0 c.args.taker.t.0 objects x (lists_in c.args.records.now) (sym at ∙ c.in-None.is) y i there
 
 pub returns-in-None-clause-counted : goal.returns-in-None-clause-counted
-returns-in-None-clause-counted c = λ apart i there wrote.
-    let at : index_of c.args.objects.now.keys c.args.x.0 ≡ None = sym (index_found _ c.args.x.0 (λ y. refl) c.args.objects.now.keys) ∙ sym c.in-None.ensures.index in
-    let wrong : None ≡ Some i = sym at ∙ there in
-    absurd (cc wrong)
+returns-in-None-clause-counted c = λ apart i there wrote. let wrong : None ≡ Some i = sym c.in-None.is ∙ there in absurd (cc wrong)

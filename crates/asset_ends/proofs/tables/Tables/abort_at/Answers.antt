@@ -10,12 +10,12 @@ use Rattle.asset_ends.proofs.EndingLemmas.{abort_stands, ended_valid, marked_liv
 use Rattle.asset_ends.proofs.tables.Tables.abort_at.Goals as goal
 
 pub end_marked-requires : goal.end_marked-requires
-end_marked-requires c = record { live = marked_live c.self.inside.parts.trans c.self.inside.parts.seats c.mark_doomed.new.self c.self.invariant.seats c.mark_doomed.ensures.tied; tied = record { objects = c.self.invariant.tied.objects; locks = c.self.invariant.tied.locks; permits = c.self.invariant.tied.permits; deps = c.mark_doomed.ensures.tied } }
+end_marked-requires c = record { live = marked_live c.self.inside.parts.trans c.self.inside.parts.seats c.mark_doomed.new.self c.self.invariant.seats c.mark_doomed.ensures.tied; tied = record { objects = c.self.invariant.tied.objects; locks = c.self.invariant.tied.locks; permits = c.self.invariant.tied.permits; deps = c.mark_doomed.ensures.tied; numbers = c.self.invariant.tied.numbers } }
 
 pub invariant_of-self : goal.invariant_of-self
 invariant_of-self c =
     ended_valid _ End'.Aborted _ _ c.end_marked.ensures.ended (marked_live c.self.inside.parts.trans c.self.inside.parts.seats c.mark_doomed.new.self c.self.invariant.seats c.mark_doomed.ensures.tied) c.end_marked.ensures.tied
-    (record { locks = c.self.invariant.locks; seats = c.self.invariant.seats; tied = record { objects = c.self.invariant.tied.objects; locks = c.self.invariant.tied.locks; permits = c.self.invariant.tied.permits; deps = c.mark_doomed.ensures.tied } })
+    (record { locks = c.self.invariant.locks; seats = c.self.invariant.seats; tied = record { objects = c.self.invariant.tied.objects; locks = c.self.invariant.tied.locks; permits = c.self.invariant.tied.permits; deps = c.mark_doomed.ensures.tied; numbers = c.self.invariant.tied.numbers } })
 
 pub returns-then-is_linked-clause-stand : goal.returns-then-is_linked-clause-stand
 returns-then-is_linked-clause-stand c =

@@ -10,12 +10,12 @@ use Rattle.asset_ends.proofs.EndingLemmas.{commit_stands, ended_valid, marked_li
 use Rattle.asset_ends.proofs.tables.Tables.commit_at.Goals as goal
 
 pub end_marked-requires : goal.end_marked-requires
-end_marked-requires c = record { live = marked_live c.self.inside.parts.trans c.self.inside.parts.seats c.mark_class.new.self c.self.invariant.seats c.mark_class.ensures.tied; tied = record { objects = c.self.invariant.tied.objects; locks = c.self.invariant.tied.locks; permits = c.self.invariant.tied.permits; deps = c.mark_class.ensures.tied } }
+end_marked-requires c = record { live = marked_live c.self.inside.parts.trans c.self.inside.parts.seats c.mark_class.new.self c.self.invariant.seats c.mark_class.ensures.tied; tied = record { objects = c.self.invariant.tied.objects; locks = c.self.invariant.tied.locks; permits = c.self.invariant.tied.permits; deps = c.mark_class.ensures.tied; numbers = c.self.invariant.tied.numbers } }
 
 pub invariant_of-self : goal.invariant_of-self
 invariant_of-self c =
     ended_valid _ End'.Committed _ _ c.end_marked.ensures.ended (marked_live c.self.inside.parts.trans c.self.inside.parts.seats c.mark_class.new.self c.self.invariant.seats c.mark_class.ensures.tied) c.end_marked.ensures.tied
-    (record { locks = c.self.invariant.locks; seats = c.self.invariant.seats; tied = record { objects = c.self.invariant.tied.objects; locks = c.self.invariant.tied.locks; permits = c.self.invariant.tied.permits; deps = c.mark_class.ensures.tied } })
+    (record { locks = c.self.invariant.locks; seats = c.self.invariant.seats; tied = record { objects = c.self.invariant.tied.objects; locks = c.self.invariant.tied.locks; permits = c.self.invariant.tied.permits; deps = c.mark_class.ensures.tied; numbers = c.self.invariant.tied.numbers } })
 
 pub returns-then-is_linked-clause-stand : goal.returns-then-is_linked-clause-stand
 returns-then-is_linked-clause-stand c =

@@ -1,7 +1,11 @@
-use Rattle.std.proofs.Common.{refl, sym, ◌∙◌, ap}
+use Rattle.std.proofs.Common.{List, refl, sym, ◌∙◌, ap}
 use Rattle.asset_names.specs.Arrows.{lists}
 use Rattle.asset_ends.specs.Ended.{locks_of}
-use Rattle.asset_ends.specs.Standing.{AreEnrolled}
+use Rattle.asset_names.specs.declared.names.Ob.{Ob}
+use Rattle.asset_names.specs.Numbered.{number_in}
+use Rattle.asset_objects.specs.Cells.{number_of}
+use Rattle.asset_objects.proofs.PlacedLemmas.{number_named}
+use Rattle.asset_ends.specs.Standing.{Standing, AreEnrolled}
 use Rattle.asset_locks.proofs.HandLaws.{names_handed}
 use Rattle.asset_ends.proofs.EnrolledLemmas.{live_enrolled}
 use Rattle.asset_ends.proofs.ShowsLemmas.{live_shown}
@@ -20,7 +24,7 @@ unfolding AreEnrolled
 invariant_of-self-2 c = record {
   locks = rw (c.hand_over.ensures.done) (λ t. ap (λ names. lists names t) (names_handed c.args.from.t.0 c.args.to.t.0 c.args.obs.now (locks_of c.self.inside.parts)) ∙ c.self.invariant.locks t);
   seats = c.self.invariant.seats;
-  tied = record { objects = c.hand_over-2.ensures.tied; locks = c.hand_over.ensures.tied; permits = c.copy_permits.ensures.tied; deps = c.self.invariant.tied.deps };
+  tied = record { objects = c.hand_over-2.ensures.tied; locks = c.hand_over.ensures.tied; permits = c.copy_permits.ensures.tied; deps = c.self.invariant.tied.deps; numbers = c.hand_over.ensures.objects ∙ c.self.invariant.tied.numbers ∙ sym c.hand_over-2.ensures.objects };
 }
 
 pub returns-clause-stand : goal.returns-clause-stand
@@ -33,3 +37,26 @@ returns-clause-stand c =
     (sym (live_shown opening steps _ _ _ _ _ c.args.from.t.0 stand) ∙ gives) (sym (live_shown opening steps _ _ _ _ _ c.args.to.t.0 stand) ∙ takes)
     c.hand_over.ensures.valid (live_enrolled _ _ c.args.to.t.0 c.self.invariant.locks takes) _
     (c.in_ok-copy_permits.ensures.covers) (c.in_ok-copy_permits.ensures.opens)))
+
+pub copy_permits-requires-clause-only : goal.copy_permits-requires-clause-only
+copy_permits-requires-clause-only c = λ x only.
+    let objects = c.self.inside.parts.objects in
+    c.requires.only x only
+    ∙ ap (λ (s : Standing). number_of s.objects x.0) (sym c.self.view_is)
+    ∙ number_named objects x.0
+    ∙ ap (λ (l : List Ob). number_in l x.0) (sym c.self.invariant.tied.numbers)
+
+pub hand_over-requires-clause-only : goal.hand_over-requires-clause-only
+hand_over-requires-clause-only c = λ x only.
+    let objects = c.self.inside.parts.objects in
+    c.requires.only x only
+    ∙ ap (λ (s : Standing). number_of s.objects x.0) (sym c.self.view_is)
+    ∙ number_named objects x.0
+    ∙ ap (λ (l : List Ob). number_in l x.0) (sym c.self.invariant.tied.numbers)
+
+pub hand_over-requires-2-clause-only : goal.hand_over-requires-2-clause-only
+hand_over-requires-2-clause-only c = λ x only.
+    let objects = c.self.inside.parts.objects in
+    c.requires.only x only
+    ∙ ap (λ (s : Standing). number_of s.objects x.0) (sym c.self.view_is)
+    ∙ number_named objects x.0

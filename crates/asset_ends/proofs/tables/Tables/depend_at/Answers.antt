@@ -5,7 +5,7 @@ use Rattle.asset_ends.proofs.StandingLemmas.{stand_as}
 use Rattle.asset_ends.proofs.tables.Tables.depend_at.Goals as goal
 
 pub invariant_of-self : goal.invariant_of-self
-invariant_of-self c = record { locks = c.self.invariant.locks; seats = c.self.invariant.seats; tied = record { objects = c.self.invariant.tied.objects; locks = c.self.invariant.tied.locks; permits = c.self.invariant.tied.permits; deps = c.add.ensures.tied } }
+invariant_of-self c = record { locks = c.self.invariant.locks; seats = c.self.invariant.seats; tied = record { objects = c.self.invariant.tied.objects; locks = c.self.invariant.tied.locks; permits = c.self.invariant.tied.permits; deps = c.add.ensures.tied; numbers = c.self.invariant.tied.numbers } }
 
 pub returns-clause-stand : goal.returns-clause-stand
 returns-clause-stand c =

@@ -1,5 +1,8 @@
-use Rattle.std.proofs.Common.{ap, refl, sym, ◌∙◌}
+use Rattle.std.proofs.Common.{List, ap, refl, sym, ◌∙◌}
 use Rattle.asset_names.proofs.Common.{always_ok}
+use Rattle.asset_names.specs.declared.names.Ob.{Ob}
+use Rattle.asset_names.specs.Numbered.{number_in}
+use Rattle.asset_objects.proofs.PlacedLemmas.{number_named}
 use Rattle.asset_names.specs.Endings.{is_live_status}
 use Rattle.asset_ends.specs.Standing.{is_free_for}
 use Rattle.asset_locks.specs.Valid.{after_ask}
@@ -21,6 +24,7 @@ ask-requires c =
       tied = c.self.invariant.tied.locks;
       sits = sits;
       enrolled = running_enrolled _ _ c.args.one.t.0 c.self.invariant.locks runs;
+      number = ap (λ (l : List Ob). number_in l c.args.x.0) c.self.invariant.tied.numbers ∙ sym (number_named inside.objects c.args.x.0) ∙ (rw (← c.self.view_is) at c.requires.number);
       asker = (c.self.invariant.tied.permits, sits);
     }
 
@@ -35,7 +39,7 @@ pub invariant_of-self-2 : goal.invariant_of-self-2
 invariant_of-self-2 c = record {
   locks = rw c.in_ok-ask.ensures.done (asked_enrolled _ _ _ c.args.one.t.0 c.args.x c.args.op c.self.invariant.locks);
   seats = c.self.invariant.seats;
-  tied = record { objects = c.self.invariant.tied.objects; locks = c.ask.ensures.tied; permits = rw c.ask.ensures.permits c.self.invariant.tied.permits; deps = c.self.invariant.tied.deps };
+  tied = record { objects = c.self.invariant.tied.objects; locks = c.ask.ensures.tied; permits = rw c.ask.ensures.permits c.self.invariant.tied.permits; deps = c.self.invariant.tied.deps; numbers = c.ask.ensures.objects ∙ c.self.invariant.tied.numbers };
 }
 
 pub returns-clause-granted : goal.returns-clause-granted

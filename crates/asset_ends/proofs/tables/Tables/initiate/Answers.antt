@@ -32,7 +32,7 @@ invariant_of-self-2 c =
     rw (c.in_ok-initiate_at.ensures.done, ← given) (record {
       locks = rw enrolled (initiate_enrolled _ _ c.args.t c.args.parent c.sit-at.result c.in_ok-initiate_at.ensures.absent c.self.invariant.locks);
       seats = initiate_seated _ seats c.sit-at.new.self c.args.t c.args.parent c.sit-at.result c.in_ok-initiate_at.ensures.absent c.sit-at.ensures.free c.sit-at.ensures.seats (same_seated _ c.self.inside.parts.seats seats c.make_room.ensures.seats c.self.invariant.seats);
-      tied = record { objects = tied.objects; locks = c.enrol.ensures.tied; permits = tied.permits; deps = tied.deps };
+      tied = record { objects = tied.objects; locks = c.enrol.ensures.tied; permits = tied.permits; deps = tied.deps; numbers = c.enrol.ensures.objects ∙ tied.numbers };
     })
 
 pub returns-clause-stand : goal.returns-clause-stand

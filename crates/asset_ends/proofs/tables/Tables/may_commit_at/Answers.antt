@@ -10,10 +10,10 @@ use Rattle.asset_ends.proofs.EndingLemmas.{marked_live, may_by_marks, may_alone}
 use Rattle.asset_ends.proofs.tables.Tables.may_commit_at.Goals as goal
 
 pub invariant_of-self : goal.invariant_of-self
-invariant_of-self c = rw c.has_outside_source.ensures.same (record { locks = c.self.invariant.locks; seats = c.self.invariant.seats; tied = record { objects = c.self.invariant.tied.objects; locks = c.self.invariant.tied.locks; permits = c.self.invariant.tied.permits; deps = c.mark_class.ensures.tied } })
+invariant_of-self c = rw c.has_outside_source.ensures.same (record { locks = c.self.invariant.locks; seats = c.self.invariant.seats; tied = record { objects = c.self.invariant.tied.objects; locks = c.self.invariant.tied.locks; permits = c.self.invariant.tied.permits; deps = c.mark_class.ensures.tied; numbers = c.self.invariant.tied.numbers } })
 
 pub invariant_of-self-else-all_completed : goal.invariant_of-self-else-all_completed
-invariant_of-self-else-all_completed c = record { locks = c.self.invariant.locks; seats = c.self.invariant.seats; tied = record { objects = c.self.invariant.tied.objects; locks = c.self.invariant.tied.locks; permits = c.self.invariant.tied.permits; deps = c.mark_class.ensures.tied } }
+invariant_of-self-else-all_completed c = record { locks = c.self.invariant.locks; seats = c.self.invariant.seats; tied = record { objects = c.self.invariant.tied.objects; locks = c.self.invariant.tied.locks; permits = c.self.invariant.tied.permits; deps = c.mark_class.ensures.tied; numbers = c.self.invariant.tied.numbers } }
 
 pub returns-then-all_completed-clause-may : goal.returns-then-all_completed-clause-may
 unfolding may_commit_in

@@ -1,6 +1,9 @@
-use Rattle.std.proofs.Common.{◌≡◌, ◌∙◌, false, ap, w64, to_z, of_z, arith}
+use Rattle.std.proofs.Common.{◌≡◌, ◌∙◌, List, false, sym, ap, w64, to_z, of_z, arith}
 use Rattle.std.proofs.lemmas.Int.{to_z-of_z}
+use Rattle.asset_names.specs.declared.names.Ob.{Ob}
+use Rattle.asset_names.specs.Numbered.{number_in}
 use Rattle.asset_names.proofs.Common.{on_ok_two}
+use Rattle.asset_objects.proofs.PlacedLemmas.{number_named}
 use Rattle.asset_objects.specs.Cells.{cells}
 use Rattle.asset_objects.specs.Placed.{object_table}
 use Rattle.asset_ends.specs.Standing.{is_free_for}
@@ -13,6 +16,14 @@ use Rattle.asset_ends.proofs.tables.Tables.update_at.Goals as goal
 pub update_reserved-requires-clause-reserved : goal.update_reserved-requires-clause-reserved
 unfolding object_table
 update_reserved-requires-clause-reserved c = c.in-Ok.ensures.reserved
+
+pub update_reserved-requires-clause-number : goal.update_reserved-requires-clause-number
+update_reserved-requires-clause-number c =
+    let objects = c.self.inside.parts.objects in
+    number_named c.reserve_write.new.self c.args.x.0
+    ∙ ap (λ (l : List Ob). number_in l c.args.x.0) c.reserve_write.ensures.objects
+    ∙ sym (number_named objects c.args.x.0)
+    ∙ (rw (← c.self.view_is) at c.requires.number)
 
 pub returns-in-Ok-clause-answer : goal.returns-in-Ok-clause-answer
 unfolding is_free_for

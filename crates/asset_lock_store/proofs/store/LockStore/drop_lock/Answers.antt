@@ -18,7 +18,7 @@ invariant_of-self c =
     let inside = c.self.inside in
     let there = ap (λ (s : Stored). is_some (home_of s.by_owner c.args.key)) c.self.view_is ∙ c.requires in
     let of_owner = some_of (home_of inside.by_owner c.args.key) there in
-    stored_dropped (record { locks = inside.locks; objects = inside.objects.keys; by_object = inside.by_object; by_owner = inside.by_owner }) _ c.args.key c.self.invariant c.try_remove.ensures.updates
+    stored_dropped (record { locks = inside.locks; objects = inside.objects.items; by_object = inside.by_object; by_owner = inside.by_owner }) _ c.args.key c.self.invariant c.try_remove.ensures.updates
     c.remove.ensures
     (homes_without inside.by_owner c.unlink.new.self c.args.key of_owner.0 of_owner.1 c.unlink.ensures)
     refl
@@ -29,9 +29,10 @@ returns c =
     let there = ap (λ (s : Stored). is_some (home_of s.by_owner c.args.key)) c.self.view_is ∙ c.requires in
     let of_owner = some_of (home_of inside.by_owner c.args.key) there in
     let sound = subst (λ (s : Stored). IsSound s.by_owner) (sym c.self.view_is) c.laws.ensures.owners in
-    subst (λ (s : Stored). IsDropped c.args.key s (record { locks = c.try_remove.new.self; objects = inside.objects.keys; by_object = c.remove.new.self; by_owner = c.unlink.new.self })) c.self.view_is (record {
+    subst (λ (s : Stored). IsDropped c.args.key s (record { locks = c.try_remove.new.self; objects = inside.objects.items; by_object = c.remove.new.self; by_owner = c.unlink.new.self })) c.self.view_is (record {
       locks = λ k apart. same_lock c.try_remove.new.self inside.locks k (c.try_remove.ensures.updates.others k apart);
       chains = chains_without inside.by_owner c.unlink.new.self c.args.key of_owner.0 sound of_owner.1 c.unlink.ensures;
       homes = homes_without inside.by_owner c.unlink.new.self c.args.key of_owner.0 of_owner.1 c.unlink.ensures;
       seats = (unlinks of_owner.0 c.args.key inside.by_owner c.unlink.new.self of_owner.1 c.unlink.ensures).same_chains;
+      objects = refl;
     })

@@ -21,7 +21,7 @@ invariant_of-self c =
     let placed = c.self.invariant.placed c.args.key at.0 at.1 in
     let ops = ap (λ (l : Lock). l.ops) (c.lock-before.ensures ∙ ap (λ (s : Stored). lock_at s.locks c.args.key) (sym c.self.view_is)) in
     let same = excluder_with c.args.op lock.ops (sym (ap excludes ops) ∙ sym c.excludes.ensures ∙ c.if-excludes.true) in
-    stored_granted (record { locks = c.self.inside.locks; objects = c.self.inside.objects.keys; by_object = c.self.inside.by_object; by_owner = c.self.inside.by_owner }) _ c.args.key placed.number c.args.op c.self.invariant placed.numbered c.grant_to.ensures.locks c.grant_to.ensures.keys
+    stored_granted (record { locks = c.self.inside.locks; objects = c.self.inside.objects.items; by_object = c.self.inside.by_object; by_owner = c.self.inside.by_owner }) _ c.args.key placed.number c.args.op c.self.invariant placed.numbered c.grant_to.ensures.locks c.grant_to.ensures.keys
     (changed_not c.args.key (Some (part_for placed.number (class_of (with_op c.args.op lock.ops)))) c.self.inside.by_object (placed.part ∙ ap (λ (b : Section). Some (part_for placed.number b)) (sym same)))
     (c.self.invariant.listed c.args.key ∙ sym (c.self.invariant.held c.args.key) ∙ owned) refl refl
     (subst (λ (s : Stored). (j a d : ℕ) → home_of s.by_owner c.args.key ≡ Some a → home_of s.by_owner j ≡ Some d → (d ≡ a → ⊥) → (lock_at s.locks j).object.0 ≡ (lock_at s.locks c.args.key).object.0 → both_conflict (lock_at s.locks j).ops (with_op c.args.op (lock_at s.locks c.args.key).ops) ≡ true → (lock_at s.locks j).granted ≡ false) (sym c.self.view_is) c.requires.apart)
@@ -34,7 +34,7 @@ invariant_of-self-then-excludes-2 c =
     let placed = c.self.invariant.placed c.args.key at.0 at.1 in
     let ops = c.with.ensures ∙ ap (λ (l : Lock). with_op c.args.op l.ops) (c.lock-before.ensures ∙ ap (λ (s : Stored). lock_at s.locks c.args.key) (sym c.self.view_is)) in
     let front = excluder_class (with_op c.args.op lock.ops) (sym (ap excludes ops) ∙ sym c.excludes-2.ensures ∙ c.if-excludes-2.true) in
-    stored_granted (record { locks = c.self.inside.locks; objects = c.self.inside.objects.keys; by_object = c.self.inside.by_object; by_owner = c.self.inside.by_owner }) _ c.args.key placed.number c.args.op c.self.invariant placed.numbered c.grant_to.ensures.locks c.grant_to.ensures.keys
+    stored_granted (record { locks = c.self.inside.locks; objects = c.self.inside.objects.items; by_object = c.self.inside.by_object; by_owner = c.self.inside.by_owner }) _ c.args.key placed.number c.args.op c.self.invariant placed.numbered c.grant_to.ensures.locks c.grant_to.ensures.keys
     (subst (λ o. IsChangedAt c.args.key o c.self.inside.by_object c.advance.new.self) (part_advanced c.self.inside.by_object c.args.key placed.number (class_of lock.ops) placed.part ∙ ap (λ (b : Section). Some (part_for placed.number b)) (sym front)) c.advance.ensures)
     (c.self.invariant.listed c.args.key ∙ sym (c.self.invariant.held c.args.key) ∙ owned) refl refl
     (subst (λ (s : Stored). (j a d : ℕ) → home_of s.by_owner c.args.key ≡ Some a → home_of s.by_owner j ≡ Some d → (d ≡ a → ⊥) → (lock_at s.locks j).object.0 ≡ (lock_at s.locks c.args.key).object.0 → both_conflict (lock_at s.locks j).ops (with_op c.args.op (lock_at s.locks c.args.key).ops) ≡ true → (lock_at s.locks j).granted ≡ false) (sym c.self.view_is) c.requires.apart)
@@ -47,7 +47,7 @@ invariant_of-self-else-excludes-2 c =
     let placed = c.self.invariant.placed c.args.key at.0 at.1 in
     let ops = c.with.ensures ∙ ap (λ (l : Lock). with_op c.args.op l.ops) (c.lock-before.ensures ∙ ap (λ (s : Stored). lock_at s.locks c.args.key) (sym c.self.view_is)) in
     let same = class_with c.args.op lock.ops (c.self.invariant.carry c.args.key at.0 at.1) (sym (ap excludes ops) ∙ sym c.excludes-2.ensures ∙ c.if-excludes-2.false) in
-    stored_granted (record { locks = c.self.inside.locks; objects = c.self.inside.objects.keys; by_object = c.self.inside.by_object; by_owner = c.self.inside.by_owner }) _ c.args.key placed.number c.args.op c.self.invariant placed.numbered c.grant_to.ensures.locks c.grant_to.ensures.keys
+    stored_granted (record { locks = c.self.inside.locks; objects = c.self.inside.objects.items; by_object = c.self.inside.by_object; by_owner = c.self.inside.by_owner }) _ c.args.key placed.number c.args.op c.self.invariant placed.numbered c.grant_to.ensures.locks c.grant_to.ensures.keys
     (changed_not c.args.key (Some (part_for placed.number (class_of (with_op c.args.op lock.ops)))) c.self.inside.by_object (placed.part ∙ ap (λ (b : Section). Some (part_for placed.number b)) (sym same)))
     (c.self.invariant.listed c.args.key ∙ sym (c.self.invariant.held c.args.key) ∙ owned) refl refl
     (subst (λ (s : Stored). (j a d : ℕ) → home_of s.by_owner c.args.key ≡ Some a → home_of s.by_owner j ≡ Some d → (d ≡ a → ⊥) → (lock_at s.locks j).object.0 ≡ (lock_at s.locks c.args.key).object.0 → both_conflict (lock_at s.locks j).ops (with_op c.args.op (lock_at s.locks c.args.key).ops) ≡ true → (lock_at s.locks j).granted ≡ false) (sym c.self.view_is) c.requires.apart)

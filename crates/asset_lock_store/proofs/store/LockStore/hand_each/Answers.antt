@@ -38,6 +38,7 @@ keys-preserved-then-has c =
         | inl before ↦ c.keys.invariant.holders k d before
         | inr same ↦ inr same
       ];
+      objects = handed.objects ∙ c.keys.invariant.objects;
     }
 
 pub keys-smaller : goal.keys-smaller
@@ -59,6 +60,7 @@ keys-preserved c =
       others = c.keys.invariant.others;
       seats = c.keys.invariant.seats;
       holders = c.keys.invariant.holders;
+      objects = c.keys.invariant.objects;
     }
 
 pub returns-clause-giver : goal.returns-clause-giver

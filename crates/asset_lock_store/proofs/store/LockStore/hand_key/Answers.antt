@@ -12,6 +12,7 @@ returns-in-Some c = λ from home differ.
     (ap (λ (l : Lock). is_on l.object.0 (lock_at c.args.self.now.locks c.in-Some.other)) (sym c.lock-lock.ensures) ∙ c.in-Some.ensures.found.1)
     (λ k. c.join_at.ensures.locks k ∙ ap (λ (l : Lock). cond (eqb k c.in-Some.other) (with_ops l.ops (lock_at c.args.self.now.locks c.in-Some.other)) (lock_at c.args.self.now.locks k)) c.lock-lock.ensures)
     c.join_at.ensures.by_owner
+    c.join_at.ensures.objects
     c.drop_lock.ensures
 
 pub returns-in-None : goal.returns-in-None

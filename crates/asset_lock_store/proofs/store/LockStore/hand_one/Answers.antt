@@ -25,3 +25,6 @@ returns-in_default-clause-giver c = λ set only. none_kept set c.args.x only c.a
 
 pub returns-in_default-clause-taker : goal.returns-in_default-clause-taker
 returns-in_default-clause-taker c = λ set only. none_given set c.args.x only c.args.self.now c.args.from c.laws.ensures.owners c.in_default.ensures.none _
+
+pub returns-in-Some-clause-objects : goal.returns-in-Some-clause-objects
+returns-in-Some-clause-objects c = (c.hand_key.ensures c.args.from c.in-Some.ensures.found.0 c.requires.apart).objects

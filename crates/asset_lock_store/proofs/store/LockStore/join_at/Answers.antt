@@ -20,7 +20,7 @@ invariant_of-self c =
     let placed = c.self.invariant.placed c.args.key at.0 at.1 in
     let all = c.both-all.ensures ∙ ap (λ (l : Lock). both_ops l.ops c.args.ops) (c.lock.ensures ∙ ap (λ (s : Stored). lock_at s.locks c.args.key) (sym c.self.view_is)) in
     let front = excluder_class (both_ops lock.ops c.args.ops) (sym (ap excludes all) ∙ sym c.excludes.ensures ∙ c.if-excludes.true) in
-    stored_merged (record { locks = c.self.inside.locks; objects = c.self.inside.objects.keys; by_object = c.self.inside.by_object; by_owner = c.self.inside.by_owner }) _ c.args.key placed.number c.args.ops c.self.invariant placed.numbered c.add_ops.ensures.locks c.add_ops.ensures.keys
+    stored_merged (record { locks = c.self.inside.locks; objects = c.self.inside.objects.items; by_object = c.self.inside.by_object; by_owner = c.self.inside.by_owner }) _ c.args.key placed.number c.args.ops c.self.invariant placed.numbered c.add_ops.ensures.locks c.add_ops.ensures.keys
     (subst (λ o. IsChangedAt c.args.key o c.self.inside.by_object c.advance.new.self)
     (part_advanced c.self.inside.by_object c.args.key placed.number (class_of lock.ops) placed.part ∙ ap (λ (b : Section). Some (part_for placed.number b)) (sym front)) c.advance.ensures)
     (c.self.invariant.listed c.args.key ∙ sym (c.self.invariant.held c.args.key) ∙ owned) refl refl
@@ -33,6 +33,6 @@ invariant_of-self-else-excludes c =
     let placed = c.self.invariant.placed c.args.key at.0 at.1 in
     let all = c.both-all.ensures ∙ ap (λ (l : Lock). both_ops l.ops c.args.ops) (c.lock.ensures ∙ ap (λ (s : Stored). lock_at s.locks c.args.key) (sym c.self.view_is)) in
     let same = class_both lock.ops c.args.ops (c.self.invariant.carry c.args.key at.0 at.1) (sym (ap excludes all) ∙ sym c.excludes.ensures ∙ c.if-excludes.false) in
-    stored_merged (record { locks = c.self.inside.locks; objects = c.self.inside.objects.keys; by_object = c.self.inside.by_object; by_owner = c.self.inside.by_owner }) _ c.args.key placed.number c.args.ops c.self.invariant placed.numbered c.add_ops.ensures.locks c.add_ops.ensures.keys
+    stored_merged (record { locks = c.self.inside.locks; objects = c.self.inside.objects.items; by_object = c.self.inside.by_object; by_owner = c.self.inside.by_owner }) _ c.args.key placed.number c.args.ops c.self.invariant placed.numbered c.add_ops.ensures.locks c.add_ops.ensures.keys
     (changed_not c.args.key (Some (part_for placed.number (class_of (both_ops lock.ops c.args.ops)))) c.self.inside.by_object (placed.part ∙ ap (λ (b : Section). Some (part_for placed.number b)) (sym same)))
     (c.self.invariant.listed c.args.key ∙ sym (c.self.invariant.held c.args.key) ∙ owned) refl refl

@@ -33,7 +33,7 @@ invariant_of-self c =
     let there = ap (λ (s : Stored). is_some (home_of s.by_owner c.args.key)) c.self.view_is ∙ c.requires.there in
     let at = some_of (home_of inside.by_owner c.args.key) there in
     let seat = subst (λ (s : Stored). c.args.to < length s.by_owner.chains) (sym c.self.view_is) c.requires.seat in
-    stored_moved (record { locks = inside.locks; objects = inside.objects.keys; by_object = inside.by_object; by_owner = inside.by_owner }) c.push.new.self c.args.key c.args.to c.self.invariant there
+    stored_moved (record { locks = inside.locks; objects = inside.objects.items; by_object = inside.by_object; by_owner = inside.by_owner }) c.push.new.self c.args.key c.args.to c.self.invariant there
     (moved_homes inside.by_owner c.unlink.new.self c.push.new.self c.args.key at.0 c.args.to at.1 seat c.unlink.ensures c.push.ensures)
     (subst (λ (s : Stored). (k : ℕ) → home_of s.by_owner k ≡ Some c.args.to → is_on (lock_at s.locks c.args.key).object.0 (lock_at s.locks k) ≡ false) (sym c.self.view_is) c.requires.none)
 
@@ -45,5 +45,5 @@ returns c =
     let seat = subst (λ (s : Stored). c.args.to < length s.by_owner.chains) (sym c.self.view_is) c.requires.seat in
     let sound = subst (λ (s : Stored). IsSound s.by_owner) (sym c.self.view_is) c.laws.ensures.owners in
     let none = subst (λ (s : Stored). (k : ℕ) → home_of s.by_owner k ≡ Some c.args.to → is_on (lock_at s.locks c.args.key).object.0 (lock_at s.locks k) ≡ false) (sym c.self.view_is) c.requires.none in
-    subst (λ (s : Stored). IsMoved c.args.key c.args.to s (record { locks = inside.locks; objects = inside.objects.keys; by_object = inside.by_object; by_owner = c.push.new.self })) c.self.view_is
-    (moved_chain (record { locks = inside.locks; objects = inside.objects.keys; by_object = inside.by_object; by_owner = inside.by_owner }) c.unlink.new.self c.push.new.self c.args.key at.0 c.args.to sound at.1 seat c.unlink.ensures c.push.ensures none)
+    subst (λ (s : Stored). IsMoved c.args.key c.args.to s (record { locks = inside.locks; objects = inside.objects.items; by_object = inside.by_object; by_owner = c.push.new.self })) c.self.view_is
+    (moved_chain (record { locks = inside.locks; objects = inside.objects.items; by_object = inside.by_object; by_owner = inside.by_owner }) c.unlink.new.self c.push.new.self c.args.key at.0 c.args.to sound at.1 seat c.unlink.ensures c.push.ensures none)

@@ -7,7 +7,7 @@ use Rattle.asset_lock_store.proofs.GrantLemmas.{others_kept, home_kept, shorter,
 use Rattle.asset_lock_store.proofs.store.LockStore.release.Goals as goal
 
 pub keys-init : goal.keys-init
-keys-init c = record { sound = c.laws.ensures.owners; others = λ d apart. refl; seats = refl; holders = λ k d home. home }
+keys-init c = record { sound = c.laws.ensures.owners; others = λ d apart. refl; seats = refl; holders = λ k d home. home; objects = refl }
 
 pub drop_lock-requires : goal.drop_lock-requires
 drop_lock-requires c = ap is_some ((chain_at_first c.in-Some.key c.args.c c.keys.self.by_owner c.keys.invariant.sound (ap (λ (s : Stored). first_of (chain_of s.by_owner c.args.c)) (sym c.self.view_is) ∙ sym c.in-Some.ensures)).0)
@@ -23,6 +23,7 @@ keys-preserved c =
       others = λ d apart. others_kept c.keys.self c.drop_lock.new.self c.in-Some.key c.args.c c.keys.invariant.sound c.drop_lock.ensures home d apart ∙ c.keys.invariant.others d apart;
       seats = c.drop_lock.ensures.seats ∙ c.keys.invariant.seats;
       holders = λ k d at. c.keys.invariant.holders k d (home_kept c.keys.self c.drop_lock.new.self c.in-Some.key c.args.c c.keys.invariant.sound c.drop_lock.ensures home k d at);
+      objects = c.drop_lock.ensures.objects ∙ c.keys.invariant.objects;
     }
 
 pub returns-clause-own : goal.returns-clause-own

@@ -10,6 +10,7 @@ invariant-keys l = record {
   others : (d : ℕ) → (d ≡ l.c → ⊥) → locks_at l.self d ≡ locks_at l.initial.self d;
   seats : length l.self.by_owner.chains ≡ length l.initial.self.by_owner.chains;
   holders : (k d : ℕ) → home_of l.self.by_owner k ≡ Some d → home_of l.initial.self.by_owner k ≡ Some d;
+  objects : l.self.objects ≡ l.initial.self.objects;
 }
 
 abbrev pub decreases-keys : goal.decreases-keys

@@ -1,6 +1,6 @@
 use Rattle.std.proofs.Common.{ap, ◌∙◌, rules}
 use Rattle.asset_lock_store.specs.declared.lock.Lock.{Lock}
-use Rattle.asset_lock_store.specs.Stored.{number_in}
+use Rattle.asset_names.specs.Numbered.{number_in}
 use Rattle.asset_lock_store.proofs.GrantLemmas.{suspended_already, pauses_as}
 use Rattle.asset_lock_store.proofs.store.LockStore.suspend_for.Goals as goal
 

@@ -22,4 +22,4 @@ invariant_of-self-2 c =
     let more = rows_in seats c.enrol.new.self in
     let stay = enrolled_either rows more c.in_ok-sitter.sitter.t.0 c.enrol.ensures.done (λ there. ap (λ (table : LockParts). rows_in seats table) (c.enrol.ensures.again there)) in
     let here = ap (λ (t : Txn). is_some (enrolled_in more t.0)) (sym c.in_ok-sitter.ensures.name) ∙ c.enrol.ensures.enrolled in
-    (c.enrol.ensures.tied, enrolled_more inside.seats seats rows more c.args.t c.in_ok-sitter.ensures.others stay here (subst (λ (l : LockTable). SittersAreEnrolled inside.seats l) (sym c.seat_for.ensures.rows) c.self.invariant.1))
+    (c.enrol.ensures.tied, enrolled_more inside.seats seats rows more c.args.t c.in_ok-sitter.ensures.others stay here (subst (λ (l : LockTable). SittersAreEnrolled inside.seats l) (sym c.seat_for.ensures.rows) c.self.invariant.1), c.enrol.ensures.objects ∙ c.seat_for.ensures.objects ∙ c.self.invariant.2)

@@ -10,4 +10,4 @@ invariant_of-self c =
     let seats = c.self.inside.seats in
     let rows = rows_in seats c.self.inside.table in
     let changed = rows_in seats c.hand_over.new.self in
-    (c.hand_over.ensures.tied, enrolled_same seats seats rows changed (λ d. refl) (λ n. ap (λ (table : LockTable). is_some (enrolled_in table n)) c.hand_over.ensures.done ∙ enrolled_handed _ _ _ rows n) c.self.invariant.1)
+    (c.hand_over.ensures.tied, enrolled_same seats seats rows changed (λ d. refl) (λ n. ap (λ (table : LockTable). is_some (enrolled_in table n)) c.hand_over.ensures.done ∙ enrolled_handed _ _ _ rows n) c.self.invariant.1, c.hand_over.ensures.objects ∙ c.self.invariant.2)

@@ -15,4 +15,4 @@ invariant_of-self c =
     let inside = c.self.inside in
     let left = c.leave.new.self in
     let shown = c.release.ensures.leaves left c.leave.ensures.seats in
-    (shown.0, subst (λ (rows : LockTable). SittersAreEnrolled left rows) (sym (shown.1 ∙ c.release.ensures.released)) (enrolled_less inside.seats left (rows_in inside.seats inside.table) c.in-Some.at c.args.t c.in-Some.ensures.found.0 c.self.invariant.0.single c.leave.ensures.seats c.self.invariant.1))
+    (shown.0, subst (λ (rows : LockTable). SittersAreEnrolled left rows) (sym (shown.1 ∙ c.release.ensures.released)) (enrolled_less inside.seats left (rows_in inside.seats inside.table) c.in-Some.at c.args.t c.in-Some.ensures.found.0 c.self.invariant.0.single c.leave.ensures.seats c.self.invariant.1), c.release.ensures.objects ∙ c.self.invariant.2)

@@ -10,7 +10,7 @@ use Rattle.asset_locks.proofs.TableLemmas.{locks_of_seat, rows_valid, tied_insid
 use Rattle.asset_locks.proofs.table.SeatedLocks.carries.Goals as goal
 
 pub key_on-requires : goal.key_on-requires
-key_on-requires c = c.number.ensures
+key_on-requires c = rw (← c.self.view_is) at c.requires.number
 
 pub returns-in-Some : goal.returns-in-Some
 returns-in-Some c =

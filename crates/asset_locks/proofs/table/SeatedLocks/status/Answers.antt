@@ -7,7 +7,7 @@ use Rattle.asset_lock_store.proofs.GrantLemmas.{found_here, none_here}
 use Rattle.asset_locks.proofs.table.SeatedLocks.status.Goals as goal
 
 pub key_on-requires : goal.key_on-requires
-key_on-requires c = c.number.ensures
+key_on-requires c = rw (← c.self.view_is) at c.requires.number
 
 pub returns-in_err-key-clause-status : goal.returns-in_err-key-clause-status
 unfolding status_in

@@ -1,4 +1,4 @@
-use Rattle.asset_table_tests.proofs.seated_locks.Table.end.Goals as goal
+use Rattle.asset_permit_tests.proofs.seated_locks.Table.end.Goals as goal
 
 pub invariant_of-self : goal.invariant_of-self
 invariant_of-self c =

@@ -1,6 +1,6 @@
 use Rattle.std.proofs.Common.{◌∙◌}
 use Rattle.asset_locks.proofs.SeatLemmas.{tied_same, shows_same, shows_sits}
-use Rattle.asset_table_tests.proofs.seated_locks.enter.Goals as goal
+use Rattle.asset_permit_tests.proofs.seated_locks.enter.Goals as goal
 
 pub returns-clause-rows : goal.returns-clause-rows
 returns-clause-rows c =

@@ -1,7 +1,8 @@
 //! Locks by seat, under permits by seat, with the same seats for both: worked values, and a seat that is given again.
 
-ghost use Rattle.std.specs.Prelude.{◌≡◌, IfOk, IfSome};
-ghost use Rattle.asset_seats.specs.Seated.{HasSeat};
+ghost use Rattle.std.specs.Prelude.{◌≡◌, ◌==◌, position, IfOk, IfSome};
+ghost use Rattle.asset_names.specs.Numbered.{number_in};
+ghost use Rattle.asset_seats.specs.Seated.{Seated, HasSeat};
 ghost use Rattle.asset_locks.specs.Tied.{rows_in, IsTied};
 ghost use Rattle.asset_permits.specs.Valid.{IsTied as IsPermitsTied};
 
@@ -48,6 +49,30 @@ fn enter(
     Ok(Sitter { t: Txn(t), at })
 }
 
+/// Returns where an object stands among others, if it does.
+fn place(objects: &[Ob], x: u64) -> Option<usize>
+    ensures { result ≡ position (λ y. x == y.0) objects.now }
+{
+    objects.iter().position(|y| x == y.0)
+}
+
+/// Returns the number of an object, if it has one.
+fn number(locks: &SeatedLocks, x: u64) -> Option<usize>
+    ensures { result ≡ number_in locks.now.store.objects x }
+{
+    place(locks.objects(), x)
+}
+
+/// Gives an object a number if it has none. If memory runs out, it gets none. Nobody sits down, and no row changes.
+fn add_object(locks: &mut SeatedLocks, x: u64) -> Result<(), NoMemory>
+    ensures tied { (seats : Seated) → IsTied locks.old seats → IsTied locks.new seats }
+{
+    match number(locks, x) {
+        Some(_) => Ok(()),
+        None => locks.add_object(Ob(x)),
+    }
+}
+
 /// Locks and permits by seat, beside the seats to which they are tied.
 #[derive(Drop)]
 struct Table {
@@ -78,12 +103,19 @@ impl Table {
         }
     }
 
-    /// Enrols a transaction, unless it is enrolled, and asks for an operation.
+    /// Enrols a transaction, unless it is enrolled, and asks for an operation. An object without a number gets one.
     fn ask_once(&mut self, t: u64, x: u64, op: Op) -> Result<Asked, NoMemory> {
         let asker = enter(&mut self.seats, &mut self.locks, &mut self.permits, t)?;
+        add_object(&mut self.locks, x)?;
         self.locks.enrol(&self.seats, asker);
-        self.locks
-            .ask(&self.seats, asker, Ob(x), op, &mut self.permits)
+        match number(&self.locks, x) {
+            Some(number) => {
+                let permits = &mut self.permits;
+                self.locks
+                    .ask(&self.seats, asker, number, Ob(x), op, permits)
+            }
+            None => Ok(Asked::Pending),
+        }
     }
 
     /// Asks as `ask_once` does. If memory runs out once, the same call is made again.
@@ -96,18 +128,20 @@ impl Table {
 
     /// Returns whether an object is free for one that has a seat.
     fn is_free(&mut self, t: u64, x: u64, op: Op) -> bool {
+        let number = number(&self.locks, x);
         match sitter(&self.seats, t) {
             Some(one) => self
                 .locks
-                .is_free(&self.seats, one, Ob(x), op, &mut self.permits),
+                .is_free(&self.seats, one, number, Ob(x), op, &mut self.permits),
             None => false,
         }
     }
 
     /// Returns the state of the lock of one that has a seat.
     fn status(&self, t: u64, x: u64) -> Option<LockState> {
+        let number = number(&self.locks, x);
         self.locks
-            .status(&self.seats, sitter(&self.seats, t)?, Ob(x))
+            .status(&self.seats, sitter(&self.seats, t)?, number, Ob(x))
     }
 
     /// Returns the object at the index among those that one holds.
@@ -118,7 +152,8 @@ impl Table {
     /// Returns how many objects one that has a seat holds, and the first of them. So few take no memory.
     fn all_held(&self, alloc: Global, t: u64) -> Option<(usize, Option<Ob>)> {
         let one = sitter(&self.seats, t)?;
-        let held = self.locks.held_among(alloc, &self.seats, one, &ObSet::All);
+        let all = ObSet::All;
+        let held = self.locks.held_among(alloc, &self.seats, one, &all, None);
         let held = held.ok()?;
         Some((held.len(), held.first().copied()))
     }
