@@ -1,16 +1,17 @@
 -- A numeral, digit by digit.
-use Rattle.std.proofs.Common.{◌≡◌, ◌⊎◌, inl, inr, ℕ, ◌+◌, ◌*◌, ◌<◌, ◌≤◌, ◌^◌, ◌&&◌, Bool, true, false, cond, List, [], ◌∷◌, length, take, get_or, Option, Some, None, refl, sym, ap, ◌∙◌, arith, rules}
-use Rattle.std.specs.Prelude.{nat_lt}
+use Rattle.std.proofs.Common.{◌≡◌, ◌⊎◌, inl, inr, ℕ, ◌+◌, ◌*◌, ◌-◌, ◌<◌, ◌≤◌, ◌^◌, ◌&&◌, Bool, true, false, cond, List, [], ◌∷◌, length, take, get_or, Option, Some, None, refl, sym, ap, ◌∙◌, arith, rules}
+use Rattle.std.specs.Prelude.{nat_lt, min}
 use Rattle.std.specs.Char.{is_ascii_digit, digit_value}
 use Rattle.std.specs.List.{list_all}
 use Rattle.std.specs.Str.Parse.{digits_value}
 use Rattle.std.proofs.lemmas.Bool.{cases_Bool, lt-ltb, ltb-true, ltb-false, true≢false}
 use Rattle.std.proofs.lemmas.List.{get_or-take, get_or_past, length-take, take-take}
+use Rattle.std.proofs.lemmas.Grind.{common_steps}
 use Rattle.std.proofs.lemmas.Option.{cond_some}
 use Rattle.std.proofs.lemmas.List.Folds.{list_all_more, list_all_at}
-use Rattle.std.proofs.lemmas.Str.Parse.{IsDigitsTest, IsNumeralModel, numerals_by_value, digits_value-take-le}
+use Rattle.std.proofs.lemmas.Str.Parse.{IsDigitsTest, IsNumeralModel, numerals_by_value, digits_value-take-le, digits_value_short}
 use Rattle.std.proofs.lemmas.Int.Digits.{digits_value_more}
-use Rattle.asset_grammar.specs.Numbers.{begins_well, is_numeral, number_of, IsNumberAt, NoNumberAt}
+use Rattle.asset_grammar.specs.Numbers.{begins_well, is_numeral, number_of, AreDigitsAt, IsNumberAt, NoNumberAt}
 
 digits_test : IsDigitsTest (λ ds. list_all is_ascii_digit ds ≡ true)
 digits_test = search rules
@@ -78,6 +79,22 @@ digits_more text i byte below is front digit = list_all_more is_ascii_digit text
 
 pub value_more : (text : List ℕ) (i byte number : ℕ) → i < length text → byte ≡ get_or text i 0 → number ≡ digits_value 10 (take i text) → number * 10 + digit_value byte ≡ digits_value 10 (take (i + 1) text)
 value_more text i byte number below is front = (λ k. front k * 10 + digit_value (is k)) ∙ sym (digits_value_more 10 text i below)
+
+-- a digit has the value of its byte over that of 0
+pub digit_over : (byte : ℕ) → is_ascii_digit byte ≡ true → digit_value byte ≡ byte - 48
+digit_over byte digit = grind (arith, common_steps)
+
+-- one more digit, of at most 19: the number is below 2 ^ 64
+pub one_more_digit : (text : List ℕ) (most size number : ℕ) → most ≡ min (length text) 19 → size < most → AreDigitsAt text number size → is_ascii_digit (get_or text size 0) ≡ true
+    → (number * 10 + (get_or text size 0 - 48) < 2 ^ 64) × AreDigitsAt text (number * 10 + (get_or text size 0 - 48)) (size + 1)
+one_more_digit text most size number least below read digit =
+    let byte = get_or text size 0 in
+    let inside : size < length text = omega arith in
+    let digits : list_all is_ascii_digit (take (size + 1) text) ≡ true = digits_more text size byte inside refl read.digits digit in
+    let is : number * 10 + (byte - 48) ≡ digits_value 10 (take (size + 1) text) = ap (λ d. number * 10 + d) (sym (digit_over byte digit)) ∙ value_more text size byte number inside refl read.value in
+    let short : length (take (size + 1) text) ≤ 19 = omega (arith, length-take (size + 1) text) in
+    let small : digits_value 10 (take (size + 1) text) < 10 ^ 19 = digits_value_short own (take (size + 1) text) 19 digits short in
+    (omega (arith, is, small), record { within = omega arith; digits = digits; value = is })
 
 -- a byte at which a number ends
 pub stops_at : (text : List ℕ) (i byte number : ℕ) → i < length text → byte ≡ get_or text i 0 → number ≡ digits_value 10 (take i text)

@@ -1,5 +1,5 @@
 -- How numbers and values are written.
-use Rattle.std.specs.Prelude.{◌≡◌, ◌≤◌, ℕ, ◌^◌, ◌==◌, ◌&&◌, ◌||◌, Bool, false, not, cond, nat_lt, nat_le, List, [], ◌∷◌, length, take, get_or, Option, None, Some, option_and_then, ℤ, pos, ◌-ℤ◌}
+use Rattle.std.specs.Prelude.{◌≡◌, ◌≤◌, ℕ, ◌^◌, ◌==◌, ◌&&◌, ◌||◌, Bool, true, false, not, cond, nat_lt, nat_le, List, [], ◌∷◌, length, take, get_or, Option, None, Some, option_and_then, ℤ, pos, ◌-ℤ◌}
 use Rattle.std.specs.Char.{is_ascii_digit}
 use Rattle.std.specs.List.{list_all}
 use Rattle.std.specs.Str.Parse.{digits_value}
@@ -31,6 +31,17 @@ unfoldable pub value_of : List ℕ → Option ℤ
 value_of [] = None
 value_of (first ∷ rest) =
     cond (first == 45) (option_and_then negative_value (number_of rest)) (option_and_then positive_value (number_of (first ∷ rest)))
+
+-- the first `size` bytes of a text are digits, and write the number, perhaps with zeros before it
+pub record AreDigitsAt (text : List ℕ) (number size : ℕ) : Type 0 where
+  pub within : size ≤ length text
+  pub digits : list_all is_ascii_digit (take size text) ≡ true
+  pub value : number ≡ digits_value 10 (take size text)
+
+-- and no digit follows them
+pub record AreAllDigitsAt (text : List ℕ) (number size : ℕ) : Type 0 where
+  pub first : AreDigitsAt text number size
+  pub ends : is_ascii_digit (get_or text size 0) ≡ false
 
 -- the first `size` bytes of a text write a number, and no digit follows them
 pub record IsNumberAt (text : List ℕ) (number size : ℕ) : Type 0 where

@@ -84,7 +84,9 @@ impl Words<'_> {
         if !self.rest.starts_with(text) {
             return None;
         }
-        *self = words_after(self.rest, text.len())?;
+        let after = words_after(self.rest, text.len())?;
+        self.rest = after.rest;
+        self.ended = after.ended;
         Some(keyword)
     }
 }

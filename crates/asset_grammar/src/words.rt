@@ -105,7 +105,9 @@ impl<'a> Words<'a> {
             return None;
         }
         let (number, size) = number_at(self.rest)?;
-        *self = words_after(self.rest, size)?;
+        let after = words_after(self.rest, size)?;
+        self.rest = after.rest;
+        self.ended = after.ended;
         Some(number)
     }
 

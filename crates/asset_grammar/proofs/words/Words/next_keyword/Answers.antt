@@ -17,15 +17,15 @@ returns-then-not-starts_with c =
     let other = rw c.text-text.ensures at (sym c.starts_with.ensures.value ∙ c.if-not-starts_with.true) in
     (rw (← c.self.view_is, c.if-self.false) (not_started c.self.inside.rest.now c.in_ok-keyword.keyword is other), refl)
 
-pub returns-in_err-self-inside : goal.returns-in_err-self-inside
+pub returns-in_err-after : goal.returns-in_err-after
 unfolding line_left
-returns-in_err-self-inside c =
+returns-in_err-after c =
     let text = c.self.inside.rest.now in
     let keyword = c.in_ok-keyword.keyword in
     let is = sym c.likely_keyword.ensures ∙ c.in_ok-keyword.was in
     let stands = started text keyword (rw c.text-text.ensures at (sym c.starts_with.ensures.value ∙ c.if-not-starts_with.false)) in
-    let goes_on = rw c.text-text.ensures at c.in_err-self-inside.ensures.goes_on in
-    rw c.from_residual-in_err-self-inside.ensures (rw (← c.self.view_is, c.if-self.false) (word_is_longer text keyword is (goes_on (rw stands (keyword_lacks 10 keyword refl)))), refl)
+    let goes_on = rw c.text-text.ensures at c.in_err-after.ensures.goes_on in
+    rw c.from_residual-in_err-after.ensures (rw (← c.self.view_is, c.if-self.false) (word_is_longer text keyword is (goes_on (rw stands (keyword_lacks 10 keyword refl)))), refl)
 
 pub returns : goal.returns
 unfolding line_left
@@ -33,10 +33,10 @@ returns c =
     let text = c.self.inside.rest.now in
     let keyword = c.in_ok-keyword.keyword in
     let stands = started text keyword (rw c.text-text.ensures at (sym c.starts_with.ensures.value ∙ c.if-not-starts_with.false)) in
-    let ends = (rw c.text-text.ensures at c.in_ok-self-inside.ensures.ends) (rw stands (keyword_lacks 10 keyword refl)) in
+    let ends = (rw c.text-text.ensures at c.in_ok-after.ensures.ends) (rw stands (keyword_lacks 10 keyword refl)) in
     let within = rw c.text-text.ensures at (c.if-not-starts_with.ensures.bound refl) in
     rw (← c.self.view_is, c.if-self.false) (
       keyword_first text keyword _ stands within ends
-          ∙ ap (λ left. keyword_text keyword ∷ left.words) (sym c.self-2.view_is),
-      ap (λ left. left.tail) c.self-2.view_is ∙ ends.tail_is,
+          ∙ ap (λ left. keyword_text keyword ∷ left.words) (sym c.after.view_is),
+      ap (λ left. left.tail) c.after.view_is ∙ ends.tail_is,
     )
