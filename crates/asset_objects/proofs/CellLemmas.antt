@@ -13,7 +13,7 @@ use Rattle.asset_records.specs.declared.mending.Mend.TheVariants.{Set, Less}
 use Rattle.asset_records.specs.declared.records.Record.{Record}
 use Rattle.asset_records.specs.declared.records.Record.TheVariants.{Write, Add, Lasting}
 use Rattle.asset_records.specs.Listed.{owner_of, is_owned as owned, settled_on, settled_many}
-use Rattle.asset_records.specs.Mended.{is_write, has_write, mended, mended_in, summed, mend_by, mend_of, number_in}
+use Rattle.asset_records.specs.Mended.{is_write, has_write, mended, mended_in, summed, mend_by, mend_of, content_of}
 use Rattle.asset_objects.specs.Cells.{Cell, wrote, added, fresh, updated, lasting, placed, placed_anew, ended, undone, settled, written, increased, shown, after, shown_over, has_wrote}
 use Rattle.asset_objects.specs.Placed.{word, below, base_of, stood, grown, recorded_cell}
 use Rattle.asset_objects.proofs.UpdateLemmas.{plus_swap, raised, lasting_none, shown_lasting, IsRaised, lasting_raised, anew_raised, ended_lasting, ended_updated, ended_fresh, updates_in, count_updated, count_lasting}
@@ -152,7 +152,7 @@ base_less less (Lasting amount ∷ later) value = ap (λ (v : ℤ). word (v -ℤ
 
 -- the value over a record that goes is what was below it
 base_mended : (gone : Record) (later : List Record) (value : ℤ) → base_of (mended_in (mend_of gone later) later) (placed_value (mend_of gone later) later value) ≡ below (base_of later value) gone
-unfolding mend_by number_in below
+unfolding mend_by content_of below
 base_mended (Write owner before) later value = base_set before later value
 base_mended (Add owner amount) later value = base_less amount later value
 base_mended (Lasting amount) later value = base_less amount later value

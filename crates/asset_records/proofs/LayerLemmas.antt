@@ -18,7 +18,7 @@ use Rattle.asset_records.specs.declared.layers.Mark.{Mark}
 use Rattle.asset_records.specs.declared.layers.Mark.TheVariants.{Writes, Layered, Mixed}
 use Rattle.asset_records.specs.Layered.{is_layered, only_writes, says_layered, fits, mark_at, AreMarked}
 use Rattle.asset_records.specs.Listed.{on, at_keys, record_at, lists_in, settled_on, owner_of, is_owned, begins_with_nobodys, ChangesOn, TakesBack, Settles, Sheds}
-use Rattle.asset_records.specs.Mended.{is_write, has_write, mended_in, mend_by, mend_of, number_in, summed}
+use Rattle.asset_records.specs.Mended.{is_write, has_write, mended_in, mend_by, mend_of, content_of, summed}
 use Rattle.asset_records.proofs.BackLemmas.{no_last, write_there}
 use Rattle.asset_records.proofs.ClimbLemmas.{wrote_if}
 use Rattle.asset_records.proofs.DropLemmas.{read_some}
@@ -387,7 +387,7 @@ module _ (records : Crossed Record) (marks : List Mark) (object : ℕ) (sound : 
       let add = add_here records.items k d added in
       let none = over_add (at_keys records.items (ahead k (chain_of records.rows object))) (record_at records.items k) (at_keys records.items (behind k (chain_of records.rows object))) (cut_layered k home is) add.0 in (
         no_some (first_write records.items (behind k (chain_of records.rows object))) (sym (write_there records.items (behind k (chain_of records.rows object))) ∙ none),
-        sym (add.1 (summed (number_in (record_at records.items k)) (at_keys records.items (behind k (chain_of records.rows object))))),
+        sym (add.1 (summed (content_of (record_at records.items k)) (at_keys records.items (behind k (chain_of records.rows object))))),
       )
 
   -- if the oldest of the row is an add, no write stands below a key

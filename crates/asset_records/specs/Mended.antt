@@ -43,11 +43,11 @@ summed value (Write owner before ∷ later) = value
 summed value (Add owner amount ∷ later) = summed (int_wrap w64 (value +ℤ amount)) later
 summed value (Lasting amount ∷ later) = summed (int_wrap w64 (value +ℤ amount)) later
 
--- what a write found, or the amount of an add
-unfoldable pub number_in : Record → ℤ
-number_in (Write owner before) = before
-number_in (Add owner amount) = amount
-number_in (Lasting amount) = amount
+-- the content of a record: what a write found, or the amount of an add
+unfoldable pub content_of : Record → ℤ
+content_of (Write owner before) = before
+content_of (Add owner amount) = amount
+content_of (Lasting amount) = amount
 
 -- how the value over a record is mended when it goes: after a write it is this value, after an add that much less
 unfoldable pub mend_by : Record → ℤ → Mend
@@ -58,4 +58,4 @@ mend_by (Lasting amount) value = Less amount
 -- how the value over a record is mended when it goes, where these stand after it: after a write it is what the write found, with
 -- the adds since
 abbrev pub mend_of : Record → List Record → Mend
-mend_of one later = mend_by one (summed (number_in one) later)
+mend_of one later = mend_by one (summed (content_of one) later)

@@ -83,7 +83,7 @@ pub(crate) fn stands_over(records: &Crossed<Record>, object: usize, key: usize) 
     let Some(one) = records.get(key).copied() else {
         unreachable!();
     };
-    let (write, value) = climb(records, object, key, one.number());
+    let (write, value) = climb(records, object, key, one.content());
     Over {
         write,
         mend: one.mend(value),

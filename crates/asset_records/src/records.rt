@@ -30,7 +30,7 @@ impl Record {
     ghost use Rattle.std.specs.Prelude.{◌≡◌, true, Some};
     ghost use Rattle.asset_records.specs.Listed.{is_owned};
     ghost use Rattle.asset_records.specs.Dropped.{added_by};
-    ghost use Rattle.asset_records.specs.Mended.{number_in, mend_by, mended_record};
+    ghost use Rattle.asset_records.specs.Mended.{content_of, mend_by, mended_record};
 
     /// Returns whether the record is somebody's.
     pub(crate) fn is_somebodys(self) -> bool
@@ -54,9 +54,9 @@ impl Record {
         }
     }
 
-    /// Returns what a write found, or the amount of an add.
-    pub(crate) fn number(self) -> i64
-        ensures { result ≡ number_in self }
+    /// Returns the content of the record: what a write found, or the amount of an add.
+    pub(crate) fn content(self) -> i64
+        ensures { result ≡ content_of self }
     {
         match self {
             Record::Write { before, .. } => before,

@@ -17,8 +17,8 @@ unreachable-requires c =
 pub returns-clause-mend : goal.returns-clause-mend
 returns-clause-mend c =
     let later = at_keys c.args.records.now.items (behind c.args.key (chain_of c.args.records.now.rows c.args.object)) in
-    let fits : to_z w64 (of_z w64 c.number.result) ≡ c.number.result = grind (arith, to_z-of_z) in
+    let fits : to_z w64 (of_z w64 c.content.result) ≡ c.content.result = grind (arith, to_z-of_z) in
     let kept : to_z w64 (of_z w64 c.climb-write.result.1) ≡ c.climb-write.result.1 = grind (arith, to_z-of_z) in
     c.mend.ensures
-    ∙ ap (mend_by c.in-Some.one) (kept ∙ c.climb-write.ensures.value ∙ ap (λ (v : ℤ). summed v later) (fits ∙ c.number.ensures))
+    ∙ ap (mend_by c.in-Some.one) (kept ∙ c.climb-write.ensures.value ∙ ap (λ (v : ℤ). summed v later) (fits ∙ c.content.ensures))
     ∙ sym (ap (λ (one : Record). mend_of one later) (read_some c.args.records.now.items c.args.key c.in-Some.one (sym c.get.ensures ∙ sym c.in-Some.ensures)))
