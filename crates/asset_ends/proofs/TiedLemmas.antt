@@ -3,9 +3,13 @@ use Rattle.std.proofs.Common.{◌≡◌, ◌∙◌, ℕ, Bool, true, false, cond
 use Rattle.std.specs.Prelude.{is_some}
 use Rattle.std.proofs.lemmas.Bool.{eqb-true, or_left, false_from_ne_true}
 use Rattle.asset_names.specs.declared.names.Txn.{Txn}
+use Rattle.asset_names.specs.declared.names.Ob.{Ob}
+use Rattle.asset_names.specs.Numbered.{number_in}
 use Rattle.asset_names.specs.declared.operations.Op.{Op}
 use Rattle.asset_seats.specs.Seated.{Seated, seat}
 use Rattle.asset_objects.specs.Placed as Objects
+use Rattle.asset_objects.specs.Cells.{number_of}
+use Rattle.asset_objects.proofs.PlacedLemmas.{number_named}
 use Rattle.asset_objects.proofs.SeatLemmas as ObjectSeats
 use Rattle.asset_permits.specs.Descriptors.{Descriptor, leads_by, reaches_opener, allows_by}
 use Rattle.asset_permits.specs.Valid as Permits
@@ -67,6 +71,11 @@ tied_sits written table given links seats new s t absent tied objects free sits 
   deps = DepSeats.tied_sits links seats new s t tied.deps free sits room.deps;
   numbers = tied.numbers;
 }
+
+-- the locks know an object by the number that it has among the objects
+pub number_in_locks : (written : Objects.ObjectParts) (table : Locks.LockParts) (given : Permits.PermitTable) (links : Deps.LinkTable) (seating : Seated) (x : ℕ) → AreTied written table given links seating
+    → number_of (Objects.objects_in written) x ≡ number_in table.store.objects x
+number_in_locks written table given links seating x tied = number_named written x ∙ ap (λ (objects : List Ob). number_in objects x) (sym tied.numbers)
 
 -- who is live is allowed by each who leads to an opener
 pub allowed_live : (rows : List NamedTransRow) (descriptors : List Descriptor) (t x : ℕ) (op : Op) → is_live_status (status_in rows t) ≡ true → (u : ℕ) → allows_by descriptors u t x op ≡ allows_in rows descriptors u t x op

@@ -1,14 +1,13 @@
-use Rattle.std.proofs.Common.{List, refl, sym, ◌∙◌, ap}
+use Rattle.std.proofs.Common.{refl, sym, ◌∙◌, ap}
 use Rattle.asset_names.specs.Arrows.{lists}
 use Rattle.asset_ends.specs.Ended.{locks_of}
-use Rattle.asset_names.specs.declared.names.Ob.{Ob}
-use Rattle.asset_names.specs.Numbered.{number_in}
 use Rattle.asset_objects.specs.Cells.{number_of}
 use Rattle.asset_objects.proofs.PlacedLemmas.{number_named}
 use Rattle.asset_ends.specs.Standing.{Standing, AreEnrolled}
 use Rattle.asset_locks.proofs.HandLaws.{names_handed}
 use Rattle.asset_ends.proofs.EnrolledLemmas.{live_enrolled}
 use Rattle.asset_ends.proofs.ShowsLemmas.{live_shown}
+use Rattle.asset_ends.proofs.TiedLemmas.{number_in_locks}
 use Rattle.asset_ends.proofs.DelegateLaws.{delegate_shows}
 use Rattle.asset_ends.proofs.StandingLemmas.{stand_as}
 use Rattle.asset_ends.proofs.tables.Tables.delegate_at.Goals as goal
@@ -40,23 +39,18 @@ returns-clause-stand c =
 
 pub copy_permits-requires-clause-only : goal.copy_permits-requires-clause-only
 copy_permits-requires-clause-only c = λ x only.
-    let objects = c.self.inside.parts.objects in
     c.requires.only x only
     ∙ ap (λ (s : Standing). number_of s.objects x.0) (sym c.self.view_is)
-    ∙ number_named objects x.0
-    ∙ ap (λ (l : List Ob). number_in l x.0) (sym c.self.invariant.tied.numbers)
+    ∙ number_in_locks _ _ _ _ _ x.0 c.self.invariant.tied
 
 pub hand_over-requires-clause-only : goal.hand_over-requires-clause-only
 hand_over-requires-clause-only c = λ x only.
-    let objects = c.self.inside.parts.objects in
     c.requires.only x only
     ∙ ap (λ (s : Standing). number_of s.objects x.0) (sym c.self.view_is)
-    ∙ number_named objects x.0
-    ∙ ap (λ (l : List Ob). number_in l x.0) (sym c.self.invariant.tied.numbers)
+    ∙ number_in_locks _ _ _ _ _ x.0 c.self.invariant.tied
 
 pub hand_over-requires-2-clause-only : goal.hand_over-requires-2-clause-only
 hand_over-requires-2-clause-only c = λ x only.
-    let objects = c.self.inside.parts.objects in
     c.requires.only x only
     ∙ ap (λ (s : Standing). number_of s.objects x.0) (sym c.self.view_is)
-    ∙ number_named objects x.0
+    ∙ number_named c.self.inside.parts.objects x.0

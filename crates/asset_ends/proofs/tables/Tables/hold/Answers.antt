@@ -1,14 +1,11 @@
-use Rattle.std.proofs.Common.{List, ap, refl, sym, ◌∙◌}
+use Rattle.std.proofs.Common.{ap, refl, sym, ◌∙◌}
 use Rattle.asset_names.proofs.Common.{always_ok}
-use Rattle.asset_names.specs.declared.names.Ob.{Ob}
-use Rattle.asset_names.specs.Numbered.{number_in}
-use Rattle.asset_objects.proofs.PlacedLemmas.{number_named}
 use Rattle.asset_names.specs.Endings.{is_live_status}
 use Rattle.asset_ends.specs.Standing.{is_free_for}
 use Rattle.asset_locks.specs.Valid.{after_ask}
 use Rattle.asset_permits.specs.Valid.{permits_in}
 use Rattle.asset_ends.specs.Ended.{locks_of}
-use Rattle.asset_ends.proofs.TiedLemmas.{free_running}
+use Rattle.asset_ends.proofs.TiedLemmas.{free_running, number_in_locks}
 use Rattle.asset_ends.proofs.AskedLemmas.{granted_free, pending_blocked}
 use Rattle.asset_ends.proofs.EnrolledLemmas.{running_enrolled, asked_enrolled, live_sits}
 use Rattle.asset_ends.proofs.tables.Tables.hold.Goals as goal
@@ -24,7 +21,7 @@ ask-requires c =
       tied = c.self.invariant.tied.locks;
       sits = sits;
       enrolled = running_enrolled _ _ c.args.one.t.0 c.self.invariant.locks runs;
-      number = ap (λ (l : List Ob). number_in l c.args.x.0) c.self.invariant.tied.numbers ∙ sym (number_named inside.objects c.args.x.0) ∙ (rw (← c.self.view_is) at c.requires.number);
+      number = sym (number_in_locks _ _ _ _ _ c.args.x.0 c.self.invariant.tied) ∙ (rw (← c.self.view_is) at c.requires.number);
       asker = (c.self.invariant.tied.permits, sits);
     }
 
