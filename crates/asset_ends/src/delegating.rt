@@ -81,7 +81,8 @@ impl Tables {
     }
 
     /// Does what `delegate` does, for transactions whose seats are found. Both are live, and the seats are those of their
-    /// rows. If the set lists one object, its number is given, if it exists. If memory runs out, the answer is `NoMemory`, and nothing that any call shows has changed.
+    /// rows. If the set lists one object, its number is given, if it exists. If memory runs out, the answer is `NoMemory`,
+    /// and nothing that any call shows has changed.
     #[inline(always)]
     pub fn delegate_at(
         &mut self,

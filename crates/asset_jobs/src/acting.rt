@@ -21,8 +21,8 @@ fn goes_on(met: Result<Outcome, Fault>) -> bool
     }
 }
 
-/// Returns the value that an act writes or the amount that it adds, and 0 for any other act. A signed number from an act is passed on as the result of
-/// a call, so that the proof knows its range.
+/// Returns the value that an act writes or the amount that it adds, and 0 for any other act. A signed number from an act is
+/// passed on as the result of a call, so that the proof knows its range.
 #[tactic(auto, unfolding(crate::specs::Acts::act_value))]
 fn act_value(act: JobAct) -> i64
     ensures { result ≡ act_value act }

@@ -113,8 +113,8 @@ fn operate<A: Asset>(asset: &mut A, step: &Step, tries: u32) -> Result<bool, Cut
     }
 }
 
-/// Returns the value that an act writes or the amount that it adds, and 0 for another act. A signed number from an act is passed on as the result of a
-/// call, so that the proof knows its range.
+/// Returns the value that an act writes or the amount that it adds, and 0 for another act. A signed number from an act is
+/// passed on as the result of a call, so that the proof knows its range.
 #[tactic(auto, unfolding(crate::specs::Courses::act_value))]
 fn act_value(act: &Act) -> i64
     ensures { result ≡ act_value act.now }

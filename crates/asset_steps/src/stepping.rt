@@ -286,9 +286,10 @@ fn depend_if_any(tables: &mut Tables, kind: Kind, a: Txn, b: Txn) -> Result<Outc
 }
 
 /// Asks for a step: returns its answer, and makes it take effect if it does, or pending if it is a request that
-/// waits. The row of a transaction is looked for once, and again if the step changes it or is a dependency; an object that is
-/// read, written or added to is looked for once; the locks on it are looked at once, unless memory runs out. It answers `NoMemory` if the step would take effect and memory
-/// runs out, and the tables then show what they did before.
+/// waits. It answers `NoMemory` if the step would take effect and memory runs out, and the tables then show what they did before.
+///
+/// The row of a transaction is looked for once, and again if the step changes it or is a dependency. An object that is read,
+/// written or added to is looked for once, and the locks on it are looked at once, unless memory runs out.
 #[inline(always)]
 pub fn step_at_once(tables: &mut Tables, step: &Step) -> Result<Outcome, NoMemory>
     ensures stepped { IfOk result (λ outcome. Stepped tables.old step.now outcome tables.new) }

@@ -51,7 +51,7 @@ fn start(tables: &mut Tables, t: u64) -> bool {
     initiated && begin(tables, t)
 }
 
-/// Reads if the transaction runs and the object exists: the value, and `None` if the request waits or the transaction does not run.
+/// Reads if the transaction runs and the object exists: the value, or `None` if the request waits or is not made.
 fn read_once(tables: &mut Tables, t: u64, x: u64) -> Result<Option<i64>, NoMemory> {
     let exists = tables.number(Ob(x)).is_some();
     match tables.status(Txn(t)) {
