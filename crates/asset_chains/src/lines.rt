@@ -15,6 +15,7 @@ use crate::writes::{with_last, without_key};
 use slab::Slab;
 
 /// Puts the key of an item that is in no chain of the side at the end of the chain.
+#[inline(always)]
 pub(crate) fn join<T>(
     slots: &mut Slab<Slot<T>>,
     heads: &mut Vec<Head>,
@@ -46,6 +47,7 @@ pub(crate) fn join<T>(
 }
 
 /// Takes the key of an item out of its chain of the side.
+#[inline(always)]
 pub(crate) fn leave<T>(slots: &mut Slab<Slot<T>>, heads: &mut Vec<Head>, side: Side, key: usize)
     requires lined { IsLined side slots.old heads.old.items }
     requires there { is_some (home_of (seen (links_of side slots.old) heads.old.items) key) ≡ true }

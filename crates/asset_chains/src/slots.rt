@@ -21,6 +21,7 @@ pub(crate) struct Slot<T> {
 }
 
 /// Returns the link of the key on the side: an empty one, if there is no item at the key.
+#[inline(always)]
 pub(crate) fn link<T>(slots: &Slab<Slot<T>>, side: Side, key: usize) -> Link
     ensures { result ≡ link_at (links_of side slots.now) key }
 {
@@ -34,6 +35,7 @@ pub(crate) fn link<T>(slots: &Slab<Slot<T>>, side: Side, key: usize) -> Link
 }
 
 /// Changes the link of the item at the key on the side.
+#[inline(always)]
 pub(crate) fn set_link<T>(slots: &mut Slab<Slot<T>>, side: Side, key: usize, link: Link)
     requires { is_some (get slots.old key) ≡ true }
     ensures links { links_of side slots.new ≡ slice_set (links_of side slots.old) key link }
@@ -49,6 +51,7 @@ pub(crate) fn set_link<T>(slots: &mut Slab<Slot<T>>, side: Side, key: usize, lin
 }
 
 /// Makes `after` what follows the key that is stored as `at`, if there is one.
+#[inline(always)]
 pub(crate) fn set_after<T>(slots: &mut Slab<Slot<T>>, side: Side, at: u32, after: u32)
     requires { 0 < at → is_some (get slots.old (at - 1)) ≡ true }
     ensures linked { (k : ℕ) → link_at (links_of side slots.new) k ≡ with_after at after (link_at (links_of side slots.old)) k }
@@ -63,6 +66,7 @@ pub(crate) fn set_after<T>(slots: &mut Slab<Slot<T>>, side: Side, at: u32, after
 }
 
 /// Makes `before` what precedes the key that is stored as `at`, if there is one.
+#[inline(always)]
 pub(crate) fn set_before<T>(slots: &mut Slab<Slot<T>>, side: Side, at: u32, before: u32)
     requires { 0 < at → is_some (get slots.old (at - 1)) ≡ true }
     ensures linked { (k : ℕ) → link_at (links_of side slots.new) k ≡ with_before at before (link_at (links_of side slots.old)) k }

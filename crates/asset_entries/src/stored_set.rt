@@ -51,6 +51,7 @@ pub(crate) fn object_at(obs: &ObSet, index: u8) -> Ob
 
 /// Appends the set of a permit or a delegation to the sets, whose room is reserved. Any other step has none.
 #[tactic(auto, unfolding(crate::specs::Stored::sets_after))]
+#[inline(always)]
 pub(crate) fn push_set(sets: &mut StoredSets, step: &Step)
     requires room { length sets.old.sets < sets.old.room }
     ensures sets { sets.new.sets ≡ sets_after step.now sets.old.sets }

@@ -155,6 +155,7 @@ impl Words<'_> {
     }
 
     /// Reads a transaction, the taker of a permit, operations and a set of objects. The taker `None` is anybody.
+    #[inline(always)]
     pub(crate) fn txn_taker_ops_and_set(&mut self) -> Option<((Txn, Option<Txn>), (Ops, ObSet))>
         ensures { Reads txn_taker_ops_and_set self.old result self.new }
     {
@@ -170,6 +171,7 @@ impl Words<'_> {
     }
 
     /// Reads two transactions and a set of objects.
+    #[inline(always)]
     pub(crate) fn txns_and_set(&mut self) -> Option<((Txn, Txn), ObSet)>
         ensures { Reads txns_and_set self.old result self.new }
     {

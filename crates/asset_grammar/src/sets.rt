@@ -90,6 +90,7 @@ fn objects_at<'a>(text: &'a [u8], objects: &mut ArrayVec<Ob, MOST_OBJECTS>) -> O
 }
 
 /// Returns the set of these objects, if they make a list.
+#[inline(always)]
 #[tactic(auto, unfolding(crate::specs::Sets::listed), using(crate::proofs::SetLemmas::makes_list, crate::proofs::SetLemmas::makes_none))]
 fn set_of_objects(objects: &[Ob]) -> Option<ObSet>
     ensures { result ≡ listed objects.now }
@@ -122,6 +123,7 @@ impl Words<'_> {
     }
 
     /// Reads the next word as a set of objects.
+    #[inline(always)]
     #[tactic(auto, unfolding(crate::specs::Words::line_left, crate::specs::Words::taken))]
     pub(crate) fn next_set(&mut self) -> Option<ObSet>
         ensures { Takes set_of self.old result self.new }

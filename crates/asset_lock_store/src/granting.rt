@@ -71,6 +71,7 @@ impl LockStore {
 
     /// Grants `op` to the lock at the key, which is the seat's, and suspends each conflicting lock of another. If the lock
     /// is granted and carries `op`, they are suspended already. Unless `conflicts`, no lock of another conflicts with `op`.
+    #[inline(always)]
     fn take(&mut self, key: usize, c: usize, op: Op, conflicts: bool)
         requires home { home_of self.old.by_owner key ≡ Some c }
         requires alone { conflicts ≡ false → (k d : ℕ) → home_of self.old.by_owner k ≡ Some d → (d ≡ c → ⊥) → conflicts_on (lock_at self.old.locks key).object.0 op (lock_at self.old.locks k) ≡ false }

@@ -102,6 +102,7 @@ impl LockStore {
 
     /// Looks at the locks at the keys, which are on the object that is asked for. From the second lock that conflicts on, all
     /// who allow the asker are found at once.
+    #[inline(always)]
     fn look_over<A: Allows>(
         &self,
         keys: &[u32],
@@ -126,6 +127,7 @@ impl LockStore {
 
     /// Looks at the locks on the object of this number, which is the one that is asked for: for a read at those that do
     /// not only read, for an add at those that do not only add, and for a write at all.
+    #[inline(always)]
     fn look_on<A: Allows>(
         &self,
         number: usize,
@@ -159,6 +161,7 @@ impl LockStore {
     }
 
     /// Looks at the locks on the object that is asked for, whose number is given, as `look_on` does.
+    #[inline(always)]
     pub fn look<A: Allows>(
         &self,
         number: Option<usize>,

@@ -100,6 +100,7 @@ impl NameGroups {
     }
 
     /// Returns the node of a name, which is added if it is new, as a group by itself without a flag. It does not allocate.
+    #[inline(always)]
     pub fn node_of(&mut self, t: u64) -> usize
         requires { has_name self.old.names t ≡ false → length self.old.names < self.old.room }
         ensures named { self.new ≡ with_name self.old t }

@@ -126,6 +126,7 @@ impl ObList {
     /// It answers `Empty` if there is no object; otherwise `TooMany` if there are more than 16; otherwise
     /// `Double` with the least object that occurs twice, if one does. Objects that come rising are kept as they come, in one
     /// pass; of others each pair is compared, and they are sorted.
+    #[inline(always)]
     #[tactic(auto, unfolding(crate::specs::Sets::numbers))]
     pub fn of(objects: &[Ob]) -> Result<ObList, SetFault>
         ensures kept { IfOk result (λ list. IsPermutation objects.now list) }

@@ -160,6 +160,7 @@ impl SeatedObjects {
     /// Reserves the memory for one more write or add. The reservation stands until then.
     ///
     /// If memory runs out, nothing that callers see changes. A reservation that stands already is answered Ok.
+    #[inline(always)]
     pub fn reserve_write(&mut self) -> Result<(), NoMemory>
         ensures cells { cells (objects_in self.new) ≡ cells (objects_in self.old) }
         ensures reserved { OnOk result (self.new.reserved ≡ true) }

@@ -244,6 +244,7 @@ impl Records {
     }
 
     /// Appends a record of the owner to those of the object. It uses the memory that `reserve` reserved.
+    #[inline(always)]
     pub fn push(&mut self, seats: &Seats, owner: Sitter, object: usize, change: Change)
         requires tied { IsTied self.old seats.now }
         requires sits { HasSeat seats.now owner }
