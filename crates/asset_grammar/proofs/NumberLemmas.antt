@@ -81,7 +81,7 @@ pub value_more : (text : List ℕ) (i byte number : ℕ) → i < length text →
 value_more text i byte number below is front = (λ k. front k * 10 + digit_value (is k)) ∙ sym (digits_value_more 10 text i below)
 
 -- a digit has the value of its byte over that of 0
-pub digit_over : (byte : ℕ) → is_ascii_digit byte ≡ true → digit_value byte ≡ byte - 48
+digit_over : (byte : ℕ) → is_ascii_digit byte ≡ true → digit_value byte ≡ byte - 48
 digit_over byte digit = grind (arith, common_steps)
 
 -- one more digit, of at most 19: the number is below 2 ^ 64
@@ -95,14 +95,6 @@ one_more_digit text most size number least below read digit =
     let short : length (take (size + 1) text) ≤ 19 = omega (arith, length-take (size + 1) text) in
     let small : digits_value 10 (take (size + 1) text) < 10 ^ 19 = digits_value_short own (take (size + 1) text) 19 digits short in
     (omega (arith, is, small), record { within = omega arith; digits = digits; value = is })
-
--- a byte at which a number ends
-pub stops_at : (text : List ℕ) (i byte number : ℕ) → i < length text → byte ≡ get_or text i 0 → number ≡ digits_value 10 (take i text)
-    → (is_ascii_digit byte ≡ true → 2 ^ 64 ≤ number * 10 + digit_value byte) → None ≡ number_of text
-stops_at text i byte number below is front stops = go (is_ascii_digit byte) refl where
-  go : (b : Bool) → is_ascii_digit byte ≡ b → None ≡ number_of text
-  go false e = not_a_digit text (list_all_at is_ascii_digit text i 0 below (ap is_ascii_digit (sym is) ∙ e))
-  go true e = too_large text (omega (arith, stops e, value_more text i byte number below is front, digits_value-take-le 10 text (i + 1) (omega arith)))
 
 -- a byte that is no digit, within a text that it is cut at later, makes it no number
 pub not_number_past : (text : List ℕ) (i size : ℕ) → i < size → size ≤ length text → is_ascii_digit (get_or text i 0) ≡ false → number_of (take size text) ≡ None

@@ -38,7 +38,7 @@ pub record AreDigitsAt (text : List ℕ) (number size : ℕ) : Type 0 where
   pub digits : list_all is_ascii_digit (take size text) ≡ true
   pub value : number ≡ digits_value 10 (take size text)
 
--- and no digit follows them
+-- the first `size` bytes of a text are all the digits at its start, and write the number
 pub record AreAllDigitsAt (text : List ℕ) (number size : ℕ) : Type 0 where
   pub first : AreDigitsAt text number size
   pub ends : is_ascii_digit (get_or text size 0) ≡ false

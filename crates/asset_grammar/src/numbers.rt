@@ -54,8 +54,8 @@ fn first_digits(text: &[u8]) -> (u64, usize)
     (number, size)
 }
 
-/// Reads the digits of a text whose first `size` bytes are digits, and write the number. Returns the number that all of them
-/// write, up to the first byte that is no digit, with their count; `None` if it is 2^64 or more.
+/// Goes on to read the digits at the start of a text, of which the first `size` write `number`. Returns the number that all of
+/// them write, with their count; `None` if it is 2^64 or more.
 fn more_digits(text: &[u8], number: u64, size: usize) -> Option<(u64, usize)>
     requires { AreDigitsAt text.now number size }
     ensures { MatchOption result (NoNumberAt text.now) (λ read. AreAllDigitsAt text.now read.0 read.1) }
