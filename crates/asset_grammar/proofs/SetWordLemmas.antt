@@ -1,6 +1,6 @@
 -- What the first word of a text says of objects.
 use Rattle.std.proofs.Common.{◌≡◌, ℕ, ◌+◌, ◌<◌, ◌≤◌, ◌==◌, ◌⊎◌, inl, inr, Bool, true, false, cond, List, [], ◌∷◌, ◌++◌, length, get_or, take, drop, Option, None, Some, refl, sym, ap, ◌∙◌, arith, add-one, drop-cons, take-append-drop}
-use Rattle.std.specs.Prelude.{nat_lt, option_map, option_and_then, IfSome, IfNone, MatchOption}
+use Rattle.std.specs.Prelude.{nat_le, nat_lt, option_map, option_and_then, IfSome, IfNone, MatchOption}
 use Rattle.std.specs.Char.{is_ascii_digit}
 use Rattle.std.specs.List.{list_all, onto_first}
 use Rattle.std.proofs.lemmas.Bool.{eqb-true, eq-eqb, true≢false}
@@ -9,10 +9,13 @@ use Rattle.std.proofs.lemmas.List.Elements.{All-head, All-tail}
 use Rattle.std.proofs.lemmas.List.Splits.{slice_split-cons_no, slice_split_at}
 use Rattle.asset_names.specs.declared.names.Ob.{Ob}
 use Rattle.asset_names.specs.declared.sets.ObSet.{ObSet}
+use Rattle.asset_names.specs.declared.sets.ObSet.TheVariants.{Listed}
+use Rattle.asset_names.specs.Sets.{numbers, twice, put_in, rising, HasNoDouble}
+use Rattle.asset_grammar.proofs.SetLemmas.{makes_list}
 use Rattle.asset_grammar.specs.Lines.{first_line, line_tail, Lacks}
 use Rattle.asset_grammar.specs.Numbers.{number_of, IsNumberAt, NoNumberAt}
 use Rattle.asset_grammar.specs.Operands.{ob, ob_of}
-use Rattle.asset_grammar.specs.Sets.{all_of, gathered, gathered_of, listed, one_more_object, set_of}
+use Rattle.asset_grammar.specs.Sets.{all_of, gathered, gathered_of, list_of, listed, one_more_object, set_of}
 use Rattle.asset_grammar.specs.Words.{parts, taken, Ends, GoesOn, LineLeft}
 use Rattle.asset_grammar.proofs.FirstLineLemmas.{drop_first, get_first, get_same, goes_on_before, number_inside, number_lacks_feed, number_on_first, tail_first}
 use Rattle.asset_grammar.proofs.LineLemmas.{parts_last}
@@ -201,7 +204,7 @@ all_read text starts = go (first_part 32 text) where
       rw (taken_first set_of 32 text first, taken_first all_of 32 text first) (same_made first.rest (set_of (take first.size text)) (all_of (take first.size text)) (set_is_all (take first.size text) word))
 
 -- another word lists its objects
-not_all : (word : List ℕ) → (get_or word 0 0 == 97) ≡ false → set_of word ≡ option_and_then listed (gathered_of [] word)
+not_all : (word : List ℕ) → (get_or word 0 0 == 97) ≡ false → set_of word ≡ list_of word
 unfolding set_of
 not_all [] other = refl
 not_all (b ∷ word) other = rw other refl
@@ -215,10 +218,28 @@ set_mapped : (rest : List (List ℕ)) (o : Option (List Ob)) → option_map {U =
 set_mapped rest None = refl
 set_mapped rest (Some objects) = refl
 
-pub listed_read : (text : List ℕ) → (get_or text 0 0 == 97) ≡ false → taken set_of (parts 32 text) ≡ set_made (taken (gathered_of []) (parts 32 text))
+pub listed_read : (text : List ℕ) → (get_or text 0 0 == 97) ≡ false → taken set_of (parts 32 text) ≡ taken list_of (parts 32 text)
 listed_read text other =
     let first = first_part 32 text in
     taken_first set_of 32 text first
     ∙ ap (option_map (λ set. (set, first.rest))) (not_all (take first.size text) (first_byte 97 text first.size refl other))
+    ∙ sym (taken_first list_of 32 text first)
+
+pub list_made : (text : List ℕ) → taken list_of (parts 32 text) ≡ set_made (taken (gathered_of []) (parts 32 text))
+list_made text =
+    let first = first_part 32 text in
+    taken_first list_of 32 text first
     ∙ set_mapped first.rest (gathered_of [] (take first.size text))
     ∙ ap set_made (sym (taken_first (gathered_of []) 32 text first))
+
+-- one object makes a list
+alone : (x : Ob) → HasNoDouble (numbers (x ∷ []))
+unfolding HasNoDouble numbers twice
+alone x m = go (x.0 == m) where
+  go : (b : Bool) → nat_le 2 (0 + cond b 1 0) ≡ false
+  go true = refl
+  go false = refl
+
+pub one_listed : (x : Ob) → listed (x ∷ []) ≡ Some (Listed (x ∷ []))
+unfolding listed rising put_in
+one_listed x = rw (makes_list (x ∷ []) (omega arith) (omega arith) (alone x)) refl

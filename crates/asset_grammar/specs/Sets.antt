@@ -46,6 +46,10 @@ is_list objects = nat_lt 0 (length objects) && nat_le (length objects) 16 && not
 unfoldable pub listed : List Ob → Option ObSet
 listed objects = cond (is_list objects) (Some (Listed (rising objects))) None
 
--- the set that a word writes: all objects, or those whose numbers stand between its commas, in any order
+-- the set of the objects whose numbers stand between the commas of a word, in any order
+abbrev pub list_of : List ℕ → Option ObSet
+list_of word = option_and_then listed (gathered_of [] word)
+
+-- the set that a word writes: all objects, or those that it lists
 unfoldable pub set_of : List ℕ → Option ObSet
-set_of word = cond (bytes_eq word (codes "all")) (Some All) (option_and_then listed (gathered [] (parts 44 word)))
+set_of word = cond (bytes_eq word (codes "all")) (Some All) (list_of word)

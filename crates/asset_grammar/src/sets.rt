@@ -2,7 +2,7 @@
 ghost use Rattle.std.specs.Prelude.{◌≡◌, cond, Some, None, MatchOption};
 ghost use Rattle.asset_grammar.specs.Lines.{first_line, line_tail};
 ghost use Rattle.asset_grammar.specs.Words.{parts, taken, Takes};
-ghost use Rattle.asset_grammar.specs.Sets.{all_of, gathered_of, listed, one_more_object, ops_of, set_of};
+ghost use Rattle.asset_grammar.specs.Sets.{all_of, gathered_of, list_of, listed, one_more_object, ops_of, set_of};
 
 use crate::numbers::number_at;
 use crate::words::{Words, has_at, words_after};
@@ -122,7 +122,21 @@ impl Words<'_> {
         }
     }
 
-    /// Reads the next word as a set of objects.
+    /// Reads the next word as a list of objects.
+    #[inline(always)]
+    #[tactic(auto, unfolding(crate::specs::Words::line_left, crate::specs::Words::taken))]
+    fn next_list(&mut self) -> Option<ObSet>
+        ensures { Takes list_of self.old result self.new }
+    {
+        if self.ended {
+            return None;
+        }
+        let mut objects: ArrayVec<Ob, MOST_OBJECTS> = ArrayVec::new();
+        *self = objects_at(self.rest, &mut objects)?;
+        set_of_objects(objects.as_slice())
+    }
+
+    /// Reads the next word as a set of objects. A set of one object is made at once, and not by way of a list.
     #[inline(always)]
     #[tactic(auto, unfolding(crate::specs::Words::line_left, crate::specs::Words::taken))]
     pub(crate) fn next_set(&mut self) -> Option<ObSet>
@@ -134,8 +148,13 @@ impl Words<'_> {
         if has_at(self.rest, 0, b'a') {
             return self.next_all();
         }
-        let mut objects: ArrayVec<Ob, MOST_OBJECTS> = ArrayVec::new();
-        *self = objects_at(self.rest, &mut objects)?;
-        set_of_objects(objects.as_slice())
+        let (number, size) = number_at(self.rest)?;
+        if has_at(self.rest, size, b',') {
+            return self.next_list();
+        }
+        let after = words_after(self.rest, size)?;
+        self.rest = after.rest;
+        self.ended = after.ended;
+        Some(ObSet::Listed(ObList::one(Ob(number))))
     }
 }

@@ -158,6 +158,7 @@ impl ObList {
     }
 
     /// Returns the list of one object.
+    #[inline(always)]
     pub fn one(x: Ob) -> ObList
         ensures { result ≡ x ∷ [] }
     {
