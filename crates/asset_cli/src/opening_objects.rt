@@ -56,7 +56,7 @@ impl OpeningObjects {
         match self.pairs.reserve(1) {
             Ok(()) => match self.objects.insert(object.0) {
                 Ok(true) => {
-                    self.pairs.push(object).unwrap();
+                    self.pairs.push_reserved(object);
                     Ok(true)
                 }
                 Ok(false) => Ok(false),

@@ -228,7 +228,7 @@ impl Entries {
     {
         let stored = Stored::of(step, reply, self.sets.len());
         push_set(&mut self.sets, step);
-        self.entries.push(stored).unwrap();
+        self.entries.push_reserved(stored);
     }
 
     /// Appends the entry at the index of other entries, oldest first from 0, as it is stored there: its step is not read back.
@@ -244,6 +244,6 @@ impl Entries {
         let stored = other.entries[index];
         let moved = stored.moved(self.sets.len());
         copy_set(&mut self.sets, &other.sets, &stored);
-        self.entries.push(moved).unwrap();
+        self.entries.push_reserved(moved);
     }
 }

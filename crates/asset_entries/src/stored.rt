@@ -147,11 +147,11 @@ impl Stored {
             Step::Permit {
                 giver,
                 taker,
-                obs,
+                ref obs,
                 ops,
             } => Stored::Permit {
                 tag: ReplyTag::of_two(giver, reply),
-                missing: missing_at(&obs, reply),
+                missing: missing_at(obs, reply),
                 ops,
                 set: count,
                 giver,
@@ -164,9 +164,13 @@ impl Stored {
                 set: count,
                 giver,
             },
-            Step::Delegate { giver, taker, obs } => Stored::Delegate {
+            Step::Delegate {
+                giver,
+                taker,
+                ref obs,
+            } => Stored::Delegate {
                 tag: ReplyTag::of_two(giver, reply),
-                missing: missing_at(&obs, reply),
+                missing: missing_at(obs, reply),
                 set: count,
                 giver,
                 taker,

@@ -23,6 +23,7 @@ fn position(objects: &[Ob], x: Ob) -> usize
 }
 
 /// Returns the index in its set of the object that the reply says is missing, and 0 for any other reply.
+#[inline(always)]
 #[tactic(auto, unfolding(crate::specs::Stored::missing_at))]
 pub(crate) fn missing_at(obs: &ObSet, reply: Reply) -> u8
     ensures { result ≡ missing_at obs.now reply }
@@ -50,8 +51,8 @@ pub(crate) fn object_at(obs: &ObSet, index: u8) -> Ob
 }
 
 /// Appends the set of a permit or a delegation to the sets, whose room is reserved. Any other step has none.
-#[tactic(auto, unfolding(crate::specs::Stored::sets_after))]
 #[inline(always)]
+#[tactic(auto, unfolding(crate::specs::Stored::sets_after))]
 pub(crate) fn push_set(sets: &mut StoredSets, step: &Step)
     requires room { length sets.old.sets < sets.old.room }
     ensures sets { sets.new.sets ≡ sets_after step.now sets.old.sets }

@@ -72,9 +72,9 @@ impl StoredSets {
         ensures room { self.new.room ≡ self.old.room }
     {
         let start = self.objects.len();
-        self.objects.extend_from_slice(listed).unwrap();
+        append_objects(&mut self.objects, listed);
         let count = listed.len();
-        self.stretches.push(Stretch { start, count }).unwrap();
+        self.stretches.push_reserved(Stretch { start, count });
     }
 
     /// Appends a set, for which there is room. It does not allocate.
@@ -115,10 +115,24 @@ impl StoredSets {
     }
 }
 
-ghost use Rattle.std.specs.Prelude.{◌≡◌, ◌≤◌, ◌+◌, length};
+ghost use Rattle.std.specs.Prelude.{◌≡◌, ◌≤◌, ◌+◌, ◌++◌, length, vec_capacity};
 ghost use Rattle.std.specs.List.Sorted.{IsStrictlyIncreasing};
 ghost use Rattle.asset_names.specs.Sets.{numbers};
 ghost use Rattle.asset_entries.specs.StoredSets.{stored_set, stretch_of};
+
+/// Appends the objects, for which there is room. One alone, as most sets have, is put in its place at once.
+#[inline(always)]
+fn append_objects(objects: &mut Vec<Ob>, listed: &[Ob])
+    requires { length objects.old.items + length listed.now ≤ vec_capacity objects.old }
+    ensures items { objects.new.items ≡ objects.old.items ++ listed.now }
+    ensures capacity { vec_capacity objects.old ≤ vec_capacity objects.new }
+{
+    if listed.len() == 1 {
+        objects.push_reserved(listed[0]);
+    } else {
+        objects.extend_from_slice(listed).unwrap();
+    }
+}
 
 /// Returns the objects that the set lists, and none if it is every object.
 fn listed_objects(set: &ObSet) -> &[Ob]

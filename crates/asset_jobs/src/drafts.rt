@@ -58,7 +58,7 @@ impl Draft {
         match self.jobs.reserve(1) {
             Ok(()) => match self.names.insert(t) {
                 Ok(true) => {
-                    self.jobs.push((t, Vec::new(alloc))).unwrap();
+                    self.jobs.push_reserved((t, Vec::new(alloc)));
                     Ok(true)
                 }
                 Ok(false) => Ok(false),

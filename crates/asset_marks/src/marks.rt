@@ -53,8 +53,8 @@ impl Marks {
             return Err(NoMemory);
         }
         let node = self.order.len();
-        self.order.push(node).unwrap();
-        self.position.push(node).unwrap();
+        self.order.push_reserved(node);
+        self.position.push_reserved(node);
         Ok(())
     }
 

@@ -48,7 +48,7 @@ pub(crate) fn add_name(names: &mut Vec<u64>, before: &mut Vec<u32>, last: &mut V
     ensures capacity { (vec_capacity names.old ≤ vec_capacity names.new) × (vec_capacity before.old ≤ vec_capacity before.new) }
 {
     let bucket = bucket_of(t, last.len());
-    before.push(last[bucket]).unwrap();
-    names.push(t).unwrap();
+    before.push_reserved(last[bucket]);
+    names.push_reserved(t);
     last[bucket] = names.len() as u32;
 }

@@ -170,5 +170,5 @@ pub(crate) fn add_node(links: &mut Vec<Link>)
         is_flagged: false,
         label: node,
     };
-    links.push(alone).unwrap();
+    links.push_reserved(alone);
 }

@@ -225,7 +225,7 @@ impl SeatedPermits {
             return Err(NoMemory);
         }
         self.add_permit(seats, sought)?;
-        added.push(*cut).unwrap();
+        added.push_reserved(*cut);
         Ok(())
     }
 

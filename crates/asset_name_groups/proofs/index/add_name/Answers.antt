@@ -6,8 +6,8 @@ use Rattle.asset_name_groups.proofs.index.add_name.Goals as goal
 
 pub returns-clause-indexed : goal.returns-clause-indexed
 returns-clause-indexed c =
-    let names : c.push-2.new.self.items ≡ c.args.names.now.items ++ c.args.t ∷ [] = rw c.unwrap-2.ensures at c.push-2.ensures.items in
-    let before : c.push.new.self.items ≡ c.args.before.now.items ++ c.index.result.now ∷ [] = rw c.unwrap.ensures at c.push.ensures.items in
+    let names : c.push_reserved-2.new.self.items ≡ c.args.names.now.items ++ c.args.t ∷ [] = c.push_reserved-2.ensures.items in
+    let before : c.push_reserved.new.self.items ≡ c.args.before.now.items ++ c.index.result.now ∷ [] = c.push_reserved.ensures.items in
     let read : c.index.result.now ≡ get_or c.args.last.now.items c.bucket_of-bucket.result 0 =
     get_or_read c.args.last.now.items c.bucket_of-bucket.result c.index.result.now (omega (arith, c.bucket_of-bucket.ensures.within, c.len.ensures)) c.index.ensures 0 in
     let count : c.len-2.result ≡ suc (length c.args.names.now.items) = omega (arith, c.len-2.ensures, ap length names, length_push c.args.names.now.items c.args.t) in

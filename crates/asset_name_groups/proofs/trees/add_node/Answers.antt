@@ -4,10 +4,10 @@ use Rattle.asset_name_groups.specs.Trees.{labels_in, flags_in}
 use Rattle.asset_name_groups.proofs.LikeLemmas.{more_forest, more_labels, more_flags}
 use Rattle.asset_name_groups.proofs.trees.add_node.Goals as goal
 
-pushed : (c : goal.After-unwrap) → c.push.new.self.items ≡ c.args.links.now.items ++ Root 0 false (length c.args.links.now.items) ∷ []
+pushed : (c : goal.After-push_reserved) → c.push_reserved.new.self.items ≡ c.args.links.now.items ++ Root 0 false (length c.args.links.now.items) ∷ []
 pushed c =
     let count : c.len-node.result ≡ length c.args.links.now.items = omega (arith, c.len-node.ensures) in
-    rw c.unwrap.ensures at c.push.ensures.items ∙ ap (λ n. c.args.links.now.items ++ Root 0 false n ∷ []) count
+    c.push_reserved.ensures.items ∙ ap (λ n. c.args.links.now.items ++ Root 0 false n ∷ []) count
 
 pub returns-clause-forest : goal.returns-clause-forest
 returns-clause-forest c = rw (pushed c) (more_forest c.args.links.now.items c.requires.forest)

@@ -16,7 +16,7 @@ returns-in-Ok-true-clause-different c = λ none.
     let fields = c.self.inside in
     let found = found_exists _ c.args.object.0.0 (λ y. refl) fields.objects.keys fields.pairs.items c.self.invariant in
     let new = not-true _ (sym c.in-Ok-true.ensures.added ∙ c.in-Ok-true.field-0-test) in
-    rw (c.push.ensures.items, c.unwrap.ensures, c.in-Ok.ensures.items, c.self.view_is) (no_double_more c.args.self.now c.args.object (sym (ap (λ (opening : Opening). exists opening c.args.object.0.0) c.self.view_is) ∙ sym found ∙ new) none)
+    rw (c.push_reserved.ensures.items, c.in-Ok.ensures.items, c.self.view_is) (no_double_more c.args.self.now c.args.object (sym (ap (λ (opening : Opening). exists opening c.args.object.0.0) c.self.view_is) ∙ sym found ∙ new) none)
 
 pub returns-in-Ok-false-clause-added : goal.returns-in-Ok-false-clause-added
 returns-in-Ok-false-clause-added c =

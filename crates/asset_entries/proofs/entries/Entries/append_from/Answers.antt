@@ -23,10 +23,10 @@ copy_set-requires-clause-there c =
 pub copy_set-requires-clause-room : goal.copy_set-requires-clause-room
 copy_set-requires-clause-room c = omega (arith, rw (← c.self.view_is, entries_length c.self.inside.sets.sets c.self.inside.entries.items) at c.requires.room, c.self.invariant.fewer, c.self.invariant.taken_sets)
 
-pub unwrap-requires : goal.unwrap-requires
-unwrap-requires c =
+pub push_reserved-requires : goal.push_reserved-requires
+push_reserved-requires c =
     let below = rw (← c.self.view_is, entries_length c.self.inside.sets.sets c.self.inside.entries.items) at c.requires.room in
-    c.push.ensures.succeeds (omega (arith, below, c.self.invariant.taken))
+    omega (arith, below, c.self.invariant.taken, c.self.inside.entries.ok)
 
 pub invariant_of-self : goal.invariant_of-self
 unfolding IsLegal answer_to
@@ -35,7 +35,7 @@ invariant_of-self c =
     let own = c.self.inside in
     let stored = c.index.result.now in
     let kept = c.self.invariant in
-    let pushed = rw (c.unwrap.ensures, c.moved-moved.ensures) at c.push.ensures.items in
+    let pushed = rw c.moved-moved.ensures at c.push_reserved.ensures.items in
     let count : c.len.result ≡ length own.sets.sets = omega (arith, c.len.ensures) in
     let below = rw (← c.self.view_is, entries_length own.sets.sets own.entries.items) at c.requires.room in
     let within : c.args.index < length others.entries.items = omega (arith, rw (← c.other.view_is, entries_length others.sets.sets others.entries.items) at c.requires.there) in
@@ -48,7 +48,7 @@ invariant_of-self c =
       there = rw (pushed, c.copy_set.ensures.sets) (there_moved others.sets.sets own.sets.sets stored own.entries.items c.len.result count kept.there);
       fewer = rw (pushed, c.copy_set.ensures.sets, length-append) (omega (arith, kept.fewer, (sets_more (entry_of others.sets.sets stored).0 own.sets.sets).1));
       within = rw (pushed, length-append) (omega (arith, below));
-      taken = omega (arith, kept.taken, c.push.ensures.capacity);
+      taken = omega (arith, kept.taken, c.push_reserved.ensures.capacity);
       taken_sets = omega (arith, kept.taken_sets, c.copy_set.ensures.room);
     }
 
@@ -66,7 +66,7 @@ returns c = λ entry at.
     rw (
       ← c.self.view_is,
       ← same,
-      rw (c.unwrap.ensures, c.moved-moved.ensures) at c.push.ensures.items,
+      rw c.moved-moved.ensures at c.push_reserved.ensures.items,
       c.copy_set.ensures.sets,
       entries_moved others.sets.sets own.sets.sets stored own.entries.items c.len.result count c.self.invariant.there,
     ) refl

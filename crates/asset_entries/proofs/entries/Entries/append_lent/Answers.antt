@@ -11,15 +11,15 @@ push_set-requires c = record {
   room = omega (arith, rw (← c.self.view_is, entries_length c.self.inside.sets.sets c.self.inside.entries.items) at c.requires.room, c.self.invariant.fewer, c.self.invariant.taken_sets);
 }
 
-pub unwrap-requires : goal.unwrap-requires
-unwrap-requires c =
+pub push_reserved-requires : goal.push_reserved-requires
+push_reserved-requires c =
     let below = rw (← c.self.view_is, entries_length c.self.inside.sets.sets c.self.inside.entries.items) at c.requires.room in
-    c.push.ensures.succeeds (omega (arith, below, c.self.invariant.taken))
+    omega (arith, below, c.self.invariant.taken, c.self.inside.entries.ok)
 
 pub invariant_of-self : goal.invariant_of-self
 unfolding IsLegal answer_to
 invariant_of-self c =
-    let pushed = rw c.unwrap.ensures at c.push.ensures.items in
+    let pushed = c.push_reserved.ensures.items in
     let stored_sets = c.push_set.ensures.sets in
     let stored = c.of-stored.ensures in
     let kept = c.self.invariant in
@@ -35,7 +35,7 @@ invariant_of-self c =
       there = rw (pushed, stored_sets, stored) (there_appended step c.args.reply permits c.self.inside.entries.items c.len.result count kept.there);
       fewer = rw (pushed, stored_sets, length-append) (omega (arith, kept.fewer, (sets_more step permits).1));
       within = rw (pushed, length-append) (omega (arith, below));
-      taken = omega (arith, kept.taken, c.push.ensures.capacity);
+      taken = omega (arith, kept.taken, c.push_reserved.ensures.capacity);
       taken_sets = omega (arith, kept.taken_sets, c.push_set.ensures.room);
     }
 
@@ -46,7 +46,7 @@ returns c =
     let same = made_again _ _ c.args.step.now c.args.reply c.requires.answer in
     rw (
       ← c.self.view_is,
-      rw c.unwrap.ensures at c.push.ensures.items,
+      c.push_reserved.ensures.items,
       c.push_set.ensures.sets,
       c.of-stored.ensures,
       entries_appended c.args.step.now c.args.reply c.self.inside.sets.sets c.self.inside.entries.items c.len.result same count c.self.invariant.there,
