@@ -113,6 +113,7 @@ impl LockStore {
 
     /// Moves the lock at the key, which is another's, to the seat: at the end, or as one with the seat's lock on its
     /// object, which is suspended then.
+    #[inline(always)]
     fn hand_key(&mut self, key: usize, to: usize)
         requires there { is_some (home_of self.old.by_owner key) ≡ true }
         requires seat { to < length self.old.by_owner.chains }

@@ -86,6 +86,7 @@ impl LockStore {
 
     /// Returns the key of the lock of the seat on `x`, whose number is given, if it has one. It looks at the locks of the
     /// seat or at those on the object, whichever are fewer.
+    #[inline(always)]
     pub fn key_on(&self, number: Option<usize>, c: usize, x: Ob) -> Option<usize>
         requires { number ≡ number_in self.now.objects x.0 }
         ensures found { IfSome result (λ k. home_of self.now.by_owner k ≡ Some c × is_on x.0 (lock_at self.now.locks k) ≡ true) }

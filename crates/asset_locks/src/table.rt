@@ -383,6 +383,7 @@ impl SeatedLocks {
     /// It takes no memory. It looks at each lock of `giver`, and for each that moves, for the lock of `taker`, at the
     /// locks of `taker` or those on the object, whichever are fewer. If the set lists one object, its number is given, if it has
     /// one.
+    #[inline(always)]
     pub fn hand_over(
         &mut self,
         seats: &Seats,
