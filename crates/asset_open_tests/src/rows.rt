@@ -1,6 +1,6 @@
 //! The worked rows of open permits, by every word.
 
-use asset_add_tests::{first_other_work, writes};
+use crate::words::{first_other_work, writes};
 use asset_cli::{Report, RunEnd, Work};
 use std::test::Fail;
 

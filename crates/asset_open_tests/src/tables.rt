@@ -1,6 +1,6 @@
 //! Open permits as calls of the tables, which answer for no refusal.
 
-use asset_add_tests::{first_other_outcome, open_tables};
+use crate::steps::{first_other_outcome, open_tables};
 use asset_ends::Tables;
 use asset_names::{NoMemory, Ob, ObList, Op, Ops, Outcome, Reply, Status, Txn};
 use asset_test_tools::{abort, begin, complete, initiate, read, write};
