@@ -121,16 +121,6 @@ noted_adds (Ok done) receiver cut added noted old new more again notes = λ firs
   go first adds true is = let same = again is in rw (same.0, same.1) adds
   go first adds false is = rw (notes is) (adds_more receiver added cut first old new adds is more)
 
--- what was added goes again
-pub taken_again : (receiver : ℕ) (added : List Cut) (first old new : List Descriptor) → AddsCuts receiver added first old → ((e : Descriptor) → stands new e ≡ (stands old e && not (stands (given_by receiver added) e))) → (e : Descriptor) → stands new e ≡ stands first e
-taken_again receiver added first old new adds gone e = gone e ∙ ap (λ b. b && not (stands (given_by receiver added) e)) (adds.standing e) ∙ go (stands (given_by receiver added) e) refl where
-  go : (given : Bool) → stands (given_by receiver added) e ≡ given → ((stands first e || given) && not given) ≡ stands first e
-  go true is = ap (λ b. (b || true) && false) (adds.fresh e is) ∙ sym (adds.fresh e is)
-  go false is = plain (stands first e) where
-    plain : (s : Bool) → ((s || false) && true) ≡ s
-    plain true = refl
-    plain false = refl
-
 -- ---- what is copied of the giver's permits
 
 -- a test of what is copied on x, as a test of permits

@@ -179,6 +179,3 @@ module _ (permits fewer : Crossed Descriptor) (seats left : Seated) (key from to
   module _ (leaves : (c : ℕ) → seat left c ≡ cond (eqb c to && not (is_used fewer.rows fewer.columns c)) None (cond (eqb c from && not (is_used fewer.rows fewer.columns c)) None (seat seats c))) where
     pub dropped_used : IsUsed fewer left
     dropped_used = left_exact (is_used fewer.rows fewer.columns) from to seats left leaves (λ c still. used c ∙ used_before c still) (λ c apart differ unused. used c ∙ sym (used_same permits.rows permits.columns fewer.rows fewer.columns c (still_chain Row from c home apart) (still_chain Column to c home_across differ)) ∙ unused)
-
-    pub dropped_left : AreLeft seats left
-    dropped_left = left_are (is_used fewer.rows fewer.columns) from to seats left leaves

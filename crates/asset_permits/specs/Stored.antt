@@ -1,5 +1,5 @@
 -- Permits as they are stored, and as they are asked for.
-use Rattle.std.specs.Prelude.{◌≡◌, ℕ, Bool, true, Some}
+use Rattle.std.specs.Prelude.{◌≡◌, ℕ, Bool, true, Some, [], ◌∷◌}
 use Rattle.slab.specs.Slab.{get}
 use Rattle.asset_names.specs.declared.operations.Op.{Op}
 use Rattle.asset_names.specs.declared.sets.ObSet.{ObSet}
@@ -15,6 +15,7 @@ use Rattle.asset_permits.specs.Descriptors.{Descriptor, opens_on}
 -- the set that is stored
 abbrev pub set_of : PermitObjects → ObSet
 set_of PermitObjects'.All = ObSet'.All
+set_of (PermitObjects'.One x) = ObSet'.Listed (x ∷ [])
 set_of (PermitObjects'.Listed objects) = ObSet'.Listed objects.items
 
 -- the permit that is asked for

@@ -3,11 +3,13 @@
 use asset_names::{NoMemory, Ob, ObSet};
 use std::alloc::Global;
 
-/// Every object, or the objects of a list, which takes the memory of those objects alone.
+/// Every object, or the objects of a list. Only a list of two objects or more takes memory, that of those objects alone.
 #[derive(Drop)]
 pub(crate) enum PermitObjects {
     /// Every object.
     All,
+    /// The object of a list of one.
+    One(Ob),
     /// The objects of the list.
     Listed(Vec<Ob>),
 }
@@ -19,9 +21,13 @@ impl PermitObjects {
     ghost use Rattle.asset_permits.specs.Stored.{set_of};
 
     /// Stores a set. It answers `NoMemory` if memory runs out.
+    #[tactic(auto, unfolding(asset_names::specs::InSet::only_in))]
     pub(crate) fn of(set: &ObSet, alloc: Global) -> Result<PermitObjects, NoMemory>
         ensures { IfOk result (λ objects. set_of objects ≡ set.now) }
     {
+        if let Some(x) = set.only() {
+            return Ok(PermitObjects::One(x));
+        }
         match set {
             ObSet::All => Ok(PermitObjects::All),
             ObSet::Listed(list) => match Vec::from_slice(alloc, list.objects()) {
@@ -37,6 +43,7 @@ impl PermitObjects {
     {
         match self {
             PermitObjects::All => true,
+            PermitObjects::One(only) => only.0 == x.0,
             PermitObjects::Listed(objects) => is_listed(objects, x),
         }
     }
@@ -48,6 +55,7 @@ impl PermitObjects {
     {
         match (self, set) {
             (PermitObjects::All, ObSet::All) => true,
+            (PermitObjects::One(only), ObSet::Listed(list)) => [*only].as_slice() == list.objects(),
             (PermitObjects::Listed(objects), ObSet::Listed(list)) => {
                 objects.as_slice() == list.objects()
             }

@@ -1,4 +1,4 @@
-use Rattle.std.proofs.Common.{◌≡◌, ◌||◌, Bool, eqb, true, false, take, refl, sym, ap, ◌∙◌, arith}
+use Rattle.std.proofs.Common.{◌≡◌, ◌||◌, Bool, eqb, true, false, take, refl, sym, ap, ◌∙◌, arith, rules}
 use Rattle.std.proofs.lemmas.Bool.{eq-eqb}
 use Rattle.asset_permits.specs.declared.copying.Cut.{Cut}
 use Rattle.asset_permits.specs.Descriptors.{stands, same_descriptor}
@@ -43,3 +43,6 @@ cuts-preserved c =
       regroup : (a b c : Bool) → ((a || b) || c) ≡ (a || (b || c))
       regroup true b c = refl
       regroup false b c = refl
+
+pub returns-in-Err-clause-unchanged : goal.returns-in-Err-clause-unchanged
+returns-in-Err-clause-unchanged c = search rules
