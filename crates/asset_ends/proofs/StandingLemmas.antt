@@ -23,20 +23,6 @@ always_err (Err e) p = p
 pub same_alike : (later before : Standing) → SameView later before → ShowAlike later before
 same_alike later before same = record { rows = same.rows; objects = same.objects; locks = same.locks; permits = λ u t x op. ap (λ descriptors. one_covers descriptors u t x op) same.permits; openers = λ u x op. ap (λ descriptors. opens descriptors u x op) same.permits; deps = same.deps }
 
--- tables that show alike show the same history
-pub alike_shows : (opening : Opening) (steps : List Step) (later before : Standing) → ShowAlike later before → Shows opening steps (values_of before) → Shows opening steps (values_of later)
-alike_shows opening steps later before alike shows = record {
-  names = rw alike.rows shows.names;
-  statuses = λ t. rw alike.rows (shows.statuses t);
-  parents = λ t. rw alike.rows (shows.parents t);
-  cells = λ x. rw alike.objects (shows.cells x);
-  enrolled = rw alike.locks shows.enrolled;
-  locks = λ t x op. rw alike.locks (shows.locks t x op);
-  permits_stand = λ u t x op. alike.permits u t x op ∙ shows.permits_stand u t x op;
-  openers_stand = λ u x op. alike.openers u x op ∙ shows.openers_stand u x op;
-  dependencies_stand = λ k u v. rw alike.deps (shows.dependencies_stand k u v);
-}
-
 -- tables that are as others are stand for what the others do
 pub stand_as : (opening : Opening) (steps : List Step) (later : Standing) (rows : List NamedTransRow) (objects : Cells) (table : Locks.LockTable) (descriptors : List Descriptor) (deps : List Dependency) → later.trans ≡ rows → cells later.objects ≡ objects → later.locks ≡ table
     → later.permits ≡ descriptors → later.deps ≡ deps → Shows opening steps (table_values rows objects table descriptors deps) → Shows opening steps (values_of later)

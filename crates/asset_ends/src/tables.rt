@@ -154,7 +154,8 @@ impl Tables {
     /// such object.
     #[inline(always)]
     pub fn number_of_only(&self, set: &ObSet) -> Option<usize>
-        ensures { (x : Object) → only_in set.now ≡ Some x → result ≡ number_of self.now.objects x.0 }
+        ensures number { (x : Object) → only_in set.now ≡ Some x → result ≡ number_of self.now.objects x.0 }
+        ensures none { only_in set.now ≡ None → result ≡ None }
     {
         self.parts.objects.number_of_only(set)
     }

@@ -322,10 +322,6 @@ owned_more : (test : ℕ → Bool) (first : Record) (later : List Record) → ow
 unfolding owned_by
 owned_more test first later = sum_by-cons (λ (one : Record). cond {A = ℕ} (owned test one) 1 0) first later
 
-owned_none : (test : ℕ → Bool) → owned_by test [] ≡ 0
-unfolding owned_by
-owned_none test = refl
-
 owned_mended : (test : ℕ → Bool) (mend : Mend) (later : List Record) → owned_by test (mended_in mend later) ≡ owned_by test later
 unfolding mended_in owned owner_of
 owned_mended test mend [] = refl

@@ -206,14 +206,6 @@ update_cells change values old new i last value within pushed changes j = go (eq
       let now : on new j ≡ on old j = changes.1 j ∙ ap (λ (b : Bool). cond b (on old i ++ last ∷ []) (on old j)) e in
       λ k. recorded_cell (now k) (get_or-set_other values i j value (pos 0) (λ same. eqb-false i j e (sym same)) k)
 
-pub reserved_shown : (objects : List Ob) (values : List ℤ) (lists : List (List Record)) (reserved : Bool) (visits : ℕ) (table : ObjectTable) → object_table objects values lists reserved visits ≡ table → table.reserved ≡ reserved
-unfolding object_table
-reserved_shown objects values lists reserved visits table view = sym (ap (λ (t : ObjectTable). t.reserved) view)
-
-pub visits_shown : (objects : List Ob) (values : List ℤ) (lists : List (List Record)) (reserved : Bool) (visits : ℕ) (table : ObjectTable) → object_table objects values lists reserved visits ≡ table → visits ≡ table.visits
-unfolding object_table
-visits_shown objects values lists reserved visits table view = ap (λ (t : ObjectTable). t.visits) view
-
 pub updates_shown : (test : ℕ → Bool) (objects : List Ob) (values : List ℤ) (lists : List (List Record)) (reserved : Bool) (visits : ℕ) (table : ObjectTable) → object_table objects values lists reserved visits ≡ table
     → length lists ≡ length objects → updates_by test table.rows ≡ records_by test lists
 updates_shown test objects values lists reserved visits table view many = sym (ap (λ (t : ObjectTable). updates_by test t.rows) view) ∙ updates_placed test objects values lists reserved visits many

@@ -135,7 +135,8 @@ impl SeatedObjects {
     /// Returns the number of the one object that the set lists. It is `None` if the set is not of one object, and if there is no
     /// such object.
     pub fn number_of_only(&self, set: &ObSet) -> Option<usize>
-        ensures { (x : Object) → only_in set.now ≡ Some x → result ≡ number_in self.now.objects x.0 }
+        ensures number { (x : Object) → only_in set.now ≡ Some x → result ≡ number_in self.now.objects x.0 }
+        ensures none { only_in set.now ≡ None → result ≡ None }
     {
         self.number(set.only()?)
     }
