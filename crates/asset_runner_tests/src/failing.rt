@@ -4,8 +4,8 @@
 ghost use Rattle.std.specs.Prelude.{◌≡◌, Some};
 ghost use Rattle.asset_bodies.specs.Working.{Working, Worked};
 
-use crate::bodies::writes;
-use crate::gates::Open;
+use crate::bodies::{Work, does};
+use crate::gates::Holding;
 use crate::running::{Setting, alone, open_manager, told};
 use asset_manager::{AuditFault, Manager};
 use asset_names::Txn;
@@ -65,7 +65,7 @@ fn run_two<R: Threads + Wait + Sync>(
     plan: Plan,
     accepted: &[u64],
 ) -> Result<(bool, bool, Result<(), AuditFault>), Fail> {
-    let (report, cause) = told(plan.run(rt, 2, &Open));
+    let (report, cause) = told(plan.run(rt, 2, &Holding::back(None)));
     let Report {
         ends,
         left,
@@ -85,8 +85,8 @@ fn run_two<R: Threads + Wait + Sync>(
 #[test]
 fn accepted_jobs_end_or_are_left(rt: HostRuntime) -> Result<(), Fail> {
     let alloc = rt.alloc();
-    let seven: Body = Box::new(alloc, move |tx: Tx| writes(&rt, tx, 1, 150))?;
-    let eight: Body = Box::new(alloc, move |tx: Tx| writes(&rt, tx, 2, 250))?;
+    let seven: Body = Box::new(alloc, move |tx: Tx| does(&rt, tx, Work::Writes(1, 150)))?;
+    let eight: Body = Box::new(alloc, move |tx: Tx| does(&rt, tx, Work::Writes(2, 250)))?;
     let Setting {
         manager,
         shared,

@@ -5,31 +5,24 @@ use asset_runner::Gate;
 use std::sync::atomic::{AtomicU64, Ordering};
 use std::thread;
 
-/// A gate that does nothing.
-pub struct Open;
-
-impl Gate for Open {
-    fn entered(&self, _t: Txn) {}
-
-    fn left(&self, _t: Txn) {}
-}
-
-/// A gate that holds 7 back until 8 has left.
+/// A gate that holds one transaction back until 8 has left, or holds nobody back.
 #[derive(Drop)]
-pub struct Holding {
+pub(crate) struct Holding {
+    held: Option<Txn>,
     left: AtomicU64,
 }
 
 impl Holding {
-    /// Returns the gate, which 8 has not left.
-    pub fn new() -> Holding {
+    /// Returns a gate that holds `held` back, if it is one. 8 has not left yet.
+    pub(crate) fn back(held: Option<Txn>) -> Holding {
         Holding {
+            held,
             left: AtomicU64::new(0),
         }
     }
 
     /// Returns whether it was told that 8 has left.
-    pub fn has_left(&self) -> bool {
+    pub(crate) fn has_left(&self) -> bool {
         self.left.load(Ordering::SeqCst) == 1
     }
 }
@@ -37,11 +30,11 @@ impl Holding {
 impl Gate for Holding {
     /// Yields until 8 has left, at most a million times.
     fn entered(&self, t: Txn) {
-        if t != Txn(7) {
+        if self.held != Some(t) {
             return;
         }
         for _ in 0..1_000_000 {
-            if self.left.load(Ordering::SeqCst) == 1 {
+            if self.has_left() {
                 return;
             }
             thread::yield_now();

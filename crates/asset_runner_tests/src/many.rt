@@ -3,7 +3,7 @@
 ghost use Rattle.std.specs.Prelude.{◌≡◌, Some};
 ghost use Rattle.asset_bodies.specs.Working.{IsSame, Working, Worked};
 
-use crate::gates::Open;
+use crate::gates::Holding;
 use crate::running::{MUCH_ROOM, alone, initiated, told};
 use asset_core_tests::opened as opened_core;
 use asset_manager::{AuditFault, History, Manager};
@@ -107,7 +107,7 @@ fn runs_all<R: Threads + Wait + Sync>(
     manager: Arc<Manager, Global>,
     plan: Plan,
 ) -> Result<(bool, bool, Result<(), AuditFault>), Fail> {
-    let (report, cause) = told(plan.run(rt, 8, &Open));
+    let (report, cause) = told(plan.run(rt, 8, &Holding::back(None)));
     let Report {
         ends,
         left,

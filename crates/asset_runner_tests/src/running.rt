@@ -5,28 +5,28 @@ ghost use Rattle.std.specs.Arc.{arc_value};
 ghost use Rattle.asset_counts.specs.Pass.{IsOf};
 ghost use Rattle.asset_bodies.specs.Working.{Working, Worked};
 
+use crate::cases::Case;
 use asset_core_tests::first_other_entry;
 use asset_manager::{AuditFault, Manager, Session, WatchPass};
 use asset_names::{Ob, Step, Txn};
 use asset_runner::{Body, Cause, Gate, InitFault, Job, JobEnd, Plan, Report, RunCause, RunFault};
 use std::alloc::{AllocError, Global};
 use std::sync::{Arc, Wait};
-use std::test::Fail;
 use std::thread::Threads;
 
 /// Room for more entries than a test asks for.
-pub const MUCH_ROOM: usize = 100_000;
+pub(crate) const MUCH_ROOM: usize = 100_000;
 
 /// Three objects with 100, 200 and 300.
 const THREE: [(Ob, i64); 3] = [(Ob(1), 100), (Ob(2), 200), (Ob(3), 300)];
 
 /// A manager twice, a session for a plan, and another session.
 #[derive(Drop)]
-pub struct Setting {
-    pub manager: Arc<Manager, Global>,
-    pub shared: Arc<Manager, Global>,
-    pub session: Session,
-    pub other: Session,
+pub(crate) struct Setting {
+    pub(crate) manager: Arc<Manager, Global>,
+    pub(crate) shared: Arc<Manager, Global>,
+    pub(crate) session: Session,
+    pub(crate) other: Session,
 }
 
 /// Opens a manager over three objects, unless memory runs out.
@@ -49,7 +49,7 @@ fn open_once(alloc: Global) -> Result<Setting, AllocError>
 }
 
 /// Opens a manager over three objects. If memory runs out once, it is opened again.
-pub fn open_manager(alloc: Global) -> Result<Setting, AllocError>
+pub(crate) fn open_manager(alloc: Global) -> Result<Setting, AllocError>
     ensures session { IfOk result (λ setting. IsOf setting.session.of (arc_value setting.shared)) }
     ensures other { IfOk result (λ setting. IsOf setting.other.of (arc_value setting.manager)) }
 {
@@ -60,7 +60,7 @@ pub fn open_manager(alloc: Global) -> Result<Setting, AllocError>
 }
 
 /// Initiates a job, and returns why it was not. If memory runs out once, its body comes back, and it is initiated again.
-pub fn initiated<R: Wait>(rt: &R, plan: &mut Plan, t: u64, body: Body) -> Option<Cause>
+pub(crate) fn initiated<R: Wait>(rt: &R, plan: &mut Plan, t: u64, body: Body) -> Option<Cause>
     requires ready { (tx : Working) → pre body tx }
     requires same { (tx : Working) (f : Worked) → post body tx f → f.of ≡ Some tx.manager }
 {
@@ -80,27 +80,19 @@ pub fn initiated<R: Wait>(rt: &R, plan: &mut Plan, t: u64, body: Body) -> Option
     }
 }
 
-/// What a run should leave: the ends in order, the names of the jobs that are left, and the history.
-#[derive(Clone, Copy)]
-pub struct Wanted<'a> {
-    pub ends: &'a [(u64, JobEnd)],
-    pub left: &'a [u64],
-    pub history: &'a str,
-}
-
 /// What a run left.
 #[derive(Drop)]
-pub struct Ran {
+pub(crate) struct Ran {
     /// Whether the ends, and the jobs that are left, are those that are wanted.
-    pub as_wanted: bool,
+    pub(crate) as_wanted: bool,
     /// Why it did not go as planned.
-    pub cause: Option<RunCause>,
+    pub(crate) cause: Option<RunCause>,
     /// The first line of the wanted history that is another.
-    pub wrong: Option<usize>,
+    pub(crate) wrong: Option<usize>,
     /// Entries, committed and aborted transactions, as the manager's word shows them.
-    pub counts: (u64, u64, u64),
+    pub(crate) counts: (u64, u64, u64),
     /// The audit.
-    pub audit: Result<(), AuditFault>,
+    pub(crate) audit: Result<(), AuditFault>,
 }
 
 /// Returns whether these are the ends.
@@ -168,7 +160,7 @@ fn closed(
 
 /// How a manager is closed.
 #[derive(Clone, Copy)]
-pub enum Closing {
+pub(crate) enum Closing {
     /// With all sessions.
     All,
     /// Without the session of the last job.
@@ -205,32 +197,30 @@ fn hand_in<R: Wait>(
 }
 
 /// Runs a plan, takes the manager out of its `Arc` and closes it with the sessions of the report and another.
-pub fn run_and_close<R: Threads + Wait + Sync, G: Gate>(
+pub(crate) fn run_and_close<R: Threads + Wait + Sync, G: Gate>(
     rt: &R,
     alloc: Global,
     manager: Arc<Manager, Global>,
     plan: Plan,
     other: Session,
-    workers: usize,
     gate: &G,
-    closing: Closing,
-    wanted: &Wanted<'_>,
-) -> Result<Ran, Fail>
+    case: &Case<'_>,
+) -> Result<Ran, AllocError>
     requires { IsOf other.of (arc_value manager) }
 {
-    let (report, cause) = told(plan.run(rt, workers, gate));
+    let (report, cause) = told(plan.run(rt, case.workers, gate));
     let Report {
         ends,
         left,
         mut sessions,
     } = report;
-    let as_wanted = are_ends(&ends, wanted.ends) && are_left(&left, wanted.left);
+    let as_wanted = are_ends(&ends, case.ends) && are_left(&left, case.left);
     drop(ends);
     drop(left);
     let counts = shown(&manager);
-    hand_in(rt, &manager, &mut sessions, other, closing)?;
+    hand_in(rt, &manager, &mut sessions, other, case.closing)?;
     let manager = alone(manager)?;
-    let (audit, wrong) = closed(alloc, manager, sessions, wanted.history);
+    let (audit, wrong) = closed(alloc, manager, sessions, case.history);
     Ok(Ran {
         as_wanted,
         cause,
