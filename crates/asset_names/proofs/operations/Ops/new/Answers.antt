@@ -12,3 +12,6 @@ returns-else-write-clause-some c = search rules
 
 pub returns-else-write-clause-none : goal.returns-else-write-clause-none
 returns-else-write-clause-none c = search rules
+
+pub invariant_of-result : goal.invariant_of-result
+invariant_of-result c = search rules
