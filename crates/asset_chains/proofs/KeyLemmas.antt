@@ -146,7 +146,3 @@ first_ahead k (x ∷ xs) first =
 pub first_is_some : (keys : List ℕ) (k : ℕ) → lists keys k ≡ true → is_some (first_of keys) ≡ true
 first_is_some [] k h = absurd (false≢true h)
 first_is_some (x ∷ keys) k h = refl
-
-pub first_pushed : (keys : List ℕ) (k : ℕ) → is_some (first_of (keys ++ k ∷ [])) ≡ true
-first_pushed [] k = refl
-first_pushed (x ∷ keys) k = refl

@@ -3,19 +3,8 @@ use Rattle.std.proofs.Common.{◌≡◌, ℕ, ◌+◌, ◌<◌, ◌≤◌, true,
 use Rattle.std.proofs.lemmas.Bool.{false≢true, cases_lt}
 use Rattle.std.proofs.lemmas.List.{length-set, get_or-set_same, get_or-set_other, get_or_past, length-append}
 use Rattle.std.proofs.lemmas.Map.Steps.{length-le_from_distinct_below}
-use Rattle.std.specs.Prelude.{slice_get, unwrap_or}
-use Rattle.std.proofs.lemmas.Option.{unwrap_or-slice_get}
 use Rattle.asset_chains.specs.Chained.{Chained, chain_of, home_of, first_of, last_of, behind, ahead, without, lists, pushed, unlinked, unlinked_from, one_key_more, one_chain_more, IsSound}
 use Rattle.asset_chains.proofs.KeyLemmas.{split_at_key, without_key, last_listed, last_behind, first_listed, first_ahead}
-
--- ---- reads as `get` says them
-pub chain_of-get : (table : Chained) (c : ℕ) → chain_of table c ≡ unwrap_or (slice_get table.chains c) []
-unfolding chain_of
-chain_of-get table c = sym (unwrap_or-slice_get table.chains c [])
-
-pub home_of-get : (table : Chained) (k : ℕ) → home_of table k ≡ unwrap_or (slice_get table.homes k) None
-unfolding home_of
-home_of-get table k = sym (unwrap_or-slice_get table.homes k None)
 
 -- ---- what a push changes
 pub record IsPushed (c k : ℕ) (old new : Chained) : Type 0 where

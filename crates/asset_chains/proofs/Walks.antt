@@ -3,8 +3,8 @@ use Rattle.std.proofs.Common.{◌≡◌, ℕ, Bool, true, false, eqb, List, [], 
 use Rattle.std.specs.Prelude.{find, cond, slice_index_or}
 use Rattle.std.specs.List.{list_any, IsDistinct}
 use Rattle.std.proofs.lemmas.Bool.{or_cases, or_left, or_right, or_from, eqb-true, eqb-false, eq-eqb, ne_eqb, false≢true, both_ways, cases_Bool, cases_eq}
-use Rattle.asset_chains.specs.Chained.{Chained, chain_of, home_of, first_of, ahead, behind, lists, without, unlinked, IsSound}
-use Rattle.asset_chains.proofs.KeyLemmas.{distinct_head, distinct_tail, distinct_none, distinct_cons, first_listed, without_unlisted, distinct_parts, split_at_key}
+use Rattle.asset_chains.specs.Chained.{Chained, chain_of, home_of, first_of, behind, lists, without, unlinked, IsSound}
+use Rattle.asset_chains.proofs.KeyLemmas.{distinct_head, distinct_tail, distinct_none, distinct_cons, first_listed, without_unlisted}
 use Rattle.asset_chains.proofs.Laws.{unlinks}
 use Rattle.asset_chains.proofs.SoundLemmas.{listed_once}
 
@@ -47,11 +47,6 @@ from_next k (x ∷ xs) distinct there =
       after_other None e ih new = ap (λ o. from_key o (x ∷ xs)) e ∙ sym (ap (λ o. from_key o xs) e) ∙ ih
       after_other (Some j) e ih new =
           ap (λ o. from_key o (x ∷ xs)) e ∙ ap (λ l. j ∷ l) (behind_later j x xs (behind_lists xs j (first_listed j (behind k xs) e)) new) ∙ sym (ap (λ o. from_key o xs) e) ∙ ih
-
--- a key is not behind itself
-pub behind_itself : (k : ℕ) (keys : List ℕ) → IsDistinct eqb keys → lists keys k ≡ true → lists (behind k keys) k ≡ false
-behind_itself k keys distinct there =
-    let parts = distinct_parts (ahead k keys) (k ∷ behind k keys) (subst (λ (l : List ℕ). IsDistinct eqb l) (split_at_key k keys there) distinct) in distinct_head k (behind k keys) parts.1
 
 pub behind_listed : (k : ℕ) (keys : List ℕ) (j : ℕ) → lists (behind k keys) j ≡ true → lists keys j ≡ true
 behind_listed k [] j h = h

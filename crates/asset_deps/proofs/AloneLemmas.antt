@@ -7,7 +7,7 @@ use Rattle.asset_names.specs.declared.names.Txn.{Txn}
 use Rattle.asset_names.specs.Arrows.{linked, has_arrow}
 use Rattle.asset_names.proofs.Arrows.{linked_refl}
 use Rattle.asset_names.proofs.Common.{some_of, both_follow}
-use Rattle.asset_chains.specs.Chained.{chain_of, first_of, home_of, IsSound}
+use Rattle.asset_chains.specs.Chained.{chain_of, first_of, IsSound}
 use Rattle.asset_chains.proofs.KeyLemmas.{first_listed, first_is_some}
 use Rattle.asset_seats.specs.Seated.{seat}
 use Rattle.asset_marks.specs.Marked.{Met}

@@ -244,10 +244,6 @@ pub on_any_none : {X P : Type 0} (o : Option X) → P → IfNone o P
 on_any_none None p = p
 on_any_none (Some x) p = tt
 
-pub some_not_none : {X : Type 0} (P : Type 0) (o : Option X) → is_some o ≡ true → IfNone o P
-some_not_none P None some = absurd (false≢true some)
-some_not_none P (Some x) some = tt
-
 -- ---- the mark that was made last is taken away
 pub taken_before : (seats : Seated) (nodes fewer : List ℕ) (c : ℕ) → AreTaken seats nodes → nodes ≡ fewer ++ c ∷ [] → AreTaken seats fewer
 taken_before seats nodes fewer c taken is d listed = taken d (ap (λ (l : List ℕ). lists l d) is ∙ lists_left fewer (c ∷ []) d listed)

@@ -63,9 +63,6 @@ lists_inserted n u (m ∷ names) = go (ltb n m) (eqb n m) refl (lists_inserted n
   go false false e rest = ap (λ (b : Bool). eqb m u || b) rest ∙ either_swapped (eqb m u) (eqb n u) (lists names u)
 
 module _ (belongs : ℕ → ℕ → Bool) where
-  pub gathered_none : (P : ℕ → Type 0) (names : List ℕ) → ((k : ℕ) → P k → ⊥) → IsGathered belongs P names names
-  gathered_none P names none = record { kept = λ u h. h; all = λ k u here h. absurd (none k here); only = λ u h. inl h }
-
   pub gathered_more : (P Q : ℕ → Type 0) (a b c : List ℕ) → IsGathered belongs P a b → IsGathered belongs Q b c → IsGathered belongs (λ k. P k ⊎ Q k) a c
   gathered_more P Q a b c first second = record {
     kept = λ u h. second.kept u (first.kept u h);

@@ -1,6 +1,6 @@
 -- What a hand-over leaves: who carries what, who is enrolled, and who waits.
-use Rattle.std.proofs.Common.{◌≡◌, ℕ, Bool, true, false, eqb, not, cond, ◌&&◌, ◌||◌, List, [], ◌∷◌, ◌++◌, map, filter, Some, is_some, refl, sym, ap, ◌∙◌, inl, inr}
-use Rattle.std.specs.Prelude.{find, flat_map}
+use Rattle.std.proofs.Common.{◌≡◌, ℕ, Bool, true, false, eqb, not, cond, ◌&&◌, ◌||◌, List, [], ◌∷◌, map, filter, Some, is_some, refl, sym, ap, ◌∙◌, inl, inr}
+use Rattle.std.specs.Prelude.{find}
 use Rattle.std.specs.List.{list_any, IsDistinct}
 use Rattle.std.proofs.lemmas.Bool.{eqb-true, and_parts, or_parts, cases_Bool}
 use Rattle.std.proofs.lemmas.List.Folds.{list_any-append}
@@ -15,7 +15,7 @@ use Rattle.asset_names.proofs.ListLemmas.{any_alike, any_map, any_either, any_an
 use Rattle.asset_chains.specs.Chained.{lists}
 use Rattle.asset_chains.proofs.KeyLemmas.{distinct_head, distinct_tail}
 use Rattle.asset_lock_store.specs.declared.lock.Lock.{Lock}
-use Rattle.asset_locks.specs.LockTable.{Enrolled, LockTable, carries, names_in, enrolled_in, locks_or_none, locks_of, waiting_at, waiters_in, handed_row, hand_over_in}
+use Rattle.asset_locks.specs.LockTable.{Enrolled, LockTable, carries, names_in, enrolled_in, locks_or_none, locks_of, handed_row, hand_over_in}
 use Rattle.asset_lock_store.specs.LockRules.{is_on, carries_on, moved, both_ops, ops_on, merged, left, with_moved}
 use Rattle.asset_locks.specs.Valid.{IsValid}
 use Rattle.asset_lock_store.proofs.MergeLemmas.{merged_here, merged_apart, merged_object, none_carries}
@@ -255,11 +255,6 @@ found_changed change u (who ∷ table) keeps = ap (λ (n : ℕ). is_some (cond (
   go true ih = refl
   go false ih = ih
 
-waiters_changed : (change : Enrolled → Enrolled) (x : ℕ) (table : LockTable) → ((who : Enrolled) → (change who).name ≡ who.name) → ((who : Enrolled) → (change who).pending ≡ who.pending)
-    → flat_map (λ (who : Enrolled). waiting_at x who.name who.pending) (map change table) ≡ flat_map (λ (who : Enrolled). waiting_at x who.name who.pending) table
-waiters_changed change x [] names keeps = refl
-waiters_changed change x (who ∷ table) names keeps = λ i. waiting_at x (names who i) (keeps who i) ++ waiters_changed change x table names keeps i
-
 pub handed_name : (giver taker : ℕ) (set : ObSet) (given : List Lock) (who : Enrolled) → (handed_row giver taker set given who).name ≡ who.name
 unfolding handed_row
 handed_name giver taker set given who = go (eqb who.name giver) (eqb who.name taker) where
@@ -289,10 +284,3 @@ enrolled_handed giver taker set table u = go (eqb giver taker) where
   go : (b : Bool) → is_some (find (λ (who : Enrolled). eqb who.name u) (cond b table (map (handed_row giver taker set (filter (moved set) (locks_of table giver))) table))) ≡ is_some (find (λ (who : Enrolled). eqb who.name u) table)
   go true = refl
   go false = found_changed _ u table (handed_name giver taker set (filter (moved set) (locks_of table giver)))
-
-pub waiters_handed : (giver taker : ℕ) (set : ObSet) (table : LockTable) (x : ℕ) → waiters_in (hand_over_in giver taker set table) x ≡ waiters_in table x
-unfolding waiters_in hand_over_in
-waiters_handed giver taker set table x = go (eqb giver taker) where
-  go : (b : Bool) → flat_map (λ (who : Enrolled). waiting_at x who.name who.pending) (cond b table (map (handed_row giver taker set (filter (moved set) (locks_of table giver))) table)) ≡ flat_map (λ (who : Enrolled). waiting_at x who.name who.pending) table
-  go true = refl
-  go false = waiters_changed _ x table (handed_name giver taker set (filter (moved set) (locks_of table giver))) (handed_pending giver taker set (filter (moved set) (locks_of table giver)))

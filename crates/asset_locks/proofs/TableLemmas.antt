@@ -1,6 +1,6 @@
 -- The rows of the table, by the seats of those who are enrolled.
 use Rattle.std.proofs.Common.{◌≡◌, ℕ, ◌<◌, ◌-◌, ◌≤◌, Bool, true, false, eqb, not, cond, ◌&&◌, List, [], ◌∷◌, ◌++◌, map, filter, length, get_or, set, Option, Some, None, is_some, ◌⊎◌, refl, sym, ap, subst, ◌∙◌, inl, inr, arith}
-use Rattle.std.specs.Prelude.{find, flat_map, slice_get, Result, Ok, Err, OnOk}
+use Rattle.std.specs.Prelude.{find, flat_map, slice_get}
 use Rattle.std.specs.List.{list_any, IsDistinct}
 use Rattle.std.proofs.lemmas.Bool.{eqb-true, eqb-false, eq-eqb, ne_eqb, true≢false, cases_Bool, and_parts, and_from, or_left, or_right, or_parts, false_from_ne_true}
 use Rattle.std.proofs.lemmas.List.{map-append, get_or-set_same, get_or-set_other, length-set}
@@ -75,9 +75,6 @@ pending_set pending c request within d = elim (cases_Bool (eqb d c)) [
 module _ (seats : Seated) (pending : List PendingRequest) (order : Chained) (store : Stored) (seated : AreSeated seats pending order store) (sound : IsSound order) where
   rows : LockTable
   rows = rows_of seats pending order store
-
-  row : ℕ → Enrolled
-  row = row_at seats pending store
 
   -- who is in the chain of enrolment has a seat
   pub sits_at : (c : ℕ) → lists (chain_of order 0) c ≡ true → (t : Txn) × (seat seats c ≡ Some t)
@@ -556,10 +553,6 @@ enrolled_now t table = go table where
     by_name : (b : Bool) → is_some (find (λ (who : Enrolled). eqb who.name t) (rows ++ new ∷ [])) ≡ true → is_some (cond b (Some who) (find (λ (who : Enrolled). eqb who.name t) (rows ++ new ∷ []))) ≡ true
     by_name true h = refl
     by_name false h = h
-
-pub map_ok : {T E P Q : Type 0} (r : Result T E) → OnOk r P → (P → Q) → OnOk r Q
-map_ok (Ok x) p f = f p
-map_ok (Err e) p f = tt
 
 -- ---- room
 -- one more place has no request

@@ -76,9 +76,6 @@ pub record IsShedding (object : ℕ) (old now : Crossed Record) : Type 0 where
   pub kept : (k : ℕ) → is_some (get now.items k) ≡ true → get now.items k ≡ get old.items k
   pub many : length now.rows.chains ≡ length old.rows.chains
 
-pub shedding_starts : (object : ℕ) (old : Crossed Record) → IsShedding object old old
-shedding_starts object old = record { amounts = []; split = refl; others = λ j apart. refl; kept = λ k there. refl; many = refl }
-
 pub shedding_steps : (object key : ℕ) (amount : ℤ) (old now new : Crossed Record) → IsShedding object old now → IsCrossed now → first_of (chain_of now.rows object) ≡ Some key → get now.items key ≡ Some (Lasting amount)
     → ((j : ℕ) → chain_of new.rows j ≡ without key (chain_of now.rows j)) → ((k : ℕ) → get new.items k ≡ cond (eqb k key) None (get now.items k)) → length new.rows.chains ≡ length now.rows.chains → IsShedding object old new
 unfolding at_keys

@@ -141,10 +141,3 @@ leaves_nothing now c none d = go (eqb d c) refl where
   go : (b : Bool) → eqb d c ≡ b → seat now d ≡ cond b None (seat now d)
   go true e = ap (seat now) (eqb-true d c e) ∙ none
   go false e = refl
-
--- one who has a seat is given it again
-pub sits_still : (now : Seated) (t : Txn) (c : ℕ) → seat now c ≡ Some t → (d : ℕ) → seat now d ≡ cond (eqb d c) (Some t) (seat now d)
-sits_still now t c sat d = go (eqb d c) refl where
-  go : (b : Bool) → eqb d c ≡ b → seat now d ≡ cond b (Some t) (seat now d)
-  go true e = ap (seat now) (eqb-true d c e) ∙ sat
-  go false e = refl

@@ -1,5 +1,5 @@
 -- Who has which seat, after a seat is given or left.
-use Rattle.std.proofs.Common.{◌≡◌, ℕ, ◌<◌, ◌+◌, Bool, true, false, ◌&&◌, List, [], ◌∷◌, ◌++◌, length, get_or, zero, suc, Option, Some, None, is_some, refl, sym, ap, ◌∙◌, arith}
+use Rattle.std.proofs.Common.{◌≡◌, ℕ, ◌<◌, ◌+◌, true, false, List, [], ◌∷◌, ◌++◌, length, get_or, zero, suc, Option, Some, None, is_some, refl, sym, ap, ◌∙◌, arith}
 use Rattle.std.specs.Prelude.{slice_index_or, unwrap_or, IfSome, IfNone}
 use Rattle.std.proofs.lemmas.Bool.{true≢false}
 use Rattle.asset_names.specs.declared.names.Txn.{Txn}
@@ -8,10 +8,6 @@ use Rattle.asset_chains.specs.Chained.{Chained, chain_of, home_of, last_of, list
 use Rattle.asset_chains.proofs.Laws.{key_within, chain_at_last}
 use Rattle.asset_seats.specs.Seated.{Seated, seat}
 use Rattle.asset_seats.specs.Bucketed.{bucket_in, no_name, name_in, taken, slots_of, seats_of, rebucketed, AreSeated}
-
-pub both : (a b : Bool) → (a && b) ≡ true → (a ≡ true) × (b ≡ true)
-both true b h = (refl, h)
-both false b h = absurd (true≢false (sym h))
 
 -- what is read within a list is read whatever stands past it
 pub read_within : {X : Type 0} (xs : List X) (i : ℕ) (x y : X) → i < length xs → get_or xs i x ≡ get_or xs i y
@@ -66,12 +62,6 @@ pub sat_in : (home : Option ℕ) (name t : Txn) → taken home name ≡ Some t �
 sat_in None name t h = cc h
 sat_in (Some zero) name t h = cc h
 sat_in (Some (suc b)) name t h = (b, refl, cc h)
-
--- somebody has a seat in a bucket
-pub taken_in : (home : Option ℕ) (name : Txn) → is_some (taken home name) ≡ true → (b : ℕ) × (home ≡ Some (suc b))
-taken_in None name h = absurd (true≢false (sym h))
-taken_in (Some zero) name h = absurd (true≢false (sym h))
-taken_in (Some (suc b)) name h = (b, refl)
 
 -- a seat that nobody has, and which is in a chain, is free
 pub free_in : (home : Option ℕ) (name : Txn) → taken home name ≡ None → is_some home ≡ true → home ≡ Some 0

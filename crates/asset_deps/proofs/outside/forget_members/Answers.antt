@@ -1,4 +1,4 @@
-use Rattle.std.proofs.Common.{◌≡◌, ◌<◌, ◌&&◌, not, eqb, ℕ, ◌∙◌, sym, subst, get_or, length, refl, arith}
+use Rattle.std.proofs.Common.{◌≡◌, ◌<◌, ◌&&◌, not, eqb, ℕ, ◌∙◌, sym, subst, length, refl, arith}
 use Rattle.asset_names.specs.Arrows.{lists}
 use Rattle.asset_names.proofs.ListLemmas.{lists_at}
 use Rattle.asset_deps.proofs.OutsideLemmas.{forgotten_none, forgotten_next, forgotten_all}

@@ -1,4 +1,4 @@
-use Rattle.std.proofs.Common.{◌<◌, ℕ, List, ◌∙◌, subst, get_or, length, refl, arith}
+use Rattle.std.proofs.Common.{◌<◌, ◌∙◌, subst, length, refl, arith}
 use Rattle.asset_chains.specs.Crossed.{lines, other_side}
 use Rattle.asset_marks.specs.Searched.{arrows_along, Expands}
 use Rattle.asset_deps.specs.declared.kinds.Kinds.TheVariants.{Order}

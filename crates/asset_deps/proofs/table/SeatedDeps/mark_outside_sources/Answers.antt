@@ -1,4 +1,4 @@
-use Rattle.std.proofs.Common.{◌<◌, refl}
+use Rattle.std.proofs.Common.{refl}
 use Rattle.asset_deps.specs.declared.kinds.Kinds.TheVariants.{Class, Order}
 use Rattle.asset_deps.proofs.NamedLemmas.{way_within, source_seated}
 use Rattle.asset_deps.proofs.OutsideLemmas.{members_within, valid_outside, found_named}
