@@ -49,15 +49,6 @@ module _ (kept : NamesInGroups) (sound : IsSound kept) (node : ℕ) (within : no
     ];
   }
 
-  pub numbered_more : (numbers : List ℕ) (number : ℕ) → number ≡ number_of kept node → AreNumbered kept numbers node → AreNumbered kept (numbers ++ number ∷ []) (node + 1)
-  numbered_more numbers number is so_far = record {
-    long = length_push numbers number ∙ ap (λ n. n + 1) so_far.long;
-    each = λ k below. elim (cases_eq k node) [
-      | inr other ↦ get_or_append_left numbers (number ∷ []) 0 k (omega (arith, below, so_far.long)) ∙ so_far.each k (omega (arith, below))
-      | inl last ↦ get_or_push numbers number 0 k (so_far.long ∙ sym last) ∙ is ∙ ap (λ m. number_of kept m) (sym last)
-    ];
-  }
-
   -- the next name is not among those before it
   pub next_is_new : lists (take node kept.names) (get_or kept.names node 0) ≡ false
   next_is_new = go (lists (take node kept.names) (get_or kept.names node 0)) refl where

@@ -16,12 +16,12 @@ use Rattle.asset_history.specs.declared.users.Users.{Users}
 use Rattle.asset_history.specs.Named.{names_of}
 use Rattle.asset_history.specs.Together.{name_at, label_at, IsWith, AreOfEntries, AreFlagged, AreJoined, HaveGrown}
 use Rattle.asset_history.specs.Uses.{opened_obs, has_object, opens_on, opens, operates, partners}
-use Rattle.asset_history.specs.Users.{users_or_nobody, SayAll}
+use Rattle.asset_history.specs.Users.{users_or_nobody}
 use Rattle.asset_names.specs.declared.replies.Outcome.TheVariants.{Answer}
 use Rattle.asset_names.specs.Answers.{IsLegal}
 use Rattle.asset_entries.specs.Recorded.{Recorded, with_entry, answer_to}
-use Rattle.asset_history.specs.Kept.{IsHistory, before, pair_of, pair_at, Respect, AreLabels, AreNamed, AreKept, SayUsers}
-use Rattle.asset_history.proofs.EntryLemmas.{before_all, before_newest, split_newest}
+use Rattle.asset_history.specs.Kept.{IsHistory, before, pair_of, pair_at, Respect, AreLabels, AreNamed, AreKept}
+use Rattle.asset_history.proofs.EntryLemmas.{before_newest, split_newest}
 use Rattle.asset_history.proofs.FlagLemmas.{flags_by_groups}
 use Rattle.asset_history.proofs.MeetLemmas.{Meet, join_met, partner_joined}
 use Rattle.asset_history.proofs.NoteLemmas.{opens_next, opens_among, operates_among}
@@ -62,10 +62,6 @@ closed_next all n size none before_none a x =
       go true true who rest h r = absurd (false≢true (sym h))
       go true false who rest h r = r
       go false on who rest h r = r
-
--- the entries before the next one are all
-pub said_whole : (g : NamesInGroups) (all : List Entry) (n : ℕ) (found : ℕ → Option Users) → length all ≡ n + 1 → SayUsers g all (n + 1) found → SayAll g all (opens (applied all)) (operates (applied all)) found
-said_whole g all n found size say = subst (λ (seen : List Entry). SayAll g all (opens (applied seen)) (operates (applied seen)) found) (before_all all (n + 1) size) say
 
 -- ---- labels
 

@@ -1,7 +1,7 @@
 -- Names in order of first use, entry by entry.
-use Rattle.std.proofs.Common.{◌≡◌, ℕ, ◌+◌, ◌<◌, ◌≤◌, ◌*◌, Bool, true, false, cond, eqb, ◌||◌, List, [], ◌∷◌, ◌++◌, length, get_or, refl, sym, ap, ◌∙◌, arith}
+use Rattle.std.proofs.Common.{◌≡◌, ℕ, ◌+◌, ◌≤◌, ◌*◌, Bool, true, false, cond, eqb, ◌||◌, List, [], ◌∷◌, ◌++◌, length, refl, sym, ap, ◌∙◌, arith}
 use Rattle.std.proofs.lemmas.Bool.{eqb-true}
-use Rattle.std.proofs.lemmas.List.{length-append, length_push, get_or_append_left}
+use Rattle.std.proofs.lemmas.List.{length_push}
 use Rattle.asset_names.specs.Arrows.{lists}
 use Rattle.asset_names.specs.Steps.{Entry}
 use Rattle.asset_names.specs.Groups.{actor, partner, acted_on_by, acted_on}
@@ -16,14 +16,6 @@ with_new names n new = ap (λ b. cond b names (names ++ n ∷ [])) new
 pub with_old : (names : List ℕ) (n : ℕ) → lists names n ≡ true → with_name names n ≡ names
 unfolding with_name
 with_old names n old = ap (λ b. cond b names (names ++ n ∷ [])) old
-
--- the names before stay where they are
-pub with_name_at : (names : List ℕ) (n k : ℕ) → k < length names → (k < length (with_name names n)) × (get_or (with_name names n) k 0 ≡ get_or names k 0)
-unfolding with_name
-with_name_at names n k below = elim (lists names n) as (λ b. (k < length (cond b names (names ++ n ∷ []))) × (get_or (cond b names (names ++ n ∷ [])) k 0 ≡ get_or names k 0)) [
-  | true ↦ (below, refl)
-  | false ↦ (omega (arith, length-append names (n ∷ [])), get_or_append_left names (n ∷ []) 0 k below)
-]
 
 -- ---- the names are of those who were acted on
 pub names_more : (names : List ℕ) (n m : ℕ) → lists (with_name names n) m ≡ (lists names m || eqb n m)

@@ -174,11 +174,6 @@ users_together all x a t opening operation u v is_u is_v = group_trans all u t v
     | inr one ↦ group_trans all w a t (group_sym all a w (met a w opening one)) (met a t opening operation)
   ]
 
--- who opens or operates uses
-pub used_as_opener : (steps : List Step) (t x : ℕ) → opens steps t x ≡ true → uses steps t x ≡ true
-unfolding uses
-used_as_opener steps t x h = or_left _ _ h
-
 pub used_as_operator : (steps : List Step) (t x : ℕ) → operates steps t x ≡ true → uses steps t x ≡ true
 unfolding uses
 used_as_operator steps t x h = or_right (opens steps t x) _ h

@@ -100,9 +100,6 @@ one_use noted u y t x = go (eqb y.0 x) refl (is_some (noted y.0)) refl where
     alone false = refl
   go true is false at = rw (ap (λ z. is_some (noted z)) (sym (eqb-true y.0 x is)) ∙ at) refl
 
-none_effect : (a b : Bool) → false ≡ (a && (false && b))
-none_effect = none_of
-
 none_at_all : (a b c : Bool) → false ≡ (a && (b && (false && c)))
 none_at_all true b c = none_of b c
 none_at_all false b c = refl

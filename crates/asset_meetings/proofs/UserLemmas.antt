@@ -24,12 +24,6 @@ first_pushed (other ∷ users) used x = go (eqb other.x.0 x) (first_pushed users
 pub first_more : (users : List User) (k : ℕ) (used : User) (x : ℕ) → k < length users → first_user (take (k + 1) users) x ≡ noted_by (first_user (take k users) x) (get_or users k used) x
 first_more users k used x below = ap (λ l. first_user l x) (take_more users k used below) ∙ first_pushed (take k users) (get_or users k used) x
 
--- who is noted stays; if nobody is noted, the next one is
-pub noted_stays : (before : Option Txn) (used : User) (x : ℕ) → is_some before ≡ true → noted_by before used x ≡ before
-unfolding noted_by
-noted_stays (Some t) used x there = refl
-noted_stays None used x there = absurd cc
-
 -- joins after one more use
 pub joined_more : (noted : ℕ → Option Txn) (joins : List (Txn × Txn)) (users : List User) (k : ℕ) (used : User) → k < length users
     → (joins ++ joined_with noted (take k users)) ++ joins_of (get_or users k used).t (noted (get_or users k used).x.0) ≡ joins ++ joined_with noted (take (k + 1) users)

@@ -36,12 +36,6 @@ unnamed_last names n none = go (ltb (position_or_len (eqb n) names) (length name
       let past : length names ≤ position_or_len (eqb n) names = ltb-false _ _ f in
       sym (position_or_len_is (eqb n) names (length names) 0 (omega arith) (λ k below. fails_before_first (eqb n) names k 0 (omega arith)) (λ below. absurd (omega arith)))
 
-pub named_at : (names : List ℕ) (n k : ℕ) → Some k ≡ position (eqb n) names → k ≡ position_or_len (eqb n) names
-named_at names n k is = go (ltb (position_or_len (eqb n) names) (length names)) (sym is) where
-  go : (b : Bool) → cond b (Some (position_or_len (eqb n) names)) None ≡ Some k → k ≡ position_or_len (eqb n) names
-  go true h = cc
-  go false h = absurd cc
-
 -- where each name stands once, an index is that of a name if the name stands there
 index_of_name : (names : List ℕ) → Once names → (n k : ℕ) → k < length names → eqb (position_or_len (eqb n) names) k ≡ eqb n (get_or names k 0)
 index_of_name names once n k below =

@@ -1,5 +1,5 @@
 -- What is told of the entries of a history with their sources.
-use Rattle.std.proofs.Common.{◌≡◌, ℕ, ◌<◌, ℤ, List, [], ◌∷◌, ◌++◌, length, reverse, refl, sym, ap, ◌∙◌, arith, Some, None}
+use Rattle.std.proofs.Common.{◌≡◌, ℕ, ◌<◌, ℤ, List, [], ◌∷◌, ◌++◌, length, reverse, refl, sym, ap, ◌∙◌, arith, Some}
 use Rattle.std.specs.Prelude.{Option, slice_get}
 use Rattle.std.proofs.lemmas.List.{length-append, length-reverse, reverse-append}
 use Rattle.std.proofs.lemmas.Option.{slice_get_within, same_Some}
@@ -9,7 +9,7 @@ use Rattle.asset_names.specs.declared.steps.Step.{Step}
 use Rattle.asset_names.specs.declared.steps.Step.TheVariants.{Read}
 use Rattle.asset_names.specs.declared.replies.Reply.{Reply}
 use Rattle.asset_names.specs.declared.replies.Reply.TheVariants as Reply'
-use Rattle.asset_names.specs.Steps.{Opening, Entry}
+use Rattle.asset_names.specs.Steps.{Entry}
 use Rattle.asset_names.specs.Sources.{source, added, IsAlone, IsOwnOrCommitted, AreOwnOrCommitted}
 use Rattle.asset_names.specs.Answers.{IsLegal}
 use Rattle.asset_entries.specs.Recorded.{Recorded}

@@ -79,27 +79,6 @@ effect_writing n (Commit t) reply = refl
 effect_writing n (Abort t) reply = refl
 effect_writing n (WaitFor t) reply = refl
 
--- and whatever value a read reads
-effect_reading : (older : List Entry) (step : Step) (reply : Reply) → takes_effect step (reading older step reply) ≡ takes_effect step reply
-unfolding reading takes_effect
-effect_reading older (Initiate t parent) reply = refl
-effect_reading older (Begin t) reply = refl
-effect_reading older (Read t x) Reply'.Done = refl
-effect_reading older (Read t x) (Reply'.Value v) = refl
-effect_reading older (Read t x) Reply'.Committed = refl
-effect_reading older (Read t x) Reply'.Aborted = refl
-effect_reading older (Read t x) (Reply'.Refused refusal) = refl
-effect_reading older (Write t x v) reply = refl
-effect_reading older (Add t x v) reply = refl
-effect_reading older (Complete t) reply = refl
-effect_reading older (Permit giver taker obs ops) reply = refl
-effect_reading older (PermitAny giver obs ops) reply = refl
-effect_reading older (Delegate giver taker obs) reply = refl
-effect_reading older (Depend kind a b) reply = refl
-effect_reading older (Commit t) reply = refl
-effect_reading older (Abort t) reply = refl
-effect_reading older (WaitFor t) reply = refl
-
 -- ---- one more entry
 
 -- a legal entry finds tables ready for its step with its number
