@@ -8,9 +8,6 @@ use native.Mathlib.Decide.{ℕ_discrete}
 use Rattle.asset_audit.specs.Audited.{Call, Rises, HasNumber, AllRise, AnyHas, told_by}
 use Rattle.asset_audit.proofs.Places.{length_of-map}
 
-num : Call → ℕ
-num c = c.0
-
 abbrev pub numbers : List (List Call) → List ℕ
 numbers [] = []
 numbers (l ∷ ls) = map (λ (c : Call). c.0) l ++ numbers ls

@@ -1,5 +1,5 @@
 -- What one line adds to the text, and how a text ends.
-use Rattle.std.proofs.Common.{◌≡◌, ℕ, ◌+◌, Bool, true, false, List, [], ◌∷◌, ◌++◌, refl, sym, ◌∙◌, append_assoc, append-nil, Some, None}
+use Rattle.std.proofs.Common.{◌≡◌, ℕ, ◌+◌, List, [], ◌∷◌, ◌++◌, refl, sym, ◌∙◌, append_assoc, append-nil, Some, None}
 use Rattle.std.specs.Prelude.{ℤ, Option}
 use Rattle.asset_names.specs.declared.names.Ob.{Ob}
 use Rattle.asset_names.specs.declared.steps.Step.{Step}
@@ -9,12 +9,10 @@ use Rattle.asset_grammar.specs.declared.grammar.Line.TheVariants.{Blank, Command
 use Rattle.asset_cli.specs.declared.ends.RunEnd.{RunEnd}
 use Rattle.asset_grammar.specs.Grammar.{line_of}
 use Rattle.asset_grammar.specs.Texts.{bad_line}
-use Rattle.asset_cli.specs.Transcript.{Transcript, answered_text, joined_by, steps_from, steps_transcript, step_line, printed, with_prefix, finished, stopped}
+use Rattle.asset_cli.specs.Transcript.{Transcript, joined_by, steps_from, steps_transcript, step_line, printed, with_prefix, finished, stopped}
 use Rattle.asset_cli.specs.declared.rendering.Played.TheVariants as Played'
-use Rattle.asset_names.specs.declared.replies.Outcome.{Outcome}
 use Rattle.asset_cli.specs.Rendering.{GoesOn, Ends, IsLeftBy, Plays, end_at, played_of}
 use Rattle.asset_cli.specs.declared.prints.Prints.{Prints}
-use Rattle.asset_cli.specs.declared.prints.Prints.TheVariants.{Nothing, Replies, Listing}
 
 pub blank_goes_on : (prints : Prints) (before line : List ℕ) (more : List (List ℕ)) (n : ℕ) (h : Recorded) → line_of line ≡ Blank
     → GoesOn before (steps_transcript prints (line ∷ more) n h) before (steps_transcript prints more (n + 1) h)

@@ -1,7 +1,7 @@
 -- The labels of nodes as they are written.
-use Rattle.std.proofs.Common.{◌≡◌, ℕ, ◌+◌, ◌<◌, Bool, true, false, cond, eqb, ◌&&◌, ◌||◌, List, [], length, get_or, set, take, Option, Some, None, refl, sym, ap, subst, ◌∙◌, arith, inl, inr}
+use Rattle.std.proofs.Common.{◌≡◌, ℕ, ◌+◌, ◌<◌, Bool, true, false, cond, eqb, ◌&&◌, ◌||◌, List, [], length, get_or, set, take, Option, Some, None, refl, sym, ap, ◌∙◌, arith, inl, inr}
 use Rattle.std.proofs.lemmas.Bool.{cases_eq, eq-eqb, ne_eqb, or_right, and_from, and_right, cond-true}
-use Rattle.std.proofs.lemmas.List.{take_more, take_all, get_or-set_same, get_or-set_other}
+use Rattle.std.proofs.lemmas.List.{take_more, get_or-set_same, get_or-set_other}
 use Rattle.asset_names.specs.Arrows.{lists}
 use Rattle.asset_names.proofs.Common.{or_false}
 use Rattle.asset_names.proofs.ListLemmas.{lists_pushed}
@@ -41,6 +41,3 @@ one_passed nodes behind label k node was labels below is fails before n within =
         | inl here ↦ and_right _ (behind n) (ap behind here ∙ fails) ∙ sym (and_right _ (behind n) (ap behind here ∙ fails))
         | inr other ↦ ap (λ b. b && behind n) (more ∙ ap (λ b. lists (take k nodes) n || b) (ne_eqb node n (λ e. other (sym e))) ∙ or_false _)
       ]
-
-pub all_labelled : (nodes : List ℕ) (behind : ℕ → Bool) (label k : ℕ) (was labels : List (Option ℕ)) → k ≡ length nodes → IsLabelled (take k nodes) behind label was labels → IsLabelled nodes behind label was labels
-all_labelled nodes behind label k was labels all labelled = subst (λ (l : List ℕ). IsLabelled l behind label was labels) (take_all k nodes (omega (arith, all))) labelled

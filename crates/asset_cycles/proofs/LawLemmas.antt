@@ -41,10 +41,6 @@ same_label arrows count u v same some = go (label_below arrows count u) refl whe
       let there = label_least arrows count v l (sym same ∙ is) in
       cycle_trans arrows u l v here.passes (cycle_sym arrows l v ∙ there.passes)
 
--- two nodes on one cycle have the same numbers on one cycle with them
-alike : (arrows : List Arrow) (u v n : ℕ) → on_one_cycle arrows u v ≡ true → on_one_cycle arrows v n ≡ true → on_one_cycle arrows u n ≡ true
-alike arrows u v n = cycle_trans arrows u v n
-
 pub one_label : (arrows : List Arrow) (count u v : ℕ) → v < count → on_one_cycle arrows u v ≡ true → (label_below arrows count u ≡ label_below arrows count v) × (label_below arrows count u ≡ None → ⊥)
 one_label arrows count u v below h = go (label_below arrows count u) refl where
   go : (label : Option ℕ) → label_below arrows count u ≡ label → (label_below arrows count u ≡ label_below arrows count v) × (label_below arrows count u ≡ None → ⊥)

@@ -3,8 +3,7 @@ use Rattle.std.proofs.Common.{◌≡◌, ℕ, ◌+◌, Bool, true, false, cond, 
 use Rattle.std.specs.Prelude.{Result, Ok, Err, OnOk, IfOk}
 use Rattle.asset_names.specs.Steps.{applied}
 use Rattle.asset_names.specs.declared.steps.Step.{Step}
-use Rattle.asset_names.specs.declared.replies.Outcome.{Outcome}
-use Rattle.asset_entries.specs.Recorded.{Recorded, answer_to, after, has_room, opened}
+use Rattle.asset_entries.specs.Recorded.{Recorded, answer_to, after, has_room}
 use Rattle.asset_core.specs.Pending.{Facility, facility_of, pending_after}
 use Rattle.asset_grammar.specs.declared.grammar.Command.TheVariants.{Object, Ask}
 use Rattle.asset_grammar.specs.declared.grammar.Line.{Line}
@@ -17,10 +16,10 @@ use Rattle.asset_cli.specs.declared.ends.RunEnd.TheVariants as Run'
 use Rattle.asset_cli.specs.declared.faults.ScriptFault.{ScriptFault}
 use Rattle.asset_cli.specs.declared.prints.Prints.{Prints}
 use Rattle.asset_cli.specs.Rendering.{Renders}
-use Rattle.asset_cli.specs.Transcript.{Transcript, finished, stopped, with_prefix, joined_by, printed, step_line, steps_transcript, steps_from, transcript}
+use Rattle.asset_cli.specs.Transcript.{Transcript, finished, stopped, with_prefix, joined_by, step_line, steps_transcript, steps_from, transcript}
 use Rattle.asset_cli.specs.Preamble.{Beginning, no_step, first_step, bad_line, beginning, transcript_begun}
 use Rattle.asset_cli.proofs.PreambleLemmas.{begun_transcript}
-use Rattle.asset_standing.specs.Standing.{Standing, stands, stepped_as, stepped, line_left, steps_left, left_begun, left}
+use Rattle.asset_standing.specs.Standing.{Standing, stepped_as, stepped, line_left, steps_left, left_begun, left}
 use Rattle.asset_standing.specs.declared.standing.Stood.TheVariants.{Finished, BadLine}
 use Rattle.asset_standing.specs.Stood.{stood_at, stood_of}
 use Rattle.asset_standing.specs.Waited.{waited_at, waited, EndsAsRun}

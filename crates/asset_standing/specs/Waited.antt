@@ -6,7 +6,7 @@ use Rattle.asset_cli.specs.declared.ends.RunEnd.TheVariants.{Finished}
 use Rattle.asset_cli.specs.declared.prints.Prints.{Prints}
 use Rattle.asset_cli.specs.Transcript.{Transcript, stopped, transcript}
 use Rattle.asset_waits.specs.Texts.{report_text}
-use Rattle.asset_standing.specs.Standing.{Standing, left}
+use Rattle.asset_standing.specs.Standing.{left}
 
 -- a bad line is all that is written, if there is one
 unfoldable pub waited_at : Option ℕ → Facility → Transcript

@@ -1,4 +1,4 @@
-use Rattle.std.proofs.Common.{length, refl, ◌∙◌, ap, arith}
+use Rattle.std.proofs.Common.{length, refl, ap, arith}
 use Rattle.asset_grammar.specs.Grammar.{ReadsLine}
 use Rattle.asset_cli.proofs.TranscriptLemmas.{none_ends, ends_later, goes_on_later, step_goes_on}
 use Rattle.asset_cli.proofs.rendering.render_steps.Goals as goal

@@ -1,4 +1,4 @@
-use Rattle.std.proofs.Common.{List, ◌+◌, sym, ap, ◌∙◌}
+use Rattle.std.proofs.Common.{◌+◌, sym, ap, ◌∙◌}
 use Rattle.asset_core.specs.Pending.{Facility}
 use Rattle.asset_grammar.specs.Grammar.{said_as}
 use Rattle.asset_standing.specs.Standing.{steps_left}

@@ -1,4 +1,4 @@
-use Rattle.std.proofs.Common.{◌≡◌, ◌+◌, length, None, refl, ◌∙◌, ap, arith}
+use Rattle.std.proofs.Common.{length, ◌∙◌, ap, arith}
 use Rattle.asset_grammar.specs.Grammar.{ReadsLine}
 use Rattle.asset_standing.specs.Standing.{steps_left}
 use Rattle.asset_standing.proofs.steps.take_lines.Goals as goal

@@ -1,6 +1,5 @@
-use Rattle.std.proofs.Common.{sym, ap, ◌∙◌}
+use Rattle.std.proofs.Common.{sym, ◌∙◌}
 use Rattle.std.specs.Prelude.{string_bytes}
-use Rattle.asset_standing.specs.declared.standing.Stood.TheVariants.{Finished, BadLine}
 use Rattle.asset_standing.proofs.StandingLemmas.{renders_report, renders_bad}
 use Rattle.asset_standing.proofs.reporting.WaitsRender.render.Goals as goal
 
