@@ -88,11 +88,6 @@ acts_tell opening test p acts completes made old calls new end legal final all q
   | inr failing ↦ give_up_tells opening test p failing.t failing.onto.made failing.onto.old calls new end legal final failing.is failing.onto.run
 ]
 
--- the steps of `distributed` that are no acts
-append_quiet : (steps more : List Step) → AllQuiet steps → AllQuiet more → AllQuiet (steps ++ more)
-append_quiet [] more none_quiet all = all
-append_quiet (step ∷ steps) more (more_quiet quiet rest) all = more_quiet quiet (append_quiet steps more rest all)
-
 starts_quiet : (parts : List Part) → AllQuiet (flat_map (λ (q : Part). starts q.name) parts)
 unfolding starts committed_by
 starts_quiet [] = none_quiet

@@ -15,9 +15,8 @@ use Rattle.asset_audit.specs.Audited.{Call}
 use Rattle.asset_entries.specs.Recorded.{answer_to}
 use Rattle.asset_manager.specs.Listed.{IsListed}
 use Rattle.asset_manager.specs.Asks.{IsAnswer}
-use Rattle.asset_runner.specs.declared.plan.Cause.{Cause}
 use Rattle.asset_runner.specs.declared.plan.Cause.TheVariants as Cause'
-use Rattle.asset_runner.specs.Initiated.{IsInitiated, IsRefused, IsInitiation, cause_by}
+use Rattle.asset_runner.specs.Initiated.{IsInitiated, IsInitiation, cause_by}
 
 -- an initiation is answered `Done` or refused
 answered : (opening : Opening) (steps : List Step) (t : Txn) (parent : Option Txn) → IsInitiation (Ok (answer opening steps (Initiate t parent)))
@@ -42,14 +41,3 @@ initiated before later step (Ok (Answer Aborted)) is none listed = absurd is
 initiated before later step (Ok Wait) is none listed = absurd is
 initiated before later step (Err Full) is none listed = absurd (cc none)
 initiated before later step (Err NoMemory) is none listed = absurd (cc none)
-
--- what one asked that was not
-pub refused : (before later : List Call) (step : Step) (result : Result Outcome Fault) (cause : Cause) → cause_by result ≡ Some cause → IsListed before step result later → IsRefused before step cause later
-refused before later step (Ok (Answer (Refused refusal))) cause some listed = let same : Cause'.Refused refusal ≡ cause = cc some in subst (λ (o : Cause). IsRefused before step o later) same listed
-refused before later step (Ok (Answer Done)) cause some listed = absurd (cc some)
-refused before later step (Ok (Answer (Value v))) cause some listed = absurd (cc some)
-refused before later step (Ok (Answer Committed)) cause some listed = absurd (cc some)
-refused before later step (Ok (Answer Aborted)) cause some listed = absurd (cc some)
-refused before later step (Ok Wait) cause some listed = absurd (cc some)
-refused before later step (Err Full) cause some listed = let same : Cause'.Full ≡ cause = cc some in subst (λ (o : Cause). IsRefused before step o later) same listed
-refused before later step (Err NoMemory) cause some listed = let same : Cause'.NoMemory ≡ cause = cc some in subst (λ (o : Cause). IsRefused before step o later) same listed

@@ -1,5 +1,5 @@
 -- A row of jobs that stand in order.
-use Rattle.std.proofs.Common.{◌≡◌, ◌<◌, ◌+◌, ◌∙◌, ℕ, List, Some, Bool, true, false, eqb, refl, sym, ap, arith}
+use Rattle.std.proofs.Common.{◌≡◌, ◌<◌, ◌+◌, ℕ, List, Some, arith}
 use Rattle.std.specs.Prelude.{slice_get}
 use Rattle.asset_runner.specs.Arrived.{Arrived}
 

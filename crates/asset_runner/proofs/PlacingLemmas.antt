@@ -39,9 +39,6 @@ is_self x = grind (arith, nat_tests)
 at_not : (i : ℕ) (x : ℕ × ℕ) → x.0 ≢ i → at i x ≡ 0
 at_not i x h = grind (arith, nat_tests)
 
-at_some : (i : ℕ) (x : ℕ × ℕ) → 0 < at i x → x.0 ≡ i
-at_some i x h = grind (arith, nat_tests)
-
 is_some : (x y : ℕ × ℕ) → 0 < is x y → (y.0 ≡ x.0) × (y.1 ≡ x.1)
 is_some x y h = grind (arith, nat_tests)
 

@@ -1,5 +1,5 @@
 -- What a conversation has to do with a run.
-use Rattle.std.specs.Prelude.{◌≡◌, ℕ, true, List, [], ◌++◌}
+use Rattle.std.specs.Prelude.{◌≡◌, ℕ, List, [], ◌++◌}
 use Rattle.asset_cli.specs.declared.ends.RunEnd.TheVariants.{Finished}
 use Rattle.asset_cli.specs.Transcript.{transcript}
 use Rattle.asset_shell.specs.Shelled.{complete, shell_text}

@@ -1,4 +1,4 @@
-use Rattle.std.proofs.Common.{refl, sym, ap, ◌∙◌, length, arith}
+use Rattle.std.proofs.Common.{refl, ap, ◌∙◌, length, arith}
 use Rattle.asset_grammar.specs.JobLines.{ReadsJobLine}
 use Rattle.asset_jobs.specs.Jobs.{jobs_of, said_from, line_then}
 use Rattle.asset_jobs.specs.Scripts.{said_at}

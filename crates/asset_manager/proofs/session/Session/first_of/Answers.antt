@@ -1,0 +1,5 @@
+use Rattle.std.proofs.Common.{rules}
+use Rattle.asset_manager.proofs.session.Session.first_of.Goals as goal
+
+pub returns : goal.returns
+returns c = search rules
