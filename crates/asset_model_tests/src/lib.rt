@@ -2,20 +2,12 @@
 //! that runs out, and drawn models beside another client.
 #![tactic(auto)]
 
-mod counting;
-mod parts;
-mod rows_of;
-mod shared;
-
-pub use counting::Counting;
-pub use parts::part;
-pub use rows_of::{Row, missing_lines, row_of};
-pub use shared::Shared;
-
 #[cfg(test)]
 mod between;
 #[cfg(test)]
 mod clients;
+#[cfg(test)]
+mod counting;
 #[cfg(test)]
 mod drawn;
 #[cfg(test)]
@@ -23,4 +15,10 @@ mod examples;
 #[cfg(test)]
 mod faults;
 #[cfg(test)]
+mod parts;
+#[cfg(test)]
 mod rows;
+#[cfg(test)]
+mod rows_of;
+#[cfg(test)]
+mod shared;
