@@ -1,4 +1,5 @@
-//! The tests of checks: each reason by a line, whole scripts, scripts that are drawn, and devices and memory that fail.
+//! The tests of checks and of conversations: each reason by a line, whole scripts, scripts that are drawn, conversations by pieces of
+//! any size whose replies come in time, and devices and memory that fail.
 #![tactic(auto)]
 
 #[cfg(test)]
@@ -15,3 +16,11 @@ mod faults;
 mod reasons;
 #[cfg(test)]
 mod scripts;
+#[cfg(test)]
+mod talk_faults;
+#[cfg(test)]
+mod talk_rows;
+#[cfg(test)]
+mod talks;
+#[cfg(test)]
+mod timely;

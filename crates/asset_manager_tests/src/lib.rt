@@ -13,6 +13,10 @@ pub use script::{first_wrong_line, is_replayed};
 #[cfg(test)]
 mod audit;
 #[cfg(test)]
+mod audit_rows;
+#[cfg(test)]
+mod audit_sizes;
+#[cfg(test)]
 mod book;
 #[cfg(test)]
 mod crowd;
@@ -22,6 +26,8 @@ mod sessions;
 mod sharing;
 #[cfg(test)]
 mod sizes;
+#[cfg(test)]
+mod told;
 #[cfg(test)]
 mod waiting;
 #[cfg(test)]

@@ -1,6 +1,6 @@
 //! Job scripts, from their bytes to what is written.
 
-use crate::running::run_jobs;
+use crate::job_running::run_jobs;
 use asset_bodies::Tx;
 use asset_cli::Device;
 use asset_jobs::do_acts;
