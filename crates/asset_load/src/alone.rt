@@ -44,14 +44,29 @@ fn run_session<R: Wait>(rt: &R, manager: &Manager, session: &mut Session, count:
     count
 }
 
+/// Takes the time of the transactions of a session with room for them.
+fn time_session<R: Clock + Wait>(
+    rt: &R,
+    manager: &Manager,
+    session: &mut Session,
+    count: u64,
+) -> Option<(Duration, u64)>
+    requires { IsOf session.old.of manager.now }
+{
+    session.reserve(ROOM).ok()?;
+    let start = Instant::now(rt);
+    let ran = run_session(rt, manager, session, count);
+    let end = Instant::now(rt);
+    Some((end.ok()?.duration_since(start.ok()?), ran))
+}
+
 /// Runs transactions by one session, through the lock.
 pub fn calls<R: Clock + Wait>(rt: &R, alloc: Global, request: &Request) -> Option<(Duration, u64)> {
     let (manager, mut session) = Manager::open(alloc, &OBJECTS, ROOM).ok()?;
-    session.reserve(ROOM).ok()?;
-    let start = Instant::now(rt);
-    let ran = run_session(rt, &manager, &mut session, request.count);
-    let end = Instant::now(rt);
-    Some((end.ok()?.duration_since(start.ok()?), ran))
+    let took = time_session(rt, &manager, &mut session, request.count);
+    drop(session);
+    drop(manager);
+    took
 }
 
 /// Returns the sum of the entries that many reads show.
@@ -65,14 +80,29 @@ fn read_often(manager: &Manager, pass: &mut WatchPass, count: u64) -> u64
     sum
 }
 
+/// Takes the time of many reads of the published counts.
+fn time_reads<R: Clock>(
+    rt: &R,
+    manager: &Manager,
+    session: &mut Session,
+    count: u64,
+) -> Option<(Duration, u64)>
+    requires { IsOf session.old.of manager.now }
+{
+    let mut pass = session.watch_pass();
+    let start = Instant::now(rt);
+    let sum = read_often(manager, &mut pass, count);
+    let end = Instant::now(rt);
+    Some((end.ok()?.duration_since(start.ok()?), sum))
+}
+
 /// Reads the published counts.
 pub fn watch<R: Clock>(rt: &R, alloc: Global, request: &Request) -> Option<(Duration, u64)> {
     let (manager, mut session) = Manager::open(alloc, &OBJECTS, ROOM).ok()?;
-    let mut pass = session.watch_pass();
-    let start = Instant::now(rt);
-    let sum = read_often(&manager, &mut pass, request.count);
-    let end = Instant::now(rt);
-    Some((end.ok()?.duration_since(start.ok()?), sum))
+    let took = time_reads(rt, &manager, &mut session, request.count);
+    drop(session);
+    drop(manager);
+    took
 }
 
 /// Loads a plain atomic word.

@@ -81,6 +81,21 @@ fn lists_of<'a>(
     Ok(lists)
 }
 
+/// Takes the time of the audit of sessions that took turns, and leaves whether their lists and the history agree.
+fn time_audit<R: Clock>(
+    rt: &R,
+    alloc: Global,
+    history: &History,
+    sessions: usize,
+) -> Option<(Duration, u64)> {
+    let calls = calls_of(alloc, history, sessions).ok()?;
+    let lists = lists_of(alloc, &calls, sessions).ok()?;
+    let start = Instant::now(rt);
+    let agrees = audit(history, &lists).is_ok();
+    let end = Instant::now(rt);
+    Some((end.ok()?.duration_since(start.ok()?), agrees as u64))
+}
+
 /// Fills a history with refused steps, audits the lists of the sessions against it, and leaves whether they agree.
 pub fn audited<R: Clock>(rt: &R, alloc: Global, request: &Request) -> Option<(Duration, u64)> {
     let mut core = Core::open(alloc, &[], ROOM).ok()?;
@@ -88,10 +103,7 @@ pub fn audited<R: Clock>(rt: &R, alloc: Global, request: &Request) -> Option<(Du
         let _answer = core.step(Step::Begin { t: Txn(t) });
     }
     let history = core.into_history();
-    let calls = calls_of(alloc, &history, request.sessions).ok()?;
-    let lists = lists_of(alloc, &calls, request.sessions).ok()?;
-    let start = Instant::now(rt);
-    let agrees = audit(&history, &lists).is_ok();
-    let end = Instant::now(rt);
-    Some((end.ok()?.duration_since(start.ok()?), agrees as u64))
+    let took = time_audit(rt, alloc, &history, request.sessions);
+    drop(history);
+    took
 }

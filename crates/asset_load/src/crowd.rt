@@ -121,6 +121,22 @@ fn run_shares<R: Threads + Wait + Sync>(
     }
 }
 
+/// Takes the time of the threads' transactions.
+fn time_shares<R: Clock + Threads + Wait + Sync>(
+    rt: &R,
+    manager: &Manager,
+    session: &mut Session,
+    request: &Request,
+    apart: bool,
+) -> Option<(Duration, u64)>
+    requires { IsOf session.old.of manager.now }
+{
+    let start = Instant::now(rt);
+    let done = run_shares(rt, manager, session, request, apart);
+    let end = Instant::now(rt);
+    Some((end.ok()?.duration_since(start.ok()?), done))
+}
+
 /// Runs transactions by threads, each on an object of its own or all on one.
 pub fn crowd<R: Clock + Threads + Wait + Sync>(
     rt: &R,
@@ -129,8 +145,8 @@ pub fn crowd<R: Clock + Threads + Wait + Sync>(
     apart: bool,
 ) -> Option<(Duration, u64)> {
     let (manager, mut session) = Manager::open(alloc, &OBJECTS, ROOM).ok()?;
-    let start = Instant::now(rt);
-    let done = run_shares(rt, &manager, &mut session, request, apart);
-    let end = Instant::now(rt);
-    Some((end.ok()?.duration_since(start.ok()?), done))
+    let took = time_shares(rt, &manager, &mut session, request, apart);
+    drop(session);
+    drop(manager);
+    took
 }
