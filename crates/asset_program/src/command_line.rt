@@ -166,56 +166,42 @@ fn bare_line<'a>(alloc: Global) -> Command<'a> {
         .after_help(NOTES)
 }
 
-/// Returns the command line that the program takes.
-pub(crate) fn command_line<'a>(alloc: Global) -> Result<Command<'a>, AllocError> {
-    let line = with_word(
-        bare_line(alloc),
-        alloc,
+/// The words that read a script, and what each writes.
+const SCRIPT_WORDS: [(&str, &str); 8] = [
+    (
         "run",
         "Runs the script on standard input and writes its transcript (the default)",
-    )?;
-    let line = with_word(
-        line,
-        alloc,
+    ),
+    (
         "steps",
         "Writes each step with its reply, numbered by line and by entry",
-    )?;
-    let line = with_word(
-        line,
-        alloc,
+    ),
+    (
         "prune",
         "Writes the script that is left without dead groups",
-    )?;
-    let line = with_word(
-        line,
-        alloc,
-        "groups",
-        "Writes the groups of those who shared something",
-    )?;
-    let line = with_word(
-        line,
-        alloc,
+    ),
+    ("groups", "Writes the groups of those who shared something"),
+    (
         "sources",
         "Writes where each value that was read comes from",
-    )?;
-    let line = with_word(
-        line,
-        alloc,
+    ),
+    (
         "serial",
         "Writes the script of those who committed, one after another",
-    )?;
-    let line = with_word(
-        line,
-        alloc,
+    ),
+    (
         "waits",
         "Writes who waits for whom when the script has ended",
-    )?;
-    let line = with_word(
-        line,
-        alloc,
-        "picture",
-        "Draws the history as a picture, an SVG",
-    )?;
+    ),
+    ("picture", "Draws the history as a picture, an SVG"),
+];
+
+/// Returns the command line that the program takes.
+pub(crate) fn command_line<'a>(alloc: Global) -> Result<Command<'a>, AllocError> {
+    let mut line = bare_line(alloc);
+    for (name, about) in SCRIPT_WORDS {
+        line = with_word(line, alloc, name, about)?;
+    }
     let line = with_check(line, alloc)?;
     let line = with_shell(line, alloc)?;
     with_jobs(line, alloc)
