@@ -49,6 +49,10 @@ pub(crate) fn tables_after(alloc: Global, history: &History) -> Result<Tables, N
     let mut tables = tables_before(alloc, history)?;
     match pass_all(history, &mut tables) {
         Ok(()) => Ok(tables),
-        Err(_) => Err(NoMemory),
+        Err(_) => {
+            // Dropped by name, so that the proof of the drop is made once.
+            drop(tables);
+            Err(NoMemory)
+        }
     }
 }
