@@ -1,8 +1,8 @@
 //! The joins of those who met.
 
-ghost use Rattle.std.specs.Prelude.{◌≡◌, ◌++◌, nat_eq, OnOk, IfOk};
+ghost use Rattle.std.specs.Prelude.{◌≡◌, ◌++◌, [], ℕ, nat_eq, OnOk, IfOk};
 ghost use Rattle.indexmap.specs.IndexMap.{get};
-ghost use Rattle.asset_meetings.specs.Users.{joins_of, joined_with, meetings_of, openers_of};
+ghost use Rattle.asset_meetings.specs.Users.{first_user, joins_of, joined_with, meetings_by, meetings_of, openers_of, operators_of};
 ghost use Rattle.asset_meetings.specs.Meetings.{AreMeetings};
 
 use crate::noting::{FirstUsers, first_users};
@@ -36,8 +36,44 @@ fn push_joins(
     Ok(())
 }
 
-/// Returns the joins of those who met, if these opened objects: each opener of an object with its first operator, and each
-/// operator with its first opener.
+/// Appends the joins of those who met, if these opened objects and these operated on them: each opener of an object with its
+/// first operator, and each operator with its first opener.
+fn push_both(
+    joins: &mut Vec<(Txn, Txn)>,
+    opened: &[User],
+    openers: &FirstUsers,
+    operated: &[User],
+    operators: &FirstUsers,
+) -> Result<(), AllocError>
+    requires none { joins.old.items ≡ [] }
+    requires openers { (y : ℕ) → get nat_eq openers.now y ≡ first_user opened.now y }
+    requires operators { (y : ℕ) → get nat_eq operators.now y ≡ first_user operated.now y }
+    ensures { OnOk result (joins.new.items ≡ meetings_by opened.now operated.now) }
+{
+    push_joins(joins, operators, opened)?;
+    push_joins(joins, openers, operated)?;
+    Ok(())
+}
+
+/// Returns the joins of those who met, if these opened objects, by the first opener of each object.
+fn joins_by_openers(
+    alloc: Global,
+    history: &History,
+    opened: &[User],
+    openers: &FirstUsers,
+) -> Result<Vec<(Txn, Txn)>, AllocError>
+    requires { (y : ℕ) → get nat_eq openers.now y ≡ first_user opened.now y }
+    ensures { IfOk result (λ joins. joins.items ≡ meetings_by opened.now (operators_of (first_user opened.now) history.now.entries)) }
+{
+    let operated = operators_of(alloc, history, openers)?;
+    let users = operated.as_slice();
+    let operators = first_users(alloc, users)?;
+    let mut joins = Vec::new(alloc);
+    push_both(&mut joins, opened, openers, users, &operators)?;
+    Ok(joins)
+}
+
+/// Returns the joins of those who met, if these opened objects.
 fn joins_of_openers(
     alloc: Global,
     history: &History,
@@ -47,12 +83,7 @@ fn joins_of_openers(
     ensures { IfOk result (λ joins. joins.items ≡ meetings_of history.now.entries) }
 {
     let openers = first_users(alloc, opened)?;
-    let operated = operators_of(alloc, history, &openers)?;
-    let operators = first_users(alloc, &operated)?;
-    let mut joins = Vec::new(alloc);
-    push_joins(&mut joins, &operators, opened)?;
-    push_joins(&mut joins, &openers, &operated)?;
-    Ok(joins)
+    joins_by_openers(alloc, history, opened, &openers)
 }
 
 /// Returns the joins of those who met, as `meetings` does.
