@@ -1,5 +1,5 @@
-//! The tests of the program over readers and writers in memory. They stand in a crate of their own, because a test build
-//! proves again the whole crate that it belongs to.
+//! The tests of the program over readers and writers in memory; and of job scripts, from their bytes to the text that says how
+//! the jobs ended. They stand in a crate of their own, because a test build proves again the whole crate that it belongs to.
 #![tactic(auto)]
 
 mod texts;
@@ -10,6 +10,16 @@ pub use texts::{HELP, VERSION};
 mod conversing;
 #[cfg(test)]
 mod faults;
+#[cfg(test)]
+mod job_devices;
+#[cfg(test)]
+mod job_reading;
+#[cfg(test)]
+mod job_rows;
+#[cfg(test)]
+mod job_running;
+#[cfg(test)]
+mod job_written;
 #[cfg(test)]
 mod readme;
 #[cfg(test)]

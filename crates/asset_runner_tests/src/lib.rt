@@ -1,5 +1,4 @@
-//! The tests of plans of jobs and of the transactions on which bodies work, through their public calls; and of job scripts, from
-//! their bytes to the text that says how the jobs ended.
+//! The tests of plans of jobs and of the transactions on which bodies work, through their public calls.
 #![tactic(auto)]
 
 #[cfg(test)]
@@ -14,16 +13,6 @@ mod failing;
 mod gates;
 #[cfg(test)]
 mod hostile;
-#[cfg(test)]
-mod job_devices;
-#[cfg(test)]
-mod job_reading;
-#[cfg(test)]
-mod job_rows;
-#[cfg(test)]
-mod job_running;
-#[cfg(test)]
-mod job_written;
 #[cfg(test)]
 mod many;
 #[cfg(test)]
