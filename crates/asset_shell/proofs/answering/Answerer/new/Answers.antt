@@ -10,3 +10,6 @@ invariant_of-result c = (([], c.new-checker.ensures), c.requires.capacity)
 pub returns-clause-session : goal.returns-clause-session
 unfolding session_of new_session
 returns-clause-session c = rw c.new-checker.ensures refl
+
+pub returns-clause-number : goal.returns-clause-number
+returns-clause-number c = refl
