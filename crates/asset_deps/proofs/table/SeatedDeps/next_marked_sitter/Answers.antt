@@ -1,4 +1,4 @@
-use Rattle.std.proofs.Common.{Some, is_some, ap, ◌∙◌}
+use Rattle.std.proofs.Common.{Some, is_some, sym, ap, ◌∙◌}
 use Rattle.std.proofs.lemmas.Bool.{false≢true}
 use Rattle.asset_deps.proofs.SeatLemmas.{on_any_none, popped, taken_last, nothing_marked}
 use Rattle.asset_deps.proofs.table.SeatedDeps.next_marked_sitter.Goals as goal
@@ -20,3 +20,6 @@ returns-clause-last c =
 
 pub returns-clause-tied : goal.returns-clause-tied
 returns-clause-tied c = c.next_marked.ensures.tied c.args.seats.now c.requires.tied
+
+pub returns-clause-sits : goal.returns-clause-sits
+returns-clause-sits c = sym c.in-Some.ensures
