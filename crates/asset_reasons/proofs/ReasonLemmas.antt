@@ -15,7 +15,7 @@ use Rattle.asset_grammar.specs.Words.{words}
 use Rattle.asset_reasons.specs.declared.reasons.Reason.TheVariants.{TooLong}
 use Rattle.asset_reasons.specs.declared.reasons.Shape.{Shape}
 use Rattle.asset_reasons.specs.declared.reasons.Shape.TheVariants.{ObjectAndValue, TxnAndParent, OneTxn, TxnAndObject, TxnObjectAndValue, TxnObjectAndAmount, TxnsOpsAndSet, TxnsAndSet, KindAndTxns}
-use Rattle.asset_reasons.specs.Mistakes.{HasReasonIfBad, is_bad, mistake_by, reason_of, shape_mistake, shape_of, step_shape, spelled, words_mistake}
+use Rattle.asset_reasons.specs.Mistakes.{HasReasonIfBad, is_bad, mistake_by, reason_of, shape_mistake, shape_of, sharing_shape, step_shape, spelled, words_mistake}
 use Rattle.asset_reasons.proofs.ShapeLemmas.{is_read, permit_made, shape_told, some_mapped}
 
 -- the words of a shape are wrong exactly if what is read of them is nothing
@@ -28,7 +28,7 @@ permit_told first operands = shape_told first TxnsOpsAndSet operands ∙ ap not 
 
 -- the words after a keyword are wrong exactly if they ask for no step
 step_told : (first : List ℕ) (operands : List (List ℕ)) → is_some (mistake_by (step_shape first) first operands) ≡ not (is_some (step_command first operands))
-unfolding mistake_by step_shape step_command keyword_of all_keywords keyword_text step_by
+unfolding mistake_by step_shape sharing_shape step_command keyword_of all_keywords keyword_text step_by
 step_told first operands =
     elim (cases_Bool (bytes_eq (codes "initiate") first)) [
       | inl e0 ↦ rw (e0) (told first operands TxnAndParent (txn_and_parent operands) _ _ refl)

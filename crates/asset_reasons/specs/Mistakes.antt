@@ -145,6 +145,16 @@ operands_of TxnsOpsAndSet single anybody = Operand'.Number ∷ Operand'.Taker �
 operands_of TxnsAndSet single anybody = Operand'.Number ∷ Operand'.Number ∷ Operand'.Set ∷ []
 operands_of KindAndTxns single anybody = Operand'.Kind ∷ Operand'.Number ∷ Operand'.Number ∷ []
 
+-- which operands the keyword of a step wants that shares or ends
+unfoldable pub sharing_shape : List ℕ → Option Shape
+sharing_shape word =
+    cond (bytes_eq (codes "permit") word) (Some TxnsOpsAndSet)
+    (cond (bytes_eq (codes "commit") word) (Some OneTxn)
+    (cond (bytes_eq (codes "abort") word) (Some OneTxn)
+    (cond (bytes_eq (codes "wait") word) (Some OneTxn)
+    (cond (bytes_eq (codes "delegate") word) (Some TxnsAndSet)
+    (cond (bytes_eq (codes "depend") word) (Some KindAndTxns) None)))))
+
 -- which operands the keyword of a step wants
 unfoldable pub step_shape : List ℕ → Option Shape
 step_shape word =
@@ -153,13 +163,7 @@ step_shape word =
     (cond (bytes_eq (codes "read") word) (Some TxnAndObject)
     (cond (bytes_eq (codes "write") word) (Some TxnObjectAndValue)
     (cond (bytes_eq (codes "add") word) (Some TxnObjectAndAmount)
-    (cond (bytes_eq (codes "complete") word) (Some OneTxn)
-    (cond (bytes_eq (codes "permit") word) (Some TxnsOpsAndSet)
-    (cond (bytes_eq (codes "commit") word) (Some OneTxn)
-    (cond (bytes_eq (codes "abort") word) (Some OneTxn)
-    (cond (bytes_eq (codes "wait") word) (Some OneTxn)
-    (cond (bytes_eq (codes "delegate") word) (Some TxnsAndSet)
-    (cond (bytes_eq (codes "depend") word) (Some KindAndTxns) None)))))))))))
+    (cond (bytes_eq (codes "complete") word) (Some OneTxn) (sharing_shape word))))))
 
 -- which operands a first word wants, if a line can begin with it
 unfoldable pub shape_of : List ℕ → Option Shape

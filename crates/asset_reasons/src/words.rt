@@ -5,7 +5,7 @@ ghost use Rattle.std.specs.Char.{is_ascii_uppercase};
 ghost use Rattle.std.specs.List.{list_any};
 ghost use Rattle.asset_grammar.specs.Grammar.{is_blank};
 ghost use Rattle.asset_grammar.specs.Words.{words};
-ghost use Rattle.asset_reasons.specs.Mistakes.{Finds, first_mistake, fits, is_single, mistake_by, names_anybody, operands_of, reason_of, second_word, shape_mistake, shape_of, step_shape, why_unknown, words_mistake};
+ghost use Rattle.asset_reasons.specs.Mistakes.{Finds, first_mistake, fits, is_single, mistake_by, names_anybody, operands_of, reason_of, second_word, shape_mistake, shape_of, sharing_shape, step_shape, why_unknown, words_mistake};
 
 use crate::operands::{ANY, operand_mistake};
 use crate::parts::Parts;
@@ -54,6 +54,28 @@ const DELEGATE: &[u8] = b"delegate";
 /// The first word of a line that makes a dependency.
 const DEPEND: &[u8] = b"depend";
 
+/// Returns which operands the keyword of a step wants that shares or ends.
+#[tactic(auto, unfolding(crate::specs::Mistakes::sharing_shape))]
+fn sharing_shape(word: &[u8]) -> Option<Shape>
+    ensures { result ≡ sharing_shape word.now }
+{
+    if PERMIT == word {
+        Some(Shape::TxnsOpsAndSet)
+    } else if COMMIT == word {
+        Some(Shape::OneTxn)
+    } else if ABORT == word {
+        Some(Shape::OneTxn)
+    } else if WAIT == word {
+        Some(Shape::OneTxn)
+    } else if DELEGATE == word {
+        Some(Shape::TxnsAndSet)
+    } else if DEPEND == word {
+        Some(Shape::KindAndTxns)
+    } else {
+        None
+    }
+}
+
 /// Returns which operands the keyword of a step wants.
 #[tactic(auto, unfolding(crate::specs::Mistakes::step_shape))]
 fn step_shape(word: &[u8]) -> Option<Shape>
@@ -71,20 +93,8 @@ fn step_shape(word: &[u8]) -> Option<Shape>
         Some(Shape::TxnObjectAndAmount)
     } else if COMPLETE == word {
         Some(Shape::OneTxn)
-    } else if PERMIT == word {
-        Some(Shape::TxnsOpsAndSet)
-    } else if COMMIT == word {
-        Some(Shape::OneTxn)
-    } else if ABORT == word {
-        Some(Shape::OneTxn)
-    } else if WAIT == word {
-        Some(Shape::OneTxn)
-    } else if DELEGATE == word {
-        Some(Shape::TxnsAndSet)
-    } else if DEPEND == word {
-        Some(Shape::KindAndTxns)
     } else {
-        None
+        sharing_shape(word)
     }
 }
 
