@@ -31,7 +31,11 @@ fn open_over(alloc: Global, opening: &[(Ob, i64)], capacity: usize) -> Result<Bo
     match Core::open(alloc, opening, capacity) {
         Ok(core) => match Box::new(alloc, core) {
             Ok(core) => Ok(core),
-            Err(_) => Err(OpenFault::NoMemory),
+            Err(refused) => {
+                // By name: its proof is made once for each type in a facility.
+                drop(refused.value);
+                Err(OpenFault::NoMemory)
+            }
         },
         Err(fault) => Err(fault),
     }
