@@ -310,7 +310,7 @@ impl Plan {
         } = self;
         let count = names.len();
         let Ok(()) = rooms.reserve(alloc, count + 1) else {
-            return Err(no_room(alloc, workers));
+            return Err(no_room(alloc, workers, session, jobs, rooms));
         };
         let FromWorkers { rows, left, cause } = work(rt, alloc, jobs, workers, gate);
         let Rooms {
@@ -345,8 +345,14 @@ impl Plan {
     }
 }
 
-/// Returns what a plan without jobs answers if there is no room for its own session.
-fn no_room(alloc: Global, workers: usize) -> RunFault {
+/// Returns what a plan without jobs answers if there is no room for its own session, and drops what it owns.
+fn no_room(
+    alloc: Global,
+    workers: usize,
+    _session: Session,
+    _jobs: Vec<Planned>,
+    _rooms: Rooms,
+) -> RunFault {
     let cause = if workers == 0 {
         RunCause::NoWorkers
     } else {
