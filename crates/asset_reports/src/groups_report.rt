@@ -83,6 +83,16 @@ fn push_all(text: &mut String, groups: &Groups, members: &Buckets) -> Result<(),
     Ok(())
 }
 
+/// Appends the lines of all groups.
+fn push_lines(alloc: Global, groups: &Groups, text: &mut String) -> Result<(), AllocError>
+    ensures { OnOk result (string_bytes text.new ≡ string_bytes text.old ++ all_groups_text groups.now) }
+{
+    let members = Buckets::of(alloc, groups.numbers(), groups.count())?;
+    let pushed = push_all(text, groups, &members);
+    drop(members);
+    pushed
+}
+
 /// Appends a line for each group of a history, in order of number: the number, `committed` if a member has committed and
 /// `dead` if none has, and the members in order of first use. It answers `NoMemory` if memory runs out, and takes time that
 /// is nearly in proportion to the entries.
@@ -91,11 +101,10 @@ pub fn push_groups(alloc: Global, history: &History, text: &mut String) -> Resul
     ensures { OnOk result (string_bytes text.new ≡ string_bytes text.old ++ groups_text history.now.entries) }
 {
     let groups = groups(alloc, history)?;
-    match Buckets::of(alloc, groups.numbers(), groups.count()) {
-        Ok(members) => match push_all(text, &groups, &members) {
-            Ok(()) => Ok(()),
-            Err(_) => Err(NoMemory),
-        },
+    let pushed = push_lines(alloc, &groups, text);
+    drop(groups);
+    match pushed {
+        Ok(()) => Ok(()),
         Err(_) => Err(NoMemory),
     }
 }

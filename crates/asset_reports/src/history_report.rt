@@ -78,7 +78,10 @@ pub fn push_pruned(alloc: Global, history: &History, text: &mut String) -> Resul
     ensures { OnOk result (string_bytes text.new ≡ string_bytes text.old ++ pruned_text history.now) }
 {
     let left = without_dead(alloc, history)?;
-    match push_history(text, &left) {
+    let pushed = push_history(text, &left);
+    // By name: its proof is made once for each type in a history.
+    drop(left);
+    match pushed {
         Ok(()) => Ok(()),
         Err(_) => Err(NoMemory),
     }

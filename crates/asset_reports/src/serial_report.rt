@@ -20,7 +20,9 @@ pub fn push_serial(alloc: Global, history: &History, text: &mut String) -> Resul
 {
     if committed_share_nothing(alloc, history)? {
         let left = serial(alloc, history)?;
-        match push_history(text, &left) {
+        let pushed = push_history(text, &left);
+        drop(left);
+        match pushed {
             Ok(()) => Ok(true),
             Err(_) => Err(NoMemory),
         }

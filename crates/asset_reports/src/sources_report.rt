@@ -3,7 +3,7 @@
 ghost use Rattle.std.specs.Prelude.{◌≡◌, ◌++◌, OnOk, Some, reverse, slice_get, string_bytes};
 ghost use Rattle.asset_names.specs.Steps.{Entry};
 ghost use Rattle.asset_sources.specs.Sourced.{source_at};
-ghost use Rattle.asset_reports.specs.Sources.{source_word, read_text, source_text, sources_text};
+ghost use Rattle.asset_reports.specs.Sources.{source_word, found_text, read_text, source_text, sources_text};
 
 use asset_names::{NoMemory, Step, Txn};
 use asset_printing::push_step;
@@ -21,6 +21,16 @@ fn push_word(text: &mut String, source: Source) -> Result<(), AllocError>
     }
 }
 
+/// Appends the value that was read, after a space, where it comes from, and the end of the line.
+#[tactic(auto, unfolding(crate::specs::Sources::found_text))]
+fn push_found(text: &mut String, v: i64, source: Source) -> Result<(), AllocError>
+    ensures { OnOk result (string_bytes text.new ≡ string_bytes text.old ++ found_text v source) }
+{
+    write!(text, " {v}")?;
+    push_word(text, source)?;
+    text.push_str("\n")
+}
+
 /// Appends the line of a read, which is the entry of this number and got this value.
 #[tactic(auto, unfolding(crate::specs::Sources::read_text))]
 fn push_read(
@@ -34,9 +44,7 @@ fn push_read(
 {
     write!(text, "{number} ")?;
     push_step(text, step)?;
-    write!(text, " {v}")?;
-    push_word(text, source)?;
-    text.push_str("\n")
+    push_found(text, v, source)
 }
 
 /// Appends the line of the entry at the index, if it is a read that was answered by a value. Its step is read into the slot.
