@@ -5,12 +5,13 @@ ghost use Rattle.asset_counts.specs.Pass.{IsOf};
 
 use crate::asking::{OBJECTS, ROOM, run_alone, run_one};
 use crate::request::Request;
+use crate::timing::{Took, moment, since};
 use asset_core::Core;
 use asset_manager::{Manager, Session, WatchPass};
 use std::alloc::Global;
 use std::sync::Wait;
 use std::sync::atomic::{AtomicU64, Ordering};
-use std::time::{Clock, Duration, Instant};
+use std::time::Clock;
 
 /// Returns how many transactions the core ran.
 fn run_core(core: &mut Core, count: u64) -> u64 {
@@ -23,13 +24,13 @@ fn run_core(core: &mut Core, count: u64) -> u64 {
 }
 
 /// Runs transactions by one caller.
-pub fn core<R: Clock>(rt: &R, alloc: Global, request: &Request) -> Option<(Duration, u64)> {
+pub fn core<R: Clock>(rt: &R, alloc: Global, request: &Request) -> Option<Took> {
     let mut core = Core::open(alloc, &OBJECTS, ROOM).ok()?;
-    let start = Instant::now(rt);
+    let start = moment(rt);
     let ran = run_core(&mut core, request.count);
-    let end = Instant::now(rt);
+    let took = since(rt, start, ran);
     drop(core.into_history());
-    Some((end.ok()?.duration_since(start.ok()?), ran))
+    took
 }
 
 /// Returns how many transactions a session ran.
@@ -50,18 +51,17 @@ fn time_session<R: Clock + Wait>(
     manager: &Manager,
     session: &mut Session,
     count: u64,
-) -> Option<(Duration, u64)>
+) -> Option<Took>
     requires { IsOf session.old.of manager.now }
 {
     session.reserve(ROOM).ok()?;
-    let start = Instant::now(rt);
+    let start = moment(rt);
     let ran = run_session(rt, manager, session, count);
-    let end = Instant::now(rt);
-    Some((end.ok()?.duration_since(start.ok()?), ran))
+    since(rt, start, ran)
 }
 
 /// Runs transactions by one session, through the lock.
-pub fn calls<R: Clock + Wait>(rt: &R, alloc: Global, request: &Request) -> Option<(Duration, u64)> {
+pub fn calls<R: Clock + Wait>(rt: &R, alloc: Global, request: &Request) -> Option<Took> {
     let (manager, mut session) = Manager::open(alloc, &OBJECTS, ROOM).ok()?;
     let took = time_session(rt, &manager, &mut session, request.count);
     drop(session);
@@ -86,18 +86,17 @@ fn time_reads<R: Clock>(
     manager: &Manager,
     session: &mut Session,
     count: u64,
-) -> Option<(Duration, u64)>
+) -> Option<Took>
     requires { IsOf session.old.of manager.now }
 {
     let mut pass = session.watch_pass();
-    let start = Instant::now(rt);
+    let start = moment(rt);
     let sum = read_often(manager, &mut pass, count);
-    let end = Instant::now(rt);
-    Some((end.ok()?.duration_since(start.ok()?), sum))
+    since(rt, start, sum)
 }
 
 /// Reads the published counts.
-pub fn watch<R: Clock>(rt: &R, alloc: Global, request: &Request) -> Option<(Duration, u64)> {
+pub fn watch<R: Clock>(rt: &R, alloc: Global, request: &Request) -> Option<Took> {
     let (manager, mut session) = Manager::open(alloc, &OBJECTS, ROOM).ok()?;
     let took = time_reads(rt, &manager, &mut session, request.count);
     drop(session);
@@ -106,13 +105,12 @@ pub fn watch<R: Clock>(rt: &R, alloc: Global, request: &Request) -> Option<(Dura
 }
 
 /// Loads a plain atomic word.
-pub fn loads<R: Clock>(rt: &R, request: &Request) -> Option<(Duration, u64)> {
+pub fn loads<R: Clock>(rt: &R, request: &Request) -> Option<Took> {
     let word = AtomicU64::new(0);
     let mut sum: u64 = 0;
-    let start = Instant::now(rt);
+    let start = moment(rt);
     for _ in 0..request.count {
         sum = sum.wrapping_add(word.load(Ordering::SeqCst));
     }
-    let end = Instant::now(rt);
-    Some((end.ok()?.duration_since(start.ok()?), sum))
+    since(rt, start, sum)
 }

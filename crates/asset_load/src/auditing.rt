@@ -4,11 +4,12 @@ ghost use Rattle.std.specs.Prelude.{◌≡◌};
 
 use crate::asking::ROOM;
 use crate::request::Request;
+use crate::timing::{Took, moment, since};
 use asset_audit::{Calls, audit};
 use asset_core::{Core, History};
 use asset_names::{Reply, Step, Txn};
 use std::alloc::{AllocError, Global};
-use std::time::{Clock, Duration, Instant};
+use std::time::Clock;
 
 /// What one session was told.
 #[derive(Clone, Copy)]
@@ -82,22 +83,16 @@ fn lists_of<'a>(
 }
 
 /// Takes the time of the audit of sessions that took turns, and leaves whether their lists and the history agree.
-fn time_audit<R: Clock>(
-    rt: &R,
-    alloc: Global,
-    history: &History,
-    sessions: usize,
-) -> Option<(Duration, u64)> {
+fn time_audit<R: Clock>(rt: &R, alloc: Global, history: &History, sessions: usize) -> Option<Took> {
     let calls = calls_of(alloc, history, sessions).ok()?;
     let lists = lists_of(alloc, &calls, sessions).ok()?;
-    let start = Instant::now(rt);
+    let start = moment(rt);
     let agrees = audit(history, &lists).is_ok();
-    let end = Instant::now(rt);
-    Some((end.ok()?.duration_since(start.ok()?), agrees as u64))
+    since(rt, start, agrees as u64)
 }
 
 /// Fills a history with refused steps, audits the lists of the sessions against it, and leaves whether they agree.
-pub fn audited<R: Clock>(rt: &R, alloc: Global, request: &Request) -> Option<(Duration, u64)> {
+pub fn audited<R: Clock>(rt: &R, alloc: Global, request: &Request) -> Option<Took> {
     let mut core = Core::open(alloc, &[], ROOM).ok()?;
     for t in 0..request.count {
         let _answer = core.step(Step::Begin { t: Txn(t) });

@@ -5,11 +5,12 @@ ghost use Rattle.asset_counts.specs.Pass.{IsOf};
 
 use crate::asking::{OBJECTS, ROOM, run_one};
 use crate::request::Request;
+use crate::timing::{Took, moment, since};
 use asset_manager::{Manager, Session};
 use std::alloc::Global;
 use std::sync::Wait;
 use std::thread::{Threads, join};
-use std::time::{Clock, Duration, Instant};
+use std::time::Clock;
 
 /// The transactions of one thread: from the first number on, and on which object.
 #[derive(Clone, Copy)]
@@ -128,13 +129,12 @@ fn time_shares<R: Clock + Threads + Wait + Sync>(
     session: &mut Session,
     request: &Request,
     apart: bool,
-) -> Option<(Duration, u64)>
+) -> Option<Took>
     requires { IsOf session.old.of manager.now }
 {
-    let start = Instant::now(rt);
+    let start = moment(rt);
     let done = run_shares(rt, manager, session, request, apart);
-    let end = Instant::now(rt);
-    Some((end.ok()?.duration_since(start.ok()?), done))
+    since(rt, start, done)
 }
 
 /// Runs transactions by threads, each on an object of its own or all on one.
@@ -143,7 +143,7 @@ pub fn crowd<R: Clock + Threads + Wait + Sync>(
     alloc: Global,
     request: &Request,
     apart: bool,
-) -> Option<(Duration, u64)> {
+) -> Option<Took> {
     let (manager, mut session) = Manager::open(alloc, &OBJECTS, ROOM).ok()?;
     let took = time_shares(rt, &manager, &mut session, request, apart);
     drop(session);

@@ -7,9 +7,10 @@ mod asking;
 mod auditing;
 mod crowd;
 mod request;
+mod timing;
 
 use crate::request::{Load, Request, requested};
-use std::time::Duration;
+use crate::timing::Took;
 use std::{env, io};
 
 /// What is printed without arguments that name a load.
@@ -30,7 +31,7 @@ fn main(rt: HostRuntime) -> io::Result<()> {
         return Ok(());
     };
     let alloc = rt.alloc();
-    let left: Option<(Duration, u64)> = match request.load {
+    let took: Option<Took> = match request.load {
         Load::Core => alone::core(&rt, alloc, &request),
         Load::Calls => alone::calls(&rt, alloc, &request),
         Load::Watch => alone::watch(&rt, alloc, &request),
@@ -39,8 +40,8 @@ fn main(rt: HostRuntime) -> io::Result<()> {
         Load::Apart => crowd::crowd(&rt, alloc, &request, true),
         Load::Together => crowd::crowd(&rt, alloc, &request, false),
     };
-    match left {
-        Some((took, left)) => println!(rt; "{} {left}", took.as_micros()),
+    match took {
+        Some(took) => println!(rt; "{} {}", took.time.as_micros(), took.left),
         None => println!(rt; "the load could not be run"),
     }
 }
