@@ -3,12 +3,12 @@
 #![tactic(auto)]
 
 use asset_bodies::Tx;
-use asset_cli::Device;
 use asset_jobs::do_acts;
 use asset_program::{
     JobsStop, Next, add_job, begin_jobs, do_asked, end_jobs, finish_jobs, read_arguments, requested,
 };
 use asset_runner::Plan;
+use asset_scripts::Device;
 use std::process::ExitCode;
 
 #[tactic(auto, unfolding(asset_program::specs::Doing::LeadsTo))]

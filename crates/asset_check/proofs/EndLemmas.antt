@@ -12,16 +12,16 @@ use Rattle.asset_grammar.specs.Grammar.{line_of}
 use Rattle.asset_grammar.specs.Lines.{lines}
 use Rattle.asset_grammar.specs.Texts.{line_end}
 use Rattle.asset_grammar.specs.Words.{words}
-use Rattle.asset_cli.specs.declared.ends.RunEnd.TheVariants.{Finished, BadLine}
-use Rattle.asset_cli.specs.Rendering.{end_at}
-use Rattle.asset_cli.specs.Transcript.{finished, stopped, with_prefix, joined_by, step_line, steps_transcript, object_line, objects_transcript, transcript}
+use Rattle.asset_scripts.specs.declared.ends.RunEnd.TheVariants.{Finished, BadLine}
+use Rattle.asset_scripts.specs.Renders.{end_at}
+use Rattle.asset_scripts.specs.Transcript.{finished, stopped, with_prefix, joined_by, step_line, steps_transcript, object_line, objects_transcript, transcript}
 use Rattle.asset_check.specs.Checked.{Seen, check_lines, checked, first_bad, mistake_at, mistake_in, object_mistake, seen_by, seen_object}
 use Rattle.asset_reasons.specs.declared.reasons.Reason.TheVariants.{GivenTwice}
 use Rattle.asset_check.specs.Laws.{EndsAsRun, IsQuietIfFinished, NamesFirst}
 use Rattle.asset_reasons.specs.Mistakes.{Found, is_bad, reason_of, second_word}
 use Rattle.asset_check.specs.Sentences.{mistake_line, reason_text}
 use Rattle.asset_reasons.proofs.ReasonLemmas.{has_reason_if_bad}
-use Rattle.asset_cli.specs.declared.prints.Prints.{Prints}
+use Rattle.asset_scripts.specs.declared.prints.Prints.{Prints}
 
 -- a bad line has a reason
 bad_has_reason : (line : List ℕ) → line_of line ≡ Bad → is_some (reason_of line) ≡ true

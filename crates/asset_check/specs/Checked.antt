@@ -10,8 +10,8 @@ use Rattle.asset_grammar.specs.declared.grammar.Line.TheVariants.{Blank, Command
 use Rattle.asset_grammar.specs.Grammar.{line_of}
 use Rattle.asset_grammar.specs.Lines.{lines}
 use Rattle.asset_grammar.specs.Words.{words}
-use Rattle.asset_cli.specs.Rendering.{end_at}
-use Rattle.asset_cli.specs.Transcript.{Transcript}
+use Rattle.asset_scripts.specs.Renders.{end_at}
+use Rattle.asset_scripts.specs.Transcript.{Transcript}
 use Rattle.asset_reasons.specs.declared.reasons.Reason.TheVariants.{ObjectAfterStep, GivenTwice}
 use Rattle.asset_reasons.specs.Mistakes.{Found, reason_of, second_word}
 use Rattle.asset_check.specs.Sentences.{mistake_line}

@@ -1,10 +1,10 @@
 -- What a check has to do with a run.
 use Rattle.std.specs.Prelude.{◌≡◌, ℕ, List, [], ◌++◌, codes}
 use Rattle.std.specs.Fmt.{decimal}
-use Rattle.asset_cli.specs.declared.ends.RunEnd.TheVariants.{Finished, BadLine}
-use Rattle.asset_cli.specs.Transcript.{transcript}
+use Rattle.asset_scripts.specs.declared.ends.RunEnd.TheVariants.{Finished, BadLine}
+use Rattle.asset_scripts.specs.Transcript.{transcript}
 use Rattle.asset_check.specs.Checked.{checked}
-use Rattle.asset_cli.specs.declared.prints.Prints.{Prints}
+use Rattle.asset_scripts.specs.declared.prints.Prints.{Prints}
 
 -- a check ends as a run does: with the same first bad line, or with none
 abbrev pub EndsAsRun : List ℕ → Prints → ℕ → Type 0

@@ -4,10 +4,10 @@ ghost use Rattle.asset_grammar.specs.Words.{words};
 ghost use Rattle.asset_reasons.specs.Mistakes.{Finds, second_word};
 ghost use Rattle.asset_reasons.specs.declared.reasons.Reason.TheVariants.{GivenTwice};
 
-use asset_cli::{OpeningObjects, ScriptFault};
 use asset_grammar::Said;
 use asset_names::Ob;
 use asset_reasons::{Mistake, Reason, reason_of, second_word};
+use asset_scripts::{OpeningObjects, ScriptFault};
 use std::alloc::Global;
 use std::marker::Model;
 

@@ -2,20 +2,20 @@
 ghost use Rattle.std.specs.Prelude.{◌≡◌, ℕ, ◌+◌, ◌^◌, ◌<◌, Bool, false, List, ◌∷◌, ◌++◌, Some, is_some, length, IfOk, OnOk, IfErr, string_bytes};
 ghost use Rattle.asset_grammar.specs.Grammar.{line_of};
 ghost use Rattle.asset_grammar.specs.Lines.{lines, Lacks};
-ghost use Rattle.asset_cli.specs.Device.{IsUnused};
-ghost use Rattle.asset_cli.specs.Rendering.{end_at};
-ghost use Rattle.asset_cli.specs.Runs.{WroteAll, Stops};
+ghost use Rattle.asset_scripts.specs.Device.{IsUnused};
+ghost use Rattle.asset_scripts.specs.Renders.{end_at};
+ghost use Rattle.asset_scripts.specs.Runs.{WroteAll, Stops};
 ghost use Rattle.asset_check.specs.Checked.{check_lines, checked, first_bad, mistake_at, seen_by};
 ghost use Rattle.asset_check.specs.Sentences.{mistake_line};
 ghost use Rattle.asset_check.specs.Checking.{or_this};
 ghost use Rattle.asset_check.specs.Laws.{EndsAsRun};
-ghost use Rattle.asset_cli.specs.declared.prints.Prints.{Prints};
+ghost use Rattle.asset_scripts.specs.declared.prints.Prints.{Prints};
 
 use crate::checker::Checker;
 use crate::lines::{Lines, said_of};
 use crate::texts::push_mistake;
-use asset_cli::{Device, Render, RunEnd, ScriptFault, render_all};
 use asset_names::{Step, Txn};
+use asset_scripts::{Device, Render, RunEnd, ScriptFault, render_all};
 use std::alloc::Global;
 use std::io::{Read, Write};
 
@@ -79,7 +79,7 @@ fn check_lines(
 }
 
 /// Returns how a check ends, by the number of the first bad line.
-#[tactic(auto, unfolding(asset_cli::specs::Rendering::end_at))]
+#[tactic(auto, unfolding(asset_scripts::specs::Renders::end_at))]
 fn end_at(bad: Option<u64>) -> RunEnd
     ensures { result ≡ end_at bad }
 {

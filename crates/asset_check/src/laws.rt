@@ -2,7 +2,7 @@
 ghost use Rattle.std.specs.Prelude.{ℕ, Bool, List};
 ghost use Rattle.asset_check.specs.Laws.{EndsAsRun, IsQuietIfFinished, NamesFirst};
 ghost use Rattle.asset_reasons.specs.Mistakes.{HasReasonIfBad};
-ghost use Rattle.asset_cli.specs.declared.prints.Prints.{Prints};
+ghost use Rattle.asset_scripts.specs.declared.prints.Prints.{Prints};
 
 /// A line has a reason exactly if it is bad. A check ends as a run of the same bytes does. It is silent if no line is bad, and
 /// otherwise names the line first at which the run stops.

@@ -2,7 +2,7 @@
 
 use crate::devices::{Reader, Writer, taking, whole};
 use asset_check::check_script;
-use asset_cli::{Device, RunEnd, ScriptFault};
+use asset_scripts::{Device, RunEnd, ScriptFault};
 use std::alloc::Global;
 
 /// How a check ended, which devices failed, how many bytes of the wanted text were not written, and whether those that were

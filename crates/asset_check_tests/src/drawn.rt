@@ -2,7 +2,8 @@
 //! the run stops.
 
 use asset_check::check_script;
-use asset_cli::{Device, RunEnd, ScriptFault, run_script};
+use asset_cli::run_script;
+use asset_scripts::{Device, RunEnd, ScriptFault};
 use asset_test_tools::next;
 use std::alloc::{AllocError, Global};
 use std::io;

@@ -1,7 +1,7 @@
 //! The example script with mistakes, and what a check of it prints, as the folder `examples` has them.
 
 use crate::checks::gives;
-use asset_cli::RunEnd;
+use asset_scripts::RunEnd;
 
 /// The script `mistakes.asset`.
 const MISTAKES: &str = "\

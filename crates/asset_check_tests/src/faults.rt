@@ -2,7 +2,7 @@
 
 use crate::checks::{Left, check, is_stopped, is_whole};
 use crate::devices::{Reader, Writer, taking, whole};
-use asset_cli::{RunEnd, ScriptFault};
+use asset_scripts::{RunEnd, ScriptFault};
 use std::alloc::Global;
 
 /// A script with two bad lines.

@@ -2,7 +2,7 @@
 
 use crate::checks::{check, gives, is_whole};
 use crate::devices::{Reader, taking};
-use asset_cli::RunEnd;
+use asset_scripts::RunEnd;
 use std::alloc::Global;
 
 /// Lines with what is printed of each if it is the only one.

@@ -1,7 +1,7 @@
 //! Whole scripts: what a line said before counts, if it was good.
 
 use crate::checks::gives;
-use asset_cli::RunEnd;
+use asset_scripts::RunEnd;
 
 /// Scripts, with what is printed of each and how the check of it ends.
 const ROWS: [(&[u8], &str, RunEnd); 8] = [

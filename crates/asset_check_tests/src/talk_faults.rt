@@ -2,7 +2,7 @@
 
 use crate::devices::{Reader, Writer, taking, whole};
 use crate::talks::{Left, is_whole, talk};
-use asset_cli::{RunEnd, ScriptFault};
+use asset_scripts::{RunEnd, ScriptFault};
 use std::alloc::Global;
 
 /// A conversation with two bad lines.

@@ -2,7 +2,7 @@
 
 use crate::devices::{Reader, taking};
 use crate::talks::{is_whole, talk};
-use asset_cli::RunEnd;
+use asset_scripts::RunEnd;
 use std::alloc::Global;
 
 /// A conversation: what comes, what is replied, the reasons of bad lines, and how it ends.

@@ -3,7 +3,7 @@
 ghost use Rattle.asset_core.specs.OpenFaults.{IsCapacity};
 
 use crate::devices::{Reader, Writer};
-use asset_cli::{Device, RunEnd, ScriptFault};
+use asset_scripts::{Device, RunEnd, ScriptFault};
 use asset_shell::run_shell;
 use std::alloc::Global;
 

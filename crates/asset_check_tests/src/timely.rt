@@ -1,6 +1,6 @@
 //! A reader that looks, whenever it is asked, whether the replies to all lines so far were written.
 
-use asset_cli::Device;
+use asset_scripts::Device;
 use asset_shell::run_shell;
 use std::alloc::Global;
 use std::cell::Cell;

@@ -23,12 +23,12 @@ use Rattle.asset_printing.specs.Printed.{object_text, step_text}
 use Rattle.asset_printing.proofs.PlainLemmas.{object_one_line, step_one_line}
 use Rattle.asset_printing.proofs.SaidLemmas.{object_said, step_said}
 use Rattle.asset_reports.specs.Reports.{opening_line, opening_text, steps_text, history_text}
-use Rattle.asset_cli.specs.Transcript.{Transcript, finished, with_prefix, answered_text, printed, joined_by, step_line, steps_transcript, object_line, objects_transcript, transcript}
+use Rattle.asset_scripts.specs.Transcript.{Transcript, finished, with_prefix, answered_text, printed, joined_by, step_line, steps_transcript, object_line, objects_transcript, transcript}
+use Rattle.asset_scripts.proofs.OpeningLemmas.{exists_listed}
+use Rattle.asset_scripts.proofs.PreambleLemmas.{object_taken}
+use Rattle.asset_scripts.specs.declared.prints.Prints.TheVariants.{Replies}
 use Rattle.asset_cli.specs.Again.{FitThroughout, RunsAgain, replayed, replies_text}
-use Rattle.asset_cli.proofs.OpeningLemmas.{exists_listed}
-use Rattle.asset_cli.proofs.PreambleLemmas.{object_taken}
 use Rattle.asset_cli.proofs.WritableLemmas.{EntriesWritable, OpeningWritable}
-use Rattle.asset_cli.specs.declared.prints.Prints.TheVariants.{Replies}
 
 -- an object that is listed is counted
 counted_if_listed : (opening : Opening) (x : ℕ) → list_any (λ (pair : Ob × ℤ). eqb pair.0.0 x) opening ≡ true → 0 < count_by (λ m. m == x) (objects_of opening)

@@ -15,11 +15,11 @@ use Rattle.asset_grammar.specs.Grammar.{line_of}
 use Rattle.asset_grammar.specs.Lines.{lines}
 use Rattle.asset_grammar.specs.Writable.{IsWritable}
 use Rattle.asset_grammar.proofs.ParsedLemmas.{asked_writable, object_writable}
-use Rattle.asset_cli.specs.Transcript.{finished, stopped, with_prefix, joined_by, step_line, steps_transcript, object_line, objects_transcript, transcript}
+use Rattle.asset_scripts.specs.Transcript.{finished, stopped, with_prefix, joined_by, step_line, steps_transcript, object_line, objects_transcript, transcript}
+use Rattle.asset_scripts.proofs.OpeningLemmas.{no_double_more}
+use Rattle.asset_scripts.specs.declared.prints.Prints.{Prints}
 use Rattle.asset_cli.specs.Again.{FitThroughout}
-use Rattle.asset_cli.proofs.OpeningLemmas.{no_double_more}
 use Rattle.asset_cli.proofs.WritableLemmas.{EntriesWritable, OpeningWritable, opening_push}
-use Rattle.asset_cli.specs.declared.prints.Prints.{Prints}
 
 pub record IsSound (h : Recorded) : Type 0 where
   pub written : OpeningWritable h.opening

@@ -1,8 +1,4 @@
-pub mod TransferLemmas
 pub mod TranscriptLemmas
-pub mod OpeningLemmas
-pub mod PreambleLemmas
-pub mod RunLemmas
 pub mod ReportingLemmas
 pub mod WritableLemmas
 pub mod AgainLemmas

@@ -1,7 +1,7 @@
 -- Columns of a listing.
 use Rattle.std.proofs.Common.{◌≡◌, ℕ, ◌-◌, List, [], ◌∷◌, ◌++◌, length, replicate, ◌∙◌, append_assoc, arith}
 use Rattle.std.proofs.lemmas.List.{length-append}
-use Rattle.asset_cli.specs.Listing.{column}
+use Rattle.asset_scripts.specs.Listing.{column}
 
 -- a word is pushed, and then the spaces that end its column
 pub column_pushed : (before word mid after : List ℕ) (width start : ℕ) → start ≡ length before → mid ≡ before ++ word

@@ -17,15 +17,15 @@ use Rattle.asset_grammar.specs.declared.grammar.Line.TheVariants.{Blank, Command
 use Rattle.asset_grammar.specs.Grammar.{line_of}
 use Rattle.asset_grammar.specs.Lines.{lines}
 use Rattle.asset_reports.specs.Reports.{pruned_text, serial_text}
-use Rattle.asset_cli.specs.declared.ends.RunEnd.{RunEnd}
-use Rattle.asset_cli.specs.declared.ends.RunEnd.TheVariants.{Finished, BadLine, Shared}
-use Rattle.asset_cli.specs.Transcript.{Transcript, finished, stopped, with_prefix, answered_text, full_text, printed, joined_by, step_line, steps_transcript, object_line, objects_transcript, transcript}
+use Rattle.asset_scripts.specs.declared.ends.RunEnd.{RunEnd}
+use Rattle.asset_scripts.specs.declared.ends.RunEnd.TheVariants.{Finished, BadLine, Shared}
+use Rattle.asset_scripts.specs.Transcript.{Transcript, finished, stopped, with_prefix, answered_text, full_text, printed, joined_by, step_line, steps_transcript, object_line, objects_transcript, transcript}
+use Rattle.asset_scripts.specs.declared.prints.Prints.TheVariants.{Nothing}
 use Rattle.asset_cli.specs.Reporting.{Reported, pruned, reported, serialized, with_report}
 use Rattle.asset_cli.specs.Again.{RunsAgain, PrunedRunsAgain, SerialRunsAgain}
 use Rattle.asset_cli.proofs.AgainLemmas.{history_again}
 use Rattle.asset_cli.proofs.LeftLemmas.{left_sound}
 use Rattle.asset_cli.proofs.WritableLemmas.{serial_writable, without_writable}
-use Rattle.asset_cli.specs.declared.prints.Prints.TheVariants.{Nothing}
 
 -- a run that prints nothing and looks at every line has no text
 abbrev IsQuiet : Transcript → Type 0

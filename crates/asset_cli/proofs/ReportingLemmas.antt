@@ -1,13 +1,14 @@
 -- A report after what was played.
 use Rattle.std.proofs.Common.{◌≡◌, ℕ, List, ◌++◌, refl, sym, append_assoc}
 use Rattle.asset_entries.specs.Recorded.{Recorded}
-use Rattle.asset_cli.specs.declared.ends.RunEnd.{RunEnd}
-use Rattle.asset_cli.specs.declared.ends.RunEnd.TheVariants as RunEnd'
+use Rattle.asset_scripts.specs.declared.ends.RunEnd.{RunEnd}
+use Rattle.asset_scripts.specs.declared.ends.RunEnd.TheVariants as RunEnd'
+use Rattle.asset_scripts.specs.Transcript.{Transcript, transcript}
+use Rattle.asset_scripts.specs.Renders.{Renders}
+use Rattle.asset_scripts.specs.declared.prints.Prints.TheVariants.{Nothing}
 use Rattle.asset_cli.specs.declared.rendering.Played.TheVariants as Played'
-use Rattle.asset_cli.specs.Transcript.{Transcript, transcript}
-use Rattle.asset_cli.specs.Rendering.{IsLeftBy, Plays, Renders}
+use Rattle.asset_cli.specs.Rendering.{IsLeftBy, Plays}
 use Rattle.asset_cli.specs.Reporting.{Reported, with_report, reported}
-use Rattle.asset_cli.specs.declared.prints.Prints.TheVariants.{Nothing}
 
 -- every line was looked at, and the report follows
 report_renders : (before mid after : List ℕ) (report : Recorded → Reported) (bytes : List ℕ) (capacity : ℕ) (left : Recorded) (end : RunEnd) → mid ≡ before ++ (transcript Nothing bytes capacity).text

@@ -6,13 +6,14 @@ use Rattle.asset_names.specs.declared.steps.Step.{Step}
 use Rattle.asset_entries.specs.Recorded.{Recorded, answer_to}
 use Rattle.asset_grammar.specs.declared.grammar.Command.TheVariants.{Object, Ask}
 use Rattle.asset_grammar.specs.declared.grammar.Line.TheVariants.{Blank, Command, Bad}
-use Rattle.asset_cli.specs.declared.ends.RunEnd.{RunEnd}
+use Rattle.asset_scripts.specs.declared.ends.RunEnd.{RunEnd}
 use Rattle.asset_grammar.specs.Grammar.{line_of}
 use Rattle.asset_grammar.specs.Texts.{bad_line}
-use Rattle.asset_cli.specs.Transcript.{Transcript, joined_by, steps_from, steps_transcript, step_line, printed, with_prefix, finished, stopped}
+use Rattle.asset_scripts.specs.Transcript.{Transcript, joined_by, steps_from, steps_transcript, step_line, printed, with_prefix, finished, stopped}
+use Rattle.asset_scripts.specs.Renders.{end_at}
+use Rattle.asset_scripts.specs.declared.prints.Prints.{Prints}
 use Rattle.asset_cli.specs.declared.rendering.Played.TheVariants as Played'
-use Rattle.asset_cli.specs.Rendering.{GoesOn, Ends, IsLeftBy, Plays, end_at, played_of}
-use Rattle.asset_cli.specs.declared.prints.Prints.{Prints}
+use Rattle.asset_cli.specs.Rendering.{GoesOn, Ends, IsLeftBy, Plays, played_of}
 
 pub blank_goes_on : (prints : Prints) (before line : List ℕ) (more : List (List ℕ)) (n : ℕ) (h : Recorded) → line_of line ≡ Blank
     → GoesOn before (steps_transcript prints (line ∷ more) n h) before (steps_transcript prints more (n + 1) h)

@@ -7,10 +7,10 @@ use Rattle.asset_entries.specs.Recorded.{Recorded}
 use Rattle.asset_history.specs.Named.{names_of}
 use Rattle.asset_laws.specs.Serial.{serial}
 use Rattle.asset_grammar.specs.Texts.{reply_line}
-use Rattle.asset_cli.specs.declared.ends.RunEnd.TheVariants.{Finished}
-use Rattle.asset_cli.specs.Transcript.{Transcript, transcript}
+use Rattle.asset_scripts.specs.declared.ends.RunEnd.TheVariants.{Finished}
+use Rattle.asset_scripts.specs.Transcript.{Transcript, transcript}
+use Rattle.asset_scripts.specs.declared.prints.Prints.TheVariants.{Nothing, Replies}
 use Rattle.asset_cli.specs.Reporting.{pruned, reported, serialized}
-use Rattle.asset_cli.specs.declared.prints.Prints.TheVariants.{Nothing, Replies}
 
 -- the lines of the replies of entries, oldest first
 unfoldable pub replies_text : List Entry → List ℕ

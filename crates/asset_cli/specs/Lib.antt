@@ -1,10 +1,4 @@
-pub mod Device
-pub mod Transfers
-pub mod Listing
-pub mod Transcript
 pub mod Rendering
 pub mod Playing
-pub mod Preamble
-pub mod Runs
 pub mod Reporting
 pub mod Again

@@ -1,6 +1,6 @@
 -- What the steps of a script print.
-use Rattle.asset_cli.specs.declared.prints.Prints.{Prints}
-use Rattle.asset_cli.specs.declared.prints.Prints.TheVariants.{Nothing, Replies, Listing}
+use Rattle.asset_scripts.specs.declared.prints.Prints.{Prints}
+use Rattle.asset_scripts.specs.declared.prints.Prints.TheVariants.{Nothing, Replies, Listing}
 use Rattle.asset_cli.specs.declared.reporting.Work.{Work}
 use Rattle.asset_cli.specs.declared.reporting.Work.TheVariants as Work'
 

@@ -1,22 +1,17 @@
 -- How a text grows towards a transcript, and what is left when it ends.
 use Rattle.std.specs.Prelude.{◌≡◌, ℕ, List, ◌++◌, Option, None, Some}
 use Rattle.asset_entries.specs.Recorded.{Recorded}
-use Rattle.asset_cli.specs.declared.ends.RunEnd.{RunEnd}
-use Rattle.asset_cli.specs.declared.ends.RunEnd.TheVariants as RunEnd'
+use Rattle.asset_scripts.specs.declared.ends.RunEnd.{RunEnd}
+use Rattle.asset_scripts.specs.declared.ends.RunEnd.TheVariants as RunEnd'
+use Rattle.asset_scripts.specs.Transcript.{Transcript}
 use Rattle.asset_cli.specs.declared.rendering.Played.{Played}
 use Rattle.asset_cli.specs.declared.rendering.Played.TheVariants as Played'
-use Rattle.asset_cli.specs.Transcript.{Transcript}
 
 -- the text after, with the rest of the transcript, is the text before with all of it
 pub record GoesOn (before : List ℕ) (all : Transcript) (after : List ℕ) (rest : Transcript) : Type 0 where
   pub text : before ++ all.text ≡ after ++ rest.text
   pub end : all.end ≡ rest.end
   pub history : all.history ≡ rest.history
-
--- how a run ends, by the number of the bad line at which it does, if there is one
-unfoldable pub end_at : Option ℕ → RunEnd
-end_at None = RunEnd'.Finished
-end_at (Some n) = RunEnd'.BadLine n
 
 -- what is left when the steps end
 unfoldable pub played_of : Recorded → Option ℕ → Played
@@ -38,8 +33,3 @@ IsLeftBy all (Played'.BadLine n) = all.end ≡ RunEnd'.BadLine n
 pub record Plays (before : List ℕ) (all : Transcript) (after : List ℕ) (played : Played) : Type 0 where
   pub text : after ≡ before ++ all.text
   pub left : IsLeftBy all played
-
--- the text after is the text before with all of the transcript, which ends so
-pub record Renders (before : List ℕ) (all : Transcript) (after : List ℕ) (end : RunEnd) : Type 0 where
-  pub text : after ≡ before ++ all.text
-  pub ends : end ≡ all.end

@@ -6,14 +6,14 @@ use Rattle.asset_reports.specs.Reports.{pruned_text, serial_text}
 use Rattle.asset_reports.specs.Groups.{groups_text}
 use Rattle.asset_reports.specs.Sources.{sources_text}
 use Rattle.asset_picture.specs.Picture.{picture_text}
-use Rattle.asset_cli.specs.declared.ends.RunEnd.{RunEnd}
-use Rattle.asset_cli.specs.declared.ends.RunEnd.TheVariants.{Finished, Shared}
+use Rattle.asset_scripts.specs.declared.ends.RunEnd.{RunEnd}
+use Rattle.asset_scripts.specs.declared.ends.RunEnd.TheVariants.{Finished, Shared}
+use Rattle.asset_scripts.specs.Transcript.{Transcript, transcript}
+use Rattle.asset_scripts.specs.declared.prints.Prints.TheVariants.{Nothing, Replies, Listing}
 use Rattle.asset_cli.specs.declared.reporting.Report.{Report}
 use Rattle.asset_cli.specs.declared.reporting.Report.TheVariants as Report'
 use Rattle.asset_cli.specs.declared.reporting.Work.{Work}
 use Rattle.asset_cli.specs.declared.reporting.Work.TheVariants as Work'
-use Rattle.asset_cli.specs.Transcript.{Transcript, transcript}
-use Rattle.asset_cli.specs.declared.prints.Prints.TheVariants.{Nothing, Replies, Listing}
 
 -- the text of a report, and how a run ends with it
 pub record Reported : Type 0 where

@@ -1,7 +1,7 @@
 //! The lines of a listing: a script's steps with their replies beside them.
 ghost use Rattle.std.specs.Prelude.{◌≡◌, ◌+◌, ◌-◌, ◌≤◌, ◌++◌, ◌∷◌, [], ℕ, List, length, OnOk, replicate, string_bytes};
 ghost use Rattle.std.specs.Fmt.{decimal};
-ghost use Rattle.asset_cli.specs.Listing.{column, entry_of, entry_word, listed};
+ghost use Rattle.asset_scripts.specs.Listing.{column, entry_of, entry_word, listed};
 ghost use Rattle.asset_printing.specs.Printed.{step_text};
 
 use asset_names::{Outcome, Step};
@@ -15,7 +15,7 @@ const NUMBER_WIDTH: usize = 7;
 const STEP_WIDTH: usize = 31;
 
 /// Returns the number of the entry that a step with this outcome becomes, if the next one has the number `place`.
-#[tactic(auto, unfolding(crate::specs::Listing::entry_of))]
+#[tactic(auto, unfolding(asset_scripts::specs::Listing::entry_of))]
 pub(crate) fn entry_of(outcome: Outcome, place: usize) -> Option<usize>
     ensures { result ≡ entry_of outcome place }
 {
@@ -57,7 +57,7 @@ fn push_number(text: &mut String, number: u64) -> Result<(), AllocError>
 }
 
 /// Appends the number of an entry in a column, or a dash if there is none.
-#[tactic(auto, unfolding(crate::specs::Listing::entry_word), using(crate::proofs::ListingLemmas::column_pushed))]
+#[tactic(auto, unfolding(asset_scripts::specs::Listing::entry_word), using(crate::proofs::ListingLemmas::column_pushed))]
 fn push_entry(text: &mut String, entry: Option<usize>) -> Result<(), AllocError>
     ensures { OnOk result (string_bytes text.new ≡ string_bytes text.old ++ column 7 (entry_word entry)) }
 {
@@ -85,7 +85,7 @@ fn push_step_column(text: &mut String, step: &Step) -> Result<(), AllocError>
 
 /// Appends the line of a step in a listing up to its reply: the number of its line, the number of its entry if it becomes one, and the
 /// step.
-#[tactic(auto, unfolding(crate::specs::Listing::listed))]
+#[tactic(auto, unfolding(asset_scripts::specs::Listing::listed))]
 pub(crate) fn push_columns(
     text: &mut String,
     number: u64,

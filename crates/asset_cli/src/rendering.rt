@@ -6,22 +6,20 @@ ghost use Rattle.asset_entries.specs.Recorded.{answer_to};
 ghost use Rattle.asset_core.specs.OpenFaults.{objects_of};
 ghost use Rattle.asset_core.specs.OpenFaults.{IsCapacity};
 ghost use Rattle.asset_grammar.specs.Grammar.{line_of, said_as};
-ghost use Rattle.asset_cli.specs.Transfers.{input_limit};
-ghost use Rattle.asset_cli.specs.Transcript.{answered_text, full_text, printed, joined_by, steps_from, steps_transcript, transcript};
-ghost use Rattle.asset_cli.specs.Rendering.{GoesOn, Ends, Plays, end_at, played_of};
-ghost use Rattle.asset_cli.specs.Preamble.{transcript_from};
+ghost use Rattle.asset_scripts.specs.Transfers.{input_limit};
+ghost use Rattle.asset_scripts.specs.Transcript.{answered_text, full_text, printed, joined_by, steps_from, steps_transcript, transcript};
+ghost use Rattle.asset_scripts.specs.Renders.{end_at};
+ghost use Rattle.asset_scripts.specs.Preamble.{transcript_from};
+ghost use Rattle.asset_cli.specs.Rendering.{GoesOn, Ends, Plays, played_of};
 ghost use Rattle.asset_cli.specs.Playing.{prints_for};
 
-use crate::faults::ScriptFault;
 use crate::listing::{entry_of, push_columns};
-use crate::opening_objects::OpeningObjects;
-use crate::preamble::{ObjectLine, Preamble, take_objects};
-use crate::prints::Prints;
 use crate::reporting::Work;
 use asset_core::Core;
 use asset_grammar::{Said, ScriptLines, push_bad_line, push_full, push_outcome};
 use asset_history::History;
 use asset_names::{Fault, Ob, Outcome, Step};
+use asset_scripts::{ObjectLine, OpeningObjects, Preamble, Prints, ScriptFault, take_objects};
 use std::alloc::{AllocError, Global};
 
 /// What is left of a script that was played.
@@ -46,7 +44,7 @@ fn end_play(history: History, bad: Option<u64>) -> Played
 
 /// Appends what a step on the line `number` prints that is answered. The next entry has the number `place`.
 #[inline(always)]
-#[tactic(auto, unfolding(crate::specs::Transcript::answered_text, crate::specs::Listing::entry_of))]
+#[tactic(auto, unfolding(asset_scripts::specs::Transcript::answered_text, asset_scripts::specs::Listing::entry_of))]
 fn push_answered(
     text: &mut String,
     prints: Prints,
@@ -68,7 +66,7 @@ fn push_answered(
 }
 
 /// Appends what a step on the line `number` prints for which there is no room.
-#[tactic(auto, unfolding(crate::specs::Transcript::full_text))]
+#[tactic(auto, unfolding(asset_scripts::specs::Transcript::full_text))]
 fn push_unanswered(
     text: &mut String,
     prints: Prints,
@@ -89,7 +87,7 @@ fn push_unanswered(
 
 /// Asks one step on the line `number`, and appends what it prints to the text.
 #[inline(always)]
-#[tactic(auto, unfolding(crate::specs::Transcript::printed, crate::specs::Transcript::joined_by))]
+#[tactic(auto, unfolding(asset_scripts::specs::Transcript::printed, asset_scripts::specs::Transcript::joined_by))]
 fn ask(
     core: &mut Core,
     text: &mut String,

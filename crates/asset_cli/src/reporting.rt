@@ -1,22 +1,19 @@
 //! What scripts are run for: their transcript, or a report on the history that they leave.
 ghost use Rattle.std.specs.Prelude.{◌≡◌, true, cond, ◌++◌, ◌≤◌, length, OnOk, IfOk, IfErr, string_bytes};
 ghost use Rattle.asset_core.specs.OpenFaults.{IsCapacity};
-ghost use Rattle.asset_cli.specs.Transfers.{input_limit};
-ghost use Rattle.asset_cli.specs.declared.prints.Prints.TheVariants.{Replies, Listing};
-ghost use Rattle.asset_cli.specs.Transcript.{transcript};
-ghost use Rattle.asset_cli.specs.Rendering.{Renders};
+ghost use Rattle.asset_scripts.specs.Transfers.{input_limit};
+ghost use Rattle.asset_scripts.specs.declared.prints.Prints.TheVariants.{Replies, Listing};
+ghost use Rattle.asset_scripts.specs.Transcript.{transcript};
+ghost use Rattle.asset_scripts.specs.Renders.{Renders};
 ghost use Rattle.asset_cli.specs.Playing.{prints_for};
 ghost use Rattle.asset_cli.specs.Reporting.{report_of, reported, sourced};
 
-use crate::ends::RunEnd;
-use crate::faults::ScriptFault;
-use crate::prints::Prints;
 use crate::rendering::{Played, play};
-use crate::transfer::Render;
 use asset_history::History;
 use asset_names::NoMemory;
 use asset_picture::push_picture;
 use asset_reports::{push_groups, push_pruned, push_serial, push_sources};
+use asset_scripts::{Prints, Render, RunEnd, ScriptFault};
 use asset_sources::Trace;
 use std::alloc::Global;
 

@@ -1,18 +1,15 @@
 //! Runs scripts, each for a work.
 ghost use Rattle.std.specs.Prelude.{◌≡◌, ℕ, true, false, List, OnOk, IfOk, IfErr};
 ghost use Rattle.asset_core.specs.OpenFaults.{IsCapacity};
-ghost use Rattle.asset_cli.specs.Device.{IsUnused};
-ghost use Rattle.asset_cli.specs.declared.prints.Prints.TheVariants.{Replies, Listing};
-ghost use Rattle.asset_cli.specs.Transcript.{transcript};
+ghost use Rattle.asset_scripts.specs.Device.{IsUnused};
+ghost use Rattle.asset_scripts.specs.declared.prints.Prints.TheVariants.{Replies, Listing};
+ghost use Rattle.asset_scripts.specs.Transcript.{transcript};
+ghost use Rattle.asset_scripts.specs.Runs.{WroteAll, Stops};
 ghost use Rattle.asset_cli.specs.Reporting.{grouped, pictured, pruned, reported, serialized, sourced, transcript_of};
-ghost use Rattle.asset_cli.specs.Runs.{WroteAll, Stops};
 ghost use Rattle.asset_cli.specs.Again.{PrunedRunsAgain, SerialRunsAgain};
 
-use crate::device::Device;
-use crate::ends::RunEnd;
-use crate::faults::ScriptFault;
 use crate::reporting::{Report, Run, Work};
-use crate::transfer::render_all;
+use asset_scripts::{Device, RunEnd, ScriptFault, render_all};
 use std::alloc::Global;
 use std::io::{Read, Write};
 

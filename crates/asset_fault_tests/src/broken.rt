@@ -2,7 +2,8 @@
 
 use crate::devices::{Reader, taking};
 use crate::scripts::{Left, WORDS, is_stopped, is_whole, run};
-use asset_cli::{RunEnd, ScriptFault, Work};
+use asset_cli::Work;
+use asset_scripts::{RunEnd, ScriptFault};
 use std::alloc::Global;
 
 /// Returns a reader that gives `comment` times `#`, and then these bytes.

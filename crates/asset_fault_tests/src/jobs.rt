@@ -1,9 +1,9 @@
 //! Job scripts and how they ended, while a request for memory is refused or a device fails.
 
 use crate::devices::{Reader, Writer, taking, whole};
-use asset_cli::{Device, ScriptFault};
 use asset_jobs::{JobAct, JobScript, JobText, JobsFault, read_jobs, write_jobs};
 use asset_names::{Counts, Ob, Txn};
+use asset_scripts::{Device, ScriptFault};
 use std::alloc::Global;
 
 /// Two jobs over two objects, of which one gives up.

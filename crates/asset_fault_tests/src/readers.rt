@@ -5,7 +5,8 @@ ghost use Rattle.std.specs.Prelude.{◌<◌};
 use crate::devices::{Reader, taking};
 use crate::rows::{ONE, ROWS};
 use crate::scripts::{Left, WORDS, is_stopped, is_whole, run};
-use asset_cli::{Report, RunEnd, ScriptFault, Work};
+use asset_cli::{Report, Work};
+use asset_scripts::{RunEnd, ScriptFault};
 use std::alloc::Global;
 
 /// A text that no run writes.

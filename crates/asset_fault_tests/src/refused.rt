@@ -6,7 +6,7 @@ ghost use Rattle.std.specs.Prelude.{◌<◌};
 use crate::devices::{taking, whole};
 use crate::rows::{ROWS, Row};
 use crate::scripts::{Left, WORDS, is_stopped, is_whole, run};
-use asset_cli::ScriptFault;
+use asset_scripts::ScriptFault;
 use std::alloc::Global;
 
 /// Runs the script of a row for a word.

@@ -1,6 +1,6 @@
 //! Scripts that have every step among them, and what each word writes of them.
 
-use asset_cli::RunEnd;
+use asset_scripts::RunEnd;
 
 /// A script, and what each word writes of it and how that ends, in the order of `WORDS`.
 #[derive(Clone, Copy)]

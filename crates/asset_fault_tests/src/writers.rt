@@ -5,7 +5,8 @@ ghost use Rattle.std.specs.Prelude.{◌<◌};
 use crate::devices::{Writer, whole};
 use crate::rows::{ROWS, Row};
 use crate::scripts::{Left, WORDS, is_stopped, is_whole, run};
-use asset_cli::{RunEnd, ScriptFault, Work};
+use asset_cli::Work;
+use asset_scripts::{RunEnd, ScriptFault};
 use std::alloc::Global;
 
 /// Returns a writer that takes `piece` bytes at a time, for `calls` times.

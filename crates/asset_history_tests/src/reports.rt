@@ -1,6 +1,6 @@
 //! Reports on what a script leaves: the pruned script, the groups, the sources, and those who committed, one after another.
 use crate::memory::{Call, expect, expect_report, expect_report_at_once};
-use asset_cli::RunEnd;
+use asset_scripts::RunEnd;
 use std::test::Fail;
 
 /// A refused permit joins 7, which commits, with 9, which aborted.

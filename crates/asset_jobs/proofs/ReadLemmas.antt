@@ -1,11 +1,11 @@
 -- Why no script was read, and why a text was not written.
 use Rattle.std.proofs.Common.{◌≡◌, ℕ, true, List, Ok, Err}
 use Rattle.std.specs.Prelude.{Option, Result, IfErr, OnErr}
-use Rattle.asset_cli.specs.Device.{DeviceState}
-use Rattle.asset_cli.specs.Transfers.{TookPrefix}
-use Rattle.asset_cli.specs.Runs.{GaveAll}
-use Rattle.asset_cli.specs.declared.faults.ScriptFault.{ScriptFault}
-use Rattle.asset_cli.specs.declared.faults.ScriptFault.TheVariants as ScriptFault'
+use Rattle.asset_scripts.specs.Device.{DeviceState}
+use Rattle.asset_scripts.specs.Transfers.{TookPrefix}
+use Rattle.asset_scripts.specs.Runs.{GaveAll}
+use Rattle.asset_scripts.specs.declared.faults.ScriptFault.{ScriptFault}
+use Rattle.asset_scripts.specs.declared.faults.ScriptFault.TheVariants as ScriptFault'
 use Rattle.asset_jobs.specs.declared.faults.JobsFault.{JobsFault}
 use Rattle.asset_jobs.specs.declared.faults.JobsFault.TheVariants.{BadLine, Read, NoMemory}
 use Rattle.asset_jobs.specs.declared.scripts.JobScript.{JobScript}

@@ -1,10 +1,10 @@
 -- What reading a job script comes to.
 use Rattle.std.specs.Prelude.{◌≡◌, ℕ, true, List, Option, Result, Err}
-use Rattle.asset_cli.specs.Device.{DeviceState}
-use Rattle.asset_cli.specs.Transfers.{IsReadFault, TookPrefix}
-use Rattle.asset_cli.specs.Runs.{GaveAll}
-use Rattle.asset_cli.specs.declared.faults.ScriptFault.{ScriptFault}
-use Rattle.asset_cli.specs.declared.faults.ScriptFault.TheVariants as ScriptFault'
+use Rattle.asset_scripts.specs.Device.{DeviceState}
+use Rattle.asset_scripts.specs.Transfers.{IsReadFault, TookPrefix}
+use Rattle.asset_scripts.specs.Runs.{GaveAll}
+use Rattle.asset_scripts.specs.declared.faults.ScriptFault.{ScriptFault}
+use Rattle.asset_scripts.specs.declared.faults.ScriptFault.TheVariants as ScriptFault'
 use Rattle.asset_jobs.specs.declared.faults.JobsFault.{JobsFault}
 use Rattle.asset_jobs.specs.declared.faults.JobsFault.TheVariants.{BadLine, Read, NoMemory}
 use Rattle.asset_jobs.specs.Jobs.{Script, jobs_of}

@@ -1,7 +1,7 @@
 //! Takes the lines of a job script.
 
 ghost use Rattle.std.specs.Prelude.{◌≡◌, ◌+◌, ◌^◌, ◌<◌, ◌≤◌, cond, None, Some, Ok, length, IfOk, IfErr};
-ghost use Rattle.asset_cli.specs.Transfers.{input_limit};
+ghost use Rattle.asset_scripts.specs.Transfers.{input_limit};
 ghost use Rattle.asset_grammar.specs.Lines.{lines};
 ghost use Rattle.asset_jobs.specs.Jobs.{empty, jobs_of, said_from, with_line};
 ghost use Rattle.asset_jobs.specs.Reads.{FailsToSay};
@@ -10,9 +10,9 @@ ghost use Rattle.asset_jobs.specs.Scripts.{said_at, script_of, so_far};
 use crate::drafts::Draft;
 use crate::faults::JobsFault;
 use crate::scripts::JobScript;
-use asset_cli::OpeningObjects;
 use asset_grammar::{JobLine, ScriptLines};
 use asset_names::{NoMemory, Ob};
+use asset_scripts::OpeningObjects;
 use std::alloc::Global;
 
 /// Adds an object to the opening, if there is no job yet and it is not there. Returns whether it was added.

@@ -1,14 +1,14 @@
 //! Reads a job script.
 
 ghost use Rattle.std.specs.Prelude.{◌≡◌, false, Ok, IfErr, IfOk, OnOk};
-ghost use Rattle.asset_cli.specs.Device.{IsUnused};
+ghost use Rattle.asset_scripts.specs.Device.{IsUnused};
 ghost use Rattle.asset_jobs.specs.Reads.{FailsToRead, GaveScript};
 ghost use Rattle.asset_jobs.specs.Scripts.{script_of};
 
 use crate::faults::JobsFault;
 use crate::parsing::parse_jobs;
 use crate::scripts::JobScript;
-use asset_cli::{Device, ScriptFault, read_all};
+use asset_scripts::{Device, ScriptFault, read_all};
 use std::alloc::Global;
 use std::io::Read;
 

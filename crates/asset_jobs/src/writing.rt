@@ -7,8 +7,8 @@ ghost use Rattle.asset_jobs.specs.Texts.{jobs_text};
 
 use crate::rows::{JobText, push_jobs};
 use asset_audit::AuditFault;
-use asset_cli::{Device, ScriptFault, write_all};
 use asset_names::{Counts, Txn};
+use asset_scripts::{Device, ScriptFault, write_all};
 use std::alloc::Global;
 use std::io::Write;
 

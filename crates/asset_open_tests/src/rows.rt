@@ -1,7 +1,8 @@
 //! The worked rows of open permits, by every word.
 
 use crate::words::{first_other_work, writes};
-use asset_cli::{Report, RunEnd, Work};
+use asset_cli::{Report, Work};
+use asset_scripts::RunEnd;
 use std::test::Fail;
 
 /// What 7 writes is open to readers, until 7 aborts. Nobody may write it.

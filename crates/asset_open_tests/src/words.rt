@@ -1,7 +1,8 @@
 //! Scripts that are run for each word.
 ghost use Rattle.asset_core.specs.OpenFaults.{IsCapacity};
 
-use asset_cli::{Device, RunEnd, ScriptFault, Work, run_for};
+use asset_cli::{Work, run_for};
+use asset_scripts::{Device, RunEnd, ScriptFault};
 use std::alloc::Global;
 
 /// The capacity of the history.

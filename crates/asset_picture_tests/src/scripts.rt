@@ -1,5 +1,6 @@
 //! Pictures of what scripts leave.
-use asset_cli::{Device, RunEnd, ScriptFault, picture_script};
+use asset_cli::picture_script;
+use asset_scripts::{Device, RunEnd, ScriptFault};
 use std::alloc::Global;
 use std::test::Fail;
 

@@ -2,8 +2,8 @@
 use Rattle.std.proofs.Common.{◌≡◌, ℕ, List, [], refl, inr}
 use Rattle.std.specs.Prelude.{Option}
 use Rattle.std.proofs.KnownBytes.{Appends-nil}
-use Rattle.asset_cli.specs.Device.{DeviceState}
-use Rattle.asset_cli.specs.Transfers.{TookPrefix}
+use Rattle.asset_scripts.specs.Device.{DeviceState}
+use Rattle.asset_scripts.specs.Transfers.{TookPrefix}
 use Rattle.asset_program.specs.declared.jobs_end.JobsStop.{JobsStop}
 use Rattle.asset_program.specs.declared.jobs_end.JobsStop.TheVariants.{BadLine, Read, Write, NoMemory, OutOfRange, InUse}
 use Rattle.asset_grammar.specs.Texts.{bad_line}

@@ -3,8 +3,8 @@ use Rattle.std.proofs.Common.{ℕ, List, [], sym}
 use Rattle.std.specs.Prelude.{Option, Result, Ok, Err, OnOk, OnErr}
 use Rattle.std.specs.Io.KnownBytes.{Appends}
 use Rattle.std.proofs.lemmas.List.{append-nil}
-use Rattle.asset_cli.specs.Device.{DeviceState}
-use Rattle.asset_cli.specs.Transfers.{TookPrefix}
+use Rattle.asset_scripts.specs.Device.{DeviceState}
+use Rattle.asset_scripts.specs.Transfers.{TookPrefix}
 
 -- it took all of it or, at a fault, a prefix
 pub took_some : {W T E : Type 0} (contents : W → Option (List ℕ)) (old new : DeviceState W) (text : List ℕ) (result : Result T E)

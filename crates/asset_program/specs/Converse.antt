@@ -1,8 +1,8 @@
 -- What a conversation with the program comes to.
 use Rattle.std.specs.Prelude.{◌≡◌, ℕ, List, Option, MatchOption, Result, MatchResult}
-use Rattle.asset_cli.specs.declared.ends.RunEnd.{RunEnd}
-use Rattle.asset_cli.specs.declared.faults.ScriptFault.{ScriptFault}
-use Rattle.asset_cli.specs.Device.{DeviceState}
+use Rattle.asset_scripts.specs.declared.ends.RunEnd.{RunEnd}
+use Rattle.asset_scripts.specs.declared.faults.ScriptFault.{ScriptFault}
+use Rattle.asset_scripts.specs.Device.{DeviceState}
 use Rattle.asset_shell.specs.Turns.{Streams, HasWrittenAll, StopsWith, streams}
 use Rattle.asset_program.specs.Exit.{run_status, capacity_of}
 

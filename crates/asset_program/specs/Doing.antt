@@ -1,6 +1,6 @@
 -- What is done by what the arguments ask for.
 use Rattle.std.specs.Prelude.{◌≡◌, ℕ, List, Option, Result, Ok, Err}
-use Rattle.asset_cli.specs.Device.{DeviceState}
+use Rattle.asset_scripts.specs.Device.{DeviceState}
 use Rattle.asset_program.specs.declared.answers.Answer.{Answer}
 use Rattle.asset_program.specs.declared.requests.Asked.{Asked}
 use Rattle.asset_program.specs.declared.requests.Asked.TheVariants.{Script, Check, Shell, Jobs}

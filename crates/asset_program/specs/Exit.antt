@@ -2,9 +2,9 @@
 use Rattle.std.specs.Prelude.{ℕ, ◌&&◌, cond, nat_le, Option, None, Some, Result, Ok, Err}
 use Rattle.clap.specs.declared.error.kind.ErrorKind.{ErrorKind}
 use Rattle.clap.specs.declared.error.kind.ErrorKind.TheVariants as ErrorKind'
-use Rattle.asset_cli.specs.declared.ends.RunEnd.{RunEnd}
-use Rattle.asset_cli.specs.declared.ends.RunEnd.TheVariants.{Finished, BadLine, Shared}
-use Rattle.asset_cli.specs.declared.faults.ScriptFault.{ScriptFault}
+use Rattle.asset_scripts.specs.declared.ends.RunEnd.{RunEnd}
+use Rattle.asset_scripts.specs.declared.ends.RunEnd.TheVariants.{Finished, BadLine, Shared}
+use Rattle.asset_scripts.specs.declared.faults.ScriptFault.{ScriptFault}
 use Rattle.asset_program.specs.declared.arguments.ArgumentsFault.TheVariants.{NotText, NoMemory}
 use Rattle.asset_program.specs.declared.answers.Answer.{Answer}
 use Rattle.asset_program.specs.declared.answers.Answer.TheVariants.{Help, Refusal, Fault}

@@ -2,10 +2,10 @@
 use Rattle.std.specs.Prelude.{◌≡◌, ◌⊎◌, ℕ, List, Option, Result, Ok, Err}
 use Rattle.std.specs.Io.KnownBytes.{Appends}
 use Rattle.asset_audit.specs.declared.auditing.AuditFault.{AuditFault}
-use Rattle.asset_cli.specs.declared.faults.ScriptFault.{ScriptFault}
-use Rattle.asset_cli.specs.declared.faults.ScriptFault.TheVariants as ScriptFault'
-use Rattle.asset_cli.specs.Device.{DeviceState}
-use Rattle.asset_cli.specs.Transfers.{TookPrefix}
+use Rattle.asset_scripts.specs.declared.faults.ScriptFault.{ScriptFault}
+use Rattle.asset_scripts.specs.declared.faults.ScriptFault.TheVariants as ScriptFault'
+use Rattle.asset_scripts.specs.Device.{DeviceState}
+use Rattle.asset_scripts.specs.Transfers.{TookPrefix}
 use Rattle.asset_grammar.specs.Texts.{bad_line}
 use Rattle.asset_jobs.specs.declared.faults.JobsFault.{JobsFault}
 use Rattle.asset_jobs.specs.declared.faults.JobsFault.TheVariants as JobsFault'

@@ -11,8 +11,8 @@ use Rattle.asset_names.specs.Counted.{IsBelow}
 use Rattle.asset_audit.specs.Audited.{Call, IsAudit}
 use Rattle.asset_audit.specs.declared.auditing.AuditFault.{AuditFault}
 use Rattle.asset_bodies.specs.declared.ends.JobEnd.{JobEnd}
-use Rattle.asset_cli.specs.Device.{DeviceState}
-use Rattle.asset_cli.specs.Transfers.{IsReadFault, TookPrefix}
+use Rattle.asset_scripts.specs.Device.{DeviceState}
+use Rattle.asset_scripts.specs.Transfers.{IsReadFault, TookPrefix}
 use Rattle.asset_jobs.specs.Ended.{row_among}
 use Rattle.asset_jobs.specs.Jobs.{Named}
 use Rattle.asset_jobs.specs.Reads.{GaveScript}

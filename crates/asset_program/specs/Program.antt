@@ -1,12 +1,12 @@
 -- What a run of the program comes to.
 use Rattle.std.specs.Prelude.{◌≡◌, ℕ, List, Option, MatchOption, Result, MatchResult, string_bytes}
-use Rattle.asset_cli.specs.declared.ends.RunEnd.{RunEnd}
-use Rattle.asset_cli.specs.declared.faults.ScriptFault.{ScriptFault}
-use Rattle.asset_cli.specs.Device.{DeviceState}
-use Rattle.asset_cli.specs.Transfers.{TookPrefix}
+use Rattle.asset_scripts.specs.declared.ends.RunEnd.{RunEnd}
+use Rattle.asset_scripts.specs.declared.faults.ScriptFault.{ScriptFault}
+use Rattle.asset_scripts.specs.Device.{DeviceState}
+use Rattle.asset_scripts.specs.Transfers.{TookPrefix}
 use Rattle.asset_cli.specs.Reporting.{transcript_of}
-use Rattle.asset_cli.specs.Runs.{WroteAll, Stops}
-use Rattle.asset_cli.specs.Transcript.{Transcript}
+use Rattle.asset_scripts.specs.Runs.{WroteAll, Stops}
+use Rattle.asset_scripts.specs.Transcript.{Transcript}
 use Rattle.asset_check.specs.Checked.{checked}
 use Rattle.asset_standing.specs.Waited.{waited}
 use Rattle.asset_program.specs.declared.requests.Request.{Request}

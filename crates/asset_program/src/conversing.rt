@@ -6,7 +6,7 @@ ghost use Rattle.asset_program.specs.Converse.{Converses, Talks, seen_of};
 
 use crate::program::{say_fault, say_range};
 use crate::requests::capacity_or_default;
-use asset_cli::Device;
+use asset_scripts::Device;
 use asset_shell::run_shell;
 use std::alloc::Global;
 use std::io::{Read, Write};

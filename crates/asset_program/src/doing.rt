@@ -1,6 +1,6 @@
 //! Does what the arguments ask for, or hands it back if that is to run jobs, whose bodies the caller boxes.
 
-ghost use Rattle.asset_cli.specs.Device.{IsUnused};
+ghost use Rattle.asset_scripts.specs.Device.{IsUnused};
 ghost use Rattle.asset_program.specs.Doing.{LeadsTo};
 
 use crate::answers::Answer;
@@ -8,7 +8,7 @@ use crate::conversing::converse;
 use crate::limits::JobsRequest;
 use crate::program::{run_check, run_program};
 use crate::requests::Asked;
-use asset_cli::Device;
+use asset_scripts::Device;
 use std::alloc::Global;
 use std::io::{Read, Write};
 

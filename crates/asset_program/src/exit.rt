@@ -6,7 +6,7 @@ ghost use Rattle.asset_program.specs.Exit.{run_status, answer_status};
 
 use crate::answers::Answer;
 use crate::arguments::ArgumentsFault;
-use asset_cli::{RunEnd, ScriptFault};
+use asset_scripts::{RunEnd, ScriptFault};
 
 /// Returns the exit status of a run.
 #[tactic(auto, unfolding(crate::specs::Exit::run_status))]

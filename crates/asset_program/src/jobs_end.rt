@@ -5,9 +5,9 @@ ghost use Rattle.asset_program.specs.JobsEnd.{EndsJobs, EndsStopped, SaysBadLine
 ghost use Rattle.asset_program.specs.declared.jobs_end.JobsStop.TheVariants.{NoMemory};
 
 use asset_audit::AuditFault;
-use asset_cli::{Device, ScriptFault, write_all};
 use asset_grammar::push_bad_line;
 use asset_jobs::JobsFault;
+use asset_scripts::{Device, ScriptFault, write_all};
 use std::alloc::{AllocError, Global};
 use std::io::Write;
 use thiserror::Error;

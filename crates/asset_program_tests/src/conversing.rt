@@ -1,8 +1,8 @@
 //! Checks and conversations by the program.
 
 use crate::running::expect;
-use asset_cli::Device;
 use asset_program::{converse, run_check};
+use asset_scripts::Device;
 use std::alloc::Global;
 use std::process::Abort;
 use std::test::Fail;

@@ -1,8 +1,8 @@
 //! Readers and writers that fail, and arguments that could not be read.
 
 use crate::running::{list, run_over};
-use asset_cli::ScriptFault;
 use asset_program::{ArgumentsFault, Next};
+use asset_scripts::ScriptFault;
 use std::io;
 use std::process::Abort;
 use std::test::Fail;

@@ -1,8 +1,8 @@
 //! What is answered when a reader or a writer of a job script fails in mid-stream.
 
-use asset_cli::{Device, ScriptFault};
 use asset_jobs::{JobText, JobsFault, read_jobs, write_jobs};
 use asset_names::{Counts, Txn};
+use asset_scripts::{Device, ScriptFault};
 use std::alloc::Global;
 use std::io;
 

@@ -1,8 +1,8 @@
 //! What job scripts say, and which of their lines are bad.
 
-use asset_cli::Device;
 use asset_jobs::{JobAct, JobScript, JobsFault, names_of, read_jobs};
 use asset_names::{Ob, Txn};
+use asset_scripts::Device;
 use std::alloc::Global;
 use std::test::Fail;
 

@@ -2,10 +2,10 @@
 
 use crate::job_running::run_jobs;
 use asset_bodies::Tx;
-use asset_cli::Device;
 use asset_jobs::do_acts;
 use asset_program::{JobsRequest, JobsStop, add_job, begin_jobs, end_jobs, finish_jobs};
 use asset_runner::Plan;
+use asset_scripts::Device;
 use std::test::Fail;
 
 /// A job script, the capacity of the history, the number of workers, and what should be written with which status.

@@ -1,10 +1,10 @@
 //! The lines that say how jobs ended.
 
 use asset_bodies::JobEnd;
-use asset_cli::Device;
 use asset_jobs::{JobText, rows_of, write_jobs};
 use asset_manager::AuditFault;
 use asset_names::{Counts, Txn};
+use asset_scripts::Device;
 use std::alloc::Global;
 use std::test::Fail;
 

@@ -1,7 +1,7 @@
 //! How a test runs the program.
 
-use asset_cli::Device;
 use asset_program::{ArgumentsFault, Next, do_asked, requested};
+use asset_scripts::Device;
 use std::alloc::{AllocError, Global};
 use std::io;
 use std::process::Abort;

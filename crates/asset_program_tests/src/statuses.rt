@@ -1,7 +1,7 @@
 //! The exit status of each end.
 
-use asset_cli::{RunEnd, ScriptFault};
 use asset_program::{Answer, ArgumentsFault, status_of_answer, status_of_run};
+use asset_scripts::{RunEnd, ScriptFault};
 use std::process::Abort;
 
 #[test]

@@ -1,6 +1,6 @@
 //! Whole scripts with delegations, with the text that answers each and how its run ends.
 use crate::memory::expect;
-use asset_cli::RunEnd;
+use asset_scripts::RunEnd;
 use std::test::Fail;
 
 /// A delegated write follows the transaction that took it over.

@@ -1,6 +1,6 @@
 //! Whole scripts with dependencies, with the text that answers each and how its run ends.
 use crate::memory::{expect, expect_with_room};
-use asset_cli::RunEnd;
+use asset_scripts::RunEnd;
 use std::test::Fail;
 
 /// An abort takes its abort dependents, and their classes.

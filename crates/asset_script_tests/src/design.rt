@@ -1,6 +1,6 @@
 //! The example of a design session, with all its reports, as the folder `examples` has it.
 use crate::memory::{Call, expect_report};
-use asset_cli::RunEnd;
+use asset_scripts::RunEnd;
 use std::test::Fail;
 
 /// The script `design.asset`.

@@ -1,6 +1,7 @@
 //! What is answered when a reader or a writer fails in mid-stream.
 use crate::memory::{ITS_TEXT, ONE_TRANSACTION};
-use asset_cli::{Device, RunEnd, ScriptFault, run_script};
+use asset_cli::run_script;
+use asset_scripts::{Device, RunEnd, ScriptFault};
 use std::alloc::Global;
 use std::io;
 use std::test::Fail;

@@ -1,6 +1,6 @@
 //! The example scripts of the repository, each with its transcript, as the folder `examples` has them.
 use crate::memory::run_once;
-use asset_cli::RunEnd;
+use asset_scripts::RunEnd;
 use std::process::Abort;
 use std::test::Fail;
 

@@ -1,7 +1,7 @@
 //! What the lines of a script say.
 use crate::memory::expect;
 use crate::runs::expect_bad;
-use asset_cli::RunEnd;
+use asset_scripts::RunEnd;
 use std::test::Fail;
 
 /// Each line that asks a step for one transaction is answered as that step is.

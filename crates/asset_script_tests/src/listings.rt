@@ -1,6 +1,6 @@
 //! Listings: the steps of a script with their replies beside them.
 use crate::memory::{Call, expect_call, expect_report};
-use asset_cli::RunEnd;
+use asset_scripts::RunEnd;
 use std::test::Fail;
 
 /// A wait and a refusal among the steps. An object line, a comment and an empty line are counted, and not listed.

@@ -1,11 +1,11 @@
 //! Scripts whose bytes and whose text stand in memory.
 ghost use Rattle.asset_core.specs.OpenFaults.{IsCapacity};
-ghost use Rattle.asset_cli.specs.Device.{IsUnused};
+ghost use Rattle.asset_scripts.specs.Device.{IsUnused};
 
 use asset_cli::{
-    Device, RunEnd, ScriptFault, groups_script, prune_script, run_script, serial_script,
-    sources_script, steps_script,
+    groups_script, prune_script, run_script, serial_script, sources_script, steps_script,
 };
+use asset_scripts::{Device, RunEnd, ScriptFault};
 use std::alloc::Global;
 use std::process::Abort;
 use std::test::Fail;

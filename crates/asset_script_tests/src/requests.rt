@@ -1,6 +1,7 @@
 //! Readers and writers that count their own calls: each request is made once, and none after a failure.
 use crate::memory::{ITS_TEXT, ONE_TRANSACTION};
-use asset_cli::{Device, RunEnd, ScriptFault, run_script};
+use asset_cli::run_script;
+use asset_scripts::{Device, RunEnd, ScriptFault};
 use std::alloc::Global;
 use std::io::{self, ErrorKind};
 

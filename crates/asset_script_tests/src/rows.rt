@@ -1,6 +1,6 @@
 //! Whole scripts, with the text that answers each and how its run ends.
 use crate::memory::{ITS_TEXT, ONE_TRANSACTION, expect, expect_with_room};
-use asset_cli::RunEnd;
+use asset_scripts::RunEnd;
 use std::alloc::{AllocError, Global};
 use std::test::Fail;
 

@@ -1,6 +1,6 @@
 //! What the runs of small scripts write, and how they end.
 use crate::memory::expect;
-use asset_cli::RunEnd;
+use asset_scripts::RunEnd;
 use std::alloc::{AllocError, Global};
 use std::process::Abort;
 use std::test::Fail;

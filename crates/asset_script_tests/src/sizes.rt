@@ -1,6 +1,6 @@
 //! Scripts past 64 KiB and 100,000 lines. Each is run once, and not again if memory runs out.
 use crate::memory::expect_at_once;
-use asset_cli::RunEnd;
+use asset_scripts::RunEnd;
 use std::test::Fail;
 
 /// How many lines of one kind a script has.

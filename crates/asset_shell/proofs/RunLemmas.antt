@@ -12,8 +12,8 @@ use Rattle.asset_grammar.specs.Grammar.{line_of}
 use Rattle.asset_grammar.specs.Lines.{lines}
 use Rattle.asset_grammar.specs.Texts.{bad_line}
 use Rattle.asset_grammar.specs.Words.{words}
-use Rattle.asset_cli.specs.declared.ends.RunEnd.TheVariants.{Finished}
-use Rattle.asset_cli.specs.Transcript.{Transcript, finished, stopped, with_prefix, printed, answered_text, full_text, joined_by, step_line, steps_transcript, object_line, objects_transcript, transcript}
+use Rattle.asset_scripts.specs.declared.ends.RunEnd.TheVariants.{Finished}
+use Rattle.asset_scripts.specs.Transcript.{Transcript, finished, stopped, with_prefix, printed, answered_text, full_text, joined_by, step_line, steps_transcript, object_line, objects_transcript, transcript}
 use Rattle.asset_shell.specs.Sessions.{outcome_text}
 use Rattle.asset_check.specs.Checked.{mistake_in, object_mistake}
 use Rattle.asset_reasons.specs.declared.reasons.Reason.TheVariants.{GivenTwice}
@@ -22,7 +22,7 @@ use Rattle.asset_reasons.proofs.ReasonLemmas.{has_reason_if_bad}
 use Rattle.asset_shell.specs.Laws.{PrintsAsRun}
 use Rattle.asset_shell.specs.Sessions.{Session, answer_if, answer_line, new_session, reply_to, said_of_each, seen_in, session_after, session_by, with_object}
 use Rattle.asset_shell.specs.Shelled.{shell_text}
-use Rattle.asset_cli.specs.declared.prints.Prints.TheVariants.{Replies}
+use Rattle.asset_scripts.specs.declared.prints.Prints.TheVariants.{Replies}
 
 -- the text is that of the transcript, and goes on only if a line is bad
 record Goes (text : List ℕ) (all : Transcript) : Type 0 where

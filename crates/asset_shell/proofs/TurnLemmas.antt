@@ -7,10 +7,10 @@ use Rattle.std.specs.Io.KnownBytes.{Appends, Consumes, IsAtEnd, Keeps}
 use Rattle.std.proofs.KnownBytes.{Appends-nil, Appends-trans, Consumes-kept, Consumes-nil, Consumes-trans}
 use Rattle.asset_entries.specs.Recorded.{opened}
 use Rattle.asset_grammar.specs.Lines.{lines}
-use Rattle.asset_cli.specs.declared.ends.RunEnd.{RunEnd}
-use Rattle.asset_cli.specs.declared.faults.ScriptFault.{ScriptFault}
-use Rattle.asset_cli.specs.declared.faults.ScriptFault.TheVariants.{Read, Write, NoMemory}
-use Rattle.asset_cli.specs.Rendering.{end_at}
+use Rattle.asset_scripts.specs.declared.ends.RunEnd.{RunEnd}
+use Rattle.asset_scripts.specs.declared.faults.ScriptFault.{ScriptFault}
+use Rattle.asset_scripts.specs.declared.faults.ScriptFault.TheVariants.{Read, Write, NoMemory}
+use Rattle.asset_scripts.specs.Renders.{end_at}
 use Rattle.asset_check.specs.Checked.{check_lines, checked}
 use Rattle.asset_check.specs.Checking.{or_first}
 use Rattle.asset_shell.specs.Laws.{StaysSaid}

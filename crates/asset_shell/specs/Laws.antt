@@ -1,9 +1,9 @@
 -- What a conversation has to do with a run.
 use Rattle.std.specs.Prelude.{◌≡◌, ℕ, List, [], ◌++◌}
-use Rattle.asset_cli.specs.declared.ends.RunEnd.TheVariants.{Finished}
-use Rattle.asset_cli.specs.Transcript.{transcript}
+use Rattle.asset_scripts.specs.declared.ends.RunEnd.TheVariants.{Finished}
+use Rattle.asset_scripts.specs.Transcript.{transcript}
 use Rattle.asset_shell.specs.Shelled.{complete, shell_text}
-use Rattle.asset_cli.specs.declared.prints.Prints.TheVariants.{Replies}
+use Rattle.asset_scripts.specs.declared.prints.Prints.TheVariants.{Replies}
 
 -- a conversation prints what a run prints, and goes on after a bad line; without a bad line it prints nothing else
 pub record PrintsAsRun (bytes : List ℕ) (capacity : ℕ) : Type 0 where

@@ -1,9 +1,9 @@
 -- What a conversation does to its reader and its writers.
 use Rattle.std.specs.Prelude.{◌≡◌, ℕ, List, ◌++◌, Option}
 use Rattle.std.specs.Io.KnownBytes.{Appends, Consumes, IsAtEnd}
-use Rattle.asset_cli.specs.declared.ends.RunEnd.{RunEnd}
-use Rattle.asset_cli.specs.declared.faults.ScriptFault.{ScriptFault}
-use Rattle.asset_cli.specs.declared.faults.ScriptFault.TheVariants.{Read, Write, NoMemory}
+use Rattle.asset_scripts.specs.declared.ends.RunEnd.{RunEnd}
+use Rattle.asset_scripts.specs.declared.faults.ScriptFault.{ScriptFault}
+use Rattle.asset_scripts.specs.declared.faults.ScriptFault.TheVariants.{Read, Write, NoMemory}
 use Rattle.asset_check.specs.Checked.{checked}
 use Rattle.asset_shell.specs.Shelled.{complete, shell_reasons, shell_text}
 use Rattle.asset_shell.specs.Talking.{Talk, after, new_talk}

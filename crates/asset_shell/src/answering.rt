@@ -4,23 +4,23 @@ ghost use Rattle.asset_core.specs.OpenFaults.{IsCapacity};
 ghost use Rattle.asset_reasons.specs.Mistakes.{Finds, Found};
 ghost use Rattle.asset_entries.specs.Recorded.{answer_to};
 ghost use Rattle.asset_grammar.specs.Texts.{bad_line};
-ghost use Rattle.asset_cli.specs.Transcript.{joined_by};
+ghost use Rattle.asset_scripts.specs.Transcript.{joined_by};
 ghost use Rattle.asset_shell.specs.Sessions.{outcome_text};
 ghost use Rattle.asset_check.specs.Sentences.{mistake_line};
 ghost use Rattle.asset_shell.specs.Answering.{asks, bad_if, IsJoint, open_history, session_of};
 
 use crate::answers::Answers;
 use asset_check::{Checker, first_of, push_mistake, said_of};
-use asset_cli::ScriptFault;
 use asset_core::Core;
 use asset_grammar::{Said, push_bad_line, push_full, push_outcome};
 use asset_names::{Fault, Step};
 use asset_reasons::Mistake;
+use asset_scripts::ScriptFault;
 use std::alloc::Global;
 use std::marker::Model;
 
 /// Asks one step, and appends the line of its outcome.
-#[tactic(auto, unfolding(crate::specs::Sessions::outcome_text, asset_cli::specs::Transcript::joined_by))]
+#[tactic(auto, unfolding(crate::specs::Sessions::outcome_text, asset_scripts::specs::Transcript::joined_by))]
 fn ask(core: &mut Core, replies: &mut String, step: &Step) -> Result<(), ScriptFault>
     ensures text { OnOk result (string_bytes replies.new ≡ string_bytes replies.old ++ outcome_text core.old.history step.now (answer_to core.old.history step.now)) }
     ensures history { OnOk result (core.new.history ≡ joined_by core.old.history step.now (answer_to core.old.history step.now)) }

@@ -3,8 +3,8 @@ ghost use Rattle.std.specs.Prelude.{◌≡◌, ◌==◌, ◌≤◌, ◌++◌, On
 
 use crate::answering::Answerer;
 use crate::answers::Answers;
-use asset_cli::{RunEnd, ScriptFault};
 use asset_names::{Step, Txn};
+use asset_scripts::{RunEnd, ScriptFault};
 use std::alloc::Global;
 use std::marker::Model;
 
@@ -56,7 +56,7 @@ impl Conversation {
     ghost use Rattle.std.specs.Prelude.{◌≡◌, ◌+◌, ◌^◌, ◌<◌, ◌≤◌, ◌++◌, OnOk, IfErr, length, string_bytes};
     ghost use Rattle.asset_core.specs.OpenFaults.{IsCapacity};
     ghost use Rattle.asset_grammar.specs.Lines.{Lacks};
-    ghost use Rattle.asset_cli.specs.Rendering.{end_at};
+    ghost use Rattle.asset_scripts.specs.Renders.{end_at};
     ghost use Rattle.asset_shell.specs.Sessions.{reason_for, reply_to};
     ghost use Rattle.asset_shell.specs.Talking.{after, ended, ended_last, kept, new_talk, said, said_last, said_now};
 
@@ -80,7 +80,7 @@ impl Conversation {
     }
 
     /// Returns how the conversation ends if nothing more comes: with the number of the first bad line, if there was one.
-    #[tactic(auto, unfolding(asset_cli::specs::Rendering::end_at))]
+    #[tactic(auto, unfolding(asset_scripts::specs::Renders::end_at))]
     pub(crate) fn end(&self) -> RunEnd
         ensures { result ≡ end_at self.now.bad }
     {

@@ -5,7 +5,7 @@ ghost use Rattle.asset_shell.specs.Talking.{new_talk};
 ghost use Rattle.asset_shell.specs.Turns.{HasWrittenAll, StopsWith, streams};
 
 use crate::conversation::Conversation;
-use asset_cli::{Device, RunEnd, ScriptFault};
+use asset_scripts::{Device, RunEnd, ScriptFault};
 use std::alloc::{AllocError, Global};
 use std::io::{Read, Write};
 

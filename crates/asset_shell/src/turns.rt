@@ -2,12 +2,12 @@
 ghost use Rattle.std.specs.Prelude.{◌≡◌, ◌≢◌, ◌≤◌, ◌<◌, ◌+◌, ◌^◌, ◌⊎◌, ℕ, Bool, true, false, List, Option, Err, Some, length, take, string_bytes, is_none, ◌||◌, IfSome, IfNone, IfOk, OnOk, IfErr, OnErr};
 ghost use Rattle.std.specs.Bool.{OnFalse, OnTrue};
 ghost use Rattle.std.specs.Io.KnownBytes.{Appends, Consumes, IsAtEnd, Keeps};
-ghost use Rattle.asset_cli.specs.Device.{counted};
+ghost use Rattle.asset_scripts.specs.Device.{counted};
 ghost use Rattle.asset_shell.specs.Turns.{HasWrittenAll, IsUpToDate, StopsWith, Streams, TookPart, streams};
 
 use crate::answers::Answers;
 use crate::conversation::Conversation;
-use asset_cli::{Device, RunEnd, ScriptFault, write_all};
+use asset_scripts::{Device, RunEnd, ScriptFault, write_all};
 use std::alloc::Global;
 use std::io::{Read, Write};
 

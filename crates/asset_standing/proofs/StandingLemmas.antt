@@ -11,14 +11,14 @@ use Rattle.asset_grammar.specs.declared.grammar.Line.TheVariants.{Blank, Command
 use Rattle.asset_grammar.specs.Grammar.{line_of}
 use Rattle.asset_grammar.specs.Lines.{lines}
 use Rattle.asset_grammar.specs.Texts.{bad_line as bad_line_text}
-use Rattle.asset_cli.specs.declared.ends.RunEnd.{RunEnd}
-use Rattle.asset_cli.specs.declared.ends.RunEnd.TheVariants as Run'
-use Rattle.asset_cli.specs.declared.faults.ScriptFault.{ScriptFault}
-use Rattle.asset_cli.specs.declared.prints.Prints.{Prints}
-use Rattle.asset_cli.specs.Rendering.{Renders}
-use Rattle.asset_cli.specs.Transcript.{Transcript, finished, stopped, with_prefix, joined_by, step_line, steps_transcript, steps_from, transcript}
-use Rattle.asset_cli.specs.Preamble.{Beginning, no_step, first_step, bad_line, beginning, transcript_begun}
-use Rattle.asset_cli.proofs.PreambleLemmas.{begun_transcript}
+use Rattle.asset_scripts.specs.declared.ends.RunEnd.{RunEnd}
+use Rattle.asset_scripts.specs.declared.ends.RunEnd.TheVariants as Run'
+use Rattle.asset_scripts.specs.declared.faults.ScriptFault.{ScriptFault}
+use Rattle.asset_scripts.specs.declared.prints.Prints.{Prints}
+use Rattle.asset_scripts.specs.Renders.{Renders}
+use Rattle.asset_scripts.specs.Transcript.{Transcript, finished, stopped, with_prefix, joined_by, step_line, steps_transcript, steps_from, transcript}
+use Rattle.asset_scripts.specs.Preamble.{Beginning, no_step, first_step, bad_line, beginning, transcript_begun}
+use Rattle.asset_scripts.proofs.PreambleLemmas.{begun_transcript}
 use Rattle.asset_standing.specs.Standing.{Standing, stepped_as, stepped, line_left, steps_left, left_begun, left}
 use Rattle.asset_standing.specs.declared.standing.Stood.TheVariants.{Finished, BadLine}
 use Rattle.asset_standing.specs.Stood.{stood_at, stood_of}

@@ -9,7 +9,7 @@ use Rattle.asset_grammar.specs.declared.grammar.Line.{Line}
 use Rattle.asset_grammar.specs.declared.grammar.Line.TheVariants.{Blank, Command, Bad}
 use Rattle.asset_grammar.specs.Grammar.{line_of}
 use Rattle.asset_grammar.specs.Lines.{lines}
-use Rattle.asset_cli.specs.Preamble.{Beginning, no_step, first_step, bad_line, beginning}
+use Rattle.asset_scripts.specs.Preamble.{Beginning, no_step, first_step, bad_line, beginning}
 
 -- the facility, and the number of the bad line at which a script ended
 pub record Standing : Type 0 where

@@ -2,9 +2,9 @@
 use Rattle.std.specs.Prelude.{◌≡◌, ℕ, List, Option, None, Some}
 use Rattle.asset_names.specs.Steps.{applied}
 use Rattle.asset_core.specs.Pending.{Facility}
-use Rattle.asset_cli.specs.declared.ends.RunEnd.TheVariants.{Finished}
-use Rattle.asset_cli.specs.declared.prints.Prints.{Prints}
-use Rattle.asset_cli.specs.Transcript.{Transcript, stopped, transcript}
+use Rattle.asset_scripts.specs.declared.ends.RunEnd.TheVariants.{Finished}
+use Rattle.asset_scripts.specs.declared.prints.Prints.{Prints}
+use Rattle.asset_scripts.specs.Transcript.{Transcript, stopped, transcript}
 use Rattle.asset_waits.specs.Texts.{report_text}
 use Rattle.asset_standing.specs.Standing.{left}
 

@@ -1,6 +1,6 @@
 //! What holds of every report of who waits for whom.
 ghost use Rattle.std.specs.Prelude.{ℕ, List};
-ghost use Rattle.asset_cli.specs.declared.prints.Prints.{Prints};
+ghost use Rattle.asset_scripts.specs.declared.prints.Prints.{Prints};
 ghost use Rattle.asset_standing.specs.Waited.{EndsAsRun};
 
 /// Says that the report of who waits for whom ends as a run of the same script does: with the same bad line, if there is one,

@@ -1,16 +1,16 @@
 //! The report of who waits for whom when a script has ended.
 ghost use Rattle.std.specs.Prelude.{◌≡◌, ◌++◌, false, IfOk, OnOk, IfErr, string_bytes};
 ghost use Rattle.asset_core.specs.OpenFaults.{IsCapacity};
-ghost use Rattle.asset_cli.specs.Device.{IsUnused};
-ghost use Rattle.asset_cli.specs.Runs.{WroteAll, Stops};
+ghost use Rattle.asset_scripts.specs.Device.{IsUnused};
+ghost use Rattle.asset_scripts.specs.Runs.{WroteAll, Stops};
 ghost use Rattle.asset_names.specs.Steps.{applied};
 ghost use Rattle.asset_waits.specs.Texts.{report_text};
 ghost use Rattle.asset_standing.specs.Waited.{waited};
 
 use crate::standing::{Stood, stand};
-use asset_cli::{Device, Render, RunEnd, ScriptFault, render_all};
 use asset_core::Core;
 use asset_grammar::push_bad_line;
+use asset_scripts::{Device, Render, RunEnd, ScriptFault, render_all};
 use asset_waits::push_waits;
 use std::alloc::Global;
 use std::io::{Read, Write};

@@ -3,15 +3,15 @@ ghost use Rattle.std.specs.Prelude.{◌≡◌, ◌+◌, ◌^◌, ◌<◌, ◌≤
 ghost use Rattle.asset_names.specs.Sets.{HasNoDouble};
 ghost use Rattle.asset_core.specs.OpenFaults.{objects_of, IsCapacity};
 ghost use Rattle.asset_core.specs.Pending.{facility_of};
-ghost use Rattle.asset_cli.specs.Preamble.{begun_at};
-ghost use Rattle.asset_cli.specs.Transfers.{input_limit};
+ghost use Rattle.asset_scripts.specs.Preamble.{begun_at};
+ghost use Rattle.asset_scripts.specs.Transfers.{input_limit};
 ghost use Rattle.asset_standing.specs.Standing.{stepped, steps_left, stands, left_begun, left};
 ghost use Rattle.asset_standing.specs.Stood.{stood_of};
 
 use crate::steps::{ask, take_lines};
-use asset_cli::{ObjectLine, OpeningObjects, Preamble, ScriptFault, take_objects};
 use asset_core::Core;
 use asset_names::Ob;
+use asset_scripts::{ObjectLine, OpeningObjects, Preamble, ScriptFault, take_objects};
 use std::alloc::Global;
 
 /// What stands when a script has ended.

@@ -4,10 +4,10 @@ ghost use Rattle.std.specs.Prelude.{◌≡◌, ℕ, ◌+◌, ◌^◌, ◌<◌, L
 ghost use Rattle.asset_grammar.specs.Grammar.{line_of, said_as};
 ghost use Rattle.asset_standing.specs.Standing.{stepped, steps_left, stands};
 
-use asset_cli::ScriptFault;
 use asset_core::Core;
 use asset_grammar::{Said, ScriptLines};
 use asset_names::{Fault, Step};
+use asset_scripts::ScriptFault;
 
 /// Asks for one step. A step for which there is no room changes nothing.
 #[tactic(auto, unfolding(crate::specs::Standing::stepped))]

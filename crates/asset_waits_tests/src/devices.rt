@@ -1,5 +1,5 @@
 //! Devices that fail.
-use asset_cli::{Device, RunEnd, ScriptFault};
+use asset_scripts::{Device, RunEnd, ScriptFault};
 use asset_standing::waits_script;
 use std::alloc::Global;
 use std::io;

@@ -1,5 +1,5 @@
 //! Reports on scripts.
-use asset_cli::{Device, RunEnd, ScriptFault};
+use asset_scripts::{Device, RunEnd, ScriptFault};
 use asset_standing::waits_script;
 use std::alloc::Global;
 use std::process::Abort;

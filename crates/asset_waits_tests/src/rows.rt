@@ -1,6 +1,6 @@
 //! Worked scripts. Their reports were worked out by hand.
 use crate::reports::expect_report;
-use asset_cli::RunEnd;
+use asset_scripts::RunEnd;
 use std::test::Fail;
 
 /// The script `deadlock.asset` of the folder `examples`.

@@ -1,6 +1,6 @@
 //! Many transactions that wait.
 use crate::reports::report;
-use asset_cli::RunEnd;
+use asset_scripts::RunEnd;
 use std::alloc::{AllocError, Global};
 use std::test::Fail;
 

@@ -1,10 +1,10 @@
 use Rattle.std.proofs.Common.{[], ap, ◌∙◌, arith}
-use Rattle.asset_cli.specs.Transcript.{transcript}
+use Rattle.asset_scripts.specs.Transcript.{transcript}
+use Rattle.asset_scripts.specs.Preamble.{Beginning, transcript_begun, transcript_from}
 use Rattle.asset_cli.specs.Playing.{prints_for}
-use Rattle.asset_cli.specs.Preamble.{Beginning, transcript_begun, transcript_from}
 use Rattle.asset_grammar.specs.Lines.{lines}
 use Rattle.asset_grammar.proofs.LineLemmas.{length-lines}
-use Rattle.asset_cli.proofs.PreambleLemmas.{begun_transcript}
+use Rattle.asset_scripts.proofs.PreambleLemmas.{begun_transcript}
 use Rattle.asset_cli.proofs.rendering.play.Goals as goal
 
 pub take_objects-requires-clause-few : goal.take_objects-requires-clause-few

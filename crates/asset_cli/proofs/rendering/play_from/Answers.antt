@@ -2,9 +2,9 @@ use Rattle.std.proofs.Common.{◌≡◌, ℕ, ap, ◌∙◌, refl}
 use Rattle.asset_names.specs.Steps.{Opening}
 use Rattle.asset_entries.specs.Recorded.{opened}
 use Rattle.asset_core.specs.Pending.{Facility, facility_of}
-use Rattle.asset_cli.specs.declared.preamble.ObjectLine.{ObjectLine}
-use Rattle.asset_cli.specs.declared.preamble.ObjectLine.TheVariants.{More, First, Bad}
-use Rattle.asset_cli.specs.Preamble.{begun_at, transcript_begun, transcript_from}
+use Rattle.asset_scripts.specs.declared.preamble.ObjectLine.{ObjectLine}
+use Rattle.asset_scripts.specs.declared.preamble.ObjectLine.TheVariants.{More, First, Bad}
+use Rattle.asset_scripts.specs.Preamble.{begun_at, transcript_begun, transcript_from}
 use Rattle.asset_cli.proofs.TranscriptLemmas.{finished_plays, stopped_plays}
 use Rattle.asset_cli.proofs.rendering.play_from.Goals as goal
 

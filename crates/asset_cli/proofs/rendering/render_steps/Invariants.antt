@@ -1,6 +1,6 @@
 use Rattle.std.proofs.Common.{◌≡◌, ◌+◌, length}
 use Rattle.std.specs.Prelude.{string_bytes}
-use Rattle.asset_cli.specs.Transcript.{steps_from, steps_transcript}
+use Rattle.asset_scripts.specs.Transcript.{steps_from, steps_transcript}
 use Rattle.asset_cli.specs.Rendering.{GoesOn}
 use Rattle.asset_cli.proofs.rendering.render_steps.Given as goal
 

@@ -1,5 +1,5 @@
 use Rattle.std.proofs.Common.{Err, ap, arith, rules}
-use Rattle.asset_cli.specs.Runs.{GaveAll}
+use Rattle.asset_scripts.specs.Runs.{GaveAll}
 use Rattle.asset_jobs.specs.Reads.{FailsToRead}
 use Rattle.asset_jobs.proofs.ReadLemmas.{fails_to_say}
 use Rattle.asset_jobs.proofs.reading.read_jobs.Goals as goal

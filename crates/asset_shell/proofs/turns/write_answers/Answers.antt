@@ -1,5 +1,5 @@
 use Rattle.std.proofs.lemmas.Result.{err_from_is_err_and}
-use Rattle.asset_cli.specs.Transfers.{TookPrefix}
+use Rattle.asset_scripts.specs.Transfers.{TookPrefix}
 use Rattle.asset_shell.proofs.TurnLemmas.{all_taken, none_taken}
 use Rattle.asset_shell.proofs.turns.write_answers.Goals as goal
 

@@ -1,7 +1,7 @@
 use Rattle.std.proofs.Common.{◌≡◌, refl}
-use Rattle.asset_cli.specs.declared.preamble.ObjectLine.{ObjectLine}
-use Rattle.asset_cli.specs.declared.preamble.ObjectLine.TheVariants.{More, First, Bad}
-use Rattle.asset_cli.specs.Preamble.{begun_at}
+use Rattle.asset_scripts.specs.declared.preamble.ObjectLine.{ObjectLine}
+use Rattle.asset_scripts.specs.declared.preamble.ObjectLine.TheVariants.{More, First, Bad}
+use Rattle.asset_scripts.specs.Preamble.{begun_at}
 use Rattle.asset_standing.specs.Standing.{left_begun}
 use Rattle.asset_standing.specs.Stood.{stood_of, stood_at}
 use Rattle.asset_standing.proofs.standing.stand_from.Goals as goal

@@ -1,6 +1,6 @@
 use Rattle.std.proofs.Common.{ap, ◌∙◌, arith}
 use Rattle.asset_grammar.proofs.LineLemmas.{length-lines}
-use Rattle.asset_cli.specs.Rendering.{end_at}
+use Rattle.asset_scripts.specs.Renders.{end_at}
 use Rattle.asset_check.specs.Checked.{checked}
 use Rattle.asset_check.proofs.checking.CheckRender.render.Goals as goal
 

@@ -1,5 +1,5 @@
 use Rattle.std.proofs.Common.{rules}
-use Rattle.asset_cli.specs.Rendering.{end_at}
+use Rattle.asset_scripts.specs.Renders.{end_at}
 use Rattle.asset_shell.proofs.conversation.Conversation.end.Goals as goal
 
 pub returns-in-Some : goal.returns-in-Some

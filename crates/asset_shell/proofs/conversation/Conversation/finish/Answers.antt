@@ -1,8 +1,8 @@
 use Rattle.std.proofs.Common.{ap, ◌∙◌}
-use Rattle.asset_cli.specs.Rendering.{end_at}
+use Rattle.asset_scripts.specs.Renders.{end_at}
 use Rattle.asset_shell.specs.Talking.{Talk}
 use Rattle.std.proofs.lemmas.Result.{err_from_is_err_and}
-use Rattle.asset_cli.specs.declared.faults.ScriptFault.TheVariants.{Write, NoMemory}
+use Rattle.asset_scripts.specs.declared.faults.ScriptFault.TheVariants.{Write, NoMemory}
 use Rattle.asset_shell.proofs.TurnLemmas.{finished_all, finished_part, no_memory_is_no_read, none_taken, part_stops, write_is_no_read}
 use Rattle.asset_shell.proofs.conversation.Conversation.finish.Goals as goal
 

@@ -1,7 +1,7 @@
 use Rattle.std.proofs.Common.{take, ap, arith}
 use Rattle.std.proofs.lemmas.List.{length-take-le}
 use Rattle.std.proofs.lemmas.Result.{err_from_is_err_and}
-use Rattle.asset_cli.specs.declared.faults.ScriptFault.TheVariants.{Write, NoMemory}
+use Rattle.asset_scripts.specs.declared.faults.ScriptFault.TheVariants.{Write, NoMemory}
 use Rattle.asset_shell.specs.Talking.{Talk}
 use Rattle.asset_shell.proofs.TalkLemmas.{number_after}
 use Rattle.asset_shell.proofs.TurnLemmas.{gave_some, no_memory_is_no_read, none_taken, part_more, part_stops, read_failed, up_to_date_more, write_is_no_read}

@@ -1,5 +1,0 @@
-use Rattle.std.proofs.Common.{rules}
-use Rattle.asset_cli.proofs.device.Device.asked.Goals as goal
-
-pub returns : goal.returns
-returns g c = search rules

@@ -1,0 +1,4 @@
+pub mod TransferLemmas
+pub mod OpeningLemmas
+pub mod PreambleLemmas
+pub mod RunLemmas

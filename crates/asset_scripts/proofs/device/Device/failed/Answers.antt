@@ -1,0 +1,5 @@
+use Rattle.std.proofs.Common.{rules}
+use Rattle.asset_scripts.proofs.device.Device.failed.Goals as goal
+
+pub returns : goal.returns
+returns g c = search rules
