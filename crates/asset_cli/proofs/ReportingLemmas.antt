@@ -6,8 +6,9 @@ use Rattle.asset_scripts.specs.declared.ends.RunEnd.TheVariants as RunEnd'
 use Rattle.asset_scripts.specs.Transcript.{Transcript, transcript}
 use Rattle.asset_scripts.specs.Renders.{Renders}
 use Rattle.asset_scripts.specs.declared.prints.Prints.TheVariants.{Nothing}
+use Rattle.asset_cli.specs.declared.rendering.Played.{Played}
 use Rattle.asset_cli.specs.declared.rendering.Played.TheVariants as Played'
-use Rattle.asset_cli.specs.Rendering.{IsLeftBy, Plays}
+use Rattle.asset_cli.specs.Rendering.{IsLeftBy, Plays, played_end}
 use Rattle.asset_cli.specs.Reporting.{Reported, with_report, reported}
 
 -- every line was looked at, and the report follows
@@ -29,12 +30,8 @@ pub bad_line_renders : (before after : List ℕ) (report : Recorded → Reported
 unfolding reported with_report IsLeftBy
 bad_line_renders before after report bytes capacity n plays = rw plays.left (record { text = plays.text; ends = refl })
 
--- every line was looked at
-pub run_renders : (before after : List ℕ) (all : Transcript) (left : Recorded) → Plays before all after (Played'.Finished left) → Renders before all after RunEnd'.Finished
-unfolding IsLeftBy
-run_renders before after all left plays = record { text = plays.text; ends = sym plays.left.0 }
-
--- a line was bad
-pub bad_run_renders : (before after : List ℕ) (all : Transcript) (n : ℕ) → Plays before all after (Played'.BadLine n) → Renders before all after (RunEnd'.BadLine n)
-unfolding IsLeftBy
-bad_run_renders before after all n plays = record { text = plays.text; ends = sym plays.left }
+-- all of the transcript was appended
+pub played_renders : (before after : List ℕ) (all : Transcript) (played : Played) → Plays before all after played → Renders before all after (played_end played)
+unfolding IsLeftBy played_end
+played_renders before after all (Played'.Finished left) plays = record { text = plays.text; ends = sym plays.left.0 }
+played_renders before after all (Played'.BadLine n) plays = record { text = plays.text; ends = sym plays.left }

@@ -18,6 +18,11 @@ unfoldable pub played_of : Recorded → Option ℕ → Played
 played_of history None = Played'.Finished history
 played_of history (Some n) = Played'.BadLine n
 
+-- how the run of a script ends that was played so
+unfoldable pub played_end : Played → RunEnd
+played_end (Played'.Finished history) = RunEnd'.Finished
+played_end (Played'.BadLine n) = RunEnd'.BadLine n
+
 -- the text after is the text before with all of the transcript, which ends so, and leaves this history
 pub record Ends (before : List ℕ) (all : Transcript) (after : List ℕ) (end : RunEnd) (left : Recorded) : Type 0 where
   pub text : after ≡ before ++ all.text

@@ -2,10 +2,10 @@
 ghost use Rattle.std.specs.Prelude.{◌≡◌, true, cond, ◌++◌, ◌≤◌, length, OnOk, IfOk, IfErr, string_bytes};
 ghost use Rattle.asset_core.specs.OpenFaults.{IsCapacity};
 ghost use Rattle.asset_scripts.specs.Transfers.{input_limit};
-ghost use Rattle.asset_scripts.specs.declared.prints.Prints.TheVariants.{Replies, Listing};
 ghost use Rattle.asset_scripts.specs.Transcript.{transcript};
 ghost use Rattle.asset_scripts.specs.Renders.{Renders};
 ghost use Rattle.asset_cli.specs.Playing.{prints_for};
+ghost use Rattle.asset_cli.specs.Rendering.{played_end};
 ghost use Rattle.asset_cli.specs.Reporting.{report_of, reported, sourced};
 
 use crate::rendering::{Played, play};
@@ -141,40 +141,35 @@ fn render_sources(
     }
 }
 
-/// Appends the transcript of a script, and drops the history that is left.
-fn render_run(
-    alloc: Global,
-    bytes: &[u8],
-    capacity: usize,
-    text: &mut String,
-) -> Result<RunEnd, ScriptFault>
-    requires capacity { IsCapacity capacity }
-    requires limit { length bytes.now ≤ input_limit }
-    ensures rendered { IfOk result (λ end. Renders (string_bytes text.old) (transcript Replies bytes.now capacity) (string_bytes text.new) end) }
-    ensures memory { IfErr result (λ fault. fault ≡ ScriptFault.NoMemory) }
+/// Returns how the run of a script ends that was played so far, and drops the history that is left.
+#[tactic(auto, unfolding(crate::specs::Rendering::played_end))]
+fn end_of(played: Played) -> RunEnd
+    ensures { result ≡ played_end played }
 {
-    match play(alloc, bytes, capacity, text, Work::Run) {
-        Ok(Played::Finished(_)) => Ok(RunEnd::Finished),
-        Ok(Played::BadLine(number)) => Ok(RunEnd::BadLine(number)),
-        Err(fault) => Err(fault),
+    match played {
+        Played::Finished(history) => {
+            drop(history);
+            RunEnd::Finished
+        }
+        Played::BadLine(number) => RunEnd::BadLine(number),
     }
 }
 
-/// Appends the listing of a script, and drops the history that is left.
-fn render_listing(
+/// Appends the transcript of a script, in which steps print what they do for the work.
+fn render_transcript(
     alloc: Global,
     bytes: &[u8],
     capacity: usize,
+    work: Work,
     text: &mut String,
 ) -> Result<RunEnd, ScriptFault>
     requires capacity { IsCapacity capacity }
     requires limit { length bytes.now ≤ input_limit }
-    ensures rendered { IfOk result (λ end. Renders (string_bytes text.old) (transcript Listing bytes.now capacity) (string_bytes text.new) end) }
+    ensures rendered { IfOk result (λ end. Renders (string_bytes text.old) (transcript (prints_for work) bytes.now capacity) (string_bytes text.new) end) }
     ensures memory { IfErr result (λ fault. fault ≡ ScriptFault.NoMemory) }
 {
-    match play(alloc, bytes, capacity, text, Work::Steps) {
-        Ok(Played::Finished(_)) => Ok(RunEnd::Finished),
-        Ok(Played::BadLine(number)) => Ok(RunEnd::BadLine(number)),
+    match play(alloc, bytes, capacity, text, work) {
+        Ok(played) => Ok(end_of(played)),
         Err(fault) => Err(fault),
     }
 }
@@ -200,8 +195,8 @@ impl Render for Run {
     ) -> Result<RunEnd, ScriptFault> {
         let capacity = self.capacity;
         match self.work {
-            Work::Run => render_run(alloc, bytes, capacity, text),
-            Work::Steps => render_listing(alloc, bytes, capacity, text),
+            Work::Run => render_transcript(alloc, bytes, capacity, Work::Run, text),
+            Work::Steps => render_transcript(alloc, bytes, capacity, Work::Steps, text),
             Work::Sources => render_sources(alloc, bytes, capacity, text),
             Work::Report(report) => render_report(alloc, bytes, capacity, report, text),
         }
