@@ -1,6 +1,7 @@
 //! Plain steps, and how tests ask for them.
 use asset_handle::{Code, Handle, PlainAnswer, PlainObject, PlainStep, SLOTS};
 use std::alloc::Global;
+use std::fmt::Debug;
 use std::process::Abort;
 
 /// An answer that no call gives.
@@ -62,6 +63,11 @@ pub(crate) fn on_object(step: PlainStep, x: u64) -> PlainStep {
     }
 }
 
+/// Asserts that what came is what is wanted. An assert in a long function would be proved again with each step before it.
+pub(crate) fn same<T: Copy + Debug + PartialEq>(rt: &impl Abort, came: T, wanted: T) {
+    assert_eq!(rt; came, wanted);
+}
+
 /// Asks for a step.
 pub(crate) fn ask(alloc: Global, handle: &mut Handle, step: &PlainStep) -> (Code, PlainAnswer) {
     let mut answer = UNTOUCHED;
@@ -74,7 +80,7 @@ pub(crate) fn opened(rt: &(impl Abort + AllocGlobal)) -> Handle {
     let mut handle = Handle::closed(rt.alloc());
     let mut double = 77;
     let code = handle.open(rt.alloc(), &TWO, 100, &mut double);
-    assert_eq!(rt; (code, double), (Code::Done, 77));
+    same(rt, (code, double), (Code::Done, 77));
     handle
 }
 
@@ -86,8 +92,8 @@ pub(crate) fn expect(
     answer: (u32, u64, i64),
 ) {
     let (code, told) = ask(rt.alloc(), handle, step);
-    assert_eq!(rt; code, Code::Done);
-    assert_eq!(rt; (told.kind, told.name, told.value), answer);
+    same(rt, code, Code::Done);
+    same(rt, (told.kind, told.name, told.value), answer);
 }
 
 /// Asserts that a step gets this code, and no answer.
@@ -97,7 +103,7 @@ pub(crate) fn expect_code(
     step: &PlainStep,
     code: Code,
 ) {
-    assert_eq!(rt; ask(rt.alloc(), handle, step), (code, UNTOUCHED));
+    same(rt, ask(rt.alloc(), handle, step), (code, UNTOUCHED));
 }
 
 /// Initiates and begins transactions.
@@ -111,8 +117,8 @@ pub(crate) fn begin(rt: &(impl Abort + AllocGlobal), handle: &mut Handle, names:
 /// Asserts how many entries the history has, and closes the handle.
 pub(crate) fn expect_closed(rt: &(impl Abort + AllocGlobal), handle: &mut Handle, entries: usize) {
     let mut len = 77;
-    assert_eq!(rt; handle.len(rt.alloc(), &mut len), Code::Done);
-    assert_eq!(rt; len, entries);
-    assert_eq!(rt; handle.close(rt.alloc()), Code::Done);
-    assert_eq!(rt; handle.close(rt.alloc()), Code::Closed);
+    same(rt, handle.len(rt.alloc(), &mut len), Code::Done);
+    same(rt, len, entries);
+    same(rt, handle.close(rt.alloc()), Code::Done);
+    same(rt, handle.close(rt.alloc()), Code::Closed);
 }

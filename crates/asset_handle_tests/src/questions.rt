@@ -1,5 +1,7 @@
 //! What an open handle tells.
-use crate::asking::{UNTOUCHED, begin, expect, expect_closed, on_object, opened, plain, write};
+use crate::asking::{
+    UNTOUCHED, begin, expect, expect_closed, on_object, opened, plain, same, write,
+};
 use asset_handle::{ALL, Code, Handle, PlainStep, PlainWaiter};
 use std::process::Abort;
 use std::test::Fail;
@@ -24,21 +26,25 @@ fn statuses_and_values(rt: HostRuntime) -> Result<(), Fail> {
     let mut handle = busy(&rt);
     let mut status = 77;
     let mut value = 77;
-    assert_eq!(rt;
+    same(
+        &rt,
         (handle.status(alloc, 7, &mut status), status),
-        (Code::Done, 2)
+        (Code::Done, 2),
     );
-    assert_eq!(rt;
+    same(
+        &rt,
         (handle.status(alloc, 6, &mut status), status),
-        (Code::Done, 0)
+        (Code::Done, 0),
     );
-    assert_eq!(rt;
+    same(
+        &rt,
         (handle.value(alloc, 1, &mut value), value),
-        (Code::Done, -5)
+        (Code::Done, -5),
     );
-    assert_eq!(rt;
+    same(
+        &rt,
         (handle.value(alloc, 3, &mut value), value),
-        (Code::Absent, -5)
+        (Code::Absent, -5),
     );
     expect_closed(&rt, &mut handle, 8);
     Ok(())
@@ -50,25 +56,29 @@ fn waiters_and_groups(rt: HostRuntime) -> Result<(), Fail> {
     let mut handle = busy(&rt);
     let mut waiter = PlainWaiter { name: 77, op: 77 };
     let mut group = 77;
-    assert_eq!(rt; handle.waiter(alloc, 1, 1, &mut waiter), Code::Absent);
-    assert_eq!(rt; (waiter.name, waiter.op), (77, 77));
-    assert_eq!(rt; handle.waiter(alloc, 1, 0, &mut waiter), Code::Done);
-    assert_eq!(rt; (waiter.name, waiter.op), (8, 2));
-    assert_eq!(rt;
+    same(&rt, handle.waiter(alloc, 1, 1, &mut waiter), Code::Absent);
+    same(&rt, (waiter.name, waiter.op), (77, 77));
+    same(&rt, handle.waiter(alloc, 1, 0, &mut waiter), Code::Done);
+    same(&rt, (waiter.name, waiter.op), (8, 2));
+    same(
+        &rt,
         (handle.group_of(alloc, 7, &mut group), group),
-        (Code::Done, 0)
+        (Code::Done, 0),
     );
-    assert_eq!(rt;
+    same(
+        &rt,
         (handle.group_of(alloc, 9, &mut group), group),
-        (Code::Done, 1)
+        (Code::Done, 1),
     );
-    assert_eq!(rt;
+    same(
+        &rt,
         (handle.group_of(alloc, 8, &mut group), group),
-        (Code::Done, 1)
+        (Code::Done, 1),
     );
-    assert_eq!(rt;
+    same(
+        &rt,
         (handle.group_of(alloc, 6, &mut group), group),
-        (Code::Absent, 1)
+        (Code::Absent, 1),
     );
     expect_closed(&rt, &mut handle, 8);
     Ok(())
@@ -87,26 +97,41 @@ fn entries(rt: HostRuntime) -> Result<(), Fail> {
         &on_object(plain(7, 0, 7, 8), 9),
         (21, 9, 0),
     );
-    assert_eq!(rt; handle.entry(alloc, 6, &mut step, &mut answer), Code::Done);
-    assert_eq!(rt;
+    same(
+        &rt,
+        handle.entry(alloc, 6, &mut step, &mut answer),
+        Code::Done,
+    );
+    same(
+        &rt,
         (step.kind, step.first, step.second, step.value),
-        (4, 7, 1, -5)
+        (4, 7, 1, -5),
     );
-    assert_eq!(rt; (answer.kind, answer.name, answer.value), (1, 0, 0));
-    assert_eq!(rt; handle.entry(alloc, 7, &mut step, &mut answer), Code::Done);
-    assert_eq!(rt;
+    same(&rt, (answer.kind, answer.name, answer.value), (1, 0, 0));
+    same(
+        &rt,
+        handle.entry(alloc, 7, &mut step, &mut answer),
+        Code::Done,
+    );
+    same(
+        &rt,
         (step.kind, step.detail, step.first, step.second),
-        (6, 1, 9, 8)
+        (6, 1, 9, 8),
     );
-    assert_eq!(rt; step.count, ALL);
-    assert_eq!(rt; handle.entry(alloc, 8, &mut step, &mut answer), Code::Done);
-    assert_eq!(rt; (step.kind, step.count, step.objects[0]), (7, 1, 9));
-    assert_eq!(rt; (answer.kind, answer.name), (21, 9));
-    assert_eq!(rt;
+    same(&rt, step.count, ALL);
+    same(
+        &rt,
+        handle.entry(alloc, 8, &mut step, &mut answer),
+        Code::Done,
+    );
+    same(&rt, (step.kind, step.count, step.objects[0]), (7, 1, 9));
+    same(&rt, (answer.kind, answer.name), (21, 9));
+    same(
+        &rt,
         handle.entry(alloc, 9, &mut step, &mut answer),
-        Code::Absent
+        Code::Absent,
     );
-    assert_eq!(rt; step.kind, 7);
+    same(&rt, step.kind, 7);
     expect_closed(&rt, &mut handle, 9);
     Ok(())
 }

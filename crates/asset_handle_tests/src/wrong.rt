@@ -1,6 +1,6 @@
 //! Wrong arguments, which get a code and change nothing.
 use crate::asking::{
-    TWO, UNTOUCHED, ask, begin, expect_closed, expect_code, on_object, opened, plain,
+    TWO, UNTOUCHED, ask, begin, expect_closed, expect_code, on_object, opened, plain, same,
 };
 use asset_handle::{ALL, Code, Handle, PlainObject, PlainStep, PlainWaiter};
 use std::test::Fail;
@@ -71,7 +71,7 @@ fn list_of_sixteen(rt: HostRuntime) -> Result<(), Fail> {
         ..plain(6, 1, 7, 8)
     };
     let (code, answer) = ask(rt.alloc(), &mut handle, &step);
-    assert_eq!(rt; (code, answer.kind, answer.name), (Code::Done, 21, 3));
+    same(&rt, (code, answer.kind, answer.name), (Code::Done, 21, 3));
     expect_closed(&rt, &mut handle, 5);
     Ok(())
 }
@@ -88,18 +88,19 @@ fn closed_handle(rt: HostRuntime) -> Result<(), Fail> {
     let mut answer = UNTOUCHED;
     expect_code(&rt, &mut handle, &plain(1, 0, 7, 0), Code::Closed);
     expect_code(&rt, &mut handle, &plain(99, 0, 7, 0), Code::Closed);
-    assert_eq!(rt; handle.status(alloc, 7, &mut status), Code::Closed);
-    assert_eq!(rt; handle.value(alloc, 1, &mut value), Code::Closed);
-    assert_eq!(rt; handle.waiter(alloc, 1, 0, &mut waiter), Code::Closed);
-    assert_eq!(rt; handle.len(alloc, &mut len), Code::Closed);
-    assert_eq!(rt;
+    same(&rt, handle.status(alloc, 7, &mut status), Code::Closed);
+    same(&rt, handle.value(alloc, 1, &mut value), Code::Closed);
+    same(&rt, handle.waiter(alloc, 1, 0, &mut waiter), Code::Closed);
+    same(&rt, handle.len(alloc, &mut len), Code::Closed);
+    same(
+        &rt,
         handle.entry(alloc, 0, &mut step, &mut answer),
-        Code::Closed
+        Code::Closed,
     );
-    assert_eq!(rt; handle.group_of(alloc, 7, &mut len), Code::Closed);
-    assert_eq!(rt; handle.close(alloc), Code::Closed);
-    assert_eq!(rt; (status, value, len, step.kind), (77, 77, 77, 77));
-    assert_eq!(rt; (answer, waiter.name, waiter.op), (UNTOUCHED, 77, 77));
+    same(&rt, handle.group_of(alloc, 7, &mut len), Code::Closed);
+    same(&rt, handle.close(alloc), Code::Closed);
+    same(&rt, (status, value, len, step.kind), (77, 77, 77, 77));
+    same(&rt, (answer, waiter.name, waiter.op), (UNTOUCHED, 77, 77));
     Ok(())
 }
 
@@ -109,20 +110,26 @@ fn openings_that_fail(rt: HostRuntime) -> Result<(), Fail> {
     let mut handle = Handle::closed(alloc);
     let mut double = 77;
     let twice = [5, 3, 5, 3].map(|name| PlainObject { name, value: 1 });
-    assert_eq!(rt; handle.open(alloc, &TWO, 0, &mut double), Code::BadCapacity);
-    assert_eq!(rt;
+    same(
+        &rt,
+        handle.open(alloc, &TWO, 0, &mut double),
+        Code::BadCapacity,
+    );
+    same(
+        &rt,
         handle.open(alloc, &TWO, 1_000_001, &mut double),
-        Code::BadCapacity
+        Code::BadCapacity,
     );
-    assert_eq!(rt; double, 77);
-    assert_eq!(rt;
+    same(&rt, double, 77);
+    same(
+        &rt,
         handle.open(alloc, &twice, 10, &mut double),
-        Code::DoubleObject
+        Code::DoubleObject,
     );
-    assert_eq!(rt; double, 3);
-    assert_eq!(rt; handle.close(alloc), Code::Closed);
-    assert_eq!(rt; handle.open(alloc, &TWO, 4, &mut double), Code::Done);
-    assert_eq!(rt; handle.open(alloc, &TWO, 4, &mut double), Code::IsOpen);
+    same(&rt, double, 3);
+    same(&rt, handle.close(alloc), Code::Closed);
+    same(&rt, handle.open(alloc, &TWO, 4, &mut double), Code::Done);
+    same(&rt, handle.open(alloc, &TWO, 4, &mut double), Code::IsOpen);
     begin(&rt, &mut handle, &[7]);
     expect_code(&rt, &mut handle, &plain(1, 0, 8, 0), Code::Full);
     expect_closed(&rt, &mut handle, 2);
@@ -139,10 +146,10 @@ fn opening_without_memory(rt: HostRuntime) -> Result<(), Fail> {
     let wanted = match code {
         Code::Done => Code::Done,
         code => {
-            assert_eq!(rt; code, Code::NoMemory);
+            same(&rt, code, Code::NoMemory);
             Code::Closed
         }
     };
-    assert_eq!(rt; handle.close(alloc), wanted);
+    same(&rt, handle.close(alloc), wanted);
     Ok(())
 }
