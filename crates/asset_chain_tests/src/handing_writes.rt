@@ -1,5 +1,6 @@
 //! Writes that become another transaction's, on worked values, and what is left if memory runs out.
 
+use crate::asserts::same;
 use crate::objects::{TWO, opened, shows, write};
 use asset_names::{NoMemory, Ob, ObList, ObSet, Txn};
 use asset_objects::Objects;
@@ -218,8 +219,8 @@ fn hand_over_visits_the_records_of_the_giver(rt: HostRuntime) -> Result<(), Fail
     let mut objects = opened(rt.alloc(), &TWO)?;
     let one = visits_beside_others(&mut objects, &first);
     drop(objects);
-    assert_eq!(rt; all?, 1);
-    assert_eq!(rt; one?, 1);
+    same(&rt, all?, 1);
+    same(&rt, one?, 1);
     Ok(())
 }
 

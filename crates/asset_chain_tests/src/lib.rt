@@ -4,6 +4,8 @@
 #[cfg(test)]
 mod adds;
 #[cfg(test)]
+mod asserts;
+#[cfg(test)]
 mod handing_writes;
 #[cfg(test)]
 mod many_live;

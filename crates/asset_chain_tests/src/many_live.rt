@@ -1,5 +1,6 @@
 //! Five thousand transactions live at once.
 
+use crate::asserts::same;
 use crate::trans::{begin, complete, end, initiate, shows};
 use asset_names::{End, Status, Txn};
 use asset_trans::Trans;
@@ -71,6 +72,6 @@ fn five_thousand_transactions_live(rt: HostRuntime) {
     let wrong = wrong_ones(&mut trans);
     let ended = (trans.ended(End::Committed), trans.ended(End::Aborted));
     drop(trans);
-    assert_eq!(rt; wrong, [None; 4]);
-    assert_eq!(rt; ended, (LIVE, 0));
+    same(&rt, wrong, [None; 4]);
+    same(&rt, ended, (LIVE, 0));
 }

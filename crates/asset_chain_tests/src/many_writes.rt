@@ -1,5 +1,6 @@
 //! A thousand writes stand at once.
 
+use crate::asserts::{holds, same};
 use crate::objects::write_once;
 use asset_names::{Ob, Txn};
 use asset_objects::Objects;
@@ -71,7 +72,7 @@ fn thousand_writes_stand(rt: HostRuntime) -> Result<(), Fail> {
     let missing = first_not_written(&mut objects);
     let shown = ends_are_shown(&mut objects);
     drop(objects);
-    assert_eq!(rt; missing, None);
-    assert!(rt; shown);
+    same(&rt, missing, None);
+    holds(&rt, shown);
     Ok(())
 }

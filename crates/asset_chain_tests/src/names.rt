@@ -1,5 +1,6 @@
 //! Sets and lists, statuses, refusals and outcomes, on values worked out by hand.
 
+use crate::asserts::{holds, same};
 use asset_names::{
     Ob, ObList, ObSet, Op, Ops, Outcome, Refusal, Reply, SetFault, Status, Step, Txn,
     commit_outcome, least_double, refusal_between, refusal_to_abort, refusal_to_begin,
@@ -15,24 +16,27 @@ const TOO_MANY: usize = 17;
 
 #[test]
 fn sets_of_operations(rt: HostRuntime) -> Result<(), Fail> {
-    assert!(rt; Ops::new(false, false).is_none());
+    holds(&rt, Ops::new(false, false).is_none());
     let reads = Ops::new(true, false).ok_or("reads")?;
-    assert!(rt; reads.has(Op::Read) && !reads.has(Op::Write));
+    holds(&rt, reads.has(Op::Read) && !reads.has(Op::Write));
     let writes = Ops::new(false, true).ok_or("writes")?;
-    assert!(rt; writes.has(Op::Write) && !writes.has(Op::Read));
+    holds(&rt, writes.has(Op::Write) && !writes.has(Op::Read));
     let both = Ops::new(true, true).ok_or("both")?;
-    assert!(rt; both.has(Op::Read) && both.has(Op::Write));
+    holds(&rt, both.has(Op::Read) && both.has(Op::Write));
     Ok(())
 }
 
 #[test]
 fn sets_of_operations_grow(rt: HostRuntime) {
     let (reads, writes) = (Ops::only(Op::Read), Ops::only(Op::Write));
-    assert!(rt; reads.has(Op::Read) && !reads.has(Op::Write));
-    assert!(rt; writes.has(Op::Write) && !writes.has(Op::Read));
-    assert!(rt; reads.with(Op::Read) == reads && writes.with(Op::Write) == writes);
+    holds(&rt, reads.has(Op::Read) && !reads.has(Op::Write));
+    holds(&rt, writes.has(Op::Write) && !writes.has(Op::Read));
+    holds(
+        &rt,
+        reads.with(Op::Read) == reads && writes.with(Op::Write) == writes,
+    );
     for both in [reads.with(Op::Write), writes.with(Op::Read)] {
-        assert!(rt; both.has(Op::Read) && both.has(Op::Write));
+        holds(&rt, both.has(Op::Read) && both.has(Op::Write));
     }
 }
 
@@ -53,12 +57,15 @@ fn makes(objects: &[Ob], rising: &[Ob]) -> bool {
 #[test]
 fn list_is_kept_rising(rt: HostRuntime) {
     let given = [Ob(5), Ob(0), Ob(7)];
-    assert!(rt; makes(&given, &[Ob(0), Ob(5), Ob(7)]));
+    holds(&rt, makes(&given, &[Ob(0), Ob(5), Ob(7)]));
     for (x, listed) in [(0, true), (1, false), (5, true), (7, true), (8, false)] {
         assert_eq!(rt; have(&given, x), Ok((listed, listed)), "object {x}");
     }
-    assert!(rt; ObList::of(&[Ob(7), Ob(5), Ob(0)]) == ObList::of(&given));
-    assert!(rt; ObSet::All.has(Ob(3)));
+    holds(
+        &rt,
+        ObList::of(&[Ob(7), Ob(5), Ob(0)]) == ObList::of(&given),
+    );
+    holds(&rt, ObSet::All.has(Ob(3)));
 }
 
 /// Returns the only object of the set that lists these, if they make a list.
@@ -74,10 +81,10 @@ fn one_is_a_list(x: Ob) -> bool {
 
 #[test]
 fn only_object_of_a_set(rt: HostRuntime) {
-    assert!(rt; one_is_a_list(Ob(5)));
-    assert_eq!(rt; only_of(&[Ob(5)]), Ok(Some(Ob(5))));
-    assert_eq!(rt; only_of(&[Ob(5), Ob(0)]), Ok(None));
-    assert_eq!(rt; ObSet::All.only(), None);
+    holds(&rt, one_is_a_list(Ob(5)));
+    same(&rt, only_of(&[Ob(5)]), Ok(Some(Ob(5))));
+    same(&rt, only_of(&[Ob(5), Ob(0)]), Ok(None));
+    same(&rt, ObSet::All.only(), None);
 }
 
 /// Returns one object more than a list has, of which none is given twice.
@@ -168,17 +175,23 @@ fn outcomes_and_statuses(rt: HostRuntime) {
         (Status::Committed, false, committed),
         (Status::Aborted, true, aborted),
     ] {
-        assert_eq!(rt; commit_outcome(status, may), outcome);
+        same(&rt, commit_outcome(status, may), outcome);
     }
     for (status, outcome) in [
         (Status::Running, Outcome::Wait),
         (Status::Completed, Outcome::Answer(Reply::Done)),
         (Status::Aborted, aborted),
     ] {
-        assert_eq!(rt; wait_outcome(status), outcome);
+        same(&rt, wait_outcome(status), outcome);
     }
-    assert!(rt; takes_effect(&Step::Begin { t: Txn(7) }, Reply::Done));
-    assert!(rt; !takes_effect(&Step::WaitFor { t: Txn(7) }, Reply::Done));
-    assert!(rt; Op::Write.conflicts_with(Op::Read) && !Op::Read.conflicts_with(Op::Read));
-    assert!(rt; statuses_are_shown());
+    holds(&rt, takes_effect(&Step::Begin { t: Txn(7) }, Reply::Done));
+    holds(
+        &rt,
+        !takes_effect(&Step::WaitFor { t: Txn(7) }, Reply::Done),
+    );
+    holds(
+        &rt,
+        Op::Write.conflicts_with(Op::Read) && !Op::Read.conflicts_with(Op::Read),
+    );
+    holds(&rt, statuses_are_shown());
 }

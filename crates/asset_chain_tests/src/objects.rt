@@ -1,5 +1,6 @@
 //! Each public call once, on worked values, and what is left if memory runs out.
 
+use crate::asserts::same;
 use asset_names::{NoMemory, Ob, Txn, least_double};
 use asset_objects::{Objects, ObjectsFault};
 use std::alloc::Global;
@@ -64,9 +65,9 @@ fn fault(alloc: Global, opening: &[(Ob, i64)]) -> Option<ObjectsFault> {
 fn double_object_is_refused(rt: HostRuntime) -> Result<(), Fail> {
     let double = [(Ob(1), 1), (Ob(1), 2)];
     let twice = ObjectsFault::DoubleObject(Ob(1));
-    assert_eq!(rt; fault(rt.alloc(), &double), Some(twice));
+    same(&rt, fault(rt.alloc(), &double), Some(twice));
     let text = format!(in rt.alloc(); "{twice}")?;
-    assert_eq!(rt; text.as_str(), "object 1 was given twice");
+    same(&rt, text.as_str(), "object 1 was given twice");
     Ok(())
 }
 

@@ -1,6 +1,7 @@
 //! Objects beside a plain list of updates that does the same by scanning, and how many records an end or a hand-over visits.
 
 use crate::adds::add_once;
+use crate::asserts::same;
 use crate::objects::write_once;
 use asset_names::{NoMemory, Ob, ObList, ObSet, Txn};
 use asset_objects::Objects;
@@ -305,8 +306,8 @@ fn visits_beside(rt: &HostRuntime, others: i64) -> Result<usize, Fail> {
 
 #[test]
 fn undo_visits_a_record_and_those_beside_it(rt: HostRuntime) -> Result<(), Fail> {
-    assert_eq!(rt; visits_beside(&rt, 0)?, 2);
-    assert_eq!(rt; visits_beside(&rt, OTHERS)?, 2);
+    same(&rt, visits_beside(&rt, 0)?, 2);
+    same(&rt, visits_beside(&rt, OTHERS)?, 2);
     Ok(())
 }
 

@@ -1,6 +1,7 @@
 //! Lists of calls that are audited against a history of ten entries.
 
 use crate::again::{ROOM, THREE};
+use crate::asserts::same;
 use asset_core::{Core, History};
 use asset_core_tests::{ask, opened as opened_core};
 use asset_manager::{AuditFault, Calls, OpenFault, laws};
@@ -88,14 +89,21 @@ fn first_difference_is_found(rt: HostRuntime) -> Result<(), Fail> {
     let history = ten_entries(rt.alloc())?;
     let found = audit_different(&history);
     drop(history);
-    assert_eq!(rt; found[0], differs(1, 0));
-    assert_eq!(rt; found[1], differs(0, 0));
-    assert_eq!(rt; found[2], differs(0, 1));
-    assert_eq!(rt; found[3], differs(0, 5));
-    assert_eq!(rt; found[4], differs(0, 3));
-    assert_eq!(rt; found[5], differs(0, 10));
-    assert_eq!(rt; found[6], differs(0, 0));
-    assert_eq!(rt; found[7], differs(1, 4));
+    let calls = [
+        (1, 0),
+        (0, 0),
+        (0, 1),
+        (0, 5),
+        (0, 3),
+        (0, 10),
+        (0, 0),
+        (1, 4),
+    ];
+    same(
+        &rt,
+        found,
+        calls.map(|(session, number)| differs(session, number)),
+    );
     Ok(())
 }
 
@@ -116,8 +124,16 @@ fn calls_are_counted(rt: HostRuntime) -> Result<(), Fail> {
     let history = ten_entries(rt.alloc())?;
     let found = audit_alike(&history);
     drop(history);
-    assert_eq!(rt; found[0], Err(AuditFault::Missing { told: 0, kept: 10 }));
-    assert_eq!(rt; found[1], Ok(()));
-    assert_eq!(rt; found[2], Err(AuditFault::Missing { told: 9, kept: 10 }));
+    same(
+        &rt,
+        found[0],
+        Err(AuditFault::Missing { told: 0, kept: 10 }),
+    );
+    same(&rt, found[1], Ok(()));
+    same(
+        &rt,
+        found[2],
+        Err(AuditFault::Missing { told: 9, kept: 10 }),
+    );
     Ok(())
 }

@@ -1,5 +1,6 @@
 //! The audit of short lists against a history of ten entries.
 
+use crate::asserts::same;
 use crate::told::Told;
 use asset_audit::{AuditFault, audit};
 use asset_core::{Core, OpenFault};
@@ -155,24 +156,26 @@ fn earlier_call_is_found_first(rt: HostRuntime) -> Result<(), Fail> {
     let after = [(0, begin(7), Reply::Done), others[1]];
     let before = [others[1], (6, begin(8), Reply::Done)];
     let lists = [Told { calls: &others }, Told { calls: &after }];
-    assert_eq!(rt; found(rt.alloc(), &lists)?, differs(1, 0));
+    same(&rt, found(rt.alloc(), &lists)?, differs(1, 0));
     let lists = [Told { calls: &others }, Told { calls: &before }];
-    assert_eq!(rt; found(rt.alloc(), &lists)?, differs(1, 2));
+    same(&rt, found(rt.alloc(), &lists)?, differs(1, 2));
     Ok(())
 }
 
 #[test]
 fn calls_that_nobody_has_are_missing(rt: HostRuntime) -> Result<(), Fail> {
     let none: [Told; 0] = [];
-    assert_eq!(rt;
+    same(
+        &rt,
         found(rt.alloc(), &none)?,
-        Err(AuditFault::Missing { told: 0, kept: 10 })
+        Err(AuditFault::Missing { told: 0, kept: 10 }),
     );
     let calls = seven();
     let lists = [Told { calls: &calls }];
-    assert_eq!(rt;
+    same(
+        &rt,
         found(rt.alloc(), &lists)?,
-        Err(AuditFault::Missing { told: 5, kept: 10 })
+        Err(AuditFault::Missing { told: 5, kept: 10 }),
     );
     Ok(())
 }

@@ -5,6 +5,7 @@ ghost use Rattle.std.specs.Thread.{IsSync};
 ghost use Rattle.asset_counts.specs.Pass.{IsOf};
 
 use crate::again::{is_answered, opened, shown};
+use crate::asserts::{holds, same};
 use crate::closing::{hand_in, room_for};
 use crate::script::is_replayed;
 use asset_core::{Core, History};
@@ -196,19 +197,24 @@ fn left_by_four<R: Threads + Wait + Sync>(rt: &R, alloc: Global, all: bool) -> R
     let good = four_run(rt, &manager, &mut a, &mut b, &mut c, &mut d);
     let counts = shown(&manager);
     let last = d.calls().len();
-    let three = [a.calls().len(), b.calls().len(), c.calls().len()];
-    let told = three[0].saturating_add(three[1]).saturating_add(three[2]);
-    let handed = hand_in(&mut closing, a)
-        && hand_in(&mut closing, b)
-        && hand_in(&mut closing, c)
-        && (!all || hand_in(&mut closing, d));
+    let others = [a.calls().len(), b.calls().len(), c.calls().len()];
+    let told = others[0]
+        .saturating_add(others[1])
+        .saturating_add(others[2]);
+    let three = hand_in(&mut closing, a) & hand_in(&mut closing, b) & hand_in(&mut closing, c);
+    let fourth = if all {
+        hand_in(&mut closing, d)
+    } else {
+        drop(d);
+        true
+    };
     let closed = manager.close(closing);
     let kept = closed.history.len();
     let audit = closed.audit;
     let replayed = is_a_history(alloc, &closed.history);
     drop(closed);
     Ok(Left {
-        good: good && handed,
+        good: good && three && fourth,
         told: [told.saturating_add(last), last],
         counts,
         kept,
@@ -227,10 +233,10 @@ fn four_threads_leave_one_history(rt: HostRuntime) -> Result<(), Fail> {
         replayed,
         audit,
     } = left_by_four(&rt, rt.alloc(), true)?;
-    assert_eq!(rt; (good, replayed, audit), (true, true, Ok(())));
-    assert_eq!(rt; (told[0], counts.entries), (kept, kept as u64));
-    assert_eq!(rt; counts.committed.saturating_add(counts.aborted), 2_000);
-    assert!(rt; kept >= 8_000);
+    same(&rt, (good, replayed, audit), (true, true, Ok(())));
+    same(&rt, (told[0], counts.entries), (kept, kept as u64));
+    same(&rt, counts.committed.saturating_add(counts.aborted), 2_000);
+    holds(&rt, kept >= 8_000);
     Ok(())
 }
 
@@ -245,7 +251,7 @@ fn one_of_four_sessions_is_missed(rt: HostRuntime) -> Result<(), Fail> {
         audit,
     } = left_by_four(&rt, rt.alloc(), false)?;
     let told = kept.saturating_sub(last);
-    assert_eq!(rt; (good, replayed, all), (true, true, kept));
-    assert_eq!(rt; audit, Err(AuditFault::Missing { told, kept }));
+    same(&rt, (good, replayed, all), (true, true, kept));
+    same(&rt, audit, Err(AuditFault::Missing { told, kept }));
     Ok(())
 }

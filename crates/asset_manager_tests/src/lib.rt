@@ -11,6 +11,8 @@ pub use closing::{close_one, close_three, close_two, hand_in, room_for};
 pub use script::{first_wrong_line, is_replayed};
 
 #[cfg(test)]
+mod asserts;
+#[cfg(test)]
 mod audit;
 #[cfg(test)]
 mod audit_rows;

@@ -3,6 +3,7 @@
 ghost use Rattle.asset_counts.specs.Pass.{IsOf};
 
 use crate::again::{ROOM, THREE, opened, reserved, shown};
+use crate::asserts::same;
 use crate::closing::{close_one, close_three, close_two, hand_in, room_for};
 use crate::script::first_wrong_line;
 use asset_manager::{AuditFault, Counts, Manager, OpenFault, Session};
@@ -56,9 +57,9 @@ fn ten_calls_are_all_in_the_history(rt: HostRuntime) -> Result<(), Fail> {
     let counts = shown(&manager);
     let lens = [first.calls().len(), a.calls().len(), b.calls().len()];
     let closed = close_three(manager, closing, first, a, b);
-    assert_eq!(rt; asked, (true, [None; 3]));
-    assert_eq!(rt; (counts, lens), (TEN, [2, 4, 4]));
-    assert_eq!(rt; closed, (10, Ok(())));
+    same(&rt, asked, (true, [None; 3]));
+    same(&rt, (counts, lens), (TEN, [2, 4, 4]));
+    same(&rt, closed, (10, Ok(())));
     Ok(())
 }
 
@@ -72,10 +73,11 @@ fn session_kept_back_is_missed(rt: HostRuntime) -> Result<(), Fail> {
     let asked = asks_ten(&rt, alloc, &manager, &mut first, &mut a, &mut b);
     drop(b);
     let closed = close_two(manager, closing, first, a);
-    assert_eq!(rt; asked, (true, [None; 3]));
-    assert_eq!(rt;
+    same(&rt, asked, (true, [None; 3]));
+    same(
+        &rt,
         closed,
-        (10, Err(AuditFault::Missing { told: 6, kept: 10 }))
+        (10, Err(AuditFault::Missing { told: 6, kept: 10 })),
     );
     Ok(())
 }
@@ -128,8 +130,8 @@ fn four_asks_wait_and_list_nothing(rt: HostRuntime) -> Result<(), Fail> {
     let mut b = first.split();
     let asked = asks_a_wait(&rt, alloc, &manager, &mut first, &mut a, &mut b);
     let closed = close_three(manager, closing, first, a, b);
-    assert_eq!(rt; asked, (true, [4, 1, 0], [None; 4]));
-    assert_eq!(rt; closed, (7, Ok(())));
+    same(&rt, asked, (true, [4, 1, 0], [None; 4]));
+    same(&rt, closed, (7, Ok(())));
     Ok(())
 }
 
@@ -204,8 +206,8 @@ fn split_session_is_joined(rt: HostRuntime) -> Result<(), Fail> {
     let (manager, mut first) = opened(alloc, &THREE, ROOM)?;
     let asked = splits_and_joins(&rt, alloc, &manager, &mut first);
     let closed = close_one(manager, closing, first);
-    assert_eq!(rt; asked, (None, true, true));
-    assert_eq!(rt; closed, (2, Ok(())));
+    same(&rt, asked, (None, true, true));
+    same(&rt, closed, (2, Ok(())));
     Ok(())
 }
 
@@ -233,7 +235,7 @@ fn refusal_is_listed_and_a_fault_is_not(rt: HostRuntime) -> Result<(), Fail> {
     let (manager, mut first) = opened(alloc, &THREE, 5)?;
     let asked = asks_without_room(&rt, alloc, &manager, &mut first);
     let closed = close_one(manager, closing, first);
-    assert_eq!(rt; asked, (true, None, [true; 2]));
-    assert_eq!(rt; closed, (3, Ok(())));
+    same(&rt, asked, (true, None, [true; 2]));
+    same(&rt, closed, (3, Ok(())));
     Ok(())
 }

@@ -3,6 +3,7 @@
 ghost use Rattle.asset_counts.specs.Pass.{IsOf};
 
 use crate::again::{ROOM, THREE, opened, reserved};
+use crate::asserts::{holds, same};
 use crate::closing::{close_two, room_for};
 use crate::script::first_wrong_line;
 use asset_manager::{Manager, Session};
@@ -79,9 +80,9 @@ fn session_is_told_who_shares(rt: HostRuntime) -> Result<(), Fail> {
     let apart = [(seven, false), (Some(Txn(8)), false), (None, false)];
     let shared = [(seven, false), (seven, false), (None, false)];
     let committed = [(seven, true), (seven, true), (None, false)];
-    assert!(rt; room);
-    assert_eq!(rt; wrong, [None; 4]);
-    assert_eq!(rt; facts, [apart, shared, committed]);
-    assert_eq!(rt; closed, (8, Ok(())));
+    holds(&rt, room);
+    same(&rt, wrong, [None; 4]);
+    same(&rt, facts, [apart, shared, committed]);
+    same(&rt, closed, (8, Ok(())));
     Ok(())
 }

@@ -3,6 +3,7 @@
 ghost use Rattle.asset_counts.specs.Pass.{IsOf};
 
 use crate::again::{THREE, is_answered, opened, shown};
+use crate::asserts::{holds, same};
 use crate::closing::{close_one, hand_in, room_for};
 use asset_manager::{Counts, Manager, Session};
 use asset_names::{Outcome, Refusal, Reply, Step, Txn};
@@ -57,9 +58,9 @@ fn three_hundred_sessions_are_audited(rt: HostRuntime) -> Result<(), Fail> {
         committed: 300,
         aborted: 0,
     };
-    assert!(rt; good);
-    assert_eq!(rt; counts, expected);
-    assert_eq!(rt; closed, (1_800, Ok(())));
+    holds(&rt, good);
+    same(&rt, counts, expected);
+    same(&rt, closed, (1_800, Ok(())));
     Ok(())
 }
 
@@ -95,8 +96,8 @@ fn five_thousand_calls_are_listed(rt: HostRuntime) -> Result<(), Fail> {
     let refused = refused_often(&rt, &manager, &mut session);
     let listed = (session.calls().len(), last_number(&session));
     let closed = close_one(manager, closing, session);
-    assert_eq!(rt; refused, CALLS);
-    assert_eq!(rt; listed, (CALLS, Some(CALLS - 1)));
-    assert_eq!(rt; closed, (CALLS, Ok(())));
+    same(&rt, refused, CALLS);
+    same(&rt, listed, (CALLS, Some(CALLS - 1)));
+    same(&rt, closed, (CALLS, Ok(())));
     Ok(())
 }

@@ -4,6 +4,7 @@ ghost use Rattle.std.specs.Thread.{IsSync};
 ghost use Rattle.asset_counts.specs.Pass.{IsOf};
 
 use crate::again::{ROOM, THREE, is_answered, opened};
+use crate::asserts::same;
 use crate::closing::{close_two, room_for};
 use crate::script::first_wrong_line;
 use asset_manager::{Manager, Session};
@@ -142,8 +143,8 @@ fn reader_sleeps_until_the_abort(rt: HostRuntime) -> Result<(), Fail> {
     let mut reader = writer.split();
     let asked = waits_and_goes_on(&rt, alloc, &manager, &mut reader, &mut writer, How::Asleep);
     let closed = close_two(manager, closing, reader, writer);
-    assert_eq!(rt; asked, (None, (true, true)));
-    assert_eq!(rt; closed, (7, Ok(())));
+    same(&rt, asked, (None, (true, true)));
+    same(&rt, closed, (7, Ok(())));
     Ok(())
 }
 
@@ -155,7 +156,7 @@ fn reader_turns_until_the_abort(rt: HostRuntime) -> Result<(), Fail> {
     let mut reader = writer.split();
     let asked = waits_and_goes_on(&rt, alloc, &manager, &mut reader, &mut writer, How::ByTurns);
     let closed = close_two(manager, closing, reader, writer);
-    assert_eq!(rt; asked, (None, (true, true)));
-    assert_eq!(rt; closed, (7, Ok(())));
+    same(&rt, asked, (None, (true, true)));
+    same(&rt, closed, (7, Ok(())));
     Ok(())
 }

@@ -6,6 +6,7 @@ ghost use Rattle.asset_counts.specs.Shown.{no_counts};
 ghost use Rattle.asset_counts.specs.Pass.{IsOf};
 
 use crate::again::{ROOM, THREE, is_answered, opened};
+use crate::asserts::same;
 use crate::closing::{close_two, room_for};
 use asset_counts::{Publisher, Watch, WatchPass};
 use asset_manager::{Counts, Manager, Session};
@@ -62,8 +63,8 @@ fn two_threads_see_two_entries(rt: HostRuntime) -> Result<(), Fail> {
     let mut second = first.split();
     let seen = both_look(&rt, &manager, &mut first, &mut second);
     let closed = close_two(manager, closing, first, second);
-    assert_eq!(rt; seen, (true, true));
-    assert_eq!(rt; closed, (2, Ok(())));
+    same(&rt, seen, (true, true));
+    same(&rt, closed, (2, Ok(())));
     Ok(())
 }
 

@@ -1,6 +1,7 @@
 //! Drawn models with steps of another client between their own, each end compared with statuses and values. Now and then the
 //! other client aborts a transaction of the model.
 
+use crate::asserts::{holds, same};
 use crate::drawn::{drawn_part, other_acts, values};
 use crate::parts::part;
 use crate::shared::Shared;
@@ -267,9 +268,12 @@ fn run_all(alloc: Global) -> Result<(Option<u64>, Ends, usize), OpenFault> {
 #[test]
 fn models_are_told_with_others_between_their_steps(rt: HostRuntime) -> Result<(), Fail> {
     let (wrong, ends, steps) = run_all(rt.alloc())?;
-    assert_eq!(rt; wrong, None);
+    same(&rt, wrong, None);
     let [committed, aborted, undone, stopped, refused] = ends;
-    assert!(rt; committed > 0 && aborted > 0 && undone > 0 && stopped > 0 && refused > 0);
-    assert_eq!(rt; steps > 10_000, true);
+    holds(
+        &rt,
+        committed > 0 && aborted > 0 && undone > 0 && stopped > 0 && refused > 0,
+    );
+    same(&rt, steps > 10_000, true);
     Ok(())
 }

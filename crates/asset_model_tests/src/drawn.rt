@@ -1,6 +1,7 @@
 //! Drawn models beside another client of the same facility, each end compared with statuses and values. An end by `NoMemory`
 //! comes only if an allocation is made to fail: the test counts the entries, so that not all models end so.
 
+use crate::asserts::same;
 use crate::parts::part;
 use asset_core::Core;
 use asset_core_tests::{THREE, opened};
@@ -238,7 +239,7 @@ fn drawn_models_are_told_as_they_ended(rt: HostRuntime) -> Result<(), Fail> {
     let wrong = first_wrong_round(alloc, &mut core);
     let steps = core.history().len();
     drop(core.into_history());
-    assert_eq!(rt; wrong, None);
-    assert_eq!(rt; steps > 5_000, true);
+    same(&rt, wrong, None);
+    same(&rt, steps > 5_000, true);
     Ok(())
 }

@@ -1,6 +1,7 @@
 //! Worked rows of the models over a `Core` with objects 1, 2 and 3, which have 100, 200 and 300. If memory runs out in a row,
 //! its history has no more than its first lines, and the row is made again.
 
+use crate::asserts::same;
 use crate::counting::Counting;
 use crate::parts::part;
 use crate::rows_of::{Row, row_of};
@@ -43,8 +44,12 @@ fn child_reads_and_hands_over_to_its_parent(rt: HostRuntime) -> Result<(), Fail>
     if ran_out(&row) {
         row = nested_row(alloc)?;
     }
-    assert_eq!(rt; (row.end, row.missing), (Ok(ModelEnd::Committed), Some(0)));
-    assert_eq!(rt; row.values, [Some(50), Some(80), Some(300)]);
+    same(
+        &rt,
+        (row.end, row.missing),
+        (Ok(ModelEnd::Committed), Some(0)),
+    );
+    same(&rt, row.values, [Some(50), Some(80), Some(300)]);
     Ok(())
 }
 
@@ -64,8 +69,12 @@ fn one_transaction_adds(rt: HostRuntime) -> Result<(), Fail> {
     if ran_out(&row) {
         row = atomic_add_row(alloc)?;
     }
-    assert_eq!(rt; (row.end, row.missing), (Ok(ModelEnd::Committed), Some(0)));
-    assert_eq!(rt; row.values[0], Some(105));
+    same(
+        &rt,
+        (row.end, row.missing),
+        (Ok(ModelEnd::Committed), Some(0)),
+    );
+    same(&rt, row.values[0], Some(105));
     Ok(())
 }
 
@@ -87,8 +96,12 @@ fn child_adds_to_what_its_parent_wrote(rt: HostRuntime) -> Result<(), Fail> {
     if ran_out(&row) {
         row = nested_add_row(alloc)?;
     }
-    assert_eq!(rt; (row.end, row.missing), (Ok(ModelEnd::Committed), Some(0)));
-    assert_eq!(rt; row.values[0], Some(55));
+    same(
+        &rt,
+        (row.end, row.missing),
+        (Ok(ModelEnd::Committed), Some(0)),
+    );
+    same(&rt, row.values[0], Some(55));
     Ok(())
 }
 
@@ -111,11 +124,16 @@ fn second_alternative_commits(rt: HostRuntime) -> Result<(), Fail> {
     if ran_out(&row) {
         row = contingent_row(alloc)?;
     }
-    assert_eq!(rt; (row.end, row.missing), (Ok(ModelEnd::Committed), Some(0)));
-    assert_eq!(rt; row.values[0], Some(60));
-    assert_eq!(rt;
+    same(
+        &rt,
+        (row.end, row.missing),
+        (Ok(ModelEnd::Committed), Some(0)),
+    );
+    same(&rt, row.values[0], Some(60));
+    same(
+        &rt,
         row.statuses,
-        [Status::Aborted, Status::Committed, Status::Unknown]
+        [Status::Aborted, Status::Committed, Status::Unknown],
     );
     Ok(())
 }
@@ -138,11 +156,16 @@ fn part_that_gives_up_aborts_all(rt: HostRuntime) -> Result<(), Fail> {
     if ran_out(&row) {
         row = distributed_row(alloc)?;
     }
-    assert_eq!(rt; (row.end, row.missing), (Ok(ModelEnd::Aborted), Some(0)));
-    assert_eq!(rt; row.values[0], Some(100));
-    assert_eq!(rt;
+    same(
+        &rt,
+        (row.end, row.missing),
+        (Ok(ModelEnd::Aborted), Some(0)),
+    );
+    same(&rt, row.values[0], Some(100));
+    same(
+        &rt,
         row.statuses,
-        [Status::Aborted, Status::Aborted, Status::Unknown]
+        [Status::Aborted, Status::Aborted, Status::Unknown],
     );
     Ok(())
 }
@@ -166,11 +189,12 @@ fn saga_is_undone(rt: HostRuntime) -> Result<(), Fail> {
     if ran_out(&row) {
         row = saga_row(alloc)?;
     }
-    assert_eq!(rt; (row.end, row.missing), (Ok(ModelEnd::Undone), Some(0)));
-    assert_eq!(rt; row.values[0], Some(100));
-    assert_eq!(rt;
+    same(&rt, (row.end, row.missing), (Ok(ModelEnd::Undone), Some(0)));
+    same(&rt, row.values[0], Some(100));
+    same(
+        &rt,
         row.statuses,
-        [Status::Aborted, Status::Committed, Status::Unknown]
+        [Status::Aborted, Status::Committed, Status::Unknown],
     );
     Ok(())
 }
@@ -194,8 +218,12 @@ fn split_write_stands_after_an_abort(rt: HostRuntime) -> Result<(), Fail> {
     if row.end == Err(Fault::NoMemory) {
         row = split_row(alloc)?;
     }
-    assert_eq!(rt; (row.end, row.missing), (Ok(ModelEnd::Committed), Some(0)));
-    assert_eq!(rt; row.values, [Some(50), Some(200), Some(300)]);
+    same(
+        &rt,
+        (row.end, row.missing),
+        (Ok(ModelEnd::Committed), Some(0)),
+    );
+    same(&rt, row.values, [Some(50), Some(200), Some(300)]);
     Ok(())
 }
 
@@ -218,8 +246,12 @@ fn joined_write_falls_with_its_taker(rt: HostRuntime) -> Result<(), Fail> {
     if row.end == Err(Fault::NoMemory) {
         row = join_row(alloc)?;
     }
-    assert_eq!(rt; (row.end, row.missing), (Ok(ModelEnd::Committed), Some(0)));
-    assert_eq!(rt; row.values[0], Some(100));
+    same(
+        &rt,
+        (row.end, row.missing),
+        (Ok(ModelEnd::Committed), Some(0)),
+    );
+    same(&rt, row.values[0], Some(100));
     Ok(())
 }
 
@@ -241,11 +273,16 @@ fn one_reads_what_the_other_wrote(rt: HostRuntime) -> Result<(), Fail> {
     if ran_out(&row) {
         row = cooperating_row(alloc)?;
     }
-    assert_eq!(rt; (row.end, row.missing), (Ok(ModelEnd::Committed), Some(0)));
-    assert_eq!(rt; row.values[0], Some(60));
-    assert_eq!(rt;
+    same(
+        &rt,
+        (row.end, row.missing),
+        (Ok(ModelEnd::Committed), Some(0)),
+    );
+    same(&rt, row.values[0], Some(60));
+    same(
+        &rt,
         row.statuses,
-        [Status::Committed, Status::Committed, Status::Unknown]
+        [Status::Committed, Status::Committed, Status::Unknown],
     );
     Ok(())
 }
@@ -276,10 +313,10 @@ fn write_that_waits_is_asked_three_times(rt: HostRuntime) -> Result<(), Fail> {
         (row, asks) = waiting_row(alloc)?;
     }
     let stopped = Ok(ModelEnd::Stopped(write(7, 1, 9)));
-    assert_eq!(rt; (row.end, row.missing), (stopped, Some(0)));
+    same(&rt, (row.end, row.missing), (stopped, Some(0)));
     // The initiate and the begin are asked once each.
-    assert_eq!(rt; asks, 5);
-    assert_eq!(rt; row.statuses[1], Status::Running);
+    same(&rt, asks, 5);
+    same(&rt, row.statuses[1], Status::Running);
     Ok(())
 }
 
@@ -301,10 +338,11 @@ fn name_that_was_used_is_refused(rt: HostRuntime) -> Result<(), Fail> {
     if first == Err(Fault::NoMemory) {
         (first, row) = again_row(alloc)?;
     }
-    assert_eq!(rt; first, Ok(ModelEnd::Committed));
-    assert_eq!(rt;
+    same(&rt, first, Ok(ModelEnd::Committed));
+    same(
+        &rt,
         (row.end, row.missing),
-        (Ok(ModelEnd::Refused(initiate(7))), Some(0))
+        (Ok(ModelEnd::Refused(initiate(7))), Some(0)),
     );
     Ok(())
 }
