@@ -1,5 +1,6 @@
 //! What is answered when a reader or a writer of a job script fails in mid-stream.
 
+use crate::asserts::{holds, same};
 use asset_jobs::{JobText, JobsFault, read_jobs, write_jobs};
 use asset_names::{Counts, Txn};
 use asset_scripts::{Device, ScriptFault};
@@ -89,8 +90,8 @@ fn endless_reader_is_given_up(rt: HostRuntime) {
         Ok(_script) => None,
         Err(fault) => Some(fault),
     };
-    assert_eq!(rt; fault, Some(JobsFault::Read));
-    assert!(rt; !input.failed());
+    same(&rt, fault, Some(JobsFault::Read));
+    holds(&rt, !input.failed());
 }
 
 const ROWS: [(Txn, JobText); 2] = [(Txn(7), JobText::Committed), (Txn(8), JobText::NotBegun)];

@@ -1,5 +1,6 @@
 //! What job scripts say, and which of their lines are bad.
 
+use crate::asserts::same;
 use asset_jobs::{JobAct, JobScript, JobsFault, names_of, read_jobs};
 use asset_names::{Ob, Txn};
 use asset_scripts::Device;
@@ -19,22 +20,24 @@ const TWO_JOBS: &[u8] =
 #[test]
 fn script_says_its_objects_and_jobs(rt: HostRuntime) -> Result<(), Fail> {
     let script = read(rt.alloc(), TWO_JOBS)?;
-    assert_eq!(rt; script.opening.as_slice(), [(Ob(1), 100)].as_slice());
+    same(&rt, script.opening.as_slice(), [(Ob(1), 100)].as_slice());
     assert_eq!(rt; script.jobs.len(), 2);
-    assert_eq!(rt; script.jobs[0].0, Txn(7));
-    assert_eq!(rt;
+    same(&rt, script.jobs[0].0, Txn(7));
+    same(
+        &rt,
         script.jobs[0].1.as_slice(),
         [
             JobAct::Read(Ob(1)),
             JobAct::Write(Ob(1), -5),
-            JobAct::Add(Ob(1), -3)
+            JobAct::Add(Ob(1), -3),
         ]
-        .as_slice()
+        .as_slice(),
     );
-    assert_eq!(rt; script.jobs[1].0, Txn(8));
-    assert_eq!(rt;
+    same(&rt, script.jobs[1].0, Txn(8));
+    same(
+        &rt,
         script.jobs[1].1.as_slice(),
-        [JobAct::GiveUp, JobAct::Read(Ob(2))].as_slice()
+        [JobAct::GiveUp, JobAct::Read(Ob(2))].as_slice(),
     );
     Ok(())
 }
@@ -87,8 +90,8 @@ fn first_bad_line_is_named(rt: HostRuntime) {
 #[test]
 fn long_lines_are_bad(rt: HostRuntime) -> Result<(), Fail> {
     let mut script = vec![in rt.alloc(); b'#'; 4_096]?;
-    assert_eq!(rt; bad_line(rt.alloc(), &script), 0);
+    same(&rt, bad_line(rt.alloc(), &script), 0);
     script.push(b'#')?;
-    assert_eq!(rt; bad_line(rt.alloc(), &script), 1);
+    same(&rt, bad_line(rt.alloc(), &script), 1);
     Ok(())
 }

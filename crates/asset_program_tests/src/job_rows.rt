@@ -6,9 +6,11 @@ use asset_jobs::do_acts;
 use asset_program::{JobsRequest, JobsStop, add_job, begin_jobs, end_jobs, finish_jobs};
 use asset_runner::Plan;
 use asset_scripts::Device;
+use std::alloc::Global;
 use std::test::Fail;
 
 /// A job script, the capacity of the history, the number of workers, and what should be written with which status.
+#[derive(Clone, Copy)]
 struct Row<'a> {
     script: &'a str,
     capacity: u32,
@@ -137,23 +139,6 @@ const ROWS: [Row<'static>; 9] = [
     },
 ];
 
-#[test]
-fn scripts_end_as_they_should(rt: HostRuntime) -> Result<(), Fail> {
-    for row in &ROWS {
-        let mut written = Vec::new(rt.alloc());
-        let status = run_jobs!(
-            rt,
-            row.script.as_bytes(),
-            &mut written,
-            row.capacity,
-            row.workers
-        );
-        assert_eq!(rt; str::from_utf8(&written)?, row.text, "in {}", row.script);
-        assert_eq!(rt; status, row.status, "in {}", row.script);
-    }
-    Ok(())
-}
-
 /// How many jobs a long script has.
 const MANY: u64 = 3_000;
 
@@ -181,16 +166,41 @@ fn push_ends(text: &mut String) -> Result<(), Fail> {
     Ok(())
 }
 
-#[test]
-fn thousands_of_jobs_commit(rt: HostRuntime) -> Result<(), Fail> {
-    let mut script = String::new(rt.alloc());
+/// Returns a script of many jobs, and what is written of them.
+fn many_jobs(alloc: Global) -> Result<(String, String), Fail> {
+    let mut script = String::new(alloc);
     push_many(&mut script)?;
-    let mut written = Vec::new(rt.alloc());
-    let status = run_jobs!(rt, script.as_bytes(), &mut written, 100_000, 8);
-    drop(script);
-    let mut text = String::new(rt.alloc());
+    let mut text = String::new(alloc);
     push_ends(&mut text)?;
-    assert!(rt; written.as_slice() == text.as_bytes());
-    assert_eq!(rt; status, 0);
+    Ok((script, text))
+}
+
+#[test]
+fn scripts_end_as_they_should(rt: HostRuntime) -> Result<(), Fail> {
+    let (script, text) = many_jobs(rt.alloc())?;
+    let many = Row {
+        script: script.as_str(),
+        capacity: 100_000,
+        workers: 8,
+        text: text.as_str(),
+        status: 0,
+    };
+    for index in 0..=ROWS.len() {
+        let row = if index < ROWS.len() {
+            ROWS[index]
+        } else {
+            many
+        };
+        let mut written = Vec::new(rt.alloc());
+        let status = run_jobs!(
+            rt,
+            row.script.as_bytes(),
+            &mut written,
+            row.capacity,
+            row.workers
+        );
+        let came = (str::from_utf8(&written).ok(), status);
+        assert_eq!(rt; came, (Some(row.text), row.status), "in {}", row.script);
+    }
     Ok(())
 }

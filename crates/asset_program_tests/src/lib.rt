@@ -7,6 +7,8 @@ mod texts;
 pub use texts::{HELP, VERSION};
 
 #[cfg(test)]
+mod asserts;
+#[cfg(test)]
 mod conversing;
 #[cfg(test)]
 mod faults;

@@ -3,6 +3,7 @@
 // The example begins here.
 ghost use Rattle.asset_counts.specs.Pass.{IsOf};
 
+use crate::asserts::{holds, same};
 use asset_core::Core;
 use asset_manager::{Manager, Session};
 use asset_names::{Fault, Ob, Outcome, Reply, Step, Txn};
@@ -38,12 +39,12 @@ fn run_example(core: &mut Core) -> Result<(Outcome, Option<i64>), Fault> {
 #[test]
 fn example_of_the_readme_commits(rt: HostRuntime) {
     let Ok(mut core) = Core::open(rt.alloc(), &[(Ob(1), 100)], 10_000) else {
-        return assert!(rt; false);
+        return holds(&rt, false);
     };
     let ran = run_example(&mut core);
     drop(core);
     let committed = Outcome::Answer(Reply::Committed);
-    assert_eq!(rt; ran, Ok((committed, Some(50))));
+    same(&rt, ran, Ok((committed, Some(50))));
 }
 
 /// Runs a transaction that writes as the second function of the example does. Returns what its commit was answered, and how
@@ -61,9 +62,9 @@ fn run_session<R: Wait>(rt: &R, of: &Manager, by: &mut Session) -> Result<(Outco
 #[test]
 fn example_of_the_readme_commits_by_a_session(rt: HostRuntime) {
     let Ok((manager, mut session)) = Manager::open(rt.alloc(), &[(Ob(1), 100)], 10_000) else {
-        return assert!(rt; false);
+        return holds(&rt, false);
     };
     let ran = run_session(&rt, &manager, &mut session);
     let committed = Outcome::Answer(Reply::Committed);
-    assert_eq!(rt; ran, Ok((committed, 5)));
+    same(&rt, ran, Ok((committed, 5)));
 }

@@ -9,12 +9,8 @@ use std::test::Fail;
 const SCRIPT: &[u8] = b"initiate 7\n";
 
 /// Asserts that the arguments are refused with this text, and that the script is not run.
-fn expect_refused(
-    rt: &(impl Abort + AllocGlobal),
-    texts: &[&str],
-    errors: &str,
-) -> Result<(), Fail> {
-    expect(rt, texts, SCRIPT, ("", errors, 2))
+fn expect_refused(rt: &(impl Abort + AllocGlobal), texts: &[&str], errors: &str) {
+    expect(rt, texts, SCRIPT, ("", errors, 2));
 }
 
 /// What help says of the word `run`.
@@ -36,11 +32,11 @@ Exit status:
 ";
 
 #[test]
-fn help_goes_to_the_output(rt: HostRuntime) -> Result<(), Fail> {
-    expect(&rt, &["--help"], SCRIPT, (HELP, "", 0))?;
-    expect(&rt, &["-h"], SCRIPT, (HELP, "", 0))?;
-    expect(&rt, &["help"], SCRIPT, (HELP, "", 0))?;
-    expect(&rt, &["run", "--help"], SCRIPT, (RUN_HELP, "", 0))
+fn help_goes_to_the_output(rt: HostRuntime) {
+    expect(&rt, &["--help"], SCRIPT, (HELP, "", 0));
+    expect(&rt, &["-h"], SCRIPT, (HELP, "", 0));
+    expect(&rt, &["help"], SCRIPT, (HELP, "", 0));
+    expect(&rt, &["run", "--help"], SCRIPT, (RUN_HELP, "", 0));
 }
 
 /// What help says of the word `jobs`.
@@ -64,24 +60,24 @@ Exit status:
 ";
 
 #[test]
-fn help_of_jobs_goes_to_the_output(rt: HostRuntime) -> Result<(), Fail> {
-    expect(&rt, &["jobs", "--help"], SCRIPT, (JOBS_HELP, "", 0))
+fn help_of_jobs_goes_to_the_output(rt: HostRuntime) {
+    expect(&rt, &["jobs", "--help"], SCRIPT, (JOBS_HELP, "", 0));
 }
 
 #[test]
-fn version_goes_to_the_output(rt: HostRuntime) -> Result<(), Fail> {
-    expect(&rt, &["--version"], SCRIPT, (VERSION, "", 0))?;
-    expect(&rt, &["-V"], SCRIPT, (VERSION, "", 0))
+fn version_goes_to_the_output(rt: HostRuntime) {
+    expect(&rt, &["--version"], SCRIPT, (VERSION, "", 0));
+    expect(&rt, &["-V"], SCRIPT, (VERSION, "", 0));
 }
 
 #[test]
-fn capacity_out_of_range_is_refused(rt: HostRuntime) -> Result<(), Fail> {
+fn capacity_out_of_range_is_refused(rt: HostRuntime) {
     let low =
         "error: invalid value '0' for '--cap <n>': 0 is not in 1..=1000000\n\nFor more information, try '--help'.\n";
-    expect_refused(&rt, &["run", "--cap", "0"], low)?;
+    expect_refused(&rt, &["run", "--cap", "0"], low);
     let high =
         "error: invalid value '1000001' for '--cap <n>': 1000001 is not in 1..=1000000\n\nFor more information, try '--help'.\n";
-    expect_refused(&rt, &["run", "--cap", "1000001"], high)
+    expect_refused(&rt, &["run", "--cap", "1000001"], high);
 }
 
 #[test]
@@ -94,7 +90,7 @@ fn other_arguments_are_refused(rt: HostRuntime) -> Result<(), Fail> {
         let expected = format!(in rt.alloc();
             "error: unexpected argument '{argument}' found\n\nUsage: asset [<word> [--cap <n>]] < SCRIPT\n\nFor more information, try '--help'.\n"
         )?;
-        expect_refused(&rt, texts, expected.as_str())?;
+        expect_refused(&rt, texts, expected.as_str());
     }
     Ok(())
 }
@@ -102,7 +98,8 @@ fn other_arguments_are_refused(rt: HostRuntime) -> Result<(), Fail> {
 /// Asserts that the arguments are refused with this call.
 fn expect_call(rt: &(impl Abort + AllocGlobal), texts: &[&str], call: &str) -> Result<(), Fail> {
     let errors = format!(in rt.alloc(); "asset: a script comes on standard input: {call}\n")?;
-    expect_refused(rt, texts, errors.as_str())
+    expect_refused(rt, texts, errors.as_str());
+    Ok(())
 }
 
 #[test]
@@ -137,8 +134,8 @@ fn path_is_refused_with_the_right_call(rt: HostRuntime) -> Result<(), Fail> {
 }
 
 #[test]
-fn unknown_word_is_named(rt: HostRuntime) -> Result<(), Fail> {
+fn unknown_word_is_named(rt: HostRuntime) {
     let errors =
         "asset: there is no word job (see asset --help); a script comes on standard input: asset < job\n";
-    expect_refused(&rt, &["job"], errors)
+    expect_refused(&rt, &["job"], errors);
 }

@@ -1,5 +1,6 @@
 //! What arguments ask for.
 
+use crate::asserts::same;
 use crate::running::{list, run};
 use asset_cli::{Report, Work};
 use asset_program::{
@@ -14,39 +15,51 @@ fn request(alloc: Global, texts: &[&str]) -> Result<Option<Asked>, AllocError> {
     Ok(requested(alloc, &arguments).ok())
 }
 
+/// Arguments that name a word, what that word makes of a script, and the capacity.
+const WORDS: [(&[&str], Work, Option<u32>); 17] = [
+    (&[], Work::Run, None),
+    (&["run"], Work::Run, Some(10_000)),
+    (&["run", "--cap", "4"], Work::Run, Some(4)),
+    (&["run", "--cap", "1"], Work::Run, Some(1)),
+    (&["run", "--cap=1000000"], Work::Run, Some(1_000_000)),
+    (&["steps"], Work::Steps, Some(10_000)),
+    (&["steps", "--cap", "9"], Work::Steps, Some(9)),
+    (&["prune"], Work::Report(Report::Pruned), Some(10_000)),
+    (
+        &["prune", "--cap", "5"],
+        Work::Report(Report::Pruned),
+        Some(5),
+    ),
+    (&["groups"], Work::Report(Report::Groups), Some(10_000)),
+    (
+        &["groups", "--cap=6"],
+        Work::Report(Report::Groups),
+        Some(6),
+    ),
+    (&["sources"], Work::Sources, Some(10_000)),
+    (&["sources", "--cap=8"], Work::Sources, Some(8)),
+    (&["picture"], Work::Report(Report::Picture), Some(10_000)),
+    (
+        &["picture", "--cap=3"],
+        Work::Report(Report::Picture),
+        Some(3),
+    ),
+    (&["serial"], Work::Report(Report::Serial), Some(10_000)),
+    (
+        &["serial", "--cap", "7"],
+        Work::Report(Report::Serial),
+        Some(7),
+    ),
+];
+
 #[test]
 fn arguments_give_the_word_and_the_capacity(rt: HostRuntime) {
-    let pruned = Work::Report(Report::Pruned);
-    let groups = Work::Report(Report::Groups);
-    let serial = Work::Report(Report::Serial);
-    let picture = Work::Report(Report::Picture);
-    for (texts, work, capacity) in [
-        (&[][..], Work::Run, None),
-        (&["run"][..], Work::Run, Some(10_000)),
-        (&["run", "--cap", "4"][..], Work::Run, Some(4)),
-        (&["run", "--cap", "1"][..], Work::Run, Some(1)),
-        (&["run", "--cap=1000000"][..], Work::Run, Some(1_000_000)),
-        (&["steps"][..], Work::Steps, Some(10_000)),
-        (&["steps", "--cap", "9"][..], Work::Steps, Some(9)),
-        (&["prune"][..], pruned, Some(10_000)),
-        (&["prune", "--cap", "5"][..], pruned, Some(5)),
-        (&["groups"][..], groups, Some(10_000)),
-        (&["groups", "--cap=6"][..], groups, Some(6)),
-        (&["sources"][..], Work::Sources, Some(10_000)),
-        (&["sources", "--cap=8"][..], Work::Sources, Some(8)),
-        (&["picture"][..], picture, Some(10_000)),
-        (&["picture", "--cap=3"][..], picture, Some(3)),
-        (&["serial"][..], serial, Some(10_000)),
-        (&["serial", "--cap", "7"][..], serial, Some(7)),
-    ] {
-        assert_eq!(rt;
-            request(rt.alloc(), texts),
-            Ok(Some(Asked::Script(Request {
-                task: Task::Run(work),
-                capacity
-            }))),
-            "at {texts:?}"
-        );
+    for (texts, work, capacity) in WORDS {
+        let asked = Asked::Script(Request {
+            task: Task::Run(work),
+            capacity,
+        });
+        assert_eq!(rt; request(rt.alloc(), texts), Ok(Some(asked)), "at {texts:?}");
     }
 }
 
@@ -110,8 +123,8 @@ fn jobs_are_handed_back(rt: HostRuntime) {
         workers: Some(2),
         turns: Some(1_000),
     };
-    assert_eq!(rt; next, Ok(Next::Jobs(asked)));
-    assert_eq!(rt; (written.len(), complaints.len()), (0, 0));
+    same(&rt, next, Ok(Next::Jobs(asked)));
+    same(&rt, (written.len(), complaints.len()), (0, 0));
 }
 
 /// Returns the limits of jobs whose arguments ask for these numbers.
@@ -130,11 +143,11 @@ fn limits_out_of_range_are_none(rt: HostRuntime) {
         workers: 2,
         turns: 1_000,
     };
-    assert_eq!(rt; limits(None, None, None), Some(usual));
-    assert_eq!(rt; limits(Some(0), None, None), None);
-    assert_eq!(rt; limits(None, Some(0), None), None);
-    assert_eq!(rt; limits(None, Some(65), None), None);
-    assert_eq!(rt; limits(None, None, Some(1_000_001)), None);
+    same(&rt, limits(None, None, None), Some(usual));
+    same(&rt, limits(Some(0), None, None), None);
+    same(&rt, limits(None, Some(0), None), None);
+    same(&rt, limits(None, Some(65), None), None);
+    same(&rt, limits(None, None, Some(1_000_001)), None);
 }
 
 #[test]

@@ -1,5 +1,6 @@
 //! The exit status of each end.
 
+use crate::asserts::same;
 use asset_program::{Answer, ArgumentsFault, status_of_answer, status_of_run};
 use asset_scripts::{RunEnd, ScriptFault};
 use std::process::Abort;
@@ -21,15 +22,17 @@ fn status_says_how_a_run_ended(rt: HostRuntime) {
 #[test]
 fn status_says_what_was_answered(rt: HostRuntime) {
     let text = String::new(rt.alloc());
-    assert_eq!(rt; status_of_answer(&Answer::Help(text)), 0);
+    same(&rt, status_of_answer(&Answer::Help(text)), 0);
     let text = String::new(rt.alloc());
-    assert_eq!(rt; status_of_answer(&Answer::Refusal(text)), 2);
-    assert_eq!(rt;
+    same(&rt, status_of_answer(&Answer::Refusal(text)), 2);
+    same(
+        &rt,
         status_of_answer(&Answer::Fault(ArgumentsFault::NotText)),
-        2
+        2,
     );
-    assert_eq!(rt;
+    same(
+        &rt,
         status_of_answer(&Answer::Fault(ArgumentsFault::NoMemory)),
-        1
+        1,
     );
 }
