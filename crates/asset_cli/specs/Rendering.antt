@@ -18,7 +18,7 @@ unfoldable pub played_of : Recorded → Option ℕ → Played
 played_of history None = Played'.Finished history
 played_of history (Some n) = Played'.BadLine n
 
--- how the run of a script ends that was played so
+-- how a run ends, by what is left of it
 unfoldable pub played_end : Played → RunEnd
 played_end (Played'.Finished history) = RunEnd'.Finished
 played_end (Played'.BadLine n) = RunEnd'.BadLine n

@@ -141,7 +141,7 @@ fn render_sources(
     }
 }
 
-/// Returns how the run of a script ends that was played so far, and drops the history that is left.
+/// Returns how a run ends, by what is left of it. The history is dropped.
 #[tactic(auto, unfolding(crate::specs::Rendering::played_end))]
 fn end_of(played: Played) -> RunEnd
     ensures { result ≡ played_end played }
@@ -155,7 +155,7 @@ fn end_of(played: Played) -> RunEnd
     }
 }
 
-/// Appends the transcript of a script, in which steps print what they do for the work.
+/// Appends the transcript of a script. The work says what its steps print.
 fn render_transcript(
     alloc: Global,
     bytes: &[u8],
