@@ -124,16 +124,8 @@ fn calls_are_counted(rt: HostRuntime) -> Result<(), Fail> {
     let history = ten_entries(rt.alloc())?;
     let found = audit_alike(&history);
     drop(history);
-    same(
-        &rt,
-        found[0],
-        Err(AuditFault::Missing { told: 0, kept: 10 }),
-    );
-    same(&rt, found[1], Ok(()));
-    same(
-        &rt,
-        found[2],
-        Err(AuditFault::Missing { told: 9, kept: 10 }),
-    );
+    let none = Err(AuditFault::Missing { told: 0, kept: 10 });
+    let nine = Err(AuditFault::Missing { told: 9, kept: 10 });
+    same(&rt, found, [none, Ok(()), nine]);
     Ok(())
 }

@@ -165,17 +165,11 @@ fn earlier_call_is_found_first(rt: HostRuntime) -> Result<(), Fail> {
 #[test]
 fn calls_that_nobody_has_are_missing(rt: HostRuntime) -> Result<(), Fail> {
     let none: [Told; 0] = [];
-    same(
-        &rt,
-        found(rt.alloc(), &none)?,
-        Err(AuditFault::Missing { told: 0, kept: 10 }),
-    );
+    let all = Err(AuditFault::Missing { told: 0, kept: 10 });
+    same(&rt, found(rt.alloc(), &none)?, all);
     let calls = seven();
     let lists = [Told { calls: &calls }];
-    same(
-        &rt,
-        found(rt.alloc(), &lists)?,
-        Err(AuditFault::Missing { told: 5, kept: 10 }),
-    );
+    let half = Err(AuditFault::Missing { told: 5, kept: 10 });
+    same(&rt, found(rt.alloc(), &lists)?, half);
     Ok(())
 }
