@@ -181,51 +181,70 @@ fn interleaved_transactions_run_one_after_another(rt: HostRuntime) -> Result<(),
 /// How many transactions a long script has.
 const MANY: u64 = 1_500;
 
+/// Appends the lines of a transaction that commits.
+fn push_whole(text: &mut String, t: u64) -> Result<(), Fail> {
+    writeln!(text, "initiate {t}\nbegin {t}\ncomplete {t}\ncommit {t}")?;
+    Ok(())
+}
+
+/// Appends a script of many transactions, of which every third commits, with its groups and what is left of it.
+fn push_thirds(script: &mut String, groups: &mut String, left: &mut String) -> Result<(), Fail> {
+    for t in 0..MANY {
+        if t % 3 == 0 {
+            push_whole(script, t)?;
+            push_whole(left, t)?;
+            writeln!(groups, "{t} committed {t}")?;
+        } else {
+            writeln!(script, "initiate {t}\nbegin {t}\ncomplete {t}")?;
+            writeln!(groups, "{t} dead {t}")?;
+        }
+    }
+    Ok(())
+}
+
 #[test]
 fn many_groups(rt: HostRuntime) -> Result<(), Fail> {
     let mut script = String::new(rt.alloc());
     let mut groups = String::new(rt.alloc());
     let mut left = String::new(rt.alloc());
-    for t in 0..MANY {
-        writeln!(script, "initiate {t}\nbegin {t}\ncomplete {t}")?;
-        if t % 3 == 0 {
-            writeln!(script, "commit {t}")?;
-            writeln!(groups, "{t} committed {t}")?;
-            writeln!(left, "initiate {t}\nbegin {t}\ncomplete {t}\ncommit {t}")?;
-        } else {
-            writeln!(groups, "{t} dead {t}")?;
-        }
+    push_thirds(&mut script, &mut groups, &mut left)?;
+    for (call, text) in [
+        (Call::Groups, groups.as_str()),
+        (Call::Prune, left.as_str()),
+        (Call::Serial, left.as_str()),
+    ] {
+        expect_report_at_once(&rt, call, script.as_bytes(), text)?;
     }
-    expect_report_at_once(&rt, Call::Groups, script.as_bytes(), groups.as_str())?;
-    expect_report_at_once(&rt, Call::Prune, script.as_bytes(), left.as_str())?;
-    expect_report_at_once(&rt, Call::Serial, script.as_bytes(), left.as_str())
+    Ok(())
 }
 
-/// Each transaction reads the opening value of an object, writes over it, and reads its own write.
-#[test]
-fn many_sources(rt: HostRuntime) -> Result<(), Fail> {
-    let mut script = String::new(rt.alloc());
-    let mut sources = String::new(rt.alloc());
+/// Appends a script of transactions that each read the opening value of an object, write over it, and read their own write, with
+/// the sources of what they read.
+fn push_readers(script: &mut String, sources: &mut String) -> Result<(), Fail> {
     for x in 0..MANY {
         writeln!(script, "object {x} -1{x}")?;
     }
     for t in 0..MANY {
-        writeln!(
-            script,
-            "initiate {t}\nbegin {t}\nread {t} {t}\nwrite {t} {t} 5\nread {t} {t}"
-        )?;
+        writeln!(script, "initiate {t}\nbegin {t}\nread {t} {t}")?;
+        writeln!(script, "write {t} {t} 5\nread {t} {t}")?;
         let first = t * 5;
         writeln!(sources, "{} read {t} {t} -1{t} opening", first + 2)?;
         writeln!(sources, "{} read {t} {t} 5 entry {}", first + 4, first + 3)?;
     }
+    Ok(())
+}
+
+#[test]
+fn many_sources(rt: HostRuntime) -> Result<(), Fail> {
+    let mut script = String::new(rt.alloc());
+    let mut sources = String::new(rt.alloc());
+    push_readers(&mut script, &mut sources)?;
     expect_report_at_once(&rt, Call::Sources, script.as_bytes(), sources.as_str())
 }
 
-/// Transactions that are joined from the last to the first make one group.
-#[test]
-fn one_group_of_many(rt: HostRuntime) -> Result<(), Fail> {
-    let mut script = String::new(rt.alloc());
-    let mut names = String::from_str(rt.alloc(), "0 committed")?;
+/// Appends a script of transactions that are joined from the last to the first, of which the last commits, with their names.
+fn push_chain(script: &mut String, names: &mut String) -> Result<(), Fail> {
+    names.push_str("0 committed")?;
     for t in 0..MANY {
         writeln!(script, "initiate {t}")?;
         write!(names, " {t}")?;
@@ -235,6 +254,15 @@ fn one_group_of_many(rt: HostRuntime) -> Result<(), Fail> {
     }
     script.push_str("begin 1499\ncomplete 1499\ncommit 1499\n")?;
     names.push_str("\n")?;
+    Ok(())
+}
+
+/// Transactions that are joined from the last to the first make one group.
+#[test]
+fn one_group_of_many(rt: HostRuntime) -> Result<(), Fail> {
+    let mut script = String::new(rt.alloc());
+    let mut names = String::new(rt.alloc());
+    push_chain(&mut script, &mut names)?;
     expect_report_at_once(&rt, Call::Groups, script.as_bytes(), names.as_str())?;
     expect_report_at_once(&rt, Call::Prune, script.as_bytes(), script.as_str())
 }
