@@ -114,9 +114,9 @@ pub fn expect_call(
     requires { IsCapacity capacity }
 {
     let mut written = Vec::new(rt.alloc());
-    let ended = run_again(rt.alloc(), call, script, capacity, text, &mut written)?;
-    assert_eq!(rt; str::from_utf8(&written)?, text, "by {call:?}");
-    assert_eq!(rt; ended, end, "after {text:?}");
+    let ended = run_again(rt.alloc(), call, script, capacity, text, &mut written);
+    let came = (ended, str::from_utf8(&written).ok());
+    assert_eq!(rt; came, (Ok(end), Some(text)), "by {call:?}");
     Ok(())
 }
 
