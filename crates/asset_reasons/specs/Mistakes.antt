@@ -145,7 +145,7 @@ operands_of TxnsOpsAndSet single anybody = Operand'.Number ∷ Operand'.Taker �
 operands_of TxnsAndSet single anybody = Operand'.Number ∷ Operand'.Number ∷ Operand'.Set ∷ []
 operands_of KindAndTxns single anybody = Operand'.Kind ∷ Operand'.Number ∷ Operand'.Number ∷ []
 
--- which operands the keyword of a step wants that shares or ends
+-- which operands a keyword wants, among those of the steps that share, end or wait
 unfoldable pub sharing_shape : List ℕ → Option Shape
 sharing_shape word =
     cond (bytes_eq (codes "permit") word) (Some TxnsOpsAndSet)

@@ -54,7 +54,7 @@ const DELEGATE: &[u8] = b"delegate";
 /// The first word of a line that makes a dependency.
 const DEPEND: &[u8] = b"depend";
 
-/// Returns which operands the keyword of a step wants that shares or ends.
+/// Returns which operands a keyword wants, among those of the steps that share, end or wait.
 #[tactic(auto, unfolding(crate::specs::Mistakes::sharing_shape))]
 fn sharing_shape(word: &[u8]) -> Option<Shape>
     ensures { result ≡ sharing_shape word.now }

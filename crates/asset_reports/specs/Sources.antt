@@ -14,11 +14,11 @@ unfoldable pub source_word : Source → List ℕ
 source_word Source'.Opening = codes " opening"
 source_word (Source'.Entry m) = codes " entry " ++ decimal m
 
--- what was read: the value, after a space, and its source
+-- the rest of the line of a read: the value, after a space, its source, and the line feed
 unfoldable pub found_text : ℤ → Source → List ℕ
 found_text v source = 32 ∷ signed_decimal v ++ source_word source ++ 10 ∷ []
 
--- the line of a read: the number of its entry, the read, and what was read
+-- the line of a read: the number of its entry, the read, the value and its source
 unfoldable pub read_text : ℕ → Step → ℤ → Source → List ℕ
 read_text n step v source = decimal n ++ 32 ∷ [] ++ step_text step ++ found_text v source
 
