@@ -1,5 +1,5 @@
 -- What a script that was read says.
-use Rattle.std.specs.Prelude.{ℕ, List, map, Vec, Option, None, Some, Result, Ok, Err}
+use Rattle.std.specs.Prelude.{List, map, Vec}
 use Rattle.std.specs.declared.alloc.Global.{Global}
 use Rattle.asset_names.specs.declared.names.Txn.{Txn}
 use Rattle.asset_names.specs.Steps.{Opening}
@@ -18,8 +18,3 @@ script_of script = record { opening = script.opening.items; jobs = map named scr
 -- the objects and the jobs so far
 abbrev pub so_far : Opening → List Named → Script
 so_far opening jobs = record { opening = opening; jobs = jobs }
-
--- what lines say that end at this bad line, or are all looked at
-unfoldable pub said_at : Option ℕ → Script → Result Script ℕ
-said_at None said = Ok said
-said_at (Some n) said = Err n

@@ -1,11 +1,11 @@
 //! Takes the lines of a job script.
 
-ghost use Rattle.std.specs.Prelude.{◌≡◌, ◌+◌, ◌^◌, ◌<◌, ◌≤◌, cond, None, Some, Ok, length, IfOk, IfErr};
+ghost use Rattle.std.specs.Prelude.{◌≡◌, ◌+◌, ◌^◌, ◌<◌, ◌≤◌, cond, None, Some, Ok, length, IfOk, IfErr, OnOk};
 ghost use Rattle.asset_scripts.specs.Transfers.{input_limit};
 ghost use Rattle.asset_grammar.specs.Lines.{lines};
 ghost use Rattle.asset_jobs.specs.Jobs.{empty, jobs_of, said_from, with_line};
 ghost use Rattle.asset_jobs.specs.Reads.{FailsToSay};
-ghost use Rattle.asset_jobs.specs.Scripts.{said_at, script_of, so_far};
+ghost use Rattle.asset_jobs.specs.Scripts.{script_of, so_far};
 
 use crate::drafts::Draft;
 use crate::faults::JobsFault;
@@ -50,26 +50,29 @@ fn take_line(
     }
 }
 
-/// Takes all lines up to the first bad one, over no objects and no jobs. Returns the number of that one, if there is one.
+/// Takes all lines up to the first bad one, over no objects and no jobs. It fails if there is one, or if memory runs out.
 fn take_lines(
     alloc: Global,
     opening: &mut OpeningObjects,
     jobs: &mut Draft,
     bytes: &[u8],
-) -> Result<Option<u64>, NoMemory>
+) -> Result<(), JobsFault>
     requires empty { so_far opening.old jobs.old ≡ empty }
     requires few { length (lines bytes.now) + 1 < 2 ^ 64 }
-    ensures { IfOk result (λ bad. jobs_of bytes.now ≡ said_at bad (so_far opening.new jobs.new)) }
+    ensures says { OnOk result (jobs_of bytes.now ≡ Ok (so_far opening.new jobs.new)) }
+    ensures fails { IfErr result (FailsToSay bytes.now) }
 {
     let mut left = ScriptLines::new(bytes);
     let mut number = 1;
     'lines: while let Some(line) = left.next_job_line() {
-        if !take_line(alloc, opening, jobs, line)? {
-            return Ok(Some(number));
+        match take_line(alloc, opening, jobs, line) {
+            Ok(true) => {}
+            Ok(false) => return Err(JobsFault::BadLine(number)),
+            Err(NoMemory) => return Err(JobsFault::NoMemory),
         }
         number += 1;
     }
-    Ok(None)
+    Ok(())
 }
 
 /// Returns the script that the bytes say.
@@ -81,11 +84,10 @@ pub(crate) fn parse_jobs(alloc: Global, bytes: &[u8]) -> Result<JobScript, JobsF
     let mut opening = OpeningObjects::new(alloc);
     let mut jobs = Draft::new(alloc);
     match take_lines(alloc, &mut opening, &mut jobs, bytes) {
-        Ok(None) => Ok(JobScript {
+        Ok(()) => Ok(JobScript {
             opening: opening.into_pairs(),
             jobs: jobs.into_jobs(),
         }),
-        Ok(Some(number)) => Err(JobsFault::BadLine(number)),
-        Err(NoMemory) => Err(JobsFault::NoMemory),
+        Err(fault) => Err(fault),
     }
 }

@@ -4,6 +4,7 @@ ghost use Rattle.std.specs.Prelude.{◌≡◌, ◌≤◌, ◌<◌, ◌+◌, ◌+
 ghost use Rattle.std.specs.Arc.{arc_value};
 ghost use base.Stored.{Coded-set, coded_list, coded×, coded_ℕ};
 ghost use Rattle.asset_names.specs.declared.steps.Step.TheVariants as Step;
+ghost use Rattle.atomic_table.specs.Seated.{TableId};
 ghost use Rattle.asset_counts.specs.Pass.{IsOf, IsOf-prop};
 ghost use Rattle.asset_manager.specs.Asker.{Asker};
 ghost use Rattle.asset_bodies.specs.Working.{Working, Worked};
@@ -12,16 +13,15 @@ ghost use Rattle.asset_queue.specs.Rows.{tickets_of};
 ghost use Rattle.asset_runner.specs.Placing.{nones, somes};
 ghost use Rattle.asset_runner.specs.Runs.{JobRun, first_stranger};
 ghost use Rattle.asset_runner.specs.Arrived.{numbered, placed, left_at, ticket_of};
-ghost use Rattle.asset_runner.specs.Rows.{all_of};
+ghost use Rattle.asset_runner.specs.Rows.{all_of, names_of};
 ghost use Rattle.asset_runner.specs.Comes.{Comes, IsCause, IsWorkCause};
 ghost use Rattle.asset_runner.specs.Initiated.{IsInitiated, IsRefused, IsInitiation, cause_by};
 
 use crate::arrival::Arrival;
-use crate::firsts::firsts_of;
 use crate::gate::Gate;
 use crate::job::{Crew, Planned};
 use crate::order::{place_all, row_in_order, settle};
-use crate::report::{Report, RunCause, RunFault, ends_of, first_stranger, hand_out};
+use crate::report::{Report, RunCause, RunFault, report_on};
 use crate::rooms::Rooms;
 use asset_bodies::Body;
 use asset_manager::{Manager, Session};
@@ -143,6 +143,41 @@ fn arrange(
     }
 }
 
+/// Returns what came of the jobs of these names, in order of initiation, once the commits that wait were asked again.
+fn gather<R: Wait>(
+    rt: &R,
+    names: &[Txn],
+    slots: Vec<Option<Arrival>>,
+    order: Vec<Arrival>,
+    rows: Vec<Vec<Arrival>>,
+    left: Vec<Planned>,
+) -> Vec<Arrival>
+    requires empty { (slots.items ≡ []) × (order.items ≡ []) }
+    requires room { (length names.now ≤ vec_capacity slots) × (length names.now ≤ vec_capacity order) }
+    requires shared { SharedOut (numbered names.now) (tickets_of ticket_of rows.items) (map (λ j. (j.place, j.name.0)) left.items) }
+    ensures { names_of result.items ≡ names.now }
+{
+    let mut order = arrange(names.len(), slots, order, rows, left);
+    settle(rt, &mut order);
+    order
+}
+
+/// Splits off a session with room for a job's own calls and for so many operations. It answers `NoMemory` if memory runs out.
+fn session_for(own: &mut Session, operations: usize) -> Result<Session, NoMemory>
+    ensures same { own.new ≡ own.old }
+    ensures calls { IfOk result (λ session. session.list.calls ≡ []) }
+    ensures of { (manager : TableId) → IsOf own.old.of manager → IfOk result (λ session. IsOf session.of manager) }
+{
+    let mut session = own.split();
+    match session.reserve(operations.saturating_add(OWN_CALLS)) {
+        Ok(()) => Ok(session),
+        Err(NoMemory) => {
+            own.join(session);
+            Err(NoMemory)
+        }
+    }
+}
+
 /// Returns why an initiation was not answered `Done`, and `None` if it was.
 fn cause_of(outcome: Result<Outcome, Fault>) -> Option<Cause>
     requires { IsInitiation outcome }
@@ -191,17 +226,28 @@ impl Plan {
         ensures names { self.new.names.items ≡ self.old.names.items }
         ensures room { OnOk result ((vec_len self.old.names + jobs ≤ vec_capacity self.new.names) × (length self.old.session.list.calls + jobs ≤ self.new.session.list.room)) }
     {
-        let count = self.names.len();
+        self.make_room(jobs)?;
+        self.session.reserve(jobs)
+    }
+
+    /// Makes room for so many jobs more, beside the list of the plan's session. It answers `NoMemory` if memory runs out, and then
+    /// the plan is as before but for room that it has.
+    fn make_room(&mut self, jobs: usize) -> Result<(), NoMemory>
+        ensures manager { self.new.manager ≡ self.old.manager }
+        ensures session { self.new.session ≡ self.old.session }
+        ensures turns { self.new.turns ≡ self.old.turns }
+        ensures names { self.new.names.items ≡ self.old.names.items }
+        ensures planned { self.new.jobs.items ≡ self.old.jobs.items }
+        ensures room { OnOk result ((vec_len self.old.names + jobs ≤ vec_capacity self.new.names) × (vec_len self.old.jobs + jobs ≤ vec_capacity self.new.jobs) × (vec_len self.old.names + jobs < self.new.rooms.jobs)) }
+    {
+        let count = self.names.len().saturating_add(jobs).saturating_add(1);
         if self.names.reserve(jobs).is_err()
             || self.jobs.reserve(jobs).is_err()
-            || self
-                .rooms
-                .reserve(self.alloc, count.saturating_add(jobs).saturating_add(1))
-                .is_err()
+            || self.rooms.reserve(self.alloc, count).is_err()
         {
             return Err(NoMemory);
         }
-        self.session.reserve(jobs)
+        Ok(())
     }
 
     /// Initiates a transaction for the body, as `initiate_with_room` does, with room for five operations.
@@ -246,35 +292,25 @@ impl Plan {
         ensures names { MatchResult result (λ _. self.new.names.items ≡ self.old.names.items ++ t ∷ []) (λ _. self.new.names.items ≡ self.old.names.items) }
         ensures asked { MatchResult result (λ _. IsInitiated self.old.session.list.calls (Step.Initiate t parent) self.new.session.list.calls) (λ fault. IsRefused self.old.session.list.calls (Step.Initiate t parent) fault.cause self.new.session.list.calls) }
     {
-        let (Ok(manager), Ok(lent)) = (Arc::try_clone(&self.manager), Arc::try_clone(&self.manager))
-        else {
+        if self.make_room(1).is_err() {
+            return Err(fault(body, Cause::NoMemory));
+        }
+        let Ok(session) = session_for(&mut self.session, operations) else {
             return Err(fault(body, Cause::NoMemory));
         };
-        let place = self.names.len();
-        if self.names.reserve(1).is_err()
-            || self.jobs.reserve(1).is_err()
-            || self.rooms.reserve(self.alloc, place + 2).is_err()
-        {
-            return Err(fault(body, Cause::NoMemory));
-        }
-        let mut session = self.session.split();
-        if session
-            .reserve(operations.saturating_add(OWN_CALLS))
-            .is_err()
-        {
+        let (Ok(manager), Ok(lent)) = (Arc::try_clone(&self.manager), Arc::try_clone(&self.manager))
+        else {
             self.session.join(session);
             return Err(fault(body, Cause::NoMemory));
-        }
+        };
         let outcome = self
             .session
             .call_lent(rt, &self.manager, &Step::Initiate { t, parent });
-        match cause_of(outcome) {
-            Some(cause) => {
-                self.session.join(session);
-                return Err(fault(body, cause));
-            }
-            None => {}
+        if let Some(cause) = cause_of(outcome) {
+            self.session.join(session);
+            return Err(fault(body, cause));
         }
+        let place = self.names.len();
         let job = Planned::new(place, t, self.turns, session, manager, lent, body);
         self.names.push_reserved(t);
         self.jobs.push_reserved(job);
@@ -308,8 +344,7 @@ impl Plan {
             jobs,
             mut rooms,
         } = self;
-        let count = names.len();
-        let Ok(()) = rooms.reserve(alloc, count + 1) else {
+        let Ok(()) = rooms.reserve(alloc, names.len() + 1) else {
             return Err(no_room(alloc, workers, session, jobs, rooms));
         };
         let FromWorkers { rows, left, cause } = work(rt, alloc, jobs, workers, gate);
@@ -320,20 +355,10 @@ impl Plan {
             firsts,
             ends,
             left: kept,
-            mut sessions,
-        } = rooms;
-        let mut order = arrange(count, slots, order, rows, left);
-        settle(rt, &mut order);
-        let firsts = firsts_of(&order, firsts);
-        let ends = ends_of(&order, &firsts, ends);
-        let stranger = first_stranger(&order);
-        sessions.push_reserved(session);
-        let (left, sessions) = hand_out(order, kept, sessions);
-        let report = Report {
-            ends,
-            left,
             sessions,
-        };
+        } = rooms;
+        let order = gather(rt, &names, slots, order, rows, left);
+        let (report, stranger) = report_on(order, session, firsts, ends, kept, sessions);
         match (cause, stranger) {
             (None, None) => Ok(report),
             (Some(cause), _) => Err(RunFault { report, cause }),

@@ -1,13 +1,15 @@
 //! What a run tells.
 
-ghost use Rattle.std.specs.Prelude.{◌≡◌, ◌≤◌, ◌+◌, ◌++◌, [], List, length, map, vec_len, vec_capacity};
+ghost use Rattle.std.specs.Prelude.{◌≡◌, ◌≤◌, ◌<◌, ◌+◌, ◌++◌, ◌∷◌, [], List, length, map, vec_len, vec_capacity};
+ghost use Rattle.indexmap.specs.IndexMap.{spare, IsEmpty};
 ghost use Rattle.asset_manager.specs.Asker.{Asker};
 ghost use Rattle.asset_runner.specs.Runs.{ends_of, first_stranger, left_of};
 ghost use Rattle.asset_runner.specs.Firsts.{HasFirsts};
-ghost use Rattle.asset_runner.specs.Rows.{runs_of};
+ghost use Rattle.asset_runner.specs.Rows.{names_of, runs_of};
+ghost use Rattle.asset_runner.specs.Comes.{Comes};
 
 use crate::arrival::Arrival;
-use crate::firsts::{Firsts, end_in};
+use crate::firsts::{Firsts, end_in, firsts_of};
 use asset_bodies::{Body, JobEnd};
 use asset_manager::Session;
 use asset_names::Txn;
@@ -106,4 +108,33 @@ pub(crate) fn hand_out(
         }
     }
     (left, sessions)
+}
+
+/// Returns what came of a plan's jobs, in collections that have room for it, and the first of them whose body answered another's
+/// `Finished`.
+pub(crate) fn report_on(
+    order: Vec<Arrival>,
+    session: Session,
+    firsts: Firsts,
+    ends: Vec<(Txn, JobEnd)>,
+    left: Vec<Job>,
+    mut sessions: Vec<Session>,
+) -> (Report, Option<Txn>)
+    requires empty { (ends.items ≡ []) × (left.items ≡ []) × (sessions.items ≡ []) × IsEmpty firsts }
+    requires room { (vec_len order ≤ spare firsts) × (vec_len order ≤ vec_capacity ends) × (vec_len order ≤ vec_capacity left) × (vec_len order < vec_capacity sessions) }
+    ensures comes { Comes (names_of order.items) session.list.calls (runs_of order.items) result.0.ends.items (map (λ j. j.name) result.0.left.items) (map (λ (s : Asker). s.list.calls) result.0.sessions.items) }
+    ensures stranger { result.1 ≡ first_stranger (runs_of order.items) }
+    ensures session { (rest : List Asker) × (result.0.sessions.items ≡ session ∷ rest) }
+{
+    let firsts = firsts_of(&order, firsts);
+    let ends = ends_of(&order, &firsts, ends);
+    let stranger = first_stranger(&order);
+    sessions.push_reserved(session);
+    let handed = hand_out(order, left, sessions);
+    let report = Report {
+        ends,
+        left: handed.0,
+        sessions: handed.1,
+    };
+    (report, stranger)
 }
