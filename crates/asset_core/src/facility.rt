@@ -38,10 +38,16 @@ fn may_owe(step: &Step) -> usize
 
 /// A history, which grows by one answered step at a time, and the tables that show it. Contracts see the
 /// history, and the pending request of each live transaction. It is `Send`.
-#[derive(Drop)]
 pub struct Core {
     history: History,
     tables: Tables,
+}
+
+/// It is proved here, once for all crates that drop a facility.
+impl Drop for Core {
+    fn drop(self) {
+        drop(self.into_history());
+    }
 }
 
 impl Model for Core {
@@ -132,11 +138,7 @@ impl Core {
         needs_send::<Core>();
         match History::open(alloc, opening, capacity) {
             Ok(history) => Ok(Core { history, tables }),
-            Err(_) => {
-                // Dropped by name, as in `into_history`.
-                drop(tables);
-                Err(NoMemory)
-            }
+            Err(_) => Err(NoMemory),
         }
     }
 
@@ -427,10 +429,7 @@ impl Core {
     pub fn into_history(self) -> History
         ensures { result ≡ self.history }
     {
-        // The tables are dropped by name: the proof of the drop is then made once for each type in them, and
-        // not for all of them at each place where they go.
-        let Core { history, tables } = self;
-        drop(tables);
+        let Core { history, tables: _ } = self;
         history
     }
 }

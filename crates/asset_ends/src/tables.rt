@@ -15,10 +15,17 @@ use std::marker::Model;
 /// The tables of objects, locks, permits, transactions and dependencies. Contracts see what each holds; which history
 /// they show, `Shows` says. Exactly the live transactions are enrolled for locks, and exactly they have seats, by which
 /// locks, permits and dependencies are asked.
-#[derive(Drop)]
 pub struct Tables {
     pub(crate) alloc: Global,
     pub(crate) parts: Parts,
+}
+
+/// It is proved here, once for all crates that drop tables.
+impl Drop for Tables {
+    fn drop(self) {
+        let Tables { alloc: _, parts } = self;
+        drop(parts);
+    }
 }
 
 impl Model for Tables {

@@ -12,10 +12,18 @@ use std::marker::Model;
 /// opening, the entries with the newest first, and the capacity.
 ///
 /// It also keeps, as entries come, the groups of the transactions that their steps act on, and who of them has committed.
-#[derive(Drop)]
 pub struct History {
     entries: Entries,
     kept: KeptGroups,
+}
+
+/// It is proved here, once for all crates that drop a history.
+impl Drop for History {
+    fn drop(self) {
+        let History { entries, kept } = self;
+        drop(entries);
+        drop(kept);
+    }
 }
 
 impl Model for History {

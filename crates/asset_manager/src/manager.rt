@@ -91,12 +91,26 @@ fn make_word(alloc: Global) -> Result<Word, NoMemory>
 
 /// A facility under a lock, to be shared by threads, each of which asks by a session. Contracts see its word of
 /// published counts, by which they know which sessions are its own. It is `Send` and `Sync`.
-#[derive(Drop)]
 pub struct Manager {
     book: Mutex<Book>,
     turned: Condvar,
     sleepers: AtomicU64,
     watch: Arc<Watch, Global>,
+}
+
+/// It is proved here, once for all crates that drop a manager.
+impl Drop for Manager {
+    fn drop(self) {
+        let Manager {
+            book,
+            turned,
+            sleepers: _,
+            watch,
+        } = self;
+        drop(book);
+        drop(turned);
+        drop(watch);
+    }
 }
 
 impl Model for Manager {
@@ -128,11 +142,7 @@ impl Manager {
         let core = Core::open(alloc, opening, capacity)?;
         match make_word(alloc) {
             Ok(word) => Ok(Manager::over(alloc, core, word)),
-            Err(NoMemory) => {
-                // The tables are dropped there, by name.
-                drop(core.into_history());
-                Err(OpenFault::NoMemory)
-            }
+            Err(NoMemory) => Err(OpenFault::NoMemory),
         }
     }
 

@@ -35,11 +35,23 @@ struct Link {
 /// Who asks a manager, with the list of the calls that were recorded. It belongs to the manager that it came from.
 /// Contracts see the manager's word, once the session knows it, the counts that it saw last, and the list. It is
 /// `Send`.
-#[derive(Drop)]
 pub struct Session {
     link: Option<Link>,
     pub(crate) list: CallList,
     alloc: Global,
+}
+
+/// It is proved here, once for all crates that drop a session.
+impl Drop for Session {
+    fn drop(self) {
+        let Session {
+            link,
+            list,
+            alloc: _,
+        } = self;
+        drop(link);
+        drop(list);
+    }
 }
 
 impl Model for Session {
