@@ -47,12 +47,6 @@ pub(crate) fn tables_after(alloc: Global, history: &History) -> Result<Tables, N
     ensures { IfOk result (λ tables. Shows history.now.opening (applied history.now.entries) (values_of tables)) }
 {
     let mut tables = tables_before(alloc, history)?;
-    match pass_all(history, &mut tables) {
-        Ok(()) => Ok(tables),
-        Err(_) => {
-            // Dropped by name, so that the proof of the drop is made once.
-            drop(tables);
-            Err(NoMemory)
-        }
-    }
+    pass_all(history, &mut tables)?;
+    Ok(tables)
 }

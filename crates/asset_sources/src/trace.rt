@@ -62,14 +62,8 @@ impl Trace {
     pub fn of(alloc: Global, history: History) -> Result<Trace, NoMemory>
         ensures { IfOk result (λ trace. trace ≡ history) }
     {
-        match sources(alloc, &history) {
-            Ok(sources) => Ok(Trace { history, sources }),
-            Err(fault) => {
-                // Dropped by name, so that the proof of the drop is made once.
-                drop(history);
-                Err(fault)
-            }
-        }
+        let sources = sources(alloc, &history)?;
+        Ok(Trace { history, sources })
     }
 
     /// Returns the number of entries.
