@@ -103,8 +103,7 @@ fn open_if_needed(
     let pairs = checker.end_objects(alloc).into_pairs();
     match Core::open_distinct(alloc, &pairs, capacity) {
         Ok(opened) => {
-            // Dropped by name, so that the proof of the drop is made once.
-            drop(core.replace(opened));
+            *core = Some(opened);
             Ok(())
         }
         Err(_) => {

@@ -71,7 +71,7 @@ pub fn run_shell<R: Read, W: Write, E: Write>(
 {
     let mut piece = zeros(alloc)?;
     let mut conversation = Conversation::new(alloc, capacity);
-    let ended = talk(
+    talk(
         alloc,
         &mut conversation,
         input,
@@ -79,8 +79,5 @@ pub fn run_shell<R: Read, W: Write, E: Write>(
         errors,
         piece.as_mut_slice(),
         capacity,
-    );
-    // Dropped by name, so that the proof of the drop is made once.
-    drop(conversation);
-    ended
+    )
 }

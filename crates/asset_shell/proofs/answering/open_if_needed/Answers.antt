@@ -1,4 +1,4 @@
-use Rattle.std.proofs.Common.{[], ap, sym, ◌∙◌}
+use Rattle.std.proofs.Common.{[], refl, sym, ◌∙◌}
 use Rattle.std.specs.Option.{is_some}
 use Rattle.asset_core.specs.Pending.{facility_of}
 use Rattle.asset_shell.specs.Answering.{open_history}
@@ -18,11 +18,11 @@ pub end_objects-requires : goal.end_objects-requires
 end_objects-requires c = joint_objects _ _ c.requires.joint (sym c.is_some.ensures ∙ c.if-is_some.false)
 
 pub returns-in-Ok-clause-joint : goal.returns-in-Ok-clause-joint
-returns-in-Ok-clause-joint c = joint_open _ _ (ap is_some c.replace.ensures.after) c.end_objects.ensures.ended
+returns-in-Ok-clause-joint c = joint_open _ _ refl c.end_objects.ensures.ended
 
 pub returns-in-Ok-clause-history : goal.returns-in-Ok-clause-history
 unfolding open_history facility_of
-returns-in-Ok-clause-history c = rw (c.replace.ensures.after, c.in-Ok.ensures, c.deref.ensures.value, c.into_pairs-pairs.ensures) (objects_shown _ _ _ _ (sym c.is_some.ensures ∙ c.if-is_some.false) c.end_objects.ensures.objects)
+returns-in-Ok-clause-history c = rw (c.in-Ok.ensures, c.deref.ensures.value, c.into_pairs-pairs.ensures) (objects_shown _ _ _ _ (sym c.is_some.ensures ∙ c.if-is_some.false) c.end_objects.ensures.objects)
 
 pub returns-clause-joint : goal.returns-clause-joint
 returns-clause-joint c = joint_new _ _ [] (sym c.is_some.ensures ∙ c.if-is_some.false) c.new-fresh.ensures
