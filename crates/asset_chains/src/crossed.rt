@@ -13,11 +13,23 @@ use std::marker::Model;
 ///
 /// An item takes 24 bytes beside its own, for its links, and a row or a column 12. Each call takes constant time unless
 /// it says more. Only `add` and `reserve` take memory.
-#[derive(Drop)]
 pub struct Crossed<T> {
     pub(crate) slots: Slab<Slot<T>>,
     pub(crate) rows: Vec<Head>,
     pub(crate) columns: Vec<Head>,
+}
+
+impl<T: Drop> Drop for Crossed<T> {
+    fn drop(self) {
+        let Crossed {
+            slots,
+            rows,
+            columns,
+        } = self;
+        drop(slots);
+        drop(rows);
+        drop(columns);
+    }
 }
 
 impl<T> Model for Crossed<T> {

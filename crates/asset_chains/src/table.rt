@@ -11,10 +11,17 @@ use std::marker::Model;
 ///
 /// A key takes 12 bytes, and so does a chain. Each call but `add_key` and `add_chain` takes constant time and no
 /// memory.
-#[derive(Drop)]
 pub struct Chains {
     links: Vec<Link>,
     heads: Vec<Head>,
+}
+
+impl Drop for Chains {
+    fn drop(self) {
+        let Chains { links, heads } = self;
+        drop(links);
+        drop(heads);
+    }
 }
 
 impl Model for Chains {

@@ -11,10 +11,17 @@ use std::marker::Model;
 /// enrolled have a seat, by which the table is asked.
 ///
 /// A transaction that never depends on another nor is depended on needs no place here.
-#[derive(Drop)]
 pub struct Deps {
     seats: Seats,
     table: SeatedDeps,
+}
+
+impl Drop for Deps {
+    fn drop(self) {
+        let Deps { seats, table } = self;
+        drop(seats);
+        drop(table);
+    }
 }
 
 impl Model for Deps {

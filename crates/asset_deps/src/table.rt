@@ -12,11 +12,23 @@ use std::marker::Model;
 /// The dependencies that stand, asked by seat, and the marks of those who end together. Each dependency is in the row of its
 /// source's seat and in the column of its dependent's. The seats are kept elsewhere: each call takes them, and requires
 /// that the table is tied to them.
-#[derive(Drop)]
 pub struct SeatedDeps {
     pub(crate) links: Crossed<Link>,
     pub(crate) marks: Marks,
     pub(crate) marked: Marks,
+}
+
+impl Drop for SeatedDeps {
+    fn drop(self) {
+        let SeatedDeps {
+            links,
+            marks,
+            marked,
+        } = self;
+        drop(links);
+        drop(marks);
+        drop(marked);
+    }
 }
 
 impl Model for SeatedDeps {

@@ -10,12 +10,25 @@ use std::marker::Model;
 /// The opening values of the objects, of which none is given twice, and the entries: each is a step with its reply. They
 /// are always legal: each reply is the one answer to its step after the entries before it. Contracts see the opening, the
 /// entries with the newest first, and the capacity.
-#[derive(Drop)]
 pub struct Entries {
     opening: Vec<(Ob, i64)>,
     entries: Vec<Stored>,
     sets: StoredSets,
     capacity: usize,
+}
+
+impl Drop for Entries {
+    fn drop(self) {
+        let Entries {
+            opening,
+            entries,
+            sets,
+            capacity: _,
+        } = self;
+        drop(opening);
+        drop(entries);
+        drop(sets);
+    }
 }
 
 impl Model for Entries {

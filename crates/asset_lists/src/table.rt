@@ -15,11 +15,22 @@ use std::marker::Model;
 ///
 /// A key takes 8 bytes, and 4 more while it is in a list. A list stores up to four keys in itself, and more of them in
 /// memory of its own. Only `push` and the calls that add keys or lists take memory; each other call takes constant time.
-#[derive(Drop)]
 pub struct KeyLists {
     alloc: Global,
     rows: Vec<Row>,
     places: Vec<Place>,
+}
+
+impl Drop for KeyLists {
+    fn drop(self) {
+        let KeyLists {
+            alloc: _,
+            rows,
+            places,
+        } = self;
+        drop(rows);
+        drop(places);
+    }
 }
 
 impl Model for KeyLists {

@@ -17,12 +17,26 @@ use std::marker::Model;
 /// objects and in the chains of seats.
 ///
 /// An object has a number, by which the store is asked, and which the caller knows: the store has no index of names.
-#[derive(Drop)]
 pub struct LockStore {
     pub(crate) locks: Slab<Lock>,
     pub(crate) objects: Vec<Ob>,
     pub(crate) by_object: KeyLists,
     pub(crate) by_owner: Chains,
+}
+
+impl Drop for LockStore {
+    fn drop(self) {
+        let LockStore {
+            locks,
+            objects,
+            by_object,
+            by_owner,
+        } = self;
+        drop(locks);
+        drop(objects);
+        drop(by_object);
+        drop(by_owner);
+    }
 }
 
 impl Model for LockStore {

@@ -16,11 +16,23 @@ use std::marker::Model;
 /// The locks on objects, and the enrolled transactions with what each holds and waits for. Contracts see a row for each
 /// enrolled transaction, in order of enrolment; nobody sees in which order locks were granted on an object. Exactly those
 /// who are enrolled have a seat, and each object that ever had a lock has a number, by which the table is asked.
-#[derive(Drop)]
 pub struct Locks {
     seats: Seats,
     objects: IndexSet<Ob>,
     table: SeatedLocks,
+}
+
+impl Drop for Locks {
+    fn drop(self) {
+        let Locks {
+            seats,
+            objects,
+            table,
+        } = self;
+        drop(seats);
+        drop(objects);
+        drop(table);
+    }
 }
 
 impl Model for Locks {

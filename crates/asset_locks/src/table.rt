@@ -21,11 +21,23 @@ use std::marker::Model;
 /// The seats are kept elsewhere: each call takes them, and requires that the table is tied to them. Who has a seat need
 /// not be enrolled. Objects are asked for by their numbers, which are kept elsewhere too: each object that may have a lock is
 /// added first.
-#[derive(Drop)]
 pub struct SeatedLocks {
     pending: Vec<Option<(Ob, Op)>>,
     order: Chains,
     store: LockStore,
+}
+
+impl Drop for SeatedLocks {
+    fn drop(self) {
+        let SeatedLocks {
+            pending,
+            order,
+            store,
+        } = self;
+        drop(pending);
+        drop(order);
+        drop(store);
+    }
 }
 
 impl Model for SeatedLocks {

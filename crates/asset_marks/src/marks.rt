@@ -8,11 +8,22 @@ use std::marker::Model;
 /// counter to 0. Contracts see how many nodes there are, and those that are met, in order of meeting.
 ///
 /// `order` has each node once, those that are met first, and `position` says where each node stands in it.
-#[derive(Drop)]
 pub struct Marks {
     order: Vec<usize>,
     position: Vec<usize>,
     met: usize,
+}
+
+impl Drop for Marks {
+    fn drop(self) {
+        let Marks {
+            order,
+            position,
+            met: _,
+        } = self;
+        drop(order);
+        drop(position);
+    }
 }
 
 impl Model for Marks {

@@ -16,7 +16,6 @@ const NAMES_A_BUCKET: usize = 4;
 /// node, which is the first node of its group, whether its group is flagged, and how many names there is room for.
 ///
 /// A call looks at the names of one bucket, and walks to a root in at most log2 of the group's nodes steps. No contract says so.
-#[derive(Drop)]
 pub struct NameGroups {
     names: Vec<u64>,
     /// For each node 1 and the one before it in its bucket, or 0 if there is none.
@@ -25,6 +24,22 @@ pub struct NameGroups {
     last: Vec<u32>,
     links: Vec<Link>,
     room: usize,
+}
+
+impl Drop for NameGroups {
+    fn drop(self) {
+        let NameGroups {
+            names,
+            before,
+            last,
+            links,
+            room: _,
+        } = self;
+        drop(names);
+        drop(before);
+        drop(last);
+        drop(links);
+    }
 }
 
 impl Model for NameGroups {

@@ -13,10 +13,17 @@ use std::marker::Model;
 ///
 /// Each transaction with an update has a seat, by which the table is asked. Once there is a record, there are more seats than
 /// records, so that a hand-over finds one for the taker.
-#[derive(Drop)]
 pub struct Objects {
     seats: Seats,
     table: SeatedObjects,
+}
+
+impl Drop for Objects {
+    fn drop(self) {
+        let Objects { seats, table } = self;
+        drop(seats);
+        drop(table);
+    }
 }
 
 impl Model for Objects {

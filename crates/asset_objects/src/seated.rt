@@ -12,11 +12,21 @@ use thiserror::Error;
 /// The objects with their values, and an update record of each write and add that may still be undone, asked by seat. The seats
 /// are kept elsewhere: each call takes them, and requires that the table is tied to them. `objects_in` says which objects are
 /// shown: each as its base and the updates that stand over it, newest first. Its value is the base with the updates in order.
-#[derive(Drop)]
 pub struct SeatedObjects {
     placed: Placed,
     reserved: bool,
     visits: usize,
+}
+
+impl Drop for SeatedObjects {
+    fn drop(self) {
+        let SeatedObjects {
+            placed,
+            reserved: _,
+            visits: _,
+        } = self;
+        drop(placed);
+    }
 }
 
 impl Model for SeatedObjects {

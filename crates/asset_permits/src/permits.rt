@@ -9,10 +9,17 @@ use std::marker::Model;
 
 /// The permits that stand. Contracts see them as descriptors, none of which stands twice; their order means
 /// nothing. Exactly those who give or take something have a seat, by which the table is asked.
-#[derive(Drop)]
 pub struct Permits {
     seats: Seats,
     table: SeatedPermits,
+}
+
+impl Drop for Permits {
+    fn drop(self) {
+        let Permits { seats, table } = self;
+        drop(seats);
+        drop(table);
+    }
 }
 
 impl Model for Permits {

@@ -19,13 +19,26 @@ use std::marker::Model;
 ///
 /// `marked` is the question that the marks answer, if they answer one. It is `None` once a permit changes, room is made, or
 /// another search has used the marks. `may_open` is set once an open permit comes; until then nobody looks for one.
-#[derive(Drop)]
 pub struct SeatedPermits {
     pub(crate) permits: Crossed<Permit>,
     pub(crate) marks: Marks,
     pub(crate) marked: Option<Question>,
     pub(crate) may_open: bool,
     pub(crate) alloc: Global,
+}
+
+impl Drop for SeatedPermits {
+    fn drop(self) {
+        let SeatedPermits {
+            permits,
+            marks,
+            marked: _,
+            may_open: _,
+            alloc: _,
+        } = self;
+        drop(permits);
+        drop(marks);
+    }
 }
 
 impl Model for SeatedPermits {

@@ -142,11 +142,18 @@ pub struct Settled {
 /// The update records of each object, asked by seat. Objects are numbered from 0 on. Each record is in the row of its object
 /// and in the column of its owner's seat, and the seats are kept elsewhere: each call takes them, and requires that the
 /// records are tied to them. Contracts see the rows and columns; `lists_in` says which records each object has, oldest first.
-#[derive(Drop)]
 pub struct Records {
     records: Crossed<Record>,
     /// Of each object, what is known of its records.
     marks: Vec<Mark>,
+}
+
+impl Drop for Records {
+    fn drop(self) {
+        let Records { records, marks } = self;
+        drop(records);
+        drop(marks);
+    }
 }
 
 impl Model for Records {

@@ -11,11 +11,22 @@ use std::marker::Model;
 /// memory.
 ///
 /// A seat takes 20 bytes, and a bucket 12. Only `reserve` and `add_seat` take memory.
-#[derive(Drop)]
 pub struct Seats {
     names: Vec<Txn>,
     chains: Chains,
     buckets: usize,
+}
+
+impl Drop for Seats {
+    fn drop(self) {
+        let Seats {
+            names,
+            chains,
+            buckets: _,
+        } = self;
+        drop(names);
+        drop(chains);
+    }
 }
 
 impl Model for Seats {

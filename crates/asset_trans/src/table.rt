@@ -14,13 +14,25 @@ use std::marker::Model;
 
 /// The transactions that were initiated, in order of initiation, each with its status, its parent and its seat. Contracts
 /// see this list. The caller answers for the seats, which are kept as they are given.
-#[derive(Drop)]
 pub struct Trans {
     rows: IndexMap<Txn, TransRow>,
     live: usize,
     owed: usize,
     committed: usize,
     aborted: usize,
+}
+
+impl Drop for Trans {
+    fn drop(self) {
+        let Trans {
+            rows,
+            live: _,
+            owed: _,
+            committed: _,
+            aborted: _,
+        } = self;
+        drop(rows);
+    }
 }
 
 impl Model for Trans {

@@ -9,7 +9,7 @@ pub invariant_of-result : goal.invariant_of-result
 invariant_of-result c = record {
   locks = nobody_enrolled _ _ c.new-3.ensures (c.add_objects.ensures.rows _ ∙ c.new-locks.ensures.rows _);
   seats = nobody_seated _ _ c.new-3.ensures c.new.ensures.seats;
-  tied = record { objects = c.requires _ c.new.ensures.seats; locks = c.add_objects.ensures.tied _ (c.new-locks.ensures.tied _ c.new.ensures.seats); permits = c.new-2.ensures.tied _ c.new.ensures.seats; deps = c.new-4.ensures.tied _ c.new.ensures.seats; numbers = c.in_ok-add_objects.ensures.added ∙ ap (λ (l : List Ob). l ++ c.objects-2.result.now) c.new-locks.ensures.objects ∙ c.objects-2.ensures };
+  tied = record { objects = c.requires _ c.new.ensures.seats; locks = c.add_objects.ensures.tied _ (c.new-locks.ensures.tied _ c.new.ensures.seats); permits = c.new-2.ensures.tied _ c.new.ensures.seats; deps = c.new-4.ensures.tied _ c.new.ensures.seats; numbers = c.in_ok-add_objects.ensures.added ∙ ap (λ (l : List Ob). l ++ c.objects.result.now) c.new-locks.ensures.objects ∙ c.objects.ensures };
 }
 
 pub returns-clause-shows : goal.returns-clause-shows
