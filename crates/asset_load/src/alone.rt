@@ -29,7 +29,6 @@ pub fn core<R: Clock>(rt: &R, alloc: Global, request: &Request) -> Option<Took> 
     let start = moment(rt);
     let ran = run_core(&mut core, request.count);
     let took = since(rt, start, ran);
-    drop(core.into_history());
     took
 }
 

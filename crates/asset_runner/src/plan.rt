@@ -162,7 +162,8 @@ fn gather<R: Wait>(
     order
 }
 
-/// Splits off a session with room for a job's own calls and for so many operations. It answers `NoMemory` if memory runs out.
+/// Splits off a session with room for a job's own calls and for so many operations, of the same manager and without calls. It
+/// answers `NoMemory` if memory runs out. The session that it splits stays as it is.
 fn session_for(own: &mut Session, operations: usize) -> Result<Session, NoMemory>
     ensures same { own.new ≡ own.old }
     ensures calls { IfOk result (λ session. session.list.calls ≡ []) }
