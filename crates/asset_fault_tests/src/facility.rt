@@ -89,7 +89,6 @@ fn plays(alloc: Global, script: &str) -> Result<(bool, bool), OpenFault> {
     let mut core = opened(alloc, &THREE, ROOM)?;
     let right = first_wrong(alloc, &mut core, script).is_none();
     let recorded = first_other_entry(alloc, core.history(), script).is_none();
-    drop(core.into_history());
     Ok((right, recorded))
 }
 

@@ -57,10 +57,7 @@ fn book_at(
     let core = opened_core(alloc, &THREE, ROOM)?;
     match Arc::try_clone(&watch) {
         Ok(for_book) => Ok((Book::new(core, for_book, by), watch)),
-        Err(_) => {
-            drop(core.into_history());
-            Err(OpenFault::NoMemory)
-        }
+        Err(_) => Err(OpenFault::NoMemory),
     }
 }
 

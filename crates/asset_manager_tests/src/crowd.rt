@@ -166,7 +166,6 @@ fn four_run<R: Threads + Wait + Sync>(
 fn is_a_history(alloc: Global, history: &History) -> Result<bool, Fail> {
     let mut core = opened_core(alloc, history.opening(), history.room())?;
     let replayed = is_replayed(&mut core, history);
-    drop(core.into_history());
     Ok(replayed)
 }
 
