@@ -91,23 +91,23 @@ fn unlink(table: &mut Chains, key: usize) -> bool {
     }
 }
 
-/// Returns whether the chain has these keys, by its ends, its count, and a walk in each direction.
+/// Returns whether the chain has the key, after this one.
+fn follows(table: &Chains, chain: usize, before: Option<usize>, key: usize) -> bool {
+    table.home(key) == Some(chain) && table.previous(key) == before
+}
+
+/// Returns whether the chain has these keys, by its ends, its count, and the neighbours of each key.
 fn has_keys(table: &Chains, chain: usize, keys: &[usize]) -> bool {
     let mut at = table.first(chain);
+    let mut before = None;
     for key in keys {
-        if at != Some(*key) || table.home(*key) != Some(chain) {
+        if at != Some(*key) || !follows(table, chain, before, *key) {
             return false;
         }
+        before = at;
         at = table.next(*key);
     }
-    let mut back = table.last(chain);
-    for key in keys.iter().rev() {
-        if back != Some(*key) {
-            return false;
-        }
-        back = table.previous(*key);
-    }
-    at == None && back == None && table.len(chain) == keys.len()
+    at == None && table.last(chain) == before && table.len(chain) == keys.len()
 }
 
 /// Returns whether the key is in no chain.

@@ -15,27 +15,30 @@ const CALLS: usize = 4_000;
 /// What joined a row or a column: which one, the key, and the item.
 type Joined = (usize, usize, u64);
 
-/// Returns whether the row or column has the keys and items of its list, in both directions.
+/// Returns whether the item is at the key, in this row or column.
+fn has_item(table: &Crossed<u64>, side: Side, (line, key, item): Joined) -> bool {
+    table.home(side, key) == Some(line) && table.get(key).copied() == Some(item)
+}
+
+/// Returns whether the row or column has the keys and items of its list, each after the one before it and before the one after.
 fn has_line(table: &Crossed<u64>, side: Side, line: usize, joined: &[Joined]) -> bool {
     let mut at = table.first(side, line);
-    for (_, key, item) in joined.iter().filter(|one| one.0 == line) {
-        if at != Some(*key)
-            || table.home(side, *key) != Some(line)
-            || table.get(*key) != Some(item)
-        {
-            return false;
+    let mut before = None;
+    let mut count: usize = 0;
+    for one in joined {
+        if one.0 == line {
+            if at != Some(one.1) || !has_item(table, side, *one) {
+                return false;
+            }
+            if table.previous(side, one.1) != before {
+                return false;
+            }
+            before = at;
+            at = table.next(side, one.1);
+            count = count.saturating_add(1);
         }
-        at = table.next(side, *key);
     }
-    let mut back = table.last(side, line);
-    for (_, key, _) in joined.iter().rev().filter(|one| one.0 == line) {
-        if back != Some(*key) {
-            return false;
-        }
-        back = table.previous(side, *key);
-    }
-    let count = joined.iter().filter(|one| one.0 == line).count();
-    at == None && back == None && table.len(side, line) == count
+    at == None && table.last(side, line) == before && table.len(side, line) == count
 }
 
 /// Returns whether the rows and columns have the items of their lists.
@@ -47,7 +50,8 @@ fn agrees(table: &Crossed<u64>, rows: &[Joined], columns: &[Joined]) -> bool {
             return false;
         }
     }
-    (table.count(Side::Row), table.count(Side::Column)) == (LINES, LINES)
+    table.items() == rows.len()
+        && (table.count(Side::Row), table.count(Side::Column)) == (LINES, LINES)
 }
 
 /// Adds the rows and the columns. If memory runs out, the same call is made again, as often as it takes.
@@ -64,24 +68,33 @@ fn lined(alloc: Global) -> Result<Crossed<u64>, AllocError> {
     Ok(table)
 }
 
-/// Adds an item, and notes it. Returns whether it was added.
-fn insert(
+/// Adds an item if its row and its column are there, and returns its key. If memory runs out, it asks again, once.
+fn inserted(
     table: &mut Crossed<u64>,
-    rows: &mut Vec<Joined>,
-    columns: &mut Vec<Joined>,
     (row, column, item): Joined,
-) -> Result<bool, Fail> {
+) -> Result<Option<usize>, AllocError> {
     match table.reserve() {
         Ok(()) => {}
         Err(AllocError) => table.reserve()?,
     }
     if row >= table.count(Side::Row) || column >= table.count(Side::Column) {
-        return Ok(false);
+        return Ok(None);
     }
-    let key = table.insert(row, column, item);
-    rows.push((row, key, item))?;
-    columns.push((column, key, item))?;
-    Ok(true)
+    Ok(Some(table.insert(row, column, item)))
+}
+
+/// Adds an item, and notes it.
+fn insert(
+    table: &mut Crossed<u64>,
+    rows: &mut Vec<Joined>,
+    columns: &mut Vec<Joined>,
+    joined: Joined,
+) -> Result<(), AllocError> {
+    if let Some(key) = inserted(table, joined)? {
+        rows.push((joined.0, key, joined.2))?;
+        columns.push((joined.1, key, joined.2))?;
+    }
+    Ok(())
 }
 
 /// Takes the item at the key out, if there is one.
@@ -99,7 +112,7 @@ fn shift(
     rows: &mut Vec<Joined>,
     key: usize,
     row: usize,
-) -> Result<(), Fail> {
+) -> Result<(), AllocError> {
     if let Some(item) = table.get(key)
         && row < table.count(Side::Row)
     {
@@ -141,7 +154,7 @@ fn call(
     rows: &mut Vec<Joined>,
     columns: &mut Vec<Joined>,
     number: u64,
-) -> Result<(), Fail> {
+) -> Result<(), AllocError> {
     let line = (number >> 40) as usize % LINES;
     let key = (number >> 30) as usize % ITEMS;
     match (number >> 50) % 64 {
@@ -162,7 +175,7 @@ fn call(
 }
 
 /// Draws calls, and returns the first after which the items are not those of the lists.
-fn first_difference(table: &mut Crossed<u64>, alloc: Global) -> Result<Option<usize>, Fail> {
+fn first_difference(table: &mut Crossed<u64>, alloc: Global) -> Result<Option<usize>, AllocError> {
     let mut rows = Vec::new(alloc);
     let mut columns = Vec::new(alloc);
     let mut number = 1;

@@ -19,6 +19,9 @@ const SCRIPTS: u64 = 2_000;
 /// How many steps a generated script has.
 const STEPS: usize = 24;
 
+/// The transactions of all scripts are below this number.
+const NAMES: u64 = 113;
+
 /// Room for fewer entries than a generated script has.
 const LITTLE_ROOM: usize = 10;
 
@@ -34,7 +37,7 @@ fn owed(entries: &[(Step, Reply)]) -> usize {
 /// Returns whether the facility shows what the entries give of the transactions and objects that the scripts use. The last of
 /// these objects does not exist.
 fn shows(core: &Core, entries: &[(Step, Reply)]) -> bool {
-    for t in 5..10 {
+    for t in 0..NAMES {
         if core.status(Txn(t)) != status_after(entries, Txn(t)) {
             return false;
         }

@@ -3,7 +3,7 @@
 ghost use Rattle.std.specs.Prelude.{◌≡◌, ◌==◌, position, IfOk, IfSome};
 ghost use Rattle.asset_names.specs.Numbered.{number_in};
 ghost use Rattle.asset_seats.specs.Seated.{Seated, HasSeat};
-ghost use Rattle.asset_locks.specs.Tied.{rows_in, IsTied};
+ghost use Rattle.asset_locks.specs.Tied.{IsTied};
 ghost use Rattle.asset_permits.specs.Valid.{IsTied as IsPermitsTied};
 
 use asset_locks::{Asked, LockState, SeatedLocks};
@@ -23,7 +23,7 @@ fn sitter(seats: &Seats, t: u64) -> Option<Sitter>
 
 /// Returns a transaction with its seat. If it has none, it is given one, with room in both tables. If memory runs out,
 /// nobody sits down.
-#[tactic(auto, using(asset_locks::proofs::SeatLemmas::tied_same, asset_locks::proofs::SeatLemmas::shows_same, asset_locks::proofs::SeatLemmas::tied_sits, asset_locks::proofs::SeatLemmas::shows_sits))]
+#[tactic(auto, using(asset_locks::proofs::SeatLemmas::tied_same, asset_locks::proofs::SeatLemmas::tied_sits))]
 fn enter(
     seats: &mut Seats,
     locks: &mut SeatedLocks,
@@ -35,7 +35,6 @@ fn enter(
     ensures locks { IsTied locks.new seats.new }
     ensures permits { IsPermitsTied permits.new seats.new }
     ensures sits { IfOk result (λ s. HasSeat seats.new s) }
-    ensures rows { rows_in seats.new locks.new ≡ rows_in seats.old locks.old }
 {
     if let Some(at) = seats.seat_of(Txn(t)) {
         return Ok(Sitter { t: Txn(t), at });
@@ -44,7 +43,6 @@ fn enter(
     let vacant = seats.vacant();
     permits.make_room(vacant)?;
     locks.make_room(vacant)?;
-    locks.laws(seats);
     let at = seats.sit(Txn(t));
     Ok(Sitter { t: Txn(t), at })
 }
