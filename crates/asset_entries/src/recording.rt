@@ -1,13 +1,13 @@
-//! Whether an entry records a step with its reply. An entry of the same kind of step is not read back for that, if the step is of
-//! one transaction.
+//! Whether an entry records a step with its reply. An entry of the same kind of step is not read back for that, if the step names
+//! one transaction and no set of objects.
 
 ghost use Rattle.std.specs.Prelude.{◌≡◌, IsTrue};
-ghost use Rattle.asset_entries.specs.Stored.{reply_of_name};
+ghost use Rattle.asset_entries.specs.Stored.{reply_about, reply_of_name};
 
 use crate::reply_tag::ReplyTag;
 use crate::stored::Stored;
 use crate::stored_sets::StoredSets;
-use asset_names::{Reply, Step, Txn};
+use asset_names::{Ob, Reply, Step, Txn};
 
 /// Returns whether two steps that name one transaction each name the same, and the tag says the reply.
 #[inline(always)]
@@ -16,6 +16,16 @@ fn is_of_name(tag: ReplyTag, t: Txn, named: Txn, reply: Reply) -> bool
     ensures found { t ≡ named → reply_of_name t tag ≡ reply → IsTrue result }
 {
     t == named && tag.about_name(t) == reply
+}
+
+/// Returns whether two steps that name one transaction and one object each name the same, and the tag says the reply, with the
+/// value if it is that of a read.
+#[inline(always)]
+fn is_of_object(tag: ReplyTag, v: i64, own: (Txn, Ob), named: (Txn, Ob), reply: Reply) -> bool
+    ensures same { IsTrue result → (own ≡ named) × (reply_about own.0 own.1 v tag ≡ reply) }
+    ensures found { own ≡ named → reply_about own.0 own.1 v tag ≡ reply → IsTrue result }
+{
+    own == named && tag.about(own.0, own.1, v) == reply
 }
 
 impl Stored {
@@ -30,22 +40,46 @@ impl Stored {
         ensures found { entry_of sets.now.sets self.now ≡ (step.now, reply) → IsTrue result }
     {
         match (self, step) {
+            (Stored::Read { tag, t, x, v }, Step::Read { t: u, x: y }) => {
+                is_of_object(*tag, *v, (*t, *x), (*u, *y), reply)
+            }
+            (Stored::Write { tag, t, x, v }, Step::Write { t: u, x: y, v: w }) => {
+                v == w && is_of_object(*tag, 0, (*t, *x), (*u, *y), reply)
+            }
+            (Stored::Add { tag, t, x, d }, Step::Add { t: u, x: y, d: e }) => {
+                d == e && is_of_object(*tag, 0, (*t, *x), (*u, *y), reply)
+            }
+            _ => self.records_course(sets, step, reply),
+        }
+    }
+
+    /// Returns the same as `records`, and looks first whether the transaction is initiated, begins or completes.
+    #[tactic(auto, unfolding(crate::specs::Stored::entry_of, crate::specs::Stored::has_set))]
+    fn records_course(&self, sets: &StoredSets, step: &Step, reply: Reply) -> bool
+        requires there { has_set (length sets.now.sets) self.now ≡ true }
+        ensures same { IsTrue result → entry_of sets.now.sets self.now ≡ (step.now, reply) }
+        ensures found { entry_of sets.now.sets self.now ≡ (step.now, reply) → IsTrue result }
+    {
+        match (self, step) {
             (Stored::Initiate { tag, t, parent }, Step::Initiate { t: u, parent: p }) => {
                 parent == p && is_of_name(*tag, *t, *u, reply)
             }
             (Stored::Begin { tag, t }, Step::Begin { t: u }) => is_of_name(*tag, *t, *u, reply),
-            (Stored::Read { tag, t, x, v }, Step::Read { t: u, x: y }) => {
-                t == u && x == y && tag.about(*t, *x, *v) == reply
-            }
-            (Stored::Write { tag, t, x, v }, Step::Write { t: u, x: y, v: w }) => {
-                t == u && x == y && v == w && tag.about(*t, *x, 0) == reply
-            }
-            (Stored::Add { tag, t, x, d }, Step::Add { t: u, x: y, d: e }) => {
-                t == u && x == y && d == e && tag.about(*t, *x, 0) == reply
-            }
             (Stored::Complete { tag, t }, Step::Complete { t: u }) => {
                 is_of_name(*tag, *t, *u, reply)
             }
+            _ => self.records_end(sets, step, reply),
+        }
+    }
+
+    /// Returns the same as `records`, and looks first whether the transaction ends or is waited for.
+    #[tactic(auto, unfolding(crate::specs::Stored::entry_of, crate::specs::Stored::has_set))]
+    fn records_end(&self, sets: &StoredSets, step: &Step, reply: Reply) -> bool
+        requires there { has_set (length sets.now.sets) self.now ≡ true }
+        ensures same { IsTrue result → entry_of sets.now.sets self.now ≡ (step.now, reply) }
+        ensures found { entry_of sets.now.sets self.now ≡ (step.now, reply) → IsTrue result }
+    {
+        match (self, step) {
             (Stored::Commit { tag, t }, Step::Commit { t: u }) => is_of_name(*tag, *t, *u, reply),
             (Stored::Abort { tag, t }, Step::Abort { t: u }) => is_of_name(*tag, *t, *u, reply),
             (Stored::WaitFor { tag, t }, Step::WaitFor { t: u }) => {
