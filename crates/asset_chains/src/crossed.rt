@@ -12,7 +12,7 @@ use std::marker::Model;
 /// see the items by key, and the keys of each row and of each column in order.
 ///
 /// An item takes 24 bytes beside its own, for its links, and a row or a column 12. Each call takes constant time unless
-/// it says more. Only `add` and `reserve` take memory.
+/// it says more; `add` and `reserve`, which alone take memory, take the time of a push to a vector.
 pub struct Crossed<T> {
     pub(crate) slots: Slab<Slot<T>>,
     pub(crate) rows: Vec<Head>,

@@ -369,7 +369,8 @@ impl Core {
 
     /// Returns who blocks `t` from `op` on `x`, rising: each other transaction that holds `x` by an operation in conflict
     /// and does not allow `t`, and nobody else. If `t` asked for it, it would wait for them, and for nobody else. It looks
-    /// at the locks on `x`, and searches for a permit from each that conflicts.
+    /// at the locks on `x` that may conflict, and marks all who allow `t` once; if open permits were given, it searches for a
+    /// permit from each holder in conflict.
     ///
     /// If memory runs out, the answer is `NoMemory`. Nothing changes.
     pub fn blockers(&mut self, t: Txn, x: Ob, op: Op) -> Result<NameSet, NoMemory>

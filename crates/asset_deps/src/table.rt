@@ -9,9 +9,9 @@ use asset_seats::{Seats, Sitter, add_lines, reserve_item};
 use std::alloc::Global;
 use std::marker::Model;
 
-/// The dependencies that stand, asked by seat, and the marks of those who end together. Each dependency is in the row of its
-/// source's seat and in the column of its dependent's. The seats are kept elsewhere: each call takes them, and requires
-/// that the table is tied to them.
+/// The dependencies that stand, asked by seat, and the marks of those who end together or were asked for. Each dependency is in
+/// the row of its source's seat and in the column of its dependent's. The seats are kept elsewhere: each call about a transaction
+/// takes them, and requires that the table is tied to them.
 pub struct SeatedDeps {
     pub(crate) links: Crossed<Link>,
     pub(crate) marks: Marks,

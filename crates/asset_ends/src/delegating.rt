@@ -65,8 +65,8 @@ impl Tables {
     /// Hands over to the taker what the giver did on the objects: its writes and its locks there are the taker's, and the
     /// taker gives a copy of each of the giver's permits on each object on which a lock moved. Both are live.
     ///
-    /// If memory runs out, nothing that any call shows has changed. The cost is that of the giver's locks, and
-    /// of its permits on each of them.
+    /// If memory runs out, nothing that any call shows has changed. The cost is that of the giver's locks and update
+    /// records, of a search for a lock of the taker for each lock that moves, and of the giver's permits for each of these.
     pub fn delegate(&mut self, giver: Txn, taker: Txn, obs: &ObSet) -> Result<(), NoMemory>
         requires giver { is_live_status (status_in self.old.trans giver.0) ≡ true }
         requires taker { is_live_status (status_in self.old.trans taker.0) ≡ true }

@@ -14,7 +14,7 @@ use std::marker::Model;
 
 /// The tables of objects, locks, permits, transactions and dependencies. Contracts see what each holds; which history
 /// they show, `Shows` says. Exactly the live transactions are enrolled for locks, and exactly they have seats, by which
-/// locks, permits and dependencies are asked.
+/// objects, locks, permits and dependencies are asked.
 pub struct Tables {
     pub(crate) alloc: Global,
     pub(crate) parts: Parts,

@@ -178,7 +178,8 @@ impl Tables {
     }
 
     /// Returns who blocks `t` from `op` on `x`, and nobody else: each other transaction that holds `x` by an operation in
-    /// conflict and does not allow `t`. It looks at the locks on `x`, and searches for a permit from each that conflicts.
+    /// conflict and does not allow `t`. It looks at the locks on `x` that may conflict, and marks all who allow `t` once; if open
+    /// permits were given, it searches for a permit from each holder in conflict.
     ///
     /// If memory runs out, the answer is `NoMemory`. Nothing changes: a search marks what it met, and no call shows that.
     pub fn blockers(&mut self, t: Txn, x: Ob, op: Op) -> Result<NameSet, NoMemory>

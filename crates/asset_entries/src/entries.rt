@@ -143,7 +143,7 @@ impl Entries {
     }
 
     /// Returns whether there is an entry at the index, oldest first from 0, and it is that of the step with the reply. If
-    /// the entry and the step are of one kind and name one transaction, the step of the entry is not read back.
+    /// both are of one kind that names one transaction and no set of objects, the step of the entry is not read back.
     #[inline(always)]
     pub fn records(&self, index: usize, step: &Step, reply: Reply) -> bool
         ensures { IsTrue result ↔ (slice_get (reverse self.now.entries) index ≡ Some (step.now, reply)) }

@@ -53,8 +53,9 @@ impl History {
     ghost use Rattle.asset_names.specs.declared.replies.Outcome.TheVariants.{Answer};
     ghost use Rattle.asset_entries.specs.Recorded.{objects_of, opened, answer_to, with_entry};
 
-    /// Returns a history of these opening values without entries, with room for `capacity` of them and for the names of twice as
-    /// many transactions. No object is given twice. It takes that room here, and fails if memory runs out.
+    /// Returns a history of these opening values without entries, with room for `capacity` of them, for the names of twice as
+    /// many transactions, and for the users of each object. No object is given twice. It takes that room here, and fails if memory
+    /// runs out.
     pub fn open(alloc: Global, opening: &[(Ob, i64)], capacity: usize) -> Result<History, NoMemory>
         requires different { HasNoDouble (objects_of opening.now) }
         ensures { IfOk result (λ history. history ≡ opened opening.now capacity) }
@@ -120,7 +121,7 @@ impl History {
     }
 
     /// Returns whether there is an entry at the index, oldest first from 0, and it is that of the step with the reply. If
-    /// the entry and the step are of one kind and name one transaction, the step of the entry is not read back.
+    /// both are of one kind that names one transaction and no set of objects, the step of the entry is not read back.
     #[inline(always)]
     pub fn records(&self, index: usize, step: &Step, reply: Reply) -> bool
         ensures { IsTrue result ↔ (slice_get (reverse self.now.entries) index ≡ Some (step.now, reply)) }

@@ -7,7 +7,8 @@ impl KeyLists {
     ghost use Rattle.std.specs.Prelude.{◌≡◌, ℕ, ◌+◌, ◌<◌, ◌≤◌, max, length, IsOk, OnOk};
     ghost use Rattle.asset_lists.specs.Parted.{part_of};
 
-    /// Adds keys, in no list, until the key is there, and no more. If memory runs out, some may have been added.
+    /// Adds keys, in no list, until the key is there, and no more. If memory or the numbers run out, some may have been
+    /// added.
     pub fn add_keys(&mut self, key: usize) -> Result<(), AllocError>
         ensures there { OnOk result (key < length self.new.parts) }
         ensures standing { key < length self.old.parts → IsOk result }
@@ -25,7 +26,8 @@ impl KeyLists {
         Ok(())
     }
 
-    /// Adds lists, without keys, until the list is there, and no more. If memory runs out, some may have been added.
+    /// Adds lists, without keys, until the list is there, and no more. If memory or the numbers run out, some may have been
+    /// added.
     pub fn add_lists(&mut self, list: usize) -> Result<(), AllocError>
         ensures there { OnOk result (list < self.new.lists) }
         ensures standing { list < self.old.lists → IsOk result }

@@ -220,7 +220,7 @@ impl KeyLists {
         self.rows.len()
     }
 
-    /// Puts a key that is in no list at the end of the list. If memory runs out, nothing changes.
+    /// Puts a key that is in no list at the end of the list. If memory runs out, or the list has 2^32 - 1 keys, nothing changes.
     fn append(&mut self, list: usize, key: usize) -> Result<(), AllocError>
         requires list { list < self.old.lists }
         requires key { key < length self.old.parts }

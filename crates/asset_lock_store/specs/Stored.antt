@@ -22,7 +22,7 @@ pub record Stored : Type 0 where
   pub objects : List Ob
   -- of each object the keys of its locks, by the part that `class_of` says
   pub by_object : Parted
-  -- of each seat the keys of its locks, in order of first grant
+  -- of each seat the keys of its locks, in order of first grant or move
   pub by_owner : Chained
 
 -- a lock, if there is none at a key
@@ -33,7 +33,7 @@ no_lock = record { object = record { 0 = 0 }; ops = record { read = true; write 
 unfoldable pub lock_at : Slab Lock → ℕ → Lock
 lock_at locks k = unwrap_or (get locks k) no_lock
 
--- the locks of a seat, in order of first grant
+-- the locks of a seat, in order of first grant or move
 unfoldable pub locks_at : Stored → ℕ → List Lock
 locks_at store c = map (lock_at store.locks) (chain_of store.by_owner c)
 

@@ -157,7 +157,7 @@ impl LockStore {
         }
     }
 
-    /// Returns the object at the index among those on which the seat has a lock, in order of first grant from 0.
+    /// Returns the object at the index among those on which the seat has a lock, from 0 in order of first grant or move.
     pub fn held_at(&self, c: usize, index: usize) -> Option<Ob>
         ensures { result ≡ slice_get (map (λ (lock : Held). lock.object) (locks_at self.now c)) index }
     {
@@ -174,7 +174,7 @@ impl LockStore {
         None
     }
 
-    /// Returns the objects of the set on which the seat has a lock, in order of first grant. If memory runs out, the
+    /// Returns the objects of the set on which the seat has a lock, in order of first grant or move. If memory runs out, the
     /// answer is `NoMemory`. It looks at each lock of the seat; for a set that lists one object, whose number is given if it has
     /// one, it searches for the lock on it.
     pub fn held_among(
@@ -219,7 +219,7 @@ impl LockStore {
         }
     }
 
-    /// Adds the objects of the set on which the seat has a lock, in order of first grant, unless memory runs out.
+    /// Adds the objects of the set on which the seat has a lock, in order of first grant or move, unless memory runs out.
     fn add_held(&self, c: usize, objects: &ObSet, held: &mut HeldObjects) -> Result<(), NoMemory>
         ensures { OnOk result (held.new.items ≡ held.old.items ++ filter (λ (x : Ob). in_set objects.now x.0) (map (λ (lock : Held). lock.object) (locks_at self.now c))) }
     {

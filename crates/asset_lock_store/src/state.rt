@@ -5,7 +5,7 @@
 pub enum LockState {
     /// The owner may go on.
     Granted,
-    /// A conflicting request was granted later. The lock still blocks everybody whom its owner does not allow,
-    /// and the owner has to ask again.
+    /// A conflicting request was granted later, or the lock became one with another when locks were handed over. It
+    /// still blocks everybody whom its owner does not allow, and the owner has to ask again.
     Suspended,
 }

@@ -13,8 +13,8 @@ use slab::Slab;
 use std::alloc::Global;
 use std::marker::Model;
 
-/// The locks of each seat, in order of first grant. Contracts see the locks by their keys, and the keys in the lists of
-/// objects and in the chains of seats.
+/// The locks of each seat, in order of first grant or move. Contracts see the locks by their keys, and the keys in the lists
+/// of objects and in the chains of seats.
 ///
 /// An object has a number, by which the store is asked, and which the caller knows: the store has no index of names.
 pub struct LockStore {

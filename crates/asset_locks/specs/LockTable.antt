@@ -14,7 +14,7 @@ use Rattle.asset_lock_store.specs.LockRules.{is_on, carries_on, state_of, blocks
 abbrev pub PendingRequest : Type 0
 PendingRequest = Option (Ob × Op)
 
--- an enrolled name: its pending request, and its locks in order of first grant
+-- an enrolled name: its pending request, and its locks in order of first grant or move
 pub record Enrolled : Type 0 where
   pub name : ℕ
   pub pending : PendingRequest
@@ -38,7 +38,7 @@ unfoldable pub locks_or_none : Option Enrolled → List Lock
 locks_or_none None = []
 locks_or_none (Some who) = who.locks
 
--- t's locks, in order of first grant
+-- t's locks, in order of first grant or move
 unfoldable pub locks_of : LockTable → ℕ → List Lock
 locks_of table t = locks_or_none (enrolled_in table t)
 
@@ -50,7 +50,7 @@ lock_in table t x = find (is_on x) (locks_of table t)
 unfoldable pub status_in : LockTable → ℕ → ℕ → Option LockState
 status_in table t x = option_map state_of (lock_in table t x)
 
--- the objects on which t has a lock, in order of first grant
+-- the objects on which t has a lock, in order of first grant or move
 unfoldable pub held_in : LockTable → ℕ → List Ob
 held_in table t = map (λ (lock : Lock). lock.object) (locks_of table t)
 

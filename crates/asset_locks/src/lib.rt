@@ -1,8 +1,8 @@
 //! The table of locks: who holds which object by which operations, and who waits for it.
 //!
 //! The locks themselves are kept in a `LockStore`, in the crate below. `SeatedLocks` keeps beside it who is enrolled, in
-//! order of enrolment, and what each waits for; it is asked by seat, and `Locks` by name. Only room for a seat, or by name
-//! an enrolment, the first grant to a transaction on an object, and what lists names or objects take memory.
+//! order of enrolment, and what each waits for; it is asked by seat, and `Locks` by name. Only room for a seat or for an
+//! object, or by name an enrolment, the first grant to a transaction on an object, and what lists names or objects take memory.
 #![tactic(auto)]
 
 mod asked;

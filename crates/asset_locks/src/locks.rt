@@ -133,8 +133,8 @@ impl Locks {
         self.table.status(&self.seats, Sitter { t, at }, number, x)
     }
 
-    /// Returns the object at the index among those on which `t` has a lock, in order of first grant from 0, and `None`
-    /// past the end. It looks at the locks of `t` up to it.
+    /// Returns the object at the index among those on which `t` has a lock, from 0 in order of first grant or move, and
+    /// `None` past the end. It looks at the locks of `t` up to it.
     pub fn held_by(&self, t: Txn, n: usize) -> Option<Ob>
         ensures held { result ≡ slice_get (held_in self.now t.0) n }
         ensures valid { IsValid self.now }
@@ -144,8 +144,8 @@ impl Locks {
         self.table.held_by(&self.seats, Sitter { t, at }, n)
     }
 
-    /// Returns the objects of the set on which `t` has a lock, in the order of `held_by`. It looks at the locks of `t`
-    /// once.
+    /// Returns the objects of the set on which `t` has a lock, in the order of `held_by`. It looks at the locks of `t` once;
+    /// for a set that lists one object it looks for the lock on it, at those of `t` or those on the object, whichever are fewer.
     ///
     /// If memory runs out, the answer is `NoMemory`. Up to eight objects take no memory.
     pub fn held_among(
@@ -194,8 +194,8 @@ impl Locks {
     /// `giver`. If it has one, the two become one in its place, with the operations of both, which is suspended. Pending
     /// requests stay. If both are one, nothing changes.
     ///
-    /// It takes no memory. It looks at each lock of `giver`, and for each that moves, for the lock of `taker`, at the
-    /// locks of `taker` or those on the object, whichever are fewer.
+    /// It takes no memory. It looks at each lock of `giver`, or, for a set that lists one object, for the lock on it at those
+    /// of `giver` or those on the object, whichever are fewer. For each lock that moves it looks so for that of `taker`.
     pub fn hand_over(&mut self, giver: Txn, taker: Txn, objects: &ObSet)
         requires giver { is_some (enrolled_in self.old giver.0) ≡ true }
         requires taker { is_some (enrolled_in self.old taker.0) ≡ true }

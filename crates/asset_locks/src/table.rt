@@ -18,9 +18,9 @@ use std::marker::Model;
 
 /// The locks on objects, and the enrolled transactions with what each holds and waits for, asked by seat. Contracts see a
 /// row for each enrolled transaction, in order of enrolment; nobody sees in which order locks were granted on an object.
-/// The seats are kept elsewhere: each call takes them, and requires that the table is tied to them. Who has a seat need
-/// not be enrolled. Objects are asked for by their numbers, which are kept elsewhere too: each object that may have a lock is
-/// added first.
+/// The seats are kept elsewhere: each call about a transaction takes them, and requires that the table is tied to them. Who has
+/// a seat need not be enrolled. Objects are asked for by their numbers, which are kept elsewhere too: each object that may have
+/// a lock is added first.
 pub struct SeatedLocks {
     pending: Vec<Option<(Ob, Op)>>,
     order: Chains,
@@ -312,8 +312,8 @@ impl SeatedLocks {
         Some(self.store.lock(key).state())
     }
 
-    /// Returns the object at the index among those on which `t` has a lock, in order of first grant from 0, and `None`
-    /// past the end. It looks at the locks of `t` up to it.
+    /// Returns the object at the index among those on which `t` has a lock, from 0 in order of first grant or move, and
+    /// `None` past the end. It looks at the locks of `t` up to it.
     pub fn held_by(&self, seats: &Seats, t: Sitter, n: usize) -> Option<Ob>
         requires tied { IsTied self.now seats.now }
         requires sits { HasSeat seats.now t }
@@ -327,7 +327,8 @@ impl SeatedLocks {
     }
 
     /// Returns the objects of the set on which `t` has a lock, in the order of `held_by`. It looks at the locks of `t`
-    /// once. If the set lists one object, its number is given, if it has one.
+    /// once. If the set lists one object, its number is given, if it has one, and the lock on it is looked for at those of `t`
+    /// or those on the object, whichever are fewer.
     ///
     /// If memory runs out, the answer is `NoMemory`. Up to eight objects take no memory.
     pub fn held_among(
@@ -392,9 +393,9 @@ impl SeatedLocks {
     /// `giver`. If it has one, the two become one in its place, with the operations of both, which is suspended. Pending
     /// requests stay. If both are one, nothing changes.
     ///
-    /// It takes no memory. It looks at each lock of `giver`, and for each that moves, for the lock of `taker`, at the
-    /// locks of `taker` or those on the object, whichever are fewer. If the set lists one object, its number is given, if it has
-    /// one.
+    /// It takes no memory. It looks at each lock of `giver`. If the set lists one object, its number is given, if it has one, and
+    /// the lock on it is looked for at those of `giver` or those on the object, whichever are fewer. For each lock that moves it
+    /// looks so for that of `taker`.
     #[inline(always)]
     pub fn hand_over(
         &mut self,

@@ -5,7 +5,7 @@ use std::alloc::Global;
 use std::marker::Model;
 
 /// Marks on the nodes below a number, for a search that does not allocate. They are cleared by setting one
-/// counter to 0. Contracts see how many nodes there are, and those that are met, in order of meeting.
+/// counter to 0. Contracts see how many nodes there are, and those that are met, in order of meeting until one is forgotten.
 ///
 /// `order` has each node once, those that are met first, and `position` says where each node stands in it.
 pub struct Marks {

@@ -21,8 +21,8 @@ pub trait Arrows {
         ensures expanded { Expands (arrows self.now) node marks.old.nodes marks.new.nodes };
 }
 
-/// Returns whether the arrows lead from a node to another. It expands only nodes that it meets, and stops once it has met
-/// the second node.
+/// Returns whether the arrows lead from a node to another. It expands only the first node and those that it meets,
+/// and stops once it has met the second node.
 pub fn is_linked<A: Arrows>(way: &A, from: usize, to: usize, marks: &mut Marks) -> bool
     requires within { AreWithin (A.arrows way.now) marks.old.size }
     requires to { to < marks.old.size }

@@ -138,7 +138,7 @@ impl Objects {
 
     /// Makes the updates of the transaction final: on each object the newest write becomes the base, and its record is dropped
     /// together with all before it; an add after it becomes part of the base, or an update of nobody over a write that may still
-    /// go. It touches the records that go and those beside them.
+    /// go. It touches the records of the transaction and those beside them.
     pub fn settle(&mut self, t: Txn)
         ensures cells { cells self.new ≡ change_each (settled (λ n. n == t.0)) (cells self.old) }
         ensures visits { self.new.visits + 4 * standing self.new.rows ≤ 4 * standing self.old.rows }
@@ -175,8 +175,9 @@ impl Objects {
         }
     }
 
-    /// Returns how many records the last `undo`, `settle` or `hand_over` visited: each one that it looked at or that went,
-    /// and each time those beside it among the records of its object and of its owner. It is 0 before the first.
+    /// Returns how many records the last `undo`, `settle` or `hand_over` visited: each one of somebody that went or changed
+    /// owner or that a hand-over looked at, and each time those beside it among the records of its object and of its owner. Adds
+    /// that are passed on the way to the next write are not counted, nor adds of nobody that go. It is 0 before the first.
     pub fn visits(&self) -> usize
         ensures { result ≡ self.now.visits }
     {

@@ -10,8 +10,9 @@ use std::marker::Model;
 use thiserror::Error;
 
 /// The objects with their values, and an update record of each write and add that may still be undone, asked by seat. The seats
-/// are kept elsewhere: each call takes them, and requires that the table is tied to them. `objects_in` says which objects are
-/// shown: each as its base and the updates that stand over it, newest first. Its value is the base with the updates in order.
+/// are kept elsewhere: each call about a transaction takes them, and requires that the table is tied to them. `objects_in` says
+/// which objects are shown: each as its base and the updates that stand over it, newest first. Its value is the base with the
+/// updates in order.
 pub struct SeatedObjects {
     placed: Placed,
     reserved: bool,
@@ -253,7 +254,7 @@ impl SeatedObjects {
 
     /// Makes the updates of the transaction final: on each object the newest write becomes the base, and its record is dropped
     /// together with all before it; an add after it becomes part of the base, or an update of nobody over a write that may still
-    /// go. It touches the records that go and those beside them. The transaction may leave its seat then.
+    /// go. It touches the records of the transaction and those beside them. The transaction may leave its seat then.
     pub fn settle(&mut self, seats: &Seats, t: Sitter)
         requires tied { IsTied self.old seats.now }
         requires sits { HasSeat seats.now t }
@@ -356,8 +357,9 @@ impl SeatedObjects {
         let _ = &self.placed;
     }
 
-    /// Returns how many records the last `undo`, `settle` or `hand_over` visited: each one that it looked at or that went,
-    /// and each time those beside it among the records of its object and of its owner. It is 0 before the first.
+    /// Returns how many records the last `undo`, `settle` or `hand_over` visited: each one of somebody that went or changed
+    /// owner or that a hand-over looked at, and each time those beside it among the records of its object and of its owner. Adds
+    /// that are passed on the way to the next write are not counted, nor adds of nobody that go. It is 0 before the first.
     pub fn visits(&self) -> usize
         ensures { result ≡ self.now.visits }
     {

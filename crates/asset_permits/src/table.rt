@@ -14,8 +14,8 @@ use std::alloc::Global;
 use std::marker::Model;
 
 /// The permits that stand, asked by seat. Each permit is in the row of its giver's seat and in the column of its taker's,
-/// and the seats are kept elsewhere: each call takes them, and requires that the table is tied to them. None stands twice;
-/// their order means nothing.
+/// and the seats are kept elsewhere: each call about a transaction takes them, and requires that the table is tied to them.
+/// None stands twice; their order means nothing.
 ///
 /// `marked` is the question that the marks answer, if they answer one. It is `None` once a permit changes, room is made, or
 /// another search has used the marks. `may_open` is set once an open permit comes; until then nobody looks for one.

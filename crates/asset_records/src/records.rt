@@ -135,13 +135,14 @@ pub struct Undone {
 pub struct Settled {
     /// The index of the object.
     pub object: usize,
-    /// How many records were visited, apart from those of nobody.
+    /// How many records were visited. One of nobody that goes counts for nothing.
     pub visited: usize,
 }
 
 /// The update records of each object, asked by seat. Objects are numbered from 0 on. Each record is in the row of its object
-/// and in the column of its owner's seat, and the seats are kept elsewhere: each call takes them, and requires that the
-/// records are tied to them. Contracts see the rows and columns; `lists_in` says which records each object has, oldest first.
+/// and in the column of its owner's seat, and the seats are kept elsewhere: each call about a transaction takes them, and
+/// requires that the records are tied to them. Contracts see the rows and columns; `lists_in` says which records each object has,
+/// oldest first.
 pub struct Records {
     records: Crossed<Record>,
     /// Of each object, what is known of its records.

@@ -100,7 +100,8 @@ fn settle_add(
     visited
 }
 
-/// Makes the record at the key stand for good. Returns how many records were visited, apart from those of nobody.
+/// Makes the record at the key stand for good. Returns how many records were visited. One of nobody that goes counts for
+/// nothing.
 pub(crate) fn settle_at(
     records: &mut Crossed<Record>,
     marks: &[Mark],

@@ -1,4 +1,4 @@
--- Who has which seat: the number of the chain in which a transaction's records are.
+-- Who has which seat: the number by which tables keep what is a transaction's.
 use Rattle.std.specs.Prelude.{◌≡◌, ℕ, Bool, List, Option, None, Some, slice_index_or}
 use Rattle.asset_names.specs.declared.names.Txn.{Txn}
 use Rattle.asset_seats.specs.declared.sitter.Sitter.{Sitter}

@@ -1,5 +1,6 @@
 //! Seats of transactions: small numbers, each given again once it is left, so that what is kept by seat grows with
-//! those who are seated at one time. Beside them, room in chains for one more key or chain.
+//! those who are seated at one time. Beside them, room in chains and in rows and columns for what is to be
+//! added.
 #![tactic(auto)]
 
 mod buckets;

@@ -1,4 +1,4 @@
-//! Room for one more key or chain.
+//! Room for keys, chains, rows and columns of known numbers, and for one more item.
 
 ghost use Rattle.std.specs.Prelude.{◌≡◌, ℕ, ◌+◌, ◌<◌, ◌≤◌, max, length, true, IsOk, OnOk};
 ghost use Rattle.asset_chains.specs.Chained.{chain_of, home_of};
@@ -7,7 +7,8 @@ ghost use Rattle.asset_chains.specs.Crossed.{lines, other_side, has_room, IsGrow
 use asset_chains::{Chains, Crossed, Side};
 use asset_names::NoMemory;
 
-/// Adds keys, in no chain, until the key is there, and no more. If memory runs out, some may have been added.
+/// Adds keys, in no chain, until the key is there, and no more. If memory or the numbers run out, some may have been
+/// added.
 pub fn add_keys(chains: &mut Chains, key: usize) -> Result<(), NoMemory>
     ensures there { OnOk result (key < length chains.new.homes) }
     ensures standing { key < length chains.old.homes → IsOk result }
@@ -25,7 +26,8 @@ pub fn add_keys(chains: &mut Chains, key: usize) -> Result<(), NoMemory>
     Ok(())
 }
 
-/// Adds chains, without keys, until the chain is there, and no more. If memory runs out, some may have been added.
+/// Adds chains, without keys, until the chain is there, and no more. If memory or the numbers run out, some may have
+/// been added.
 pub fn add_chains(chains: &mut Chains, chain: usize) -> Result<(), NoMemory>
     ensures there { OnOk result (chain < length chains.new.chains) }
     ensures standing { chain < length chains.old.chains → IsOk result }
@@ -43,7 +45,7 @@ pub fn add_chains(chains: &mut Chains, chain: usize) -> Result<(), NoMemory>
     Ok(())
 }
 
-/// Reserves the memory for one more item. If memory runs out, no item changes.
+/// Reserves the memory for one more item. If memory or the numbers run out, no item changes.
 pub fn reserve_item<T>(items: &mut Crossed<T>) -> Result<(), NoMemory>
     ensures room { OnOk result (has_room items.new ≡ true) }
     ensures standing { has_room items.old ≡ true → IsOk result }
@@ -57,8 +59,8 @@ pub fn reserve_item<T>(items: &mut Crossed<T>) -> Result<(), NoMemory>
     }
 }
 
-/// Adds rows or columns, without items, until the one of this number is there, and no more. If memory runs out, some may
-/// have been added.
+/// Adds rows or columns, without items, until the one of this number is there, and no more. If memory or the numbers
+/// run out, some may have been added.
 pub fn add_lines<T>(items: &mut Crossed<T>, side: Side, line: usize) -> Result<(), NoMemory>
     ensures there { OnOk result (line < length (lines side items.new).chains) }
     ensures standing { line < length (lines side items.old).chains → IsOk result }

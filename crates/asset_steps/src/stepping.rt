@@ -288,7 +288,8 @@ fn depend_if_any(tables: &mut Tables, kind: Kind, a: Txn, b: Txn) -> Result<Outc
 /// Asks for a step: returns its answer, and makes it take effect if it does, or pending if it is a request that
 /// waits. It answers `NoMemory` if the step would take effect and memory runs out, and the tables then show what they did before.
 ///
-/// The row of a transaction is looked for once, and again if the step changes it or is a dependency. An object that is read,
+/// The row of a transaction is looked for once, and again if the step changes it or is a dependency; three times if it commits
+/// with others of its class. An object that is read,
 /// written or added to is looked for once, and the locks on it are looked at once, unless memory runs out.
 #[inline(always)]
 pub fn step_at_once(tables: &mut Tables, step: &Step) -> Result<Outcome, NoMemory>
