@@ -72,8 +72,8 @@ enum {
 /* The detail of an initiate: whether it names a parent. */
 enum { ASSET_NO_PARENT = 0, ASSET_PARENT = 1 };
 
-/* The detail of ASSET_PERMIT and ASSET_PERMIT_ANY: one of these, or a sum of different ones. Also the operation that a waiter asked
-   for, which is one. */
+/* The detail of ASSET_PERMIT and ASSET_PERMIT_ANY: ASSET_TO_READ, ASSET_TO_WRITE, ASSET_TO_ADD, or a sum of different ones of these
+   three. Also the operation that a waiter asked for, which is one of them. */
 enum { ASSET_TO_READ = 1, ASSET_TO_WRITE = 2, ASSET_TO_READ_AND_WRITE = 3, ASSET_TO_ADD = 4 };
 
 /* The detail of a dependency. */
@@ -144,7 +144,7 @@ struct asset_answer {
     int64_t value;
 };
 
-/* A waiter of an object: the transaction, and whether it asked to read or to write. */
+/* A waiter of an object: the transaction, and what it asked to do: ASSET_TO_READ, ASSET_TO_WRITE or ASSET_TO_ADD. */
 struct asset_waiter {
     uint64_t name;
     uint32_t op;
@@ -189,7 +189,7 @@ uint32_t asset_entry(struct asset *asset, size_t index, struct asset_step *step,
 
 /* Tells the number of the group of a transaction: those of one group shared something or asked to, directly or through others.
  * Groups are numbered from 0 in order of their first transactions. Goes over all transactions. Answers ASSET_CLOSED, ASSET_ABSENT
- * if no step names the transaction, and ASSET_NO_MEMORY. */
+ * if no step acts on the transaction (to be named as a parent is not enough), and ASSET_NO_MEMORY. */
 uint32_t asset_group_of(struct asset *asset, uint64_t transaction, size_t *group);
 
 /* Closes the handle and frees all that it holds. Answers ASSET_CLOSED if it was closed already. */

@@ -30,4 +30,5 @@ class DoubleObjectError(AssetError, ValueError):
 
 
 class BadArgumentError(AssetError, ValueError):
-    """A number is out of its range, a kind or detail is unknown, or objects are none, more than 16, or not all different."""
+    """A number is out of its range, a kind or detail is unknown, or objects are none, more than 16, not all different, or
+    all objects of a permit to anybody."""

@@ -112,8 +112,9 @@ class Asset:
         return self._handle.is_open
 
     def ask(self, kind: int, first: int, second: int = 0, value: int = 0, detail: int = 0) -> Answer:
-        """Asks for a step, and returns its answer. The members are those of `struct asset_step`. Raises `FullError`,
-        `NoMemoryError`, and `BadArgumentError` for an unknown kind or detail or a number that is out of its range."""
+        """Asks for a step, and returns its answer. The members are those of `struct asset_step` without its objects: kinds 6, 7 and
+        13 use those that the last `permit`, `permit_any` or `delegate` listed. Raises `FullError`, `NoMemoryError`, and
+        `BadArgumentError` for an unknown kind or detail, a number that is out of its range, or objects that the step cannot have."""
         if (kind | detail) >> 32 or (first | second) >> 64 or (value + _HALF) >> 64:
             raise BadArgumentError("a number is out of its range")
         step = self._step
@@ -253,7 +254,7 @@ class Asset:
         return Entry(StepKind(step.kind), step.detail, step.first, step.second, step.value, objects, _answer(answer))
 
     def group_of(self, transaction: int) -> Optional[int]:
-        """Returns the number of the group of a transaction, and None if no step names it. Raises `NoMemoryError`."""
+        """Returns the number of the group of a transaction, and None if no step acts on it. Raises `NoMemoryError`."""
         _check_number(transaction)
         group = c_size_t()
         code = library.asset_group_of(self._at, transaction, byref(group))

@@ -230,7 +230,7 @@ impl Asset {
         plain::found(code, (step, answer)).map(|(step, answer)| (plain::asked(&step), plain::answer(answer)))
     }
 
-    /// Returns the number of the group of a transaction, and `None` if no step names it. It answers `NoMemory`.
+    /// Returns the number of the group of a transaction, and `None` if no step acts on it. It answers `NoMemory`.
     pub fn group_of(&mut self, transaction: u64) -> Result<Option<usize>, Error> {
         let mut group = 0;
         match unsafe { sys::asset_group_of(&mut self.0, transaction, &mut group) } {
