@@ -12,7 +12,7 @@ pub enum JobEnd {
     Committed,
     /// It has aborted.
     Aborted,
-    /// Neither was answered so: it was not asked, or waits, or met a fault or a refusal.
+    /// Neither was answered so: it was not asked, or waits, or met a fault, or a refusal other than that it is too late.
     Unsettled,
 }
 

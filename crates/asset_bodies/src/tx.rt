@@ -16,8 +16,8 @@ use std::sync::Wait;
 /// A transaction that has begun, on which a body works. It cannot be dropped: a body ends it by `done` or `give_up`.
 ///
 /// Each operation makes room in the session's list first, for its own entry and for those that the transaction's end and
-/// the ends of its callers still need, and answers `NoMemory` if it cannot: so an end always finds room. Contracts see
-/// the name, the manager, the list, and how many entries those ends need.
+/// the ends of its callers still need, and answers `NoMemory` if it cannot: so an end finds room, unless a child's body
+/// answered another's `Finished`. Contracts see the name, the manager, the list, and how many entries those ends need.
 pub struct Tx {
     name: Txn,
     owed: usize,

@@ -122,7 +122,7 @@ impl Watch {
     }
 
     /// Returns the counts of one publication, none below what the pass saw before: zeros are published from the start.
-    /// It is one atomic load, so it takes no lock and waits for nobody.
+    /// It is one atomic load, or two if the pass has no word yet, so it takes no lock and waits for nobody.
     pub fn read(&self, pass: &mut WatchPass) -> Counts
         requires own { IsOf pass.old.of self.now }
         ensures own { pass.new.of ≡ Some self.now }

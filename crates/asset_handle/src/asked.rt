@@ -170,8 +170,9 @@ fn put_found(found: Option<Step>, slot: &mut Step) -> bool
     }
 }
 
-/// Puts the step that is asked for into the slot. Returns whether there is one: not if the kind or the detail is unknown, or the
-/// objects make no list. Only what the step names is written, since to move a step copies its sixteen objects.
+/// Puts the step that is asked for into the slot. Returns whether there is one: not if the kind or the detail is unknown, the
+/// objects make no list, or they are all objects of a permit to anybody. Only what the step names is written, since to move a
+/// step copies its sixteen objects.
 #[inline(always)]
 #[tactic(auto, unfolding(crate::specs::Asked::step_in))]
 pub(crate) fn put_step(asked: &PlainStep, slot: &mut Step) -> bool

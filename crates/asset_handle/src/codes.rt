@@ -21,7 +21,8 @@ pub enum Code {
     BadCapacity,
     /// An object is given twice.
     DoubleObject,
-    /// No step is asked for: the kind or the detail is unknown, or the objects make no list.
+    /// No step is asked for: the kind or the detail is unknown, the objects make no list, or they are all objects of a permit to
+    /// anybody.
     BadArgument,
     /// There is no such object, waiter, entry or group.
     Absent,

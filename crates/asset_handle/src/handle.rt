@@ -255,7 +255,7 @@ impl Handle {
 
     /// Tells the number of the group of a transaction. Groups are numbered from 0 in order of their first transactions. It
     /// answers `Closed` if the handle is closed, `Absent` if no step acts on the transaction, and `NoMemory` if memory runs out.
-    /// It goes over the transactions on whom steps act, twice.
+    /// It goes over the transactions on whom steps act, once.
     pub fn group_of(&mut self, alloc: Global, t: u64, group: &mut usize) -> Code
         ensures group { Keeps self.old.held.facility (number_of result) self.new.held.facility (λ f g. (g ≡ f) × IsGroup f t group.old (number_of result) group.new) }
         ensures kept { number_of result ≢ 0 → group.new ≡ group.old }

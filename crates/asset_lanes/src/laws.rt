@@ -6,8 +6,8 @@ ghost use Rattle.asset_lanes.specs.declared.pointing.Arrow.{Arrow};
 ghost use Rattle.asset_lanes.specs.declared.pointing.ArrowKind.TheVariants.{Source};
 ghost use Rattle.asset_lanes.specs.Promised.{picture_arrows, operates, HasOneMark, HasNoMark, GoesToSource};
 
-/// A picture has one mark for each read and each write that took effect, in its transaction's lane, and no other. Each
-/// arrow of a read goes to the entry that is its source.
+/// A picture has one mark for each read, each write and each add that took effect, in its transaction's lane, and no
+/// other. Each arrow of a read goes to the entry that is its source.
 pub fn pictures_mark_operations()
     ensures marked { (entries : List Entry) (number : ℕ) (entry : Entry) → slice_get (reverse entries) number ≡ Some entry → operates entry ≡ true → HasOneMark entries number entry }
     ensures unmarked { (entries : List Entry) (number : ℕ) (entry : Entry) → slice_get (reverse entries) number ≡ Some entry → operates entry ≡ false → HasNoMark entries number }

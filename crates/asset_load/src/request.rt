@@ -8,7 +8,7 @@ use std::rt::Env;
 pub enum Load {
     /// Transactions by one caller.
     Core,
-    /// Transactions by sessions in turn, through the lock.
+    /// Transactions by one session, through the lock.
     Calls,
     /// Transactions by threads, each on an object of its own.
     Apart,
@@ -18,7 +18,7 @@ pub enum Load {
     Watch,
     /// Loads of a plain atomic word.
     Loads,
-    /// The end of a manager with many entries.
+    /// The audit of sessions that took turns, over a history with many entries.
     Audit,
 }
 

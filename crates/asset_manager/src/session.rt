@@ -167,8 +167,8 @@ impl Session {
     }
 
     /// Returns another session of the same manager, without calls, which has seen as much. It does not allocate. If the
-    /// manager's word has too many owners, the new session learns it at its first call, which then may answer
-    /// `NoMemory`.
+    /// session does not know the manager's word, or the word has too many owners, the new session learns it at its first
+    /// call, which then may answer `NoMemory`.
     pub fn split(&mut self) -> Session
         ensures same { self.new ≡ self.old }
         ensures calls { result.list.calls ≡ [] }
@@ -257,8 +257,8 @@ impl Session {
     /// the number of its entry, to the session's list, and the session has seen its counts. A wait is not recorded.
     ///
     /// The faults are those of `Core::step`, after which no list or history has changed. `NoMemory` comes also if
-    /// memory runs out for the list, or for the session's first pass: with room in the list and a pass, only a step
-    /// that takes memory answers it.
+    /// memory runs out for the list, or if a session without a pass finds that the word has too many owners: with room in
+    /// the list and a pass, only a step that takes memory answers it.
     pub fn call<R: Wait>(&mut self, rt: &R, manager: &Manager, step: Step) -> Result<Outcome, Fault>
         requires { IsOf self.old.of manager.now }
         ensures asked { Asks self.old step result self.new }

@@ -70,7 +70,7 @@ fn pair_in_turn<A: Asset>(asset: &mut A, p: &Part, q: &Part, tries: u32) -> Resu
     in_turn(asset, p.name, &p.acts, q.name, &q.acts, tries)
 }
 
-/// Permits the taker to read and to write what the giver holds of the objects.
+/// Permits the taker to read, to write and to add to what the giver holds of the objects.
 fn permit_on<A: Asset>(
     asset: &mut A,
     giver: Txn,

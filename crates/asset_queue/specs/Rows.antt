@@ -1,4 +1,4 @@
--- What the workers answered, a row for each.
+-- What the workers answered, a row for each that had memory for one.
 use Rattle.std.specs.Prelude.{◌≤◌, ◌<◌, ℕ, List, [], ◌∷◌, ◌++◌, map, Vec, vec_len, vec_capacity}
 use Rattle.asset_queue.specs.Once.{Ticket}
 

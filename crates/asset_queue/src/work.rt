@@ -218,8 +218,8 @@ fn run_alone<J: Ticketed + Drop, E: Ticketed + Drop, W: Work<J, E>, R: Wait>(
 }
 
 /// Has the jobs done by so many workers, each in a thread of its own, and returns what came of them, a row for each
-/// worker, and the jobs that nobody took: each job is once in one or the other. A job is left only if memory ran out. If
-/// it ran out before the workers started, all jobs come back as the error.
+/// worker that had memory for one, and the jobs that nobody took: each job is once in one or the other. A job is left
+/// only if memory ran out. If it ran out before the workers started, all jobs come back as the error.
 pub fn run<
     J: Ticketed + Drop + Send,
     E: Ticketed + Drop + Send,

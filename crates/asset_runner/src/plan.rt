@@ -274,8 +274,8 @@ impl Plan {
     /// Initiates a transaction for the body, with a session of its own that has room for the job's begin, complete and commit,
     /// and for so many operations; if it does more, the session takes memory for them. The body's promise is that it may be
     /// called with any transaction of the plan's manager, and that the `Finished` that it then answers is of that manager. If the
-    /// transaction is refused, or the history has no room, or memory runs out, the body comes back with the cause and the plan is
-    /// as before.
+    /// transaction is refused, or the history has no room, or memory runs out, the body comes back with the cause and the plan has
+    /// no job more; a refusal is one call more in its session.
     pub fn initiate_with_room<R: Wait>(
         &mut self,
         rt: &R,
