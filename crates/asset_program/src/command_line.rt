@@ -1,4 +1,4 @@
-//! The command line that the program takes: its words, its option, and the texts of its help.
+//! The command line that the program takes: its words, its options, and the texts of its help.
 
 use crate::limits::JobsRequest;
 use crate::requests::{Asked, Request, Task};
@@ -41,7 +41,7 @@ const CHECK_NOTES: &str =
 
 /// What help says after the arguments of a conversation.
 const SHELL_NOTES: &str =
-    "Each line is answered before the next one is read. Why a line is bad is said on standard error, and the conversation goes on.\n\nExit status:\n  0  no line was bad, or help was asked for\n  1  the input or an output failed, or memory ran out\n  2  a line was bad, or an argument is refused";
+    "Each line that has come is answered before more is read. Why a line is bad is said on standard error, and the conversation goes on.\n\nExit status:\n  0  no line was bad, or help was asked for\n  1  the input or an output failed, or memory ran out\n  2  a line was bad, or an argument is refused";
 
 /// Returns what a script is read for by this word. `None` if the program has no such word for scripts.
 pub(crate) fn task_named(word: &str) -> Option<Task> {
@@ -180,7 +180,10 @@ const SCRIPT_WORDS: [(&str, &str); 8] = [
         "prune",
         "Writes the script that is left without dead groups",
     ),
-    ("groups", "Writes the groups of those who shared something"),
+    (
+        "groups",
+        "Writes the groups: who shared something with whom, and who with nobody",
+    ),
     (
         "sources",
         "Writes where each value that was read comes from",

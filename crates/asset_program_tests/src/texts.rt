@@ -11,7 +11,7 @@ Commands:
   run      Runs the script on standard input and writes its transcript (the default)
   steps    Writes each step with its reply, numbered by line and by entry
   prune    Writes the script that is left without dead groups
-  groups   Writes the groups of those who shared something
+  groups   Writes the groups: who shared something with whom, and who with nobody
   sources  Writes where each value that was read comes from
   serial   Writes the script of those who committed, one after another
   waits    Writes who waits for whom when the script has ended
