@@ -222,8 +222,8 @@ fn play_from(
     }
 }
 
-/// Appends the transcript of a script to the text, in which steps print the lines of their outcomes, or nothing. Returns
-/// what is left. After an error a part of the transcript may have been appended.
+/// Appends the transcript of a script to the text, in which steps print the lines of their outcomes, their lines in a
+/// listing, or nothing, as the work says. Returns what is left. After an error a part of the transcript may have been appended.
 pub(crate) fn play(
     alloc: Global,
     bytes: &[u8],

@@ -172,8 +172,9 @@ pub fn picture_script<R: Read, W: Write>(
 }
 
 /// Runs the script that the reader gives, and writes a line for each read that was answered by a value: the number of its
-/// entry from 0, the read, the value, and `opening` or the number of the entry that wrote the value. A bad line is all that
-/// is written, if there is one. What `run_script` says of faults and requires holds here too.
+/// entry from 0, the read, the value, and its source: the number of the entry with the last write in the value, or `opening`
+/// if there is none. Adds in the value are not told. A bad line is all that is written, if there is one. What `run_script`
+/// says of faults and requires holds here too.
 pub fn sources_script<R: Read, W: Write>(
     alloc: Global,
     input: &mut Device<R>,

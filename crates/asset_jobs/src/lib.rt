@@ -1,5 +1,5 @@
 //! Job scripts: reads what jobs are to do, and writes how each of them ended. Bytes come and go through the devices of
-//! `asset_cli`.
+//! `asset_scripts`.
 #![tactic(auto)]
 
 mod acting;

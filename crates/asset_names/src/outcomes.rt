@@ -36,8 +36,8 @@ pub fn wait_outcome(status: Status) -> Outcome
     }
 }
 
-/// Returns whether a step with this reply takes effect, that is, changes something. A wait for a transaction
-/// never does.
+/// Returns whether a step with this reply takes effect, that is, was done, also if it was done before and changes
+/// nothing now. A wait for a transaction never does.
 #[tactic(auto, unfolding(crate::specs::Steps::takes_effect))]
 pub fn takes_effect(step: &Step, reply: Reply) -> bool
     ensures { result ≡ takes_effect step.now reply }

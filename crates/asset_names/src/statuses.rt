@@ -13,16 +13,16 @@ pub enum Status {
     Completed,
     /// It ended by a commit.
     Committed,
-    /// It ended by an abort, and its writes are undone.
+    /// It ended by an abort, and its writes and adds are undone.
     Aborted,
 }
 
 /// How a transaction ended.
 #[derive(Clone, Copy, Debug, PartialEq, Eq)]
 pub enum End {
-    /// Its writes stand for good.
+    /// Its writes and adds stand for good.
     Committed,
-    /// Its writes are undone.
+    /// Its writes and adds are undone.
     Aborted,
 }
 

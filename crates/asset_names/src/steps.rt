@@ -12,7 +12,7 @@ use crate::sets::{ObList, ObSet};
 pub enum Kind {
     /// Commit dependency: the dependent transaction commits only after its source has ended.
     Cd,
-    /// Abort dependency: an abort of the source aborts the dependent transaction.
+    /// Abort dependency: the same, and an abort of the source aborts the dependent transaction.
     Ad,
     /// Group commit: both commit, or neither does.
     Gc,

@@ -79,7 +79,7 @@ StopsWriting contents old new text NoMemory = new ≡ old
 StopsWriting contents old new text stop = ⊥
 
 -- why jobs were not finished: the writer failed after a prefix of some text; or nothing was written, because there was no
--- memory, or somebody else had the manager
+-- memory, the run failed, or somebody else had the manager
 unfoldable pub StopsAfter : {W : Type 0} → (W → Option (List ℕ)) → DeviceState W → DeviceState W → JobsStop → Type 0
 StopsAfter contents old new Write = (text : List ℕ) × TookPrefix contents old new text × (new.failed ≡ true)
 StopsAfter contents old new NoMemory = new ≡ old

@@ -71,7 +71,7 @@ impl From<AllocError> for JobsStop {
     }
 }
 
-/// Says to the errors why jobs were not run to their end, unless a line is bad. Returns the exit status.
+/// Says to the errors why jobs were not run to their end. Returns the exit status.
 #[tactic(auto, unfolding(crate::specs::JobsEnd::stop_status))]
 fn say_stop<E: Write>(stop: JobsStop, errors: &mut E) -> u8
     ensures { result ≡ stop_status stop }

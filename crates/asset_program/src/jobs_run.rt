@@ -187,7 +187,8 @@ fn counts_of(manager: &Manager, sessions: &mut Vec<Session>) -> Counts
     manager.watch().read(&mut pass)
 }
 
-/// Runs the plan, and looks at the counts by its session. It answers `NoMemory` if memory runs out.
+/// Runs the plan, and looks at the counts by its session. It answers `NoMemory` if the run fails: memory
+/// ran out, there are no workers, or a body answered another's `Finished`.
 fn run_plan<R: Threads + Wait + Sync>(
     rt: &R,
     manager: &Manager,
@@ -256,7 +257,9 @@ fn write_ends<W: Write>(
 /// Runs the jobs by as many threads as the limits say, closes the manager, and writes how the jobs of these names ended, in order, and
 /// then the audit, which it returns. The manager is the one of the plan.
 ///
-/// It answers `InUse` if somebody else has the manager, `NoMemory` if memory runs out, and `Write` if the writer failed.
+/// It answers `InUse` if somebody else has the manager; `NoMemory` if memory runs out, and also if there are no workers or a body
+/// answered another's `Finished`, to which limits of `begin_jobs` and bodies of `do_acts` never lead; and `Write` if the writer
+/// failed.
 pub fn finish_jobs<R: AllocGlobal + Threads + Wait + Sync, W: Write>(
     rt: &R,
     manager: Arc<Manager, Global>,

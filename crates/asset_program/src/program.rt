@@ -94,7 +94,7 @@ fn show<W: Write, E: Write>(answer: &Answer, output: &mut Device<W>, errors: &mu
 
 /// Runs the program as the arguments ask for it. A script comes from the input, and its transcript or report goes to the
 /// output; so do the help and the version that are asked for. A fault, and why arguments are refused, go to the errors.
-/// Returns the exit status.
+/// Returns the exit status. If the writer fails at the help or the version, nothing is said, and the status is 0.
 ///
 /// Requires devices that were asked nothing.
 pub fn run_program<R: Read, W: Write, E: Write>(

@@ -97,9 +97,9 @@ pub enum Reason {
     TooManyObjects,
     /// A set has an object twice.
     TwiceInSet,
-    /// It adds an object after the first step. Only a check of a whole script finds it.
+    /// It adds an object after the first step. Only a check of a whole script or a conversation finds it.
     ObjectAfterStep,
-    /// It adds an object that an earlier line has added. Only a check of a whole script finds it.
+    /// It adds an object that an earlier line has added. Only a check of a whole script or a conversation finds it.
     GivenTwice,
 }
 

@@ -76,7 +76,7 @@ fn push_all(text: &mut String, trace: &Trace) -> Result<(), AllocError>
 }
 
 /// Appends a line for each read that was answered by a value: the number of its entry, from 0, the read, the value, and
-/// whether that is the opening value or which entry wrote it. It answers `NoMemory` if memory runs out.
+/// its source: which entry made the last write in it, or the opening if there is none. It answers `NoMemory` if memory runs out.
 pub fn push_sources(trace: &Trace, text: &mut String) -> Result<(), NoMemory>
     ensures { OnOk result (string_bytes text.new ≡ string_bytes text.old ++ sources_text trace.now.entries) }
 {

@@ -61,8 +61,8 @@ impl Render for Waits {
 
 /// Runs the script that the reader gives, over a history with room for `capacity` entries, and writes who waits for whom when
 /// it has ended: a line for each live transaction with its status, the lines of what it waits for and because of whom, and a
-/// line for each cycle of waits. On `Ok` the report on all bytes that the reader gave was written, and nothing else; a bad line
-/// is all that is written, if there is one.
+/// line for each deadlock: those who wait for each other, directly or through others. On `Ok` the report on all bytes that
+/// the reader gave was written, and nothing else; a bad line is all that is written, if there is one.
 ///
 /// Answers `Read` only if the reader failed, gave more than 67,108,864 bytes or was asked 134,217,728 times; `Write` only if the
 /// writer failed, and then a prefix of the report was written; and `NoMemory` if memory runs out. After `Read` and `NoMemory`

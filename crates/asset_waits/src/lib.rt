@@ -1,5 +1,5 @@
-//! Who waits for whom at the end of a script, as text: each live transaction with those for whom it waits, and each cycle of
-//! waits. The one fault is that memory runs out; a part of the text may have been appended then.
+//! Who waits for whom at the end of a script, as text: each live transaction with those for whom it waits, and each
+//! deadlock. The one fault is that memory runs out; a part of the text may have been appended then.
 #![tactic(auto)]
 
 mod arrows;

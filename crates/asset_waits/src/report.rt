@@ -15,8 +15,8 @@ use std::alloc::Global;
 /// Appends who waits for whom at the end of the history. Each live transaction has a line with its status, in order of
 /// initiation. One that runs and has a pending request then has a line for each who blocks that request, with the
 /// operations by which it holds the object, or one line if nobody does any more. One that has completed has a line for each
-/// member of its class that has not, and for each live source outside it. At last each cycle of waits has a line that names
-/// those who are on it, in order of initiation.
+/// member of its class that has not, and for each live source outside it. At last each deadlock has a line that names those
+/// who wait for each other in it, directly or through others, in order of initiation.
 ///
 /// It answers `NoMemory` if memory runs out, and a part of the text may have been appended then. The facility stays the same.
 /// It goes over the entries once, and asks of each live transaction twice for whom it waits.
