@@ -17,7 +17,7 @@ use Rattle.asset_deps.specs.Dependencies.{class_ways, order_ways, class_in, outs
 use Rattle.asset_deps.specs.Reached.{of_kinds, depends_by, seat_ways}
 use Rattle.asset_deps.specs.Valid.{Parts, dependencies_of, marked_of, AreTaken, IsValid}
 use Rattle.asset_deps.proofs.KindLemmas.{class_linked, by_order}
-use Rattle.asset_deps.proofs.SeatLemmas.{marked_seat, seat_marked}
+use Rattle.asset_deps.proofs.SeatLemmas.{marked_seat, seat_marked, marked_is}
 use Rattle.asset_deps.proofs.NamedLemmas.{linked_named, reached_name, leads_to_nobody, along_named, named_along, back_is}
 
 -- a test that an arrow passes is passed by its two ends
@@ -125,17 +125,25 @@ module _ (p : Parts) (size : ℕ) (marked : Met) (valid : IsValid p size marked)
   no_outside absent = no_outside_alone (λ n. sym (class_linked (dependencies_of p.links) t.0 n) ∙ leads_to_nobody p size marked valid Class t n absent)
       (λ u v on is. let seats = named_along p size marked valid Order u v on in absurd (absent seats.second (seats.to ∙ (λ i. Some (record { 0 = is i })))))
 
-  -- ---- one who has a seat
+  -- ---- one who has a seat, and whose class a search has met
   module _ (one : (u : Txn) (c d : ℕ) → seat p.seats c ≡ Some u → seat p.seats d ≡ Some u → d ≡ c) (s : ℕ) (sat : seat p.seats s ≡ Some t) (nodes : List ℕ)
       (met : (n : ℕ) → lists nodes n ≡ linked (seat_ways Class p.links p.along p.across) s n) where
     -- a seat is met where who has it is of the class
-    met_is : (c : ℕ) (u : Txn) → seat p.seats c ≡ Some u → lists nodes c ≡ linked (class_ways (dependencies_of p.links)) t.0 u.0
+    pub met_is : (c : ℕ) (u : Txn) → seat p.seats c ≡ Some u → lists nodes c ≡ linked (class_ways (dependencies_of p.links)) t.0 u.0
     unfolding class_in
     met_is c u there = met c ∙ linked_named p size marked valid one Class s c t u sat there ∙ class_linked (dependencies_of p.links) t.0 u.0
 
     pub members_within : (n : ℕ) → lists nodes n ≡ true → n < marked.size
     members_within n h = (valid.within n (ap is_some (reached_name p size marked valid one Class s n t sat (sym (met n) ∙ h)).1)).3
 
+  -- a seat is marked where who has it is of the class, if the class is marked
+  pub class_marked : ((u : Txn) (c d : ℕ) → seat p.seats c ≡ Some u → seat p.seats d ≡ Some u → d ≡ c) → ((n : ℕ) → lists (marked_of p.seats marked.nodes) n ≡ class_in (dependencies_of p.links) t.0 n)
+      → (c : ℕ) (u : Txn) → seat p.seats c ≡ Some u → lists marked.nodes c ≡ linked (class_ways (dependencies_of p.links)) t.0 u.0
+  unfolding class_in
+  class_marked one is c u there = marked_is p.seats marked.nodes c u valid.taken there (λ d also. one u c d there also) ∙ is u.0
+
+  -- ---- one whose class has been met, or is marked
+  module _ (nodes : List ℕ) (members : (c : ℕ) (u : Txn) → seat p.seats c ≡ Some u → lists nodes c ≡ linked (class_ways (dependencies_of p.links)) t.0 u.0) where
     pub outside_is : (result : Bool)
         → (result ≡ true → (u v : ℕ) × (lists nodes u ≡ true) × (has_arrow (arrows_along (of_kinds Order) p.links p.across p.along) u v ≡ true) × (lists nodes v ≡ false))
         → (result ≡ false → (u v : ℕ) → lists nodes u ≡ true → has_arrow (arrows_along (of_kinds Order) p.links p.across p.along) u v ≡ true → lists nodes v ≡ true) → result ≡ outside_source_in (dependencies_of p.links) t.0
@@ -143,15 +151,15 @@ module _ (p : Parts) (size : ℕ) (marked : Met) (valid : IsValid p size marked)
         let found = leads refl in
         let between = along_named p size marked valid Order found.1 found.0 (sym (back_is p size marked valid Order found.0 found.1) ∙ found.3) in
         sym (enters_any ∙ any_of_arrow enters (order_ways (dependencies_of p.links)) between.first.0 between.second.0 (sym (by_order (dependencies_of p.links) between.first.0 between.second.0) ∙ between.there)
-        (and_from _ _ (sym (met_is found.0 between.second between.to) ∙ found.2) (ap not (sym (met_is found.1 between.first between.from) ∙ found.4))))
+        (and_from _ _ (sym (members found.0 between.second between.to) ∙ found.2) (ap not (sym (members found.1 between.first between.from) ∙ found.4))))
     outside_is false leads all = sym (go (outside_source_in (dependencies_of p.links) t.0) refl) where
       go : (b : Bool) → outside_source_in (dependencies_of p.links) t.0 ≡ b → b ≡ false
       go true is =
           let found = arrow_of_any enters (order_ways (dependencies_of p.links)) (sym enters_any ∙ is) in
           let parts = and_parts (linked (class_ways (dependencies_of p.links)) t.0 found.1) (not (linked (class_ways (dependencies_of p.links)) t.0 found.0)) found.3 in
           let seats = named_along p size marked valid Order found.0 found.1 (by_order (dependencies_of p.links) found.0 found.1 ∙ found.2) in
-          let inside = all refl seats.second seats.first (met_is seats.second (record { 0 = found.1 }) seats.to ∙ parts.0) (back_is p size marked valid Order seats.second seats.first ∙ seats.there) in
-          absurd (false≢true (ap not (sym inside ∙ met_is seats.first (record { 0 = found.0 }) seats.from) ∙ parts.1))
+          let inside = all refl seats.second seats.first (members seats.second (record { 0 = found.1 }) seats.to ∙ parts.0) (back_is p size marked valid Order seats.second seats.first ∙ seats.there) in
+          absurd (false≢true (ap not (sym inside ∙ members seats.first (record { 0 = found.0 }) seats.from) ∙ parts.1))
       go false is = refl
 
     -- ---- which sources these are
@@ -188,9 +196,9 @@ module _ (p : Parts) (size : ℕ) (marked : Met) (valid : IsValid p size marked)
             let between = along_named p size marked valid Order at.0 by.0 (sym (back_is p size marked valid Order by.0 at.0) ∙ by.2) in
             let is : Some between.first ≡ Some (record { 0 = n }) = sym between.from ∙ at.2 in
             let same : between.first ≡ record { 0 = n } = cc is in
-            and_from _ _ (ap not (sym (met_is at.0 (record { 0 = n }) at.2) ∙ by.3))
+            and_from _ _ (ap not (sym (members at.0 (record { 0 = n }) at.2) ∙ by.3))
             (any_of_arrow (comes_from n) (order_ways (dependencies_of p.links)) between.first.0 between.second.0 (sym (by_order (dependencies_of p.links) between.first.0 between.second.0) ∙ between.there)
-            (and_from _ _ (eq-eqb between.first.0 n (ap (λ (u : Txn). u.0) same)) (sym (met_is by.0 between.second between.to) ∙ by.1)))
+            (and_from _ _ (eq-eqb between.first.0 n (ap (λ (u : Txn). u.0) same)) (sym (members by.0 between.second between.to) ∙ by.1)))
 
         back : (not (linked (class_ways (dependencies_of p.links)) t.0 n) && list_any (λ (arrow : Arrow). comes_from n arrow.0 arrow.1) (order_ways (dependencies_of p.links))) ≡ true → lists (marked_of p.seats found) n ≡ true
         back h =
@@ -200,5 +208,5 @@ module _ (p : Parts) (size : ℕ) (marked : Met) (valid : IsValid p size marked)
             let seats = named_along p size marked valid Order arrow.0 arrow.1 (by_order (dependencies_of p.links) arrow.0 arrow.1 ∙ arrow.2) in
             let from : seat p.seats seats.first ≡ Some (record { 0 = n }) = seats.from ∙ (λ i. Some (record { 0 = eqb-true arrow.0 n ends.0 i })) in
             seat_marked p.seats found seats.first (record { 0 = n }) from
-            (all seats.second seats.first (met_is seats.second (record { 0 = arrow.1 }) seats.to ∙ ends.1) (back_is p size marked valid Order seats.second seats.first ∙ seats.there)
-            (met_is seats.first (record { 0 = n }) from ∙ not-true _ parts.0))
+            (all seats.second seats.first (members seats.second (record { 0 = arrow.1 }) seats.to ∙ ends.1) (back_is p size marked valid Order seats.second seats.first ∙ seats.there)
+            (members seats.first (record { 0 = n }) from ∙ not-true _ parts.0))

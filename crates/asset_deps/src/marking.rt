@@ -1,10 +1,11 @@
 //! Marks on the transactions that end together.
 
 use crate::kinds::Kinds;
+use crate::outside::leads_outside;
 use crate::search::Search;
 use crate::table::SeatedDeps;
 use asset_chains::Side;
-use asset_marks::spread;
+use asset_marks::{Way, spread};
 use asset_names::Txn;
 use asset_seats::{Seats, Sitter};
 
@@ -13,7 +14,7 @@ impl SeatedDeps {
     ghost use Rattle.asset_names.specs.declared.names.Txn.{Txn};
     ghost use Rattle.asset_names.specs.Arrows.{lists, linked};
     ghost use Rattle.asset_seats.specs.Seated.{Seated, HasSeat};
-    ghost use Rattle.asset_deps.specs.Dependencies.{class_in, doomed_in};
+    ghost use Rattle.asset_deps.specs.Dependencies.{class_in, doomed_in, outside_source_in};
     ghost use Rattle.asset_deps.specs.Reached.{ways_in};
     ghost use Rattle.asset_deps.specs.Valid.{dependencies_in, marked_in, IsTied};
 
@@ -64,6 +65,21 @@ impl SeatedDeps {
     {
         seats.laws();
         self.marked.has(u.at)
+    }
+
+    /// Returns whether one who is marked depends, by a commit or an abort dependency, on a source that is not marked. If a class is
+    /// marked, that is what `has_outside_source` says of its members, with no search: only the dependencies that lead to the marked
+    /// are looked at.
+    pub fn marked_have_outside_source(&self, seats: &Seats) -> bool
+        requires { IsTied self.now seats.now }
+        ensures { (t : ℕ) → ((n : ℕ) → lists (marked_in seats.now self.now) n ≡ class_in (dependencies_in self.now) t n) → result ≡ outside_source_in (dependencies_in self.now) t }
+    {
+        seats.laws();
+        let back = Way {
+            items: &self.links,
+            side: Side::Column,
+        };
+        leads_outside(&back, &self.marked)
     }
 
     /// Returns the seat that is marked at the index, from 0. It returns `None` past the end.

@@ -23,12 +23,12 @@ use Rattle.asset_objects.specs.Placed.{objects_in}
 use Rattle.asset_locks.specs.LockTable as Locks
 use Rattle.asset_permits.specs.Valid.{permits_in}
 use Rattle.asset_seats.specs.Seated.{Seated, seat}
-use Rattle.asset_deps.specs.Dependencies.{class_in, doomed_in, outside_source_in}
+use Rattle.asset_deps.specs.Dependencies.{Dependency, class_in, doomed_in, outside_source_in}
 use Rattle.asset_deps.specs.Valid.{LinkTable, dependencies_in, marked_in, marked_of, name_at, IsTied}
 use Rattle.asset_deps.proofs.SeatLemmas.{marked_seat}
 use Rattle.asset_trans.specs.TransRows.{NamedTransRow, names_of, row_in, status_in, seat_in, set_in, ended_as}
 use Rattle.asset_ends.specs.Shows.{Shows, table_values}
-use Rattle.asset_ends.specs.Standing.{Standing, values_of, may_commit_in, AreEnrolled, LiveAreSeated}
+use Rattle.asset_ends.specs.Standing.{Standing, values_of, class_may_commit_in, may_commit_in, AreEnrolled, LiveAreSeated}
 use Rattle.asset_ends.specs.Tied.{PartsAreTied, PartsAreValid}
 use Rattle.asset_ends.specs.declared.parts.Parts.{Parts}
 use Rattle.asset_ends.specs.Ended.{parts, locks_of, marked_by, unless_gone, AreEnded}
@@ -296,27 +296,27 @@ live_named rows n alive = sym (row_named rows n) ∙ row_known rows n (live_know
 
 -- what the tables say of a class is what the history says
 pub may_commit_shown : (opening : Opening) (steps : List Step) (tables : Standing) (t : ℕ) → Shows opening steps (values_of tables) → may_commit_in tables t ≡ may_commit steps t
-unfolding may_commit_in may_commit class_completed
+unfolding class_may_commit_in may_commit class_completed
 may_commit_shown opening steps tables t stand = λ i. completed i && not (outside_shown steps tables.deps stand.dependencies_stand t i) where
   completed : list_all (λ n. not (class_in tables.deps t n) || is_completed (status_in tables.trans n)) (names_of tables.trans) ≡ list_all (λ n. not (same_class steps t n) || is_completed (status steps n)) (initiated steps)
   completed = (λ i. list_all (λ n. not (class_shown steps tables.deps stand.dependencies_stand t n i) || is_completed (stand.statuses n i)) (stand.names i)) ∙ all_reverse _ (initiated steps)
 
 -- the class of a live transaction, by its marks
-pub may_by_marks : (tables : Standing) (t : ℕ) (marked : List ℕ) (completed : Bool) → completed ≡ list_all (λ n. is_completed (status_in tables.trans n)) marked
-    → ((n : ℕ) → lists marked n ≡ class_in tables.deps t n) → ((n : ℕ) → lists marked n ≡ true → is_live_status (status_in tables.trans n) ≡ true)
-    → completed ≡ list_all (λ n. not (class_in tables.deps t n) || is_completed (status_in tables.trans n)) (names_of tables.trans)
-may_by_marks tables t marked completed is same alive =
-    is ∙ all_among (λ n. is_completed (status_in tables.trans n)) marked (names_of tables.trans) (λ n listed. live_named tables.trans n (alive n listed))
-    ∙ (λ i. list_all (λ n. not (same n i) || is_completed (status_in tables.trans n)) (names_of tables.trans))
+pub may_by_marks : (rows : List NamedTransRow) (deps : List Dependency) (t : ℕ) (marked : List ℕ) (completed : Bool) → completed ≡ list_all (λ n. is_completed (status_in rows n)) marked
+    → ((n : ℕ) → lists marked n ≡ class_in deps t n) → ((n : ℕ) → lists marked n ≡ true → is_live_status (status_in rows n) ≡ true)
+    → completed ≡ list_all (λ n. not (class_in deps t n) || is_completed (status_in rows n)) (names_of rows)
+may_by_marks rows deps t marked completed is same alive =
+    is ∙ all_among (λ n. is_completed (status_in rows n)) marked (names_of rows) (λ n listed. live_named rows n (alive n listed))
+    ∙ (λ i. list_all (λ n. not (same n i) || is_completed (status_in rows n)) (names_of rows))
 
 -- the class of one that is not enrolled is itself
-pub may_alone : (tables : Standing) (t : ℕ) → is_live_status (status_in tables.trans t) ≡ true → ((n : ℕ) → class_in tables.deps t n ≡ eqb t n) → outside_source_in tables.deps t ≡ false
-    → is_completed (status_in tables.trans t) ≡ may_commit_in tables t
-unfolding may_commit_in lists
-may_alone tables t alive alone none =
-    rw none (sym (trues (is_completed (status_in tables.trans t)))
-    ∙ all_among (λ n. is_completed (status_in tables.trans n)) (t ∷ []) (names_of tables.trans) (λ n listed. subst (λ m. lists (names_of tables.trans) m ≡ true) (eqb-true t n (sym (falses (eqb t n)) ∙ listed)) (live_named tables.trans t alive))
-    ∙ (λ i. list_all (λ n. not ((falses (eqb t n) ∙ sym (alone n)) i) || is_completed (status_in tables.trans n)) (names_of tables.trans))
+pub may_alone : (rows : List NamedTransRow) (deps : List Dependency) (t : ℕ) → is_live_status (status_in rows t) ≡ true → ((n : ℕ) → class_in deps t n ≡ eqb t n) → outside_source_in deps t ≡ false
+    → is_completed (status_in rows t) ≡ class_may_commit_in rows deps t
+unfolding class_may_commit_in lists
+may_alone rows deps t alive alone none =
+    rw none (sym (trues (is_completed (status_in rows t)))
+    ∙ all_among (λ n. is_completed (status_in rows n)) (t ∷ []) (names_of rows) (λ n listed. subst (λ m. lists (names_of rows) m ≡ true) (eqb-true t n (sym (falses (eqb t n)) ∙ listed)) (live_named rows t alive))
+    ∙ (λ i. list_all (λ n. not ((falses (eqb t n) ∙ sym (alone n)) i) || is_completed (status_in rows n)) (names_of rows))
     ∙ sym (trues _)) where
       trues : (b : Bool) → (b && true) ≡ b
       trues true = refl

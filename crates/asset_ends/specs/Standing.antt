@@ -42,10 +42,13 @@ is_free_for tables t x op = Locks.is_free_in tables.locks (λ u. allows_in table
 unfoldable pub step_if : Bool → Step → List Step → List Step
 step_if effect step steps = cond effect (step ∷ steps) steps
 
--- whether each member of t's class has completed, and no source of a member is outside it, by the tables
-unfoldable pub may_commit_in : Standing → ℕ → Bool
-may_commit_in tables t = list_all (λ n. not (class_in tables.deps t n) || is_completed (status_in tables.trans n)) (names_of tables.trans)
-    && not (outside_source_in tables.deps t)
+-- whether each member of t's class has completed, and no source of a member is outside it, by the rows and the dependencies
+unfoldable pub class_may_commit_in : List NamedTransRow → List Dependency → ℕ → Bool
+class_may_commit_in rows deps t = list_all (λ n. not (class_in deps t n) || is_completed (status_in rows n)) (names_of rows) && not (outside_source_in deps t)
+
+-- the same, by the tables
+abbrev pub may_commit_in : Standing → ℕ → Bool
+may_commit_in tables t = class_may_commit_in tables.trans tables.deps t
 
 -- what became of a commit, by whether the class may commit
 unfoldable pub tried : Bool → Tried

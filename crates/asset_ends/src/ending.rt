@@ -8,16 +8,20 @@ ghost use Rattle.asset_names.specs.Endings.{is_live_status};
 ghost use Rattle.asset_objects.specs.Cells.{cells, ended, change_each};
 ghost use Rattle.asset_objects.specs.Placed.{objects_in, IsTied as AreWritesTied};
 ghost use Rattle.asset_seats.specs.Seated.{Seated, seat, HasSeat};
-ghost use Rattle.asset_deps.specs.Valid.{IsTied};
+ghost use Rattle.asset_deps.specs.Dependencies.{class_in};
+ghost use Rattle.asset_deps.specs.Valid.{dependencies_in, marked_in, IsTied};
 ghost use Rattle.asset_trans.specs.TransRows.{status_in};
 ghost use Rattle.asset_ends.specs.Ended.{marked_by, AreEnded};
+ghost use Rattle.asset_ends.specs.Standing.{class_may_commit_in, LiveAreSeated};
 ghost use Rattle.asset_ends.specs.Tied.{PartsAreTied};
 
 use crate::parts::Parts;
 use crate::tables::Tables;
+use asset_deps::SeatedDeps;
 use asset_names::{End, Status, Txn};
 use asset_objects::SeatedObjects;
 use asset_seats::{Seats, Sitter};
+use asset_trans::Trans;
 
 /// What became of a commit.
 #[derive(Clone, Copy, Debug, PartialEq, Eq)]
@@ -74,13 +78,13 @@ fn end_marked(parts: &mut Parts, how: End)
 }
 
 /// Returns whether all who are marked have completed.
-fn all_completed(parts: &Parts) -> bool
-    requires { IsTied parts.now.deps parts.now.seats }
-    ensures { result ≡ list_all (λ n. is_completed (status_in parts.now.trans n)) (marked_by parts.now) }
+fn all_completed(seats: &Seats, trans: &Trans, deps: &SeatedDeps) -> bool
+    requires { IsTied deps.now seats.now }
+    ensures { result ≡ list_all (λ n. is_completed (status_in trans.now n)) (marked_in seats.now deps.now) }
 {
-    'marked: for index in 0..parts.deps.marked_count() {
-        if let Some(t) = parts.deps.marked_name(&parts.seats, index) {
-            if !parts.trans.status(t).is_completed() {
+    'marked: for index in 0..deps.marked_count() {
+        if let Some(t) = deps.marked_name(seats, index) {
+            if !trans.status(t).is_completed() {
                 return false;
             }
         }
@@ -88,12 +92,26 @@ fn all_completed(parts: &Parts) -> bool
     true
 }
 
+/// Marks the class of a live transaction, and nobody else, and returns whether it may commit.
+fn class_may_commit(seats: &Seats, trans: &Trans, deps: &mut SeatedDeps, one: Sitter) -> bool
+    requires seated { LiveAreSeated trans.now seats.now }
+    requires tied { IsTied deps.old seats.now }
+    requires sits { HasSeat seats.now one }
+    ensures tied { IsTied deps.new seats.now }
+    ensures marked { (n : ℕ) → lists (marked_in seats.now deps.new) n ≡ class_in (dependencies_in deps.old) one.t.0 n }
+    ensures dependencies { dependencies_in deps.new ≡ dependencies_in deps.old }
+    ensures may { result ≡ class_may_commit_in trans.now (dependencies_in deps.old) one.t.0 }
+{
+    deps.mark_class(seats, one);
+    all_completed(seats, trans, deps) && !deps.marked_have_outside_source(seats)
+}
+
 impl Tables {
-    ghost use Rattle.std.specs.Prelude.{◌≡◌, cond, true};
+    ghost use Rattle.std.specs.Prelude.{◌≡◌, ℕ, ◌==◌, cond, true, false};
     ghost use Rattle.asset_names.specs.declared.steps.Step.{Step};
     ghost use Rattle.asset_names.specs.Answers.{may_commit};
     ghost use Rattle.asset_names.specs.Endings.{is_live_status};
-    ghost use Rattle.asset_deps.specs.Dependencies.{class_in, doomed_in};
+    ghost use Rattle.asset_deps.specs.Dependencies.{class_in, doomed_in, outside_source_in};
     ghost use Rattle.asset_locks.specs.LockTable.{release_in};
     ghost use Rattle.asset_trans.specs.TransRows.{status_in, seat_in};
     ghost use Rattle.asset_ends.specs.Shown.{ForShown, ShowsWith, ShowsWithIf};
@@ -123,8 +141,12 @@ impl Tables {
         if !self.parts.deps.is_linked(&self.parts.seats, one) {
             return status.is_completed();
         }
-        self.parts.deps.mark_class(&self.parts.seats, one);
-        all_completed(&self.parts) && !self.parts.deps.has_outside_source(&self.parts.seats, one)
+        class_may_commit(
+            &self.parts.seats,
+            &self.parts.trans,
+            &mut self.parts.deps,
+            one,
+        )
     }
 
     /// Commits a live transaction with its whole class, if the class may commit: their writes stand for good, and their
@@ -149,26 +171,51 @@ impl Tables {
         ensures stand { ShowsWithIf self.old (may_commit_in self.old one.t.0) (Step.Commit one.t) self.new }
         ensures locks { self.new.locks ≡ cond (may_commit_in self.old one.t.0) (release_in (class_in self.old.deps one.t.0) self.old.locks) self.old.locks }
     {
-        if self.may_commit_at(one, status) {
-            self.commit_at(one);
+        let is_alone = !self.parts.deps.is_linked(&self.parts.seats, one);
+        if is_alone {
+            self.try_commit_alone(one, status)
+        } else {
+            self.try_commit_class(one)
+        }
+    }
+
+    /// Does what `try_commit_at` does, for a transaction that is a class of its own, on no source.
+    fn try_commit_alone(&mut self, one: Sitter, status: Status) -> Tried
+        requires live { is_live_status (status_in self.old.trans one.t.0) ≡ true }
+        requires status { status ≡ status_in self.old.trans one.t.0 }
+        requires seat { one.at ≡ seat_in self.old.trans one.t.0 }
+        requires alone { (n : ℕ) → class_in self.old.deps one.t.0 n ≡ (one.t.0 == n) }
+        requires no_source { outside_source_in self.old.deps one.t.0 ≡ false }
+        ensures tried { result ≡ tried (may_commit_in self.old one.t.0) }
+        ensures stand { ShowsWithIf self.old (may_commit_in self.old one.t.0) (Step.Commit one.t) self.new }
+        ensures locks { self.new.locks ≡ cond (may_commit_in self.old one.t.0) (release_in (class_in self.old.deps one.t.0) self.old.locks) self.old.locks }
+    {
+        if status.is_completed() {
+            end_one(&mut self.parts, one, End::Committed);
             Tried::Committed
         } else {
             Tried::Wait
         }
     }
 
-    /// Commits a live transaction with its whole class.
-    fn commit_at(&mut self, one: Sitter)
+    /// Does what `try_commit_at` does, for a transaction that others may depend on. The class is searched for once.
+    fn try_commit_class(&mut self, one: Sitter) -> Tried
         requires live { is_live_status (status_in self.old.trans one.t.0) ≡ true }
         requires seat { one.at ≡ seat_in self.old.trans one.t.0 }
-        ensures stand { ShowsWith self.old (Step.Commit one.t) self.new }
-        ensures locks { self.new.locks ≡ release_in (class_in self.old.deps one.t.0) self.old.locks }
+        ensures tried { result ≡ tried (may_commit_in self.old one.t.0) }
+        ensures stand { ShowsWithIf self.old (may_commit_in self.old one.t.0) (Step.Commit one.t) self.new }
+        ensures locks { self.new.locks ≡ cond (may_commit_in self.old one.t.0) (release_in (class_in self.old.deps one.t.0) self.old.locks) self.old.locks }
     {
-        if self.parts.deps.is_linked(&self.parts.seats, one) {
-            self.parts.deps.mark_class(&self.parts.seats, one);
+        if class_may_commit(
+            &self.parts.seats,
+            &self.parts.trans,
+            &mut self.parts.deps,
+            one,
+        ) {
             end_marked(&mut self.parts, End::Committed);
+            Tried::Committed
         } else {
-            end_one(&mut self.parts, one, End::Committed);
+            Tried::Wait
         }
     }
 

@@ -1,7 +1,7 @@
 use Rattle.std.proofs.Common.{◌<◌, sym, subst}
 use Rattle.asset_deps.specs.declared.kinds.Kinds.TheVariants.{Class, Order}
 use Rattle.asset_deps.proofs.NamedLemmas.{way_within, source_within}
-use Rattle.asset_deps.proofs.OutsideLemmas.{outside_is}
+use Rattle.asset_deps.proofs.OutsideLemmas.{met_is, outside_is}
 use Rattle.asset_deps.proofs.TableLemmas.{parts_of, tied_inside}
 use Rattle.asset_deps.proofs.table.SeatedDeps.has_outside_source.Goals as goal
 
@@ -28,4 +28,4 @@ returns-clause-outside c =
     let p = parts_of inside.links seats in
     let tied = tied_inside inside.links inside.marks.size inside.marked c.args.self.now seats c.self.view_is c.requires.tied in
     rw (← c.self.view_is)
-    (outside_is p inside.marks.size inside.marked tied c.args.t.t c.laws.ensures.one c.args.t.at c.requires.sits c.spread.new.marks.nodes c.spread.ensures.met c.leads_outside.result c.leads_outside.ensures.leads c.leads_outside.ensures.met)
+    (outside_is p inside.marks.size inside.marked tied c.args.t.t c.spread.new.marks.nodes (met_is p inside.marks.size inside.marked tied c.args.t.t c.laws.ensures.one c.args.t.at c.requires.sits c.spread.new.marks.nodes c.spread.ensures.met) c.leads_outside.result c.leads_outside.ensures.leads c.leads_outside.ensures.met)
