@@ -11,7 +11,7 @@ use Rattle.asset_objects.specs.Cells.{Cells, cells, has_object}
 use Rattle.asset_locks.specs.LockTable as Locks
 use Rattle.asset_trans.specs.TransRows.{NamedTransRow}
 use Rattle.asset_ends.specs.Shows.{Shows, cell_of, cell_after, table_values}
-use Rattle.asset_ends.specs.Standing.{Standing, values_of, SameView, ShowAlike}
+use Rattle.asset_ends.specs.Standing.{Standing, values_of, SameView, SameViewInAnyOrder}
 
 -- what holds where a call succeeded, of what held there
 
@@ -20,8 +20,8 @@ always_err (Ok x) p = tt
 always_err (Err e) p = p
 
 -- tables that are the same show alike
-pub same_alike : (later before : Standing) → SameView later before → ShowAlike later before
-same_alike later before same = record { rows = same.rows; objects = same.objects; locks = same.locks; permits = λ u t x op. ap (λ descriptors. one_covers descriptors u t x op) same.permits; openers = λ u x op. ap (λ descriptors. opens descriptors u x op) same.permits; deps = same.deps }
+pub same_alike : (later before : Standing) → SameView later before → SameViewInAnyOrder later before
+same_alike later before same = record { rows = same.rows; objects = same.objects; numbers = same.numbers; locks = same.locks; permits = λ u t x op. ap (λ descriptors. one_covers descriptors u t x op) same.permits; openers = λ u x op. ap (λ descriptors. opens descriptors u x op) same.permits; deps = same.deps }
 
 -- tables that are as others are stand for what the others do
 pub stand_as : (opening : Opening) (steps : List Step) (later : Standing) (rows : List NamedTransRow) (objects : Cells) (table : Locks.LockTable) (descriptors : List Descriptor) (deps : List Dependency) → later.trans ≡ rows → cells later.objects ≡ objects → later.locks ≡ table

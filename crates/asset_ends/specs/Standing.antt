@@ -8,7 +8,7 @@ use Rattle.asset_names.specs.Arrows.{lists}
 use Rattle.asset_names.specs.Endings.{is_live_status}
 use Rattle.asset_names.specs.Answers.{is_completed}
 use Rattle.asset_permits.specs.Descriptors.{Descriptor, one_covers, opens, leads_by, reaches_opener}
-use Rattle.asset_objects.specs.Cells.{ObjectTable, cells}
+use Rattle.asset_objects.specs.Cells.{ObjectTable, cells, number_of}
 use Rattle.asset_seats.specs.Seated.{Seated, seat}
 use Rattle.asset_deps.specs.Dependencies.{Dependency, class_in, outside_source_in}
 use Rattle.asset_locks.specs.LockTable as Locks
@@ -58,14 +58,16 @@ tried may = cond may Tried'.Committed Tried'.Wait
 pub record SameView (later before : Standing) : Type 0 where
   pub rows : later.trans ≡ before.trans
   pub objects : cells later.objects ≡ cells before.objects
+  pub numbers : (x : ℕ) → number_of later.objects x ≡ number_of before.objects x
   pub locks : later.locks ≡ before.locks
   pub permits : later.permits ≡ before.permits
   pub deps : later.deps ≡ before.deps
 
 -- the tables show the same as before: the permits cover and open the same, in whatever order they stand
-pub record ShowAlike (later before : Standing) : Type 0 where
+pub record SameViewInAnyOrder (later before : Standing) : Type 0 where
   pub rows : later.trans ≡ before.trans
   pub objects : cells later.objects ≡ cells before.objects
+  pub numbers : (x : ℕ) → number_of later.objects x ≡ number_of before.objects x
   pub locks : later.locks ≡ before.locks
   pub permits : (u t x : ℕ) (op : Op) → one_covers later.permits u t x op ≡ one_covers before.permits u t x op
   pub openers : (u x : ℕ) (op : Op) → opens later.permits u x op ≡ opens before.permits u x op

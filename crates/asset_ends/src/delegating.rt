@@ -60,7 +60,7 @@ impl Tables {
     ghost use Rattle.asset_locks.specs.LockTable.{hand_over_in};
     ghost use Rattle.asset_trans.specs.TransRows.{status_in, seat_in};
     ghost use Rattle.asset_ends.specs.Shown.{ShowsWith};
-    ghost use Rattle.asset_ends.specs.Standing.{ShowAlike};
+    ghost use Rattle.asset_ends.specs.Standing.{SameViewInAnyOrder};
 
     /// Hands over to the taker what the giver did on the objects: its writes and its locks there are the taker's, and the
     /// taker gives a copy of each of the giver's permits on each object on which a lock moved. Both are live.
@@ -72,7 +72,7 @@ impl Tables {
         requires taker { is_live_status (status_in self.old.trans taker.0) ≡ true }
         ensures stand { OnOk result (ShowsWith self.old (Step.Delegate giver taker obs.now) self.new) }
         ensures locks { OnOk result (self.new.locks ≡ hand_over_in giver.0 taker.0 obs.now self.old.locks) }
-        ensures unchanged { OnErr result (ShowAlike self.new self.old) }
+        ensures unchanged { OnErr result (SameViewInAnyOrder self.new self.old) }
     {
         let (_, from) = self.find(giver);
         let (_, to) = self.find(taker);
@@ -98,7 +98,7 @@ impl Tables {
         requires only { (x : Ob) → only_in obs.now ≡ Some x → only ≡ number_of self.old.objects x.0 }
         ensures stand { OnOk result (ShowsWith self.old (Step.Delegate from.t to.t obs.now) self.new) }
         ensures locks { OnOk result (self.new.locks ≡ hand_over_in from.t.0 to.t.0 obs.now self.old.locks) }
-        ensures unchanged { OnErr result (ShowAlike self.new self.old) }
+        ensures unchanged { OnErr result (SameViewInAnyOrder self.new self.old) }
     {
         copy_permits(
             self.alloc,

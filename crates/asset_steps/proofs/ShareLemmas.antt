@@ -23,7 +23,7 @@ use Rattle.asset_deps.specs.Dependencies.{would_cycle_in}
 use Rattle.asset_locks.specs.LockTable as Locks
 use Rattle.asset_trans.specs.TransRows.{status_in}
 use Rattle.asset_ends.specs.Shown.{ForShown, ShowsWith}
-use Rattle.asset_ends.specs.Standing.{Standing, SameView, ShowAlike}
+use Rattle.asset_ends.specs.Standing.{Standing, SameView, SameViewInAnyOrder}
 use Rattle.asset_steps.specs.Ready.{locks_after}
 use Rattle.asset_steps.specs.Stepped.{Stepped, Lacked}
 use Rattle.asset_steps.proofs.AnswerLemmas.{first_append}
@@ -100,7 +100,7 @@ pub permit_lacks : (before later : Standing) (giver taker : Txn) (obs : ObSet) (
 unfolding takes_effect takes_memory
 permit_lacks before later giver taker obs ops missing lacks none same = lacking before later (Permit giver taker obs ops) Done refl (permit_given before giver taker obs ops missing lacks none) refl (same_alike later before same)
 
-pub delegate_lacks : (before later : Standing) (giver taker : Txn) (obs : ObSet) (missing : Option Ob) → IsMissing before obs missing → first_refusal (share_rules before giver taker missing) ≡ None → ShowAlike later before → Lacked before (Delegate giver taker obs) later
+pub delegate_lacks : (before later : Standing) (giver taker : Txn) (obs : ObSet) (missing : Option Ob) → IsMissing before obs missing → first_refusal (share_rules before giver taker missing) ≡ None → SameViewInAnyOrder later before → Lacked before (Delegate giver taker obs) later
 unfolding takes_effect takes_memory
 delegate_lacks before later giver taker obs missing lacks none same = lacking before later (Delegate giver taker obs) Done refl (delegate_given before giver taker obs missing lacks none) refl same
 

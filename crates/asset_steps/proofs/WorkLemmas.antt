@@ -24,7 +24,7 @@ use Rattle.asset_trans.specs.TransRows.{status_in}
 use Rattle.asset_ends.specs.declared.ending.Tried.TheVariants as Tried'
 use Rattle.asset_ends.specs.Shows.{Shows}
 use Rattle.asset_ends.specs.Shown.{ForShown, ShowsStill, ShowsWith, ShowsWithIf, ShowsOrderly}
-use Rattle.asset_ends.specs.Standing.{Standing, values_of, step_if, may_commit_in, tried, SameView, ShowAlike}
+use Rattle.asset_ends.specs.Standing.{Standing, values_of, step_if, may_commit_in, tried, SameView, SameViewInAnyOrder}
 use Rattle.asset_steps.specs.Ready.{locks_after, locks_waiting, released}
 use Rattle.asset_steps.specs.Stepped.{ShowsOutcome, locks_with, Stepped, Lacked}
 use Rattle.asset_ends.proofs.EndingLemmas.{may_commit_shown}
@@ -51,7 +51,7 @@ waiting before later step is stands locks = record {
 }
 
 -- a step that would take effect, but for memory
-pub lacking : (before later : Standing) (step : Step) (reply : Reply) → takes_memory step ≡ true → ForShown before (λ opening steps. answer opening steps step ≡ Answer reply) → takes_effect step reply ≡ true → ShowAlike later before → Lacked before step later
+pub lacking : (before later : Standing) (step : Step) (reply : Reply) → takes_memory step ≡ true → ForShown before (λ opening steps. answer opening steps step ≡ Answer reply) → takes_effect step reply ≡ true → SameViewInAnyOrder later before → Lacked before step later
 lacking before later step reply takes is effect same = record { reply = reply; memory = takes; effect = effect; answered = is; same = same }
 
 -- some rules decide which refusal of a step is the first

@@ -9,7 +9,7 @@ use Rattle.asset_names.specs.Answers.{answer, takes_memory}
 use Rattle.asset_locks.specs.LockTable as Locks
 use Rattle.asset_steps.specs.Ready.{locks_after, locks_waiting}
 use Rattle.asset_ends.specs.Shown.{ForShown, ShowsStill, ShowsEntry}
-use Rattle.asset_ends.specs.Standing.{Standing, ShowAlike}
+use Rattle.asset_ends.specs.Standing.{Standing, SameViewInAnyOrder}
 
 -- the tables show their history with the entry of a reply, and as it was after a wait
 unfoldable pub ShowsOutcome : Standing → Step → Outcome → Standing → Type 0
@@ -33,4 +33,4 @@ pub record Lacked (before : Standing) (step : Step) (later : Standing) : Type 0 
   pub memory : takes_memory step ≡ true
   pub effect : takes_effect step reply ≡ true
   pub answered : ForShown before (λ opening steps. answer opening steps step ≡ Answer reply)
-  pub same : ShowAlike later before
+  pub same : SameViewInAnyOrder later before

@@ -12,7 +12,7 @@ ghost use Rattle.asset_objects.specs.Cells.{cells, has_object};
 ghost use Rattle.asset_locks.specs.LockTable.{wait_in};
 ghost use Rattle.asset_trans.specs.TransRows.{status_in};
 ghost use Rattle.asset_ends.specs.Shown.{ShowsStill, ShowsWith, ShowsEntry, ShowsOrderly};
-ghost use Rattle.asset_ends.specs.Standing.{is_free_for, may_commit_in, ShowAlike};
+ghost use Rattle.asset_ends.specs.Standing.{is_free_for, may_commit_in, SameViewInAnyOrder};
 ghost use Rattle.asset_ends.specs.Updates.{op_of};
 ghost use Rattle.asset_steps.specs.Ready.{IsReady, MayWait, locks_after, locks_waiting, released};
 
@@ -26,7 +26,7 @@ fn apply_step(tables: &mut Tables, step: &Step) -> Result<(), NoMemory>
     ensures stand { OnOk result (ShowsOrderly tables.old step.now tables.new) }
     ensures locks { OnOk result (tables.new.locks ≡ locks_after step.now tables.old) }
     ensures memory { OnErr result (takes_memory step.now ≡ true) }
-    ensures unchanged { OnErr result (ShowAlike tables.new tables.old) }
+    ensures unchanged { OnErr result (SameViewInAnyOrder tables.new tables.old) }
 {
     match *step {
         Step::Initiate { t, parent } => tables.initiate(t, parent),
@@ -130,7 +130,7 @@ pub fn apply(tables: &mut Tables, step: &Step, reply: Reply) -> Result<(), NoMem
     ensures stand { OnOk result (ShowsEntry tables.old (step.now, reply) tables.new) }
     ensures locks { OnOk result (tables.new.locks ≡ cond (takes_effect step.now reply) (locks_after step.now tables.old) tables.old.locks) }
     ensures memory { OnErr result ((takes_memory step.now ≡ true) × (takes_effect step.now reply ≡ true)) }
-    ensures unchanged { OnErr result (ShowAlike tables.new tables.old) }
+    ensures unchanged { OnErr result (SameViewInAnyOrder tables.new tables.old) }
 {
     if !takes_effect(step, reply) {
         return Ok(());

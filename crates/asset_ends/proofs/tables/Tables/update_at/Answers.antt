@@ -2,11 +2,11 @@ use Rattle.std.proofs.Common.{◌≡◌, ◌∙◌, List, false, sym, ap, w64, t
 use Rattle.std.proofs.lemmas.Int.{to_z-of_z}
 use Rattle.asset_names.specs.declared.names.Ob.{Ob}
 use Rattle.asset_names.specs.Numbered.{number_in}
-use Rattle.asset_names.proofs.Common.{on_ok_two}
+use Rattle.asset_names.proofs.Common.{on_ok_two, on_err}
 use Rattle.asset_objects.proofs.PlacedLemmas.{number_named}
-use Rattle.asset_objects.specs.Cells.{cells}
+use Rattle.asset_objects.specs.Cells.{cells, number_of}
 use Rattle.asset_objects.specs.Placed.{object_table}
-use Rattle.asset_ends.specs.Standing.{is_free_for}
+use Rattle.asset_ends.specs.Standing.{Standing, is_free_for}
 use Rattle.asset_ends.proofs.AskedLemmas.{update_asked_shows}
 use Rattle.asset_ends.proofs.EnrolledLemmas.{running_enrolled}
 use Rattle.asset_ends.proofs.ShowsLemmas.{running_live}
@@ -47,6 +47,18 @@ returns-in-Ok-clause-locks c = rw (← c.self.view_is) c.update_reserved.ensures
 pub returns-in-Ok-clause-memory : goal.returns-in-Ok-clause-memory
 unfolding is_free_for
 returns-in-Ok-clause-memory c = rw (← c.self.view_is) c.update_reserved.ensures.memory
+
+pub returns-in-Ok-clause-unchanged : goal.returns-in-Ok-clause-unchanged
+returns-in-Ok-clause-unchanged c =
+    let objects = c.self.inside.parts.objects in
+    rw (← c.self.view_is) (on_err c.update_reserved.result (λ same. record {
+      rows = ap (λ (s : Standing). s.trans) same;
+      objects = ap (λ (s : Standing). cells s.objects) same ∙ c.in-Ok.ensures.cells;
+      numbers = λ x. ap (λ (s : Standing). number_of s.objects x) same ∙ number_named c.reserve_write.new.self x ∙ ap (λ (l : List Ob). number_in l x) c.reserve_write.ensures.objects ∙ sym (number_named objects x);
+      locks = ap (λ (s : Standing). s.locks) same;
+      permits = ap (λ (s : Standing). s.permits) same;
+      deps = ap (λ (s : Standing). s.deps) same;
+    }) c.update_reserved.ensures.unchanged)
 
 pub returns-in-Err-clause-stand : goal.returns-in-Err-clause-stand
 unfolding is_free_for
