@@ -2,10 +2,12 @@
 """Writes the list of files at the end of ARCHITECTURE.md: each crate's files with their first lines.
 
     docs/list_files.py            writes the list
-    docs/list_files.py --check    exits with 1 if the list is not what it would write, or if the example of README is
-                                  not a part of the one that a test compiles
+    docs/list_files.py --check    exits with 1 if the list is not what it would write, if the example of README is not
+                                  a part of the one that a test compiles, or if the table of definitions in THEOREMS.md
+                                  leaves out one that its files use
 """
 import pathlib
+import re
 import sys
 
 TOP = pathlib.Path(__file__).resolve().parent.parent
@@ -72,6 +74,32 @@ def is_example_tested():
     return all(line in left for line in example.splitlines())
 
 
+def believed():
+    """Returns the files of definitions that THEOREMS.md names, as the crate and the name of the file."""
+    table = (TOP / "docs" / "THEOREMS.md").read_text().split("| Claims | Files |")[1].split("\n\n")[0]
+    found = set()
+    crate = None
+    for word in re.findall(r"`([^`]+)`", table):
+        parts = re.fullmatch(r"(?:crates/)?(asset_\w+)/specs/?(\w*)", word)
+        crate, name = parts.groups() if parts else (crate, word)
+        folder = TOP / "crates" / crate / "specs"
+        if parts and not name and not word.endswith("/"):
+            found.update((crate, path.stem) for path in folder.glob("*.antt"))
+        elif name[:1].isupper():
+            found.add((crate, name))
+    return found
+
+
+def left_out():
+    """Returns the definitions that the files of the table use, and that it does not name."""
+    named = believed()
+    used = set()
+    for crate, name in named:
+        text = (TOP / "crates" / crate / "specs" / f"{name}.antt").read_text()
+        used.update(re.findall(r"use Rattle\.(asset_\w+)\.specs\.([A-Z]\w*)", text))
+    return sorted("/".join(it) for it in used - named if it[1] != "Lib")
+
+
 def main():
     page = PAGE.read_text()
     written = page.split(MARK)[0] + listed()
@@ -80,6 +108,8 @@ def main():
             sys.exit("docs/ARCHITECTURE.md: the list of files is old; run docs/list_files.py")
         if not is_example_tested():
             sys.exit(f"README.md: the example is no part of that of {TEST.relative_to(TOP)}")
+        if left_out():
+            sys.exit(f"docs/THEOREMS.md: the table of definitions leaves out {', '.join(left_out())}")
     else:
         PAGE.write_text(written)
 
