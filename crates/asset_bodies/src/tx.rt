@@ -13,7 +13,8 @@ use asset_names::{Fault, Kind, NoMemory, Ob, ObList, ObSet, Ops, Outcome, Step, 
 use std::marker::Model;
 use std::sync::Wait;
 
-/// A transaction that has begun, on which a body works. It cannot be dropped: a body ends it by `done` or `give_up`.
+/// A transaction that has begun, on which a body works. It cannot be dropped: a body ends it by `done` or `give_up`, which alone
+/// make a `Finished`. `new` and `into_parts` are for those who run bodies, as `asset_runner` does.
 ///
 /// Each operation makes room in the session's list first, for its own entry and for those that the transaction's end and
 /// the ends of its callers still need, and answers `NoMemory` if it cannot: so an end finds room, unless a child's body

@@ -7,6 +7,7 @@ mod rendering;
 mod reporting;
 mod running;
 
+pub use asset_scripts::{Device, RunEnd, ScriptFault};
 pub use laws::printed_scripts_run_again;
 pub use reporting::{Report, Work};
 pub use running::{
