@@ -29,7 +29,10 @@ fn reserve(seats: &mut Seats) -> Result<(), NoMemory>
 /// Gives a transaction the next seat, or the one that it has.
 fn sit(seats: &mut Seats, t: u64) -> Result<usize, NoMemory> {
     reserve(seats)?;
-    Ok(seats.seat_for(Txn(t)))
+    match seats.seat_of(Txn(t)) {
+        Some(c) => Ok(c),
+        None => Ok(seats.sit(Txn(t))),
+    }
 }
 
 /// Returns whether the transaction has this seat, and the seat is its.
@@ -119,7 +122,7 @@ fn seat_many(seats: &mut Seats) -> Result<Option<usize>, NoMemory> {
     for t in 0..MANY {
         seats.reserve()?;
         if seats.seat_of(Txn(t)).is_none() {
-            seats.seat_for(Txn(t));
+            seats.sit(Txn(t));
         }
     }
     Ok(seats.seat_of(Txn(MANY - 1)))

@@ -91,7 +91,7 @@ fn unlink(table: &mut Chains, key: usize) -> bool {
     }
 }
 
-/// Returns whether the chain has the key, after this one.
+/// Returns whether the chain has the key, with this one before it.
 fn follows(table: &Chains, chain: usize, before: Option<usize>, key: usize) -> bool {
     table.home(key) == Some(chain) && table.previous(key) == before
 }

@@ -320,7 +320,8 @@ impl Core {
     }
 
     /// Returns the first of the transactions with whom `t` has come to share, in the order in which steps first acted on them, and
-    /// `None` if no step acts on `t`. It may be `t` itself. It takes nearly constant time, and no memory.
+    /// `None` if no step acts on `t`. It may be `t` itself. It looks for the name once and goes up at most log2 of
+    /// the names from there, and takes no memory.
     pub fn first_of(&self, t: Txn) -> Option<Txn>
         ensures { result ≡ first_of self.now.history.entries t.0 }
     {
@@ -328,7 +329,7 @@ impl Core {
     }
 
     /// Returns whether somebody with whom `t` has come to share has committed, or `t` itself; if no step acts on `t`, it is false. It
-    /// takes nearly constant time, and no memory.
+    /// costs what `first_of` does.
     pub fn group_committed(&self, t: Txn) -> bool
         ensures { result ≡ group_committed self.now.history.entries t.0 }
     {

@@ -21,7 +21,8 @@ use asset_seats::{Seats, Sitter};
 use std::alloc::Global;
 
 /// Gives the taker a copy of each of the giver's permits on each of the objects on which the giver has a lock. Nothing is
-/// listed if the giver permits nobody anything. If the set lists one object, its number is given, if it exists.
+/// listed if the giver permits nobody anything. If the set lists one object, its number is given, if it exists. If memory runs
+/// out, no permit has changed.
 fn copy_permits(
     alloc: Global,
     seats: &Seats,

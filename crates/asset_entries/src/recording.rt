@@ -49,13 +49,13 @@ impl Stored {
             (Stored::Add { tag, t, x, d }, Step::Add { t: u, x: y, d: e }) => {
                 d == e && is_of_object(*tag, 0, (*t, *x), (*u, *y), reply)
             }
-            _ => self.records_course(sets, step, reply),
+            _ => self.records_start(sets, step, reply),
         }
     }
 
     /// Returns the same as `records`, and looks first whether the transaction is initiated, begins or completes.
     #[tactic(auto, unfolding(crate::specs::Stored::entry_of, crate::specs::Stored::has_set))]
-    fn records_course(&self, sets: &StoredSets, step: &Step, reply: Reply) -> bool
+    fn records_start(&self, sets: &StoredSets, step: &Step, reply: Reply) -> bool
         requires there { has_set (length sets.now.sets) self.now ≡ true }
         ensures same { IsTrue result → entry_of sets.now.sets self.now ≡ (step.now, reply) }
         ensures found { entry_of sets.now.sets self.now ≡ (step.now, reply) → IsTrue result }

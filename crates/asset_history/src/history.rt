@@ -221,7 +221,7 @@ impl History {
     }
 
     /// Returns the first of the transactions of t's group, in the order in which steps first acted on them, and `None` if no step
-    /// acts on t. It takes nearly constant time, and no memory.
+    /// acts on t. It looks for the name once and goes up at most log2 of the names from there, and takes no memory.
     pub fn first_of(&self, t: Txn) -> Option<Txn>
         ensures { result ≡ first_of self.now.entries t.0 }
     {
@@ -233,8 +233,8 @@ impl History {
         }
     }
 
-    /// Returns whether a transaction of t's group has committed; if no step acts on t, it is false. It takes nearly constant time,
-    /// and no memory.
+    /// Returns whether a transaction of t's group has committed; if no step acts on t, it is false. It costs what `first_of`
+    /// does.
     pub fn group_committed(&self, t: Txn) -> bool
         ensures { result ≡ group_committed self.now.entries t.0 }
     {

@@ -52,7 +52,7 @@ pub enum ObjectsFault {
 }
 
 impl SeatedObjects {
-    ghost use Rattle.std.specs.Prelude.{◌≡◌, ℕ, ◌==◌, ◌<◌, ◌≤◌, ◌+◌, ◌*◌, Bool, true, false, cond, None, Some, is_some, is_none, length, map, IfOk, IfErr, IsOk, OnOk, OnErr};
+    ghost use Rattle.std.specs.Prelude.{◌≡◌, ℕ, ℤ, ◌==◌, ◌<◌, ◌≤◌, ◌+◌, ◌*◌, Bool, true, false, cond, None, Some, is_some, is_none, length, map, IfOk, IfErr, IsOk, OnOk, OnErr};
     ghost use Rattle.slab.specs.Slab.{slab_len};
     ghost use Rattle.asset_chains.specs.Chained.{chain_of, first_of};
     ghost use Rattle.asset_names.specs.declared.names.Txn.{Txn as Name};
@@ -68,7 +68,7 @@ impl SeatedObjects {
     ghost use Rattle.asset_objects.specs.Placed.{objects_in, IsOpened, IsTied, HasRoom};
     ghost use Rattle.asset_objects.specs.Faults.{objects_of, IsObjectsFault};
 
-    /// Returns the objects at their opening values, with no update yet.
+    /// Returns the objects at their opening values, in its order, with no update yet.
     ///
     /// It answers `DoubleObject` with the least object that is given twice; otherwise `NoMemory` if memory runs out.
     pub fn open(alloc: Global, opening: &[(Ob, i64)]) -> Result<SeatedObjects, ObjectsFault>
@@ -76,6 +76,7 @@ impl SeatedObjects {
         ensures visits { IfOk result (λ objects. objects.visits ≡ 0) }
         ensures tied { IfOk result (λ objects. (seats : Seated) → ((c : ℕ) → seat seats c ≡ None) → IsTied objects seats) }
         ensures empty { IfOk result (λ objects. (objects.reserved ≡ false) × (slab_len objects.records.items ≡ 0)) }
+        ensures order { IfOk result (λ objects. objects.objects ≡ map (λ (pair : Object × ℤ). pair.0) opening.now) }
         ensures different { OnOk result (HasNoDouble (objects_of opening.now)) }
         ensures fault { IfErr result (λ fault. IsObjectsFault opening.now fault) }
     {
@@ -85,7 +86,7 @@ impl SeatedObjects {
         }
     }
 
-    /// Returns the objects at their opening values, with no update yet, for a caller who knows that none is given
+    /// Returns the objects at their opening values, in its order, with no update yet, for a caller who knows that none is given
     /// twice. If memory runs out, it answers at once, while `open` first compares each pair of objects.
     pub fn open_distinct(alloc: Global, opening: &[(Ob, i64)]) -> Result<SeatedObjects, NoMemory>
         requires distinct { HasNoDouble (objects_of opening.now) }
@@ -93,6 +94,7 @@ impl SeatedObjects {
         ensures visits { IfOk result (λ objects. objects.visits ≡ 0) }
         ensures tied { IfOk result (λ objects. (seats : Seated) → ((c : ℕ) → seat seats c ≡ None) → IsTied objects seats) }
         ensures empty { IfOk result (λ objects. (objects.reserved ≡ false) × (slab_len objects.records.items ≡ 0)) }
+        ensures order { IfOk result (λ objects. objects.objects ≡ map (λ (pair : Object × ℤ). pair.0) opening.now) }
     {
         let Some(placed) = place_all(alloc, opening) else {
             return Err(NoMemory);
@@ -105,6 +107,7 @@ impl SeatedObjects {
         requires values { length placed.values.items ≡ length placed.objects.keys }
         requires lists { length (lists_in placed.records) ≡ length placed.objects.keys }
         ensures cells { (opening : Opening) → IsOpened opening placed.objects.keys placed.values.items (lists_in placed.records) → cells (objects_in result) ≡ opened opening }
+        ensures objects { result.objects ≡ placed.objects.keys }
         ensures records { result.records ≡ placed.records }
         ensures reserved { result.reserved ≡ false }
         ensures visits { result.visits ≡ 0 }

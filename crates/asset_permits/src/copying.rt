@@ -28,7 +28,7 @@ pub(crate) struct Cut {
     pub is_open: bool,
 }
 
-/// Appends what is copied on `x` of the permit at the key, if it has the object.
+/// Appends what is copied on `x` of the permit at the key, if it has the object. If memory runs out, nothing is appended.
 fn cut_at(permits: &Crossed<Permit>, key: usize, x: Ob, cuts: &mut Vec<Cut>) -> Result<(), NoMemory>
     ensures kept { (test : Copied → Bool) → list_any test cuts.old.items ≡ true → list_any test cuts.new.items ≡ true }
     ensures made { (test : Copied → Bool) → list_any test cuts.new.items ≡ true → (list_any test cuts.old.items ≡ true) ⊎ ((d : Descriptor) × (get permits.now.items key ≡ Some d) × (in_set d.objects x.0 ≡ true) × (test (cut_of x d) ≡ true)) }
@@ -139,7 +139,7 @@ impl SeatedPermits {
         self.add_cuts(seats, receiver, &cuts)
     }
 
-    /// Returns what is copied of the giver's permits on each of the objects.
+    /// Returns what is copied of the giver's permits on each of the objects. It fails only if memory runs out.
     fn cuts_of(&self, seats: &Seats, giver: Sitter, moved: &[Ob]) -> Result<Vec<Cut>, NoMemory>
         requires tied { IsTied self.now seats.now }
         requires giver { HasSeat seats.now giver }

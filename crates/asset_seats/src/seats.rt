@@ -153,20 +153,6 @@ impl Seats {
         c
     }
 
-    /// Returns the seat of a transaction, which is given one if it has none. It uses the memory that `reserve` reserved.
-    pub fn seat_for(&mut self, t: Txn) -> usize
-        requires room { self.old.has_room ≡ true }
-        ensures seats { (d : ℕ) → seat self.new d ≡ cond (d == result) (Some t) (seat self.old d) }
-        ensures same { is_some (seat self.old result) ≡ true → seat self.old result ≡ Some t }
-        ensures given { (is_some (seat self.old result) ≡ true) ⊎ (result ≡ self.old.vacant) }
-        ensures many { length self.new.slots ≡ length self.old.slots }
-    {
-        match self.seat_of(t) {
-            Some(c) => c,
-            None => self.sit(t),
-        }
-    }
-
     /// Takes the seat from whoever has it. It is given next, and there is room for that.
     pub fn leave(&mut self, c: usize)
         ensures seats { (d : ℕ) → seat self.new d ≡ cond (d == c) None (seat self.old d) }

@@ -1,4 +1,5 @@
-//! Steps that take effect, or are pending, while they are answered, so that rows and locks are not looked for again.
+//! Steps that take effect, or are pending, while they are answered, so that rows and locks are not looked for again. Each answers
+//! `NoMemory` if the step would take effect and memory runs out, and the tables then show what they did before.
 
 ghost use Rattle.std.specs.Prelude.{◌≡◌, true, is_some, IfOk, OnErr};
 ghost use Rattle.asset_names.specs.declared.steps.Step.{Step};

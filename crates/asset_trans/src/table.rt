@@ -46,7 +46,7 @@ impl Model for Trans {
     ghost invariant = { λ trans. IsValid trans.rows.entries trans.live trans.owed trans.committed trans.aborted };
 }
 
-/// Adds a transaction that has no row, as Initiated.
+/// Adds a transaction that has no row, as Initiated. If memory runs out, nothing changes.
 fn add_row(
     rows: &mut IndexMap<Txn, TransRow>,
     t: Txn,
