@@ -7,7 +7,7 @@ use Rattle.std.proofs.lemmas.Bool.{cases_eq, false≢true, and_parts, and_from, 
 use Rattle.std.proofs.lemmas.List.{length-map, length-append, map-set}
 use Rattle.std.proofs.Math.ListN.{get_or-map}
 use Rattle.slab.specs.Slab.{Slab, get, slab_len, with_value, Updates, HasRoomFor}
-use Rattle.asset_chains.specs.Chained.{Chained, chain_of, home_of, pushed, unlinked, one_chain_more, IsSound}
+use Rattle.asset_chains.specs.Chained.{Chained, chain_of, home_of, pushed, unlinked, one_chain_more, IsConsistent}
 use Rattle.asset_chains.specs.declared.links.Link.{Link}
 use Rattle.asset_chains.specs.declared.heads.Head.{Head}
 use Rattle.asset_chains.specs.declared.side.Side.{Side}
@@ -46,7 +46,7 @@ joins_from c k old mid new same chain key is =
     }
 
 -- a key leaves, and then the same shows
-pub leaves_from : (c k : ℕ) (old mid new : Chained) → IsSound old → home_of old k ≡ Some c → mid ≡ unlinked k old → SameLine mid new → Leaves k old new
+pub leaves_from : (c k : ℕ) (old mid new : Chained) → IsConsistent old → home_of old k ≡ Some c → mid ≡ unlinked k old → SameLine mid new → Leaves k old new
 leaves_from c k old mid new sound home is same =
     let change = unlinks c k old mid home is in
     record {
@@ -57,7 +57,7 @@ leaves_from c k old mid new sound home is same =
     }
 
 -- a key that moved has a home, as each other key had
-moved_homes : (key c : ℕ) (was now : Chained) → IsSound was → (d : ℕ) → home_of was key ≡ Some d → c < length was.chains → now ≡ pushed c key (unlinked key was)
+moved_homes : (key c : ℕ) (was now : Chained) → IsConsistent was → (d : ℕ) → home_of was key ≡ Some d → c < length was.chains → now ≡ pushed c key (unlinked key was)
     → (k : ℕ) → is_some (home_of was k) ≡ true → is_some (home_of now k) ≡ true
 moved_homes key c was now sound d home chain is k some =
     let away = unlinks d key was (unlinked key was) home refl in

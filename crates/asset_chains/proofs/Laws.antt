@@ -3,7 +3,7 @@ use Rattle.std.proofs.Common.{◌≡◌, ℕ, ◌+◌, ◌<◌, ◌≤◌, true,
 use Rattle.std.proofs.lemmas.Bool.{false≢true, cases_lt}
 use Rattle.std.proofs.lemmas.List.{length-set, get_or-set_same, get_or-set_other, get_or_past, length-append}
 use Rattle.std.proofs.lemmas.Map.Steps.{length-le_from_distinct_below}
-use Rattle.asset_chains.specs.Chained.{Chained, chain_of, home_of, first_of, last_of, behind, ahead, without, lists, pushed, unlinked, unlinked_from, one_key_more, one_chain_more, IsSound}
+use Rattle.asset_chains.specs.Chained.{Chained, chain_of, home_of, first_of, last_of, behind, ahead, without, lists, pushed, unlinked, unlinked_from, one_key_more, one_chain_more, IsConsistent}
 use Rattle.asset_chains.proofs.KeyLemmas.{split_at_key, without_key, last_listed, last_behind, first_listed, first_ahead}
 
 -- ---- what a push changes
@@ -134,25 +134,25 @@ chain_within c k table there =
     ]
 
 -- a key with a home is one of the keys, and its home is one of the chains
-pub home_within : (k c : ℕ) (table : Chained) → IsSound table → home_of table k ≡ Some c → (k < length table.homes) × (c < length table.chains)
+pub home_within : (k c : ℕ) (table : Chained) → IsConsistent table → home_of table k ≡ Some c → (k < length table.homes) × (c < length table.chains)
 home_within k c table sound home = (key_within k c table home, chain_within c k table (sound.listed c k home))
 
 -- a chain is no longer than the keys
-pub chain_bound : (c : ℕ) (table : Chained) → IsSound table → length (chain_of table c) ≤ length table.homes
+pub chain_bound : (c : ℕ) (table : Chained) → IsConsistent table → length (chain_of table c) ≤ length table.homes
 chain_bound c table sound =
     length-le_from_distinct_below (chain_of table c) (length table.homes) (sound.once c) (λ k there. key_within k c table (sound.at_home c k there))
 
 -- ---- what a chain is around its keys
 -- a listed key cuts its chain in two
-pub chain_at_key : (k c : ℕ) (table : Chained) → IsSound table → home_of table k ≡ Some c → chain_of table c ≡ ahead k (chain_of table c) ++ k ∷ behind k (chain_of table c)
+pub chain_at_key : (k c : ℕ) (table : Chained) → IsConsistent table → home_of table k ≡ Some c → chain_of table c ≡ ahead k (chain_of table c) ++ k ∷ behind k (chain_of table c)
 chain_at_key k c table sound home = split_at_key k (chain_of table c) (sound.listed c k home)
 
 -- without the key the two parts are left
-pub chain_without_key : (k c : ℕ) (table : Chained) → IsSound table → home_of table k ≡ Some c → without k (chain_of table c) ≡ ahead k (chain_of table c) ++ behind k (chain_of table c)
+pub chain_without_key : (k c : ℕ) (table : Chained) → IsConsistent table → home_of table k ≡ Some c → without k (chain_of table c) ≡ ahead k (chain_of table c) ++ behind k (chain_of table c)
 chain_without_key k c table sound home = without_key k (chain_of table c) (sound.once c) (sound.listed c k home)
 
 -- the last key of a chain is at home there, and the others stand ahead of it
-pub chain_at_last : (k c : ℕ) (table : Chained) → IsSound table → last_of (chain_of table c) ≡ Some k
+pub chain_at_last : (k c : ℕ) (table : Chained) → IsConsistent table → last_of (chain_of table c) ≡ Some k
     → (home_of table k ≡ Some c) × (behind k (chain_of table c) ≡ []) × (chain_of table c ≡ ahead k (chain_of table c) ++ k ∷ [])
 chain_at_last k c table sound last =
     let there = last_listed k (chain_of table c) last in
@@ -160,7 +160,7 @@ chain_at_last k c table sound last =
     (sound.at_home c k there, none, split_at_key k (chain_of table c) there ∙ ap (λ (rest : List ℕ). ahead k (chain_of table c) ++ k ∷ rest) none)
 
 -- the first key of a chain is at home there, and the others stand behind it
-pub chain_at_first : (k c : ℕ) (table : Chained) → IsSound table → first_of (chain_of table c) ≡ Some k
+pub chain_at_first : (k c : ℕ) (table : Chained) → IsConsistent table → first_of (chain_of table c) ≡ Some k
     → (home_of table k ≡ Some c) × (ahead k (chain_of table c) ≡ []) × (chain_of table c ≡ k ∷ behind k (chain_of table c))
 chain_at_first k c table sound first =
     let there = first_listed k (chain_of table c) first in

@@ -17,7 +17,7 @@ use Rattle.asset_chains.specs.Slots.{side_link, link_in, links_of, values_of, cr
 use Rattle.asset_chains.proofs.RowLemmas.{decoded_first, decoded_last}
 use Rattle.std.proofs.lemmas.Map.Steps.{length-le_from_distinct_below}
 use Rattle.std.specs.Prelude.{unwrap_or}
-use Rattle.asset_chains.specs.Chained.{pushed, IsSound}
+use Rattle.asset_chains.specs.Chained.{pushed, IsConsistent}
 use Rattle.asset_chains.proofs.KeyLemmas.{last_listed, split_at_key, lists-append}
 use Rattle.std.proofs.lemmas.Bool.{or_left, or_right, eq-eqb}
 use Rattle.std.proofs.Common.{eqb, ◌∷◌}
@@ -228,7 +228,7 @@ module _ {T : Type 0} where
 
   pub is_crossed : (slots : Slab (Slot T)) (rows columns : List Head) → AreCrossed slots rows columns → IsCrossed (crossed slots rows columns)
   is_crossed slots rows columns are = record { sound = sound; placed = placed } where
-    sound : (side : Side) → IsSound (lines side (crossed slots rows columns))
+    sound : (side : Side) → IsConsistent (lines side (crossed slots rows columns))
     sound Row = are.by_row.stored.sound
     sound Column = are.by_column.stored.sound
 

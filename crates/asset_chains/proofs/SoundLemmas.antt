@@ -4,19 +4,19 @@ use Rattle.std.specs.List.{IsDistinct}
 use Rattle.std.specs.Cmp.{nat_eq_equiv}
 use Rattle.std.proofs.lemmas.Bool.{or_cases, or_left, or_right, eqb-true, eq-eqb, false≢true, false_from_ne_true, both_ways, cases_eq}
 use Rattle.std.proofs.lemmas.Map.Keys.{IsDistinct-push}
-use Rattle.asset_chains.specs.Chained.{Chained, chain_of, home_of, without, lists, pushed, unlinked, IsSound}
+use Rattle.asset_chains.specs.Chained.{Chained, chain_of, home_of, without, lists, pushed, unlinked, IsConsistent}
 use Rattle.asset_chains.proofs.KeyLemmas.{lists-append, lists-without_same, lists-without_other, distinct-without, distinct_none}
 use Rattle.asset_chains.proofs.Laws.{IsPushed, IsUnlinked, is_pushed, is_unlinked}
 
 -- a key that has no home is listed nowhere
-pub unlisted : (table : Chained) → IsSound table → (k d : ℕ) → home_of table k ≡ None → lists (chain_of table d) k ≡ false
+pub unlisted : (table : Chained) → IsConsistent table → (k d : ℕ) → home_of table k ≡ None → lists (chain_of table d) k ≡ false
 unlisted table sound k d free =
     false_from_ne_true (lists (chain_of table d) k) (λ there.
     let home = sound.at_home d k there in
     absurd (cc))
 
 -- a key at home in one chain is listed in no other
-pub listed_once : (table : Chained) → IsSound table → (k c d : ℕ) → home_of table k ≡ Some c → (d ≡ c → ⊥) → lists (chain_of table d) k ≡ false
+pub listed_once : (table : Chained) → IsConsistent table → (k c d : ℕ) → home_of table k ≡ Some c → (d ≡ c → ⊥) → lists (chain_of table d) k ≡ false
 listed_once table sound k c d home apart =
     false_from_ne_true (lists (chain_of table d) k) (λ there.
     let other = sound.at_home d k there in
@@ -36,7 +36,7 @@ some_apart c d apart same =
     apart is
 
 -- ---- after a push
-pushed_at_home : (c k : ℕ) (old new : Chained) → IsSound old → home_of old k ≡ None → IsPushed c k old new → (d j : ℕ) → lists (chain_of new d) j ≡ true → home_of new j ≡ Some d
+pushed_at_home : (c k : ℕ) (old new : Chained) → IsConsistent old → home_of old k ≡ None → IsPushed c k old new → (d j : ℕ) → lists (chain_of new d) j ≡ true → home_of new j ≡ Some d
 pushed_at_home c k old new sound free change d j there =
     elim (cases_eq d c) [
       | inl same ↦
@@ -55,7 +55,7 @@ pushed_at_home c k old new sound free change d j there =
           change.homes j (homes_apart old j k (Some d) None home free (some_none d)) ∙ home
     ]
 
-pushed_once : (c k : ℕ) (old new : Chained) → IsSound old → home_of old k ≡ None → IsPushed c k old new → (d : ℕ) → IsDistinct eqb (chain_of new d)
+pushed_once : (c k : ℕ) (old new : Chained) → IsConsistent old → home_of old k ≡ None → IsPushed c k old new → (d : ℕ) → IsDistinct eqb (chain_of new d)
 pushed_once c k old new sound free change d =
     elim (cases_eq d c) [
       | inl same ↦
@@ -64,7 +64,7 @@ pushed_once c k old new sound free change d =
       | inr apart ↦ subst (λ (keys : List ℕ). IsDistinct eqb keys) (sym (change.chains d apart)) (sound.once d)
     ]
 
-pushed_listed : (c k : ℕ) (old new : Chained) → IsSound old → IsPushed c k old new → (d j : ℕ) → home_of new j ≡ Some d → lists (chain_of new d) j ≡ true
+pushed_listed : (c k : ℕ) (old new : Chained) → IsConsistent old → IsPushed c k old new → (d j : ℕ) → home_of new j ≡ Some d → lists (chain_of new d) j ≡ true
 pushed_listed c k old new sound change d j home =
     elim (cases_eq j k) [
       | inl is ↦
@@ -83,7 +83,7 @@ pushed_listed c k old new sound change d j home =
           ]
     ]
 
-pub sound_pushed : (c k : ℕ) (table : Chained) → IsSound table → c < length table.chains → k < length table.homes → home_of table k ≡ None → IsSound (pushed c k table)
+pub sound_pushed : (c k : ℕ) (table : Chained) → IsConsistent table → c < length table.chains → k < length table.homes → home_of table k ≡ None → IsConsistent (pushed c k table)
 sound_pushed c k table sound chain key free =
     let change = is_pushed c k table chain key in
     record {
@@ -93,7 +93,7 @@ sound_pushed c k table sound chain key free =
     }
 
 -- ---- after an unlinking
-unlinked_at_home : (c k : ℕ) (old new : Chained) → IsSound old → home_of old k ≡ Some c → IsUnlinked c k old new → (d j : ℕ) → lists (chain_of new d) j ≡ true → home_of new j ≡ Some d
+unlinked_at_home : (c k : ℕ) (old new : Chained) → IsConsistent old → home_of old k ≡ Some c → IsUnlinked c k old new → (d j : ℕ) → lists (chain_of new d) j ≡ true → home_of new j ≡ Some d
 unlinked_at_home c k old new sound at change d j there =
     elim (cases_eq d c) [
       | inl same ↦
@@ -105,14 +105,14 @@ unlinked_at_home c k old new sound at change d j there =
           change.homes j (homes_apart old j k (Some d) (Some c) home at (some_apart d c apart)) ∙ home
     ]
 
-unlinked_once : (c k : ℕ) (old new : Chained) → IsSound old → IsUnlinked c k old new → (d : ℕ) → IsDistinct eqb (chain_of new d)
+unlinked_once : (c k : ℕ) (old new : Chained) → IsConsistent old → IsUnlinked c k old new → (d : ℕ) → IsDistinct eqb (chain_of new d)
 unlinked_once c k old new sound change d =
     elim (cases_eq d c) [
       | inl same ↦ subst (λ (keys : List ℕ). IsDistinct eqb keys) (sym (ap (chain_of new) same ∙ change.chain)) (distinct-without k (chain_of old c) (sound.once c))
       | inr apart ↦ subst (λ (keys : List ℕ). IsDistinct eqb keys) (sym (change.chains d apart)) (sound.once d)
     ]
 
-unlinked_listed : (c k : ℕ) (old new : Chained) → IsSound old → IsUnlinked c k old new → (d j : ℕ) → home_of new j ≡ Some d → lists (chain_of new d) j ≡ true
+unlinked_listed : (c k : ℕ) (old new : Chained) → IsConsistent old → IsUnlinked c k old new → (d j : ℕ) → home_of new j ≡ Some d → lists (chain_of new d) j ≡ true
 unlinked_listed c k old new sound change d j home =
     let other = homes_apart new j k (Some d) None home change.home (some_none d) in
     let there = sound.listed d j (sym (change.homes j other) ∙ home) in
@@ -122,7 +122,7 @@ unlinked_listed c k old new sound change d j home =
       | inr apart ↦ ap (λ (keys : List ℕ). lists keys j) (change.chains d apart) ∙ there
     ]
 
-pub sound_unlinked : (c k : ℕ) (table : Chained) → IsSound table → home_of table k ≡ Some c → IsSound (unlinked k table)
+pub sound_unlinked : (c k : ℕ) (table : Chained) → IsConsistent table → home_of table k ≡ Some c → IsConsistent (unlinked k table)
 sound_unlinked c k table sound at =
     let change = is_unlinked c k table at in
     record {
@@ -132,7 +132,7 @@ sound_unlinked c k table sound at =
     }
 
 -- ---- chains that show the same
-pub sound_same : (old new : Chained) → ((c : ℕ) → chain_of new c ≡ chain_of old c) → ((k : ℕ) → home_of new k ≡ home_of old k) → IsSound old → IsSound new
+pub sound_same : (old new : Chained) → ((c : ℕ) → chain_of new c ≡ chain_of old c) → ((k : ℕ) → home_of new k ≡ home_of old k) → IsConsistent old → IsConsistent new
 sound_same old new chains homes sound = record {
   at_home = λ c k there. homes k ∙ sound.at_home c k (sym (ap (λ (keys : List ℕ). lists keys k) (chains c)) ∙ there);
   once = λ c. subst (λ (keys : List ℕ). IsDistinct eqb keys) (sym (chains c)) (sound.once c);
@@ -148,7 +148,7 @@ pub no_home_of : (table : Chained) → table.homes ≡ [] → (k : ℕ) → home
 unfolding home_of
 no_home_of table none k = ap (λ (l : List (Option ℕ)). get_or l k None) none
 
-pub sound_nothing : (table : Chained) → table.chains ≡ [] → table.homes ≡ [] → IsSound table
+pub sound_nothing : (table : Chained) → table.chains ≡ [] → table.homes ≡ [] → IsConsistent table
 sound_nothing table chains homes =
     let no_chain = no_chain_of table chains in
     let no_home = no_home_of table homes in

@@ -3,7 +3,7 @@ use Rattle.std.proofs.Common.{◌≡◌, ℕ, Bool, true, false, eqb, List, [], 
 use Rattle.std.specs.Prelude.{find, cond, slice_index_or}
 use Rattle.std.specs.List.{list_any, IsDistinct}
 use Rattle.std.proofs.lemmas.Bool.{or_cases, or_left, or_right, or_from, eqb-true, eqb-false, eq-eqb, ne_eqb, false≢true, both_ways, cases_Bool, cases_eq}
-use Rattle.asset_chains.specs.Chained.{Chained, chain_of, home_of, first_of, behind, lists, without, unlinked, IsSound}
+use Rattle.asset_chains.specs.Chained.{Chained, chain_of, home_of, first_of, behind, lists, without, unlinked, IsConsistent}
 use Rattle.asset_chains.proofs.KeyLemmas.{distinct_head, distinct_tail, distinct_none, distinct_cons, first_listed, without_unlisted}
 use Rattle.asset_chains.proofs.Laws.{unlinks}
 use Rattle.asset_chains.proofs.SoundLemmas.{listed_once}
@@ -56,7 +56,7 @@ behind_listed k (y ∷ ys) j h = elim (cases_Bool (eqb k y)) [
 ]
 
 -- the key that comes next is in the chain
-pub next_home : (table : Chained) (k j c : ℕ) → IsSound table → home_of table k ≡ Some c → first_of (behind k (chain_of table c)) ≡ Some j → home_of table j ≡ Some c
+pub next_home : (table : Chained) (k j c : ℕ) → IsConsistent table → home_of table k ≡ Some c → first_of (behind k (chain_of table c)) ≡ Some j → home_of table j ≡ Some c
 next_home table k j c sound home next = sound.at_home c j (behind_listed k (chain_of table c) j (first_listed j (behind k (chain_of table c)) next))
 
 -- what holds of each key that was passed holds of one more
@@ -145,7 +145,7 @@ distinct_map f (k ∷ keys) distinct apart =
 -- ---- keys without one
 
 -- every chain is without the key that was unlinked
-pub chains_without : (table new : Chained) (k c : ℕ) → IsSound table → home_of table k ≡ Some c → new ≡ unlinked k table → (d : ℕ) → chain_of new d ≡ without k (chain_of table d)
+pub chains_without : (table new : Chained) (k c : ℕ) → IsConsistent table → home_of table k ≡ Some c → new ≡ unlinked k table → (d : ℕ) → chain_of new d ≡ without k (chain_of table d)
 chains_without table new k c sound home is d =
     let change = unlinks c k table new home is in
     elim (cases_eq d c) [

@@ -74,7 +74,7 @@ unfoldable pub one_chain_more : Chained → Chained
 one_chain_more table = record table { chains = table.chains ++ [] ∷ [] }
 
 -- each chain lists exactly the keys whose home it is, each of them once
-pub record IsSound (table : Chained) : Type 0 where
+pub record IsConsistent (table : Chained) : Type 0 where
   -- a key that is listed in a chain has it as its home
   pub at_home : (c k : ℕ) → lists (chain_of table c) k ≡ true → home_of table k ≡ Some c
   -- no key stands twice in a chain

@@ -2,7 +2,7 @@
 use Rattle.std.specs.Prelude.{◌≡◌, ◌≢◌, ℕ, ◌&&◌, ◌+◌, ◌≤◌, Bool, not, cond, filter, nat_lt, List, [], ◌∷◌, ◌++◌, length, Option, Some, None, is_some, refl}
 use Rattle.std.specs.Coded.{Coded, code_by, coded×, coded_ℕ, coded_list, coded_option}
 use Rattle.slab.specs.Slab.{Slab, get, slab_len, slab_code}
-use Rattle.asset_chains.specs.Chained.{Chained, chain_of, home_of, without, lists, IsSound}
+use Rattle.asset_chains.specs.Chained.{Chained, chain_of, home_of, without, lists, IsConsistent}
 use Rattle.asset_chains.specs.declared.side.Side.{Side}
 use Rattle.asset_chains.specs.declared.side.Side.TheVariants.{Row, Column}
 
@@ -83,5 +83,5 @@ pub record IsGrown {T : Type 0} (old new : Crossed T) : Type 0 where
 
 -- each row and each column lists exactly the items whose home it is, each once; and each item has both homes
 pub record IsCrossed {T : Type 0} (table : Crossed T) : Type 0 where
-  pub sound : (side : Side) → IsSound (lines side table)
+  pub sound : (side : Side) → IsConsistent (lines side table)
   pub placed : (side : Side) (k : ℕ) → is_some (home_of (lines side table) k) ≡ is_some (get table.items k)

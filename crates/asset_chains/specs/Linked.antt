@@ -3,7 +3,7 @@
 use Rattle.std.specs.Prelude.{◌≡◌, ℕ, ◌==◌, ◌<◌, ◌^◌, suc, zero, if◌then◌else◌, List, [], ◌∷◌, Option, None, Some, length, map, slice_index_or}
 use Rattle.asset_chains.specs.declared.links.Link.{Link}
 use Rattle.asset_chains.specs.declared.heads.Head.{Head}
-use Rattle.asset_chains.specs.Chained.{Chained, chain_of, home_of, IsSound}
+use Rattle.asset_chains.specs.Chained.{Chained, chain_of, home_of, IsConsistent}
 
 -- what a stored number stands for
 abbrev pub decoded : ℕ → Option ℕ
@@ -68,7 +68,7 @@ seen links heads = record {
 
 -- the links and heads are those of these chains
 pub record Stores (links : List Link) (heads : List Head) (table : Chained) : Type 0 where
-  pub sound : IsSound table
+  pub sound : IsConsistent table
   -- there are as many keys and chains
   pub keys : length table.homes ≡ length links
   pub chains : length table.chains ≡ length heads

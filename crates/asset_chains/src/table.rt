@@ -37,7 +37,7 @@ impl Model for Chains {
 
 impl Chains {
     ghost use Rattle.std.specs.Prelude.{◌≡◌, ℕ, ◌<◌, ◌^◌, [], length, None, Some, OnOk, OnErr};
-    ghost use Rattle.asset_chains.specs.Chained.{chain_of, home_of, first_of, last_of, behind, ahead, pushed, unlinked, one_key_more, one_chain_more, IsSound};
+    ghost use Rattle.asset_chains.specs.Chained.{chain_of, home_of, first_of, last_of, behind, ahead, pushed, unlinked, one_key_more, one_chain_more, IsConsistent};
 
     /// Returns no chains and no keys. It does not allocate.
     pub fn new(alloc: Global) -> Chains
@@ -194,7 +194,7 @@ impl Chains {
 
     /// Says what holds of all chains, for proofs. It does nothing.
     pub fn laws(&self)
-        ensures sound { IsSound self.now }
+        ensures sound { IsConsistent self.now }
         ensures few { length self.now.homes < 2 ^ 32 }
         ensures few_chains { length self.now.chains < 2 ^ 32 }
     {

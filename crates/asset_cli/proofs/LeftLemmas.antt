@@ -21,7 +21,7 @@ use Rattle.asset_scripts.specs.declared.prints.Prints.{Prints}
 use Rattle.asset_cli.specs.Again.{FitThroughout}
 use Rattle.asset_cli.proofs.WritableLemmas.{EntriesWritable, OpeningWritable, opening_push}
 
-pub record IsSound (h : Recorded) : Type 0 where
+pub record IsConsistent (h : Recorded) : Type 0 where
   pub written : OpeningWritable h.opening
   pub different : HasNoDouble (objects_of h.opening)
   pub writable : EntriesWritable h.entries
@@ -29,10 +29,10 @@ pub record IsSound (h : Recorded) : Type 0 where
   pub fit : FitThroughout h.entries h.capacity
 
 -- a step that a line asks leaves it so
-joined_sound : (h : Recorded) (step : Step) → IsSound h → IsWritable step → IsSound (joined_by h step (answer_to h step))
+joined_sound : (h : Recorded) (step : Step) → IsConsistent h → IsWritable step → IsConsistent (joined_by h step (answer_to h step))
 unfolding joined_by after answer_to has_room with_entry IsLegal FitThroughout
 joined_sound h step sound says = go (answer_to h step) refl (has_room h step (answer_to h step)) refl where
-  go : (outcome : Outcome) → answer_to h step ≡ outcome → (room : Bool) → has_room h step outcome ≡ room → IsSound (cond room (after h step outcome) h)
+  go : (outcome : Outcome) → answer_to h step ≡ outcome → (room : Bool) → has_room h step outcome ≡ room → IsConsistent (cond room (after h step outcome) h)
   go outcome e false r = sound
   go Wait e true r = sound
   go (Answer reply) e true r = record {
@@ -43,45 +43,45 @@ joined_sound h step sound says = go (answer_to h step) refl (has_room h step (an
     fit = (r, sound.fit);
   }
 
-steps_sound : (prints : Prints) (ls : List (List ℕ)) (n : ℕ) (h : Recorded) → IsSound h → IsSound (steps_transcript prints ls n h).history
+steps_sound : (prints : Prints) (ls : List (List ℕ)) (n : ℕ) (h : Recorded) → IsConsistent h → IsConsistent (steps_transcript prints ls n h).history
 unfolding steps_transcript finished step_line with_prefix stopped
 steps_sound prints [] n h sound = finished_sound where
-  finished_sound : IsSound (finished h).history
+  finished_sound : IsConsistent (finished h).history
   finished_sound = sound
 steps_sound prints (line ∷ more) n h sound = go (line_of line) refl (λ later later_sound. steps_sound prints more (n + 1) later later_sound) where
-  go : (said : Line) → line_of line ≡ said → ((later : Recorded) → IsSound later → IsSound (steps_transcript prints more (n + 1) later).history)
-      → IsSound (step_line prints said n h (λ later. steps_transcript prints more (n + 1) later)).history
+  go : (said : Line) → line_of line ≡ said → ((later : Recorded) → IsConsistent later → IsConsistent (steps_transcript prints more (n + 1) later).history)
+      → IsConsistent (step_line prints said n h (λ later. steps_transcript prints more (n + 1) later)).history
   go Blank e later = later h sound
   go (Command (Ask step)) e later = later _ (joined_sound h step sound (asked_writable line step e))
   go (Command (Object given)) e later = sound
   go Bad e later = sound
 
-opened_sound : (opening : Opening) (capacity : ℕ) → OpeningWritable opening → HasNoDouble (objects_of opening) → IsSound (opened opening capacity)
+opened_sound : (opening : Opening) (capacity : ℕ) → OpeningWritable opening → HasNoDouble (objects_of opening) → IsConsistent (opened opening capacity)
 unfolding opened IsLegal FitThroughout
 opened_sound opening capacity written different = record { written = written; different = different; writable = tt; legal = tt; fit = tt }
 
-objects_sound : (prints : Prints) (ls : List (List ℕ)) (n : ℕ) (opening : Opening) (capacity : ℕ) → OpeningWritable opening → HasNoDouble (objects_of opening) → IsSound (objects_transcript prints ls n opening capacity).history
+objects_sound : (prints : Prints) (ls : List (List ℕ)) (n : ℕ) (opening : Opening) (capacity : ℕ) → OpeningWritable opening → HasNoDouble (objects_of opening) → IsConsistent (objects_transcript prints ls n opening capacity).history
 unfolding objects_transcript finished object_line stopped
 objects_sound prints [] n opening capacity written different = finished_sound where
-  finished_sound : IsSound (finished (opened opening capacity)).history
+  finished_sound : IsConsistent (finished (opened opening capacity)).history
   finished_sound = opened_sound opening capacity written different
 objects_sound prints (line ∷ more) n opening capacity written different =
     go (line_of line) refl (λ later w d. objects_sound prints more (n + 1) later capacity w d) where
-      sound : IsSound (opened opening capacity)
+      sound : IsConsistent (opened opening capacity)
       sound = opened_sound opening capacity written different
 
-      go : (said : Line) → line_of line ≡ said → ((later : Opening) → OpeningWritable later → HasNoDouble (objects_of later) → IsSound (objects_transcript prints more (n + 1) later capacity).history)
-          → IsSound (object_line said opening (λ later. objects_transcript prints more (n + 1) later capacity) (steps_transcript prints (line ∷ more) n (opened opening capacity)) (stopped n (opened opening capacity))).history
+      go : (said : Line) → line_of line ≡ said → ((later : Opening) → OpeningWritable later → HasNoDouble (objects_of later) → IsConsistent (objects_transcript prints more (n + 1) later capacity).history)
+          → IsConsistent (object_line said opening (λ later. objects_transcript prints more (n + 1) later capacity) (steps_transcript prints (line ∷ more) n (opened opening capacity)) (stopped n (opened opening capacity))).history
       go Blank e later = later opening written different
       go (Command (Ask step)) e later = steps_sound prints (line ∷ more) n (opened opening capacity) sound
       go Bad e later = sound
       go (Command (Object given)) e later = choose (exists opening given.0.0) refl where
         choose : (there : Bool) → exists opening given.0.0 ≡ there
-            → IsSound (cond there (stopped n (opened opening capacity)) (objects_transcript prints more (n + 1) (opening ++ given ∷ []) capacity)).history
+            → IsConsistent (cond there (stopped n (opened opening capacity)) (objects_transcript prints more (n + 1) (opening ++ given ∷ []) capacity)).history
         choose true h = sound
         choose false h = later (opening ++ given ∷ []) (opening_push opening given written (object_writable line given e)) (no_double_more opening given h different)
 
 -- the history that a script leaves is sound
-pub left_sound : (prints : Prints) (bytes : List ℕ) (capacity : ℕ) → IsSound (transcript prints bytes capacity).history
+pub left_sound : (prints : Prints) (bytes : List ℕ) (capacity : ℕ) → IsConsistent (transcript prints bytes capacity).history
 unfolding transcript HasNoDouble twice
 left_sound prints bytes capacity = objects_sound prints (lines bytes) 1 [] capacity tt (λ m. refl)

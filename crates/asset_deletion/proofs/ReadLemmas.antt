@@ -7,7 +7,7 @@ use Rattle.asset_names.specs.Answers.{IsLegal}
 use Rattle.asset_names.specs.Steps.{Opening, Entry}
 use Rattle.asset_names.specs.Groups.{same_group, dead}
 use Rattle.asset_names.proofs.ListLemmas.{listed_at}
-use Rattle.asset_name_groups.specs.NamesInGroups.{NamesInGroups, flag_at, IsSound}
+use Rattle.asset_name_groups.specs.NamesInGroups.{NamesInGroups, flag_at, IsConsistent}
 use Rattle.asset_history.specs.Kept.{AreLabels}
 use Rattle.asset_history.proofs.DeadLemmas.{dead_is}
 use Rattle.asset_deletion.specs.Named.{Means}
@@ -16,7 +16,7 @@ use Rattle.asset_deletion.specs.Grouping.{Grouping, grouping_of}
 use Rattle.asset_deletion.proofs.NumberLemmas.{counted, passed, before_more, number_at, numbers_long}
 use Rattle.asset_deletion.proofs.GroupingLemmas.{labels_exist, grouping_is}
 
-module _ (kept : NamesInGroups) (sound : IsSound kept) (node : ℕ) (within : node < length kept.names) where
+module _ (kept : NamesInGroups) (sound : IsConsistent kept) (node : ℕ) (within : node < length kept.names) where
   next : node + 1 ≡ suc node
   next = omega arith
 
@@ -60,7 +60,7 @@ module _ (kept : NamesInGroups) (sound : IsSound kept) (node : ℕ) (within : no
         absurd (omega (arith, less, sound.different at.0 node (omega (arith, less, within)) within (sym (get_or-take node kept.names at.0 0 less) ∙ at.2)))
 
 -- all names with their numbers are the grouping
-pub read_is : (opening : Opening) (entries : List Entry) (kept : NamesInGroups) (names numbers : List ℕ) (is_dead : List Bool) → IsLegal opening entries → IsSound kept → AreLabels entries kept
+pub read_is : (opening : Opening) (entries : List Entry) (kept : NamesInGroups) (names numbers : List ℕ) (is_dead : List Bool) → IsLegal opening entries → IsConsistent kept → AreLabels entries kept
     → names ≡ kept.names → AreNumbered kept numbers (length kept.names) → AreCounted kept is_dead (length kept.names)
     → (let g : Grouping = record { names = names; numbers = numbers; count = length is_dead; dead = map (λ g. get_or is_dead g false) numbers } in g ≡ grouping_of entries)
 unfolding group_count
@@ -84,7 +84,7 @@ read_is opening entries kept names numbers is_dead legal sound labels names_are 
     ap (λ n. get_or is_dead n false) (numbered.each k inside) ∙ counted_all.dead k inside ∙ alive ∙ ap (λ l. dead entries (get_or l k 0)) (sym names_are))
 
 -- each number is below the count
-pub read_below : (kept : NamesInGroups) (names numbers : List ℕ) (is_dead : List Bool) → IsSound kept → names ≡ kept.names → AreNumbered kept numbers (length kept.names) → AreCounted kept is_dead (length kept.names)
+pub read_below : (kept : NamesInGroups) (names numbers : List ℕ) (is_dead : List Bool) → IsConsistent kept → names ≡ kept.names → AreNumbered kept numbers (length kept.names) → AreCounted kept is_dead (length kept.names)
     → (length numbers ≡ length names) × ((k : ℕ) → k < length names → get_or numbers k 0 < length is_dead)
 read_below kept names numbers is_dead sound names_are numbered counted_all = (
   numbered.long ∙ sym (ap length names_are),

@@ -1,7 +1,7 @@
 //! Reads the groups of a history from the labels that it keeps.
 
 ghost use Rattle.std.specs.Prelude.{◌≡◌, ◌+◌, ◌<◌, [], length, take, OnOk, IfOk};
-ghost use Rattle.asset_name_groups.specs.NamesInGroups.{IsSound};
+ghost use Rattle.asset_name_groups.specs.NamesInGroups.{IsConsistent};
 ghost use Rattle.asset_deletion.specs.Numbered.{number_of, AreCounted, AreNumbered};
 
 use asset_name_groups::NameGroups;
@@ -69,7 +69,7 @@ pub(crate) fn read_names(
     ensures names { OnOk result (names.new.keys ≡ kept.now.names) }
     ensures numbered { OnOk result (AreNumbered kept.now numbers.new.items (length kept.now.names)) }
     ensures counted { OnOk result (AreCounted kept.now is_dead.new.items (length kept.now.names)) }
-    ensures sound { IsSound kept.now }
+    ensures sound { IsConsistent kept.now }
 {
     kept.laws();
     'names: for node in 0..kept.len() {

@@ -7,7 +7,7 @@ use Rattle.asset_names.specs.declared.names.Txn.{Txn}
 use Rattle.asset_names.specs.Arrows.{linked, has_arrow}
 use Rattle.asset_names.proofs.Arrows.{linked_refl}
 use Rattle.asset_names.proofs.Common.{some_of, both_follow}
-use Rattle.asset_chains.specs.Chained.{chain_of, first_of, IsSound}
+use Rattle.asset_chains.specs.Chained.{chain_of, first_of, IsConsistent}
 use Rattle.asset_chains.proofs.KeyLemmas.{first_listed, first_is_some}
 use Rattle.asset_seats.specs.Seated.{seat}
 use Rattle.asset_marks.specs.Marked.{Met}
@@ -74,7 +74,7 @@ module _ (p : Parts) (size : ℕ) (marked : Met) (valid : IsValid p size marked)
   no_source_alone none = no_outside_alone p size marked valid t (λ n. class_alone (dependencies_of p.links) t.0 n none) (λ u v on is. (unjoined Order (dependencies_of p.links) t.0 u v none on).1 is)
 
   -- one that has a seat is linked exactly if its row or its column has an item
-  module _ (s : ℕ) (sat : seat p.seats s ≡ Some t) (one : (d : ℕ) → seat p.seats d ≡ Some t → d ≡ s) (rows : IsSound p.along) (columns : IsSound p.across) where
+  module _ (s : ℕ) (sat : seat p.seats s ≡ Some t) (one : (d : ℕ) → seat p.seats d ≡ Some t → d ≡ s) (rows : IsConsistent p.along) (columns : IsConsistent p.across) where
     abbrev touches : Dependency → Bool
     touches d = eqb d.source t.0 || eqb d.dependent t.0
 

@@ -43,7 +43,7 @@ pub record IsStretch (objects : List Ob) (s : Stretch) : Type 0 where
   pub rising : IsStrictlyIncreasing (numbers (stretch_of objects s))
 
 -- each set is a stretch, and there is room for 16 objects a set
-pub record IsKept (objects : List Ob) (stretches : List Stretch) (room object_slots stretch_slots : ℕ) : Type 0 where
+pub record IsValid (objects : List Ob) (stretches : List Stretch) (room object_slots stretch_slots : ℕ) : Type 0 where
   pub each : Each (IsStretch objects) stretches
   pub used : length objects ≤ 16 * length stretches
   pub objects_room : 16 * room ≤ object_slots

@@ -22,13 +22,13 @@ pub(crate) struct StoredSets {
 
 impl Model for StoredSets {
     ghost use Rattle.std.specs.Prelude.{vec_capacity};
-    ghost use Rattle.asset_entries.specs.StoredSets.{Sets, sets_of, IsKept};
+    ghost use Rattle.asset_entries.specs.StoredSets.{Sets, sets_of, IsValid};
 
     ghost Value = { Sets };
 
     ghost view = { λ s. sets_of s.objects.items s.stretches.items s.room };
 
-    ghost invariant = { λ s. IsKept s.objects.items s.stretches.items s.room (vec_capacity s.objects) (vec_capacity s.stretches) };
+    ghost invariant = { λ s. IsValid s.objects.items s.stretches.items s.room (vec_capacity s.objects) (vec_capacity s.stretches) };
 }
 
 /// The most objects that a set lists.

@@ -14,7 +14,7 @@ use Rattle.asset_names.specs.Groups.{actor, partner, acted_on_by, acted_on, same
 use Rattle.asset_names.proofs.Common.{both_follow}
 use Rattle.asset_names.proofs.ListLemmas.{listed_at}
 use Rattle.asset_entries.specs.Committing.{committed_by, passes, has_commit}
-use Rattle.asset_name_groups.specs.NamesInGroups.{NamesInGroups, flag_at, flags_with, with_flag, IsSound}
+use Rattle.asset_name_groups.specs.NamesInGroups.{NamesInGroups, flag_at, flags_with, with_flag, IsConsistent}
 use Rattle.asset_history.specs.Named.{names_of}
 use Rattle.asset_history.specs.Together.{name_at, label_at, commits, AreFlagged}
 use Rattle.asset_history.specs.Kept.{AreLabels}
@@ -109,13 +109,13 @@ flagged_none entry older g none flagged = record {
   flagged = λ k m is_k is_m same h. flagged.flagged k m is_k is_m same (ap (λ found. passes (eqb (name_at g m)) found || commits older (name_at g m)) (sym none) ∙ h);
 }
 
-flag_after : (g : NamesInGroups) (node k : ℕ) → IsSound g → k < length g.names → flag_at (with_flag g node).flags k ≡ (eqb (label_at g k) (label_at g node) || flag_at g.flags k)
+flag_after : (g : NamesInGroups) (node k : ℕ) → IsConsistent g → k < length g.names → flag_at (with_flag g node).flags k ≡ (eqb (label_at g k) (label_at g node) || flag_at g.flags k)
 unfolding with_flag flags_with flag_at
 flag_after g node k sound below =
     get_or-map-range_with_len (λ m. eqb (get_or g.labels m 0) (get_or g.labels node 0) || get_or g.flags m false) 0 (length g.labels) k k false (omega (arith, below, sound.each_has_label)) (omega arith)
 
 -- an entry that commits the name of a node, whose group is flagged
-pub flagged_one : (entry : Entry) (older : List Entry) (g : NamesInGroups) (t : Txn) (node : ℕ) → IsSound g → committed_by entry.0 entry.1 ≡ Some t → node < length g.names → name_at g node ≡ t.0 → AreFlagged older g → AreFlagged (entry ∷ older) (with_flag g node)
+pub flagged_one : (entry : Entry) (older : List Entry) (g : NamesInGroups) (t : Txn) (node : ℕ) → IsConsistent g → committed_by entry.0 entry.1 ≡ Some t → node < length g.names → name_at g node ≡ t.0 → AreFlagged older g → AreFlagged (entry ∷ older) (with_flag g node)
 unfolding has_commit passes with_flag
 flagged_one entry older g t node sound is within name flagged = record {
   by = λ k below h. elim (or_cases (eqb (label_at g k) (label_at g node)) _ (sym (flag_after g node k sound below) ∙ h)) [

@@ -11,7 +11,7 @@ use Rattle.asset_names.specs.declared.replies.Reply.{Reply}
 use Rattle.asset_names.specs.declared.replies.Reply.TheVariants as Reply'
 use Rattle.asset_names.proofs.Common.{and_false}
 use Rattle.asset_entries.specs.Operating.{opener_of, opener_at}
-use Rattle.asset_name_groups.specs.NamesInGroups.{NamesInGroups, none_named, IsSound}
+use Rattle.asset_name_groups.specs.NamesInGroups.{NamesInGroups, none_named, IsConsistent}
 use Rattle.asset_history.specs.declared.users.Users.{Users}
 use Rattle.asset_history.specs.Named.{names_of}
 use Rattle.asset_history.specs.Together.{name_at, label_at, IsWith, AreOfEntries, AreFlagged, AreJoined, HaveGrown}
@@ -79,19 +79,19 @@ respect_partners all n g size older newest u v h = elim (or_cases (eqb (actor en
   entry = split.0
 
 -- two who are of one node's group have one label
-with_both : (g : NamesInGroups) (u v node i j : ℕ) → IsSound g → IsWith g u node → IsWith g v node → i < length g.names → j < length g.names → name_at g i ≡ u → name_at g j ≡ v → label_at g i ≡ label_at g j
+with_both : (g : NamesInGroups) (u v node i j : ℕ) → IsConsistent g → IsWith g u node → IsWith g v node → i < length g.names → j < length g.names → name_at g i ≡ u → name_at g j ≡ v → label_at g i ≡ label_at g j
 with_both g u v node i j sound first second is_i is_j name_i name_j =
     let a : i ≡ first.0 = sound.different i first.0 is_i first.1 (name_i ∙ sym first.2) in
     let b : j ≡ second.0 = sound.different j second.0 is_j second.1 (name_j ∙ sym second.2) in
     ap (label_at g) a ∙ first.3 ∙ sym second.3 ∙ sym (ap (label_at g) b)
 
-respect_met : (opening : Opening) (all : List Entry) (found : ℕ → Option Users) (spare : ℕ) (is_opened : Bool) (g : NamesInGroups) → IsSound g → AreKept opening all all found spare is_opened g
+respect_met : (opening : Opening) (all : List Entry) (found : ℕ → Option Users) (spare : ℕ) (is_opened : Bool) (g : NamesInGroups) → IsConsistent g → AreKept opening all all found spare is_opened g
     → (a t x : ℕ) → opens (applied all) a x ≡ true → operates (applied all) t x ≡ true → (node : ℕ) × IsWith g a node × IsWith g t node
 respect_met opening all found spare true g sound kept a t x opening_x operation =
     said_both g (λ b. opens (applied all) b x) (λ s. operates (applied all) s x) (λ b. opens (applied all) b x) (λ s. operates (applied all) s x) (users_or_nobody (found x)) a t (kept.say refl x) opening_x operation
 respect_met opening all found spare false g sound kept a t x opening_x operation = absurd (false≢true (sym (kept.closed refl a x) ∙ opening_x))
 
-respect_all : (opening : Opening) (all : List Entry) (found : ℕ → Option Users) (spare : ℕ) (is_opened : Bool) (g : NamesInGroups) → IsSound g → AreKept opening all all found spare is_opened g → Respect g (partners all) → Respect g (joins all)
+respect_all : (opening : Opening) (all : List Entry) (found : ℕ → Option Users) (spare : ℕ) (is_opened : Bool) (g : NamesInGroups) → IsConsistent g → AreKept opening all all found spare is_opened g → Respect g (partners all) → Respect g (joins all)
 respect_all opening all found spare is_opened g sound kept pairs u v h i j is_i is_j name_i name_j = elim (join_met all u v h) [
   | inl pair ↦ pairs u v pair i j is_i is_j name_i name_j
   | inr meeting ↦ met meeting
@@ -114,7 +114,7 @@ of_same entries g after names labels of i j is_i is_j same =
 
 -- the labels of all entries: after names and joins of partners, a flag, and the joins of users
 pub labels_next : (opening : Opening) (all : List Entry) (n : ℕ) (found : ℕ → Option Users) (spare : ℕ) (is_opened : Bool) (named flagged after : NamesInGroups) → length all ≡ n + 1
-    → AreNamed all (before all n) (pair_at all n) named → flagged.names ≡ named.names → flagged.labels ≡ named.labels → AreFlagged all flagged → AreJoined all flagged after → IsSound after → AreKept opening all all found spare is_opened after
+    → AreNamed all (before all n) (pair_at all n) named → flagged.names ≡ named.names → flagged.labels ≡ named.labels → AreFlagged all flagged → AreJoined all flagged after → IsConsistent after → AreKept opening all all found spare is_opened after
     → AreLabels all after
 labels_next opening all n found spare is_opened named flagged after size is names labels flags joined sound kept =
     let all_names : after.names ≡ names_of all = joined.names ∙ names ∙ is.names in

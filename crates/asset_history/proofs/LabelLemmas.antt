@@ -7,7 +7,7 @@ use Rattle.asset_names.specs.Steps.{Entry}
 use Rattle.asset_names.specs.Groups.{same_group}
 use Rattle.asset_laws.proofs.GroupLemmas.{group_sym, group_trans}
 use Rattle.asset_name_groups.specs.Labelled.{merged}
-use Rattle.asset_name_groups.specs.NamesInGroups.{NamesInGroups, flag_at, merged_flags, with_join, IsSound}
+use Rattle.asset_name_groups.specs.NamesInGroups.{NamesInGroups, flag_at, merged_flags, with_join, IsConsistent}
 use Rattle.asset_name_groups.proofs.LabelLemmas.{merged_is}
 use Rattle.asset_history.specs.Together.{name_at, label_at, IsWith, commits, AreOfEntries, AreFlagged, AreJoined, HaveGrown}
 
@@ -76,7 +76,7 @@ to_first entries g i j k of is_i is_j is_k together one = elim (one_cases (label
   | inr second ↦ group_trans entries (name_at g k) (name_at g j) (name_at g i) (of k j is_k is_j second) (group_sym entries (name_at g i) (name_at g j) together)
 ]
 
-module _ (g : NamesInGroups) (sound : IsSound g) (i j : ℕ) (is_i : i < length g.names) (is_j : j < length g.names) where
+module _ (g : NamesInGroups) (sound : IsConsistent g) (i j : ℕ) (is_i : i < length g.names) (is_j : j < length g.names) where
   after : NamesInGroups
   after = with_join g i j
 

@@ -18,7 +18,7 @@ use Rattle.asset_names.proofs.DependLemmas.{has_both}
 use Rattle.asset_names.proofs.PermitLemmas.{has_listed}
 use Rattle.asset_laws.proofs.GroupLemmas.{group_sym}
 use Rattle.asset_entries.specs.Committing.{has_commit}
-use Rattle.asset_name_groups.specs.NamesInGroups.{NamesInGroups, flag_at, IsSound}
+use Rattle.asset_name_groups.specs.NamesInGroups.{NamesInGroups, flag_at, IsConsistent}
 use Rattle.asset_history.specs.Named.{names_of}
 use Rattle.asset_history.specs.Sharing.{named, first_of, group_committed}
 use Rattle.asset_history.specs.Together.{name_at, label_at}
@@ -63,7 +63,7 @@ none_found test t (n ∷ names) none only = go (test n) refl (eqb n t) refl none
 
 -- ---- the first of a group
 
-pub first_at : (entries : List Entry) (g : NamesInGroups) (t node : ℕ) → IsSound g → AreLabels entries g → node < length g.names → name_at g node ≡ t → first_of entries t ≡ Some (named (name_at g (label_at g node)))
+pub first_at : (entries : List Entry) (g : NamesInGroups) (t node : ℕ) → IsConsistent g → AreLabels entries g → node < length g.names → name_at g node ≡ t → first_of entries t ≡ Some (named (name_at g (label_at g node)))
 unfolding first_of
 first_at entries g t node sound labels within name =
     let l = label_at g node in

@@ -12,7 +12,7 @@ use Rattle.asset_names.specs.Steps.{Opening, Entry}
 use Rattle.asset_entries.specs.Committing.{committed_by}
 use Rattle.asset_entries.specs.Knowing.{is_of_one, is_of_known}
 use Rattle.asset_entries.specs.Operating.{opener_of, opener_at}
-use Rattle.asset_name_groups.specs.NamesInGroups.{NamesInGroups, IsSound}
+use Rattle.asset_name_groups.specs.NamesInGroups.{NamesInGroups, IsConsistent}
 use Rattle.asset_history.specs.declared.users.Users.{Users}
 use Rattle.asset_history.specs.Kept.{before, leaves_groups_at, pair_at, AreLabels, AreNamed, AreKept}
 use Rattle.asset_history.specs.Together.{AreFlagged}
@@ -60,7 +60,7 @@ module _ (opening : Opening) (all : List Entry) (n : ℕ) (size : length all ≡
       say = λ opened. absurd (false≢true (sym closed ∙ opened));
     }
 
-    pub stay_labels : IsSound g → AreLabels older g → AreLabels all g
+    pub stay_labels : IsConsistent g → AreLabels older g → AreLabels all g
     stay_labels sound labels =
         let known = known_acts opening older entry.0 entry.1 (legal_at opening all n entry legal split.1).0 parts.0 in
         let named : AreNamed all older (pair_at all n) g = named_at all n entry g split.1 split.2 (named_known entry older g sound labels (all_acted older (actor entry.0).0 ∙ known.0) known.1) in

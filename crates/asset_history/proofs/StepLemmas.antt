@@ -15,7 +15,7 @@ use Rattle.asset_names.proofs.DependLemmas.{has_both}
 use Rattle.asset_names.proofs.ListLemmas.{listed_at, lists_at}
 use Rattle.asset_names.proofs.PermitLemmas.{has_listed}
 use Rattle.asset_laws.proofs.GroupLemmas.{group_refl, joined_same, later_join}
-use Rattle.asset_name_groups.specs.NamesInGroups.{NamesInGroups, flag_at, has_name, one_more, with_name, IsSound}
+use Rattle.asset_name_groups.specs.NamesInGroups.{NamesInGroups, flag_at, has_name, one_more, with_name, IsConsistent}
 use Rattle.asset_history.specs.Named.{names_of}
 use Rattle.asset_history.specs.Named as Named
 use Rattle.asset_history.specs.Together.{name_at, label_at, commits, AreOfEntries, AreFlagged, AreJoined, HaveGrown}
@@ -42,7 +42,7 @@ of_labels entries g labels i j is_i is_j same = sym (labels.same i j is_i is_j) 
 
 -- ---- one more name
 
-module _ (g : NamesInGroups) (sound : IsSound g) (t : ℕ) (new : has_name g.names t ≡ false) where
+module _ (g : NamesInGroups) (sound : IsConsistent g) (t : ℕ) (new : has_name g.names t ≡ false) where
   more : NamesInGroups
   more = one_more g t
 
@@ -116,7 +116,7 @@ module _ (g : NamesInGroups) (sound : IsSound g) (t : ℕ) (new : has_name g.nam
   }
 
 -- a name that may be there already
-module _ (g : NamesInGroups) (sound : IsSound g) (t : ℕ) where
+module _ (g : NamesInGroups) (sound : IsConsistent g) (t : ℕ) where
   by_name : (P : NamesInGroups → Type 0) → P g → (has_name g.names t ≡ false → P (one_more g t)) → P (with_name g t)
   unfolding with_name
   by_name P there new = go (has_name g.names t) refl where
@@ -162,7 +162,7 @@ none_committed entries t none = go (commits entries t) refl where
 -- ---- all joins
 
 -- labels that have grown from those of older entries respect their joins
-pub respect_grown : (older : List Entry) (g after : NamesInGroups) → AreLabels older g → HaveGrown g after → IsSound after → Respect after (joins older)
+pub respect_grown : (older : List Entry) (g after : NamesInGroups) → AreLabels older g → HaveGrown g after → IsConsistent after → Respect after (joins older)
 respect_grown older g after labels grown sound u v h i j is_i is_j name_i name_j =
     let acts = join_acts older u v h in
     let a = listed_at g.names u (ap (λ l. lists l u) labels.names ∙ all_acted older u ∙ acts.0) in
@@ -173,7 +173,7 @@ respect_grown older g after labels grown sound u v h i j is_i is_j name_i name_j
     ap (label_at after) is_a ∙ grown.stay a.0 b.0 a.1 b.1 same ∙ sym (ap (label_at after) is_b)
 
 -- labels that respect all joins say the groups
-pub labels_say : (entries : List Entry) (g : NamesInGroups) → IsSound g → g.names ≡ names_of entries → AreOfEntries entries g → Respect g (joins entries)
+pub labels_say : (entries : List Entry) (g : NamesInGroups) → IsConsistent g → g.names ≡ names_of entries → AreOfEntries entries g → Respect g (joins entries)
     → (i j : ℕ) → i < length g.names → j < length g.names → eqb (label_at g i) (label_at g j) ≡ same_group entries (name_at g i) (name_at g j)
 unfolding same_group
 labels_say entries g sound names of respect i j is_i is_j = both_follow _ _ (λ h. of i j is_i is_j (eqb-true (label_at g i) (label_at g j) h)) back where
@@ -202,7 +202,7 @@ labels_say entries g sound names of respect i j is_i is_j = both_follow _ _ (λ 
 -- ---- the newest entry
 
 -- one who is known is named already
-pub named_known : (entry : Entry) (older : List Entry) (g : NamesInGroups) → IsSound g → AreLabels older g → lists (names_of older) (actor entry.0).0 ≡ true → partner entry.0 ≡ actor entry.0
+pub named_known : (entry : Entry) (older : List Entry) (g : NamesInGroups) → IsConsistent g → AreLabels older g → lists (names_of older) (actor entry.0).0 ≡ true → partner entry.0 ≡ actor entry.0
     → AreNamed (entry ∷ older) older ((actor entry.0).0, (partner entry.0).0) g
 unfolding names_of has_arrow
 named_known entry older g sound labels known same =
@@ -228,8 +228,8 @@ unlisted_before names others a b same new = go (lists names b) refl where
   go false is = ap (λ l. lists l b) (sym same) ∙ is
   go true is = absurd (false≢true (sym new ∙ names_more names a b ∙ ap (λ c. c || eqb a b) is))
 
-module _ (entry : Entry) (older : List Entry) (g first second after : NamesInGroups) (t u i j : ℕ) (sound : IsSound g) (labels : AreLabels older g) (is_t : t ≡ (actor entry.0).0) (is_u : u ≡ (partner entry.0).0)
-    (is_first : first ≡ with_name g t) (sound_first : IsSound first) (is_second : second ≡ with_name first u) (joined : AreJoined (entry ∷ older) second after) (sound_after : IsSound after)
+module _ (entry : Entry) (older : List Entry) (g first second after : NamesInGroups) (t u i j : ℕ) (sound : IsConsistent g) (labels : AreLabels older g) (is_t : t ≡ (actor entry.0).0) (is_u : u ≡ (partner entry.0).0)
+    (is_first : first ≡ with_name g t) (sound_first : IsConsistent first) (is_second : second ≡ with_name first u) (joined : AreJoined (entry ∷ older) second after) (sound_after : IsConsistent after)
     (is_i : i < length after.names) (is_j : j < length after.names) (name_i : name_at after i ≡ t) (name_j : name_at after j ≡ u) (one : label_at after i ≡ label_at after j) where
   grown_first : HaveGrown g first
   grown_first = subst (HaveGrown g) (sym is_first) (with_name_grown g sound t)

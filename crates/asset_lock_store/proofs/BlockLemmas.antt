@@ -8,7 +8,7 @@ use Rattle.asset_names.specs.declared.operations.Op.{Op}
 use Rattle.asset_names.specs.declared.operations.Op.TheVariants as Op'
 use Rattle.asset_names.specs.Operations.{conflict}
 use Rattle.asset_names.specs.OpSets.{OpSet, only_op}
-use Rattle.asset_chains.specs.Chained.{chain_of, home_of, IsSound}
+use Rattle.asset_chains.specs.Chained.{chain_of, home_of, IsConsistent}
 use Rattle.asset_chains.proofs.Walks.{any_found, any_from}
 use Rattle.asset_lists.specs.declared.part.Section.{Section}
 use Rattle.asset_lists.specs.declared.part.Section.TheVariants.{Front, Middle, Back}
@@ -83,7 +83,7 @@ three_from a b c h = let last = and_parts (a && b) c h in let first = and_parts 
 three_all : (a b c : Bool) → a ≡ true → b ≡ true → c ≡ true → (a && b && c) ≡ true
 three_all a b c p q r = λ i. p i && q i && r i
 
-module _ (store : Stored) (stored : IsStored store) (of_owner : IsSound store.by_owner) (seats : Seated) (allows : ℕ → Bool) (t x : ℕ) (op : Op) where
+module _ (store : Stored) (stored : IsStored store) (of_owner : IsConsistent store.by_owner) (seats : Seated) (allows : ℕ → Bool) (t x : ℕ) (op : Op) where
   -- whose a lock is that blocks
   blocker : (k : ℕ) → key_blocks store seats allows t op k ≡ true → (c : ℕ) × (u : Txn) × (home_of store.by_owner k ≡ Some c) × (seat seats c ≡ Some u)
   unfolding key_blocks name_blocks name_of

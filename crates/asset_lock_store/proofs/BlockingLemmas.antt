@@ -10,7 +10,7 @@ use Rattle.asset_names.specs.declared.operations.Op.{Op}
 use Rattle.asset_names.specs.Arrows.{lists}
 use Rattle.asset_names.specs.OpSets.{has_op}
 use Rattle.std.specs.List.{list_any}
-use Rattle.asset_chains.specs.Chained.{chain_of, home_of, IsSound}
+use Rattle.asset_chains.specs.Chained.{chain_of, home_of, IsConsistent}
 use Rattle.asset_chains.proofs.Walks.{any_from, any_none}
 use Rattle.asset_lists.specs.declared.part.Part.{Part}
 use Rattle.asset_lists.specs.declared.part.Section.{Section}
@@ -188,7 +188,7 @@ module _ (store : Stored) (seats : Seated) (allows : ℕ → Bool) (t : ℕ) (op
   belongs_to_none clear n h = true≢false (sym (and_parts _ _ h).1 ∙ clear)
 
 -- the names that are gathered from the locks on an object are those of who blocks
-module _ (store : Stored) (stored : IsStored store) (of_owner : IsSound store.by_owner) (seats : Seated) (allows : ℕ → Bool) (t x : ℕ) (op : Op) where
+module _ (store : Stored) (stored : IsStored store) (of_owner : IsConsistent store.by_owner) (seats : Seated) (allows : ℕ → Bool) (t x : ℕ) (op : Op) where
   module _ (number : ℕ) (numbered : number_in store.objects x ≡ Some number) (names : List ℕ)
       (found : IsGathered (blocks_as store seats allows t op) (λ k. (w : Section) × (part_of store.by_object k ≡ Some (part_for number w)) × (looks_at op w ≡ true)) [] names) where
     pub all_blockers : (c : ℕ) (u : Txn) → seat seats c ≡ Some u → blocks allows t x op u.0 (locks_at store c) ≡ true → lists names u.0 ≡ true
@@ -206,7 +206,7 @@ module _ (store : Stored) (stored : IsStored store) (of_owner : IsSound store.by
     ]
 
 -- ---- what the lock of a seat on an object carries
-module _ (store : Stored) (stored : IsStored store) (sound : IsSound store.by_owner) (c x : ℕ) (op : Op) where
+module _ (store : Stored) (stored : IsStored store) (sound : IsConsistent store.by_owner) (c x : ℕ) (op : Op) where
   pub carries_at : (key : ℕ) → home_of store.by_owner key ≡ Some c → is_on x (lock_at store.locks key) ≡ true → list_any (carries_on x op) (locks_at store c) ≡ has_op (lock_at store.locks key).ops op
   unfolding locks_at carries_on
   carries_at key home on = go (has_op (lock_at store.locks key).ops op) refl where

@@ -9,7 +9,7 @@ use Rattle.asset_names.specs.declared.names.Ob.{Ob}
 use Rattle.asset_names.specs.declared.operations.Op.{Op}
 use Rattle.asset_names.specs.OpSets.{OpSet, has_op, with_op, only_op}
 use Rattle.asset_names.proofs.Common.{some_is_not_none, and_false, and_true}
-use Rattle.asset_chains.specs.Chained.{Chained, chain_of, home_of, first_of, lists, ahead, behind, IsSound}
+use Rattle.asset_chains.specs.Chained.{Chained, chain_of, home_of, first_of, lists, ahead, behind, IsConsistent}
 use Rattle.asset_chains.proofs.Laws.{chain_at_key, chain_without_key}
 use Rattle.asset_chains.proofs.SoundLemmas.{listed_once}
 use Rattle.asset_chains.proofs.Walks.{map_same, any_none, any_from, find_key, find_none}
@@ -106,7 +106,7 @@ chain_same_as : (old new : Stored) → new.by_owner ≡ old.by_owner → (c : �
 unfolding locks_at
 chain_same_as old new same c = ap (λ (t : Chained). map (lock_at new.locks) (chain_of t c)) same
 
-pub mapped : (f : Lock → Lock) (old new : Stored) (c : ℕ) → new.by_owner ≡ old.by_owner → IsSound old.by_owner → ((k : ℕ) → home_of old.by_owner k ≡ Some c → lock_at new.locks k ≡ f (lock_at old.locks k)) → locks_at new c ≡ map f (locks_at old c)
+pub mapped : (f : Lock → Lock) (old new : Stored) (c : ℕ) → new.by_owner ≡ old.by_owner → IsConsistent old.by_owner → ((k : ℕ) → home_of old.by_owner k ≡ Some c → lock_at new.locks k ≡ f (lock_at old.locks k)) → locks_at new c ≡ map f (locks_at old c)
 unfolding locks_at
 mapped f old new c same sound each = chain_same_as old new same c ∙ map_same (lock_at new.locks) (λ k. f (lock_at old.locks k)) (chain_of old.by_owner c) (λ k there. each k (sound.at_home c k there)) ∙ sym (fused (chain_of old.by_owner c)) where
   fused : (keys : List ℕ) → map f (map (lock_at old.locks) keys) ≡ map (λ k. f (lock_at old.locks k)) keys
@@ -159,7 +159,7 @@ awake : (x : ℕ) (ops : OpSet) (lock : Lock) → lock.object.0 ≡ x → both_c
 unfolding suspended is_on
 awake x ops lock on conflict = λ i. (cond (eq-eqb lock.object.0 x on i && conflict i) (record lock { granted = false }) lock).granted
 
-module _ (store : Stored) (stored : IsStored store) (sound : IsSound store.by_owner) (key c : ℕ) (op : Op) (home : home_of store.by_owner key ≡ Some c) where
+module _ (store : Stored) (stored : IsStored store) (sound : IsConsistent store.by_owner) (key c : ℕ) (op : Op) (home : home_of store.by_owner key ≡ Some c) where
   -- the other locks of the seat are on other objects
   off : (k : ℕ) → home_of store.by_owner k ≡ Some c → (k ≡ key → ⊥) → is_on (lock_at store.locks key).object.0 (lock_at store.locks k) ≡ false
   off k at apart = off_from _ _ (λ same. apart (stored.single k key c at home same))
@@ -288,7 +288,7 @@ added_later old more new key c lock grown added = record {
 }
 
 -- the lock of a seat on an object is the one that is found
-module _ (store : Stored) (stored : IsStored store) (sound : IsSound store.by_owner) (c : ℕ) (x : Ob) where
+module _ (store : Stored) (stored : IsStored store) (sound : IsConsistent store.by_owner) (c : ℕ) (x : Ob) where
   pub found_here : (key : ℕ) → home_of store.by_owner key ≡ Some c → is_on x.0 (lock_at store.locks key) ≡ true → (list_any (is_on x.0) (locks_at store c) ≡ true) × (find (is_on x.0) (locks_at store c) ≡ Some (lock_at store.locks key))
   unfolding locks_at
   found_here key home on = (
@@ -378,7 +378,7 @@ module _ (store : Stored) (stored : IsStored store) (sound : IsSound store.by_ow
           (λ i. conflicts_on (mine i) op (added.locks k apart i)) ∙ alone k d (sym (added.homes k apart) ∙ home) differ
 
 -- ---- one lock of a seat is dropped
-module _ (old new : Stored) (key c : ℕ) (sound : IsSound old.by_owner) (dropped : IsDropped key old new) (home : home_of old.by_owner key ≡ Some c) where
+module _ (old new : Stored) (key c : ℕ) (sound : IsConsistent old.by_owner) (dropped : IsDropped key old new) (home : home_of old.by_owner key ≡ Some c) where
   pub others_kept : (d : ℕ) → (d ≡ c → ⊥) → locks_at new d ≡ locks_at old d
   unfolding locks_at
   others_kept d apart =

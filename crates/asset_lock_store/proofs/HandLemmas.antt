@@ -5,7 +5,7 @@ use Rattle.std.proofs.lemmas.List.{map-append}
 use Rattle.slab.specs.Slab.{Slab, get, with_value}
 use Rattle.asset_names.specs.OpSets.{OpSet}
 use Rattle.asset_names.proofs.Common.{some_is_not_none, and_false}
-use Rattle.asset_chains.specs.Chained.{Chained, chain_of, home_of, lists, without, pushed, unlinked, IsSound}
+use Rattle.asset_chains.specs.Chained.{Chained, chain_of, home_of, lists, without, pushed, unlinked, IsConsistent}
 use Rattle.asset_chains.proofs.Laws.{key_within, unlinks, pushes}
 use Rattle.asset_chains.proofs.SoundLemmas.{listed_once}
 use Rattle.asset_chains.proofs.Walks.{chains_without, map_same}
@@ -38,7 +38,7 @@ moved_homes old gone new key from to home seat unlinks_it pushes_it k =
     ]
 
 -- a lock is at the end of those of a seat that has none on its object
-pub moved_chain : (old : Stored) (gone table : Chained) (key from to : ℕ) → IsSound old.by_owner → home_of old.by_owner key ≡ Some from → to < length old.by_owner.chains → gone ≡ unlinked key old.by_owner → table ≡ pushed to key gone
+pub moved_chain : (old : Stored) (gone table : Chained) (key from to : ℕ) → IsConsistent old.by_owner → home_of old.by_owner key ≡ Some from → to < length old.by_owner.chains → gone ≡ unlinked key old.by_owner → table ≡ pushed to key gone
     → ((k : ℕ) → home_of old.by_owner k ≡ Some to → is_on (lock_at old.locks key).object.0 (lock_at old.locks k) ≡ false) → IsMoved key to old (record old { by_owner = table })
 moved_chain old gone table key from to sound home seat unlinks_it pushes_it none =
     let less = unlinks from key old.by_owner gone home unlinks_it in
@@ -186,11 +186,11 @@ stored_merged old new key number ops stored numbered locks keys change there of_
 
 -- ---- the locks of each seat
 -- the key of another seat is not that of a lock of this one
-not_listed : (store : Stored) → IsSound store.by_owner → (k c d : ℕ) → home_of store.by_owner k ≡ Some c → (d ≡ c → ⊥) → (j : ℕ) → lists (chain_of store.by_owner d) j ≡ true → j ≡ k → ⊥
+not_listed : (store : Stored) → IsConsistent store.by_owner → (k c d : ℕ) → home_of store.by_owner k ≡ Some c → (d ≡ c → ⊥) → (j : ℕ) → lists (chain_of store.by_owner d) j ≡ true → j ≡ k → ⊥
 not_listed store sound k c d home apart j there is =
     both_ways (lists (chain_of store.by_owner d) k) (listed_once store.by_owner sound k c d home apart) (ap (lists (chain_of store.by_owner d)) (sym is) ∙ there)
 
-module _ (old new : Stored) (stored : IsStored old) (sound : IsSound old.by_owner) (key from to : ℕ) (home : home_of old.by_owner key ≡ Some from) (differ : from ≡ to → ⊥) where
+module _ (old new : Stored) (stored : IsStored old) (sound : IsConsistent old.by_owner) (key from to : ℕ) (home : home_of old.by_owner key ≡ Some from) (differ : from ≡ to → ⊥) where
   -- the taker had no lock on the object
   pub handed_alone : IsMoved key to old new → ((k : ℕ) → home_of old.by_owner k ≡ Some to → is_on (lock_at old.locks key).object.0 (lock_at old.locks k) ≡ false) → IsHanded key from to old new
   unfolding locks_at

@@ -11,7 +11,7 @@ use Rattle.asset_names.specs.Arrows as Names
 use Rattle.asset_names.specs.Sets.{numbers}
 use Rattle.asset_names.specs.InSet.{in_set, only_in}
 use Rattle.asset_names.proofs.Common.{eqb-flip}
-use Rattle.asset_chains.specs.Chained.{chain_of, home_of, ahead, behind, lists, IsSound}
+use Rattle.asset_chains.specs.Chained.{chain_of, home_of, ahead, behind, lists, IsConsistent}
 use Rattle.asset_chains.proofs.KeyLemmas.{distinct_parts, distinct_head, listed_apart, lists-append, split_at_key}
 use Rattle.asset_lock_store.specs.declared.lock.Lock.{Lock}
 use Rattle.asset_lock_store.specs.LockRules.{is_on, moved, left, with_moved}
@@ -54,7 +54,7 @@ objects_filtered test (lock ∷ locks) = go (test lock.object) (objects_filtered
   go false ih = ih
 
 -- where the giver has no lock on the object, none moves
-module _ (set : ObSet) (x : Ob) (only : only_in set ≡ Some x) (store : Stored) (from : ℕ) (sound : IsSound store.by_owner) (none : (k : ℕ) → home_of store.by_owner k ≡ Some from → is_on x.0 (lock_at store.locks k) ≡ false) where
+module _ (set : ObSet) (x : Ob) (only : only_in set ≡ Some x) (store : Stored) (from : ℕ) (sound : IsConsistent store.by_owner) (none : (k : ℕ) → home_of store.by_owner k ≡ Some from → is_on x.0 (lock_at store.locks k) ≡ false) where
   pub none_moving : filter (moved set) (locks_at store from) ≡ []
   unfolding locks_at
   none_moving = none_moves set store (chain_of store.by_owner from) (λ k there. moved_is set x only (lock_at store.locks k) ∙ none k (sound.at_home from k there))
@@ -71,7 +71,7 @@ module _ (set : ObSet) (x : Ob) (only : only_in set ≡ Some x) (store : Stored)
   none_given locks = sym (ap (λ (given : List Lock). with_moved given locks) none_moving ∙ nothing_moved locks)
 
 -- where it has one, that alone moves
-module _ (set : ObSet) (x : Ob) (only : only_in set ≡ Some x) (store : Stored) (from key : ℕ) (sound : IsSound store.by_owner) (stored : IsStored store)
+module _ (set : ObSet) (x : Ob) (only : only_in set ≡ Some x) (store : Stored) (from key : ℕ) (sound : IsConsistent store.by_owner) (stored : IsStored store)
     (home : home_of store.by_owner key ≡ Some from) (on : is_on x.0 (lock_at store.locks key) ≡ true) where
   abbrev before : List ℕ
   before = ahead key (chain_of store.by_owner from)

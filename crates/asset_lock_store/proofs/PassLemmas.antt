@@ -5,7 +5,7 @@ use Rattle.std.proofs.lemmas.Bool.{eq-eqb, ne_eqb, cases_Bool, or_parts, or_left
 use Rattle.std.proofs.lemmas.List.{map-append, append-nil}
 use Rattle.std.proofs.lemmas.List.Elements.{filter-append}
 use Rattle.asset_names.specs.declared.sets.ObSet.{ObSet}
-use Rattle.asset_chains.specs.Chained.{chain_of, home_of, first_of, behind, without, lists, IsSound}
+use Rattle.asset_chains.specs.Chained.{chain_of, home_of, first_of, behind, without, lists, IsConsistent}
 use Rattle.asset_chains.proofs.KeyLemmas.{distinct_head, distinct_tail, distinct_parts, listed_apart, lists-append, without_unlisted, distinct-without}
 use Rattle.asset_chains.proofs.Walks.{from_key, map_same, any_none}
 use Rattle.asset_lock_store.specs.declared.lock.Lock.{Lock}
@@ -63,7 +63,7 @@ all_fail test (lock ∷ locks) none = go (test lock) refl (all_fail test locks) 
 abbrev pub IsPassed : ObSet → Stored → ℕ → Option ℕ → Type 0
 IsPassed set store from next = (front : List ℕ) × (back : List ℕ) × (chain_of store.by_owner from ≡ front ++ back) × (next ≡ first_of back) × (filter (moved set) (map (lock_at store.locks) front) ≡ [])
 
-module _ (set : ObSet) (store : Stored) (from key : ℕ) (at : Option ℕ) (sound : IsSound store.by_owner) (passed : IsPassed set store from at) (here : at ≡ Some key) where
+module _ (set : ObSet) (store : Stored) (from key : ℕ) (at : Option ℕ) (sound : IsConsistent store.by_owner) (passed : IsPassed set store from at) (here : at ≡ Some key) where
   abbrev pub rest : List ℕ
   rest = behind key (chain_of store.by_owner from)
 

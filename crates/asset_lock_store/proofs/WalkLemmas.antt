@@ -2,7 +2,7 @@
 use Rattle.std.proofs.Common.{zero, suc, ◌-◌, map, [], arith, ◌≡◌, ℕ, ◌<◌, ◌⊎◌, length, subst, Bool, true, false, eqb, cond, not, ◌&&◌, List, ◌∷◌, Option, Some, None, refl, sym, ap, ◌∙◌, inl, inr}
 use Rattle.std.specs.Prelude.{slice_get}
 use Rattle.std.proofs.lemmas.Bool.{eqb-true, eq-eqb, ne_eqb, true≢false, not-false}
-use Rattle.asset_chains.specs.Chained.{Chained, IsSound, chain_of, home_of, first_of, behind, lists}
+use Rattle.asset_chains.specs.Chained.{Chained, IsConsistent, chain_of, home_of, first_of, behind, lists}
 use Rattle.asset_chains.proofs.Laws.{chain_at_first}
 use Rattle.asset_chains.proofs.Walks.{from_key, from_first, from_next, next_home, walk_more, walk_ends, walk_less}
 use Rattle.asset_lists.specs.declared.part.Section.{Section}
@@ -24,7 +24,7 @@ abbrev pub passed_lock : OpSet → Bool → Lock → Lock
 passed_lock ops b lock = cond b (paused ops lock) lock
 
 -- ---- a walk along a chain of a table, which is read as another that is equal
-module _ (read shown : Chained) (same : read ≡ shown) (sound : IsSound read) (c : ℕ) where
+module _ (read shown : Chained) (same : read ≡ shown) (sound : IsConsistent read) (c : ℕ) where
   home_read : (k d : ℕ) → home_of shown k ≡ Some d → home_of read k ≡ Some d
   home_read k d home = ap (λ (t : Chained). home_of t k) same ∙ home
 

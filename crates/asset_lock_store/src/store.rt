@@ -98,7 +98,7 @@ pub(crate) fn part_of(number: usize, ops: Ops) -> Part
 
 impl LockStore {
     ghost use Rattle.std.specs.Prelude.{◌≡◌, ℕ, ◌<◌, [], ◌∷◌, ◌++◌, length, OnOk, OnErr};
-    ghost use Rattle.asset_chains.specs.Chained.{chain_of, home_of, IsSound};
+    ghost use Rattle.asset_chains.specs.Chained.{chain_of, home_of, IsConsistent};
     ghost use Rattle.asset_lock_store.specs.Stored.{IsStored, IsGrown, lock_at, locks_at};
 
     /// Returns no locks, on no objects. It does not allocate.
@@ -117,7 +117,7 @@ impl LockStore {
     /// Says what holds of all locks, for proofs. It does nothing.
     pub fn laws(&self)
         ensures stored { IsStored self.now }
-        ensures owners { IsSound self.now.by_owner }
+        ensures owners { IsConsistent self.now.by_owner }
     {
         self.by_owner.laws();
     }

@@ -3,7 +3,7 @@ use Rattle.std.proofs.Common.{◌≡◌, ℕ, Bool, true, false, eqb, cond, List
 use Rattle.std.proofs.lemmas.Bool.{eqb-true, eqb-false, cases_Bool}
 use Rattle.asset_names.specs.declared.names.Txn.{Txn}
 use Rattle.asset_names.specs.declared.sets.ObSet.{ObSet}
-use Rattle.asset_chains.specs.Chained.{Chained, chain_of, home_of, lists, IsSound}
+use Rattle.asset_chains.specs.Chained.{Chained, chain_of, home_of, lists, IsConsistent}
 use Rattle.asset_seats.specs.Seated.{Seated, seat}
 use Rattle.asset_lock_store.specs.declared.lock.Lock.{Lock}
 use Rattle.asset_locks.specs.LockTable.{LockTable, PendingRequest, handed_row, hand_over_in, locks_of}
@@ -24,7 +24,7 @@ two_seats seats c d t u here there apart same =
     let is : t ≡ u = cc in
     eqb-false t.0 u.0 apart (ap (λ (n : Txn). n.0) is)
 
-module _ (seats : Seated) (pending : List PendingRequest) (order : Chained) (store new : Stored) (seated : AreSeated seats pending order store) (sound : IsSound order) (set : ObSet)
+module _ (seats : Seated) (pending : List PendingRequest) (order : Chained) (store new : Stored) (seated : AreSeated seats pending order store) (sound : IsConsistent order) (set : ObSet)
     (from to : ℕ) (giver taker : Txn) (gives : seat seats from ≡ Some giver) (home : home_of order from ≡ Some 0) (takes : seat seats to ≡ Some taker) (differ : eqb giver.0 taker.0 ≡ false)
     (kept : locks_at new from ≡ left set (locks_at store from)) (came : locks_at new to ≡ with_moved (filter (moved set) (locks_at store from)) (locks_at store to))
     (others : (d : ℕ) → (d ≡ from → ⊥) → (d ≡ to → ⊥) → locks_at new d ≡ locks_at store d) where

@@ -3,7 +3,7 @@ use Rattle.std.proofs.Common.{◌≡◌, ◌⊎◌, ℕ, Bool, true, eqb, cond, 
 use Rattle.std.proofs.lemmas.Bool.{eqb-true, eqb-false, eq-eqb, ne_eqb, cases_Bool, true≢false}
 use Rattle.asset_names.specs.declared.names.Txn.{Txn}
 use Rattle.asset_names.proofs.Common.{one_txn, some_of, some_is_not_none}
-use Rattle.asset_chains.specs.Chained.{chain_of, home_of, lists, IsSound}
+use Rattle.asset_chains.specs.Chained.{chain_of, home_of, lists, IsConsistent}
 use Rattle.asset_chains.proofs.Walks.{map_same}
 use Rattle.asset_seats.specs.Seated.{Seated, seat}
 use Rattle.asset_locks.specs.LockTable.{enrolled_in}
@@ -53,7 +53,7 @@ module _ (table : LockParts) (seats after : Seated) where
       holders = tied.holders;
     }
 
-    pub shows_left : IsSound table.order → rows_in after table ≡ rows_in seats table
+    pub shows_left : IsConsistent table.order → rows_in after table ≡ rows_in seats table
     shows_left sound = rows_same (λ d there. stays d (apart_from d 0 (sound.at_home 0 d there)))
 
   -- somebody who had none took a seat, for which there is room
@@ -87,11 +87,11 @@ module _ (table : LockParts) (seats after : Seated) where
       holders = tied.holders;
     }
 
-    pub shows_sits : IsTied table seats → IsSound table.order → rows_in after table ≡ rows_in seats table
+    pub shows_sits : IsTied table seats → IsConsistent table.order → rows_in after table ≡ rows_in seats table
     shows_sits tied sound = rows_same (λ d there. kept d (not_free d (tied.enrolled d 0 (sound.at_home 0 d there)).1))
 
 -- ---- who is enrolled has a seat
-pub seat_of_enrolled : (table : LockParts) (seats : Seated) → IsTied table seats → IsSound table.order → (t : Txn) → is_some (enrolled_in (rows_in seats table) t.0) ≡ true → (c : ℕ) × (seat seats c ≡ Some t)
+pub seat_of_enrolled : (table : LockParts) (seats : Seated) → IsTied table seats → IsConsistent table.order → (t : Txn) → is_some (enrolled_in (rows_in seats table) t.0) ≡ true → (c : ℕ) × (seat seats c ≡ Some t)
 seat_of_enrolled table seats tied sound t there =
     let row = some_of (enrolled_in (rows_in seats table) t.0) there in
     let at = row_found seats table.pending table.order table.store tied sound t.0 row.0 row.1 in

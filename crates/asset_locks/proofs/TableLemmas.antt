@@ -9,7 +9,7 @@ use Rattle.asset_names.specs.declared.names.Ob.{Ob}
 use Rattle.asset_names.specs.declared.operations.Op.{Op}
 use Rattle.asset_names.specs.OpSets.{OpSet}
 use Rattle.asset_names.proofs.Common.{one_txn, some_of, some_is_not_none}
-use Rattle.asset_chains.specs.Chained.{Chained, chain_of, home_of, lists, without, unlinked, IsSound}
+use Rattle.asset_chains.specs.Chained.{Chained, chain_of, home_of, lists, without, unlinked, IsConsistent}
 use Rattle.asset_chains.proofs.Laws.{IsPushed, read_more, unlinks, unlinks_nothing}
 use Rattle.asset_chains.proofs.SoundLemmas.{no_home_of, no_chain_of}
 use Rattle.asset_chains.proofs.KeyLemmas.{distinct_none, without_unlisted}
@@ -72,7 +72,7 @@ pending_set pending c request within d = elim (cases_Bool (eqb d c)) [
 ]
 
 -- ---- who is enrolled
-module _ (seats : Seated) (pending : List PendingRequest) (order : Chained) (store : Stored) (seated : AreSeated seats pending order store) (sound : IsSound order) where
+module _ (seats : Seated) (pending : List PendingRequest) (order : Chained) (store : Stored) (seated : AreSeated seats pending order store) (sound : IsConsistent order) where
   rows : LockTable
   rows = rows_of seats pending order store
 
@@ -155,23 +155,23 @@ module _ (seats : Seated) (pending : List PendingRequest) (order : Chained) (sto
   no_locks_of t absent = ap locks_or_none (not_enrolled t absent)
 
   -- a seat that is in no chain has no locks
-  pub nothing_held : IsSound store.by_owner → (c : ℕ) → home_of order c ≡ None → locks_at store c ≡ []
+  pub nothing_held : IsConsistent store.by_owner → (c : ℕ) → home_of order c ≡ None → locks_at store c ≡ []
   unfolding locks_at
   nothing_held owners c out = ap (map (lock_at store.locks)) (none_listed (chain_of store.by_owner c) (λ k there. some_is_not_none 0 (sym (seated.holders c k (owners.at_home c k there)) ∙ out)))
 
   -- the locks of one who has a seat
-  pub locks_of_seat : IsSound store.by_owner → (c : ℕ) (t : Txn) → seat seats c ≡ Some t → locks_of (rows_of seats pending order store) t.0 ≡ locks_at store c
+  pub locks_of_seat : IsConsistent store.by_owner → (c : ℕ) (t : Txn) → seat seats c ≡ Some t → locks_of (rows_of seats pending order store) t.0 ≡ locks_at store c
   locks_of_seat owners c t sits = elim (enrolled_or_not c) [
     | inl home ↦ locks_of_enrolled c t sits home
     | inr out ↦ no_locks_of t (not_in_order c t sits out) ∙ sym (nothing_held owners c out)
   ]
 
-  pub lock_of_seat : IsSound store.by_owner → (c : ℕ) (t : Txn) (x : ℕ) → seat seats c ≡ Some t → lock_in (rows_of seats pending order store) t.0 x ≡ find (is_on x) (locks_at store c)
+  pub lock_of_seat : IsConsistent store.by_owner → (c : ℕ) (t : Txn) (x : ℕ) → seat seats c ≡ Some t → lock_in (rows_of seats pending order store) t.0 x ≡ find (is_on x) (locks_at store c)
   unfolding lock_in
   lock_of_seat owners c t x sits = ap (find (is_on x)) (locks_of_seat owners c t sits)
 
   -- ---- what holds of each table
-  module _ (stored : IsStored store) (owners : IsSound store.by_owner) where
+  module _ (stored : IsStored store) (owners : IsConsistent store.by_owner) where
     -- a lock that is found is one of the slab
     lock_found : (n x : ℕ) (lock : Lock) → lock_in (rows_of seats pending order store) n x ≡ Some lock
         → (k : ℕ) × (c : ℕ) × (t : Txn) × (seat seats c ≡ Some t) × (t.0 ≡ n) × (home_of store.by_owner k ≡ Some c) × (lock_at store.locks k ≡ lock) × (lock.object.0 ≡ x)
@@ -236,7 +236,7 @@ module _ (seats : Seated) (pending : List PendingRequest) (order : Chained) (sto
       name_same c d t u same here there = let e : Some t ≡ Some u = sym here ∙ ap (seat seats) same ∙ there in let is : t ≡ u = cc in ap (λ (n : Txn). n.0) is
 
 -- ---- whether a seat is in the chain
-pub home_if_some : (seats : Seated) (pending : List PendingRequest) (order : Chained) (store : Stored) → AreSeated seats pending order store → IsSound order → (c : ℕ) → is_some (home_of order c) ≡ true → home_of order c ≡ Some 0
+pub home_if_some : (seats : Seated) (pending : List PendingRequest) (order : Chained) (store : Stored) → AreSeated seats pending order store → IsConsistent order → (c : ℕ) → is_some (home_of order c) ≡ true → home_of order c ≡ Some 0
 home_if_some seats pending order store seated sound c there = elim (enrolled_or_not seats pending order store seated sound c) [
   | inl home ↦ home
   | inr out ↦ absurd (true≢false (sym there ∙ ap is_some out))
@@ -259,7 +259,7 @@ pub record IsOut (c : ℕ) (old new : Chained) : Type 0 where
   pub chains : length new.chains ≡ length old.chains
   pub keys : length new.homes ≡ length old.homes
 
-pub goes_out : (order left : Chained) (c : ℕ) → IsSound order → (home_of order c ≡ Some 0) ⊎ (home_of order c ≡ None) → left ≡ unlinked c order → IsOut c order left
+pub goes_out : (order left : Chained) (c : ℕ) → IsConsistent order → (home_of order c ≡ Some 0) ⊎ (home_of order c ≡ None) → left ≡ unlinked c order → IsOut c order left
 goes_out order left c sound (inl home) is =
     let less = unlinks 0 c order left home is in
     record { chain = less.chain; homes = homes_without order left c 0 home is; chains = less.same_chains; keys = less.same_keys }
@@ -288,7 +288,7 @@ pub rows_change : (seats : Seated) (pending later : List PendingRequest) (order 
 unfolding rows_of
 rows_change seats pending later order store new change each = remapped (row_at seats later new) (row_at seats pending store) change (chain_of order 0) each
 
-module _ (seats : Seated) (pending : List PendingRequest) (order : Chained) (store : Stored) (seated : AreSeated seats pending order store) (sound : IsSound order) (c : ℕ) (t : Txn) (sits : seat seats c ≡ Some t) where
+module _ (seats : Seated) (pending : List PendingRequest) (order : Chained) (store : Stored) (seated : AreSeated seats pending order store) (sound : IsConsistent order) (c : ℕ) (t : Txn) (sits : seat seats c ≡ Some t) where
   request_place : c < length pending
   request_place = (seated.places c t sits).request
 
@@ -306,7 +306,7 @@ module _ (seats : Seated) (pending : List PendingRequest) (order : Chained) (sto
   ])
 
   -- op on x is granted to t
-  pub grants : IsSound store.by_owner → (new : Stored) (x : Ob) (op : Op) → locks_at new c ≡ granted_own x op (locks_at store c)
+  pub grants : IsConsistent store.by_owner → (new : Stored) (x : Ob) (op : Op) → locks_at new c ≡ granted_own x op (locks_at store c)
       → ((d : ℕ) → (d ≡ c → ⊥) → locks_at new d ≡ map (suspended x.0 (ops_with op (find (is_on x.0) (locks_at store c)))) (locks_at store d))
       → rows_of seats (set pending c None) order new ≡ grant_in t.0 x op (rows_of seats pending order store)
   unfolding grant_in granted_row row_at
@@ -370,7 +370,7 @@ module _ (seats : Seated) (pending : List PendingRequest) (order : Chained) (sto
   }
 
 -- nobody of this name is released
-pub releases_nobody : (seats : Seated) (pending : List PendingRequest) (order : Chained) (store : Stored) → AreSeated seats pending order store → IsSound order → (t : Txn) → ((c : ℕ) → seat seats c ≡ Some t → ⊥)
+pub releases_nobody : (seats : Seated) (pending : List PendingRequest) (order : Chained) (store : Stored) → AreSeated seats pending order store → IsConsistent order → (t : Txn) → ((c : ℕ) → seat seats c ≡ Some t → ⊥)
     → rows_of seats pending order store ≡ release_in (λ n. eqb n t.0) (rows_of seats pending order store)
 unfolding rows_of release_in
 releases_nobody seats pending order store seated sound t absent =
@@ -401,7 +401,7 @@ module _ (seats : Seated) (pending : List PendingRequest) (order : Chained) (sto
       ∙ map_same (row_at seats longer roomy) (row_at seats pending store) (chain_of order 0)
       (λ c there. λ i. record { name = name_or_zero (seat seats c); pending = made.requests c i; locks = grown_same store roomy room c i })
 
-module _ (seats : Seated) (pending : List PendingRequest) (order : Chained) (store : Stored) (seated : AreSeated seats pending order store) (sound : IsSound order) (c : ℕ) (t : Txn) (sits : seat seats c ≡ Some t)
+module _ (seats : Seated) (pending : List PendingRequest) (order : Chained) (store : Stored) (seated : AreSeated seats pending order store) (sound : IsConsistent order) (c : ℕ) (t : Txn) (sits : seat seats c ≡ Some t)
     (out : home_of order c ≡ None) (longer : Chained) (pushed : IsPushed 0 c order longer) where
   pub seated_more : AreSeated seats (set pending c None) longer store
   seated_more = record {
@@ -422,7 +422,7 @@ module _ (seats : Seated) (pending : List PendingRequest) (order : Chained) (sto
     some_same : {d e : ℕ} → Some d ≡ Some e → d ≡ e
     some_same is = cc
 
-  pub enrols : IsSound store.by_owner → rows_of seats (set pending c None) longer store ≡ enrol_in t.0 (rows_of seats pending order store)
+  pub enrols : IsConsistent store.by_owner → rows_of seats (set pending c None) longer store ≡ enrol_in t.0 (rows_of seats pending order store)
   unfolding rows_of enrol_in row_at name_or_zero
   enrols owners =
       ap (map (row_at seats (set pending c None) store)) pushed.chain
@@ -437,7 +437,7 @@ module _ (seats : Seated) (pending : List PendingRequest) (order : Chained) (sto
         apart_from d there is = some_is_not_none 0 (sym (sound.at_home 0 d there) ∙ ap (home_of order) is ∙ out)
 
 -- ---- who is free
-module _ (seats : Seated) (pending : List PendingRequest) (order : Chained) (store : Stored) (seated : AreSeated seats pending order store) (sound : IsSound order) (allows : ℕ → Bool) (t x : ℕ) (op : Op) where
+module _ (seats : Seated) (pending : List PendingRequest) (order : Chained) (store : Stored) (seated : AreSeated seats pending order store) (sound : IsConsistent order) (allows : ℕ → Bool) (t x : ℕ) (op : Op) where
   nothing_blocks : (u : Txn) → blocks allows t x op u.0 [] ≡ true → ⊥
   unfolding blocks
   nothing_blocks u is = go (not (eqb u.0 t)) (not (allows u.0)) is where
@@ -446,7 +446,7 @@ module _ (seats : Seated) (pending : List PendingRequest) (order : Chained) (sto
     go true false e = true≢false (sym e)
     go false b e = true≢false (sym e)
 
-  pub is_blocked_by : IsSound store.by_owner → (c : ℕ) (u : Txn) → seat seats c ≡ Some u → blocks allows t x op u.0 (locks_at store c) ≡ true → is_free_in (rows_of seats pending order store) allows t x op ≡ false
+  pub is_blocked_by : IsConsistent store.by_owner → (c : ℕ) (u : Txn) → seat seats c ≡ Some u → blocks allows t x op u.0 (locks_at store c) ≡ true → is_free_in (rows_of seats pending order store) allows t x op ≡ false
   unfolding is_free_in rows_of row_at
   is_blocked_by owners c u sits h = elim (enrolled_or_not seats pending order store seated sound c) [
     | inl home ↦
@@ -463,7 +463,7 @@ module _ (seats : Seated) (pending : List PendingRequest) (order : Chained) (sto
       ap (λ (n : ℕ). blocks allows t x op n (locks_at store c)) (row_name seats pending order store seated sound c at.0 at.1) ∙ none c at.0 at.1))
 
   -- ---- who blocks
-  pub is_blocker_by : IsSound store.by_owner → (c : ℕ) (u : Txn) → seat seats c ≡ Some u → blocks allows t x op u.0 (locks_at store c) ≡ true → is_blocker_in (rows_of seats pending order store) allows t x op u.0 ≡ true
+  pub is_blocker_by : IsConsistent store.by_owner → (c : ℕ) (u : Txn) → seat seats c ≡ Some u → blocks allows t x op u.0 (locks_at store c) ≡ true → is_blocker_in (rows_of seats pending order store) allows t x op u.0 ≡ true
   unfolding is_blocker_in rows_of row_at
   is_blocker_by owners c u sits h = elim (enrolled_or_not seats pending order store seated sound c) [
     | inl home ↦
@@ -513,7 +513,7 @@ find_absent test (l ∷ locks) none =
     let parts = or_parts (test l) (list_any test locks) none in
     ap (λ (b : Bool). cond b (Some l) (find test locks)) parts.0 ∙ find_absent test locks parts.1
 
-pub nobody_seated : (seats : Seated) (pending : List PendingRequest) (order : Chained) (store : Stored) → AreSeated seats pending order store → IsSound order → (t : Txn) → ((c : ℕ) → seat seats c ≡ Some t → ⊥)
+pub nobody_seated : (seats : Seated) (pending : List PendingRequest) (order : Chained) (store : Stored) → AreSeated seats pending order store → IsConsistent order → (t : Txn) → ((c : ℕ) → seat seats c ≡ Some t → ⊥)
     → is_some (enrolled_in (rows_of seats pending order store) t.0) ≡ true → ⊥
 nobody_seated seats pending order store seated sound t absent enrolled = true≢false (sym enrolled ∙ ap is_some (not_enrolled seats pending order store seated sound t (λ c _. absent c)))
 

@@ -78,7 +78,7 @@ impl SeatedLocks {
     ghost use Rattle.asset_names.specs.declared.operations.Op.{Op as Operation};
     ghost use Rattle.asset_names.specs.InSet.{in_set, only_in};
     ghost use Rattle.asset_names.specs.Numbered.{number_in};
-    ghost use Rattle.asset_chains.specs.Chained.{IsSound};
+    ghost use Rattle.asset_chains.specs.Chained.{IsConsistent};
     ghost use Rattle.asset_seats.specs.Seated.{Seated, seat, HasSeat};
     ghost use Rattle.asset_locks.specs.LockTable.{carries, enrol_in, release_in, hand_over_in, enrolled_in, is_free_in, lock_in, status_in, held_in, waiters_in};
     ghost use Rattle.asset_locks.specs.Valid.{answer_where, after_ask, IsValid};
@@ -428,7 +428,7 @@ impl SeatedLocks {
     pub fn laws(&self, seats: &Seats)
         requires { IsTied self.now seats.now }
         ensures valid { IsValid (rows_in seats.now self.now) }
-        ensures order { IsSound self.now.order }
+        ensures order { IsConsistent self.now.order }
     {
         let _ = seats;
         self.order.laws();

@@ -2,7 +2,7 @@
 use Rattle.std.proofs.Common.{◌≡◌, ℕ, suc, ◌<◌, ◌||◌, Bool, true, false, eqb, List, [], ◌∷◌, ◌++◌, length, Option, Some, None, refl, sym, ap, subst, ◌∙◌, arith, ◌⊎◌, inl, inr}
 use Rattle.std.specs.List.{IsDistinct}
 use Rattle.std.proofs.lemmas.Bool.{or_cases, or_parts, eqb-true, false≢true, true≢false, cond-true, cond-false, eq-eqb, false_from_ne_true, or_left}
-use Rattle.asset_chains.specs.Chained.{Chained, chain_of, home_of, first_of, ahead, behind, lists, IsSound}
+use Rattle.asset_chains.specs.Chained.{Chained, chain_of, home_of, first_of, ahead, behind, lists, IsConsistent}
 use Rattle.asset_chains.proofs.KeyLemmas.{lists-append, distinct_parts}
 use Rattle.asset_chains.proofs.Laws.{chain_at_key, chain_at_first}
 
@@ -33,7 +33,7 @@ behind_at (y ∷ front) back k absent =
     cond-false (eqb k y) (front ++ k ∷ back) (behind k (front ++ k ∷ back)) parts.0 ∙ behind_at front back k parts.1
 
 -- at the start no key is passed
-pub walk_starts : (table : Chained) (c : ℕ) → IsSound table → (next : Option ℕ) → next ≡ first_of (chain_of table c)
+pub walk_starts : (table : Chained) (c : ℕ) → IsConsistent table → (next : Option ℕ) → next ≡ first_of (chain_of table c)
     → IsOn table c next × ((k : ℕ) → lists (passed next (chain_of table c)) k ≡ true → ⊥)
 walk_starts table c sound next is = (λ k at. (chain_at_first k c table sound (sym is ∙ at)).0, λ k. none next is k) where
   nothing : (keys : List ℕ) → None ≡ first_of keys → (k : ℕ) → lists keys k ≡ true → ⊥
@@ -44,7 +44,7 @@ walk_starts table c sound next is = (λ k at. (chain_at_first k c table sound (s
   none None e k there = nothing (chain_of table c) e k there
   none (Some first) e k there = false≢true (ap (λ (keys : List ℕ). lists keys k) (sym (chain_at_first first c table sound (sym e)).1) ∙ there)
 
-module _ (table : Chained) (c k : ℕ) (sound : IsSound table) (home : home_of table k ≡ Some c) where
+module _ (table : Chained) (c k : ℕ) (sound : IsConsistent table) (home : home_of table k ≡ Some c) where
   cut : chain_of table c ≡ ahead k (chain_of table c) ++ k ∷ behind k (chain_of table c)
   cut = chain_at_key k c table sound home
 

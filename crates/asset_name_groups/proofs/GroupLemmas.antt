@@ -10,7 +10,7 @@ use Rattle.asset_name_groups.specs.declared.links.Link.{Link}
 use Rattle.asset_name_groups.specs.declared.links.Link.TheVariants.{Root}
 use Rattle.asset_name_groups.specs.declared.trees.Tree.{Tree}
 use Rattle.asset_name_groups.specs.Labelled.{merged}
-use Rattle.asset_name_groups.specs.NamesInGroups.{has_name, flag_at, merged_flags, with_join, flags_with, with_flag, IsSound}
+use Rattle.asset_name_groups.specs.NamesInGroups.{has_name, flag_at, merged_flags, with_join, flags_with, with_flag, IsConsistent}
 use Rattle.asset_name_groups.specs.Trees.{root_in, label_in, labels_in, flags_in, IsForest}
 use Rattle.asset_name_groups.specs.Roots.{IsTree}
 use Rattle.asset_name_groups.specs.Index.{last_in}
@@ -125,7 +125,7 @@ still_different names t different new i j first second same = elim (cases_eq i (
   unlike k below is = true≢false (sym (has_at names t k below (sym (get_or_append_left names (t ∷ []) 0 k below) ∙ is)) ∙ new)
 
 -- ---- what is true of all groups
-pub sound : (names before last : List ℕ) (links : List Link) (room a b c : ℕ) → IsValid names before last links room a b c → IsSound (record { names = names; labels = labels_in links; flags = flags_in links; room = room })
+pub sound : (names before last : List ℕ) (links : List Link) (room a b c : ℕ) → IsValid names before last links room a b c → IsConsistent (record { names = names; labels = labels_in links; flags = flags_in links; room = room })
 sound names before last links room a b c valid = record {
   different = valid.different;
   each_has_label = labels_long links ∙ valid.long;

@@ -48,7 +48,7 @@ unfoldable pub with_flag : NamesInGroups → ℕ → NamesInGroups
 with_flag groups i = record { names = groups.names; labels = groups.labels; flags = flags_with groups.labels groups.flags (slice_index groups.labels i); room = groups.room }
 
 -- No name is there twice. A label is the first node of its group, and nodes of one group have one flag. A node and 1 take 32 bits.
-pub record IsSound (groups : NamesInGroups) : Type 0 where
+pub record IsConsistent (groups : NamesInGroups) : Type 0 where
   pub different : (i j : ℕ) → i < length groups.names → j < length groups.names → slice_index groups.names i ≡ slice_index groups.names j → i ≡ j
   pub each_has_label : length groups.labels ≡ length groups.names
   pub each_has_flag : length groups.flags ≡ length groups.names

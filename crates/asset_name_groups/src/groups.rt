@@ -57,7 +57,7 @@ impl Model for NameGroups {
 
 impl NameGroups {
     ghost use Rattle.std.specs.Prelude.{◌≡◌, ◌+◌, ◌<◌, ◌≤◌, ◌^◌, false, length, slice_index, IfOk, IfSome, IfNone};
-    ghost use Rattle.asset_name_groups.specs.NamesInGroups.{flag_at, has_name, none_named, one_more, with_flag, with_join, with_name, IsSound};
+    ghost use Rattle.asset_name_groups.specs.NamesInGroups.{flag_at, has_name, none_named, one_more, with_flag, with_join, with_name, IsConsistent};
 
     /// Returns groups of no names, with room for `room` names. It takes 21 bytes for each name and 4 more, and fails if memory runs
     /// out or `room` is above `MOST_NAMES`.
@@ -182,7 +182,7 @@ impl NameGroups {
 
     /// Says what holds of all groups, for proofs. It does nothing.
     pub fn laws(&self)
-        ensures { IsSound self.now }
+        ensures { IsConsistent self.now }
     {
         let _ = &self.names;
     }

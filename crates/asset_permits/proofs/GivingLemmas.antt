@@ -6,7 +6,7 @@ use Rattle.slab.specs.Slab.{get}
 use Rattle.asset_names.specs.declared.names.Txn.{Txn}
 use Rattle.asset_names.specs.declared.operations.Op.{Op}
 use Rattle.asset_names.proofs.Common.{both_follow, some_of}
-use Rattle.asset_chains.specs.Chained.{chain_of, first_of, IsSound}
+use Rattle.asset_chains.specs.Chained.{chain_of, first_of, IsConsistent}
 use Rattle.asset_chains.proofs.KeyLemmas.{first_listed, first_is_some}
 use Rattle.asset_seats.specs.Seated.{seat}
 use Rattle.asset_permits.specs.Descriptors.{Descriptor, gives, lets, lets_all, one_covers, opens}
@@ -30,7 +30,7 @@ abbrev named : ℕ → Option Txn
 named t = Some (record { 0 = t })
 
 -- who has a seat gives something exactly if there is a permit in the chain of its seat
-pub gives_by_seat : (p : Parts) (size : ℕ) → IsValid p size → IsSound p.along → (giver : Txn) (from : ℕ) → seat p.seats from ≡ Some giver → ((c : ℕ) → seat p.seats c ≡ Some giver → c ≡ from)
+pub gives_by_seat : (p : Parts) (size : ℕ) → IsValid p size → IsConsistent p.along → (giver : Txn) (from : ℕ) → seat p.seats from ≡ Some giver → ((c : ℕ) → seat p.seats c ≡ Some giver → c ≡ from)
     → is_some (first_of (chain_of p.along from)) ≡ gives giver.0 (descriptors_of p.permits)
 unfolding gives
 gives_by_seat p size valid sound giver from sits alone = both_follow _ _

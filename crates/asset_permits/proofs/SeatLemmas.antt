@@ -4,7 +4,7 @@ use Rattle.std.proofs.lemmas.Bool.{or_cases, or_left, eqb-true, eqb-false, eq-eq
 use Rattle.slab.specs.Slab.{get}
 use Rattle.asset_names.specs.declared.names.Txn.{Txn}
 use Rattle.asset_names.proofs.Common.{some_of}
-use Rattle.asset_chains.specs.Chained.{Chained, chain_of, home_of, first_of, IsSound}
+use Rattle.asset_chains.specs.Chained.{Chained, chain_of, home_of, first_of, IsConsistent}
 use Rattle.asset_chains.proofs.KeyLemmas.{first_listed as first_is_listed, first_is_some}
 use Rattle.asset_seats.specs.Seated.{Seated, seat}
 use Rattle.asset_permits.specs.Descriptors.{Descriptor}
@@ -14,7 +14,7 @@ use Rattle.asset_permits.specs.Valid.{Parts, parts_of, is_used, IsUsed, IsSeated
 use Rattle.asset_permits.specs.Changes.{Sits}
 
 -- ---- which chains are used
-pub used_along : (along across : Chained) (k c : ℕ) → IsSound along → home_of along k ≡ Some c → is_used along across c ≡ true
+pub used_along : (along across : Chained) (k c : ℕ) → IsConsistent along → home_of along k ≡ Some c → is_used along across c ≡ true
 unfolding is_used
 used_along along across k c sound home = or_left _ _ (first_is_some (chain_of along c) k (sound.listed c k home))
 
@@ -27,10 +27,10 @@ used_turned along across c = either (is_some (first_of (chain_of along c))) (is_
   either false true = refl
   either false false = refl
 
-pub used_across : (along across : Chained) (k c : ℕ) → IsSound across → home_of across k ≡ Some c → is_used along across c ≡ true
+pub used_across : (along across : Chained) (k c : ℕ) → IsConsistent across → home_of across k ≡ Some c → is_used along across c ≡ true
 used_across along across k c sound home = used_turned along across c ∙ used_along across along k c sound home
 
-pub key_of_used : (along across : Chained) (c : ℕ) → IsSound along → IsSound across → is_used along across c ≡ true → (k : ℕ) × ((home_of along k ≡ Some c) ⊎ (home_of across k ≡ Some c))
+pub key_of_used : (along across : Chained) (c : ℕ) → IsConsistent along → IsConsistent across → is_used along across c ≡ true → (k : ℕ) × ((home_of along k ≡ Some c) ⊎ (home_of across k ≡ Some c))
 unfolding is_used
 key_of_used along across c sound sound_across used = elim (or_cases (is_some (first_of (chain_of along c))) (is_some (first_of (chain_of across c))) used) [
   | inl first ↦ let key = some_of (first_of (chain_of along c)) first in (key.0, inl (sound.at_home c key.0 (first_is_listed key.0 (chain_of along c) key.1)))

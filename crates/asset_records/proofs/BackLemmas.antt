@@ -9,7 +9,7 @@ use Rattle.std.proofs.lemmas.List.Sums.{sum_by-cons}
 use Rattle.slab.specs.Slab.{Slab, get}
 use Rattle.asset_names.specs.declared.names.Txn.{Txn}
 use Rattle.asset_names.proofs.Common.{one_txn, some_of}
-use Rattle.asset_chains.specs.Chained.{Chained, chain_of, home_of, first_of, last_of, lists, without, ahead, behind, IsSound}
+use Rattle.asset_chains.specs.Chained.{Chained, chain_of, home_of, first_of, last_of, lists, without, ahead, behind, IsConsistent}
 use Rattle.asset_chains.specs.declared.side.Side.TheVariants.{Row, Column}
 use Rattle.asset_chains.specs.Crossed.{Crossed, IsCrossed}
 use Rattle.asset_chains.proofs.Laws.{chain_at_key, chain_without_key}
@@ -36,7 +36,7 @@ or_true true c e = refl
 or_true false c e = e
 
 -- ---- a record of an object changes or goes, and maybe another one behind it changes
-module _ (records fewer : Slab Record) (table : Chained) (k i : ℕ) (gone : Record) (next : Option ℕ) (sound : IsSound table) (home : home_of table k ≡ Some i) (there : get records k ≡ Some gone)
+module _ (records fewer : Slab Record) (table : Chained) (k i : ℕ) (gone : Record) (next : Option ℕ) (sound : IsConsistent table) (home : home_of table k ≡ Some i) (there : get records k ≡ Some gone)
     (inside : (n : ℕ) → next ≡ Some n → lists (behind k (chain_of table i)) n ≡ true)
     (stays : (l : ℕ) → (l ≡ k → ⊥) → ((n : ℕ) → next ≡ Some n → l ≡ n → ⊥) → get fewer l ≡ get records l) where
   abbrev front : List ℕ
@@ -196,7 +196,7 @@ module _ (records fewer : Slab Record) (k : ℕ) (mend : Mend) where
           here = read_as fewer records n (mends n n_apart ∙ ap (λ (o : Option ℕ). mended_at records o mend n) first ∙ unmended (first_write records keys) refl)
 
 -- the lists after the record of t at k is taken back
-pub taken_back : (records later fewer : Slab Record) (table less : Chained) (t k i : ℕ) (gone : Record) (next : Option ℕ) (mend : Mend) (restored : Option Mend) → IsSound table → home_of table k ≡ Some i → get records k ≡ Some gone → is_of t gone ≡ true
+pub taken_back : (records later fewer : Slab Record) (table less : Chained) (t k i : ℕ) (gone : Record) (next : Option ℕ) (mend : Mend) (restored : Option Mend) → IsConsistent table → home_of table k ≡ Some i → get records k ≡ Some gone → is_of t gone ≡ true
     → next ≡ first_write records (behind k (chain_of table i)) → mend ≡ mend_of (record_at records k) (at_keys records (behind k (chain_of table i)))
     → ((j : ℕ) → get later j ≡ mended_at records next mend j) → ((j : ℕ) → get fewer j ≡ cond (eqb j k) None (get later j))
     → ((j : ℕ) → chain_of less j ≡ without k (chain_of table j)) → length less.chains ≡ length table.chains
@@ -243,7 +243,7 @@ none_inside : (keys : List ℕ) (n : ℕ) → None ≡ Some n → lists keys n �
 none_inside keys n e = cc e
 
 -- the lists after the write of t at k is dropped with all before it on its object
-pub settles_through : (records fewer : Slab Record) (table less : Chained) (t k i visited : ℕ) (gone : Record) → IsSound table → IsSound less → home_of table k ≡ Some i → get records k ≡ Some gone → is_of t gone ≡ true → is_write gone ≡ true
+pub settles_through : (records fewer : Slab Record) (table less : Chained) (t k i visited : ℕ) (gone : Record) → IsConsistent table → IsConsistent less → home_of table k ≡ Some i → get records k ≡ Some gone → is_of t gone ≡ true → is_write gone ≡ true
     → chain_of less i ≡ behind k (chain_of table i) → ((j : ℕ) → eqb j i ≡ false → chain_of less j ≡ chain_of table j) → length less.chains ≡ length table.chains
     → ((l : ℕ) → is_some (get fewer l) ≡ true → get fewer l ≡ get records l) → ((l : ℕ) → is_some (get fewer l) ≡ is_some (home_of less l))
     → count_by (is_owned (λ (n : ℕ). true)) (record_at records k ∷ at_keys records (ahead k (chain_of table i))) ≤ visited
@@ -288,7 +288,7 @@ settles_through records fewer table less t k i visited gone sound sound_less hom
     go false e = ap (at_keys records) (others j (ne_eqb j i (λ same. eqb-false i j e (sym same)))) ∙ sym (on_chain records table j)
 
 -- the lists after the add of t at k becomes nobody's
-pub settles_lasting : (records fewer : Slab Record) (table : Chained) (t k i visited : ℕ) (owner : Txn) (amount : ℤ) → IsSound table → home_of table k ≡ Some i → get records k ≡ Some (Add owner amount) → is_of t (Add owner amount) ≡ true
+pub settles_lasting : (records fewer : Slab Record) (table : Chained) (t k i visited : ℕ) (owner : Txn) (amount : ℤ) → IsConsistent table → home_of table k ≡ Some i → get records k ≡ Some (Add owner amount) → is_of t (Add owner amount) ≡ true
     → ((l : ℕ) → get fewer l ≡ cond (eqb l k) (Some (Lasting amount)) (get records l)) → 1 ≤ visited → visited ≤ 4 → Settles t i visited (map (at_keys records) table.chains) (map (at_keys fewer) table.chains)
 unfolding settled_on settled_many
 settles_lasting records fewer table t k i visited owner amount sound home there whose put least most = record {
@@ -310,7 +310,7 @@ settles_lasting records fewer table t k i visited owner amount sound home there 
   stays l off differ = put l ∙ ap (λ (b : Bool). cond b (Some (Lasting amount)) (get records l)) (ne_eqb l k off)
 
 -- the lists after the add of t at k goes, where no write stands before it
-pub settles_dropped : (records fewer : Slab Record) (table less : Chained) (t k i visited : ℕ) (owner : Txn) (amount : ℤ) → IsSound table → home_of table k ≡ Some i → get records k ≡ Some (Add owner amount) → is_of t (Add owner amount) ≡ true
+pub settles_dropped : (records fewer : Slab Record) (table less : Chained) (t k i visited : ℕ) (owner : Txn) (amount : ℤ) → IsConsistent table → home_of table k ≡ Some i → get records k ≡ Some (Add owner amount) → is_of t (Add owner amount) ≡ true
     → has_write (at_keys records (ahead k (chain_of table i))) ≡ false
     → ((l : ℕ) → get fewer l ≡ cond (eqb l k) None (get records l)) → ((j : ℕ) → chain_of less j ≡ without k (chain_of table j)) → length less.chains ≡ length table.chains
     → 1 ≤ visited → visited ≤ 4 → Settles t i visited (map (at_keys records) table.chains) (map (at_keys fewer) less.chains)

@@ -5,7 +5,7 @@ use Rattle.std.specs.List.{list_any}
 use Rattle.std.proofs.lemmas.Bool.{true≢false, cases_Bool, and_parts, or_parts, eqb-true, eq-eqb}
 use Rattle.std.proofs.lemmas.List.{map-append}
 use Rattle.slab.specs.Slab.{Slab, get}
-use Rattle.asset_chains.specs.Chained.{chain_of, home_of, first_of, last_of, ahead, behind, IsSound}
+use Rattle.asset_chains.specs.Chained.{chain_of, home_of, first_of, last_of, ahead, behind, IsConsistent}
 use Rattle.asset_chains.specs.Crossed.{Crossed}
 use Rattle.asset_chains.proofs.Laws.{chain_at_key, chain_at_last}
 use Rattle.asset_records.specs.declared.mending.Mend.{Mend}
@@ -182,15 +182,15 @@ same_only a b same = only_by_flags a ∙ ap only_of same ∙ sym (only_by_flags 
 
 -- ---- what stays true of records when some go, or change other than from a write to an add
 -- a test that such records still pass
-record IsKept (test : List Record → Bool) : Type 0 where
+record StaysTrue (test : List Record → Bool) : Type 0 where
   less : (a : List Record) (x : Record) (b : List Record) → test (a ++ x ∷ b) ≡ true → test (a ++ b) ≡ true
   later : (a b : List Record) → test (a ++ b) ≡ true → test b ≡ true
   flags : (a b : List Record) → map is_write a ≡ map is_write b → test a ≡ test b
 
-kept_layered : IsKept is_layered
+kept_layered : StaysTrue is_layered
 kept_layered = record { less = layered_less; later = layered_later; flags = same_flags }
 
-kept_writes : IsKept only_writes
+kept_writes : StaysTrue only_writes
 kept_writes = record { less = writes_less; later = writes_later; flags = same_only }
 
 -- what a mark says of the old ones is true of the new ones
@@ -232,7 +232,7 @@ renamed_flags giver taker [] = refl
 renamed_flags giver taker (x ∷ records) = λ i. renamed_flag giver taker x i ∷ renamed_flags giver taker records i
 
 -- ---- the records of an object
-module _ (test : List Record → Bool) (kept : IsKept test) where
+module _ (test : List Record → Bool) (kept : StaysTrue test) where
   -- after one is taken back
   taken_test : (t object : ℕ) (restored : Option Mend) (old new : List (List Record)) → TakesBack t object restored old new → (j : ℕ) → test (on old j) ≡ true → test (on new j) ≡ true
   unfolding ChangesOn
@@ -367,7 +367,7 @@ no_amount : (o : Option ℤ) → is_some o ≡ false → o ≡ None
 no_amount None e = refl
 no_amount (Some k) e = absurd (true≢false e)
 
-module _ (records : Crossed Record) (marks : List Mark) (object : ℕ) (sound : IsSound records.rows) (marked : AreMarked marks (lists_in records)) where
+module _ (records : Crossed Record) (marks : List Mark) (object : ℕ) (sound : IsConsistent records.rows) (marked : AreMarked marks (lists_in records)) where
   row_layered : says_layered (mark_at marks object) ≡ true → is_layered (at_keys records.items (chain_of records.rows object)) ≡ true
   unfolding AreMarked
   row_layered is = ap is_layered (sym (on_chain records.items records.rows object)) ∙ fits_layered (mark_at marks object) (on (lists_in records) object) (marked object) is

@@ -5,7 +5,7 @@ use Rattle.std.specs.List.{IsDistinct}
 use Rattle.std.proofs.lemmas.Bool.{eqb-true, eqb-false, eq-eqb, ne_eqb, true≢false, cases_Bool}
 use Rattle.slab.specs.Slab.{get}
 use Rattle.asset_names.specs.declared.names.Txn.{Txn}
-use Rattle.asset_chains.specs.Chained.{Chained, chain_of, home_of, first_of, behind, without, lists, IsSound}
+use Rattle.asset_chains.specs.Chained.{Chained, chain_of, home_of, first_of, behind, without, lists, IsConsistent}
 use Rattle.asset_chains.specs.declared.side.Side.TheVariants.{Row, Column}
 use Rattle.asset_chains.specs.Crossed.{Crossed, IsCrossed}
 use Rattle.asset_chains.proofs.Walks.{from_key}
@@ -115,7 +115,7 @@ module _ (object from to : ℕ) (taker : Txn) (old now : Crossed Record) (key vi
 
 -- ---- both walks move the same records
 -- a chain lists exactly the keys whose home it is
-pub listed_is : (table : Chained) → IsSound table → (c k : ℕ) → lists (chain_of table c) k ≡ is_at c (home_of table k)
+pub listed_is : (table : Chained) → IsConsistent table → (c k : ℕ) → lists (chain_of table c) k ≡ is_at c (home_of table k)
 listed_is table sound c k = elim (cases_Bool (lists (chain_of table c) k)) [
   | inl there ↦ there ∙ sym (ap (is_at c) (sound.at_home c k there) ∙ eq-eqb c c refl)
   | inr absent ↦ absent ∙ sym (nowhere (home_of table k) refl absent)

@@ -4,7 +4,7 @@ use Rattle.std.specs.List.{count_by}
 use Rattle.std.proofs.lemmas.List.Sums.{sum_by-cons, count_by-le-length}
 use Rattle.std.proofs.lemmas.Bool.{eqb-false, true≢false, false≢true}
 use Rattle.slab.specs.Slab.{Slab, get}
-use Rattle.asset_chains.specs.Chained.{Chained, chain_of, home_of, first_of, without, ahead, behind, lists, IsSound}
+use Rattle.asset_chains.specs.Chained.{Chained, chain_of, home_of, first_of, without, ahead, behind, lists, IsConsistent}
 use Rattle.asset_chains.proofs.Laws.{chain_at_first, chain_without_key}
 use Rattle.asset_chains.proofs.SoundLemmas.{listed_once}
 use Rattle.asset_chains.proofs.KeyLemmas.{without_unlisted}
@@ -14,7 +14,7 @@ use Rattle.asset_chains.specs.Crossed.{Crossed}
 use Rattle.asset_records.proofs.ListedLemmas.{keys_length}
 use Rattle.asset_records.proofs.BackLemmas.{read_as}
 
-module _ (table less : Chained) (key i : ℕ) (sound : IsSound table) (first : first_of (chain_of table i) ≡ Some key) (chains : (j : ℕ) → chain_of less j ≡ without key (chain_of table j)) where
+module _ (table less : Chained) (key i : ℕ) (sound : IsConsistent table) (first : first_of (chain_of table i) ≡ Some key) (chains : (j : ℕ) → chain_of less j ≡ without key (chain_of table j)) where
   pub first_home : home_of table key ≡ Some i
   first_home = (chain_at_first key i table sound first).0
 

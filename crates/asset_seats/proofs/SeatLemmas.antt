@@ -4,7 +4,7 @@ use Rattle.std.specs.Prelude.{slice_index_or, unwrap_or, IfSome, IfNone}
 use Rattle.std.proofs.lemmas.Bool.{true≢false}
 use Rattle.asset_names.specs.declared.names.Txn.{Txn}
 use Rattle.asset_names.proofs.Common.{some_of}
-use Rattle.asset_chains.specs.Chained.{Chained, chain_of, home_of, last_of, lists, IsSound}
+use Rattle.asset_chains.specs.Chained.{Chained, chain_of, home_of, last_of, lists, IsConsistent}
 use Rattle.asset_chains.proofs.Laws.{key_within, chain_at_last}
 use Rattle.asset_seats.specs.Seated.{Seated, seat}
 use Rattle.asset_seats.specs.Bucketed.{bucket_in, no_name, name_in, taken, slots_of, seats_of, rebucketed, AreSeated}
@@ -120,21 +120,21 @@ module _ (names : List Txn) (table : Chained) (buckets : ℕ) (now : Seated) (vi
       kept.one d c at_d.0 at_c.0 at_d.1 at_c.1 (at_d.2 ∙ sym at_c.2)
 
   -- a seat that nobody has is free
-  pub free_seat : IsSound table → (c : ℕ) → c < length now.slots → seat now c ≡ None → now.has_room ≡ true
+  pub free_seat : IsConsistent table → (c : ℕ) → c < length now.slots → seat now c ≡ None → now.has_room ≡ true
   free_seat sound c within nobody =
       let among : c < length table.homes = omega (arith, many_are names table now view) in
       let home = free_in (home_of table c) (name_in names c) (sym (seat_is names table now c view) ∙ nobody) (kept.homed c among) in
       room_is names table now view ∙ last_some (chain_of table 0) c (sound.listed 0 c home)
 
   -- the seat that is given next is free
-  pub vacant_home : IsSound table → now.has_room ≡ true → home_of table now.vacant ≡ Some 0
+  pub vacant_home : IsConsistent table → now.has_room ≡ true → home_of table now.vacant ≡ Some 0
   vacant_home sound room =
       let last = some_of (last_of (chain_of table 0)) (sym (room_is names table now view) ∙ room) in
       let at = (chain_at_last last.0 0 table sound last.1).0 in
       let here : now.vacant ≡ last.0 = vacant_is names table now view ∙ ap (λ (o : Option ℕ). unwrap_or o (length table.homes)) last.1 in
       ap (home_of table) here ∙ at
 
-  pub vacant_within : IsSound table → now.has_room ≡ true → now.vacant < length now.slots
+  pub vacant_within : IsConsistent table → now.has_room ≡ true → now.vacant < length now.slots
   vacant_within sound room = let among = key_within now.vacant 0 table (vacant_home sound room) in omega (arith, among, many_are names table now view)
 
   -- the name of a bucket's seat

@@ -1,6 +1,6 @@
 use Rattle.std.proofs.Common.{refl, sym, ap, ◌∙◌, is_some, subst}
 use Rattle.asset_names.proofs.Common.{some_of}
-use Rattle.asset_chains.specs.Chained.{home_of, IsSound}
+use Rattle.asset_chains.specs.Chained.{home_of, IsConsistent}
 use Rattle.asset_chains.proofs.Laws.{key_within, unlinks}
 use Rattle.asset_chains.proofs.Walks.{chains_without, homes_without}
 use Rattle.asset_lock_store.specs.Stored.{Stored, IsDropped}
@@ -28,7 +28,7 @@ returns c =
     let inside = c.self.inside in
     let there = ap (λ (s : Stored). is_some (home_of s.by_owner c.args.key)) c.self.view_is ∙ c.requires in
     let of_owner = some_of (home_of inside.by_owner c.args.key) there in
-    let sound = subst (λ (s : Stored). IsSound s.by_owner) (sym c.self.view_is) c.laws.ensures.owners in
+    let sound = subst (λ (s : Stored). IsConsistent s.by_owner) (sym c.self.view_is) c.laws.ensures.owners in
     subst (λ (s : Stored). IsDropped c.args.key s (record { locks = c.try_remove.new.self; objects = inside.objects.items; by_object = c.remove.new.self; by_owner = c.unlink.new.self })) c.self.view_is (record {
       locks = λ k apart. same_lock c.try_remove.new.self inside.locks k (c.try_remove.ensures.updates.others k apart);
       chains = chains_without inside.by_owner c.unlink.new.self c.args.key of_owner.0 sound of_owner.1 c.unlink.ensures;
