@@ -539,6 +539,21 @@ def stars_of_1000(steps, seed):
     return script
 
 
+def pairs_that_join(steps, seed):
+    """Pairs that commit together, each joined to the one before it, up to 5,000; a commit of one ends them all."""
+    script = Script(steps, seed, 20_000)
+    while script.has_room(12):
+        members = []
+        while len(members) < 10_000 and script.has_room(12):
+            pair = script.start_many(2)
+            script.depend("gc", pair[0], pair[1])
+            if members:
+                script.depend("gc", members[-1], pair[0])
+            members += pair
+        script.finish_together(members, "commit")
+    return script
+
+
 def workflows(steps, seed):
     """Three parts that commit together, and a step that depends on one of them; in a quarter of them a part aborts."""
     script = Script(steps, seed, 20_000)
@@ -669,6 +684,7 @@ LOADS = {
         hand_over_all,
         classes_of_1000,
         stars_of_1000,
+        pairs_that_join,
         workflows,
         chain_of_commits,
         chain_of_aborts,

@@ -1,14 +1,27 @@
 //! What callers ask of the dependencies: classes, sources outside of them, and cycles.
 
+ghost use Rattle.std.specs.Prelude.{◌≡◌, length, max};
+ghost use Rattle.asset_chains.specs.Chained.{chain_of};
+
 use crate::finding::is_loop;
 use crate::kinds::Kinds;
+use crate::link::Link;
 use crate::outside::leads_outside;
 use crate::search::Search;
 use crate::table::SeatedDeps;
-use asset_chains::Side;
-use asset_marks::{Way, is_linked, spread};
+use asset_chains::{Crossed, Side};
+use asset_marks::{Way, is_linked_either_way, spread};
 use asset_names::{Kind, Txn};
 use asset_seats::{Seats, Sitter};
+
+/// Returns how many dependencies lead from the seat, or how many lead to it if those are more.
+fn most_on(links: &Crossed<Link>, seat: usize) -> usize
+    ensures { result ≡ max (length (chain_of links.now.rows seat)) (length (chain_of links.now.columns seat)) }
+{
+    links
+        .len(Side::Row, seat)
+        .max(links.len(Side::Column, seat))
+}
 
 impl SeatedDeps {
     ghost use Rattle.std.specs.Prelude.{◌≡◌, ◌≢◌, ℕ, ◌==◌, ◌⊎◌, false, Some};
@@ -21,8 +34,8 @@ impl SeatedDeps {
 
     /// Returns whether a dependency of `b` on `a` would close a cycle of classes. Nothing changes.
     ///
-    /// It searches from either end, whichever has fewer dependencies that way, and looks only at those of the transactions
-    /// that it meets. It takes no memory.
+    /// It searches from both ends in turn, first from the one that has fewer dependencies, until one of the two searches knows, and
+    /// looks only at those of the transactions that it meets. It takes no memory.
     pub fn would_cycle(&mut self, seats: &Seats, kind: Kind, a: Sitter, b: Sitter) -> bool
         requires tied { IsTied self.old seats.now }
         requires source { HasSeat seats.now a }
@@ -136,20 +149,20 @@ impl SeatedDeps {
     {
         seats.laws();
         let (from, to) = (a.at, b.at);
-        if self.links.len(Side::Row, from) <= self.links.len(Side::Column, to) {
-            let search = Search {
-                links: &self.links,
-                side: Side::Row,
-                kinds,
-            };
-            is_linked(&search, from, to, &mut self.marks)
+        let forth = Search {
+            links: &self.links,
+            side: Side::Row,
+            kinds,
+        };
+        let back = Search {
+            links: &self.links,
+            side: Side::Column,
+            kinds,
+        };
+        if most_on(&self.links, from) <= most_on(&self.links, to) {
+            is_linked_either_way(&forth, from, &back, to, &mut self.marks)
         } else {
-            let search = Search {
-                links: &self.links,
-                side: Side::Column,
-                kinds,
-            };
-            is_linked(&search, to, from, &mut self.marks)
+            is_linked_either_way(&back, to, &forth, from, &mut self.marks)
         }
     }
 }

@@ -8,4 +8,4 @@ mod search;
 
 pub use along::{Pick, Way, expand_along, leads_out};
 pub use marks::Marks;
-pub use search::{Arrows, is_linked, spread};
+pub use search::{Arrows, is_linked, is_linked_either_way, spread};

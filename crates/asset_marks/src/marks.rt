@@ -84,7 +84,7 @@ impl Marks {
     }
 
     /// Returns how many nodes there are.
-    fn size(&self) -> usize
+    pub(crate) fn size(&self) -> usize
         ensures { result ≡ self.now.size }
     {
         self.order.len()

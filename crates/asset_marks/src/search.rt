@@ -1,6 +1,6 @@
 //! The search along arrows.
 
-ghost use Rattle.std.specs.Prelude.{◌≡◌, ℕ, ◌<◌, ◌==◌, false};
+ghost use Rattle.std.specs.Prelude.{◌≡◌, ℕ, ◌<◌, ◌==◌, false, IfNone, IfSome};
 ghost use Rattle.asset_names.specs.Arrows.{lists, linked};
 ghost use Rattle.asset_marks.specs.Searched.{AreWithin};
 
@@ -21,6 +21,39 @@ pub trait Arrows {
         ensures expanded { Expands (arrows self.now) node marks.old.nodes marks.new.nodes };
 }
 
+/// Returns whether the arrows lead from a node to another, if that is known once `most` nodes are expanded beside the first, and
+/// `None` if it is not. All nodes are always enough.
+fn is_linked_within<A: Arrows>(
+    way: &A,
+    from: usize,
+    to: usize,
+    most: usize,
+    marks: &mut Marks,
+) -> Option<bool>
+    requires within { AreWithin (A.arrows way.now) marks.old.size }
+    requires to { to < marks.old.size }
+    requires another { (from == to) ≡ false }
+    ensures size { marks.new.size ≡ marks.old.size }
+    ensures is_linked { IfSome result (λ found. found ≡ linked (A.arrows way.now) from to) }
+    ensures more { IfNone result (most < marks.old.size) }
+{
+    marks.clear();
+    way.expand(from, marks);
+    let mut next = 0;
+    'met: while next < marks.len() {
+        if marks.has(to) {
+            return Some(true);
+        }
+        if next == most {
+            return None;
+        }
+        let node = marks.node(next);
+        way.expand(node, marks);
+        next += 1;
+    }
+    Some(false)
+}
+
 /// Returns whether the arrows lead from a node to another. It expands only the first node and those that it meets,
 /// and stops once it has met the second node.
 pub fn is_linked<A: Arrows>(way: &A, from: usize, to: usize, marks: &mut Marks) -> bool
@@ -30,18 +63,44 @@ pub fn is_linked<A: Arrows>(way: &A, from: usize, to: usize, marks: &mut Marks) 
     ensures size { marks.new.size ≡ marks.old.size }
     ensures is_linked { result ≡ linked (A.arrows way.now) from to }
 {
-    marks.clear();
-    way.expand(from, marks);
-    let mut next = 0;
-    'met: while next < marks.len() {
-        if marks.has(to) {
-            return true;
+    let all = marks.size();
+    let Some(found) = is_linked_within(way, from, to, all, marks) else {
+        unreachable!();
+    };
+    found
+}
+
+/// Returns what `is_linked` does, by two searches in turn: one from the first node, and one from the second along arrows that lead
+/// back. Each time they go twice as far as before, until one of the two knows. So no more than four times as many nodes are
+/// expanded as by the one that would end sooner, from each of the two.
+pub fn is_linked_either_way<A: Arrows>(
+    forth: &A,
+    from: usize,
+    back: &A,
+    to: usize,
+    marks: &mut Marks,
+) -> bool
+    requires within { AreWithin (A.arrows forth.now) marks.old.size }
+    requires back_within { AreWithin (A.arrows back.now) marks.old.size }
+    requires from { from < marks.old.size }
+    requires to { to < marks.old.size }
+    requires another { (from == to) ≡ false }
+    requires back { linked (A.arrows back.now) to from ≡ linked (A.arrows forth.now) from to }
+    ensures size { marks.new.size ≡ marks.old.size }
+    ensures is_linked { result ≡ linked (A.arrows forth.now) from to }
+{
+    let all = marks.size();
+    let mut most: usize = 1;
+    'rounds: while most < all {
+        if let Some(found) = is_linked_within(forth, from, to, most, marks) {
+            return found;
         }
-        let node = marks.node(next);
-        way.expand(node, marks);
-        next += 1;
+        if let Some(found) = is_linked_within(back, to, from, most, marks) {
+            return found;
+        }
+        most = most.saturating_mul(2);
     }
-    false
+    is_linked(forth, from, to, marks)
 }
 
 /// Meets exactly the nodes to which the arrows lead from this one, itself among them. It expands only nodes that it meets.

@@ -4,7 +4,7 @@ use Rattle.asset_names.specs.Arrows.{lists}
 use Rattle.asset_names.proofs.ListLemmas.{lists_at}
 use Rattle.asset_marks.specs.Searched.{Expands}
 use Rattle.asset_marks.proofs.WalkLemmas.{walk_from, walk_on, walk_across}
-use Rattle.asset_marks.proofs.search.is_linked.Goals as goal
+use Rattle.asset_marks.proofs.search.is_linked_within.Goals as goal
 
 pub met-init : goal.met-init
 met-init g c = (c.expand.ensures.size ∙ c.clear.ensures.size, walk_from _ _ _ _ _ c.clear.ensures.nodes c.expand.ensures.expanded)

@@ -1,6 +1,6 @@
 use Rattle.std.proofs.Common.{◌≡◌, ◌-◌}
 use Rattle.asset_marks.proofs.WalkLemmas.{Walked}
-use Rattle.asset_marks.proofs.search.is_linked.Given as goal
+use Rattle.asset_marks.proofs.search.is_linked_within.Given as goal
 
 -- the first node is expanded, and the first few of those that were met
 abbrev pub invariant-met : goal.invariant-met
