@@ -39,6 +39,25 @@ fn records_move_with_their_owner(rt: HostRuntime) -> Result<(), Fail> {
     Ok(())
 }
 
+/// Returns whether the one write of 7 stands at undo of 7 when 8 has taken all over, and goes at undo of 8.
+fn one_write_is_taken_over(objects: &mut Objects) -> bool {
+    let begun = write(objects, 7, 1, 50) == Ok(());
+    objects.hand_over(Txn(7), Txn(8), &ObSet::All);
+    objects.undo(Txn(7));
+    let between = shows(objects, 50, 200);
+    objects.undo(Txn(8));
+    begun && between && shows(objects, 100, 200)
+}
+
+#[test]
+fn one_write_is_undone_by_its_taker(rt: HostRuntime) -> Result<(), Fail> {
+    let mut objects = opened(rt.alloc(), &TWO)?;
+    let undone = one_write_is_taken_over(&mut objects);
+    drop(objects);
+    assert!(rt; undone);
+    Ok(())
+}
+
 /// Returns whether settle of 8 makes the write final that 8 took over on the first object, and no other.
 fn settle_follows_the_owner(objects: &mut Objects, first: &ObSet) -> bool {
     let begun = write_both(objects) == Ok(());
