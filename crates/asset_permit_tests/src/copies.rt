@@ -115,6 +115,27 @@ fn copied_for_one_object(rt: HostRuntime) {
     assert!(rt; copied);
 }
 
+/// Returns whether 6 gets a copy of the permit of 7 for 8 on 1 and 2, on 1 alone.
+fn copied_on_one_of_two(permits: &mut Permits) -> bool {
+    let (Ok(low), Ok(high)) = (two(1, 2), two(2, 3)) else {
+        return false;
+    };
+    let both = Ops::only(Op::Read).with(Op::Write);
+    add(permits, 7, 8, &low, both)
+        && add(permits, 8, 9, &high, Ops::only(Op::Read))
+        && copy(permits, 7, 6, &[Ob(1)])
+        && writes(permits, 6, 8, 1)
+        && !writes(permits, 6, 8, 2)
+}
+
+#[test]
+fn copied_for_one_of_two_listed_objects(rt: HostRuntime) {
+    let mut permits = Permits::new(rt.alloc());
+    let copied = copied_on_one_of_two(&mut permits);
+    drop(permits);
+    assert!(rt; copied);
+}
+
 /// Returns whether copies of what 7 gives nobody, of what an unknown transaction gives, and on no objects change
 /// nothing.
 fn nothing_copied(permits: &mut Permits) -> bool {
