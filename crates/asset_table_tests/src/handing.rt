@@ -91,6 +91,18 @@ fn joined_lock_is_suspended(locks: &mut Locks, permits: &mut Permits) -> bool {
         && is_granted(locks, 8, 1)
 }
 
+/// Returns whether the granted lock of 8 goes back to 7, by whose permit it was granted, and the one lock is suspended.
+fn granted_lock_goes_back(locks: &mut Locks, permits: &mut Permits) -> bool {
+    permit(permits, 7, 8)
+        && takes(locks, permits, 7, 1, Op::Write)
+        && takes(locks, permits, 8, 1, Op::Write)
+        && is_suspended(locks, 7, 1)
+        && is_granted(locks, 8, 1)
+        && hand(locks, 8, 7, &ObSet::All)
+        && is_suspended(locks, 7, 1)
+        && has_none(locks, 8, 1)
+}
+
 /// Returns whether the lock of 8, which only read, blocks a reader when it has the write of 7 too.
 fn joined_lock_carries_both(locks: &mut Locks, permits: &mut Permits) -> bool {
     takes(locks, permits, 7, 1, Op::Read)
@@ -217,6 +229,16 @@ fn suspended_after_joining(rt: HostRuntime) {
     let mut permits = Permits::new(rt.alloc());
     let mut locks = Locks::new(rt.alloc());
     let suspended = joined_lock_is_suspended(&mut locks, &mut permits);
+    drop(locks);
+    drop(permits);
+    assert!(rt; suspended);
+}
+
+#[test]
+fn suspended_after_a_granted_lock_goes_back(rt: HostRuntime) {
+    let mut permits = Permits::new(rt.alloc());
+    let mut locks = Locks::new(rt.alloc());
+    let suspended = granted_lock_goes_back(&mut locks, &mut permits);
     drop(locks);
     drop(permits);
     assert!(rt; suspended);

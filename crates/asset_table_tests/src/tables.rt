@@ -226,6 +226,18 @@ fn delegated_write(tables: &mut Tables) -> bool {
         && tables.value(Ob(1)) == Some(50)
 }
 
+/// Returns whether a write that was handed over outlives its writer, and another reads it once its taker has committed.
+fn write_outlives_its_writer(tables: &mut Tables) -> bool {
+    start_three(tables)
+        && write(tables, 7, 1, 50)
+        && delegate(tables, 7, 8, &ObSet::Listed(ObList::one(Ob(1))))
+        && abort(tables, 7)
+        && read(tables, 9, 1) == None
+        && tables.waiters(Ob(1), 0) == Some((Txn(9), Op::Read))
+        && commit(tables, 8)
+        && read(tables, 9, 1) == Some(50)
+}
+
 /// Returns whether a transaction that handed nothing over goes on as before, and one that is its own taker does too.
 fn empty_delegations(tables: &mut Tables) -> bool {
     start_three(tables)
@@ -261,6 +273,15 @@ fn cooperating_write_on_the_tables(rt: HostRuntime) -> Result<(), Fail> {
 fn delegated_write_on_the_tables(rt: HostRuntime) -> Result<(), Fail> {
     let mut tables = open(rt.alloc())?;
     let works = delegated_write(&mut tables);
+    drop(tables);
+    assert!(rt; works);
+    Ok(())
+}
+
+#[test]
+fn write_outlives_its_writer_on_the_tables(rt: HostRuntime) -> Result<(), Fail> {
+    let mut tables = open(rt.alloc())?;
+    let works = write_outlives_its_writer(&mut tables);
     drop(tables);
     assert!(rt; works);
     Ok(())
