@@ -1,7 +1,8 @@
 //! The worked rows of adds, by every word.
 
-use crate::words::first_other_work;
+use crate::words::{first_other_work, writes};
 use asset_cli::{Report, Work};
+use asset_scripts::RunEnd;
 use std::test::Fail;
 
 /// Two add to one object. Who reads it waits for both, and an abort takes back its own adds alone.
@@ -37,7 +38,11 @@ fn adds_commute(rt: HostRuntime) -> Result<(), Fail> {
 
 /// One more than the greatest value is the least.
 const ADD_WRAPS: &str = "\
-    object 1 100\ninitiate 7\nbegin 7\nwrite 7 1 9223372036854775807\nadd 7 1 1\nread 7 1\n";
+    object 1 100\nobject 2 200\nobject 3 300\ninitiate 7\nbegin 7\nwrite 7 1 9223372036854775807\n\
+    add 7 1 1\nread 7 1\n";
+
+/// The objects of the rows, of which nothing else is left if nobody commits.
+const OBJECTS: &str = "object 1 100\nobject 2 200\nobject 3 300\n";
 
 #[test]
 fn add_wraps(rt: HostRuntime) -> Result<(), Fail> {
@@ -45,8 +50,8 @@ fn add_wraps(rt: HostRuntime) -> Result<(), Fail> {
         (Work::Run, "ok\nok\nok\nok\n-9223372036854775808\n"),
         (Work::Report(Report::Groups), "0 dead 7\n"),
         (Work::Sources, "4 read 7 1 -9223372036854775808 entry 2\n"),
-        (Work::Report(Report::Pruned), "object 1 100\n"),
-        (Work::Report(Report::Serial), "object 1 100\n"),
+        (Work::Report(Report::Pruned), OBJECTS),
+        (Work::Report(Report::Serial), OBJECTS),
     ];
     let other = first_other_work(rt.alloc(), ADD_WRAPS, &texts);
     assert_eq!(rt; other, None);
@@ -91,14 +96,30 @@ fn write_over_add(rt: HostRuntime) -> Result<(), Fail> {
         (Work::Run, "ok\nok\nok\nok\nok\nok\nok\naborted\n105\n"),
         (Work::Report(Report::Groups), "0 dead 7 8\n"),
         (Work::Sources, "8 read 7 1 105 opening\n"),
-        (
-            Work::Report(Report::Pruned),
-            "object 1 100\nobject 2 200\nobject 3 300\n",
-        ),
+        (Work::Report(Report::Pruned), OBJECTS),
     ];
     let other = first_other_work(rt.alloc(), WRITE_OVER_ADD, &texts);
     assert_eq!(rt; other, None);
     Ok(())
+}
+
+/// The same, and then a permit whose operations stand in another order.
+const OTHER_ORDER: &str = "\
+    object 1 100\nobject 2 200\nobject 3 300\ninitiate 7\nbegin 7\ninitiate 8\nbegin 8\nadd 7 1 5\n\
+    permit 7 8 w 1\nwrite 8 1 60\nabort 8\nread 7 1\npermit 7 8 aw 1\n";
+
+#[test]
+fn operations_in_another_order_are_bad(rt: HostRuntime) {
+    let text = "ok\nok\nok\nok\nok\nok\nok\naborted\n105\nline 13: bad command\n";
+    assert!(rt;
+        writes(
+            rt.alloc(),
+            Work::Run,
+            OTHER_ORDER,
+            text,
+            RunEnd::BadLine(13)
+        )
+    );
 }
 
 /// The example `stock.asset` without its comments.
