@@ -1,14 +1,20 @@
-//! Models by clients of one manager, two of them on two threads at once, on different objects.
+//! Models by clients of one manager, two of them on two threads at once, on different objects. Worked rows follow, by one client
+//! alone.
 
 ghost use Rattle.std.specs.Thread.{IsSync};
 
+use crate::asserts::same;
 use crate::parts::part;
-use asset_manager::{AuditFault, Manager, Session};
-use asset_manager_tests::{ROOM, THREE, close_two, opened, room_for};
+use crate::rows::{
+    COOPERATING, DISTRIBUTED, NESTED, ran_out, run_cooperating, run_distributed, run_nested,
+};
+use crate::rows_of::{Row, row_of_history};
+use asset_manager::{AuditFault, Manager, OpenFault, Session};
+use asset_manager_tests::{ROOM, THREE, close_two, hand_in, opened, room_for};
 use asset_models::{
     Act, Asset, Client, ModelEnd, contingent, cooperating, distributed, nested, saga,
 };
-use asset_names::{Fault, Ob, ObSet};
+use asset_names::{Fault, Ob, ObSet, Status};
 use asset_test_tools::{abort, listed};
 use std::alloc::Global;
 use std::sync::Wait;
@@ -174,5 +180,132 @@ fn cooperating_and_saga_at_once(rt: HostRuntime) -> Result<(), Fail> {
         seen,
         (Ok(ModelEnd::Committed), Ok(ModelEnd::Undone), Ok(()))
     );
+    Ok(())
+}
+
+/// A worked row that is also one over a facility.
+#[derive(Clone, Copy)]
+enum Worked {
+    /// A parent and its child.
+    Nested,
+    /// Two parts, of which the second gives up.
+    Distributed,
+    /// Two transactions that write one object in turn.
+    Cooperating,
+}
+
+impl Worked {
+    /// Returns the lines of the row.
+    fn lines(self) -> &'static str {
+        match self {
+            Worked::Nested => NESTED,
+            Worked::Distributed => DISTRIBUTED,
+            Worked::Cooperating => COOPERATING,
+        }
+    }
+
+    /// Runs the model of the row.
+    fn run<A: Asset>(self, alloc: Global, asset: &mut A) -> Result<ModelEnd, Fault> {
+        match self {
+            Worked::Nested => run_nested(alloc, asset),
+            Worked::Distributed => run_distributed(alloc, asset),
+            Worked::Cooperating => run_cooperating(alloc, asset),
+        }
+    }
+}
+
+/// What a model left, by the history of the closed manager, and the audit.
+type Left = (Row, Result<(), AuditFault>);
+
+/// Closes a manager with the session of its only client, for which the list has room. Returns what the model left.
+fn closed_row(
+    alloc: Global,
+    manager: Manager,
+    mut closing: Vec<Session>,
+    session: Session,
+    (end, lines): (Result<ModelEnd, Fault>, &str),
+) -> Result<Left, OpenFault> {
+    let _handed = hand_in(&mut closing, session);
+    let closed = manager.close(closing);
+    let row = row_of_history(alloc, &closed.history, end, lines, [7, 8, 9]);
+    let audit = closed.audit;
+    drop(closed);
+    Ok((row?, audit))
+}
+
+/// Runs a worked row by the only client of a manager. Returns what the model left.
+fn row_once<R: Wait>(rt: &R, alloc: Global, worked: Worked) -> Result<Left, Fail> {
+    let closing = room_for(alloc, 1)?;
+    let (manager, session) = opened(alloc, &THREE, ROOM)?;
+    let mut client = Client {
+        rt,
+        manager: &manager,
+        session,
+    };
+    let end = worked.run(alloc, &mut client);
+    let Client {
+        rt: _,
+        manager: _,
+        session,
+    } = client;
+    Ok(closed_row(alloc, manager, closing, session, (end, worked.lines()))?)
+}
+
+/// Runs a worked row as `row_once` does. If memory runs out once, the row is made again.
+fn client_row<R: Wait>(rt: &R, alloc: Global, worked: Worked) -> Result<Left, Fail> {
+    let left = row_once(rt, alloc, worked)?;
+    if ran_out(&left.0) {
+        row_once(rt, alloc, worked)
+    } else {
+        Ok(left)
+    }
+}
+
+#[test]
+fn client_runs_a_parent_and_its_child(rt: HostRuntime) -> Result<(), Fail> {
+    let (row, audit) = client_row(&rt, rt.alloc(), Worked::Nested)?;
+    same(
+        &rt,
+        (row.end, row.missing),
+        (Ok(ModelEnd::Committed), Some(0)),
+    );
+    same(&rt, row.values, [Some(50), Some(80), Some(300)]);
+    same(&rt, audit, Ok(()));
+    Ok(())
+}
+
+#[test]
+fn client_runs_a_part_that_gives_up(rt: HostRuntime) -> Result<(), Fail> {
+    let (row, audit) = client_row(&rt, rt.alloc(), Worked::Distributed)?;
+    same(
+        &rt,
+        (row.end, row.missing),
+        (Ok(ModelEnd::Aborted), Some(0)),
+    );
+    same(&rt, row.values[0], Some(100));
+    same(
+        &rt,
+        row.statuses,
+        [Status::Aborted, Status::Aborted, Status::Unknown],
+    );
+    same(&rt, audit, Ok(()));
+    Ok(())
+}
+
+#[test]
+fn client_runs_two_that_write_in_turn(rt: HostRuntime) -> Result<(), Fail> {
+    let (row, audit) = client_row(&rt, rt.alloc(), Worked::Cooperating)?;
+    same(
+        &rt,
+        (row.end, row.missing),
+        (Ok(ModelEnd::Committed), Some(0)),
+    );
+    same(&rt, row.values[0], Some(60));
+    same(
+        &rt,
+        row.statuses,
+        [Status::Committed, Status::Committed, Status::Unknown],
+    );
+    same(&rt, audit, Ok(()));
     Ok(())
 }

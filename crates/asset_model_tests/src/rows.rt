@@ -8,7 +8,7 @@ use crate::rows_of::{Row, row_of};
 use asset_core::OpenFault;
 use asset_core_tests::{ROOM, THREE, ask, first_wrong_line, opened};
 use asset_models::{
-    Act, ModelEnd, atomic, contingent, cooperating, distributed, join, nested, saga, split,
+    Act, Asset, ModelEnd, atomic, contingent, cooperating, distributed, join, nested, saga, split,
 };
 use asset_names::{Fault, Ob, Status, Txn};
 use asset_test_tools::{initiate, listed, write};
@@ -23,17 +23,30 @@ pub(crate) const NESTED: &str =
 pub(crate) const SAGA: &str =
     "initiate 7: ok\nbegin 7: ok\nwrite 7 1 50: ok\ncomplete 7: ok\ncommit 7: committed\ninitiate 8: ok\nbegin 8: ok\nabort 8: aborted\ninitiate 17: ok\nbegin 17: ok\nwrite 17 1 100: ok\ncomplete 17: ok\ncommit 17: committed\n";
 
+/// The row of two parts that commit together, of which the second gives up.
+pub(crate) const DISTRIBUTED: &str =
+    "initiate 7: ok\nbegin 7: ok\ninitiate 8: ok\nbegin 8: ok\ndepend gc 7 8: ok\nwrite 7 1 50: ok\nabort 8: aborted\n";
+
+/// The row of two transactions that write object 1 in turn.
+pub(crate) const COOPERATING: &str =
+    "initiate 7: ok\nbegin 7: ok\ninitiate 8: ok\nbegin 8: ok\npermit 7 8 rwa 1: ok\npermit 8 7 rwa 1: ok\ndepend gc 7 8: ok\nwrite 7 1 50: ok\nwrite 8 1 60: ok\nread 7 1: 60\ncomplete 7: ok\ncomplete 8: ok\ncommit 7: committed\n";
+
 /// Returns whether memory ran out in a row, whose history then has the first of the lines.
-fn ran_out(row: &Row) -> bool {
+pub(crate) fn ran_out(row: &Row) -> bool {
     row.end == Err(Fault::NoMemory) && row.missing.is_some()
 }
 
 /// Runs a parent and its child.
-fn nested_row(alloc: Global) -> Result<Row, OpenFault> {
-    let mut core = opened(alloc, &THREE, ROOM)?;
+pub(crate) fn run_nested<A: Asset>(alloc: Global, asset: &mut A) -> Result<ModelEnd, Fault> {
     let parent = part(alloc, 7, &[Act::Write(Ob(1), 50)]);
     let child = part(alloc, 8, &[Act::Read(Ob(1)), Act::Write(Ob(2), 80)]);
-    let end = nested(&mut core, &parent, &[child], 2);
+    nested(asset, &parent, &[child], 2)
+}
+
+/// Runs a parent and its child over a facility.
+fn nested_row(alloc: Global) -> Result<Row, OpenFault> {
+    let mut core = opened(alloc, &THREE, ROOM)?;
+    let end = run_nested(alloc, &mut core);
     Ok(row_of(alloc, core, end, NESTED, [7, 8, 9]))
 }
 
@@ -139,14 +152,17 @@ fn second_alternative_commits(rt: HostRuntime) -> Result<(), Fail> {
 }
 
 /// Runs two parts that commit together, of which the second gives up.
-fn distributed_row(alloc: Global) -> Result<Row, OpenFault> {
-    let mut core = opened(alloc, &THREE, ROOM)?;
+pub(crate) fn run_distributed<A: Asset>(alloc: Global, asset: &mut A) -> Result<ModelEnd, Fault> {
     let first = part(alloc, 7, &[Act::Write(Ob(1), 50)]);
     let second = part(alloc, 8, &[Act::GiveUp]);
-    let end = distributed(&mut core, &[first, second], 2);
-    let lines =
-        "initiate 7: ok\nbegin 7: ok\ninitiate 8: ok\nbegin 8: ok\ndepend gc 7 8: ok\nwrite 7 1 50: ok\nabort 8: aborted\n";
-    Ok(row_of(alloc, core, end, lines, [7, 8, 9]))
+    distributed(asset, &[first, second], 2)
+}
+
+/// Runs two parts, of which the second gives up, over a facility.
+fn distributed_row(alloc: Global) -> Result<Row, OpenFault> {
+    let mut core = opened(alloc, &THREE, ROOM)?;
+    let end = run_distributed(alloc, &mut core);
+    Ok(row_of(alloc, core, end, DISTRIBUTED, [7, 8, 9]))
 }
 
 #[test]
@@ -256,14 +272,17 @@ fn joined_write_falls_with_its_taker(rt: HostRuntime) -> Result<(), Fail> {
 }
 
 /// Runs two transactions that write object 1 in turn.
-fn cooperating_row(alloc: Global) -> Result<Row, OpenFault> {
-    let mut core = opened(alloc, &THREE, ROOM)?;
+pub(crate) fn run_cooperating<A: Asset>(alloc: Global, asset: &mut A) -> Result<ModelEnd, Fault> {
     let first = part(alloc, 7, &[Act::Write(Ob(1), 50), Act::Read(Ob(1))]);
     let second = part(alloc, 8, &[Act::Write(Ob(1), 60)]);
-    let end = cooperating(&mut core, &first, &second, listed(&[Ob(1)]), 2);
-    let lines =
-        "initiate 7: ok\nbegin 7: ok\ninitiate 8: ok\nbegin 8: ok\npermit 7 8 rwa 1: ok\npermit 8 7 rwa 1: ok\ndepend gc 7 8: ok\nwrite 7 1 50: ok\nwrite 8 1 60: ok\nread 7 1: 60\ncomplete 7: ok\ncomplete 8: ok\ncommit 7: committed\n";
-    Ok(row_of(alloc, core, end, lines, [7, 8, 9]))
+    cooperating(asset, &first, &second, listed(&[Ob(1)]), 2)
+}
+
+/// Runs two transactions that write object 1 in turn over a facility.
+fn cooperating_row(alloc: Global) -> Result<Row, OpenFault> {
+    let mut core = opened(alloc, &THREE, ROOM)?;
+    let end = run_cooperating(alloc, &mut core);
+    Ok(row_of(alloc, core, end, COOPERATING, [7, 8, 9]))
 }
 
 #[test]

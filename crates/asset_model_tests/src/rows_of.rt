@@ -1,8 +1,9 @@
 //! What a model leaves in a facility.
 
-use asset_core::Core;
-use asset_core_tests::{parsed, reads};
+use asset_core::{Core, OpenFault};
+use asset_core_tests::{ROOM, THREE, opened, parsed, reads};
 use asset_history::History;
+use asset_manager_tests::is_replayed;
 use asset_models::ModelEnd;
 use asset_names::{Fault, Ob, Outcome, Status, Txn};
 use std::alloc::Global;
@@ -71,4 +72,25 @@ pub fn row_of(
         values,
         statuses,
     }
+}
+
+/// Returns what a model left of which there is this history, as `row_of` does: the lines are compared with the history, and the
+/// values and statuses are those of a facility that is asked the history again. An answer that differs counts as an entry that is not
+/// as its line says.
+pub fn row_of_history(
+    alloc: Global,
+    history: &History,
+    end: Result<ModelEnd, Fault>,
+    lines: &str,
+    names: [u64; 3],
+) -> Result<Row, OpenFault> {
+    let mut core = opened(alloc, &THREE, ROOM)?;
+    let replayed = is_replayed(&mut core, history);
+    let mut row = row_of(alloc, core, end, lines, names);
+    row.missing = if replayed {
+        missing_lines(alloc, history, lines)
+    } else {
+        None
+    };
+    Ok(row)
 }
