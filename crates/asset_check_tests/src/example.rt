@@ -1,7 +1,11 @@
-//! The example script with mistakes, and what a check of it prints, as the folder `examples` has them.
+//! The example script with mistakes, and what a check of it prints, as the folder `examples` has them. The one with a deadlock
+//! follows, with its transcript.
 
 use crate::checks::gives;
-use asset_scripts::RunEnd;
+use crate::devices::{taking, whole};
+use asset_cli::run_script;
+use asset_scripts::{Device, RunEnd};
+use std::alloc::Global;
 
 /// The script `mistakes.asset`.
 const MISTAKES: &str = "\
@@ -54,4 +58,48 @@ fn mistakes_are_named(rt: HostRuntime) {
             RunEnd::BadLine(5)
         )
     );
+}
+
+/// The script `deadlock.asset`.
+const DEADLOCK: &str = "\
+# 7 and 8 wait for each other, and 9 for 7; 10 may not commit before 9 has ended.
+object 1 100
+object 2 200
+initiate 7
+initiate 8
+initiate 9
+initiate 10
+begin 7
+begin 8
+begin 9
+begin 10
+write 7 1 50
+write 8 2 60
+# Each of these is answered wait.
+read 7 2
+read 8 1
+write 9 1 70
+# 10 depends on 9, so its commit waits too.
+depend cd 9 10
+complete 10
+commit 10
+";
+
+/// Its transcript.
+const DEADLOCK_OUT: &str =
+    "ok\nok\nok\nok\nok\nok\nok\nok\nok\nok\nwait\nwait\nwait\nok\nok\nwait\n";
+
+/// Returns whether a script runs to its end and has this transcript.
+fn runs(alloc: Global, script: &str, transcript: &str) -> bool {
+    let mut writer = taking(transcript);
+    let mut input = Device::new(whole(script.as_bytes()));
+    let mut output = Device::new(&mut writer);
+    let ended = run_script(alloc, &mut input, &mut output, 10_000);
+    drop(output);
+    ended == Ok(RunEnd::Finished) && writer.wanted.is_empty() && writer.same
+}
+
+#[test]
+fn deadlock_has_its_transcript(rt: HostRuntime) {
+    assert!(rt; runs(rt.alloc(), DEADLOCK, DEADLOCK_OUT));
 }
