@@ -65,7 +65,7 @@ job 103 aborted
 audit ok entries 22 committed 1 aborted 2
 ";
 
-const ROWS: [Row<'static>; 9] = [
+const ROWS: [Row<'static>; 10] = [
     // Two jobs that share nothing.
     Row {
         script: "object 1 100\nobject 2 200\njob 7\nwrite 1 150\njob 8\nwrite 2 250\n",
@@ -104,6 +104,14 @@ const ROWS: [Row<'static>; 9] = [
         capacity: 4,
         workers: 64,
         text: "job 9 committed\njob 7 not begun\njob 8 not begun\naudit ok entries 4 committed 1 aborted 0\n",
+        status: 0,
+    },
+    // There is no room for the act of the first job, which so gives up; the second is not begun.
+    Row {
+        script: "object 1 100\njob 7\nwrite 1 5\njob 8\n",
+        capacity: 4,
+        workers: 2,
+        text: "job 7 aborted\njob 8 not begun\naudit ok entries 3 committed 0 aborted 1\n",
         status: 0,
     },
     // A bad line: no job is run.
