@@ -15,7 +15,6 @@ use Rattle.asset_audit.specs.Audited.{Call}
 use Rattle.asset_entries.specs.Recorded.{answer_to}
 use Rattle.asset_manager.specs.Listed.{IsListed}
 use Rattle.asset_manager.specs.Asks.{IsAnswer}
-use Rattle.asset_runner.specs.declared.plan.Cause.TheVariants as Cause'
 use Rattle.asset_runner.specs.Initiated.{IsInitiated, IsInitiation, cause_by}
 
 -- an initiation is answered `Done` or refused

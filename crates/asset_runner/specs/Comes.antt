@@ -1,5 +1,5 @@
 -- What a plan's run gives.
-use Rattle.std.specs.Prelude.{◌≡◌, ◌<◌, ℕ, List, ◌∷◌, map, Some}
+use Rattle.std.specs.Prelude.{◌≡◌, ◌<◌, ◌⊎◌, ℕ, List, [], ◌∷◌, map, Some}
 use Rattle.asset_names.specs.declared.names.Txn.{Txn}
 use Rattle.asset_audit.specs.Audited.{Call}
 use Rattle.asset_bodies.specs.declared.ends.JobEnd.{JobEnd}
@@ -14,6 +14,18 @@ pub record Comes (names : List Txn) (plan : List Call) (runs : List JobRun) (end
   pub ends_are : ends ≡ ends_of runs runs
   pub left_are : left ≡ left_of runs
   pub sessions_are : sessions ≡ plan ∷ map (λ (run : JobRun). run.calls) runs
+
+-- a plan without jobs that is refused memory cannot give its session back in a list: there is nothing
+pub record IsLost (names : List Txn) (runs : List JobRun) (ends : List (Txn × JobEnd)) (left : List Txn) (sessions : List (List Call)) : Type 0 where
+  pub no_names : names ≡ []
+  pub no_runs : runs ≡ []
+  pub no_ends : ends ≡ []
+  pub none_left : left ≡ []
+  pub no_sessions : sessions ≡ []
+
+-- what a run gives that did not go as planned
+abbrev pub ComesOrLost : List Txn → List Call → List JobRun → List (Txn × JobEnd) → List Txn → List (List Call) → Type 0
+ComesOrLost names plan runs ends left sessions = Comes names plan runs ends left sessions ⊎ IsLost names runs ends left sessions
 
 -- why a run did not go as planned
 abbrev pub IsCause : ℕ → List JobRun → RunCause → Type 0

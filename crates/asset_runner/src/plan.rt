@@ -14,7 +14,7 @@ ghost use Rattle.asset_runner.specs.Placing.{nones, somes};
 ghost use Rattle.asset_runner.specs.Runs.{JobRun, first_stranger};
 ghost use Rattle.asset_runner.specs.Arrived.{numbered, placed, left_at, ticket_of};
 ghost use Rattle.asset_runner.specs.Rows.{all_of, names_of};
-ghost use Rattle.asset_runner.specs.Comes.{Comes, IsCause, IsWorkCause};
+ghost use Rattle.asset_runner.specs.Comes.{Comes, ComesOrLost, IsCause, IsWorkCause};
 ghost use Rattle.asset_runner.specs.Initiated.{IsInitiated, IsRefused, IsInitiation, cause_by};
 
 use crate::arrival::Arrival;
@@ -332,9 +332,9 @@ impl Plan {
         gate: &G,
     ) -> Result<Report, RunFault>
         ensures ok { IfOk result (λ r. (runs : List JobRun) × Comes self.names.items self.session.list.calls runs r.ends.items (map (λ j. j.name) r.left.items) (map (λ (s : Asker). s.list.calls) r.sessions.items) × (first_stranger runs ≡ None)) }
-        ensures err { IfErr result (λ e. (self.names.items ≡ []) ⊎ ((runs : List JobRun) × Comes self.names.items self.session.list.calls runs e.report.ends.items (map (λ j. j.name) e.report.left.items) (map (λ (s : Asker). s.list.calls) e.report.sessions.items) × IsCause workers runs e.cause)) }
+        ensures err { IfErr result (λ e. (runs : List JobRun) × ComesOrLost self.names.items self.session.list.calls runs e.report.ends.items (map (λ j. j.name) e.report.left.items) (map (λ (s : Asker). s.list.calls) e.report.sessions.items) × IsCause workers runs e.cause) }
         ensures workers { OnOk result (0 < workers) }
-        ensures session { IfOk result (λ r. (rest : List Asker) × (r.sessions.items ≡ self.session ∷ rest)) }
+        ensures session { MatchResult result (λ r. (rest : List Asker) × (r.sessions.items ≡ self.session ∷ rest)) (λ e. ((self.names.items ≡ []) × (e.report.sessions.items ≡ [])) ⊎ ((rest : List Asker) × (e.report.sessions.items ≡ self.session ∷ rest))) }
     {
         let Plan {
             manager: _,
@@ -378,7 +378,10 @@ fn no_room(
     _session: Session,
     _jobs: Vec<Planned>,
     _rooms: Rooms,
-) -> RunFault {
+) -> RunFault
+    ensures report { (result.report.ends.items ≡ []) × (result.report.left.items ≡ []) × (result.report.sessions.items ≡ []) }
+    ensures cause { IsCause workers [] result.cause }
+{
     let cause = if workers == 0 {
         RunCause::NoWorkers
     } else {

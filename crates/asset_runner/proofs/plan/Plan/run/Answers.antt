@@ -1,11 +1,7 @@
-use Rattle.std.proofs.Common.{◌≡◌, map, sym, ap, ◌∙◌, subst, inr, arith}
+use Rattle.std.proofs.Common.{map, sym, ap, ◌∙◌, subst}
 use Rattle.asset_queue.specs.Once.{SharedOut}
 use Rattle.asset_queue.specs.Rows.{tickets_of}
-use Rattle.asset_runner.specs.Runs.{JobRun, first_stranger}
 use Rattle.asset_runner.specs.Arrived.{numbered, ticket_of}
-use Rattle.asset_runner.specs.Comes.{Comes}
-use Rattle.asset_runner.specs.Rows.{runs_of}
-use Rattle.asset_runner.proofs.ArrivedLemmas.{as_many, work_cause}
 use Rattle.asset_runner.proofs.plan.Plan.run.Goals as goal
 
 pub gather-order-requires-clause-shared : goal.gather-order-requires-clause-shared
