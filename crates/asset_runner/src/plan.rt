@@ -30,6 +30,7 @@ use asset_queue::{MOST_WORKERS, run};
 use std::alloc::Global;
 use std::sync::{Arc, Wait};
 use std::thread::Threads;
+use thiserror::Error;
 
 /// How many calls a job asks beside its operations: its begin, its complete and its commit.
 const OWN_CALLS: usize = 3;
@@ -38,13 +39,16 @@ const OWN_CALLS: usize = 3;
 const EXPECTED: usize = 5;
 
 /// Why a job was not initiated.
-#[derive(Clone, Copy, PartialEq, Eq, Debug)]
+#[derive(Clone, Copy, Debug, PartialEq, Eq, Error)]
 pub enum Cause {
     /// The facility refused it.
+    #[error("the facility refused it")]
     Refused(Refusal),
     /// The history has no room.
+    #[error("the history has no room")]
     Full,
     /// Memory ran out.
+    #[error("no memory")]
     NoMemory,
 }
 

@@ -13,6 +13,7 @@ use crate::firsts::{Firsts, end_in, firsts_of};
 use asset_bodies::{Body, JobEnd};
 use asset_manager::Session;
 use asset_names::Txn;
+use thiserror::Error;
 
 /// A job whose body was not called.
 #[derive(Drop)]
@@ -35,13 +36,16 @@ pub struct Report {
 }
 
 /// Why a run did not go as planned.
-#[derive(Clone, Copy, PartialEq, Eq, Debug)]
+#[derive(Clone, Copy, Debug, PartialEq, Eq, Error)]
 pub enum RunCause {
     /// There were no workers.
+    #[error("no workers")]
     NoWorkers,
     /// Memory ran out.
+    #[error("no memory")]
     NoMemory,
     /// The body of this job, the first such in order of initiation, answered the `Finished` of another transaction.
+    #[error("the body of job {} answered the end of another", .0.0)]
     Stranger(Txn),
 }
 
