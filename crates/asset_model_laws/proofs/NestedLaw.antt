@@ -1,6 +1,6 @@
 -- The children of a nested transaction have handed over all to it, or have aborted.
-use Rattle.std.proofs.Common.{◌≡◌, ◌⊎◌, Bool, true, false, List, [], ◌∷◌, refl, sym, ◌∙◌, ap, subst, Some, inl, inr}
-use Rattle.std.specs.Prelude.{Ok}
+use Rattle.std.proofs.Common.{◌≡◌, ◌<◌, ◌⊎◌, ℕ, zero, suc, Bool, true, false, List, [], ◌∷◌, length, refl, sym, ◌∙◌, ap, subst, Some, inl, inr, arith}
+use Rattle.std.specs.Prelude.{Ok, Contains, slice_index_or}
 use Rattle.asset_names.specs.declared.names.Txn.{Txn}
 use Rattle.asset_names.specs.declared.sets.ObSet.{ObSet}
 use Rattle.asset_names.specs.declared.sets.ObSet.TheVariants.{All}
@@ -22,7 +22,7 @@ use Rattle.asset_model_laws.specs.Amid.{IsAmid}
 use Rattle.asset_model_laws.specs.Nested.{HandsOver, AllHandOver}
 use Rattle.asset_model_laws.proofs.RunAmid.{IsRunAmid, whole}
 use Rattle.asset_model_laws.proofs.OwnerLaws.{all_handed}
-use Rattle.asset_model_laws.proofs.AmidLemmas.{Grows, legal_at}
+use Rattle.asset_model_laws.proofs.AmidLemmas.{Grows, grows_on, legal_at}
 use Rattle.asset_model_laws.proofs.FinalLemmas.{is_final, ends_so, Onto, Answered, must_onto, musts_onto, acts_onto, commit_onto, aborted_so, abort_quiet, complete_quiet, starts_quiet, own_of, done_unless}
 use Rattle.asset_model_laws.proofs.FinalLemmas.AllQuiet.{none_quiet, more_quiet}
 
@@ -38,6 +38,20 @@ delegated opening u t obs new legal told =
 hands_over : (opening : Opening) (u t : Txn) (new : List Entry) → IsLegal opening new → Answered new (Delegate u t All) → HandsOver u t new
 hands_over opening u t new legal told =
     let here = delegated opening u t All new legal told in
+    record { newer = here.1.0; older = here.0; split = here.1.1; all = λ n is. all_handed here.0 u t n is }
+
+-- a call stands in the history
+called_in : (test : Entry → Bool) (old calls new : List Entry) (call : Entry) → IsAmid test old calls new → (k : ℕ) → k < length calls → slice_index_or calls k call ≡ call → (older : List Entry) × Grows (call ∷ older) new
+unfolding IsAmid
+called_in test old [] new call amid k within is = absurd (omega arith)
+called_in test old (first ∷ calls) new call amid zero within is = (amid.0, subst (λ (entry : Entry). Grows (entry ∷ amid.0) new) is (amid.1.0, amid.1.1))
+called_in test old (first ∷ calls) new call amid (suc k) within is =
+    let deeper = called_in test old calls amid.0 call amid.2 k (omega arith) is in
+    (deeper.0, grows_on (call ∷ deeper.0) (first ∷ amid.0) new (first ∷ deeper.1.0, ap (λ (some : List Entry). first ∷ some) deeper.1.1) (amid.1.0, amid.1.1))
+
+pub done_hands_over : (test : Entry → Bool) (old calls new : List Entry) (u t : Txn) → IsAmid test old calls new → Contains calls (Delegate u t All, Reply'.Done) → HandsOver u t new
+done_hands_over test old calls new u t amid called =
+    let here = called_in test old calls new (Delegate u t All, Reply'.Done) amid called.0 called.1 called.2 in
     record { newer = here.1.0; older = here.0; split = here.1.1; all = λ n is. all_handed here.0 u t n is }
 
 -- the run goes on with the rest

@@ -1,13 +1,13 @@
 //! What a run of each model means in a legal history that has its calls. Others may act before, between and after the calls; two
 //! laws ask that they do nothing in the name of one transaction.
 
-ghost use Rattle.std.specs.Prelude.{◌≡◌, List, ◌∷◌, ◌++◌, [], Bool, Result, Ok, Some};
+ghost use Rattle.std.specs.Prelude.{◌≡◌, List, ◌∷◌, ◌++◌, [], Contains, Bool, Result, Ok, Some};
 ghost use Rattle.asset_names.specs.declared.names.Txn.{Txn};
 ghost use Rattle.asset_names.specs.declared.sets.ObSet.{ObSet};
 ghost use Rattle.asset_names.specs.declared.sets.ObSet.TheVariants.{All};
 ghost use Rattle.asset_names.specs.declared.statuses.End.TheVariants.{Committed as Commits, Aborted as Aborts};
-ghost use Rattle.asset_names.specs.declared.steps.Step.TheVariants.{Commit, Abort};
-ghost use Rattle.asset_names.specs.declared.replies.Reply.TheVariants.{Committed, Aborted};
+ghost use Rattle.asset_names.specs.declared.steps.Step.TheVariants.{Delegate, Commit, Abort};
+ghost use Rattle.asset_names.specs.declared.replies.Reply.TheVariants.{Done, Committed, Aborted};
 ghost use Rattle.asset_names.specs.declared.replies.Fault.{Fault};
 ghost use Rattle.asset_names.specs.Steps.{Opening, Entry, applied};
 ghost use Rattle.asset_names.specs.Endings.{end_of};
@@ -19,7 +19,7 @@ ghost use Rattle.asset_models.specs.Courses.{IsRun, contingent_course, distribut
 ghost use Rattle.asset_model_laws.specs.Amid.{IsAmid};
 ghost use Rattle.asset_model_laws.specs.Ended.{AllEnded};
 ghost use Rattle.asset_model_laws.specs.Contingent.{OneAtMost};
-ghost use Rattle.asset_model_laws.specs.Nested.{AllHandOver};
+ghost use Rattle.asset_model_laws.specs.Nested.{HandsOver, AllHandOver};
 ghost use Rattle.asset_model_laws.specs.Handing.{is_anothers, StandsAs, TakesAll};
 ghost use Rattle.asset_model_laws.specs.Sagas.{Pair, IsUndone};
 
@@ -53,9 +53,11 @@ pub fn cooperating_ends_in_one_way()
         IsRun (cooperating_course p q obs) [] calls (Ok IsAborted) → IsAmid others old calls new → AllEnded Aborts new (p ∷ q ∷ []) }
 {}
 
-/// If `nested` answers `Committed`, each child has handed over to its parent all for which it was responsible, or has
-/// aborted, and the parent has committed.
+/// Whatever `nested` answers, each child whose hand-over was answered `Done` has handed over to its parent all for which it was
+/// responsible. If it answers `Committed`, each child has done so or has aborted, and the parent has committed.
 pub fn nested_takes_over()
+    ensures handed { (opening : Opening) (others : Entry → Bool) (p : Part) (children : List Part) (old calls new : List Entry) (result : Result ModelEnd Fault) (child : Txn) → IsLegal opening new →
+        IsRun (nested_course p children) [] calls result → IsAmid others old calls new → Contains calls (Delegate child p.name All, Done) → HandsOver child p.name new }
     ensures children { (opening : Opening) (others : Entry → Bool) (p : Part) (children : List Part) (old calls new : List Entry) → IsLegal opening new →
         IsRun (nested_course p children) [] calls (Ok IsCommitted) → IsAmid others old calls new → AllHandOver p.name new children }
     ensures parent { (opening : Opening) (others : Entry → Bool) (p : Part) (children : List Part) (old calls new : List Entry) → IsLegal opening new →

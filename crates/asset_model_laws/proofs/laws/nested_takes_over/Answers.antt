@@ -1,5 +1,8 @@
-use Rattle.asset_model_laws.proofs.NestedLaw.{nested_hands_over}
+use Rattle.asset_model_laws.proofs.NestedLaw.{done_hands_over, nested_hands_over}
 use Rattle.asset_model_laws.proofs.laws.nested_takes_over.Goals as goal
+
+pub returns-clause-handed : goal.returns-clause-handed
+returns-clause-handed c = λ opening others p children old calls new result child legal run amid called. done_hands_over others old calls new child p.name amid called
 
 pub returns-clause-children : goal.returns-clause-children
 returns-clause-children c = λ opening others p children old calls new legal run amid. (nested_hands_over opening others p children old calls new legal run amid).0
