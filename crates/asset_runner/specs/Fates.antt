@@ -1,6 +1,11 @@
 -- What a worker did with a job.
-use Rattle.std.specs.Prelude.{Option, Some, None}
+use Rattle.std.specs.Prelude.{◌≡◌, ℕ, List, [], ◌∷◌, ◌++◌, Option, Some, None}
+use Rattle.atomic_table.specs.Seated.{TableId}
 use Rattle.asset_names.specs.declared.names.Txn.{Txn}
+use Rattle.asset_names.specs.declared.steps.Step.TheVariants.{Begin}
+use Rattle.asset_names.specs.declared.replies.Reply.TheVariants.{Done}
+use Rattle.asset_audit.specs.Audited.{Call}
+use Rattle.asset_bodies.specs.Working.{Working, Worked}
 use Rattle.asset_runner.specs.declared.arrival.Fate.{Fate}
 use Rattle.asset_runner.specs.declared.arrival.Fate.TheVariants.{Left, Called}
 
@@ -8,3 +13,14 @@ use Rattle.asset_runner.specs.declared.arrival.Fate.TheVariants.{Left, Called}
 abbrev pub answered_by : {X : Type 0} {B : X → Type 0} → Fate X B → Option Txn
 answered_by (Left body) = None
 answered_by (Called answered waits) = Some answered
+
+-- the body was called with a transaction of this name and manager, whose begin was answered `Done` after the calls before, and it
+-- answered the `Finished` of u
+pub record CallsBody (post : Working → Worked → Type 0) (name : Txn) (manager : TableId) (before : List Call) (u : Txn) : Type 0 where
+  pub tx : Working
+  pub finished : Worked
+  pub named : tx.name ≡ name
+  pub of : tx.manager ≡ manager
+  pub begun : (n : ℕ) × (tx.list.calls ≡ before ++ (n, Begin name, Done) ∷ [])
+  pub answered : post tx finished
+  pub whose : finished.name ≡ u

@@ -1,12 +1,13 @@
 //! The jobs of a plan, and what a worker does with one.
 
-ghost use Rattle.std.specs.Prelude.{◌≡◌, Some};
+ghost use Rattle.std.specs.Prelude.{◌≡◌, Some, IfSome};
 ghost use Rattle.std.specs.Arc.{arc_value};
 ghost use base.Stored.{Coded-set};
 ghost use Rattle.atomic_table.specs.Seated.{table_id_coded};
 ghost use Rattle.asset_counts.specs.Pass.{IsOf, IsOf-prop};
 ghost use Rattle.asset_bodies.specs.Working.{Working, Worked};
 ghost use Rattle.asset_runner.specs.Arrived.{left_at};
+ghost use Rattle.asset_runner.specs.Fates.{CallsBody};
 
 use crate::arrival::Arrival;
 use crate::gate::Gate;
@@ -91,7 +92,8 @@ impl Planned {
 
     /// Begins the transaction, calls the body and asks the commit. If the transaction does not begin, the job is left.
     pub fn run<R: Wait>(self, rt: &R) -> Arrival
-        ensures { (result.place ≡ self.place) × (result.run.name ≡ self.name) }
+        ensures place { (result.place ≡ self.place) × (result.run.name ≡ self.name) }
+        ensures called { IfSome result.run.answered (CallsBody (post self.body) self.name (arc_value self.manager) self.session.list.calls) }
     {
         let Planned {
             place,
