@@ -17,7 +17,7 @@ use Rattle.asset_model_laws.specs.Clients.{AgreesWith, OthersPass}
 use Rattle.asset_model_laws.proofs.RunAmid.{calls_grow, run_shifts}
 
 -- one more entry of another on top
-other_on_top : (test : Entry → Bool) (old calls new : List Entry) (entry : Entry) → test entry ≡ true → IsAmid test old calls new → IsAmid test old calls (entry ∷ new)
+pub other_on_top : (test : Entry → Bool) (old calls new : List Entry) (entry : Entry) → test entry ≡ true → IsAmid test old calls new → IsAmid test old calls (entry ∷ new)
 unfolding IsAmid
 other_on_top test old [] new entry passes amid = (entry ∷ amid.0, ap (λ (some : List Entry). entry ∷ some) amid.1, and_from _ _ passes amid.2)
 other_on_top test old (call ∷ calls) new entry passes amid =
@@ -25,20 +25,20 @@ other_on_top test old (call ∷ calls) new entry passes amid =
     (amid.0, (entry ∷ only.0, ap (λ (some : List Entry). entry ∷ some) only.1, and_from _ _ passes only.2), amid.2)
 
 -- the calls up to a place, and the entries
-unfoldable calls_to : List Call → ℕ → List Entry
+unfoldable pub calls_to : List Call → ℕ → List Entry
 calls_to list n = reverse (map entry_of (take n list))
 
 last_taken : {X : Type 0} (xs : List X) (n : ℕ) (x : X) → slice_get xs n ≡ Some x → take (suc n) xs ≡ take n xs ++ x ∷ []
 last_taken xs n x at = take-suc xs n x (slice_get_within xs n x at) ∙ ap (λ y. take n xs ++ y ∷ []) (get_or_from_slice_get xs n x x at)
 
-unfoldable entries_to : List Entry → ℕ → List Entry
+unfoldable pub entries_to : List Entry → ℕ → List Entry
 entries_to log m = reverse (take m log)
 
-one_entry : (log : List Entry) (m : ℕ) (entry : Entry) → slice_get log m ≡ Some entry → entries_to log (suc m) ≡ entry ∷ entries_to log m
+pub one_entry : (log : List Entry) (m : ℕ) (entry : Entry) → slice_get log m ≡ Some entry → entries_to log (suc m) ≡ entry ∷ entries_to log m
 unfolding entries_to
 one_entry log m entry at = ap reverse (last_taken log m entry at) ∙ reverse-append (take m log) (entry ∷ [])
 
-one_call : (list : List Call) (n : ℕ) (call : Call) → slice_get list n ≡ Some call → calls_to list (suc n) ≡ entry_of call ∷ calls_to list n
+pub one_call : (list : List Call) (n : ℕ) (call : Call) → slice_get list n ≡ Some call → calls_to list (suc n) ≡ entry_of call ∷ calls_to list n
 unfolding calls_to
 one_call list n call at =
     ap (λ (some : List Call). reverse (map entry_of some)) (last_taken list n call at)
@@ -46,44 +46,44 @@ one_call list n call at =
     ∙ reverse-append (map entry_of (take n list)) (entry_of call ∷ [])
 
 -- one number is below another or not
-order : (k n : ℕ) → (k < n) ⊎ (n ≤ k)
+pub order : (k n : ℕ) → (k < n) ⊎ (n ≤ k)
 order zero zero = inr (omega arith)
 order zero (suc n) = inl (omega arith)
 order (suc k) zero = inr (omega arith)
 order (suc k) (suc n) = elim (order k n) [ inl lt ↦ inl (omega (arith, lt)) | inr le ↦ inr (omega (arith, le)) ]
 
-found : {X : Type 0} (xs : List X) (n : ℕ) → n < length xs → (x : X) × (slice_get xs n ≡ Some x)
+pub found : {X : Type 0} (xs : List X) (n : ℕ) → n < length xs → (x : X) × (slice_get xs n ≡ Some x)
 found xs n within = elim (slice_get_cases xs n).1 [ inl there ↦ (there.0, there.2) | inr past ↦ absurd (omega (arith, within, past.0)) ]
 
 one_value : {X : Type 0} (a b : X) → Some a ≡ Some b → a ≡ b
 one_value a b e = cc
 
-same_number : (list : List Call) (k n : ℕ) (one other : Call) → k ≡ n → slice_get list k ≡ Some one → slice_get list n ≡ Some other → one.0 ≡ other.0
+pub same_number : (list : List Call) (k n : ℕ) (one other : Call) → k ≡ n → slice_get list k ≡ Some one → slice_get list n ≡ Some other → one.0 ≡ other.0
 same_number list k n one other same at there = ap (λ (call : Call). call.0) (one_value one other (sym at ∙ ap (λ (i : ℕ). slice_get list i) same ∙ there))
 
 -- the calls before the place have lower numbers, and the others do not
-record IsAt (list : List Call) (n m : ℕ) : Type 0 where
+pub record IsAt (list : List Call) (n m : ℕ) : Type 0 where
   pub below : (k : ℕ) (call : Call) → k < n → slice_get list k ≡ Some call → call.0 < m
   pub above : (k : ℕ) (call : Call) → n ≤ k → slice_get list k ≡ Some call → m ≤ call.0
 
-not_listed : (list : List Call) (n m : ℕ) → IsAt list n (suc m) → ((k : ℕ) (call : Call) → k < n → slice_get list k ≡ Some call → call.0 < m) → ¬ HasNumber list m
+pub not_listed : (list : List Call) (n m : ℕ) → IsAt list n (suc m) → ((k : ℕ) (call : Call) → k < n → slice_get list k ≡ Some call → call.0 < m) → ¬ HasNumber list m
 not_listed list n m at below has = elim (order has.0 n) [
   | inl lt ↦ let lower : has.1.0 < m = below has.0 has.1 lt has.2 in omega (arith, lower, has.3)
   | inr le ↦ let higher : suc m ≤ has.1.0 = at.above has.0 has.1 le has.2 in omega (arith, higher, has.3)
 ]
 
 -- of a list that agrees, at a call with the number m
-record IsGoodAt (log : List Entry) (list : List Call) (n : ℕ) (call : Call) : Type 0 where
+pub record IsGoodAt (log : List Entry) (list : List Call) (n : ℕ) (call : Call) : Type 0 where
   pub rises : (k : ℕ) (one : Call) → k < n → slice_get list k ≡ Some one → one.0 < call.0
   pub entry : slice_get log call.0 ≡ Some (entry_of call)
 
-good_at : (log : List Entry) (earlier : List (List Call)) (list : List Call) → AreGoodBelow log earlier list (length list) → (n : ℕ) (call : Call) → slice_get list n ≡ Some call → IsGoodAt log list n call
+pub good_at : (log : List Entry) (earlier : List (List Call)) (list : List Call) → AreGoodBelow log earlier list (length list) → (n : ℕ) (call : Call) → slice_get list n ≡ Some call → IsGoodAt log list n call
 good_at log earlier list good n call at =
     let is = good n call (slice_get_within list n call at) at in
     record { rises = λ k one lt there. is.rises k one (there_take n list k one lt there); entry = is.entry }
 
 -- before a call, and at it
-before_call : (log : List Entry) (list : List Call) (n m : ℕ) (call : Call) → slice_get list n ≡ Some call → IsGoodAt log list n call → call.0 ≡ m → IsAt list (suc n) (suc m) → IsAt list n m
+pub before_call : (log : List Entry) (list : List Call) (n m : ℕ) (call : Call) → slice_get list n ≡ Some call → IsGoodAt log list n call → call.0 ≡ m → IsAt list (suc n) (suc m) → IsAt list n m
 before_call log list n m call there good is at = record {
   below = λ k one lt here. let lower : one.0 < call.0 = good.rises k one lt here in omega (arith, lower, is);
   above = λ k one le here. elim (order n k) [
@@ -92,13 +92,13 @@ before_call log list n m call there good is at = record {
   ];
 }
 
-below_call : (log : List Entry) (list : List Call) (n m : ℕ) (call : Call) → slice_get list n ≡ Some call → IsGoodAt log list n call → call.0 < m → (k : ℕ) (one : Call) → k < suc n → slice_get list k ≡ Some one → one.0 < m
+pub below_call : (log : List Entry) (list : List Call) (n m : ℕ) (call : Call) → slice_get list n ≡ Some call → IsGoodAt log list n call → call.0 < m → (k : ℕ) (one : Call) → k < suc n → slice_get list k ≡ Some one → one.0 < m
 below_call log list n m call there good is k one lt here = elim (order k n) [
   | inl less ↦ let lower : one.0 < call.0 = good.rises k one less here in omega (arith, lower, is)
   | inr ge ↦ let same : one.0 ≡ call.0 = same_number list k n one call (omega (arith, lt, ge)) here there in omega (arith, same, is)
 ]
 
-skipped : (list : List Call) (n m : ℕ) → IsAt list n (suc m) → ((k : ℕ) (call : Call) → k < n → slice_get list k ≡ Some call → call.0 < m) → IsAt list n m
+pub skipped : (list : List Call) (n m : ℕ) → IsAt list n (suc m) → ((k : ℕ) (call : Call) → k < n → slice_get list k ≡ Some call → call.0 < m) → IsAt list n m
 skipped list n m at below = record { below = below; above = λ k call le there. let higher : suc m ≤ call.0 = at.above k call le there in omega (arith, higher) }
 
 -- an entry of another on top
@@ -112,7 +112,7 @@ call_on test log list n m call there at amid =
     subst (λ (calls : List Entry). IsAmid test [] calls (entries_to log (suc m))) (sym (one_call list n call there))
     (subst (λ (some : List Entry). IsAmid test [] (entry_of call ∷ calls_to list n) some) (sym (one_entry log m (entry_of call) at)) (entries_to log m, ([], refl, refl), amid))
 
-none_below : (list : List Call) (n : ℕ) → IsAt list n 0 → n ≤ length list → n ≡ 0
+pub none_below : (list : List Call) (n : ℕ) → IsAt list n 0 → n ≤ length list → n ≡ 0
 none_below list zero at within = refl
 none_below list (suc n) at within = let here = found list n (omega arith) in let lower : here.0.0 < 0 = at.below n here.0 (omega arith) here.1 in absurd (omega (arith, lower))
 

@@ -9,4 +9,5 @@ pub mod SagaLaw
 pub mod NestedLaw
 pub mod HandingLaws
 pub mod ClientLaw
+pub mod BetweenLaw
 mod PremiseCases

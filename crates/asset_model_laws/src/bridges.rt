@@ -1,14 +1,15 @@
 //! From the clause of a model to the premises of the laws.
 
-ghost use Rattle.std.specs.Prelude.{◌≡◌, List, [], ◌++◌, map, reverse, Bool, Result};
+ghost use Rattle.std.specs.Prelude.{◌≡◌, List, [], ◌++◌, length, map, reverse, Bool, Result};
 ghost use Rattle.asset_names.specs.declared.replies.Fault.{Fault};
-ghost use Rattle.asset_names.specs.Steps.{Entry};
+ghost use Rattle.asset_names.specs.Steps.{Opening, Entry};
+ghost use Rattle.asset_names.specs.Answers.{IsLegal};
 ghost use Rattle.asset_audit.specs.Audited.{Call};
 ghost use Rattle.asset_models.specs.Clients.{entry_of};
 ghost use Rattle.asset_models.specs.declared.parts.ModelEnd.{ModelEnd};
 ghost use Rattle.asset_models.specs.Courses.{Course, IsRun};
 ghost use Rattle.asset_model_laws.specs.Amid.{IsAmid};
-ghost use Rattle.asset_model_laws.specs.Clients.{AgreesWith, OthersPass};
+ghost use Rattle.asset_model_laws.specs.Clients.{AgreesWith, OthersPass, OthersBetweenPass};
 
 /// A run over a `Core` stands in its history: the new entries are the calls of the run, on top of the old ones.
 pub fn run_stands_in_its_facility()
@@ -17,10 +18,15 @@ pub fn run_stands_in_its_facility()
 {}
 
 /// A run by a client stands in each history with which the list of its session agrees, as the lists do with the history of a
-/// closed manager whose audit is `Ok`. The other entries are those that are not of the list.
+/// closed manager whose audit is `Ok`. The other entries are those that are not of the list. If a test is asked only of those
+/// between the first call of the run and its last, then the run stands in the history up to its last call.
 pub fn run_stands_in_the_history_of_its_client()
-    ensures { (course : Course) (entries : List Entry) (earlier : List (List Call)) (before later : List Call) (result : Result ModelEnd Fault) (others : Entry → Bool) →
+    ensures all { (course : Course) (entries : List Entry) (earlier : List (List Call)) (before later : List Call) (result : Result ModelEnd Fault) (others : Entry → Bool) →
         AgreesWith entries earlier later → OthersPass others entries later →
         IsRun course (reverse (map entry_of before)) (reverse (map entry_of later)) result →
         (calls : List Entry) × (old : List Entry) × IsRun course [] calls result × IsAmid others old calls entries }
+    ensures between { (course : Course) (entries : List Entry) (earlier : List (List Call)) (before later : List Call) (result : Result ModelEnd Fault) (others : Entry → Bool) →
+        AgreesWith entries earlier later → OthersBetweenPass others entries later (length before) →
+        IsRun course (reverse (map entry_of before)) (reverse (map entry_of later)) result →
+        (calls : List Entry) × (old : List Entry) × (upto : List Entry) × (rest : List Entry) × (entries ≡ rest ++ upto) × IsRun course [] calls result × IsAmid others old calls upto × ((opening : Opening) → IsLegal opening entries → IsLegal opening upto) }
 {}
