@@ -32,10 +32,10 @@ use Rattle.asset_model_laws.proofs.FinalLemmas.{is_final, ends_so, not_cut, not_
 use Rattle.asset_model_laws.proofs.NestedLaw.{done_reply}
 
 -- the step delegates nothing of u
-abbrev KeepsOf : Txn → Step → Type 0
+abbrev pub KeepsOf : Txn → Step → Type 0
 KeepsOf u step = (giver taker : Txn) (obs : ObSet) → step ≡ Delegate giver taker obs → eqb giver.0 u.0 ≡ false
 
-kept_by : (steps : List Step) (step : Step) (n : ℕ) (u : Txn) → KeepsOf u step → responsible steps n ≡ Some u.0 → responsible (step ∷ steps) n ≡ Some u.0
+pub kept_by : (steps : List Step) (step : Step) (n : ℕ) (u : Txn) → KeepsOf u step → responsible steps n ≡ Some u.0 → responsible (step ∷ steps) n ≡ Some u.0
 unfolding responsible operations operated
 kept_by steps (Initiate t parent) n u keeps is = is
 kept_by steps (Begin t) n u keeps is = is
@@ -71,7 +71,7 @@ others_keep u (entry ∷ others) old n all is =
     let parts = and_parts (is_anothers u entry) _ all in
     entry_keeps entry (others ++ old) n u (anothers_keep u entry parts.0) (others_keep u others old n parts.1 is)
 
-since : (u : Txn) (old new : List Entry) (n : ℕ) → OnlyOthers (is_anothers u) old new → responsible (applied old) n ≡ Some u.0 → responsible (applied new) n ≡ Some u.0
+pub since : (u : Txn) (old new : List Entry) (n : ℕ) → OnlyOthers (is_anothers u) old new → responsible (applied old) n ≡ Some u.0 → responsible (applied new) n ≡ Some u.0
 since u old new n only is = rw only.1 (others_keep u only.0 old n only.2 is)
 
 complete_keeps : (u t : Txn) → KeepsOf u (Complete t)

@@ -8,6 +8,7 @@ pub mod TogetherLaws
 pub mod SagaLaw
 pub mod NestedLaw
 pub mod HandingLaws
+pub mod KeptLaw
 pub mod ClientLaw
 pub mod BetweenLaw
 mod PremiseCases

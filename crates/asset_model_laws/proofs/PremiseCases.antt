@@ -1,14 +1,15 @@
--- Why the laws on split and join ask that nobody else acts in the name of the taker: worked rows, computed on the definitions, in
--- which another client does, and the laws fail.
-use Rattle.std.specs.Prelude.{◌≡◌, pos, List, [], ◌∷◌, ◌++◌, None, Some, reverse, refl}
+-- Why the laws on split, join and what a parent keeps ask that nobody else acts in the name of the taker: worked rows, computed on
+-- the definitions, in which another client does, and the laws fail.
+use Rattle.std.specs.Prelude.{◌≡◌, pos, true, List, [], ◌∷◌, ◌++◌, None, Some, reverse, refl}
 use Rattle.asset_names.specs.declared.sets.ObSet.TheVariants.{All, Listed}
 use Rattle.asset_names.specs.declared.steps.Step.{Step}
-use Rattle.asset_names.specs.declared.steps.Step.TheVariants.{Initiate, Begin, Read, Write, Complete, Delegate, Commit, Abort}
+use Rattle.asset_names.specs.declared.steps.Step.TheVariants.{Initiate, Begin, Read, Write, Complete, Permit, Delegate, Commit, Abort}
 use Rattle.asset_names.specs.declared.replies.Reply.TheVariants.{Value, Committed, Aborted}
 use Rattle.asset_names.specs.declared.replies.Outcome.TheVariants.{Answer}
 use Rattle.asset_names.specs.Arrows.{lists, linked, among}
 use Rattle.asset_names.specs.Sets.{numbers}
 use Rattle.asset_names.specs.InSet.{in_set}
+use Rattle.asset_names.specs.OpSets.{op_set}
 use Rattle.asset_names.specs.Paths.{both_ways, has_outside}
 use Rattle.asset_names.specs.Steps.{takes_effect, applied, initiated_by, initiated, begun_by, begun, completed_by, completed}
 use Rattle.asset_names.specs.Endings.{dependency_by, dependencies, class_arrows, order_arrows, doom_arrows, has_outside_source, ended_by, end_of, live, status_of, status, same_class}
@@ -61,6 +62,26 @@ JoinIsTakenAway = Case (before_join ++ join_begins ++ handed_on ++ join_goes_on)
     × (responsible (reverse before_join) 0 ≡ Some 7)
     × (responsible (reverse (before_join ++ join_begins ++ handed_on ++ join_goes_on)) 0 ≡ Some 9)
 
-handing_rows : SplitIsUndone × JoinIsTakenAway
+-- 9 begins
+abbrev before_nested : List Step
+before_nested = Initiate (t 9) None ∷ Begin (t 9) ∷ []
+
+-- `nested` of 8 with its child 7, up to what the child hands over, and from there on
+abbrev nested_begins : List Step
+nested_begins =
+    Initiate (t 8) None ∷ Begin (t 8) ∷ Initiate (t 7) (Some (t 8)) ∷ Permit (t 8) (t 7) All (op_set true true true) ∷ Begin (t 7) ∷ Write (t 7) (x 1) (pos 50) ∷ Complete (t 7)
+    ∷ Delegate (t 7) (t 8) All ∷ []
+
+abbrev nested_goes_on : List Step
+nested_goes_on = Commit (t 7) ∷ Complete (t 8) ∷ Commit (t 8) ∷ []
+
+-- `nested` answers `Committed`, and what the child handed over is 9's, and not its parent's.
+abbrev ChildIsTakenAway : Type 0
+ChildIsTakenAway = Case (before_nested ++ nested_begins ++ handed_on ++ nested_goes_on)
+    (ok ∷ ok ∷ ok ∷ ok ∷ ok ∷ ok ∷ ok ∷ ok ∷ ok ∷ ok ∷ ok ∷ Answer Committed ∷ ok ∷ Answer Committed ∷ [])
+    × (responsible (reverse (before_nested ++ nested_begins)) 0 ≡ Some 8)
+    × (responsible (reverse (before_nested ++ nested_begins ++ handed_on ++ nested_goes_on)) 0 ≡ Some 9)
+
+handing_rows : SplitIsUndone × JoinIsTakenAway × ChildIsTakenAway
 unfolding answer rules_for unrefused first_refusal outcome_unless unknown ended not_running taken begun_before too_late no_object one_name missing_in missing_rule no_object_of is_unknown has_ended is_running is_completed is_committed has_begun may_commit class_completed commit_outcome wait_outcome free blocks allows permits permitted_by holds_object copied in_set numbers conflict op_of handed_over operations operated value value_after after_use was_aborted stands opening_value opening_at exists status status_of end_of ended_by live same_class has_outside_source has_outside class_arrows order_arrows doom_arrows dependencies dependency_by both_ways initiated begun completed initiated_by begun_by completed_by applied takes_effect among linked lists responsible owner_in
-handing_rows = ((refl, refl, refl), (refl, refl, refl))
+handing_rows = ((refl, refl, refl), (refl, refl, refl), (refl, refl, refl))

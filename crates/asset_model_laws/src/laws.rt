@@ -54,10 +54,12 @@ pub fn cooperating_ends_in_one_way()
 {}
 
 /// Whatever `nested` answers, each child whose hand-over was answered `Done` has handed over to its parent all for which it was
-/// responsible. If it answers `Committed`, each child has done so or has aborted, and the parent has committed.
+/// responsible, and the parent is responsible for that as long as nobody else acts in its name. If it answers `Committed`, each child has done so or has aborted, and the parent has committed.
 pub fn nested_takes_over()
     ensures handed { (opening : Opening) (others : Entry → Bool) (p : Part) (children : List Part) (old calls new : List Entry) (result : Result ModelEnd Fault) (child : Txn) → IsLegal opening new →
         IsRun (nested_course p children) [] calls result → IsAmid others old calls new → Contains calls (Delegate child p.name All, Done) → HandsOver child p.name new }
+    ensures kept { (opening : Opening) (p : Part) (children : List Part) (old calls new : List Entry) (result : Result ModelEnd Fault) (child : Txn) → IsLegal opening new →
+        IsRun (nested_course p children) [] calls result → IsAmid (is_anothers p.name) old calls new → Contains calls (Delegate child p.name All, Done) → TakesAll child p.name All new }
     ensures children { (opening : Opening) (others : Entry → Bool) (p : Part) (children : List Part) (old calls new : List Entry) → IsLegal opening new →
         IsRun (nested_course p children) [] calls (Ok IsCommitted) → IsAmid others old calls new → AllHandOver p.name new children }
     ensures parent { (opening : Opening) (others : Entry → Bool) (p : Part) (children : List Part) (old calls new : List Entry) → IsLegal opening new →
