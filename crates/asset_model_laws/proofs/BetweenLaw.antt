@@ -127,7 +127,7 @@ more_calls before later newer grown = omega (
 
 pub client_amid_between : (course : Course) (entries : List Entry) (earlier : List (List Call)) (before later : List Call) (result : Result ModelEnd Fault) (others : Entry → Bool)
     → AgreesWith entries earlier later → OthersBetweenPass others entries later (length before) → IsRun course (reverse (map entry_of before)) (reverse (map entry_of later)) result
-    → (calls : List Entry) × (old : List Entry) × (upto : List Entry) × (rest : List Entry) × (entries ≡ rest ++ upto) × IsRun course [] calls result × IsAmid others old calls upto × ((opening : Opening) → IsLegal opening entries → IsLegal opening upto)
+    → (calls : List Entry) × (old : List Entry) × (upto : List Entry) × (rest : List Entry) × (entries ≡ rest ++ upto) × (reverse (map entry_of later) ≡ calls ++ reverse (map entry_of before)) × IsRun course [] calls result × IsAmid others old calls upto × ((opening : Opening) → IsLegal opening entries → IsLegal opening upto)
 unfolding calls_to entries_to
 client_amid_between course entries earlier before later result others good pass run =
     let made : List Entry = reverse (map entry_of before) in
@@ -147,6 +147,7 @@ client_amid_between course entries earlier before later result others good pass 
       upto,
       rest,
       split,
+      grown.1,
       subst (λ (some : List Entry). IsRun course [] some result) (append-nil grown.0) shifted,
       subst (λ (some : List Entry). IsAmid others last.since.old some upto) same last.since.amid,
       λ opening legal. legal_rest opening rest upto (rw split at legal),

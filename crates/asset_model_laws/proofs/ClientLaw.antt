@@ -169,10 +169,10 @@ amid_since test (call ∷ calls) made new amid = let deeper = amid_since test ca
 
 pub client_amid : (course : Course) (entries : List Entry) (earlier : List (List Call)) (before later : List Call) (result : Result ModelEnd Fault) (others : Entry → Bool)
     → AgreesWith entries earlier later → OthersPass others entries later → IsRun course (reverse (map entry_of before)) (reverse (map entry_of later)) result
-    → (calls : List Entry) × (old : List Entry) × IsRun course [] calls result × IsAmid others old calls entries
+    → (calls : List Entry) × (old : List Entry) × (reverse (map entry_of later) ≡ calls ++ reverse (map entry_of before)) × IsRun course [] calls result × IsAmid others old calls entries
 client_amid course entries earlier before later result others good pass run =
     let made : List Entry = reverse (map entry_of before) in
     let grown = calls_grow course made (reverse (map entry_of later)) result run in
     let shifted = run_shifts course made [] grown.0 result (subst (λ (some : List Entry). IsRun course made some result) grown.1 run) in
     let since = amid_since others grown.0 made entries (subst (λ (some : List Entry). IsAmid others [] some entries) grown.1 (amid_all others entries earlier later good pass)) in
-    (grown.0, since.0, subst (λ (some : List Entry). IsRun course [] some result) (append-nil grown.0) shifted, since.1)
+    (grown.0, since.0, grown.1, subst (λ (some : List Entry). IsRun course [] some result) (append-nil grown.0) shifted, since.1)

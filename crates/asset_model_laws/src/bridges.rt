@@ -17,16 +17,17 @@ pub fn run_stands_in_its_facility()
         (calls : List Entry) × (new ≡ calls ++ old) × IsRun course [] calls result × ((others : Entry → Bool) → IsAmid others old calls new) }
 {}
 
-/// A run by a client stands in each history with which the list of its session agrees, as the lists do with the history of a
-/// closed manager whose audit is `Ok`. The other entries are those that are not of the list. If a test is asked only of those
-/// between the first call of the run and its last, then the run stands in the history up to its last call.
+/// The calls of a run by a client are those that the list of its session has more. The run stands in each history with which that
+/// list agrees, as the lists do with the history of a closed manager whose audit is `Ok`. The other entries are those that are not of
+/// the list. If a test is asked only of those between the first call of the run and its last, then the run stands in the history up
+/// to its last call.
 pub fn run_stands_in_the_history_of_its_client()
     ensures all { (course : Course) (entries : List Entry) (earlier : List (List Call)) (before later : List Call) (result : Result ModelEnd Fault) (others : Entry → Bool) →
         AgreesWith entries earlier later → OthersPass others entries later →
         IsRun course (reverse (map entry_of before)) (reverse (map entry_of later)) result →
-        (calls : List Entry) × (old : List Entry) × IsRun course [] calls result × IsAmid others old calls entries }
+        (calls : List Entry) × (old : List Entry) × (reverse (map entry_of later) ≡ calls ++ reverse (map entry_of before)) × IsRun course [] calls result × IsAmid others old calls entries }
     ensures between { (course : Course) (entries : List Entry) (earlier : List (List Call)) (before later : List Call) (result : Result ModelEnd Fault) (others : Entry → Bool) →
         AgreesWith entries earlier later → OthersBetweenPass others entries later (length before) →
         IsRun course (reverse (map entry_of before)) (reverse (map entry_of later)) result →
-        (calls : List Entry) × (old : List Entry) × (upto : List Entry) × (rest : List Entry) × (entries ≡ rest ++ upto) × IsRun course [] calls result × IsAmid others old calls upto × ((opening : Opening) → IsLegal opening entries → IsLegal opening upto) }
+        (calls : List Entry) × (old : List Entry) × (upto : List Entry) × (rest : List Entry) × (entries ≡ rest ++ upto) × (reverse (map entry_of later) ≡ calls ++ reverse (map entry_of before)) × IsRun course [] calls result × IsAmid others old calls upto × ((opening : Opening) → IsLegal opening entries → IsLegal opening upto) }
 {}
