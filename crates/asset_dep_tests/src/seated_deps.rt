@@ -108,6 +108,12 @@ impl Table {
         self.deps.marked_count()
     }
 
+    /// Marks the class of one that has a seat, and returns whether the marked have a source outside.
+    fn marked_have_source(&mut self, t: u64) -> bool {
+        let _ = self.mark_class(t);
+        self.deps.marked_have_outside_source(&self.seats)
+    }
+
     /// Marks whom an abort of one that has a seat aborts, and returns how many are marked.
     fn mark_doomed(&mut self, t: u64) -> usize {
         if let Some(one) = sitter(&self.seats, t) {
@@ -167,7 +173,11 @@ fn doom_spreads(table: &mut Table) -> bool {
 /// Returns whether the dependencies of 8 are gone once it ends, and with it those that were doomed.
 fn doom_ends(table: &mut Table) -> bool {
     table.end(8);
-    !table.has_outside_source(9) && table.has_outside_source(6) && table.mark_doomed(7) == 1
+    !table.has_outside_source(9)
+        && !table.marked_have_source(9)
+        && table.has_outside_source(6)
+        && table.marked_have_source(6)
+        && table.mark_doomed(7) == 1
 }
 
 #[test]
@@ -206,6 +216,7 @@ fn class_ends(table: &mut Table) -> bool {
         && table.add(Kind::Cd, 7, END)
         && !table.add(Kind::Ad, FIRST, 7)
         && table.has_outside_source(FIRST)
+        && table.marked_have_source(FIRST)
         && table.mark_class(FIRST) as u64 == all
         && ended(table) == all
         && !table.same_class(END, FIRST)
