@@ -52,6 +52,12 @@ pub(crate) const ROWS: &[Case<'static>] = &[
         ..NO_JOBS
     },
     Case {
+        name: "plan_without_jobs_wants_workers_too",
+        workers: 0,
+        cause: Some(RunCause::NoWorkers),
+        ..NO_JOBS
+    },
+    Case {
         name: "plan_without_jobs_gives_its_session_back",
         workers: 1_000,
         ..NO_JOBS
