@@ -554,6 +554,20 @@ def pairs_that_join(steps, seed):
     return script
 
 
+def pairs_at_a_hub(steps, seed):
+    """Pairs that commit together, up to 5,000; one of each is joined to the same transaction, whose commit ends them all."""
+    script = Script(steps, seed, 20_000)
+    while script.has_room(12):
+        members = [script.start()]
+        while len(members) < 10_000 and script.has_room(12):
+            pair = script.start_many(2)
+            script.depend("gc", pair[0], pair[1])
+            script.depend("gc", members[0], pair[0])
+            members += pair
+        script.finish_together(members, "commit")
+    return script
+
+
 def workflows(steps, seed):
     """Three parts that commit together, and a step that depends on one of them; in a quarter of them a part aborts."""
     script = Script(steps, seed, 20_000)
@@ -685,6 +699,7 @@ LOADS = {
         classes_of_1000,
         stars_of_1000,
         pairs_that_join,
+        pairs_at_a_hub,
         workflows,
         chain_of_commits,
         chain_of_aborts,

@@ -159,10 +159,12 @@ impl SeatedDeps {
             side: Side::Column,
             kinds,
         };
-        if most_on(&self.links, from) <= most_on(&self.links, to) {
-            is_linked_either_way(&forth, from, &back, to, &mut self.marks)
+        let (at_from, at_to) = (most_on(&self.links, from), most_on(&self.links, to));
+        let first = at_from.max(at_to);
+        if at_from <= at_to {
+            is_linked_either_way(&forth, from, &back, to, first, &mut self.marks)
         } else {
-            is_linked_either_way(&back, to, &forth, from, &mut self.marks)
+            is_linked_either_way(&back, to, &forth, from, first, &mut self.marks)
         }
     }
 }

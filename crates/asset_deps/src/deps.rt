@@ -121,8 +121,8 @@ impl Deps {
 
     /// Returns whether a dependency of `b` on `a` would close a cycle of classes. Nothing changes.
     ///
-    /// It searches from either end, whichever has fewer dependencies that way, and looks only at those of the transactions
-    /// that it meets. It takes no memory.
+    /// It searches from both ends in turn, first from the one that has fewer dependencies, until one of the two searches knows, and
+    /// looks only at those of the transactions that it meets. It takes no memory.
     pub fn would_cycle(&mut self, kind: Kind, a: Txn, b: Txn) -> bool
         ensures would_cycle { result ≡ would_cycle_in self.old.dependencies kind a.0 b.0 }
         ensures same { self.new ≡ self.old }

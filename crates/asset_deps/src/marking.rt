@@ -67,9 +67,8 @@ impl SeatedDeps {
         self.marked.has(u.at)
     }
 
-    /// Returns whether one who is marked depends, by a commit or an abort dependency, on a source that is not marked. If a class is
-    /// marked, that is what `has_outside_source` says of its members, with no search: only the dependencies that lead to the marked
-    /// are looked at.
+    /// Returns, if a class is marked, whether a member depends on a source outside it, by a commit or an abort dependency, as
+    /// `has_outside_source` does. It searches for nobody, and looks only at the dependencies that lead to the marked.
     pub fn marked_have_outside_source(&self, seats: &Seats) -> bool
         requires { IsTied self.now seats.now }
         ensures { (t : ℕ) → ((n : ℕ) → lists (marked_in seats.now self.now) n ≡ class_in (dependencies_in self.now) t n) → result ≡ outside_source_in (dependencies_in self.now) t }

@@ -19,7 +19,7 @@ pub always_err : {T E : Type 0} {P : Type 0} (r : Result T E) → P → OnErr r 
 always_err (Ok x) p = tt
 always_err (Err e) p = p
 
--- tables that are the same show alike
+-- tables that show the same do so in any order
 pub same_alike : (later before : Standing) → SameView later before → SameViewInAnyOrder later before
 same_alike later before same = record { rows = same.rows; objects = same.objects; numbers = same.numbers; locks = same.locks; permits = λ u t x op. ap (λ descriptors. one_covers descriptors u t x op) same.permits; openers = λ u x op. ap (λ descriptors. opens descriptors u x op) same.permits; deps = same.deps }
 

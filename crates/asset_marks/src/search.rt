@@ -71,13 +71,14 @@ pub fn is_linked<A: Arrows>(way: &A, from: usize, to: usize, marks: &mut Marks) 
 }
 
 /// Returns what `is_linked` does, by two searches in turn: one from the first node, and one from the second along arrows that lead
-/// back. Each time they go twice as far as before, until one of the two knows. So no more than four times as many nodes are
-/// expanded as by the one that would end sooner, from each of the two.
+/// back. Both expand `first` nodes, and then twice as many each time, until one of the two knows. A node is expanded anew each
+/// time, so `first` should be about as many as the busier of the two has arrows.
 pub fn is_linked_either_way<A: Arrows>(
     forth: &A,
     from: usize,
     back: &A,
     to: usize,
+    first: usize,
     marks: &mut Marks,
 ) -> bool
     requires within { AreWithin (A.arrows forth.now) marks.old.size }
@@ -90,7 +91,7 @@ pub fn is_linked_either_way<A: Arrows>(
     ensures is_linked { result ≡ linked (A.arrows forth.now) from to }
 {
     let all = marks.size();
-    let mut most: usize = 1;
+    let mut most = first.max(1);
     'rounds: while most < all {
         if let Some(found) = is_linked_within(forth, from, to, most, marks) {
             return found;

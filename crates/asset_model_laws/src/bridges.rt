@@ -17,7 +17,7 @@ pub fn run_stands_in_its_facility()
         (calls : List Entry) × (new ≡ calls ++ old) × IsRun course [] calls result × ((others : Entry → Bool) → IsAmid others old calls new) }
 {}
 
-/// The calls of a run by a client are those that the list of its session has more. The run stands in each history with which that
+/// The calls of a run by a client are those by which the list of its session has grown. The run stands in each history with which that
 /// list agrees, as the lists do with the history of a closed manager whose audit is `Ok`. The other entries are those that are not of
 /// the list. If a test is asked only of those between the first call of the run and its last, then the run stands in the history up
 /// to its last call.

@@ -1,4 +1,4 @@
-//! What a run of each model means in a legal history that has its calls. Others may act before, between and after the calls; two
+//! What a run of each model means in a legal history that has its calls. Others may act before, between and after the calls; three
 //! laws ask that they do nothing in the name of one transaction.
 
 ghost use Rattle.std.specs.Prelude.{◌≡◌, List, ◌∷◌, ◌++◌, [], Contains, Bool, Result, Ok, Some};
@@ -54,7 +54,8 @@ pub fn cooperating_ends_in_one_way()
 {}
 
 /// Whatever `nested` answers, each child whose hand-over was answered `Done` has handed over to its parent all for which it was
-/// responsible, and the parent is responsible for that as long as nobody else acts in its name. If it answers `Committed`, each child has done so or has aborted, and the parent has committed.
+/// responsible, and the parent is responsible for that as long as nobody else acts in its name. If it answers `Committed`, each
+/// child has done so or has aborted, and the parent has committed.
 pub fn nested_takes_over()
     ensures handed { (opening : Opening) (others : Entry → Bool) (p : Part) (children : List Part) (old calls new : List Entry) (result : Result ModelEnd Fault) (child : Txn) → IsLegal opening new →
         IsRun (nested_course p children) [] calls result → IsAmid others old calls new → Contains calls (Delegate child p.name All, Done) → HandsOver child p.name new }

@@ -14,7 +14,7 @@ use asset_manager_tests::{ROOM, THREE, close_two, hand_in, opened, room_for};
 use asset_models::{
     Act, Asset, Client, ModelEnd, contingent, cooperating, distributed, nested, saga,
 };
-use asset_names::{Fault, Ob, ObSet, Status};
+use asset_names::{Fault, Ob, Status};
 use asset_test_tools::{abort, listed};
 use std::alloc::Global;
 use std::sync::Wait;

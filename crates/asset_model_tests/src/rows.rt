@@ -6,7 +6,7 @@ use crate::counting::Counting;
 use crate::parts::part;
 use crate::rows_of::{Row, row_of};
 use asset_core::OpenFault;
-use asset_core_tests::{ROOM, THREE, ask, first_wrong_line, opened};
+use asset_core_tests::{ROOM, THREE, first_wrong_line, opened};
 use asset_models::{
     Act, Asset, ModelEnd, atomic, contingent, cooperating, distributed, join, nested, saga, split,
 };

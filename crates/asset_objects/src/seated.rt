@@ -68,7 +68,7 @@ impl SeatedObjects {
     ghost use Rattle.asset_objects.specs.Placed.{objects_in, IsOpened, IsTied, HasRoom};
     ghost use Rattle.asset_objects.specs.Faults.{objects_of, IsObjectsFault};
 
-    /// Returns the objects at their opening values, in its order, with no update yet.
+    /// Returns the objects at their opening values, in the order of the opening, with no update yet.
     ///
     /// It answers `DoubleObject` with the least object that is given twice; otherwise `NoMemory` if memory runs out.
     pub fn open(alloc: Global, opening: &[(Ob, i64)]) -> Result<SeatedObjects, ObjectsFault>
@@ -86,7 +86,7 @@ impl SeatedObjects {
         }
     }
 
-    /// Returns the objects at their opening values, in its order, with no update yet, for a caller who knows that none is given
+    /// Returns the objects at their opening values, in the order of the opening, with no update yet, for a caller who knows that none is given
     /// twice. If memory runs out, it answers at once, while `open` first compares each pair of objects.
     pub fn open_distinct(alloc: Global, opening: &[(Ob, i64)]) -> Result<SeatedObjects, NoMemory>
         requires distinct { HasNoDouble (objects_of opening.now) }

@@ -42,7 +42,7 @@ const EXPECTED: usize = 5;
 #[derive(Clone, Copy, Debug, PartialEq, Eq, Error)]
 pub enum Cause {
     /// The facility refused it.
-    #[error("the facility refused it")]
+    #[error("the initiation was refused")]
     Refused(Refusal),
     /// The history has no room.
     #[error("the history has no room")]

@@ -45,7 +45,7 @@ pub enum RunCause {
     #[error("no memory")]
     NoMemory,
     /// The body of this job, the first such in order of initiation, answered the `Finished` of another transaction.
-    #[error("the body of job {} answered the end of another", .0.0)]
+    #[error("the body of job {} answered for another transaction", .0.0)]
     Stranger(Txn),
 }
 

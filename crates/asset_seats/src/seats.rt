@@ -41,7 +41,7 @@ impl Model for Seats {
 }
 
 impl Seats {
-    ghost use Rattle.std.specs.Prelude.{◌≡◌, ◌≢◌, ℕ, ◌+◌, ◌<◌, ◌≤◌, ◌==◌, cond, length, [], true, false, None, Some, ◌⊎◌, is_some, IfSome, IfNone, IsOk, OnOk, OnErr};
+    ghost use Rattle.std.specs.Prelude.{◌≡◌, ◌≢◌, ℕ, ◌+◌, ◌<◌, ◌≤◌, ◌==◌, cond, length, [], true, false, None, Some, is_some, IfSome, IfNone, IsOk, OnOk, OnErr};
     ghost use Rattle.asset_names.specs.declared.names.Txn.{Txn};
     ghost use Rattle.asset_seats.specs.Seated.{seat};
 
