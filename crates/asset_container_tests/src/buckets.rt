@@ -47,7 +47,7 @@ fn without_indices(alloc: Global, count: usize) -> Result<(usize, usize), AllocE
 }
 
 #[test]
-fn no_bucket_is_made_of_nothing(rt: HostRuntime) {
+fn buckets_of_no_indices_are_empty(rt: HostRuntime) {
     assert_eq!(rt; without_indices(rt.alloc(), 0), Ok((0, 0)));
     assert_eq!(rt; without_indices(rt.alloc(), 2), Ok((2, 0)));
 }

@@ -256,7 +256,7 @@ fn unlink_both(table: &mut Chains, lists: &mut Vec<Vec<usize>>, key: usize) {
     }
 }
 
-/// Makes the call that a number stands for, on chains and lists. Returns how many keys there are.
+/// Makes the call that a number stands for, on chains and lists.
 fn call(
     table: &mut Chains,
     lists: &mut Vec<Vec<usize>>,

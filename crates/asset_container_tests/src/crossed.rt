@@ -54,7 +54,7 @@ fn agrees(table: &Crossed<u64>, rows: &[Joined], columns: &[Joined]) -> bool {
         && (table.count(Side::Row), table.count(Side::Column)) == (LINES, LINES)
 }
 
-/// Adds the rows and the columns. If memory runs out, the same call is made again, as often as it takes.
+/// Adds the rows and the columns. A call that runs out of memory is made again, once.
 fn lined(alloc: Global) -> Result<Crossed<u64>, AllocError> {
     let mut table = Crossed::new(alloc);
     for _ in 0..LINES {
@@ -106,22 +106,36 @@ fn remove(table: &mut Crossed<u64>, rows: &mut Vec<Joined>, columns: &mut Vec<Jo
     }
 }
 
-/// Moves the item at the key to another row, if both are there.
+/// Moves the item at the key to another row or column, if both are there, and notes it in the list of that side.
 fn shift(
     table: &mut Crossed<u64>,
-    rows: &mut Vec<Joined>,
+    side: Side,
+    joined: &mut Vec<Joined>,
     key: usize,
-    row: usize,
+    line: usize,
 ) -> Result<(), AllocError> {
     if let Some(item) = table.get(key)
-        && row < table.count(Side::Row)
+        && line < table.count(side)
     {
         let item = *item;
-        table.move_to(Side::Row, key, row);
-        rows.retain(|one| one.1 != key);
-        rows.push((row, key, item))?;
+        table.move_to(side, key, line);
+        joined.retain(|one| one.1 != key);
+        joined.push((line, key, item))?;
     }
     Ok(())
+}
+
+/// Takes all items out of a row or a column, and notes it in the list of that side and in that of the other.
+fn clear(
+    table: &mut Crossed<u64>,
+    side: Side,
+    joined: &mut Vec<Joined>,
+    others: &mut Vec<Joined>,
+    line: usize,
+) {
+    table.clear(side, line);
+    others.retain(|one| !joined.iter().any(|gone| gone.0 == line && gone.1 == one.1));
+    joined.retain(|one| one.0 != line);
 }
 
 /// Writes another item at the key in a list.
@@ -162,13 +176,11 @@ fn call(
             let column = (number >> 20) as usize % LINES;
             insert(table, rows, columns, (line, column, number))?;
         }
-        31..=40 => shift(table, rows, key, line)?,
+        31..=35 => shift(table, Side::Row, rows, key, line)?,
+        36..=40 => shift(table, Side::Column, columns, key, line)?,
         41..=46 => replace(table, rows, columns, key, number),
-        47 => {
-            table.clear(Side::Column, line);
-            rows.retain(|one| !columns.iter().any(|gone| gone.0 == line && gone.1 == one.1));
-            columns.retain(|one| one.0 != line);
-        }
+        47 => clear(table, Side::Column, columns, rows, line),
+        48 => clear(table, Side::Row, rows, columns, line),
         _ => remove(table, rows, columns, key),
     }
     Ok(())

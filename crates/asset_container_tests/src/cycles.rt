@@ -162,7 +162,7 @@ fn ring(alloc: Global) -> Result<Vec<(usize, usize)>, AllocError> {
     Ok(arrows)
 }
 
-/// Asks once, and not again if memory runs out.
+/// Makes the arrows once, and not again if memory runs out.
 #[test]
 fn five_hundred_nodes_are_on_one_cycle(rt: HostRuntime) -> Result<(), Fail> {
     let arrows = ring(rt.alloc())?;
@@ -198,7 +198,7 @@ fn shown_of(alloc: Global, arrows: &[(usize, usize)]) -> Option<(usize, usize, O
     }
 }
 
-/// Asks once, and not again if memory runs out.
+/// Makes the arrows once, and not again if memory runs out.
 #[test]
 fn rows_of_waiters_are_on_no_cycle(rt: HostRuntime) -> Result<(), Fail> {
     let arrows = rows(rt.alloc())?;

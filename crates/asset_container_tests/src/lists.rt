@@ -213,6 +213,8 @@ fn long_list_is_filled_and_emptied(rt: HostRuntime) {
     let mut table = KeyLists::new(rt.alloc());
     let mut places = [None; KEYS];
     let agreed = fill_and_empty(&mut table, &mut places);
+    let counts = (table.list_count(), table.key_count());
     drop(table);
     assert_eq!(rt; agreed, Ok(true));
+    assert_eq!(rt; counts, (1, KEYS));
 }
