@@ -37,7 +37,7 @@ const CLASS_WAITS: &str = "\
     commit 7\ncomplete 9\ncommit 7\ncomplete 6\ncommit 6\nread 5 1\ncommit 8\nread 5 1\n\
     wait 9\nabort 7\n";
 
-/// After five have begun, a chain is cut in its middle by a commit, and its ends go on alone.
+/// After five have begun, commits take the first two off a chain, and the rest stands until an abort.
 const CHAIN_IS_CUT: &str = "\
     initiate 5\nbegin 5\ninitiate 6\nbegin 6\ninitiate 7\nbegin 7\ninitiate 8\nbegin 8\n\
     initiate 9\nbegin 9\n\

@@ -1,4 +1,4 @@
-//! Each public call once, on worked values, and what is left if memory runs out.
+//! Openings, worked scripts and counts of a facility, and what is left if memory runs out.
 
 use crate::again::opened;
 use crate::opening::{ROOM, THREE};
@@ -133,7 +133,7 @@ fn reader_waits_for_abort(rt: HostRuntime) -> Result<(), Fail> {
     Ok(())
 }
 
-/// Entries of each kind that names one transaction, with each refusal that they can get.
+/// Entries of each kind that acts on one transaction, but of adds and open permits, with each refusal that such steps can get.
 const ENTRIES: &str = "\
     begin 7: refused unknown 7\ninitiate 7: ok\ninitiate 7: refused taken 7\n\
     read 7 1: refused not running 7\nbegin 7: ok\nbegin 7: refused begun 7\n\

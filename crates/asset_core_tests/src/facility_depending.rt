@@ -41,7 +41,7 @@ fn great_names_are_tied(rt: HostRuntime) {
     assert_eq!(rt; wrong_over_three(rt.alloc(), GREAT_NAMES), Ok([None; 2]));
 }
 
-/// A dependency of each kind is made while a reader waits, and commits wait for their sources.
+/// Abort and commit dependencies are made while a reader waits, and a commit waits for its sources.
 const TIED: &str = "\
     initiate 7: ok\nbegin 7: ok\ninitiate 8: ok\nbegin 8: ok\ninitiate 9: ok\nbegin 9: ok\n\
     write 7 1 50: ok\nread 9 1: wait\ncomplete 8: ok\ndepend ad 7 8: ok\ncommit 8: wait\n\
@@ -64,7 +64,7 @@ fn dependencies_are_done(rt: HostRuntime) -> Result<(), Fail> {
     Ok(())
 }
 
-/// Three transactions end together, and a dependency among them is done as often as it is asked.
+/// Three transactions end together; a dependency between two that are of one class already is made too.
 const CLASS: &str = "\
     initiate 7: ok\nbegin 7: ok\ninitiate 8: ok\nbegin 8: ok\ninitiate 9: ok\nbegin 9: ok\n\
     write 7 1 50: ok\ndepend gc 7 8: ok\ndepend gc 9 8: ok\ndepend gc 7 9: ok\n\

@@ -9,7 +9,9 @@ use asset_history::History;
 use asset_names::{
     Fault, Kind, NoMemory, Ob, ObList, ObSet, Op, Ops, Outcome, Refusal, Reply, Step, Txn,
 };
-use asset_test_tools::{abort, begin, commit, complete, initiate, read, wait, write};
+use asset_test_tools::{
+    abort, add, begin, commit, complete, initiate, permit_any, read, wait, write,
+};
 use std::test::Fail;
 
 /// Two objects.
@@ -167,8 +169,8 @@ fn entries_say_whom_they_act_on(rt: HostRuntime) -> Result<(), Fail> {
     Ok(())
 }
 
-/// Returns a step of each kind.
-fn each_kind(obs: &ObSet) -> [Step; 12] {
+/// Returns a step of each kind, and a second that initiates.
+fn each_kind(obs: &ObSet) -> [Step; 14] {
     let (giver, taker) = (Txn(7), Txn(8));
     [
         initiate(7),
@@ -179,12 +181,14 @@ fn each_kind(obs: &ObSet) -> [Step; 12] {
         begin(7),
         read(7, 1),
         write(7, 1, -1),
+        add(7, 1, -1),
         Step::Permit {
             giver,
             taker,
             obs: *obs,
             ops: Ops::only(Op::Write),
         },
+        permit_any(7, &[Ob(1), Ob(2)], Ops::only(Op::Write)),
         Step::Depend {
             kind: Kind::Cd,
             a: giver,
