@@ -44,7 +44,8 @@ fn shown(core: &Core) -> Shown {
     (core.counts(), statuses, values, waiters)
 }
 
-/// Returns whether a step may be refused memory if this is its outcome: it takes effect, and ends nobody.
+/// Returns whether a step may be refused memory if this is its outcome: it takes effect, and is an initiate, an operation, a
+/// permit, a delegation or a dependency.
 pub(crate) fn may_lack_memory(step: &Step, outcome: &str) -> bool {
     match step {
         Step::Begin { .. }
@@ -131,6 +132,20 @@ fn open_permits_are_asked_again(rt: HostRuntime) -> Result<(), Fail> {
     Ok(())
 }
 
+/// Adds beside each other. One is taken back, one commits, and one is handed over and then taken back.
+const ADDED: &str = "\
+    initiate 7: ok\nbegin 7: ok\ninitiate 8: ok\nbegin 8: ok\ninitiate 9: ok\nbegin 9: ok\n\
+    add 7 1 10: ok\nadd 8 1 -5: ok\nread 9 1: wait\nadd 7 2 30: ok\ndelegate 7 9 2: ok\nabort 7: aborted\n\
+    read 9 2: 230\nread 9 1: wait\ncomplete 8: ok\ncommit 8: committed\nread 9 1: 95\nadd 9 1 1: ok\nread 9 1: 96\n\
+    add 9 4 1: refused no object 4\nabort 9: aborted\ninitiate 6: ok\nbegin 6: ok\nread 6 1: 95\nread 6 2: 200\n";
+
+#[test]
+fn adds_are_asked_again(rt: HostRuntime) -> Result<(), Fail> {
+    let played = plays(rt.alloc(), ADDED)?;
+    assert_eq!(rt; played, (true, true));
+    Ok(())
+}
+
 /// Work that is permitted and handed over, one object and then all.
 pub(crate) const HANDED_OVER: &str = "\
     initiate 7: ok\nbegin 7: ok\ninitiate 8: ok\nbegin 8: ok\ninitiate 9: ok\nbegin 9: ok\n\
@@ -196,7 +211,7 @@ fn classes_commit_together(rt: HostRuntime) -> Result<(), Fail> {
     Ok(())
 }
 
-/// Dependencies of each kind that close a cycle, and one that waits.
+/// A group commit and an abort dependency that would close a cycle, and a commit that waits.
 const CYCLES: &str = "\
     initiate 7: ok\nbegin 7: ok\ninitiate 8: ok\nbegin 8: ok\ndepend cd 7 8: ok\ndepend gc 7 8: refused cycle\n\
     depend ad 8 7: refused cycle\ndepend cd 7 7: refused same\ndepend cd 7 8: ok\ncomplete 8: ok\ncommit 8: wait\n\
@@ -222,7 +237,7 @@ fn transactions_end_apart(rt: HostRuntime) -> Result<(), Fail> {
     Ok(())
 }
 
-/// Refusals of each kind of step.
+/// Refusals of `begin`, `initiate`, `read`, `permit`, `complete` and `delegate`, and steps that wait.
 const REFUSALS: &str = "\
     initiate 7: ok\nbegin 7: ok\nbegin 5: refused unknown 5\nbegin 7: refused begun 7\ninitiate 7: refused taken 7\n\
     read 5 9: refused unknown 5\nread 7 9: refused no object 9\npermit 7 5 r 9: refused unknown 5\n\

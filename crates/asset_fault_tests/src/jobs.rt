@@ -10,7 +10,7 @@ use std::alloc::Global;
 const TWO_JOBS: &[u8] =
     b"object 1 100\nobject 2 200\njob 7\nread 1\nwrite 1 150\njob 8\nwrite 2 -250\ngive up\n";
 
-/// Reads a script between a reader that takes no memory.
+/// Reads a script from a reader that takes no memory.
 fn read(alloc: Global, reader: Reader<'_>) -> Result<JobScript, JobsFault> {
     let mut input = Device::new(reader);
     read_jobs(alloc, &mut input)

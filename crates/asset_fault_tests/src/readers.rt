@@ -1,4 +1,5 @@
-//! Readers that fail after each byte of a script or never end, by each word: nothing is written.
+//! Readers that fail after each byte of a script, by each of six words, or never end, by each of them but `run`: nothing is
+//! written. Then scripts that come byte by byte.
 
 ghost use Rattle.std.specs.Prelude.{◌<◌};
 
@@ -55,7 +56,7 @@ fn reader_fails_after_each_byte(rt: HostRuntime) {
     }
 }
 
-/// Returns whether a reader that fails after any prefix of a script whose first line is bad is a fault, by a word.
+/// Returns whether a reader that fails after a script whose first line is bad is a fault of the reader, by a word.
 fn bad_line_is_not_looked_at(alloc: Global, work: Work) -> bool {
     let left = run_cut(alloc, work, b"begin\n", 1);
     is_unread(&left) && left.failed == (true, false)

@@ -1,4 +1,4 @@
-//! Scripts that have every step among them, and what each word writes of them.
+//! Scripts that have every step among them but an add and an open permit, and what each of six words writes of them.
 
 use asset_scripts::RunEnd;
 

@@ -24,7 +24,7 @@ fn agreed(manager: &Manager, first: &Session, second: &Session) -> Option<Counts
     }
 }
 
-/// Asks a step that is lent: once, or by two turns.
+/// Asks a step that is lent: once, or at most twice while it waits.
 fn ask<R: Wait>(
     rt: &R,
     manager: &Manager,
