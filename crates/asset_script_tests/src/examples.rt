@@ -1,4 +1,4 @@
-//! The example scripts of the repository, each with its transcript, as the folder `examples` has them.
+//! Six of the example scripts, each with its transcript, as the folder `examples` has them.
 use crate::memory::run_once;
 use asset_scripts::RunEnd;
 use std::process::Abort;

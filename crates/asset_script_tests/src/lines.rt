@@ -4,7 +4,7 @@ use crate::runs::expect_bad;
 use asset_scripts::RunEnd;
 use std::test::Fail;
 
-/// Each line that asks a step for one transaction is answered as that step is.
+/// Each line that asks a step for one transaction, but an add and an open permit, is answered as that step is.
 #[test]
 fn lines_that_ask(rt: HostRuntime) -> Result<(), Fail> {
     let script = b"object 1 -100\ninitiate 7\ninitiate 8 7\nbegin 7\nread 7 1\nwrite 7 1 50\n\
@@ -74,7 +74,7 @@ fn lines_that_are_bad(rt: HostRuntime) -> Result<(), Fail> {
     Ok(())
 }
 
-/// A permit is of the first name for the second, for the operations and on the objects that it names, in any order.
+/// A permit is of the first transaction for the second, for the operations and on the objects that it names, in any order.
 #[test]
 fn permits_that_are_asked(rt: HostRuntime) -> Result<(), Fail> {
     let script = b"object 2 20\nobject 3 30\nobject 30 300\ninitiate 7\nbegin 7\n\

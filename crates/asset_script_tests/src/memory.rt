@@ -13,9 +13,6 @@ use std::test::Fail;
 /// The capacity of the history if a test names none.
 const ROOM: usize = 10_000;
 
-/// Room for the entries of a long script.
-const MUCH_ROOM: usize = 100_000;
-
 /// A transaction that reads, writes and commits.
 pub const ONE_TRANSACTION: &[u8] =
     b"object 1 100\nobject 2 200\nobject 3 300\ninitiate 7\nbegin 7\nread 7 1\nwrite 7 1 50\n\
@@ -81,8 +78,8 @@ pub fn run_once(
     run(alloc, Call::Run, script, ROOM, written)
 }
 
-/// Runs a script, and adds to no bytes what it writes. If memory runs out once, what is written is a prefix
-/// of the text, and the script is run again.
+/// Runs a script, and puts what it writes into empty bytes. If memory runs out once, what is written is a prefix of the text,
+/// and the script is run again.
 fn run_again(
     alloc: Global,
     call: Call,
@@ -142,23 +139,6 @@ pub fn expect_report(
     end: RunEnd,
 ) -> Result<(), Fail> {
     expect_call(rt, call, script, ROOM, text, end)
-}
-
-/// Asserts what a call writes of a script that runs to its end. It is run once, and not again if memory runs out.
-pub fn expect_report_at_once(
-    rt: &(impl Abort + AllocGlobal),
-    call: Call,
-    script: &[u8],
-    text: &str,
-) -> Result<(), Fail> {
-    let mut written = Vec::new(rt.alloc());
-    let ended = run(rt.alloc(), call, script, MUCH_ROOM, &mut written);
-    assert_eq!(rt; ended, Ok(RunEnd::Finished), "by {call:?}");
-    assert!(rt;
-        written.as_slice() == text.as_bytes(),
-        "other text by {call:?}"
-    );
-    Ok(())
 }
 
 /// Asserts what a script writes and how its run ends. It is run once, and not again if memory runs out.

@@ -36,7 +36,7 @@ fn permit_chain(rt: HostRuntime) -> Result<(), Fail> {
     expect(&rt, script, text, RunEnd::Finished)
 }
 
-/// A chain breaks when a name in its middle ends.
+/// A chain breaks when a transaction in its middle ends.
 #[test]
 fn chain_broken_by_end(rt: HostRuntime) -> Result<(), Fail> {
     let script =
@@ -82,9 +82,9 @@ fn committed_over_aborted(rt: HostRuntime) -> Result<(), Fail> {
     expect(&rt, script, text, RunEnd::Finished)
 }
 
-/// A permit for a name that has ended is refused, and its giver goes on alone.
+/// A permit for a transaction that has ended is refused, and its giver goes on.
 #[test]
-fn refused_permit_joins(rt: HostRuntime) -> Result<(), Fail> {
+fn refused_permit_leaves_its_giver(rt: HostRuntime) -> Result<(), Fail> {
     let script =
         b"object 1 100\nobject 2 200\nobject 3 300\ninitiate 7\nbegin 7\ninitiate 9\nbegin 9\n\
         abort 9\npermit 7 9 r 1\ncomplete 7\ncommit 7\n";

@@ -72,8 +72,9 @@ fn comment_too_long(rt: HostRuntime) -> Result<(), Fail> {
     expect(&rt, &script, "line 1: bad command\n", RunEnd::BadLine(1))
 }
 
+/// A child commits while its parent still runs.
 #[test]
-fn parent_joins_nobody(rt: HostRuntime) -> Result<(), Fail> {
+fn child_commits_before_its_parent(rt: HostRuntime) -> Result<(), Fail> {
     let script = b"initiate 7\nbegin 7\ninitiate 8 7\nbegin 8\ncomplete 8\ncommit 8\n";
     expect(
         &rt,
