@@ -6,7 +6,7 @@ use asset_names::{NoMemory, Ob, ObList, ObSet, Txn};
 use asset_objects::Objects;
 use std::test::Fail;
 
-/// How often one write is handed over, and how many writes are handed over at once.
+/// How often one write is handed over, and how often 7 writes to an object that it writes many times.
 const MANY: u64 = 300;
 
 /// How often another writes to each object.
@@ -131,7 +131,8 @@ fn taker_has_its_own_writes_too(rt: HostRuntime) -> Result<(), Fail> {
     Ok(())
 }
 
-/// Returns whether the writes go from name to name, `MANY` times, and the last one takes them back.
+/// Returns whether the write to the first object goes from one transaction to the next, `MANY` times, and undo of the last takes
+/// it back.
 fn pass_along(objects: &mut Objects, first: &ObSet) -> bool {
     let begun = write_both(objects) == Ok(());
     for t in 7..MANY + 7 {
@@ -146,7 +147,7 @@ fn pass_along(objects: &mut Objects, first: &ObSet) -> bool {
 }
 
 #[test]
-fn a_write_goes_from_name_to_name(rt: HostRuntime) -> Result<(), Fail> {
+fn a_write_goes_from_one_to_the_next(rt: HostRuntime) -> Result<(), Fail> {
     let first = ObSet::Listed(ObList::of(&[Ob(1)])?);
     let mut objects = opened(rt.alloc(), &TWO)?;
     let passed = pass_along(&mut objects, &first);

@@ -156,7 +156,7 @@ fn refusals_by_status(rt: HostRuntime) {
     }
 }
 
-/// Returns whether each status is shown as what it is, and what it is owed.
+/// Returns whether four statuses are shown as what they are, and two are owed as many entries as they should be.
 fn statuses_are_shown() -> bool {
     Status::Unknown.is_unknown()
         && Status::Aborted.has_ended()

@@ -1,4 +1,4 @@
-//! Each public call once, on worked values, and what is left if memory runs out.
+//! Openings, writes and ends on worked values, and what is left if memory runs out.
 
 use crate::asserts::same;
 use asset_names::{NoMemory, Ob, Txn, least_double};

@@ -164,7 +164,8 @@ fn same_values(objects: &Objects, list: &PlainObjects) -> bool {
         .all(|pair| objects.value(pair.0) == value_of(list, pair.0.0))
 }
 
-/// Returns whether as many records went as visits allow: each is visited once, and at most four times.
+/// Returns whether the visits are at least as many as the records that went, at most about four times as many, and none if none
+/// went.
 fn within(visits: usize, gone: usize) -> bool {
     gone <= visits && visits / 4 <= gone && (gone > 0 || visits == 0)
 }

@@ -1,4 +1,4 @@
-//! How many records ends and hand-overs visit on worked values, and seats of transactions whose writes are dropped by others.
+//! How many records ends visit on worked values, and seats of transactions whose writes are dropped by others.
 
 use crate::objects::{TWO, opened, shows, write};
 use asset_names::{NoMemory, Ob, ObList, ObSet, Txn};
