@@ -60,8 +60,8 @@ fn run(
     run_between(alloc, call, &mut input, &mut output, capacity)
 }
 
-/// Runs a script, and adds to no bytes what it writes. If memory runs out once, what is written is a prefix
-/// of the text, and the script is run again.
+/// Runs a script, and puts what it writes into empty bytes. If memory runs out once, what is written is a prefix of the text,
+/// and the script is run again.
 fn run_again(
     alloc: Global,
     call: Call,

@@ -134,7 +134,7 @@ fn bad_line_alone(rt: HostRuntime) -> Result<(), Fail> {
     Ok(())
 }
 
-/// Each kind of step is printed as it was read, but for the order within a set.
+/// Each kind of step but an add and an open permit is printed as it was read, but for the order within a set.
 #[test]
 fn each_step_is_printed(rt: HostRuntime) -> Result<(), Fail> {
     let head = "object 1 -5\nobject 2 0\ninitiate 7\ninitiate 8 7\nbegin 7\nbegin 8\n";

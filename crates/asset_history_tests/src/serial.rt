@@ -142,7 +142,7 @@ fn played_serially(alloc: Global, script: &str) -> Result<(Option<usize>, Option
     Ok((wrong, run?))
 }
 
-/// Two transactions take turns. 8 commits first and reads its own write; 7 reads what 8 left.
+/// Two transactions take turns. 8 commits first, and is then asked to commit and to begin again; 7 writes over what 8 left.
 const TURNS: &str = "\
     initiate 7: ok\nbegin 7: ok\ninitiate 8: ok\nbegin 8: ok\nwrite 7 2 70: ok\n\
     write 8 1 80: ok\nbegin 8: refused begun 8\ncomplete 8: ok\ncommit 8: committed\n\

@@ -10,7 +10,7 @@ use asset_test_tools::{next, read};
 use std::alloc::Global;
 use std::test::Fail;
 
-/// Room for the entries of one transaction that reads nothing twice.
+/// Room for the seven entries of one transaction, and no more.
 const LITTLE_ROOM: usize = 7;
 
 /// Asks the drawn steps.
