@@ -81,7 +81,7 @@ fn doom_spreads(deps: &mut Deps) -> bool {
         && deps.marked(2) == None
 }
 
-/// Returns whether the class has no outside source once 7 has ended, and loses its mark once 8 has.
+/// Returns whether the class has no outside source once 7 has ended, and 8 alone loses its mark once 8 has.
 fn source_ends(deps: &mut Deps) -> bool {
     deps.end(Txn(7));
     let alone = !deps.has_outside_source(Txn(9)) && deps.is_doomed(Txn(8));

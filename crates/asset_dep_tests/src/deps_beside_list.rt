@@ -99,7 +99,7 @@ fn shown_between(deps: &mut Deps, a: u64, b: u64) -> u64 {
     bits << 1 | u64::from(deps.would_cycle(Kind::Gc, first, second))
 }
 
-/// Takes the marks away one by one, and returns whether each of them was one of the doomed, and none is left.
+/// Takes the marks away one by one. Returns whether nobody whose mark was taken is marked any more, and none is left.
 fn take_marks(deps: &mut Deps) -> bool {
     let mut marked = true;
     for _ in 0..NAMES {

@@ -170,7 +170,8 @@ fn doom_spreads(table: &mut Table) -> bool {
         && table.mark_doomed(8) == 2
 }
 
-/// Returns whether the dependencies of 8 are gone once it ends, and with it those that were doomed.
+/// Returns whether the dependencies of 8 are gone once it ends: 9 has no source any more, 6 still has one, and an abort of 7
+/// takes nobody else.
 fn doom_ends(table: &mut Table) -> bool {
     table.end(8);
     !table.has_outside_source(9)
