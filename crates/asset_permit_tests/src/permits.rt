@@ -264,7 +264,7 @@ fn add_plain(permits: &mut Permits, plain: &Plain) -> Result<(), NoMemory> {
     }
 }
 
-/// Adds a permit to the taker, or to anybody if it is open; every object is open to nobody.
+/// Adds a permit for the taker, or for anybody if it is open; one on all objects is never open.
 fn add_set(
     permits: &mut Permits,
     giver: Txn,

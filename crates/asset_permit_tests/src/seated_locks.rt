@@ -162,7 +162,7 @@ impl Table {
             || enter(&mut self.seats, &mut self.locks, &mut self.permits, t).is_ok()
     }
 
-    /// Lets one that has a seat do everything that another may do.
+    /// Adds a permit of one that has a seat for another that has one, to read and write all objects.
     fn permit_once(&mut self, giver: u64, taker: u64) -> Option<()> {
         let (from, to) = (sitter(&self.seats, giver)?, sitter(&self.seats, taker)?);
         let ops = Ops::only(Op::Read).with(Op::Write);

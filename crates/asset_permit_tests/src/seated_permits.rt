@@ -205,7 +205,7 @@ fn chain_by_seat(rt: HostRuntime) {
     assert!(rt; allowed);
 }
 
-/// Returns whether 8 gets copies of the permits of 7 on the moved objects, which stay when 7 is dropped.
+/// Returns whether 8 gets copies of the permits of 7 on the moved objects, and 7 keeps its own.
 fn copied(table: &mut Table) -> bool {
     table.add(7, 9, 1, both())
         && table.add(7, 9, 2, Ops::only(Op::Write))
