@@ -34,8 +34,8 @@ fn waits(locks: &mut Locks, permits: &mut Permits, t: u64, x: u64, op: Op) -> bo
     ask(locks, t, x, op, permits) == Ok(Asked::Pending)
 }
 
-/// Lets one transaction do everything that the other may do, and returns whether it could. If memory runs out once, the
-/// same call is made again.
+/// Adds a permit of the giver for the taker to read and write all objects, and returns whether it could. If memory runs out
+/// once, the same call is made again.
 fn permit(permits: &mut Permits, giver: u64, taker: u64) -> bool {
     let ops = Ops::only(Op::Read).with(Op::Write);
     match permits.add(Txn(giver), Txn(taker), ObSet::All, ops) {

@@ -1,4 +1,4 @@
-//! Each public call on worked values, and what is left if memory runs out.
+//! Locks on worked values, and what is left if memory runs out.
 
 use asset_locks::{Asked, LockState, Locks};
 use asset_names::{NoMemory, Ob, ObSet, Op, Ops, Txn};
@@ -81,7 +81,7 @@ impl Three {
         self.locks.is_free(Txn(8), Ob(1), op, &mut self.permits)
     }
 
-    /// Lets 8 do everything that 7 may do. If memory runs out once, the same call is made again.
+    /// Adds a permit of 7 for 8 to read and write all objects. If memory runs out once, the same call is made again.
     fn seven_permits_eight(&mut self) -> Result<(), NoMemory> {
         let ops = Ops::only(Op::Read).with(Op::Write);
         match self.permits.add(Txn(7), Txn(8), ObSet::All, ops) {

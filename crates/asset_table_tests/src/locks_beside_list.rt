@@ -37,7 +37,7 @@ struct PlainRequest {
     op: Op,
 }
 
-/// The plain table: the names in order of enrolment, the requests that wait, and the locks in order of first grant.
+/// The plain table: the transactions in order of enrolment, the requests that wait, and the locks in order of first grant.
 #[derive(Drop)]
 struct PlainTable {
     names: Vec<u64>,
@@ -82,7 +82,7 @@ fn held_of(table: &PlainTable, t: u64, index: usize) -> Option<Ob> {
     Some(Ob(held.nth(index)?.object))
 }
 
-/// Returns the operation with which a name waits for `x`, if it does.
+/// Returns the operation with which a transaction waits for `x`, if it does.
 fn request_of(table: &PlainTable, name: u64, x: u64) -> Option<Op> {
     let mut requests = table.requests.iter();
     let found = requests.find(|request| request.name == name && request.object == x)?;
@@ -103,7 +103,7 @@ fn waiter_of(table: &PlainTable, x: u64, index: usize) -> Option<(Txn, Op)> {
     None
 }
 
-/// Enrols a name that is not enrolled.
+/// Enrols a transaction that is not enrolled.
 fn enrol_plainly(table: &mut PlainTable, t: u64) -> Result<(), Fail> {
     if !table.names.contains(&t) {
         table.names.push(t)?;
@@ -111,7 +111,7 @@ fn enrol_plainly(table: &mut PlainTable, t: u64) -> Result<(), Fail> {
     Ok(())
 }
 
-/// Takes a name away, with its locks and its request.
+/// Takes a transaction away, with its locks and its request.
 fn release_plainly(table: &mut PlainTable, t: u64) {
     table.names.retain(|name| *name != t);
     table.requests.retain(|request| request.name != t);
