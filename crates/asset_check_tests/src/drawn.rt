@@ -64,13 +64,13 @@ impl io::Write for Front {
     }
 }
 
-/// Appends one to six drawn lines to a script that is empty. One in four loses its last byte.
+/// Draws a script of one to six lines. One line in four loses its last byte.
 fn draw_script(seed: &mut u64, script: &mut Vec<u8>) -> Result<(), AllocError> {
     script.clear();
     *seed = next(*seed);
     for _ in 0..=(*seed >> 33) % 6 {
         *seed = next(*seed);
-        if let Some(line) = LINES.get(((*seed >> 33) % 24) as usize) {
+        if let Some(line) = LINES.get(((*seed >> 33) % 26) as usize) {
             script.extend_from_slice(line)?;
         }
         *seed = next(*seed);

@@ -49,8 +49,8 @@ fn writer_fails_at_each_write(rt: HostRuntime) {
     assert!(rt; is_cut_at_each_write(rt.alloc(), true));
 }
 
-/// Returns whether nothing is written if a reader fails after `count` bytes of the script.
-fn is_stopped_after(alloc: Global, count: usize) -> bool {
+/// Checks the first bytes of the script, after which the reader fails.
+fn check_broken(alloc: Global, count: usize) -> Left {
     let (given, _) = SCRIPT.split_at(count.min(SCRIPT.len()));
     let reader = Reader {
         comment: 0,
@@ -58,8 +58,17 @@ fn is_stopped_after(alloc: Global, count: usize) -> bool {
         piece: 5,
         fails: true,
     };
-    let left = check(alloc, reader, taking(TEXT));
-    left.missing == TEXT.len() && left.same && left.end != Ok(RunEnd::Finished)
+    check(alloc, reader, taking(TEXT))
+}
+
+/// Returns whether a reader that fails after these bytes is told of, and nothing is written. If memory runs out once, they are checked
+/// again.
+fn is_stopped_after(alloc: Global, count: usize) -> bool {
+    let mut left = check_broken(alloc, count);
+    if is_stopped(&left, ScriptFault::NoMemory, TEXT.len()) {
+        left = check_broken(alloc, count);
+    }
+    is_stopped(&left, ScriptFault::Read, TEXT.len()) && left.failed == (true, false)
 }
 
 #[test]

@@ -25,45 +25,76 @@ fn taking_pieces(wanted: &'static str, calls: usize, takes_nothing: bool) -> Wri
     }
 }
 
-/// Returns whether a conversation met a fault of a writer or ran out of memory, with a prefix of each text written.
-fn is_cut(left: &Left) -> bool {
-    left.end == Err(ScriptFault::NoMemory) && left.same
-        || left.end == Err(ScriptFault::Write) && left.same && (left.failed.1 || left.failed.2)
+/// Holds the conversation with a writer of replies and one of reasons, which take this many pieces.
+fn talk_to(alloc: Global, replies: usize, reasons: usize) -> Left {
+    let replies = taking_pieces(REPLIES, replies, replies % 2 == 0);
+    let reasons = taking_pieces(REASONS, reasons, reasons % 2 == 0);
+    talk(alloc, whole(SCRIPT), replies, reasons, 100)
+}
+
+/// Holds the conversation as `talk_to` does. If memory runs out once, it is held again.
+fn talk_again(alloc: Global, replies: usize, reasons: usize) -> Left {
+    let left = talk_to(alloc, replies, reasons);
+    if left.end == Err(ScriptFault::NoMemory) && left.same {
+        return talk_to(alloc, replies, reasons);
+    }
+    left
+}
+
+/// Returns whether a conversation met a fault of a writer, these devices failed, and all but these many bytes of replies and of reasons
+/// were written.
+fn is_cut(left: &Left, failed: (bool, bool, bool), missing: (usize, usize)) -> bool {
+    left.end == Err(ScriptFault::Write)
+        && left.failed == failed
+        && left.missing == missing
+        && left.same
 }
 
 #[test]
 fn writer_of_replies_fails_at_each_write(rt: HostRuntime) {
     for calls in 0..REPLIES.len().div_ceil(3) {
-        let writer = taking_pieces(REPLIES, calls, calls % 2 == 0);
-        let left = talk(rt.alloc(), whole(SCRIPT), writer, taking(REASONS), 100);
-        assert!(rt; is_cut(&left), "at {calls}");
+        let left = talk_again(rt.alloc(), calls, usize::MAX);
+        let missing = REPLIES.len().saturating_sub(calls.saturating_mul(3));
+        let failed = (false, true, false);
+        assert!(rt;
+            is_cut(&left, failed, (missing, REASONS.len())),
+            "at {calls}"
+        );
     }
 }
 
 #[test]
 fn writer_of_reasons_fails_at_each_write(rt: HostRuntime) {
     for calls in 0..REASONS.len().div_ceil(3) {
-        let writer = taking_pieces(REASONS, calls, calls % 2 == 0);
-        let left = talk(rt.alloc(), whole(SCRIPT), taking(REPLIES), writer, 100);
-        assert!(rt; is_cut(&left), "at {calls}");
+        let left = talk_again(rt.alloc(), usize::MAX, calls);
+        let missing = REASONS.len().saturating_sub(calls.saturating_mul(3));
+        let failed = (false, false, true);
+        assert!(rt; is_cut(&left, failed, (0, missing)), "at {calls}");
     }
 }
 
-/// Returns whether each complete line was answered if a reader fails after the bytes of the script.
-fn is_answered_before_fault(alloc: Global) -> bool {
+/// Holds the conversation with a reader that fails after the bytes of the script.
+fn talk_broken(alloc: Global) -> Left {
     let reader = Reader {
         comment: 0,
         left: SCRIPT,
         piece: 5,
         fails: true,
     };
-    let left = talk(alloc, reader, taking(REPLIES), taking(REASONS), 100);
-    match left.end {
-        Err(ScriptFault::Read) => left.missing == (0, 0)
-            && left.same
-            && left.failed == (true, false, false),
-        _ => left.end == Err(ScriptFault::NoMemory) && left.same,
+    talk(alloc, reader, taking(REPLIES), taking(REASONS), 100)
+}
+
+/// Returns whether each complete line was answered, and the fault told of, if a reader fails after the bytes of the script. If memory
+/// runs out once, the conversation is held again.
+fn is_answered_before_fault(alloc: Global) -> bool {
+    let mut left = talk_broken(alloc);
+    if left.end == Err(ScriptFault::NoMemory) && left.same {
+        left = talk_broken(alloc);
     }
+    left.end == Err(ScriptFault::Read)
+        && left.missing == (0, 0)
+        && left.same
+        && left.failed == (true, false, false)
 }
 
 #[test]

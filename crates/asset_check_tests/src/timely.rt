@@ -58,7 +58,7 @@ const PIECES: [(&[u8], usize); 6] = [
     (b"", 51),
 ];
 
-/// Returns whether each reply and each reason was written before the reader was asked again.
+/// Returns whether each reply and each reason was written before the reader was asked again, and all were in the end.
 fn is_timely(alloc: Global) -> bool {
     let written = Cell::new(0);
     let late = Cell::new(false);
@@ -71,7 +71,7 @@ fn is_timely(alloc: Global) -> bool {
     let mut output = Device::new(CountingWriter { written: &written });
     let mut errors = Device::new(CountingWriter { written: &written });
     let end = run_shell(alloc, &mut input, &mut output, &mut errors, 100);
-    end.is_ok() && !late.get()
+    end.is_ok() && !late.get() && written.get() == 51
 }
 
 #[test]
