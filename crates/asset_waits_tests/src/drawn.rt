@@ -84,7 +84,7 @@ fn all_hold(core: &Core, found: &NameSet, t: Txn, x: Ob, op: Op) -> bool {
 /// Returns whether somebody blocks a transaction that runs exactly if the reference has its request wait.
 fn requests_agree(core: &mut Core, entries: &[(Step, Reply)], t: Txn) -> Result<bool, Fail> {
     for x in 1..4 {
-        for op in [Op::Read, Op::Write] {
+        for op in [Op::Read, Op::Write, Op::Add] {
             let found = blockers(core, t, Ob(x), op).map_err(|_| "no memory")?;
             let waits = answer(&THREE, entries, &request(t, Ob(x), op)) == Outcome::Wait;
             if found.is_empty() == waits || !all_hold(core, &found, t, Ob(x), op) {

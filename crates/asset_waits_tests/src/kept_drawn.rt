@@ -78,7 +78,8 @@ fn begin_all(core: &mut Core, plain: &mut Plain) -> Option<u64> {
     plain.first_other(core)
 }
 
-/// Plays drawn steps. Returns how many were played until one was answered otherwise, and how many groups there are.
+/// Begins all transactions, and plays drawn steps. Returns the first transaction or step after which the groups differ, and how many
+/// groups there are if none is.
 fn steps_agree(core: &mut Core, seed: u64) -> (Option<u64>, usize) {
     let mut plain = Plain::new();
     if let Some(t) = begin_all(core, &mut plain) {
@@ -142,7 +143,7 @@ fn kept_groups_agree_with_plain_ones_after_every_step(rt: HostRuntime) -> Result
     Ok(())
 }
 
-/// Asks a dependency of a drawn kind between drawn transactions.
+/// Returns a dependency of a drawn kind between drawn transactions.
 fn dependency(number: u64) -> Step {
     let kind = match number % 3 {
         0 => Kind::Cd,

@@ -15,7 +15,8 @@ const NAMES: u64 = 4_000;
 /// How many objects are opened.
 const OBJECTS: u64 = 300;
 
-/// Plays refused dependencies, of which each joins a transaction with the next one. Returns the first that is not refused.
+/// Plays refused dependencies, of which each joins a transaction with the one before it, the last first. Returns the first that is
+/// not refused.
 fn many_are_joined(core: &mut Core) -> Option<u64> {
     for t in 1..NAMES {
         let refused = Outcome::Answer(Reply::Refused(Refusal::Unknown(Txn(NAMES - t))));
@@ -95,10 +96,10 @@ fn are_opened(core: &mut Core, t: u64, ops: Ops) -> Option<u64> {
     None
 }
 
-/// Returns the first of 600 writers whose group does not begin with `t`, as far as the objects below `count` go.
+/// Returns the first of 600 writers whose group does not begin with `first` if its object is below `count`, or with itself otherwise.
 fn first_other(core: &Core, count: u64, first: u64) -> Option<u64> {
-    for x in 0..OBJECTS {
-        let expected = if x < count { first } else { x };
+    for x in 0..2 * OBJECTS {
+        let expected = if x % OBJECTS < count { first } else { x };
         if core.first_of(Txn(x)) != Some(Txn(expected)) {
             return Some(x);
         }

@@ -140,7 +140,7 @@ fn open_permit_joins_with_all_who_operated_before(rt: HostRuntime) -> Result<(),
     Ok(())
 }
 
-/// 7 and 8 open an object that nobody has operated on, and one that 8 has; then 9 reads the first.
+/// 7 and 8 open an object that nobody has operated on, and 9 opens another; then 9 reads the first.
 const OPENED_BY_TWO: &str = "\
     initiate 7: ok\nbegin 7: ok\ninitiate 8: ok\nbegin 8: ok\ninitiate 9: ok\nbegin 9: ok\n\
     permit 7 any rw 1: ok\npermit 8 any rw 1: ok\npermit 9 any r 2: ok\n";

@@ -5,7 +5,7 @@ use asset_history::History;
 use asset_names::{Ob, Reply, Step, Txn, actor, partner, takes_effect};
 use asset_test_tools::{join_in, label_in};
 
-/// How many transactions there are. Step 0 acts on 0 first, and so on, so the least of a group is its first.
+/// How many transactions there are. They are initiated and begun in order, so the least of a group is its first.
 pub(crate) const NAMES: u64 = 24;
 
 /// The labels of the transactions, and who committed.

@@ -123,7 +123,7 @@ fn three_operations_are_named(rt: HostRuntime) -> Result<(), Fail> {
     expect_report(&rt, script, text, RunEnd::Finished)
 }
 
-/// 9 is named by neither: it holds the object itself, and 8 permits it.
+/// Neither 8 nor 9 keeps 9: 8 permits it, and 9 holds the object itself.
 #[test]
 fn own_locks_and_permits_keep_nobody(rt: HostRuntime) -> Result<(), Fail> {
     let script = "\
@@ -176,7 +176,7 @@ fn commits_and_requests_make_one_cycle(rt: HostRuntime) -> Result<(), Fail> {
     expect_report(&rt, script, text, RunEnd::Finished)
 }
 
-/// Two cycles, of which the second waits for the first.
+/// Two cycles, and 9, which waits for the first.
 #[test]
 fn each_cycle_has_a_line(rt: HostRuntime) -> Result<(), Fail> {
     let script = "\
