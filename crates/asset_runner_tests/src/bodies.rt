@@ -31,7 +31,7 @@ pub(crate) enum Task {
     Does(Work),
     /// Writes 50 to object 1, runs a child of this name that does this work, reads object 2, and is done.
     RunsChild(u64, Work),
-    /// Permits 8 everything, hands over to it, makes it depend on itself, and is done.
+    /// Permits 8 to read and write all objects, hands all over to it, makes 8 depend on 7, and is done.
     SharesWithEight,
     /// Lets anybody read object 1, and is done.
     OpensOne,
@@ -149,8 +149,8 @@ fn is_done(outcome: Result<Outcome, Fault>) -> bool {
     outcome == Ok(Outcome::Answer(Reply::Done))
 }
 
-/// Permits 8 everything, hands over to it, and makes it depend on itself; is done. Notes how many of them were answered
-/// `Done`.
+/// Permits 8 to read and write all objects, hands all over to it, and makes 8 depend on 7; is done. Notes how many of them were
+/// answered `Done`.
 fn shares_with_eight<R: Wait>(rt: &R, tx: Tx, notes: &Notes) -> Finished
     ensures { result.of ≡ Some tx.manager }
 {
