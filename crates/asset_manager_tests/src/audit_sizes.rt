@@ -10,7 +10,7 @@ use asset_test_tools::begin;
 use std::alloc::{AllocError, Global};
 use std::test::Fail;
 
-/// How many entries there are, of which each session has as many.
+/// How many entries there are, how many sessions, and how many entries each of them is told.
 const ENTRIES: usize = 263_000;
 
 const SESSIONS: usize = 200;

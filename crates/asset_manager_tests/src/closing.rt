@@ -24,8 +24,8 @@ fn close_with(manager: Manager, closing: Vec<Session>) -> (usize, Result<(), Aud
     left
 }
 
-/// Closes a manager with one session, for which the list has room, as `close_with` does. One that were lost would be
-/// missed.
+/// Closes a manager with one session, for which the list has room, as `close_with` does. A session that is lost would be
+/// missed by the audit.
 pub fn close_one(
     manager: Manager,
     mut closing: Vec<Session>,
@@ -44,16 +44,4 @@ pub fn close_two(
 ) -> (usize, Result<(), AuditFault>) {
     let _handed = hand_in(&mut closing, first);
     close_one(manager, closing, second)
-}
-
-/// Closes a manager with three sessions, as `close_one` does.
-pub fn close_three(
-    manager: Manager,
-    mut closing: Vec<Session>,
-    first: Session,
-    second: Session,
-    third: Session,
-) -> (usize, Result<(), AuditFault>) {
-    let _handed = hand_in(&mut closing, first);
-    close_two(manager, closing, second, third)
 }

@@ -7,7 +7,7 @@ mod closing;
 mod script;
 
 pub use again::{ROOM, THREE, call, is_answered, opened, reserved, shown};
-pub use closing::{close_one, close_three, close_two, hand_in, room_for};
+pub use closing::{close_one, close_two, hand_in, room_for};
 pub use script::{first_wrong_line, is_replayed};
 
 #[cfg(test)]

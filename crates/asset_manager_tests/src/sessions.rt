@@ -4,7 +4,7 @@ ghost use Rattle.asset_counts.specs.Pass.{IsOf};
 
 use crate::again::{ROOM, THREE, opened, reserved, shown};
 use crate::asserts::same;
-use crate::closing::{close_one, close_three, close_two, hand_in, room_for};
+use crate::closing::{close_one, close_two, hand_in, room_for};
 use crate::script::first_wrong_line;
 use asset_manager::{AuditFault, Counts, Manager, OpenFault, Session};
 use asset_names::{Fault, Ob, Outcome, Reply};
@@ -37,6 +37,18 @@ fn asks_ten<R: Wait>(
         first_wrong_line(rt, alloc, manager, a, of_7),
     ];
     (room, wrong)
+}
+
+/// Closes a manager with three sessions, as `close_one` does.
+fn close_three(
+    manager: Manager,
+    mut closing: Vec<Session>,
+    first: Session,
+    second: Session,
+    third: Session,
+) -> (usize, Result<(), AuditFault>) {
+    let _handed = hand_in(&mut closing, first);
+    close_two(manager, closing, second, third)
 }
 
 /// What the ten steps leave in the word, after two commits.

@@ -33,8 +33,8 @@ fn told<R: Wait>(rt: &R, manager: &Manager, session: &Session) -> [(Option<Txn>,
     ]
 }
 
-/// Has 7 and 8 come to share, and then commit, each by a session of its own. Returns what the second session is told before they
-/// share, once they do, and once 7 has committed, and the lines that went wrong.
+/// Has 7 and 8, each asked for by a session of its own, come to share; then 7 commits. Returns what the second session is told before
+/// they share, once they do, and once 7 has committed, and the lines that went wrong.
 fn share<R: Wait>(
     rt: &R,
     alloc: Global,
