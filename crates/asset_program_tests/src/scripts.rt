@@ -29,7 +29,7 @@ const TWO: &[u8] =
     b"object 1 100\ninitiate 7\nbegin 7\ninitiate 8\nbegin 8\nwrite 7 1 50\ncomplete 7\ncommit 7\nabort 8\n";
 
 #[test]
-fn each_word_writes_its_text(rt: HostRuntime) {
+fn reports_are_written(rt: HostRuntime) {
     let left = "object 1 100\ninitiate 7\nbegin 7\nwrite 7 1 50\ncomplete 7\ncommit 7\n";
     expect(&rt, &["prune"], TWO, (left, "", 0));
     expect(&rt, &["groups"], TWO, ("0 committed 7\n1 dead 8\n", "", 0));
