@@ -70,8 +70,8 @@ fn left_by(acts: &[Act], x: Ob, before: Option<i64>) -> Option<i64> {
     value
 }
 
-/// Returns whether one transaction ended as `atomic` answered: its writes stand if it committed, and nothing has changed if it
-/// aborted or stopped before its end.
+/// Returns whether one transaction ended as `atomic` answered: its writes and adds stand if it committed, nothing has changed if it
+/// aborted, and it runs if it stopped.
 fn atomic_is_told(alloc: Global, core: &mut Core, t: u64, number: u64) -> bool {
     let only = drawn_part(alloc, t, number);
     let before = values(core);

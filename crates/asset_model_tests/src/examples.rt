@@ -15,6 +15,9 @@ const SEATS: Ob = Ob(1);
 /// How many rooms are free.
 const ROOMS: Ob = Ob(2);
 
+/// How much money the buyer of an order has.
+const MONEY: Ob = Ob(2);
+
 /// How many cars are free. No such object is opened here, so each write of it is refused.
 const CARS: Ob = Ob(3);
 
@@ -65,17 +68,17 @@ fn trip_without_a_car_is_given_back(rt: HostRuntime) -> Result<(), Fail> {
 /// Places an order: the parent takes the money, one child books a seat, and another would book a car. A child that fails is
 /// undone alone. What the others did becomes the parent's, and stands or falls with it.
 fn place_order<A: Asset>(alloc: Global, asset: &mut A) -> Result<ModelEnd, Fault> {
-    let money = part(alloc, 1, &[Act::Write(ROOMS, 3)]);
+    let money = part(alloc, 1, &[Act::Write(MONEY, 3)]);
     let seat = part(alloc, 2, &[Act::Read(SEATS), Act::Write(SEATS, 19)]);
     let car = part(alloc, 3, &[Act::Write(SEATS, 18), Act::Write(CARS, 4)]);
     nested(asset, &money, &[seat, car], 0)
 }
 
-/// Opens a facility, places an order, and returns how that ended and what is free then.
+/// Opens a facility with 20 free seats and money for an order, places one, and returns how that ended and what is left then.
 fn order(alloc: Global) -> Result<(Result<ModelEnd, Fault>, [Option<i64>; 2]), OpenFault> {
-    let mut core = opened(alloc, &[(SEATS, 20), (ROOMS, 10)], ROOM)?;
+    let mut core = opened(alloc, &[(SEATS, 20), (MONEY, 10)], ROOM)?;
     let end = place_order(alloc, &mut core);
-    let free = [core.value(SEATS), core.value(ROOMS)];
+    let free = [core.value(SEATS), core.value(MONEY)];
     drop(core.into_history());
     Ok((end, free))
 }

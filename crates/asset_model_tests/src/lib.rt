@@ -1,5 +1,5 @@
-//! The tests of the extended models: worked rows over a `Core`, three of them over clients of a manager on threads, memory
-//! that runs out, and drawn models beside another client.
+//! The tests of the extended models: worked rows over a `Core`, three of them by a client of a manager too, models of two clients on
+//! two threads, memory that runs out, and drawn models beside another client.
 #![tactic(auto)]
 
 #[cfg(test)]
