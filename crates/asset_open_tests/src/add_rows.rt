@@ -1,4 +1,4 @@
-//! The worked rows of adds, by every word.
+//! The worked rows of adds, by several words.
 
 use crate::words::{first_other_work, writes};
 use asset_cli::{Report, Work};
@@ -11,7 +11,7 @@ const ADDS_COMMUTE: &str = "\
     begin 9\nadd 7 1 5\nadd 8 1 7\nread 9 1\nread 7 1\ncomplete 8\ncommit 8\nread 7 1\nabort 7\n\
     read 9 1\n";
 
-/// What 8 alone is.
+/// What is left: 8 alone.
 const EIGHT_ALONE: &str = "\
     object 1 100\nobject 2 200\nobject 3 300\ninitiate 8\nbegin 8\nadd 8 1 7\ncomplete 8\ncommit 8\n";
 

@@ -15,7 +15,7 @@ const READER: u64 = 1_000;
 /// Room for all their entries.
 const ROOM: usize = 4_000;
 
-/// What 22,650 is: the sum of the even numbers from 2 to 300. With the opening value of 100:
+/// The value in the end: the opening 100, and 22,650, the sum of the even numbers from 2 to 300.
 const COMMITTED: i64 = 22_750;
 
 /// What each of them asks in turn.

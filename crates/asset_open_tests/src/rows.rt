@@ -1,4 +1,4 @@
-//! The worked rows of open permits, by every word.
+//! The worked rows of open permits, by several words.
 
 use crate::words::{first_other_work, writes};
 use asset_cli::{Report, Work};
