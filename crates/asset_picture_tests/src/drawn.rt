@@ -40,7 +40,7 @@ fn step_of(number: u64) -> Step {
     }
 }
 
-/// Starts each transaction, and asks the drawn steps. Returns the first number that met a fault.
+/// Starts the first four transactions, and asks the drawn steps. Returns the first number that met a fault.
 fn steps_are_drawn(core: &mut Core) -> Option<u64> {
     for t in 0..NAMES / 2 {
         if ask(core, &initiate(t)).is_err() || ask(core, &begin(t)).is_err() {
@@ -72,7 +72,7 @@ fn row_of(step: &Step, reply: &Reply, from_entry: bool) -> [usize; 4] {
     }
 }
 
-/// Returns the source of an entry. If memory runs out once, it is looked for again.
+/// Returns whether the source of an entry is an entry. If memory runs out once, it is looked for again.
 fn has_source(alloc: Global, history: &History, index: usize) -> bool {
     let found = match source(alloc, history, index) {
         Err(NoMemory) => source(alloc, history, index),
@@ -99,7 +99,7 @@ fn searched(alloc: Global, history: &History) -> [usize; 4] {
     all
 }
 
-/// Returns how many of the first names some step acts on.
+/// Returns how many transactions some step acts on.
 fn used(history: &History) -> usize {
     let mut found = 0;
     for t in 0..NAMES {
