@@ -4,7 +4,7 @@ use crate::same::is_same;
 use arrayvec::ArrayVec;
 use asset_test_tools::next;
 
-/// How many lines each test draws.
+/// How many lines each test draws; the test of scripts draws half as many scripts.
 const LINES: usize = 25_000;
 
 /// The most bytes of a drawn line.
@@ -160,7 +160,7 @@ fn draw_mutated(seed: &mut u64, line: &mut Drawn) {
     }
 }
 
-/// Draws up to 40 bytes.
+/// Draws at most 39 bytes.
 fn draw_bytes(seed: &mut u64, line: &mut Drawn) {
     line.clear();
     *seed = next(*seed);

@@ -161,7 +161,7 @@ fn dependencies(rt: HostRuntime) {
     );
 }
 
-/// Returns whether the line lends operations of 7 to 8 on the set.
+/// Returns whether the line is a permit of 7 for 8, of the operations on the set.
 fn permits(line: &[u8], ops: Option<Ops>, obs: ObSet) -> bool {
     match ops {
         Some(ops) => asks(
