@@ -105,7 +105,7 @@ fn dependencies(rt: HostRuntime) -> Result<(), Fail> {
     Ok(())
 }
 
-/// Each refusal has its number, and names what it is about.
+/// Each refusal but that of a cycle has its number, and names what it is about, if it is about something.
 #[test]
 fn refusals(rt: HostRuntime) -> Result<(), Fail> {
     let mut handle = opened(&rt);
