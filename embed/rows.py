@@ -2,7 +2,8 @@
 """Writes the worked rows of the repository as one text, for the tests of the languages.
 
 A row is a script with the replies that it has to get. Rows are taken from `examples/` and from the tests of
-`crates/asset_script_tests`; those that stop at a bad line are left out, since a caller has no lines. The text has for each row
+`crates/asset_script_tests`; left out are those that stop at a bad line, since a caller has no lines, and those whose script is
+neither written out as `let script` nor in a table of pairs. The text has for each row
 
     row NAME CAPACITY
     the lines of the script, and after each step a line `= REPLY`

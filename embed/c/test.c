@@ -211,7 +211,7 @@ static void all_rows(const char *path) {
     for (; next_line(file, line, sizeof line); rows++) run_row(file, line);
     fclose(file);
     row = "no row";
-    EXPECT(rows >= 48);
+    EXPECT(rows >= 51);
     printf("C: %d rows\n", rows);
 }
 

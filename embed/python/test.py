@@ -114,7 +114,7 @@ class Rows(unittest.TestCase):
             rows = [row.splitlines() for row in file.read().split("end\n") if row]
         for head, *lines in rows:
             self.run_row(head, lines)
-        self.assertGreaterEqual(len(rows), 48)
+        self.assertGreaterEqual(len(rows), 51)
 
 
 class Calls(unittest.TestCase):

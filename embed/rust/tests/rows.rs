@@ -140,7 +140,7 @@ fn all_rows() {
         run_row(head.split(' ').nth(2).unwrap().parse().unwrap(), &lines.lines().collect::<Vec<_>>());
         count += 1;
     }
-    assert!(count >= 48);
+    assert!(count >= 51);
 }
 
 #[test]
