@@ -11,8 +11,8 @@ import time
 
 from refused import Refuser, fail
 
-HERE = os.path.dirname(os.path.abspath(__file__))
-PROGRAM = os.path.normpath(os.path.join(HERE, "..", "crates", "asset", "out", "asset"))
+TOP = os.path.dirname(os.path.dirname(os.path.abspath(__file__)))
+PROGRAM = os.path.join(TOP, "crates", "asset", "out", "asset")
 
 # A run that fails is to end within these seconds, also with many objects.
 AT_ONCE = 2.0
@@ -22,6 +22,13 @@ Each run is to end by itself, with its status and its one line of text, within t
 of memory rise from the least at which the program starts to the first at which the script is run whole. If there is a C
 compiler (cc, or what CC names), each request for memory is refused in turn too.
 """
+
+
+def stored(*names):
+    """The bytes of a file of the repository."""
+    with open(os.path.join(TOP, *names), "rb") as file:
+        return file.read()
+
 
 # Three transactions that share nothing: one aborts, one is left, one commits.
 SCRIPT = b"""object 1 100
@@ -63,6 +70,9 @@ job 8
 write 2 250
 """
 
+# The script of the picture that README shows.
+DESIGN = stored("examples", "design.asset")
+
 TEXTS = {
     "run": b"ok\nok\nok\nok\nok\nok\nok\nok\n300\nok\naborted\n100\nok\ncommitted\n",
     "prune": LEFT,
@@ -85,6 +95,7 @@ TEXTS = {
 17      13      commit 9                        committed
 """,
     "waits": b"8 running\n",
+    "picture": stored("docs", "design.svg"),
     "check": b"line 2: begin wants t\n",
     "jobs": b"job 7 committed\njob 8 committed\naudit ok entries 10 committed 2 aborted 0\n",
 }
@@ -104,7 +115,7 @@ NO_MEMORY = b"asset: no memory\n"
 
 def small(word):
     """The small script of a word."""
-    return {"jobs": JOBS, "check": b"object 1 100\nbegin\n"}.get(word, SCRIPT)
+    return {"jobs": JOBS, "check": b"object 1 100\nbegin\n", "picture": DESIGN}.get(word, SCRIPT)
 
 
 def whole(word, text):
@@ -114,7 +125,10 @@ def whole(word, text):
 
 def large(word, objects):
     """A script with many objects, and its text."""
-    opening = b"".join(b"object %d %d\n" % (x, x) for x in range(1, objects + 1))
+    lines = [b"object %d %d\n" % (x, x) for x in range(1, objects + 1)]
+    if word == "picture":
+        return b"".join(lines[3:]) + DESIGN, TEXTS[word]
+    opening = b"".join(lines)
     if word == "jobs":
         text = b"job 7 committed\naudit ok entries 6 committed 1 aborted 0\n"
         return opening + b"job 7\nread 1\nwrite 2 5\n", text
@@ -205,12 +219,14 @@ class Outside:
 
 
 def whole_runs(outside, objects):
-    """Each word on its small script, on a large one, and on nothing."""
+    """Each word on its small script, on a large one, and on nothing, of which a picture has no stored text."""
     before = outside.so_far()
     for word in ALL_WORDS:
         outside.see(word, outside.run([word], small(word)), whole(word, TEXTS[word]))
         given, text = large(word, objects)
         outside.see(f"{word} over {objects} objects", outside.run([word], given), whole(word, text))
+        if word == "picture":
+            continue
         nothing = b"audit ok entries 0 committed 0 aborted 0\n" if word == "jobs" else b""
         outside.see(f"{word} of nothing", outside.run([word], redirected="< /dev/null"), (0, nothing, b""))
     outside.see("no word", outside.run([], SCRIPT), (0, TEXTS["run"], b""))
@@ -332,17 +348,6 @@ def are_job_ends(output):
     )
 
 
-def stored_picture(outside):
-    """The picture that README shows is the one that the program draws."""
-    before = outside.so_far()
-    top = os.path.dirname(HERE)
-    with open(os.path.join(top, "examples", "design.asset"), "rb") as script:
-        ran = outside.run(["picture"], script.read())
-    with open(os.path.join(top, "docs", "design.svg"), "rb") as picture:
-        outside.see("docs/design.svg", ran, (0, picture.read(), b""))
-    outside.say("stored picture", before)
-
-
 def options():
     parser = argparse.ArgumentParser(
         description=__doc__, epilog=AFTER_HELP, formatter_class=argparse.RawDescriptionHelpFormatter
@@ -361,7 +366,6 @@ def main():
     with tempfile.TemporaryDirectory() as folder:
         outside = Outside(os.path.abspath(given.program), folder)
         whole_runs(outside, given.objects)
-        stored_picture(outside)
         outputs_that_fail(outside, given.objects)
         inputs_that_fail(outside)
         errors_that_fail(outside)
