@@ -113,7 +113,7 @@ def one_after_another(steps, seed, objects=1000):
 
 
 def many_objects(steps, seed):
-    """The same, with one object for every four steps."""
+    """As one_after_another, with one object for every four steps."""
     return one_after_another(steps, seed, objects=max(1, steps // 4))
 
 
