@@ -58,7 +58,7 @@ const PIECES: [(&[u8], usize); 6] = [
     (b"", 51),
 ];
 
-/// Returns whether each reply and each reason was written before the reader was asked again, and all were in the end.
+/// Returns whether each reply and each reason was written before the reader was asked again, and all 51 bytes were in the end.
 fn is_timely(alloc: Global) -> bool {
     let written = Cell::new(0);
     let late = Cell::new(false);
