@@ -1,6 +1,6 @@
 use Rattle.std.proofs.Common.{◌≡◌, ℕ, true, false, eqb, Some, is_some, sym, ap, ◌∙◌, arith}
 use Rattle.std.proofs.lemmas.Bool.{ne_eqb}
-use Rattle.asset_chains.specs.Chained.{chain_of, first_of, ahead, behind}
+use Rattle.asset_chains.specs.Chained.{chain_of, first_of, ahead}
 use Rattle.asset_chains.specs.declared.side.Side.TheVariants.{Row}
 use Rattle.asset_chains.proofs.Laws.{chain_at_first}
 use Rattle.asset_records.specs.Listed.{record_at}
@@ -17,9 +17,8 @@ drop_at-requires c =
 pub returns-then-key-last-clause-rest : goal.returns-then-key-last-clause-rest
 returns-then-key-last-clause-rest c =
     let first : first_of (chain_of c.oldest.records.rows c.args.object) ≡ Some c.in-Some.key = sym c.in-Some.ensures in
-    rest_is c.oldest.records.rows c.drop_at.new.records.rows c.in-Some.key c.args.object (c.oldest.invariant.crossed.sound Row) first c.drop_at.ensures.chains
-    ∙ ap (λ (k : ℕ). behind k (chain_of c.oldest.records.rows c.args.object)) c.if-key-last.true
-    ∙ c.oldest.invariant.rest
+    let rest = rest_is c.oldest.records.rows c.drop_at.new.records.rows c.in-Some.key c.args.object (c.oldest.invariant.crossed.sound Row) first c.drop_at.ensures.chains in
+    cc (rest, c.if-key-last.true, c.oldest.invariant.rest)
 
 pub returns-then-key-last-clause-others : goal.returns-then-key-last-clause-others
 returns-then-key-last-clause-others c = λ j apart.

@@ -1,4 +1,4 @@
-use Rattle.std.proofs.Common.{ap, length, subst, sym, arith}
+use Rattle.std.proofs.Common.{ap, length, subst, sym, arith, rules}
 use Rattle.asset_chains.specs.Chained.{Chained, home_of}
 use Rattle.asset_records.specs.Layered.{AreMarked}
 use Rattle.asset_records.proofs.ListedLemmas.{tied_grown, same_rows}
@@ -18,3 +18,6 @@ invariant_of-self c =
     subst (AreMarked c.self.inside.marks.items)
     (sym (same_rows c.self.inside.records c.reserve_item.new.items c.reserve_item.ensures.grown.items c.reserve_item.ensures.rows))
     c.self.invariant
+
+pub returns-clause-reserved : goal.returns-clause-reserved
+returns-clause-reserved c = search rules
