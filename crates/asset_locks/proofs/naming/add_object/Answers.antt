@@ -1,4 +1,5 @@
-use Rattle.std.proofs.Common.{◌++◌, ◌∷◌, [], Bool, cond, List, Some, sym, ap, ◌∙◌}
+use Rattle.std.proofs.Common.{◌++◌, ◌∷◌, [], Bool, cond, List, Some, sym, ap, ◌∙◌, arith}
+use Rattle.std.proofs.lemmas.Grind.{common_steps}
 use Rattle.asset_names.specs.declared.names.Ob.{Ob}
 use Rattle.asset_names.specs.Numbered.{number_in}
 use Rattle.asset_names.proofs.NumberLemmas.{number_new, unnumbered}
@@ -17,3 +18,6 @@ returns-in-Ok-add_object-clause-number c =
     ap (λ (l : List Ob). number_in l c.args.x.0) (c.in-Ok-add_object.ensures.added ∙ ap (λ (l : List Ob). l ++ c.args.x ∷ []) c.requires.same)
     ∙ number_new keys c.args.x c.requires.without
     ∙ ap Some (sym c.len-number.ensures.len)
+
+pub returns-in-Err-add_object-clause-objects : goal.returns-in-Err-add_object-clause-objects
+returns-in-Err-add_object-clause-objects c = grind (arith, common_steps)

@@ -20,11 +20,10 @@ returns-in-Some c =
     let tied = tied_inside inside.pending.items inside.order inside.store c.args.self.now seats c.self.view_is c.requires.tied in
     let rows = rows_of seats inside.pending.items inside.order inside.store in
     let valid = rows_valid seats inside.pending.items inside.order inside.store tied c.laws-2.ensures.sound c.laws-3.ensures.stored c.laws-3.ensures.owners in
-    rw (← c.self.view_is)
-    (c.has.ensures
-    ∙ ap (λ (lock : Lock). has_op lock.ops c.args.op) c.lock.ensures
-    ∙ sym (carries_at inside.store c.laws-3.ensures.stored c.laws-3.ensures.owners t.at c.args.x.0 c.args.op c.in-Some.key c.in-Some.ensures.found.0 c.in-Some.ensures.found.1)
-    ∙ sym (carries_own rows t.t.0 c.args.x.0 c.args.op valid.names ∙ ap (list_any (carries_on c.args.x.0 c.args.op)) (locks_of_seat seats inside.pending.items inside.order inside.store tied c.laws-2.ensures.sound c.laws-3.ensures.owners t.at t.t c.requires.sits)))
+    let here = ap (λ (lock : Lock). has_op lock.ops c.args.op) c.lock.ensures in
+    let there = carries_at inside.store c.laws-3.ensures.stored c.laws-3.ensures.owners t.at c.args.x.0 c.args.op c.in-Some.key c.in-Some.ensures.found.0 c.in-Some.ensures.found.1 in
+    let own = carries_own rows t.t.0 c.args.x.0 c.args.op valid.names ∙ ap (list_any (carries_on c.args.x.0 c.args.op)) (locks_of_seat seats inside.pending.items inside.order inside.store tied c.laws-2.ensures.sound c.laws-3.ensures.owners t.at t.t c.requires.sits) in
+    rw (← c.self.view_is) (cc (c.has.ensures, here, there, own))
 
 pub returns-in-None : goal.returns-in-None
 returns-in-None c =

@@ -1,4 +1,4 @@
-use Rattle.std.proofs.Common.{refl, arith}
+use Rattle.std.proofs.Common.{refl, arith, rules}
 use Rattle.asset_locks.proofs.TableLemmas.{grown_self, seated_grown, rows_grown, tied_inside}
 use Rattle.asset_locks.proofs.table.SeatedLocks.make_room.Goals as goal
 
@@ -31,3 +31,6 @@ pub returns-clause-tied : goal.returns-clause-tied
 returns-clause-tied c = λ seats tied.
     let inside = c.self.inside in
     seated_grown seats inside.pending.items inside.order inside.store c.add_pending.new.pending.items c.add_to_order.new.order c.reserve_seat.new.self (record { requests = c.add_pending.ensures.same; places = c.add_pending.ensures.more; chains = c.add_to_order.ensures.chains; homes = c.add_to_order.ensures.homes; many = c.add_to_order.ensures.many; keys = c.add_to_order.ensures.keys }) (c.reserve_seat.ensures.grown) (tied_inside inside.pending.items inside.order inside.store c.args.self.now seats c.self.view_is tied)
+
+pub returns-clause-room : goal.returns-clause-room
+returns-clause-room c = search rules
