@@ -11,7 +11,8 @@ use Rattle.asset_ends.proofs.ending.all_completed.Goals.{in-Some+else-not-is_com
 
 pub returns-then-not-is_completed : goal.returns-then-not-is_completed
 returns-then-not-is_completed c =
-    sym (one_fails (λ n. is_completed (status_in c.args.trans.now n)) (marked_in c.args.seats.now c.args.deps.now) c.marked.index c.in-Some.t.0 (sym c.in-Some.ensures) (ap is_completed (sym c.status.ensures) ∙ sym c.if-not-is_completed.ensures))
+    let fails = one_fails (λ n. is_completed (status_in c.args.trans.now n)) (marked_in c.args.seats.now c.args.deps.now) c.marked.index c.in-Some.t.0 (sym c.in-Some.ensures) (ap is_completed (sym c.status.ensures) ∙ sym c.if-not-is_completed.ensures) in
+    cc fails
 
 pub marked-preserved : goal.marked-preserved
 marked-preserved c = elim c.match-marked_name.branch [
