@@ -104,7 +104,7 @@ returns-else-t-u-clause-named c =
     let t = c.in-Some.t.0 in
     let i = c.node_of-i.result in
     let both : ◌≡◌ {A = Txn × Txn} (c.in-Some.t, c.in-Some.u) (both_of entry) = let some = sym c.in-Some.is ∙ c.acted_on.ensures ∙ ap (option_map both_of) split.1 in cc in
-    let same : t ≡ c.in-Some.u.0 = c.if-t-u.false in
+    let same : t ≡ c.in-Some.u.0 = cc (c.if-t-u.false) in
     let is_t : t ≡ (actor entry.0).0 = ap (λ (p : Txn × Txn). p.0.0) both in
     let is_u : t ≡ (partner entry.0).0 = same ∙ ap (λ (p : Txn × Txn). p.1.0) both in
     let node = c.node_of-i.ensures.node in
