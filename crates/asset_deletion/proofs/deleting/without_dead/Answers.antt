@@ -1,6 +1,8 @@
-use Rattle.std.proofs.Common.{◌∙◌, ap}
+use Rattle.std.proofs.Common.{◌≡◌, ◌∙◌, ap, rules}
+use Rattle.std.specs.Result.{IfOk}
 use Rattle.std.proofs.lemmas.Result.{IfOk-weaker}
-use Rattle.asset_names.specs.Groups.{kept}
+use Rattle.asset_names.specs.Groups.{kept, without}
+use Rattle.asset_history.specs.Named.{names_of}
 use Rattle.asset_deletion.specs.Going.{keeps}
 use Rattle.asset_deletion.proofs.WithoutLemmas.{numbers_below, dead_marks_say, dead_left}
 use Rattle.asset_deletion.proofs.deleting.without_dead.Goals as goal
@@ -16,6 +18,8 @@ pub returns-clause-exact : goal.returns-clause-exact
 returns-clause-exact c =
     let entries = c.args.history.now.entries in
     let going = c.dead_groups.result.now.items in
+    let exact : IfOk c.left_by.result (λ left. left.entries ≡ without entries (names_of entries)) =
     IfOk-weaker c.left_by.result _ _ (λ left is.
     ap (λ h. h.entries) is ∙ ap (λ groups. kept (keeps groups going) entries) c.in_ok-groups.ensures.exact
-    ∙ dead_left entries going (λ n. rw c.in_ok-groups.ensures.exact at (c.dead_groups.ensures.dead n))) c.left_by.ensures
+    ∙ dead_left entries going (λ n. rw c.in_ok-groups.ensures.exact at (c.dead_groups.ensures.dead n))) c.left_by.ensures in
+    search (exact, rules)

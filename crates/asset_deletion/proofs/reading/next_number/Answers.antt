@@ -1,4 +1,5 @@
 use Rattle.std.proofs.Common.{◌≡◌, get_or, arith}
+use Rattle.std.proofs.lemmas.Grind.{common_steps}
 use Rattle.asset_deletion.proofs.ReadLemmas.{counted_before, counted_first}
 use Rattle.asset_deletion.proofs.reading.next_number.Goals as goal
 
@@ -10,3 +11,6 @@ pub returns-clause-counted : goal.returns-clause-counted
 returns-clause-counted c =
     let own : get_or c.args.kept.now.labels c.args.node 0 ≡ c.args.node = omega (arith, c.if-label-node.false, c.label-label.ensures.label, c.label-label.ensures.least) in
     rw (c.in_ok-push.ensures.items, c.is_flagged.ensures) (counted_first c.args.kept.now c.laws.ensures c.args.node c.requires.node c.args.is_dead.now.items own c.requires.counted)
+
+pub returns-then-label-node-clause-number : goal.returns-then-label-node-clause-number
+returns-then-label-node-clause-number c = grind (arith, common_steps)
