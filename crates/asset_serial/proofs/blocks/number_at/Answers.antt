@@ -12,4 +12,5 @@ returns-in-Some c = λ entry at.
     let both : Txn × Txn = (c.in-Some.t, c.in-Some.field-0-1) in
     let found : Some both ≡ Some (both_of entry) = c.in-Some.ensures ∙ ap (option_map both_of) at in
     let same : both ≡ both_of entry = cc in
-    c.index_of.ensures ∙ ap (λ (t : Txn). position_or_len (eqb t.0) c.args.names.now.keys) (ap (λ (p : Txn × Txn). p.0) same)
+    let number = ap (λ (t : Txn). position_or_len (eqb t.0) c.args.names.now.keys) (ap (λ (p : Txn × Txn). p.0) same) in
+    cc (c.index_of.ensures, number)
