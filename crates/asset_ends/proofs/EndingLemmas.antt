@@ -8,6 +8,7 @@ use Rattle.std.proofs.lemmas.List.Folds.{list_all_at, list_all_more}
 use Rattle.std.proofs.lemmas.Bool.{or_left, or_right, and_from, eqb-true, eq-eqb, ne_eqb, false≢true}
 use Rattle.asset_names.specs.declared.names.Txn.{Txn}
 use Rattle.asset_names.specs.declared.statuses.End.{End}
+use Rattle.asset_names.specs.declared.statuses.Status.{Status}
 use Rattle.asset_names.specs.declared.statuses.End.TheVariants as End'
 use Rattle.asset_names.specs.declared.steps.Step.{Step}
 use Rattle.asset_names.specs.declared.steps.Step.TheVariants.{Commit, Abort}
@@ -302,15 +303,15 @@ may_commit_shown opening steps tables t stand = λ i. completed i && not (outsid
   completed = (λ i. list_all (λ n. not (class_shown steps tables.deps stand.dependencies_stand t n i) || is_completed (stand.statuses n i)) (stand.names i)) ∙ all_reverse _ (initiated steps)
 
 -- the class of a live transaction, by its marks
-pub may_by_marks : (rows : List NamedTransRow) (deps : List Dependency) (t : ℕ) (marked : List ℕ) (completed : Bool) → completed ≡ list_all (λ n. is_completed (status_in rows n)) marked
-    → ((n : ℕ) → lists marked n ≡ class_in deps t n) → ((n : ℕ) → lists marked n ≡ true → is_live_status (status_in rows n) ≡ true)
+pub may_by_marks : (rows : List NamedTransRow) (seats : Seated) (links : LinkTable) (deps : List Dependency) (t : ℕ) (completed : Bool) → LiveAreSeated rows seats → IsTied links seats
+    → ((n : ℕ) → lists (marked_in seats links) n ≡ class_in deps t n) → completed ≡ list_all (λ n. is_completed (status_in rows n)) (marked_in seats links)
     → completed ≡ list_all (λ n. not (class_in deps t n) || is_completed (status_in rows n)) (names_of rows)
-may_by_marks rows deps t marked completed is same alive =
-    is ∙ all_among (λ n. is_completed (status_in rows n)) marked (names_of rows) (λ n listed. live_named rows n (alive n listed))
+may_by_marks rows seats links deps t completed seated tied same is =
+    is ∙ all_among (λ n. is_completed (status_in rows n)) (marked_in seats links) (names_of rows) (λ n listed. live_named rows n (marked_live rows seats links seated tied n listed))
     ∙ (λ i. list_all (λ n. not (same n i) || is_completed (status_in rows n)) (names_of rows))
 
 -- the class of one that is not enrolled is itself
-pub may_alone : (rows : List NamedTransRow) (deps : List Dependency) (t : ℕ) → is_live_status (status_in rows t) ≡ true → ((n : ℕ) → class_in deps t n ≡ eqb t n) → outside_source_in deps t ≡ false
+may_alone : (rows : List NamedTransRow) (deps : List Dependency) (t : ℕ) → is_live_status (status_in rows t) ≡ true → ((n : ℕ) → class_in deps t n ≡ eqb t n) → outside_source_in deps t ≡ false
     → is_completed (status_in rows t) ≡ class_may_commit_in rows deps t
 unfolding class_may_commit_in lists
 may_alone rows deps t alive alone none =
@@ -325,3 +326,8 @@ may_alone rows deps t alive alone none =
       falses : (b : Bool) → (b || false) ≡ b
       falses true = refl
       falses false = refl
+
+-- and it may commit if its row says that it has completed
+pub completed_may : (rows : List NamedTransRow) (deps : List Dependency) (t : ℕ) (at : Status) (done : Bool) → done ≡ is_completed at → at ≡ status_in rows t → is_live_status (status_in rows t) ≡ true
+    → ((n : ℕ) → class_in deps t n ≡ eqb t n) → outside_source_in deps t ≡ false → done ≡ class_may_commit_in rows deps t
+completed_may rows deps t at done completed said alive alone none = completed ∙ ap is_completed said ∙ may_alone rows deps t alive alone none

@@ -1,8 +1,5 @@
-use Rattle.std.proofs.Common.{ap, ◌∙◌}
-use Rattle.asset_names.specs.Answers.{is_completed}
-use Rattle.asset_deps.specs.Valid.{dependencies_in}
 use Rattle.asset_ends.proofs.EnrolledLemmas.{live_sits}
-use Rattle.asset_ends.proofs.EndingLemmas.{may_alone}
+use Rattle.asset_ends.proofs.EndingLemmas.{completed_may}
 use Rattle.asset_ends.proofs.tables.Tables.may_commit_at.Goals as goal
 
 pub class_may_commit-requires : goal.class_may_commit-requires
@@ -20,4 +17,4 @@ returns-then-not-is_linked-clause-may c =
     let alive = rw (← c.self.view_is) at c.requires.live in
     let alone = c.is_linked.ensures.alone c.if-not-is_linked.true in
     let none = c.is_linked.ensures.no_source c.if-not-is_linked.true in
-    rw (← c.self.view_is) (c.is_completed.ensures ∙ ap is_completed (rw (← c.self.view_is) at c.requires.status) ∙ may_alone c.self.inside.parts.trans (dependencies_in c.self.inside.parts.deps) c.args.one.t.0 alive (λ n. (alone n).0) none)
+    rw (← c.self.view_is) (completed_may _ _ _ _ _ c.is_completed.ensures (rw (← c.self.view_is) at c.requires.status) alive (λ n. (alone n).0) none)

@@ -1,5 +1,4 @@
 use Rattle.std.proofs.Common.{◌∙◌, sym, ap, refl}
-use Rattle.asset_names.specs.Answers.{is_completed}
 use Rattle.asset_names.specs.declared.statuses.End.TheVariants as End'
 use Rattle.asset_names.proofs.Common.{eqb-flip}
 use Rattle.asset_locks.specs.LockTable as Locks
@@ -8,7 +7,7 @@ use Rattle.asset_ends.specs.Standing.{tried, step_if}
 use Rattle.asset_deps.specs.Dependencies.{class_in}
 use Rattle.asset_deps.specs.Valid.{dependencies_in}
 use Rattle.asset_ends.proofs.EnrolledLemmas.{live_sits}
-use Rattle.asset_ends.proofs.EndingLemmas.{commit_stands, ended_valid, one_live, may_alone}
+use Rattle.asset_ends.proofs.EndingLemmas.{commit_stands, ended_valid, one_live, completed_may}
 use Rattle.asset_ends.proofs.tables.Tables.try_commit_alone.Goals as goal
 
 pub end_one-requires : goal.end_one-requires
@@ -21,13 +20,12 @@ invariant_of-self c =
 pub returns-then-is_completed-clause-tried : goal.returns-then-is_completed-clause-tried
 unfolding tried
 returns-then-is_completed-clause-tried c =
-    let may = c.if-is_completed.ensures ∙ ap is_completed c.requires.status ∙ may_alone c.args.self.now.trans c.args.self.now.deps c.args.one.t.0 c.requires.live c.requires.alone c.requires.no_source in
-    rw (← may) refl
+    rw (← completed_may _ _ _ _ _ c.if-is_completed.ensures c.requires.status c.requires.live c.requires.alone c.requires.no_source) refl
 
 pub returns-then-is_completed-clause-stand : goal.returns-then-is_completed-clause-stand
 unfolding step_if
 returns-then-is_completed-clause-stand c =
-    let may = c.if-is_completed.ensures ∙ ap is_completed c.requires.status ∙ may_alone c.args.self.now.trans c.args.self.now.deps c.args.one.t.0 c.requires.live c.requires.alone c.requires.no_source in
+    let may = completed_may _ _ _ _ _ c.if-is_completed.ensures c.requires.status c.requires.live c.requires.alone c.requires.no_source in
     let alive = rw (← c.self.view_is) at c.requires.live in
     let alone = rw (← c.self.view_is) at c.requires.alone in
     let deps = dependencies_in c.self.inside.parts.deps in
@@ -36,7 +34,7 @@ returns-then-is_completed-clause-stand c =
 
 pub returns-then-is_completed-clause-locks : goal.returns-then-is_completed-clause-locks
 returns-then-is_completed-clause-locks c =
-    let may = c.if-is_completed.ensures ∙ ap is_completed c.requires.status ∙ may_alone c.args.self.now.trans c.args.self.now.deps c.args.one.t.0 c.requires.live c.requires.alone c.requires.no_source in
+    let may = completed_may _ _ _ _ _ c.if-is_completed.ensures c.requires.status c.requires.live c.requires.alone c.requires.no_source in
     let alone = rw (← c.self.view_is) at c.requires.alone in
     let deps = dependencies_in c.self.inside.parts.deps in
     rw (← may) (rw (← c.self.view_is) (c.end_one.ensures.ended.locks
@@ -45,16 +43,13 @@ returns-then-is_completed-clause-locks c =
 pub returns-else-is_completed-clause-tried : goal.returns-else-is_completed-clause-tried
 unfolding tried
 returns-else-is_completed-clause-tried c =
-    let may = c.if-is_completed.ensures ∙ ap is_completed c.requires.status ∙ may_alone c.args.self.now.trans c.args.self.now.deps c.args.one.t.0 c.requires.live c.requires.alone c.requires.no_source in
-    rw (← may) refl
+    rw (← completed_may _ _ _ _ _ c.if-is_completed.ensures c.requires.status c.requires.live c.requires.alone c.requires.no_source) refl
 
 pub returns-else-is_completed-clause-stand : goal.returns-else-is_completed-clause-stand
 unfolding step_if
 returns-else-is_completed-clause-stand c =
-    let may = c.if-is_completed.ensures ∙ ap is_completed c.requires.status ∙ may_alone c.args.self.now.trans c.args.self.now.deps c.args.one.t.0 c.requires.live c.requires.alone c.requires.no_source in
-    rw (← may) (λ opening steps stand. stand)
+    rw (← completed_may _ _ _ _ _ c.if-is_completed.ensures c.requires.status c.requires.live c.requires.alone c.requires.no_source) (λ opening steps stand. stand)
 
 pub returns-else-is_completed-clause-locks : goal.returns-else-is_completed-clause-locks
 returns-else-is_completed-clause-locks c =
-    let may = c.if-is_completed.ensures ∙ ap is_completed c.requires.status ∙ may_alone c.args.self.now.trans c.args.self.now.deps c.args.one.t.0 c.requires.live c.requires.alone c.requires.no_source in
-    rw (← may) refl
+    rw (← completed_may _ _ _ _ _ c.if-is_completed.ensures c.requires.status c.requires.live c.requires.alone c.requires.no_source) refl
