@@ -133,6 +133,37 @@ fn reader_waits_for_abort(rt: HostRuntime) -> Result<(), Fail> {
     Ok(())
 }
 
+/// A reader that was initiated first waits for a writer on two objects, after another writer waits on the first of them. Its last
+/// request is the one that is pending, and refused requests leave it pending.
+const TWO_WAIT: &str = "\
+    initiate 7: ok\nbegin 7: ok\ninitiate 8: ok\nbegin 8: ok\ninitiate 9: ok\nbegin 9: ok\n\
+    write 9 1 50: ok\nwrite 9 2 60: ok\nwrite 8 1 70: wait\nread 7 2: wait\nread 7 1: wait\n\
+    read 7 4: refused no object 4\nwrite 7 4 1: refused no object 4\nbegin 7: refused begun 7\n";
+
+/// The writer goes on at another object, and the reader ends.
+const NONE_WAIT: &str = "write 8 3 80: ok\nabort 7: aborted\n";
+
+/// Returns the first three waiters of an object.
+fn three_waiters(core: &Core, x: Ob) -> [Option<(Txn, Op)>; 3] {
+    [core.waiters(x, 0), core.waiters(x, 1), core.waiters(x, 2)]
+}
+
+#[test]
+fn two_wait_in_order_of_initiation(rt: HostRuntime) -> Result<(), Fail> {
+    let mut core = opened(rt.alloc(), &THREE, ROOM)?;
+    let waits = first_wrong_line(rt.alloc(), &mut core, TWO_WAIT);
+    let waiters = three_waiters(&core, Ob(1));
+    let of_two = three_waiters(&core, Ob(2));
+    let ends = first_wrong_line(rt.alloc(), &mut core, NONE_WAIT);
+    let left = three_waiters(&core, Ob(1));
+    drop(core);
+    assert_eq!(rt; [waits, ends], [None; 2]);
+    assert!(rt; waiters == [Some((Txn(7), Op::Read)), Some((Txn(8), Op::Write)), None]);
+    assert!(rt; of_two == [None; 3]);
+    assert!(rt; left == [None; 3]);
+    Ok(())
+}
+
 /// Entries of each kind that acts on one transaction, but of adds and open permits, with each refusal that such steps can get.
 const ENTRIES: &str = "\
     begin 7: refused unknown 7\ninitiate 7: ok\ninitiate 7: refused taken 7\n\

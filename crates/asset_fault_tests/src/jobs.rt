@@ -8,7 +8,7 @@ use std::alloc::Global;
 
 /// Two jobs over two objects, of which one gives up.
 const TWO_JOBS: &[u8] =
-    b"object 1 100\nobject 2 200\njob 7\nread 1\nwrite 1 150\njob 8\nwrite 2 -250\ngive up\n";
+    b"object 1 100\nobject 2 200\njob 7\nread 1\nadd 1 -150\njob 8\nwrite 2 -250\ngive up\n";
 
 /// Reads a script from a reader that takes no memory.
 fn read(alloc: Global, reader: Reader<'_>) -> Result<JobScript, JobsFault> {
@@ -18,7 +18,7 @@ fn read(alloc: Global, reader: Reader<'_>) -> Result<JobScript, JobsFault> {
 
 /// Returns whether a script is the two jobs.
 fn is_two_jobs(script: &JobScript) -> bool {
-    let of_7 = [JobAct::Read(Ob(1)), JobAct::Write(Ob(1), 150)];
+    let of_7 = [JobAct::Read(Ob(1)), JobAct::Add(Ob(1), -150)];
     let of_8 = [JobAct::Write(Ob(2), -250), JobAct::GiveUp];
     if script.jobs.len() != 2 {
         return false;
