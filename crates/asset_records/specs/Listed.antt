@@ -3,8 +3,8 @@
 use Rattle.std.specs.Prelude.{◌≡◌, ℕ, ℤ, pos, zero, suc, ◌+◌, ◌*◌, ◌≤◌, ◌<◌, Bool, false, true, not, cond, ◌==◌, List, [], ◌∷◌, ◌++◌, length, map, Option, Some, None, option_map, is_some, unwrap_or, slice_index_or}
 use Rattle.std.specs.List.{list_any, count_by, sum_by}
 use Rattle.slab.specs.Slab.{Slab, get, slab_len}
-use Rattle.asset_chains.specs.Chained.{home_of}
-use Rattle.asset_chains.specs.Crossed.{Crossed}
+use Rattle.asset_chains.specs.Chained.{chain_of, home_of, last_of}
+use Rattle.asset_chains.specs.Crossed.{Crossed, Joins}
 use Rattle.asset_names.specs.declared.names.Txn.{Txn}
 use Rattle.asset_records.specs.declared.mending.Mend.{Mend}
 use Rattle.asset_records.specs.declared.records.Change.{Change}
@@ -88,6 +88,20 @@ is_of t = is_owned (λ (n : ℕ). n == t)
 -- one object's records change, and no others
 unfoldable pub ChangesOn : ℕ → List Record → List (List Record) → List (List Record) → Type 0
 ChangesOn i records old new = (length new ≡ length old) × ((j : ℕ) → on new j ≡ cond (i == j) records (on old j))
+
+-- a record comes last in a column, at a key that had none
+pub record ComesLast (column : ℕ) (one : Record) (old new : Crossed Record) : Type 0 where
+  pub key : ℕ
+  pub vacant : get old.items key ≡ None
+  pub there : get new.items key ≡ Some one
+  pub joins : Joins column key old.columns new.columns
+
+-- the last record of a column, which is one on object i, is gone
+pub record LosesLast (column i : ℕ) (old new : Crossed Record) : Type 0 where
+  pub key : ℕ
+  pub last : last_of (chain_of old.columns column) ≡ Some key
+  pub on_object : home_of old.rows key ≡ Some i
+  pub gone : get new.items key ≡ None
 
 -- One record of the transaction's is gone from an object. The value over it is mended: in the first write after it, or else
 -- what is to be done with the value in place is restored.

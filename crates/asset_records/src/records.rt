@@ -196,7 +196,7 @@ impl Records {
     ghost use Rattle.asset_chains.specs.Crossed.{has_room};
     ghost use Rattle.asset_seats.specs.Seated.{Seated, seat, HasSeat};
     ghost use Rattle.asset_names.specs.declared.names.Txn.{Txn as Name};
-    ghost use Rattle.asset_records.specs.Listed.{lists_in, on, is_of, begins_with_nobodys, records_by, record_of, seat_column, ChangesOn, TakesBack, Settles, Sheds, HasNone, IsTied, IsNoMore};
+    ghost use Rattle.asset_records.specs.Listed.{lists_in, on, is_of, begins_with_nobodys, records_by, record_of, seat_column, ChangesOn, ComesLast, LosesLast, TakesBack, Settles, Sheds, HasNone, IsTied, IsNoMore};
     ghost use Rattle.asset_records.specs.Handed.{renamed};
 
     /// Returns no objects and no records. It does not allocate.
@@ -251,7 +251,7 @@ impl Records {
         reserve_item(&mut self.records)
     }
 
-    /// Appends a record of the owner to those of the object. It uses the memory that `reserve` reserved.
+    /// Appends a record of the owner to those of the object, and to its own. It uses the memory that `reserve` reserved.
     #[inline(always)]
     pub fn push(&mut self, seats: &Seats, owner: Sitter, object: usize, change: Change)
         requires tied { IsTied self.old seats.now }
@@ -262,6 +262,7 @@ impl Records {
         ensures columns { length self.new.columns.chains ≡ length self.old.columns.chains }
         ensures tied { IsTied self.new seats.now }
         ensures pushed { ChangesOn object (on (lists_in self.old) object ++ record_of owner.t change ∷ []) (lists_in self.old) (lists_in self.new) }
+        ensures last { ComesLast (seat_column owner.at) (record_of owner.t change) self.old self.new }
     {
         let _ = seats;
         self.records.laws();
@@ -271,8 +272,8 @@ impl Records {
         set_mark(&mut self.marks, object, next);
     }
 
-    /// Takes back the newest record of the transaction, and returns what is left to do; `None` if it has none. That it is
-    /// the newest is tested; the contract holds for any of its records.
+    /// Takes back the record that became the transaction's last, by `push` or a hand-over, and returns what is left to do; `None`
+    /// if it has none.
     ///
     /// It looks at the adds over the record, up to the next write; over the record of an add only if a write has stood over an
     /// add of the object since the object last had no record.
@@ -282,6 +283,7 @@ impl Records {
         ensures few { IsNoMore self.old self.new }
         ensures tied { IsTied self.new seats.now }
         ensures taken { IfSome result (λ undone. TakesBack t.t.0 undone.object undone.restored (lists_in self.old) (lists_in self.new) × (1 ≤ undone.visited) × (undone.visited ≤ 4)) }
+        ensures last { IfSome result (λ undone. LosesLast (seat_column t.at) undone.object self.old self.new) }
         ensures none { IfNone result (HasNone t.t.0 (lists_in self.old) × (self.new ≡ self.old)) }
         ensures reserved { has_room self.old ≡ true → has_room self.new ≡ true }
     {

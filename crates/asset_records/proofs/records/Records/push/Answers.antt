@@ -44,6 +44,14 @@ returns-clause-pushed c =
     (pushed_lists records c.insert.new.self seats c.record_of.result c.args.owner.t c.insert.result c.args.object c.args.owner.at tied c.laws.ensures.crossed (ap owner_of c.record_of.ensures ∙ whose c.args.owner.t c.args.change) c.requires.sits c.insert.ensures.vacant c.insert.ensures.items c.insert.ensures.rows
     (subst (λ (n : ℕ). Joins n c.insert.result records.columns c.insert.new.self.columns) c.column-at.ensures c.insert.ensures.columns))
 
+pub returns-clause-last : goal.returns-clause-last
+returns-clause-last c = rw (← c.self.view_is, ← c.record_of.ensures, ← c.column-at.ensures) record {
+  key = c.insert.result;
+  vacant = c.insert.ensures.vacant;
+  there = c.insert.ensures.items.changed;
+  joins = c.insert.ensures.columns;
+}
+
 pub invariant_of-self : goal.invariant_of-self
 invariant_of-self c =
     let records = c.self.inside.records in

@@ -1,5 +1,6 @@
-use Rattle.std.proofs.Common.{◌≡◌, ℕ, suc, [], Some, is_some, eqb, length, refl, sym, ap, subst, ◌∙◌, arith}
+use Rattle.std.proofs.Common.{◌≡◌, ℕ, suc, Bool, cond, [], None, Some, is_some, eqb, length, refl, sym, ap, subst, ◌∙◌, arith}
 use Rattle.std.proofs.lemmas.Bool.{true≢false, eq-eqb}
+use Rattle.slab.specs.Slab.{get}
 use Rattle.asset_chains.specs.Chained.{Chained, chain_of, home_of, last_of, without}
 use Rattle.asset_chains.specs.declared.side.Side.TheVariants.{Row, Column}
 use Rattle.asset_chains.specs.Crossed.{Crossed}
@@ -72,6 +73,14 @@ returns-clause-taken c =
       omega arith,
       omega (arith, c.counted.ensures, c.counted-2.ensures, c.counted-3.ensures),
     )
+
+pub returns-clause-last : goal.returns-clause-last
+returns-clause-last c = rw (← c.self.view_is, ← c.column-at.ensures) record {
+  key = c.in_ok-key.key;
+  last = sym c.in_ok-key.ensures;
+  on_object = sym c.in_ok-object.ensures;
+  gone = c.drop_at.ensures.records c.in_ok-key.key ∙ ap (λ (same : Bool). cond same None (get c.mend_write-restored.new.records.items c.in_ok-key.key)) (eq-eqb c.in_ok-key.key c.in_ok-key.key refl);
+}
 
 pub invariant_of-self : goal.invariant_of-self
 invariant_of-self c =
