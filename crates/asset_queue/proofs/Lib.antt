@@ -1,2 +1,3 @@
+pub mod Eaches
 pub mod Moves
 pub mod Takings

@@ -7,6 +7,7 @@ use Rattle.crossbeam_queue.specs.Fifo.{Pushes, Pops, Forks, Merges, Learns}
 use Rattle.crossbeam_queue.proofs.Lists.{at_set, at_snoc}
 use Rattle.asset_queue.specs.declared.rule.Hand.{Hand}
 use Rattle.asset_queue.specs.Once.{Ticket, hand, weigh, total, IdleIsEmpty, Balanced, Accounts, Within, Holds}
+use Rattle.asset_queue.proofs.Eaches.{each_more}
 
 pub weigh-append : (h : Ticket → ℕ) (xs ys : List Ticket) → weigh h (xs ++ ys) ≡ weigh h xs + weigh h ys
 weigh-append h [] ys = omega arith
@@ -81,40 +82,41 @@ at_here [] port v w e = absurd (some-ne-none v (sym e))
 at_here (x ∷ xs) zero v w e = refl
 at_here (x ∷ xs) (suc port) v w e = at_here xs port v w e
 
-module _ {J : Type 0} (ticket : J → Ticket) where
-  pub begins : Holds ticket [] (hand 128 [] [] ∷ [])
-  begins = record {
-    parts = refl;
-    even = λ h. refl;
-    idle = only;
-  }
+module _ {J : Type 0} (ticket : J → Ticket) (from : J → Type 0) where
+  pub begins : Holds ticket from [] (hand 128 [] [] ∷ [])
+  begins = (record { parts = refl; even = λ h. refl; idle = only }, tt)
     where
       only : IdleIsEmpty (hand 128 [] [] ∷ [])
       only zero v e none = let p : 128 ≡ v.parts = ap parts (some-injective (hand 128 [] []) v e) in absurd (omega (arith, p, none))
       only (suc port) v e none = absurd (some-ne-none v (sym e))
 
-  pub puts : (n port : ℕ) (v : Hand) (x : J) → 0 < v.parts → Pushes (Holds ticket) n port v x (λ w. w ≡ hand v.parts (v.put ++ ticket x ∷ []) v.taken)
-  puts n port v x some_part items views room b at =
+  pub puts : (n port : ℕ) (v : Hand) (x : J) → 0 < v.parts → from x → Pushes (Holds ticket from) n port v x (λ w. w ≡ hand v.parts (v.put ++ ticket x ∷ []) v.taken)
+  puts n port v x some_part one items views room holds at =
+      let b = holds.0 in
       let w : Hand = hand v.parts (v.put ++ ticket x ∷ []) v.taken in
       let more : map ticket (items ++ x ∷ []) ≡ map ticket items ++ ticket x ∷ [] = map-append ticket items (x ∷ []) in (
         w,
-        record {
-          parts = let s = total_set parts views port v w at in let p = b.parts in omega (arith, s, p);
-          even = λ h.
-              let s = total_set (λ u. weigh h u.put) views port v w at in
-              let t = total_set (λ u. weigh h u.taken) views port v w at in
-              let p = b.even h in
-              let m : weigh h (map ticket (items ++ x ∷ [])) ≡ weigh h (map ticket items ++ ticket x ∷ []) = ap (weigh h) more in
-              omega (arith, s, t, p, m, weigh-append h v.put (ticket x ∷ []), weigh-append h (map ticket items) (ticket x ∷ []));
-          idle = idle_set views port w (λ none. absurd (omega (arith, some_part, none))) b.idle;
-        },
+        (
+          record {
+            parts = let s = total_set parts views port v w at in let p = b.parts in omega (arith, s, p);
+            even = λ h.
+                let s = total_set (λ u. weigh h u.put) views port v w at in
+                let t = total_set (λ u. weigh h u.taken) views port v w at in
+                let p = b.even h in
+                let m : weigh h (map ticket (items ++ x ∷ [])) ≡ weigh h (map ticket items ++ ticket x ∷ []) = ap (weigh h) more in
+                omega (arith, s, t, p, m, weigh-append h v.put (ticket x ∷ []), weigh-append h (map ticket items) (ticket x ∷ []));
+            idle = idle_set views port w (λ none. absurd (omega (arith, some_part, none))) b.idle;
+          },
+          each_more from items x holds.1 one,
+        ),
         refl,
       )
 
-  pub takes : (port : ℕ) (v : Hand) → 0 < v.parts → Pops (Holds ticket) port v (λ x w. (w ≡ hand v.parts v.put (v.taken ++ ticket x ∷ [])) × Within w)
-  takes port v some_part x items views b at =
+  pub takes : (port : ℕ) (v : Hand) → 0 < v.parts → Pops (Holds ticket from) port v (λ x w. (w ≡ hand v.parts v.put (v.taken ++ ticket x ∷ [])) × Within w × from x)
+  takes port v some_part x items views holds at =
+      let b = holds.0 in
       let w : Hand = hand v.parts v.put (v.taken ++ ticket x ∷ []) in
-      let now : Holds ticket items (set views port w) = record {
+      let now : Balanced (map ticket items) (set views port w) = record {
         parts = let s = total_set parts views port v w at in let p = b.parts in omega (arith, s, p);
         even = λ h.
             let s = total_set (λ u. weigh h u.put) views port v w at in
@@ -124,31 +126,35 @@ module _ {J : Type 0} (ticket : J → Ticket) where
         idle = idle_set views port w (λ none. absurd (omega (arith, some_part, none))) b.idle;
       } in
       let known = accounts (map ticket items) (set views port w) port w now (at_here views port v w at) in
-      (w, now, (refl, λ all h. omega (arith, known all h)))
+      (w, (now, holds.1.1), (refl, (λ all h. omega (arith, known all h)), holds.1.0))
 
-  pub forks : (port : ℕ) (v : Hand) → Forks (Holds ticket) port v (hand (v.parts - v.parts / 2) v.put v.taken) (hand (v.parts / 2) [] [])
-  forks port v items views b at =
+  pub forks : (port : ℕ) (v : Hand) → Forks (Holds ticket from) port v (hand (v.parts - v.parts / 2) v.put v.taken) (hand (v.parts / 2) [] [])
+  forks port v items views holds at =
+      let b = holds.0 in
       let l : Hand = hand (v.parts - v.parts / 2) v.put v.taken in
       let r : Hand = hand (v.parts / 2) [] [] in
       let vs : List Hand = set views port l in
-      let kept : IdleIsEmpty vs = idle_set views port l (λ none. b.idle port v at (omega (arith, none))) b.idle in
-      record {
-        parts = let s = total_set parts views port v l at in let t = total_snoc parts vs r in let p = b.parts in omega (arith, s, t, p);
-        even = λ h.
-            let s = total_set (λ u. weigh h u.put) views port v l at in
-            let t = total_set (λ u. weigh h u.taken) views port v l at in
-            let s' = total_snoc (λ u. weigh h u.put) vs r in
-            let t' = total_snoc (λ u. weigh h u.taken) vs r in
-            let p = b.even h in
-            omega (arith, s, t, s', t', p);
-        idle = λ j u e none. ⊎_elim
-            (λ (x : get_elem? vs j ≡ some u). kept j u x none)
-            (λ (is : r ≡ u). (ap (λ (y : Hand). y.put) (sym is), ap (λ (y : Hand). y.taken) (sym is)))
-            (at_snoc vs r u j e);
-      }
+      let kept : IdleIsEmpty vs = idle_set views port l (λ none. b.idle port v at (omega (arith, none))) b.idle in (
+        record {
+          parts = let s = total_set parts views port v l at in let t = total_snoc parts vs r in let p = b.parts in omega (arith, s, t, p);
+          even = λ h.
+              let s = total_set (λ u. weigh h u.put) views port v l at in
+              let t = total_set (λ u. weigh h u.taken) views port v l at in
+              let s' = total_snoc (λ u. weigh h u.put) vs r in
+              let t' = total_snoc (λ u. weigh h u.taken) vs r in
+              let p = b.even h in
+              omega (arith, s, t, s', t', p);
+          idle = λ j u e none. ⊎_elim
+              (λ (x : get_elem? vs j ≡ some u). kept j u x none)
+              (λ (is : r ≡ u). (ap (λ (y : Hand). y.put) (sym is), ap (λ (y : Hand). y.taken) (sym is)))
+              (at_snoc vs r u j e);
+        },
+        holds.1,
+      )
 
-  pub merges : (port : ℕ) (v : Hand) (other : ℕ) (u : Hand) → Merges (Holds ticket) port v other u (hand (v.parts + u.parts) (v.put ++ u.put) (v.taken ++ u.taken)) (hand 0 [] [])
-  merges port v other u items views b at two at' =
+  pub merges : (port : ℕ) (v : Hand) (other : ℕ) (u : Hand) → Merges (Holds ticket from) port v other u (hand (v.parts + u.parts) (v.put ++ u.put) (v.taken ++ u.taken)) (hand 0 [] [])
+  merges port v other u items views holds at two at' =
+      let b = holds.0 in
       let both : Hand = hand (v.parts + u.parts) (v.put ++ u.put) (v.taken ++ u.taken) in
       let spent : Hand = hand 0 [] [] in
       let vs : List Hand = set views port both in
@@ -156,18 +162,20 @@ module _ {J : Type 0} (ticket : J → Ticket) where
       let empty : both.parts ≡ 0 → (both.put ≡ []) × (both.taken ≡ []) = λ none.
       let mine = b.idle port v at (omega (arith, none)) in
       let theirs = b.idle other u was (omega (arith, none)) in
-      ((λ i. mine.0 i ++ theirs.0 i), λ i. mine.1 i ++ theirs.1 i) in
-      record {
-        parts = let s = total_set parts views port v both at in let t = total_set parts vs other u spent at' in let p = b.parts in omega (arith, s, t, p);
-        even = λ h.
-            let s = total_set (λ y. weigh h y.put) views port v both at in
-            let t = total_set (λ y. weigh h y.taken) views port v both at in
-            let s' = total_set (λ y. weigh h y.put) vs other u spent at' in
-            let t' = total_set (λ y. weigh h y.taken) vs other u spent at' in
-            let p = b.even h in
-            omega (arith, s, t, s', t', p, weigh-append h v.put u.put, weigh-append h v.taken u.taken);
-        idle = idle_set vs other spent (λ none. (refl, refl)) (idle_set views port both empty b.idle);
-      }
+      ((λ i. mine.0 i ++ theirs.0 i), λ i. mine.1 i ++ theirs.1 i) in (
+        record {
+          parts = let s = total_set parts views port v both at in let t = total_set parts vs other u spent at' in let p = b.parts in omega (arith, s, t, p);
+          even = λ h.
+              let s = total_set (λ y. weigh h y.put) views port v both at in
+              let t = total_set (λ y. weigh h y.taken) views port v both at in
+              let s' = total_set (λ y. weigh h y.put) vs other u spent at' in
+              let t' = total_set (λ y. weigh h y.taken) vs other u spent at' in
+              let p = b.even h in
+              omega (arith, s, t, s', t', p, weigh-append h v.put u.put, weigh-append h v.taken u.taken);
+          idle = idle_set vs other spent (λ none. (refl, refl)) (idle_set views port both empty b.idle);
+        },
+        holds.1,
+      )
 
-  pub learns : (port : ℕ) (v : Hand) → Learns (Holds ticket) port v (λ items. Accounts v (map ticket items))
-  learns port v items views b at = accounts (map ticket items) views port v b at
+  pub learns : (port : ℕ) (v : Hand) → Learns (Holds ticket from) port v (λ items. Accounts v (map ticket items))
+  learns port v items views holds at = accounts (map ticket items) views port v holds.0 at

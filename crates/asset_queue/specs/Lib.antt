@@ -1,2 +1,3 @@
+pub mod Each
 pub mod Once
 pub mod Rows

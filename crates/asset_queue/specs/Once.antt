@@ -3,6 +3,7 @@ use Rattle.std.specs.Prelude.{◌≡◌, ◌≤◌, ℕ, ◌+◌, List, [], ◌�
 use mathlib.Core.Option.{some}
 use lib.ListN.{get_elem?}
 use Rattle.asset_queue.specs.declared.rule.Hand.{Hand}
+use Rattle.asset_queue.specs.Each.{Each}
 
 -- the place of a job in the order in which jobs were made, and its name
 abbrev pub Ticket : Type 0
@@ -44,6 +45,6 @@ Accounts v left = v.parts ≡ 128 → SharedOut v.put v.taken left
 abbrev pub Within : Hand → Type 0
 Within v = v.parts ≡ 128 → (h : Ticket → ℕ) → weigh h v.taken ≤ weigh h v.put
 
--- the rule over jobs, each by its ticket
-abbrev pub Holds : {J : Type 0} → (J → Ticket) → List J → List Hand → Type 0
-Holds ticket jobs views = Balanced (map ticket jobs) views
+-- the rule over jobs, each by its ticket; and each is one of those that may be there
+abbrev pub Holds : {J : Type 0} → (J → Ticket) → (J → Type 0) → List J → List Hand → Type 0
+Holds ticket from jobs views = Balanced (map ticket jobs) views × Each from jobs

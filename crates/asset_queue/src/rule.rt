@@ -2,6 +2,7 @@
 
 use crossbeam_queue::protocol::{Join, Lesson, Outcome, Protocol, Split};
 use std::collections::LinkedList;
+use std::marker::{Brand, PhantomData};
 
 /// What has a ticket: a job, and what came of one.
 pub trait Ticketed {
@@ -9,6 +10,17 @@ pub trait Ticketed {
 
     /// Its place in the order in which jobs were made, and its name.
     ghost ticket: { Self → Ticket };
+}
+
+/// Which jobs may be in a queue. No value of it is made: a call picks them.
+pub trait Origin<J> {
+    ghost from: { J → Type 0 };
+}
+
+impl<J> Origin<J> for Brand {
+    ghost use Rattle.std.specs.Prelude.{⊤};
+
+    ghost from = { λ job. ⊤ };
 }
 
 /// What a pass of the queue has put and taken. No value of it is made: proofs alone speak of it.
@@ -21,14 +33,15 @@ pub struct Hand {
     pub taken: LinkedList<(u64, u64)>,
 }
 
-/// The rule: each job that was put stands once, in the queue or as taken by one pass.
-pub struct Once;
+/// The rule: each job that was put stands once, in the queue or as taken by one pass, and the queue holds only jobs that may
+/// be there.
+pub struct Once<O>(PhantomData<O>);
 
-impl<J: Ticketed> Protocol<J, Hand> for Once {
+impl<J: Ticketed, O: Origin<J>> Protocol<J, Hand> for Once<O> {
     ghost use Rattle.std.specs.Prelude.{[]};
     ghost use Rattle.asset_queue.specs.Once.{hand, Holds};
 
-    ghost holds = { Holds J.ticket };
+    ghost holds = { Holds J.ticket O.from };
 
     ghost first = { hand 128 [] [] };
 }
@@ -72,17 +85,18 @@ impl<J: Ticketed> Lesson<J, Hand> for Puts {
     ghost fact = { λ v items. Accounts v (map J.ticket items) };
 }
 
-/// The step that takes a job. If none is left, a pass with all parts knows that each that was put was taken.
-pub struct Takes;
+/// The step that takes a job, which is one of those that may be there. If none is left, a pass with all parts knows that
+/// each that was put was taken.
+pub struct Takes<O>(PhantomData<O>);
 
-impl<J: Ticketed> Outcome<J, Hand> for Takes {
+impl<J: Ticketed, O: Origin<J>> Outcome<J, Hand> for Takes<O> {
     ghost use Rattle.std.specs.Prelude.{◌≡◌, ◌++◌, ◌∷◌, []};
     ghost use Rattle.asset_queue.specs.Once.{hand, Within};
 
-    ghost then = { λ v x w. (w ≡ hand v.parts v.put (v.taken ++ J.ticket x ∷ [])) × Within w };
+    ghost then = { λ v x w. (w ≡ hand v.parts v.put (v.taken ++ J.ticket x ∷ [])) × Within w × O.from x };
 }
 
-impl<J: Ticketed> Lesson<J, Hand> for Takes {
+impl<J: Ticketed, O: Origin<J>> Lesson<J, Hand> for Takes<O> {
     ghost use Rattle.std.specs.Prelude.{map};
     ghost use Rattle.asset_queue.specs.Once.{Accounts};
 

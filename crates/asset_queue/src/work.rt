@@ -3,16 +3,18 @@
 ghost use Rattle.std.specs.Prelude.{◌≡◌, ◌<◌, ◌≤◌, ◌+◌, ◌++◌, [], length, map, vec_len, vec_capacity, IfOk, IfErr};
 ghost use Rattle.std.specs.Thread.{IsSync};
 ghost use Rattle.crossbeam_queue.specs.Passes.{view, IsPassOf, ruled_capacity};
+ghost use Rattle.asset_queue.specs.Each.{Each, IsAmong};
 ghost use Rattle.asset_queue.specs.Once.{hand, SharedOut};
-ghost use Rattle.asset_queue.specs.Rows.{tickets_of, HasRows};
+ghost use Rattle.asset_queue.specs.Rows.{tickets_of, Came, EachOf, HasRows};
 
-use crate::rule::{Halves, Hand, Once, Puts, Takes, Ticketed};
+use crate::rule::{Halves, Hand, Once, Origin, Puts, Takes, Ticketed};
 use crossbeam_queue::{Pass, RuledArrayQueue};
 use std::alloc::Global;
+use std::marker::Brand;
 use std::sync::Wait;
 use std::thread::{Threads, join};
 
-type Jobs<J> = RuledArrayQueue<J, Hand, Once, Global>;
+type Jobs<J, O> = RuledArrayQueue<J, Hand, Once<O>, Global>;
 
 /// The most workers that share jobs.
 pub const MOST_WORKERS: usize = 64;
@@ -22,17 +24,21 @@ const PARTS: usize = 128;
 
 /// Does jobs.
 pub trait Work<J: Ticketed, E: Ticketed>: Sync {
+    /// What may come of a job.
+    ghost came: { J → E → Type 0 };
+
     /// Does one job, and returns what came of it. It may wait.
     fn run<R: Wait>(&self, rt: &R, job: J) -> E
-        ensures { E.ticket result ≡ J.ticket job };
+        ensures ticket { E.ticket result ≡ J.ticket job }
+        ensures came { came job result };
 }
 
 /// Takes jobs until none is left, or memory runs out. There is room from the start for so many answers as are expected, if
 /// there is memory.
-fn take_all<J: Ticketed, E: Ticketed, W: Work<J, E>, R: Wait>(
+fn take_all<J: Ticketed, E: Ticketed, W: Work<J, E>, O: Origin<J>, R: Wait>(
     rt: &R,
     alloc: Global,
-    jobs: &Jobs<J>,
+    jobs: &Jobs<J, O>,
     work: &W,
     mut pass: Pass<J, Hand>,
     expected: usize,
@@ -41,6 +47,7 @@ fn take_all<J: Ticketed, E: Ticketed, W: Work<J, E>, R: Wait>(
     requires hand { (view pass ≡ hand (view pass).parts [] []) × (0 < (view pass).parts) }
     ensures pass { IsPassOf jobs.now result.0 }
     ensures taken { view result.0 ≡ hand (view pass).parts [] (map E.ticket result.1.items) }
+    ensures came { Each (Came O.from J.ticket E.ticket W.came) result.1.items }
 {
     let mut ends = Vec::new(alloc);
     let _ = ends.reserve(expected);
@@ -48,7 +55,7 @@ fn take_all<J: Ticketed, E: Ticketed, W: Work<J, E>, R: Wait>(
         if ends.reserve(1).is_err() {
             break;
         }
-        match jobs.pop_as::<Takes, R>(rt, &mut pass) {
+        match jobs.pop_as::<Takes<O>, R>(rt, &mut pass) {
             Some(job) => ends.push_reserved(work.run(rt, job)),
             None => break,
         }
@@ -57,10 +64,10 @@ fn take_all<J: Ticketed, E: Ticketed, W: Work<J, E>, R: Wait>(
 }
 
 /// Does what one worker does. It takes nothing if it has no room for its answers.
-fn one<J: Ticketed, E: Ticketed + Drop, W: Work<J, E>, R: Wait>(
+fn one<J: Ticketed, E: Ticketed + Drop, W: Work<J, E>, O: Origin<J>, R: Wait>(
     rt: &R,
     alloc: Global,
-    jobs: &Jobs<J>,
+    jobs: &Jobs<J, O>,
     work: &W,
     pass: Pass<J, Hand>,
     expected: usize,
@@ -69,6 +76,7 @@ fn one<J: Ticketed, E: Ticketed + Drop, W: Work<J, E>, R: Wait>(
     requires hand { (view pass ≡ hand (view pass).parts [] []) × (0 < (view pass).parts) }
     ensures pass { IsPassOf jobs.now result.0 }
     ensures taken { view result.0 ≡ hand (view pass).parts [] (tickets_of E.ticket result.1.items) }
+    ensures came { EachOf (Came O.from J.ticket E.ticket W.came) result.1.items }
     ensures rows { HasRows 1 result.1 }
 {
     let Ok(mut rows) = Vec::with_capacity(alloc, MOST_WORKERS) else {
@@ -98,10 +106,16 @@ fn joined<E: Drop>(mut rows: Vec<Vec<E>>, mut more: Vec<Vec<E>>) -> Vec<Vec<E>>
 
 /// Shares the jobs among so many workers, by halves: the one half of them works here, the other in another thread. Each is
 /// expected to do so many jobs.
-fn share<J: Ticketed + Send, E: Ticketed + Drop + Send, W: Work<J, E>, R: Threads + Wait + Sync>(
+fn share<
+    J: Ticketed + Send,
+    E: Ticketed + Drop + Send,
+    W: Work<J, E>,
+    O: Origin<J> + Send + Sync,
+    R: Threads + Wait + Sync,
+>(
     rt: &R,
     alloc: Global,
-    jobs: &Jobs<J>,
+    jobs: &Jobs<J, O>,
     work: &W,
     mut pass: Pass<J, Hand>,
     workers: usize,
@@ -112,6 +126,7 @@ fn share<J: Ticketed + Send, E: Ticketed + Drop + Send, W: Work<J, E>, R: Thread
     requires workers { (0 < workers) × (workers ≤ (view pass).parts) × (workers ≤ MOST_WORKERS) }
     ensures pass { IsPassOf jobs.now result.0 }
     ensures taken { view result.0 ≡ hand (view pass).parts [] (tickets_of E.ticket result.1.items) }
+    ensures came { EachOf (Came O.from J.ticket E.ticket W.came) result.1.items }
     ensures rows { HasRows workers result.1 }
 {
     if workers == 1 {
@@ -124,11 +139,11 @@ fn share<J: Ticketed + Send, E: Ticketed + Drop + Send, W: Work<J, E>, R: Thread
         rt,
         move || -> (Pass<J, Hand>, Vec<Vec<E>>)
             requires { IsSync R.row × IsPassOf jobs.now pass × (view pass ≡ hand (view pass).parts [] []) × (0 < rest) × (rest ≤ (view pass).parts) × (rest ≤ MOST_WORKERS) }
-            ensures { IsPassOf jobs.entry.now result.0 × (view result.0 ≡ hand (view pass).parts [] (tickets_of E.ticket result.1.items)) × HasRows rest result.1 }
+            ensures { IsPassOf jobs.entry.now result.0 × (view result.0 ≡ hand (view pass).parts [] (tickets_of E.ticket result.1.items)) × EachOf (Came O.from J.ticket E.ticket W.came) result.1.items × HasRows rest result.1 }
         { share(rt, alloc, jobs, work, pass, rest, expected) },
         move || -> (Pass<J, Hand>, Vec<Vec<E>>)
             requires { IsSync R.row × IsPassOf jobs.now other × (view other ≡ hand (view other).parts [] []) × (0 < half) × (half ≤ (view other).parts) × (half ≤ MOST_WORKERS) }
-            ensures { IsPassOf jobs.entry.now result.0 × (view result.0 ≡ hand (view other).parts [] (tickets_of E.ticket result.1.items)) × HasRows half result.1 }
+            ensures { IsPassOf jobs.entry.now result.0 × (view result.0 ≡ hand (view other).parts [] (tickets_of E.ticket result.1.items)) × EachOf (Came O.from J.ticket E.ticket W.came) result.1.items × HasRows half result.1 }
         { share(rt, alloc, jobs, work, other, half, expected) },
     );
     jobs.absorb::<Halves>(&mut pass, other);
@@ -136,15 +151,16 @@ fn share<J: Ticketed + Send, E: Ticketed + Drop + Send, W: Work<J, E>, R: Thread
 }
 
 /// Puts all jobs into a queue that has room for them.
-fn put_all<J: Ticketed + Drop, R: Wait>(
+fn put_all<J: Ticketed + Drop, O: Origin<J>, R: Wait>(
     rt: &R,
-    jobs: &Jobs<J>,
+    jobs: &Jobs<J, O>,
     mut pass: Pass<J, Hand>,
     all: Vec<J>,
 ) -> Pass<J, Hand>
     requires pass { IsPassOf jobs.now pass }
     requires hand { view pass ≡ hand PARTS [] [] }
     requires room { vec_len all ≤ ruled_capacity jobs.now }
+    requires from { Each O.from all.items }
     ensures pass { IsPassOf jobs.now result }
     ensures put { view result ≡ hand PARTS (map J.ticket all.items) [] }
 {
@@ -158,9 +174,9 @@ fn put_all<J: Ticketed + Drop, R: Wait>(
 }
 
 /// Takes what is left. The pass has all parts, so it knows then that each job that was put was taken.
-fn drain<J: Ticketed + Drop, R: Wait>(
+fn drain<J: Ticketed + Drop, O: Origin<J>, R: Wait>(
     rt: &R,
-    jobs: &Jobs<J>,
+    jobs: &Jobs<J, O>,
     mut pass: Pass<J, Hand>,
     mut left: Vec<J>,
 ) -> Vec<J>
@@ -168,10 +184,11 @@ fn drain<J: Ticketed + Drop, R: Wait>(
     requires all { (view pass).parts ≡ PARTS }
     requires empty { left.items ≡ [] }
     requires room { length (view pass).put ≤ vec_capacity left }
-    ensures { SharedOut (view pass).put (view pass).taken (map J.ticket result.items) }
+    ensures once { SharedOut (view pass).put (view pass).taken (map J.ticket result.items) }
+    ensures from { Each O.from result.items }
 {
     for _ in rt.forever() {
-        match jobs.pop_as::<Takes, R>(rt, &mut pass) {
+        match jobs.pop_as::<Takes<O>, R>(rt, &mut pass) {
             Some(job) => left.push_reserved(job),
             None => return left,
         }
@@ -188,7 +205,8 @@ fn do_all<J: Ticketed + Drop, E: Ticketed + Drop, W: Work<J, E>, R: Wait>(
 ) -> Vec<E>
     requires empty { ends.items ≡ [] }
     requires room { vec_len all ≤ vec_capacity ends }
-    ensures { map E.ticket result.items ≡ map J.ticket all.items }
+    ensures same { map E.ticket result.items ≡ map J.ticket all.items }
+    ensures came { Each (Came (IsAmong all.items) J.ticket E.ticket W.came) result.items }
 {
     for job in all {
         ends.push_reserved(work.run(rt, job));
@@ -205,6 +223,8 @@ fn run_alone<J: Ticketed + Drop, E: Ticketed + Drop, W: Work<J, E>, R: Wait>(
     all: Vec<J>,
 ) -> Result<(Vec<Vec<E>>, Vec<J>), Vec<J>>
     ensures once { IfOk result (λ r. SharedOut (map J.ticket all.items) (tickets_of E.ticket r.0.items) (map J.ticket r.1.items)) }
+    ensures came { IfOk result (λ r. EachOf (Came (IsAmong all.items) J.ticket E.ticket W.came) r.0.items) }
+    ensures left { IfOk result (λ r. Each (IsAmong all.items) r.1.items) }
     ensures err { IfErr result (λ back. back.items ≡ all.items) }
 {
     let (Ok(mut rows), Ok(ends)) = (
@@ -217,9 +237,46 @@ fn run_alone<J: Ticketed + Drop, E: Ticketed + Drop, W: Work<J, E>, R: Wait>(
     Ok((rows, Vec::new(alloc)))
 }
 
+/// Has the jobs done by so many workers, by way of a queue that holds only jobs that may be there.
+fn run_shared<
+    J: Ticketed + Drop + Send,
+    E: Ticketed + Drop + Send,
+    W: Work<J, E>,
+    O: Origin<J> + Send + Sync,
+    R: Threads + Wait + Sync,
+>(
+    rt: &R,
+    alloc: Global,
+    work: &W,
+    all: Vec<J>,
+    workers: usize,
+) -> Result<(Vec<Vec<E>>, Vec<J>), Vec<J>>
+    requires workers { (0 < workers) × (workers ≤ MOST_WORKERS) }
+    requires from { Each O.from all.items }
+    ensures once { IfOk result (λ r. SharedOut (map J.ticket all.items) (tickets_of E.ticket r.0.items) (map J.ticket r.1.items)) }
+    ensures came { IfOk result (λ r. EachOf (Came O.from J.ticket E.ticket W.came) r.0.items) }
+    ensures left { IfOk result (λ r. Each O.from r.1.items) }
+    ensures err { IfErr result (λ back. back.items ≡ all.items) }
+{
+    let Ok(left) = Vec::with_capacity(alloc, all.len()) else {
+        return Err(all);
+    };
+    let Ok((queue, pass)) = Jobs::<J, O>::ruled(alloc, all.len().max(1)) else {
+        return Err(all);
+    };
+    let expected = all.len() / workers;
+    let mut pass = put_all(rt, &queue, pass, all);
+    let theirs = queue.another::<Halves>(&mut pass);
+    let (theirs, rows) = share(rt, alloc, &queue, work, theirs, workers, expected);
+    queue.absorb::<Halves>(&mut pass, theirs);
+    let left = drain(rt, &queue, pass, left);
+    Ok((rows, left))
+}
+
 /// Has the jobs done by so many workers, each in a thread of its own, and returns what came of them, a row for each
-/// worker that had memory for one, and the jobs that nobody took: each job is once in one or the other. A job is left
-/// only if memory ran out. If it ran out before the workers started, all jobs come back as the error.
+/// worker that had memory for one, and the jobs that nobody took: each job is once in one or the other, and each answer came
+/// of one of the jobs. A job is left only if memory ran out. If it ran out before the workers started, all jobs come back as
+/// the error.
 pub fn run<
     J: Ticketed + Drop + Send,
     E: Ticketed + Drop + Send,
@@ -234,22 +291,12 @@ pub fn run<
 ) -> Result<(Vec<Vec<E>>, Vec<J>), Vec<J>>
     requires { (0 < workers) × (workers ≤ MOST_WORKERS) }
     ensures once { IfOk result (λ r. SharedOut (map J.ticket all.items) (tickets_of E.ticket r.0.items) (map J.ticket r.1.items)) }
+    ensures came { IfOk result (λ r. EachOf (Came (IsAmong all.items) J.ticket E.ticket W.came) r.0.items) }
+    ensures left { IfOk result (λ r. Each (IsAmong all.items) r.1.items) }
     ensures err { IfErr result (λ back. back.items ≡ all.items) }
 {
     if workers == 1 {
         return run_alone(rt, alloc, work, all);
     }
-    let Ok(left) = Vec::with_capacity(alloc, all.len()) else {
-        return Err(all);
-    };
-    let Ok((queue, pass)) = Jobs::ruled(alloc, all.len().max(1)) else {
-        return Err(all);
-    };
-    let expected = all.len() / workers;
-    let mut pass = put_all(rt, &queue, pass, all);
-    let theirs = queue.another::<Halves>(&mut pass);
-    let (theirs, rows) = share(rt, alloc, &queue, work, theirs, workers, expected);
-    queue.absorb::<Halves>(&mut pass, theirs);
-    let left = drain(rt, &queue, pass, left);
-    Ok((rows, left))
+    run_shared::<J, E, W, Brand, R>(rt, alloc, work, all, workers)
 }

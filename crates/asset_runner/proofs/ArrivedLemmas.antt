@@ -1,9 +1,11 @@
 -- Lists of arrivals.
-use Rattle.std.proofs.Common.{◌≡◌, ℕ, zero, suc, ◌+◌, ◌<◌, ◌≤◌, true, false, cond, List, [], ◌∷◌, ◌++◌, length, map, set, get_or, Vec, Option, Some, None, sym, refl, ap, ◌∙◌, subst, append_assoc, arith}
+use Rattle.std.proofs.Common.{◌≡◌, ℕ, zero, suc, ◌+◌, ◌≤◌, true, false, cond, List, [], ◌∷◌, ◌++◌, length, map, set, Vec, Option, Some, None, sym, refl, ap, ◌∙◌, subst, append_assoc, arith}
+use Rattle.std.specs.Prelude.{slice_get}
 use Rattle.std.proofs.lemmas.List.{map-append, append-nil, length-map}
 use Rattle.asset_names.specs.declared.names.Txn.{Txn}
 use Rattle.asset_audit.specs.Audited.{Call}
 use Rattle.asset_manager.specs.Asker.{Asker}
+use Rattle.asset_queue.specs.Each.{IsAmong}
 use Rattle.asset_queue.specs.Once.{Ticket, weigh, SharedOut}
 use Rattle.asset_queue.specs.Rows.{tickets_of}
 use Rattle.asset_queue.proofs.Moves.{weigh-append}
@@ -15,7 +17,7 @@ use Rattle.asset_runner.specs.Runs.{JobRun, is_called, left_row, left_of}
 use Rattle.asset_runner.specs.Arrived.{Arrived, ticket_of, left_at, numbered, placed}
 use Rattle.asset_runner.specs.Rows.{all_of, names_of, runs_of}
 use Rattle.asset_runner.specs.Comes.{IsCause, IsWorkCause}
-use Rattle.asset_runner.proofs.PlacingLemmas.{placed-append, length_placed, length_nones, somes-append, comes_back}
+use Rattle.asset_runner.proofs.PlacingLemmas.{placed-append, length_placed, length_nones, somes-append, comes_back, stand_among}
 
 pub placed-snoc : (slots : List (Option Arrived)) (xs : List Arrived) (x : Arrived) → placed slots (xs ++ x ∷ []) ≡ placed (set slots x.place (Some x)) xs
 placed-snoc slots xs x = placed-append (λ (a : Arrived). a.place) (λ (a : Arrived). a.run.name.0) slots xs (x ∷ [])
@@ -50,38 +52,47 @@ numbers_names (x ∷ xs) (y ∷ ys) e =
     let t : map (λ (t : Txn). t.0) xs ≡ map (λ (t : Txn). t.0) ys = cc in
     λ i. same_txn x y h i ∷ numbers_names xs ys t i
 
+-- the tickets of the jobs are those of what comes back
+counted : {A : Type 0} (names : List Txn) (tickets : List Ticket) (rows : List (Vec Arrived A)) (left : List Arrived) (lefts : List Ticket)
+    → tickets ≡ numbered names → map ticket_of left ≡ lefts → SharedOut tickets (tickets_of ticket_of rows) lefts
+    → (h : ℕ × ℕ → ℕ) → weigh h (numbered names) ≡ weigh h (map ticket_of (all_of rows ++ left))
+counted names tickets rows left lefts ts ls shared h =
+    let s = shared h in
+    let t : weigh h tickets ≡ weigh h (numbered names) = ap (weigh h) ts in
+    let l : weigh h (map ticket_of left) ≡ weigh h lefts = ap (weigh h) ls in
+    let r : weigh h (tickets_of ticket_of rows) ≡ weigh h (map ticket_of (all_of rows)) = ap (weigh h) (tickets_all rows) in
+    let m : weigh h (map ticket_of (all_of rows ++ left)) ≡ weigh h (map ticket_of (all_of rows) ++ map ticket_of left) = ap (weigh h) (map-append ticket_of (all_of rows) left) in
+    omega (arith, s, t, l, r, m, weigh-append h (map ticket_of (all_of rows)) (map ticket_of left))
+
+-- all are put at once, or the rows after what was left
+all_placed : {A : Type 0} (names : List Txn) (rows : List (Vec Arrived A)) (left : List Arrived)
+    → placed (nones (length (map (λ (t : Txn). t.0) names))) (all_of rows ++ left) ≡ placed (placed (nones (length names)) left) (all_of rows)
+all_placed names rows left =
+    ap (λ n. placed (nones n) (all_of rows ++ left)) (length-map names (λ (t : Txn). t.0))
+    ∙ placed-append (λ (a : Arrived). a.place) (λ (a : Arrived). a.run.name.0) (nones (length names)) (all_of rows) left
+
 -- what comes back stands in order, under the names of the jobs
 pub arranged : {A : Type 0} (names : List Txn) (tickets : List Ticket) (rows : List (Vec Arrived A)) (left : List Arrived) (lefts : List Ticket)
     → tickets ≡ numbered names → map ticket_of left ≡ lefts → SharedOut tickets (tickets_of ticket_of rows) lefts
     → names_of (somes (placed (placed (nones (length names)) left) (all_of rows))) ≡ names
 arranged names tickets rows left lefts ts ls shared =
-    let all : List Arrived = all_of rows ++ left in
     let numbers : List ℕ = map (λ (t : Txn). t.0) names in
-    let place = λ (a : Arrived). a.place in
     let name = λ (a : Arrived). a.run.name.0 in
-    let counts : (h : ℕ × ℕ → ℕ) → weigh h (numbered names) ≡ weigh h (map ticket_of all) = λ h.
-    let s = shared h in
-    let t : weigh h tickets ≡ weigh h (numbered names) = ap (weigh h) ts in
-    let l : weigh h (map ticket_of left) ≡ weigh h lefts = ap (weigh h) ls in
-    let r : weigh h (tickets_of ticket_of rows) ≡ weigh h (map ticket_of (all_of rows)) = ap (weigh h) (tickets_all rows) in
-    let m : weigh h (map ticket_of all) ≡ weigh h (map ticket_of (all_of rows) ++ map ticket_of left) = ap (weigh h) (map-append ticket_of (all_of rows) left) in
-    omega (arith, s, t, l, r, m, weigh-append h (map ticket_of (all_of rows)) (map ticket_of left)) in
-    let back : map name (somes (placed (nones (length numbers)) all)) ≡ numbers = comes_back place name numbers all counts in
-    let len : length numbers ≡ length names = length-map names (λ (t : Txn). t.0) in
-    let e : placed (nones (length numbers)) all ≡ placed (placed (nones (length names)) left) (all_of rows) =
-    ap (λ n. placed (nones n) all) len ∙ placed-append place name (nones (length names)) (all_of rows) left in
-    let f : map name (somes (placed (placed (nones (length names)) left) (all_of rows))) ≡ numbers = subst (λ (o : List (Option Arrived)). map name (somes o) ≡ numbers) e back in
+    let back : map name (somes (placed (nones (length numbers)) (all_of rows ++ left))) ≡ numbers = comes_back (λ (a : Arrived). a.place) name numbers (all_of rows ++ left) (counted names tickets rows left lefts ts ls shared) in
+    let f : map name (somes (placed (placed (nones (length names)) left) (all_of rows))) ≡ numbers = subst (λ (o : List (Option Arrived)). map name (somes o) ≡ numbers) (all_placed names rows left) back in
     numbers_names (names_of (somes (placed (placed (nones (length names)) left) (all_of rows)))) names (twice (somes (placed (placed (nones (length names)) left) (all_of rows))) ∙ f)
   where
     twice : (xs : List Arrived) → map (λ (t : Txn). t.0) (names_of xs) ≡ map (λ (a : Arrived). a.run.name.0) xs
     twice [] = refl
     twice (x ∷ xs) = ap (λ l. x.run.name.0 ∷ l) (twice xs)
 
--- a change that keeps the name keeps all names
-pub names_set : (xs : List Arrived) (i : ℕ) (a b : Arrived) → i < length xs → a ≡ get_or xs i a → b.run.name ≡ a.run.name → names_of (set xs i b) ≡ names_of xs
-names_set [] i a b h e n = absurd (omega arith)
-names_set (x ∷ xs) zero a b h e n = ap (λ t. t ∷ names_of xs) (n ∙ ap (λ (y : Arrived). y.run.name) e)
-names_set (x ∷ xs) (suc i) a b h e n = ap (λ l. x.run.name ∷ l) (names_set xs i a b (omega arith) e n)
+-- what stands in order stands in its place, and came back or was left
+pub stand_placed : {A : Type 0} (names : List Txn) (tickets : List Ticket) (rows : List (Vec Arrived A)) (left : List Arrived) (lefts : List Ticket)
+    → tickets ≡ numbered names → map ticket_of left ≡ lefts → SharedOut tickets (tickets_of ticket_of rows) lefts
+    → (i : ℕ) (b : Arrived) → slice_get (somes (placed (placed (nones (length names)) left) (all_of rows))) i ≡ Some b → (b.place ≡ i) × IsAmong (all_of rows ++ left) b
+stand_placed names tickets rows left lefts ts ls shared i b at =
+    stand_among (λ (a : Arrived). a.place) (λ (a : Arrived). a.run.name.0) (map (λ (t : Txn). t.0) names) (all_of rows ++ left) (counted names tickets rows left lefts ts ls shared) i b
+    (ap (λ (o : List (Option Arrived)). slice_get (somes o) i) (all_placed names rows left) ∙ at)
 
 pub somes_few : (xs : List (Option Arrived)) → length (somes xs) ≤ length xs
 somes_few [] = omega arith

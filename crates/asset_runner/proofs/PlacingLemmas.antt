@@ -5,6 +5,7 @@ use Rattle.std.specs.Bool.{◌==◌}
 use Rattle.std.proofs.lemmas.List.{length-append, nil_from_length}
 use Rattle.std.proofs.lemmas.Bool.{cases_eq}
 use Rattle.std.proofs.lemmas.Bool.Decides.{nat_tests}
+use Rattle.asset_queue.specs.Each.{IsAmong}
 use Rattle.asset_queue.specs.Once.{weigh}
 use Rattle.asset_runner.specs.Placing.{numbered, placed, somes, nones}
 
@@ -56,15 +57,15 @@ module _ {A : Type 0} (place name : A → ℕ) where
 
   -- a place for which a ticket arrival is taken by one that arrival
   pub stands : (slots : List (Option A)) (all : List A) (i : ℕ) → i < length slots → 0 < weigh (at i) (map ticket all)
-      → (a : A) × (slice_get (placed place slots all) i ≡ Some (Some a)) × (0 < weigh (is (ticket a)) (map ticket all)) × (place a ≡ i)
+      → (a : A) × (slice_get (placed place slots all) i ≡ Some (Some a)) × (0 < weigh (is (ticket a)) (map ticket all)) × (place a ≡ i) × IsAmong all a
   stands slots [] i len some = absurd (omega arith)
   stands slots (a ∷ rest) i len some = ⊎_elim
       (λ (e : place a ≡ i).
       let w : 0 < weigh (is (ticket a)) (map ticket (a ∷ rest)) = omega (arith, is_self (ticket a)) in
-      (a, subst (λ (j : ℕ). slice_get (set (placed place slots rest) (place a) (Some a)) j ≡ Some (Some a)) e (get_set_same (placed place slots rest) (place a) (Some a) (omega (arith, length_placed slots rest, e, len))), w, e))
+      (a, subst (λ (j : ℕ). slice_get (set (placed place slots rest) (place a) (Some a)) j ≡ Some (Some a)) e (get_set_same (placed place slots rest) (place a) (Some a) (omega (arith, length_placed slots rest, e, len))), w, e, (0, refl)))
       (λ (n : place a ≢ i).
       let s = stands slots rest i len (omega (arith, some, at_not i (ticket a) n)) in
-      (s.0, get_set_other (placed place slots rest) (place a) i (Some a) (λ e. n (sym e)) ∙ s.1, omega (arith, s.2), s.3))
+      (s.0, get_set_other (placed place slots rest) (place a) i (Some a) (λ e. n (sym e)) ∙ s.1, omega (arith, s.2), s.3, (suc s.4.0, s.4.1)))
       (cases_eq (place a) i)
 
 -- a ticket that was given has the name of its place
@@ -111,6 +112,29 @@ module _ {A : Type 0} where
       let r = somes_names name xs ts (omega arith) (λ i l. h (suc i) (omega arith)) in
       λ i. (ap name p ∙ sym q) i ∷ r i
 
+-- of each that stands in order, what is so at its place
+somes_each : {A : Type 0} (P : ℕ → A → Type 0) (xs : List (Option A)) → ((i : ℕ) → i < length xs → (a : A) × (slice_get xs i ≡ Some (Some a)) × P i a) → (i : ℕ) (b : A) → slice_get (somes xs) i ≡ Some b → P i b
+somes_each P [] h i b e = absurd (cc e)
+somes_each P (None ∷ xs) h i b e = absurd (let w = h 0 (omega arith) in cc w.1)
+somes_each P (Some x ∷ xs) h zero b e =
+    let w = h 0 (omega arith) in
+    let p : x ≡ w.0 = cc w.1 in
+    let q : x ≡ b = cc e in
+    subst (P 0) (sym p ∙ q) w.2
+somes_each P (Some x ∷ xs) h (suc i) b e = somes_each (λ j. P (suc j)) xs (λ j l. h (suc j) (omega arith)) i b e
+
+-- what stands in order stands in its place, and is among what was shared out
+pub stand_among : {A : Type 0} (place name : A → ℕ) (ts : List ℕ) (all : List A)
+    → ((h : ℕ × ℕ → ℕ) → weigh h (numbered 0 ts) ≡ weigh h (map (λ (a : A). (place a, name a)) all))
+    → (i : ℕ) (b : A) → slice_get (somes (placed place (nones (length ts)) all)) i ≡ Some b → (place b ≡ i) × IsAmong all b
+stand_among {A} place name ts all shared = somes_each (λ i b. (place b ≡ i) × IsAmong all b) (placed place (nones (length ts)) all)
+    (λ i l.
+    let within : i < length ts = omega (arith, l, length_placed place name (nones (length ts)) all, length_nones A (length ts)) in
+    let zero_is : 0 + i ≡ i = omega arith in
+    let given : 0 < weigh (at i) (numbered 0 ts) = subst (λ (j : ℕ). 0 < weigh (at j) (numbered 0 ts)) zero_is (numbered_at 0 ts i within) in
+    let s = stands place name (nones (length ts)) all i (omega (arith, length_nones A (length ts), within)) (omega (arith, shared (at i), given)) in
+    (s.0, s.1, (s.3, s.4)))
+
 -- what was shared out of the jobs of these names stands in order
 pub comes_back : {A : Type 0} (place name : A → ℕ) (ts : List ℕ) (all : List A)
     → ((h : ℕ × ℕ → ℕ) → weigh h (numbered 0 ts) ≡ weigh h (map (λ (a : A). (place a, name a)) all))
@@ -123,7 +147,7 @@ comes_back {A} place name ts all shared = somes_names name (placed place (nones 
     let x : ℕ × ℕ = (place s.0, name s.0) in
     let n = numbered_has 0 ts x (omega (arith, shared (is x), s.2)) in
     let e : n.0 ≡ i = omega (arith, n.1, s.3) in
-    (s.0, s.1, subst (λ (j : ℕ). slice_get ts j ≡ Some (name s.0)) e n.2))
+    (s.0, s.1, subst (λ (j : ℕ). slice_get ts j ≡ Some (name s.0)) {x = n.0} e n.2))
 
 module _ {A : Type 0} (place : A → ℕ) where
   set_after : (pre xs : List (Option A)) (x y : Option A) → set (pre ++ x ∷ xs) (length pre) y ≡ pre ++ y ∷ xs

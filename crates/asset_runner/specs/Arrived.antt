@@ -1,9 +1,10 @@
 -- What comes back from the workers.
-use Rattle.std.specs.Prelude.{◌≡◌, ℕ, List, length, map, Option, None, Some, slice_get}
+use Rattle.std.specs.Prelude.{◌≡◌, ℕ, ⊤, List, [], ◌∷◌, length, map, Option, None, Some, slice_get}
 use Rattle.asset_names.specs.declared.names.Txn.{Txn}
 use Rattle.asset_audit.specs.Audited.{Call}
 use Rattle.asset_queue.specs.Once.{Ticket}
 use Rattle.asset_runner.specs.Runs.{JobRun}
+use Rattle.asset_runner.specs.Fates.{AsksCommits}
 use Rattle.asset_runner.specs.Placing as placing
 
 -- what came of a job, and its place in the order of initiation
@@ -17,6 +18,19 @@ ticket_of a = (a.place, a.run.name.0)
 -- a job whose body was not called, with the calls of its session
 abbrev pub left_at : ℕ → Txn → List Call → Arrived
 left_at place t calls = record { place = place; run = record { name = t; answered = None; calls = calls } }
+
+-- the same job, whose commit may have been asked again
+pub record GoesOn (before later : Arrived) : Type 0 where
+  pub place : later.place ≡ before.place
+  pub name : later.run.name ≡ before.run.name
+  pub answered : later.run.answered ≡ before.run.answered
+  pub calls : (u : Txn) → before.run.answered ≡ Some u → AsksCommits u before.run.calls later.run.calls
+
+-- the same jobs, in the same order
+abbrev pub AllGoOn : List Arrived → List Arrived → Type 0
+AllGoOn [] [] = ⊤
+AllGoOn (x ∷ xs) (y ∷ ys) = GoesOn x y × AllGoOn xs ys
+AllGoOn xs ys = ⊥
 
 -- the tickets of jobs of these names, in order
 abbrev pub numbered : List Txn → List Ticket

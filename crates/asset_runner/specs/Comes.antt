@@ -1,5 +1,5 @@
 -- What a plan's run gives.
-use Rattle.std.specs.Prelude.{◌≡◌, ◌<◌, ◌⊎◌, ℕ, List, [], ◌∷◌, map, Some}
+use Rattle.std.specs.Prelude.{◌≡◌, ◌<◌, ◌⊎◌, ℕ, List, [], ◌∷◌, map, Some, slice_get}
 use Rattle.asset_names.specs.declared.names.Txn.{Txn}
 use Rattle.asset_audit.specs.Audited.{Call}
 use Rattle.asset_bodies.specs.declared.ends.JobEnd.{JobEnd}
@@ -14,6 +14,10 @@ pub record Comes (names : List Txn) (plan : List Call) (runs : List JobRun) (end
   pub ends_are : ends ≡ ends_of runs runs
   pub left_are : left ≡ left_of runs
   pub sessions_are : sessions ≡ plan ∷ map (λ (run : JobRun). run.calls) runs
+
+-- of the job and the run at each place this is so
+abbrev pub RunsOf : {J : Type 0} → (J → JobRun → Type 0) → List J → List JobRun → Type 0
+RunsOf {J} ran jobs runs = (i : ℕ) (job : J) (run : JobRun) → slice_get jobs i ≡ Some job → slice_get runs i ≡ Some run → ran job run
 
 -- a plan without jobs that is refused memory cannot give its session back in a list: there is nothing
 pub record IsLost (names : List Txn) (runs : List JobRun) (ends : List (Txn × JobEnd)) (left : List Txn) (sessions : List (List Call)) : Type 0 where

@@ -10,6 +10,10 @@ use Rattle.asset_audit.specs.Audited.{Call}
 use Rattle.asset_runner.specs.declared.plan.Cause.{Cause}
 use Rattle.asset_runner.specs.declared.plan.Cause.TheVariants as Cause'
 
+-- one more stands at the end, of which this is so
+abbrev pub OneMore : {J : Type 0} → (J → Type 0) → List J → List J → Type 0
+OneMore {J} is before later = (job : J) × (later ≡ before ++ job ∷ []) × is job
+
 -- an initiation that was answered `Done` is one call more
 abbrev pub IsInitiated : List Call → Step → List Call → Type 0
 IsInitiated before step later = (n : ℕ) × (later ≡ before ++ (n, step, Done) ∷ [])

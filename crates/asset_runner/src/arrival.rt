@@ -4,7 +4,8 @@ ghost use Rattle.std.specs.Prelude.{◌≡◌, true, false, Some, MatchOption};
 ghost use Rattle.std.specs.Arc.{arc_value};
 ghost use Rattle.asset_counts.specs.Pass.{IsOf};
 ghost use Rattle.asset_runner.specs.Runs.{is_called, is_strange};
-ghost use Rattle.asset_runner.specs.Arrived.{left_at};
+ghost use Rattle.asset_runner.specs.Fates.{AsksCommits};
+ghost use Rattle.asset_runner.specs.Arrived.{left_at, GoesOn};
 
 use asset_bodies::{Body, Finished};
 use asset_manager::{Manager, Session};
@@ -54,7 +55,8 @@ impl Ticketed for Arrival {
 /// Asks the commit once, if the list has room for its answer.
 fn commit<R: Wait>(rt: &R, session: &mut Session, manager: &Manager, t: Txn) -> Option<Outcome>
     requires { IsOf session.old.of manager.now }
-    ensures { IsOf session.new.of manager.now }
+    ensures of { IsOf session.new.of manager.now }
+    ensures asked { AsksCommits t session.old.list.calls session.new.list.calls }
 {
     if !session.has_room(1) {
         return None;
@@ -99,6 +101,7 @@ impl Arrival {
         requires { finished.of ≡ Some (arc_value manager) }
         ensures place { (result.place ≡ place) × (result.run.name ≡ name) }
         ensures answered { result.run.answered ≡ Some finished.name }
+        ensures kept { AsksCommits finished.name finished.list.calls result.run.calls }
     {
         let (answered, done, _, mut session) = finished.into_parts();
         let waits = done && is_wait(commit(rt, &mut session, &manager, answered));
@@ -113,9 +116,7 @@ impl Arrival {
 
     /// Asks the commit again if it waits, and returns whether it was answered.
     pub(crate) fn ask_again<R: Wait>(&mut self, rt: &R) -> bool
-        ensures place { self.new.place ≡ self.old.place }
-        ensures name { self.new.run.name ≡ self.old.run.name }
-        ensures answered { self.new.run.answered ≡ self.old.run.answered }
+        ensures { GoesOn self.old self.new }
     {
         if let Fate::Called {
             answered,

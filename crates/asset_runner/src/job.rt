@@ -1,13 +1,13 @@
 //! The jobs of a plan, and what a worker does with one.
 
-ghost use Rattle.std.specs.Prelude.{◌≡◌, Some, IfSome};
+ghost use Rattle.std.specs.Prelude.{◌≡◌, Some};
 ghost use Rattle.std.specs.Arc.{arc_value};
 ghost use base.Stored.{Coded-set};
 ghost use Rattle.atomic_table.specs.Seated.{table_id_coded};
 ghost use Rattle.asset_counts.specs.Pass.{IsOf, IsOf-prop};
 ghost use Rattle.asset_bodies.specs.Working.{Working, Worked};
 ghost use Rattle.asset_runner.specs.Arrived.{left_at};
-ghost use Rattle.asset_runner.specs.Fates.{CallsBody};
+ghost use Rattle.asset_runner.specs.Fates.{RunsBody};
 
 use crate::arrival::Arrival;
 use crate::gate::Gate;
@@ -46,6 +46,8 @@ pub struct Crew<'a, G: Gate> {
 }
 
 impl<'a, G: Gate> Work<Planned, Arrival> for Crew<'a, G> {
+    ghost came = { λ j a. RunsBody (Body.post j.body) j.name (arc_value j.manager) j.session.list.calls a.run };
+
     fn run<R: Wait>(&self, rt: &R, job: Planned) -> Arrival {
         let name = job.name();
         self.gate.entered(name);
@@ -70,7 +72,8 @@ impl Planned {
         requires one { arc_value lent ≡ arc_value manager }
         requires ready { (tx : Working) → tx.manager ≡ arc_value manager → pre body tx }
         requires same { (tx : Working) (f : Worked) → tx.manager ≡ arc_value manager → post body tx f → f.of ≡ Some tx.manager }
-        ensures { (result.place ≡ place) × (result.name ≡ name) × (result.turns ≡ turns) }
+        ensures named { (result.place ≡ place) × (result.name ≡ name) × (result.turns ≡ turns) }
+        ensures own { (result.body ≡ body) × (result.session ≡ session) × (arc_value result.manager ≡ arc_value manager) }
     {
         Planned {
             place,
@@ -93,7 +96,7 @@ impl Planned {
     /// Begins the transaction, calls the body and asks the commit. If the transaction does not begin, the job is left.
     pub fn run<R: Wait>(self, rt: &R) -> Arrival
         ensures place { (result.place ≡ self.place) × (result.run.name ≡ self.name) }
-        ensures called { IfSome result.run.answered (CallsBody (post self.body) self.name (arc_value self.manager) self.session.list.calls) }
+        ensures called { RunsBody (post self.body) self.name (arc_value self.manager) self.session.list.calls result.run }
     {
         let Planned {
             place,

@@ -2,8 +2,8 @@
 
 ghost use Rattle.std.specs.Prelude.{◌≡◌, ◌≤◌, [], map, Some, slice_set, vec_len, vec_capacity, IfOk, IfErr, IsTrue};
 ghost use Rattle.asset_runner.specs.Placing.{nones, somes};
-ghost use Rattle.asset_runner.specs.Arrived.{placed, left_at, StandInOrder};
-ghost use Rattle.asset_runner.specs.Rows.{all_of, names_of};
+ghost use Rattle.asset_runner.specs.Arrived.{placed, left_at, AllGoOn, StandInOrder};
+ghost use Rattle.asset_runner.specs.Rows.{all_of};
 
 use crate::arrival::Arrival;
 use crate::job::Planned;
@@ -126,7 +126,7 @@ pub(crate) fn row_in_order(
 
 /// Asks each commit that waits once again, in order, and returns whether one was answered.
 fn pass<R: Wait>(rt: &R, order: &mut Vec<Arrival>) -> bool
-    ensures { names_of order.new.items ≡ names_of order.old.items }
+    ensures { AllGoOn order.old.items order.new.items }
 {
     let mut changed = false;
     'order: for i in 0..order.len() {
@@ -140,7 +140,7 @@ fn pass<R: Wait>(rt: &R, order: &mut Vec<Arrival>) -> bool
 /// Asks the commits that wait again, in passes until a pass changes nothing. Each pass but the last has a commit
 /// answered, so there are no more passes than jobs.
 pub(crate) fn settle<R: Wait>(rt: &R, order: &mut Vec<Arrival>)
-    ensures { names_of order.new.items ≡ names_of order.old.items }
+    ensures { AllGoOn order.old.items order.new.items }
 {
     let jobs = order.len();
     'passes: for _ in 0..jobs {

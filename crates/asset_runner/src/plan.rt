@@ -8,14 +8,16 @@ ghost use Rattle.atomic_table.specs.Seated.{TableId};
 ghost use Rattle.asset_counts.specs.Pass.{IsOf, IsOf-prop};
 ghost use Rattle.asset_manager.specs.Asker.{Asker};
 ghost use Rattle.asset_bodies.specs.Working.{Working, Worked};
+ghost use Rattle.asset_queue.specs.Each.{IsAmong};
 ghost use Rattle.asset_queue.specs.Once.{SharedOut};
-ghost use Rattle.asset_queue.specs.Rows.{tickets_of};
+ghost use Rattle.asset_queue.specs.Rows.{tickets_of, Came, EachOf};
 ghost use Rattle.asset_runner.specs.Placing.{nones, somes};
 ghost use Rattle.asset_runner.specs.Runs.{JobRun, first_stranger};
+ghost use Rattle.asset_runner.specs.Fates.{RunsBody};
 ghost use Rattle.asset_runner.specs.Arrived.{numbered, placed, left_at, ticket_of};
-ghost use Rattle.asset_runner.specs.Rows.{all_of, names_of};
-ghost use Rattle.asset_runner.specs.Comes.{Comes, ComesOrLost, IsCause, IsWorkCause};
-ghost use Rattle.asset_runner.specs.Initiated.{IsInitiated, IsRefused, IsInitiation, cause_by};
+ghost use Rattle.asset_runner.specs.Rows.{all_of, names_of, runs_of, CameBack};
+ghost use Rattle.asset_runner.specs.Comes.{Comes, ComesOrLost, IsCause, IsWorkCause, RunsOf};
+ghost use Rattle.asset_runner.specs.Initiated.{OneMore, IsInitiated, IsRefused, IsInitiation, cause_by};
 
 use crate::arrival::Arrival;
 use crate::gate::Gate;
@@ -94,6 +96,7 @@ fn work<R: Threads + Wait + Sync, G: Gate>(
 ) -> FromWorkers
     ensures shared { SharedOut (map (λ j. (j.place, j.name.0)) jobs.items) (tickets_of ticket_of result.rows.items) (map (λ j. (j.place, j.name.0)) result.left.items) }
     ensures cause { MatchOption result.cause (0 < workers) (λ cause. IsWorkCause workers cause) }
+    ensures came { EachOf (Came (IsAmong jobs.items) (λ j. (j.place, j.name.0)) ticket_of (λ j a. RunsBody (Body.post j.body) j.name (arc_value j.manager) j.session.list.calls a.run)) result.rows.items }
 {
     if workers == 0 {
         return FromWorkers {
@@ -159,11 +162,34 @@ fn gather<R: Wait>(
     requires empty { (slots.items ≡ []) × (order.items ≡ []) }
     requires room { (length names.now ≤ vec_capacity slots) × (length names.now ≤ vec_capacity order) }
     requires shared { SharedOut (numbered names.now) (tickets_of ticket_of rows.items) (map (λ j. (j.place, j.name.0)) left.items) }
-    ensures { names_of result.items ≡ names.now }
+    ensures names { names_of result.items ≡ names.now }
+    ensures back { CameBack rows.items result.items }
 {
     let mut order = arrange(names.len(), slots, order, rows, left);
     settle(rt, &mut order);
     order
+}
+
+/// Has the jobs of these names run, and returns what came of them, in order of initiation, and why not all were taken.
+fn run_jobs<R: Threads + Wait + Sync, G: Gate>(
+    rt: &R,
+    alloc: Global,
+    names: &[Txn],
+    jobs: Vec<Planned>,
+    workers: usize,
+    gate: &G,
+    slots: Vec<Option<Arrival>>,
+    order: Vec<Arrival>,
+) -> (Vec<Arrival>, Option<RunCause>)
+    requires tickets { map (λ j. (j.place, j.name.0)) jobs.items ≡ numbered names.now }
+    requires empty { (slots.items ≡ []) × (order.items ≡ []) }
+    requires room { (length names.now ≤ vec_capacity slots) × (length names.now ≤ vec_capacity order) }
+    ensures names { names_of result.0.items ≡ names.now }
+    ensures cause { MatchOption result.1 (0 < workers) (λ cause. IsWorkCause workers cause) }
+    ensures ran { RunsOf (λ j. RunsBody (Body.post j.body) j.name (arc_value j.manager) j.session.list.calls) jobs.items (runs_of result.0.items) }
+{
+    let FromWorkers { rows, left, cause } = work(rt, alloc, jobs, workers, gate);
+    (gather(rt, names, slots, order, rows, left), cause)
 }
 
 /// Splits off a session with room for a job's own calls and for so many operations, of the same manager and without calls. It
@@ -208,6 +234,7 @@ impl Plan {
     ) -> Plan
         requires { IsOf session.of (arc_value manager) }
         ensures names { result.names.items ≡ [] }
+        ensures planned { result.jobs.items ≡ [] }
         ensures own { (arc_value result.manager ≡ arc_value manager) × (result.session ≡ session) }
         ensures turns { result.turns ≡ turns }
     {
@@ -229,6 +256,7 @@ impl Plan {
         ensures session { (self.new.session.of ≡ self.old.session.of) × (self.new.session.seen ≡ self.old.session.seen) × (self.new.session.list.calls ≡ self.old.session.list.calls) }
         ensures turns { self.new.turns ≡ self.old.turns }
         ensures names { self.new.names.items ≡ self.old.names.items }
+        ensures planned { self.new.jobs.items ≡ self.old.jobs.items }
         ensures room { OnOk result ((vec_len self.old.names + jobs ≤ vec_capacity self.new.names) × (length self.old.session.list.calls + jobs ≤ self.new.session.list.room)) }
     {
         self.make_room(jobs)?;
@@ -271,6 +299,7 @@ impl Plan {
         ensures back { IfErr result (λ fault. fault.body ≡ body) }
         ensures names { MatchResult result (λ _. self.new.names.items ≡ self.old.names.items ++ t ∷ []) (λ _. self.new.names.items ≡ self.old.names.items) }
         ensures asked { MatchResult result (λ _. IsInitiated self.old.session.list.calls (Step.Initiate t parent) self.new.session.list.calls) (λ fault. IsRefused self.old.session.list.calls (Step.Initiate t parent) fault.cause self.new.session.list.calls) }
+        ensures planned { MatchResult result (λ _. OneMore (λ j. (j.name ≡ t) × (j.body ≡ body) × (arc_value j.manager ≡ arc_value self.new.manager) × (j.session.list.calls ≡ [])) self.old.jobs.items self.new.jobs.items) (λ _. self.new.jobs.items ≡ self.old.jobs.items) }
     {
         self.initiate_with_room(rt, t, parent, body, EXPECTED)
     }
@@ -296,6 +325,7 @@ impl Plan {
         ensures back { IfErr result (λ fault. fault.body ≡ body) }
         ensures names { MatchResult result (λ _. self.new.names.items ≡ self.old.names.items ++ t ∷ []) (λ _. self.new.names.items ≡ self.old.names.items) }
         ensures asked { MatchResult result (λ _. IsInitiated self.old.session.list.calls (Step.Initiate t parent) self.new.session.list.calls) (λ fault. IsRefused self.old.session.list.calls (Step.Initiate t parent) fault.cause self.new.session.list.calls) }
+        ensures planned { MatchResult result (λ _. OneMore (λ j. (j.name ≡ t) × (j.body ≡ body) × (arc_value j.manager ≡ arc_value self.new.manager) × (j.session.list.calls ≡ [])) self.old.jobs.items self.new.jobs.items) (λ _. self.new.jobs.items ≡ self.old.jobs.items) }
     {
         if self.make_room(1).is_err() {
             return Err(fault(body, Cause::NoMemory));
@@ -335,8 +365,8 @@ impl Plan {
         workers: usize,
         gate: &G,
     ) -> Result<Report, RunFault>
-        ensures ok { IfOk result (λ r. (runs : List JobRun) × Comes self.names.items self.session.list.calls runs r.ends.items (map (λ j. j.name) r.left.items) (map (λ (s : Asker). s.list.calls) r.sessions.items) × (first_stranger runs ≡ None)) }
-        ensures err { IfErr result (λ e. (runs : List JobRun) × ComesOrLost self.names.items self.session.list.calls runs e.report.ends.items (map (λ j. j.name) e.report.left.items) (map (λ (s : Asker). s.list.calls) e.report.sessions.items) × IsCause workers runs e.cause) }
+        ensures ok { IfOk result (λ r. (runs : List JobRun) × Comes self.names.items self.session.list.calls runs r.ends.items (map (λ j. j.name) r.left.items) (map (λ (s : Asker). s.list.calls) r.sessions.items) × (first_stranger runs ≡ None) × RunsOf (λ j. RunsBody (Body.post j.body) j.name (arc_value j.manager) j.session.list.calls) self.jobs.items runs) }
+        ensures err { IfErr result (λ e. (runs : List JobRun) × ComesOrLost self.names.items self.session.list.calls runs e.report.ends.items (map (λ j. j.name) e.report.left.items) (map (λ (s : Asker). s.list.calls) e.report.sessions.items) × IsCause workers runs e.cause × RunsOf (λ j. RunsBody (Body.post j.body) j.name (arc_value j.manager) j.session.list.calls) self.jobs.items runs) }
         ensures workers { OnOk result (0 < workers) }
         ensures session { MatchResult result (λ r. (rest : List Asker) × (r.sessions.items ≡ self.session ∷ rest)) (λ e. ((self.names.items ≡ []) × (e.report.sessions.items ≡ [])) ⊎ ((rest : List Asker) × (e.report.sessions.items ≡ self.session ∷ rest))) }
     {
@@ -352,7 +382,6 @@ impl Plan {
         let Ok(()) = rooms.reserve(alloc, names.len() + 1) else {
             return Err(no_room(alloc, workers, session, jobs, rooms));
         };
-        let FromWorkers { rows, left, cause } = work(rt, alloc, jobs, workers, gate);
         let Rooms {
             jobs: _,
             slots,
@@ -362,7 +391,7 @@ impl Plan {
             left: kept,
             sessions,
         } = rooms;
-        let order = gather(rt, &names, slots, order, rows, left);
+        let (order, cause) = run_jobs(rt, alloc, &names, jobs, workers, gate, slots, order);
         let (report, stranger) = report_on(order, session, firsts, ends, kept, sessions);
         match (cause, stranger) {
             (None, None) => Ok(report),

@@ -4,10 +4,10 @@ use Rattle.asset_queue.proofs.Takings.{both_took}
 use Rattle.asset_queue.proofs.work.+fn-share-join+arg2+fn-share-join+arg3+share.Goals as goal
 
 pub another-other-requires-clause-rule : goal.another-other-requires-clause-rule
-another-other-requires-clause-rule g t c = forks g.J.Ticketed.ticket _ _
+another-other-requires-clause-rule g t c = forks g.J.Ticketed.ticket g.O.Origin.from _ _
 
 pub absorb-requires-clause-rule : goal.absorb-requires-clause-rule
-absorb-requires-clause-rule g t c = merges g.J.Ticketed.ticket _ _ _ _
+absorb-requires-clause-rule g t c = merges g.J.Ticketed.ticket g.O.Origin.from _ _ _ _
 
 pub returns-clause-taken : goal.returns-clause-taken
 returns-clause-taken g t c =

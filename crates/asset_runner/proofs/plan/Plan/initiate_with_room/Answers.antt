@@ -15,8 +15,8 @@ invariant_of-self-2-clause-tickets g c =
     tickets_more (λ j. (j.place, j.name.0)) c.args.self.now.jobs.items c.push_reserved-2.new.self.items c.new-job.result
     c.args.self.now.names.items c.push_reserved.new.self.items c.new-job.result.name c.len-place.result
     (c.push_reserved-2.ensures.items ∙ ap (λ l. l ++ c.new-job.result ∷ []) c.make_room.ensures.planned)
-    (c.push_reserved.ensures.items ∙ (λ i. c.make_room.ensures.names i ++ sym c.new-job.ensures.1 i ∷ []))
-    (λ i. (c.new-job.ensures.0 i, c.new-job.result.name.0))
+    (c.push_reserved.ensures.items ∙ (λ i. c.make_room.ensures.names i ++ sym c.new-job.ensures.named.1 i ∷ []))
+    (λ i. (c.new-job.ensures.named.0 i, c.new-job.result.name.0))
     (omega (arith, c.len-place.ensures, ap length c.make_room.ensures.names, c.make_room.new.self.names.ok))
     c.args.self.now.tickets
 
@@ -30,3 +30,11 @@ returns-clause-asked g c =
 
 pub returns-clause-names : goal.returns-clause-names
 returns-clause-names g c = search rules
+
+pub returns-clause-planned : goal.returns-clause-planned
+returns-clause-planned g c =
+    let job = c.new-job.result in (
+      job,
+      c.push_reserved-2.ensures.items ∙ ap (λ l. l ++ job ∷ []) c.make_room.ensures.planned,
+      (c.new-job.ensures.named.1, c.new-job.ensures.own.0, search rules, ap (λ (asker : Asker). asker.list.calls) c.new-job.ensures.own.1 ∙ search rules),
+    )

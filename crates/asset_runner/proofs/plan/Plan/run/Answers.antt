@@ -1,9 +1,19 @@
-use Rattle.std.proofs.Common.{map, sym, ap, ◌∙◌, subst}
-use Rattle.asset_queue.specs.Once.{SharedOut}
-use Rattle.asset_queue.specs.Rows.{tickets_of}
-use Rattle.asset_runner.specs.Arrived.{numbered, ticket_of}
+use Rattle.std.proofs.Common.{[], map, sym, refl, ap, ◌∙◌, arith}
+use Rattle.std.proofs.lemmas.Grind.{common_steps}
+use mathlib.Core.Logic.{inr}
+use Rattle.asset_manager.specs.Asker.{Asker}
+use Rattle.asset_runner.specs.Arrived.{numbered}
+use Rattle.asset_runner.proofs.RunLemmas.{nothing_ran}
 use Rattle.asset_runner.proofs.plan.Plan.run.Goals as goal
 
-pub gather-order-requires-clause-shared : goal.gather-order-requires-clause-shared
-gather-order-requires-clause-shared g c =
-    subst (λ tickets. SharedOut tickets (tickets_of ticket_of c.work-rows.result.rows.items) (map (λ j. (j.place, j.name.0)) c.work-rows.result.left.items)) (c.args.self.tickets ∙ ap numbered (sym c.deref.ensures.value)) c.work-rows.ensures.shared
+pub run_jobs-order-requires-clause-tickets : goal.run_jobs-order-requires-clause-tickets
+run_jobs-order-requires-clause-tickets g c κs within = c.args.self.tickets ∙ ap numbered (sym c.deref.ensures.value)
+
+pub returns-in_default-clause-err : goal.returns-in_default-clause-err
+returns-in_default-clause-err g c =
+    let lost = c.no_room.ensures.report in (
+      [],
+      inr (record { no_names = grind (arith, common_steps); no_runs = refl; no_ends = lost.0; none_left = ap (map (λ j. j.name)) lost.1; no_sessions = ap (map (λ (s : Asker). s.list.calls)) lost.2 }),
+      c.no_room.ensures.cause,
+      nothing_ran _ _,
+    )

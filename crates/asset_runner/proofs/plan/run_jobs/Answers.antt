@@ -1,0 +1,14 @@
+use Rattle.std.proofs.Common.{map, subst}
+use Rattle.asset_queue.specs.Once.{SharedOut}
+use Rattle.asset_queue.specs.Rows.{tickets_of}
+use Rattle.asset_runner.specs.Arrived.{ticket_of}
+use Rattle.asset_runner.proofs.RunLemmas.{runs_of_jobs}
+use Rattle.asset_runner.proofs.plan.run_jobs.Goals as goal
+
+pub gather-requires-clause-shared : goal.gather-requires-clause-shared
+gather-requires-clause-shared g c =
+    subst (λ tickets. SharedOut tickets (tickets_of ticket_of c.work-rows.result.rows.items) (map (λ j. (j.place, j.name.0)) c.work-rows.result.left.items)) c.requires.tickets c.work-rows.ensures.shared
+
+pub returns-clause-ran : goal.returns-clause-ran
+returns-clause-ran g c =
+    runs_of_jobs _ _ _ _ _ c.args.names.now c.args.jobs.items c.work-rows.result.rows.items c.gather.result.items c.requires.tickets c.work-rows.ensures.came c.gather.ensures.back
