@@ -1,6 +1,6 @@
 //! The calls that find sources.
 
-ghost use Rattle.std.specs.Prelude.{◌≡◌, ◌+◌, ◌<◌, ◌≤◌, ◌^◌, ℕ, ℤ, List, [], ◌∷◌, ◌++◌, length, slice_get, Some, IfOk, OnOk};
+ghost use Rattle.std.specs.Prelude.{◌≡◌, ◌<◌, ◌≤◌, ◌^◌, ℕ, ℤ, List, ◌∷◌, ◌++◌, length, slice_get, Some, IfOk, OnOk};
 ghost use Rattle.asset_names.specs.declared.names.Txn.{Txn};
 ghost use Rattle.asset_names.specs.declared.names.Ob.{Ob};
 ghost use Rattle.asset_names.specs.declared.steps.Step.TheVariants.{Read};
@@ -9,13 +9,13 @@ ghost use Rattle.asset_names.specs.Steps.{Entry};
 ghost use Rattle.asset_names.specs.Sources.{added, IsAlone, IsOwnOrCommitted, AreOwnOrCommitted};
 ghost use Rattle.asset_names.specs.Sources.{source as last_write};
 ghost use Rattle.asset_sources.specs.Sourced.{source_from, source_at, sources_of};
-ghost use Rattle.asset_sources.specs.Walked.{first_entries, ShowsFirst};
+ghost use Rattle.asset_sources.specs.Walked.{ShowsFirst};
 
 use crate::sourced::Source;
-use crate::walking::{pass, source_here, tables_before};
+use crate::walking::{pass, tables_before};
 use asset_ends::Tables;
 use asset_history::History;
-use asset_names::NoMemory;
+use asset_names::{NoMemory, Step, Txn};
 use std::alloc::Global;
 
 /// Returns where the value comes from that the entry at the index read, counted from 0; `None` if the entry is no read, if
@@ -46,19 +46,26 @@ fn source_after(
     requires stand { ShowsFirst history.now 0 tables.old }
     ensures { IfOk result (λ found. found ≡ source_at history.now.entries index) }
 {
-    pass_all(history, index, tables)?;
-    Ok(source_here(history, index, tables))
+    let mut step = Step::Commit { t: Txn(0) };
+    pass_all(history, index, &mut step, tables)?;
+    pass(history, index, &mut step, tables)
 }
 
-/// Takes tables past the first `count` entries. If memory runs out, they are of no more use.
-fn pass_all(history: &History, count: usize, tables: &mut Tables) -> Result<(), NoMemory>
+/// Takes tables past the first `count` entries, whose steps are read into the slot. If memory runs out, the tables are of no
+/// more use.
+fn pass_all(
+    history: &History,
+    count: usize,
+    step: &mut Step,
+    tables: &mut Tables,
+) -> Result<(), NoMemory>
     requires there { count ≤ length history.now.entries }
     requires small { length history.now.entries < 2 ^ 63 }
     requires stand { ShowsFirst history.now 0 tables.old }
     ensures { OnOk result (ShowsFirst history.now count tables.new) }
 {
     'entries: for i in 0..count {
-        pass(history, i, tables)?;
+        pass(history, i, step, tables)?;
     }
     Ok(())
 }
@@ -71,47 +78,26 @@ pub fn sources(alloc: Global, history: &History) -> Result<Vec<Option<Source>>, 
     ensures each { IfOk result (λ found. (i : ℕ) → i < length history.now.entries → slice_get found.items i ≡ Some (source_at history.now.entries i)) }
 {
     let mut tables = tables_before(alloc, history)?;
-    let mut found = Vec::new(alloc);
-    let walked = find_all(history, &mut tables, &mut found);
+    let found = find_all(alloc, history, &mut tables);
     drop(tables);
-    match walked {
-        Ok(()) => Ok(found),
-        Err(_) => Err(NoMemory),
-    }
+    found
 }
 
-/// Appends the sources of all entries to an empty vector, by tables that are taken past each.
+/// Returns the sources of all entries, by tables that are taken past each.
 fn find_all(
+    alloc: Global,
     history: &History,
     tables: &mut Tables,
-    found: &mut Vec<Option<Source>>,
-) -> Result<(), NoMemory>
+) -> Result<Vec<Option<Source>>, NoMemory>
     requires stand { ShowsFirst history.now 0 tables.old }
-    requires empty { found.old.items ≡ [] }
-    ensures { OnOk result (found.new.items ≡ sources_of history.now.entries) }
+    ensures { IfOk result (λ found. found.items ≡ sources_of history.now.entries) }
 {
-    'entries: for i in 0..history.len() {
-        find_one(history, i, tables, found)?;
-    }
-    Ok(())
-}
-
-/// Appends the source of the entry at the index to those before it, and takes the tables past the entry.
-fn find_one(
-    history: &History,
-    index: usize,
-    tables: &mut Tables,
-    found: &mut Vec<Option<Source>>,
-) -> Result<(), NoMemory>
-    requires there { index < length history.now.entries }
-    requires small { length history.now.entries < 2 ^ 63 }
-    requires stand { ShowsFirst history.now index tables.old }
-    requires found { found.old.items ≡ sources_of (first_entries history.now index) }
-    ensures stand { OnOk result (ShowsFirst history.now (index + 1) tables.new) }
-    ensures found { OnOk result (found.new.items ≡ sources_of (first_entries history.now (index + 1))) }
-{
-    if found.push(source_here(history, index, tables)).is_err() {
+    let Ok(mut found) = Vec::with_capacity(alloc, history.len()) else {
         return Err(NoMemory);
+    };
+    let mut step = Step::Commit { t: Txn(0) };
+    'entries: for i in 0..history.len() {
+        found.push_reserved(pass(history, i, &mut step, tables)?);
     }
-    pass(history, index, tables)
+    Ok(found)
 }

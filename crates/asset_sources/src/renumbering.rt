@@ -9,21 +9,23 @@ use crate::sourced::Source;
 use asset_names::{NoMemory, Ob, Step};
 use std::alloc::Global;
 
-/// Returns the step of the entry at the index: a write writes the number of its entry, counted from 1, and an add adds 0.
+/// Makes the step that of the entry at the index: a write writes the number of its entry, counted from 1, and an add adds 0.
 #[inline(always)]
 #[tactic(auto, unfolding(asset_laws::specs::Renumbered::writing))]
-pub(crate) fn writing(index: usize, step: &Step) -> Step
+pub(crate) fn renumber(index: usize, step: &mut Step)
     requires small { index + 1 < 2 ^ 63 }
-    ensures { result ≡ writing index step.now }
+    ensures { step.new ≡ writing index step.old }
 {
     match *step {
-        Step::Write { t, x, .. } => Step::Write {
-            t,
-            x,
-            v: (index + 1) as i64,
-        },
-        Step::Add { t, x, .. } => Step::Add { t, x, d: 0 },
-        _ => *step,
+        Step::Write { t, x, .. } => {
+            *step = Step::Write {
+                t,
+                x,
+                v: (index + 1) as i64,
+            }
+        }
+        Step::Add { t, x, .. } => *step = Step::Add { t, x, d: 0 },
+        _ => {}
     }
 }
 

@@ -11,7 +11,7 @@ ghost use Rattle.asset_steps.specs.Ready.{IsReady};
 ghost use Rattle.asset_sources.specs.Sourced.{source_of};
 ghost use Rattle.asset_sources.specs.Walked.{first_entries, ShowsFirst};
 
-use crate::renumbering::{source_numbered, writing, zeroed};
+use crate::renumbering::{renumber, source_numbered, zeroed};
 use crate::sourced::Source;
 use asset_ends::Tables;
 use asset_history::History;
@@ -26,35 +26,6 @@ pub(crate) fn tables_before(alloc: Global, history: &History) -> Result<Tables, 
 {
     let opening = zeroed(alloc, history.opening())?;
     Tables::open_distinct(alloc, &opening)
-}
-
-/// Applies the answered step of the entry at the index to tables, with the number of the entry in place of a value. It
-/// answers `NoMemory` if memory runs out, and the tables are of no more use.
-fn apply_numbered(
-    tables: &mut Tables,
-    index: usize,
-    step: &Step,
-    reply: Reply,
-) -> Result<(), NoMemory>
-    requires small { index + 1 < 2 ^ 63 }
-    requires ready { takes_effect step.now reply ≡ true → IsReady (writing index step.now) tables.old }
-    ensures { OnOk result (ShowsEntry tables.old (writing index step.now, reply) tables.new) }
-{
-    let numbered = writing(index, step);
-    apply(tables, &numbered, reply)
-}
-
-/// Takes tables past the entry at the index. It answers `NoMemory` if memory runs out, and the tables are of no more use.
-pub(crate) fn pass(history: &History, index: usize, tables: &mut Tables) -> Result<(), NoMemory>
-    requires there { index < length history.now.entries }
-    requires small { length history.now.entries < 2 ^ 63 }
-    requires stand { ShowsFirst history.now index tables.old }
-    ensures { OnOk result (ShowsFirst history.now (index + 1) tables.new) }
-{
-    match history.entry(index) {
-        Some((step, reply)) => apply_numbered(tables, index, &step, reply),
-        None => Ok(()),
-    }
 }
 
 /// Returns the source of the value that a step read, by tables that show the older entries; `None` if it is no read, or
@@ -72,15 +43,43 @@ fn source_read(step: &Step, reply: &Reply, tables: &Tables) -> Option<Source>
     }
 }
 
-/// Returns the source of the value that the entry at the index read, by tables that show the entries before it; `None` if
-/// it is no read, or was not answered by a value.
-pub(crate) fn source_here(history: &History, index: usize, tables: &Tables) -> Option<Source>
-    requires small { length history.now.entries < 2 ^ 63 }
-    requires stand { ShowsFirst history.now index tables.now }
-    ensures { (entry : Entry) → slice_get (reverse history.now.entries) index ≡ Some entry → result ≡ source_of (first_entries history.now index) entry.0 entry.1 }
+/// Applies the answered step of the entry at the index to tables, with the number of the entry in place of a value, and
+/// returns what `source_read` says before. It answers `NoMemory` if memory runs out, and the tables are of no more use.
+fn apply_renumbered(
+    index: usize,
+    step: &mut Step,
+    reply: Reply,
+    tables: &mut Tables,
+) -> Result<Option<Source>, NoMemory>
+    requires small { index + 1 < 2 ^ 63 }
+    requires ready { takes_effect step.old reply ≡ true → IsReady (writing index step.old) tables.old }
+    ensures stand { OnOk result (ShowsEntry tables.old (writing index step.old, reply) tables.new) }
+    ensures source { (opening : Opening) (older : List Entry) → length older + 1 < 2 ^ 63 → Shows (zeroed opening) (applied (renumbered older)) (values_of tables.old) → IsLegal opening ((step.old, reply) ∷ older) →
+        IfOk result (λ found. found ≡ source_of older step.old reply) }
 {
-    match history.entry(index) {
-        Some((step, reply)) => source_read(&step, &reply, tables),
-        None => None,
+    let found = source_read(step, &reply, tables);
+    renumber(index, step);
+    apply(tables, step, reply)?;
+    Ok(found)
+}
+
+/// Takes tables past the entry at the index, whose step is read into the slot, and returns the source of the value that it
+/// read; `None` if it is no read, or was not answered by a value. It answers `NoMemory` if memory runs out, and the tables
+/// are of no more use. Afterwards what the slot has means nothing.
+pub(crate) fn pass(
+    history: &History,
+    index: usize,
+    step: &mut Step,
+    tables: &mut Tables,
+) -> Result<Option<Source>, NoMemory>
+    requires there { index < length history.now.entries }
+    requires small { length history.now.entries < 2 ^ 63 }
+    requires stand { ShowsFirst history.now index tables.old }
+    ensures stand { OnOk result (ShowsFirst history.now (index + 1) tables.new) }
+    ensures source { (entry : Entry) → slice_get (reverse history.now.entries) index ≡ Some entry → IfOk result (λ found. found ≡ source_of (first_entries history.now index) entry.0 entry.1) }
+{
+    match history.entry_into(index, step) {
+        Some(reply) => apply_renumbered(index, step, reply, tables),
+        None => Ok(None),
     }
 }
