@@ -1,45 +1,49 @@
 -- What comes back from the workers.
-use Rattle.std.specs.Prelude.{◌≡◌, ℕ, ⊤, List, [], ◌∷◌, length, map, Option, None, Some, slice_get}
+use Rattle.std.specs.Prelude.{◌≡◌, ℕ, ⊤, List, [], ◌∷◌, length, map, Option, Some, slice_get}
+use Rattle.std.specs.declared.dyn_box.DynBox.{DynBox}
+use Rattle.std.specs.declared.alloc.Global.{Global}
 use Rattle.asset_names.specs.declared.names.Txn.{Txn}
-use Rattle.asset_audit.specs.Audited.{Call}
+use Rattle.asset_manager.specs.Asker.{Asker}
 use Rattle.asset_queue.specs.Once.{Ticket}
+use Rattle.asset_runner.specs.declared.arrival.Arrival.{Arrival}
+use Rattle.asset_runner.specs.declared.arrival.Fate.TheVariants.{Left}
 use Rattle.asset_runner.specs.Runs.{JobRun}
-use Rattle.asset_runner.specs.Fates.{AsksCommits}
+use Rattle.asset_runner.specs.Fates.{answered_by, body_of, AsksCommits}
 use Rattle.asset_runner.specs.Placing as placing
-
--- what came of a job, and its place in the order of initiation
-pub record Arrived : Type 0 where
-  pub place : ℕ
-  pub run : JobRun
-
-abbrev pub ticket_of : Arrived → Ticket
-ticket_of a = (a.place, a.run.name.0)
-
--- a job whose body was not called, with the calls of its session
-abbrev pub left_at : ℕ → Txn → List Call → Arrived
-left_at place t calls = record { place = place; run = record { name = t; answered = None; calls = calls } }
-
--- the same job, whose commit may have been asked again
-pub record GoesOn (before later : Arrived) : Type 0 where
-  pub place : later.place ≡ before.place
-  pub name : later.run.name ≡ before.run.name
-  pub answered : later.run.answered ≡ before.run.answered
-  pub calls : (u : Txn) → before.run.answered ≡ Some u → AsksCommits u before.run.calls later.run.calls
-
--- the same jobs, in the same order
-abbrev pub AllGoOn : List Arrived → List Arrived → Type 0
-AllGoOn [] [] = ⊤
-AllGoOn (x ∷ xs) (y ∷ ys) = GoesOn x y × AllGoOn xs ys
-AllGoOn xs ys = ⊥
 
 -- the tickets of jobs of these names, in order
 abbrev pub numbered : List Txn → List Ticket
 numbered names = placing.numbered 0 (map (λ (t : Txn). t.0) names)
 
--- each is put into its place, the last one first
-abbrev pub placed : List (Option Arrived) → List Arrived → List (Option Arrived)
-placed slots all = placing.placed (λ (a : Arrived). a.place) slots all
+module _ {X : Type 0} {B : X → Type 0} where
+  abbrev pub ticket_of : Arrival X B → Ticket
+  ticket_of a = (a.place, a.name.0)
 
--- there are so many, and each stands in its place
-abbrev pub StandInOrder : List Arrived → ℕ → Type 0
-StandInOrder row jobs = (length row ≡ jobs) × ((i : ℕ) (a : Arrived) → slice_get row i ≡ Some a → a.place ≡ i)
+  abbrev pub run_of : Arrival X B → JobRun
+  run_of a = record { name = a.name; answered = answered_by a.fate; calls = a.returned.list.calls }
+
+  -- a job whose body was not called, with its session
+  abbrev pub left_at : ℕ → Txn → DynBox X Global B → Asker → Arrival X B
+  left_at place t body session = record { place = place; name = t; fate = Left body; returned = session }
+
+  -- the same job, whose commit may have been asked again
+  pub record GoesOn (before later : Arrival X B) : Type 0 where
+    pub place : later.place ≡ before.place
+    pub name : later.name ≡ before.name
+    pub answered : answered_by later.fate ≡ answered_by before.fate
+    pub body : body_of later.fate ≡ body_of before.fate
+    pub calls : (u : Txn) → answered_by before.fate ≡ Some u → AsksCommits u before.returned.list.calls later.returned.list.calls
+
+  -- the same jobs, in the same order
+  abbrev pub AllGoOn : List (Arrival X B) → List (Arrival X B) → Type 0
+  AllGoOn [] [] = ⊤
+  AllGoOn (x ∷ xs) (y ∷ ys) = GoesOn x y × AllGoOn xs ys
+  AllGoOn xs ys = ⊥
+
+  -- each is put into its place, the last one first
+  abbrev pub placed : List (Option (Arrival X B)) → List (Arrival X B) → List (Option (Arrival X B))
+  placed slots all = placing.placed (λ (a : Arrival X B). a.place) slots all
+
+  -- there are so many, and each stands in its place
+  abbrev pub StandInOrder : List (Arrival X B) → ℕ → Type 0
+  StandInOrder row jobs = (length row ≡ jobs) × ((i : ℕ) (a : Arrival X B) → slice_get row i ≡ Some a → a.place ≡ i)

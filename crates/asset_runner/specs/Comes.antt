@@ -1,11 +1,11 @@
 -- What a plan's run gives.
-use Rattle.std.specs.Prelude.{◌≡◌, ◌<◌, ◌⊎◌, ℕ, List, [], ◌∷◌, map, Some, slice_get}
+use Rattle.std.specs.Prelude.{◌≡◌, ◌<◌, ◌⊎◌, ℕ, List, [], ◌∷◌, ◌++◌, cond, map, Some, slice_get}
 use Rattle.asset_names.specs.declared.names.Txn.{Txn}
 use Rattle.asset_audit.specs.Audited.{Call}
 use Rattle.asset_bodies.specs.declared.ends.JobEnd.{JobEnd}
 use Rattle.asset_runner.specs.declared.report.RunCause.{RunCause}
 use Rattle.asset_runner.specs.declared.report.RunCause.TheVariants.{NoWorkers, NoMemory, Stranger}
-use Rattle.asset_runner.specs.Runs.{JobRun, ends_of, left_of, first_stranger}
+use Rattle.asset_runner.specs.Runs.{JobRun, is_called, ends_of, left_of, first_stranger}
 
 -- each job that was initiated, in order, is in `ends` or in `left`; the sessions' calls are the plan's and then the jobs',
 -- in order
@@ -18,6 +18,11 @@ pub record Comes (names : List Txn) (plan : List Call) (runs : List JobRun) (end
 -- of the job and the run at each place this is so
 abbrev pub RunsOf : {J : Type 0} → (J → JobRun → Type 0) → List J → List JobRun → Type 0
 RunsOf {J} ran jobs runs = (i : ℕ) (job : J) (run : JobRun) → slice_get jobs i ≡ Some job → slice_get runs i ≡ Some run → ran job run
+
+-- the names and bodies of the jobs whose bodies were not called, by the run at the place of each, in order
+abbrev pub left_among : {J K : Type 0} → (J → Txn) → (J → K) → List J → List JobRun → List (Txn × K)
+left_among name body (job ∷ jobs) (run ∷ runs) = cond (is_called run.answered) [] ((name job, body job) ∷ []) ++ left_among name body jobs runs
+left_among name body jobs runs = []
 
 -- a plan without jobs that is refused memory cannot give its session back in a list: there is nothing
 pub record IsLost (names : List Txn) (runs : List JobRun) (ends : List (Txn × JobEnd)) (left : List Txn) (sessions : List (List Call)) : Type 0 where

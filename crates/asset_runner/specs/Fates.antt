@@ -1,5 +1,7 @@
 -- What a worker did with a job.
 use Rattle.std.specs.Prelude.{◌≡◌, ℕ, List, [], ◌∷◌, ◌++◌, Option, Some, None, IfSome}
+use Rattle.std.specs.declared.dyn_box.DynBox.{DynBox}
+use Rattle.std.specs.declared.alloc.Global.{Global}
 use Rattle.atomic_table.specs.Seated.{TableId}
 use Rattle.asset_names.specs.declared.names.Txn.{Txn}
 use Rattle.asset_names.specs.declared.steps.Step.TheVariants.{Begin, Commit}
@@ -15,6 +17,11 @@ use Rattle.asset_runner.specs.declared.arrival.Fate.TheVariants.{Left, Called}
 abbrev pub answered_by : {X : Type 0} {B : X → Type 0} → Fate X B → Option Txn
 answered_by (Left body) = None
 answered_by (Called answered waits) = Some answered
+
+-- the body, if it was not called
+abbrev pub body_of : {X : Type 0} {B : X → Type 0} → Fate X B → Option (DynBox X Global B)
+body_of (Left body) = Some body
+body_of (Called answered waits) = None
 
 -- more was asked after these calls, and each call more is a commit of u
 abbrev pub AsksCommits : Txn → List Call → List Call → Type 0

@@ -1,22 +1,35 @@
 -- Rows of what came back.
-use Rattle.std.specs.Prelude.{◌≡◌, ℕ, List, [], ◌∷◌, ◌++◌, map, Vec, Some, slice_get}
+use Rattle.std.specs.Prelude.{◌≡◌, ℕ, List, [], ◌∷◌, ◌++◌, map, Vec, Option, None, Some, slice_get}
+use Rattle.std.specs.declared.dyn_box.DynBox.{DynBox}
+use Rattle.std.specs.declared.alloc.Global.{Global}
 use Rattle.asset_names.specs.declared.names.Txn.{Txn}
-use Rattle.asset_runner.specs.Runs.{JobRun}
 use Rattle.asset_queue.specs.Each.{IsAmong}
-use Rattle.asset_runner.specs.Arrived.{Arrived, GoesOn}
+use Rattle.asset_runner.specs.declared.arrival.Arrival.{Arrival}
+use Rattle.asset_runner.specs.Runs.{JobRun}
+use Rattle.asset_runner.specs.Fates.{body_of}
+use Rattle.asset_runner.specs.Arrived.{run_of, GoesOn}
 
 -- what all rows have, one row after another
-abbrev pub all_of : {A : Type 0} → List (Vec Arrived A) → List Arrived
+abbrev pub all_of : {E A : Type 0} → List (Vec E A) → List E
 all_of [] = []
 all_of (row ∷ rows) = row.items ++ all_of rows
 
--- whoever in this order answered somebody's `Finished` came back in a row, for the same place
-abbrev pub CameBack : {A : Type 0} → List (Vec Arrived A) → List Arrived → Type 0
-CameBack rows order = (i : ℕ) (b : Arrived) (u : Txn) → slice_get order i ≡ Some b → b.run.answered ≡ Some u
-    → (a : Arrived) × IsAmong (all_of rows) a × (a.place ≡ i) × GoesOn a b
+abbrev pub kept_row : {K : Type 0} → Txn → Option K → List (Txn × K)
+kept_row t None = []
+kept_row t (Some body) = (t, body) ∷ []
 
-abbrev pub names_of : List Arrived → List Txn
-names_of all = map (λ (a : Arrived). a.run.name) all
+module _ {X : Type 0} {B : X → Type 0} where
+  -- each that stands in this order goes on from one of these, which has the same place
+  abbrev pub CameBack : List (Arrival X B) → List (Arrival X B) → Type 0
+  CameBack all order = (i : ℕ) (b : Arrival X B) → slice_get order i ≡ Some b → (a : Arrival X B) × IsAmong all a × (a.place ≡ i) × GoesOn a b
 
-abbrev pub runs_of : List Arrived → List JobRun
-runs_of all = map (λ (a : Arrived). a.run) all
+  abbrev pub names_of : List (Arrival X B) → List Txn
+  names_of all = map (λ (a : Arrival X B). a.name) all
+
+  abbrev pub runs_of : List (Arrival X B) → List JobRun
+  runs_of all = map run_of all
+
+  -- the names and bodies of the jobs whose bodies were not called
+  abbrev pub kept_of : List (Arrival X B) → List (Txn × DynBox X Global B)
+  kept_of [] = []
+  kept_of (a ∷ all) = kept_row a.name (body_of a.fate) ++ kept_of all

@@ -1,18 +1,18 @@
 //! What came of a job.
 
-ghost use Rattle.std.specs.Prelude.{◌≡◌, true, false, Some, MatchOption};
+ghost use Rattle.std.specs.Prelude.{◌≡◌, Some, None};
 ghost use Rattle.std.specs.Arc.{arc_value};
 ghost use Rattle.asset_counts.specs.Pass.{IsOf};
 ghost use Rattle.asset_runner.specs.Runs.{is_called, is_strange};
-ghost use Rattle.asset_runner.specs.Fates.{AsksCommits};
+ghost use Rattle.asset_runner.specs.Fates.{answered_by, body_of, AsksCommits};
 ghost use Rattle.asset_runner.specs.Arrived.{left_at, GoesOn};
 
+use crate::returned::Returned;
 use asset_bodies::{Body, Finished};
 use asset_manager::{Manager, Session};
-use asset_names::{Outcome, Step, Txn};
+use asset_names::{Outcome, Txn};
 use asset_queue::Ticketed;
 use std::alloc::Global;
-use std::marker::Model;
 use std::sync::{Arc, Wait};
 
 /// Whether the body of a job was called, and then whose `Finished` it answered and whether the commit waits.
@@ -22,46 +22,19 @@ pub(crate) enum Fate {
     Called { answered: Txn, waits: bool },
 }
 
-/// What came of a job, with the session that came back. Contracts see its place in the order of initiation, its name,
-/// whose `Finished` its body answered, and the session's calls.
+/// What came of a job: its place in the order of initiation, its name, what became of its body, and the session that came back.
 #[derive(Drop)]
 pub struct Arrival {
     place: usize,
     name: Txn,
     fate: Fate,
-    session: Session,
-    manager: Arc<Manager, Global>,
-}
-
-impl Model for Arrival {
-    ghost use Rattle.std.specs.Arc.{arc_value};
-    ghost use Rattle.asset_counts.specs.Pass.{IsOf};
-    ghost use Rattle.asset_runner.specs.Arrived.{Arrived};
-    ghost use Rattle.asset_runner.specs.Fates.{answered_by};
-
-    ghost Value = { Arrived };
-
-    ghost view = { λ a. record { place = a.place; run = record { name = a.name; answered = answered_by a.fate; calls = a.session.list.calls } } };
-
-    ghost invariant = { λ a. IsOf a.session.of (arc_value a.manager) };
+    returned: Returned,
 }
 
 impl Ticketed for Arrival {
     ghost use Rattle.asset_runner.specs.Arrived.{ticket_of};
 
-    ghost ticket = { ticket_of };
-}
-
-/// Asks the commit once, if the list has room for its answer.
-fn commit<R: Wait>(rt: &R, session: &mut Session, manager: &Manager, t: Txn) -> Option<Outcome>
-    requires { IsOf session.old.of manager.now }
-    ensures of { IsOf session.new.of manager.now }
-    ensures asked { AsksCommits t session.old.list.calls session.new.list.calls }
-{
-    if !session.has_room(1) {
-        return None;
-    }
-    session.call_lent(rt, manager, &Step::Commit { t }).ok()
+    ghost ticket = { λ a. ticket_of a };
 }
 
 /// Returns whether the commit was asked and waits.
@@ -79,14 +52,13 @@ impl Arrival {
         body: Body,
     ) -> Arrival
         requires { IsOf session.of (arc_value manager) }
-        ensures { result ≡ left_at place name session.list.calls }
+        ensures { result ≡ left_at place name body session }
     {
         Arrival {
             place,
             name,
             fate: Fate::Left(body),
-            session,
-            manager,
+            returned: Returned::new(session, manager),
         }
     }
 
@@ -99,18 +71,18 @@ impl Arrival {
         finished: Finished,
     ) -> Arrival
         requires { finished.of ≡ Some (arc_value manager) }
-        ensures place { (result.place ≡ place) × (result.run.name ≡ name) }
-        ensures answered { result.run.answered ≡ Some finished.name }
-        ensures kept { AsksCommits finished.name finished.list.calls result.run.calls }
+        ensures place { (result.place ≡ place) × (result.name ≡ name) }
+        ensures answered { (answered_by result.fate ≡ Some finished.name) × (body_of result.fate ≡ None) }
+        ensures kept { AsksCommits finished.name finished.list.calls result.returned.list.calls }
     {
-        let (answered, done, _, mut session) = finished.into_parts();
-        let waits = done && is_wait(commit(rt, &mut session, &manager, answered));
+        let (answered, done, _, session) = finished.into_parts();
+        let mut returned = Returned::new(session, manager);
+        let waits = done && is_wait(returned.commit(rt, answered));
         Arrival {
             place,
             name,
             fate: Fate::Called { answered, waits },
-            session,
-            manager,
+            returned,
         }
     }
 
@@ -124,7 +96,7 @@ impl Arrival {
         } = &self.fate
         {
             let t = *answered;
-            if let Some(Outcome::Answer(_)) = commit(rt, &mut self.session, &self.manager, t) {
+            if let Some(Outcome::Answer(_)) = self.returned.commit(rt, t) {
                 self.fate = Fate::Called {
                     answered: t,
                     waits: false,
@@ -144,14 +116,14 @@ impl Arrival {
 
     /// Returns the job's name.
     pub(crate) fn name(&self) -> Txn
-        ensures { result ≡ self.now.run.name }
+        ensures { result ≡ self.now.name }
     {
         self.name
     }
 
     /// Returns whose `Finished` the body answered.
     pub(crate) fn answered(&self) -> Option<Txn>
-        ensures { result ≡ self.now.run.answered }
+        ensures { result ≡ answered_by self.now.fate }
     {
         match &self.fate {
             Fate::Left(_) => None,
@@ -161,7 +133,7 @@ impl Arrival {
 
     /// Returns whether the body was called.
     pub(crate) fn is_called(&self) -> bool
-        ensures { result ≡ is_called self.now.run.answered }
+        ensures { result ≡ is_called (answered_by self.now.fate) }
     {
         match self.answered() {
             None => false,
@@ -171,7 +143,7 @@ impl Arrival {
 
     /// Returns whether the body answered another's `Finished`.
     pub(crate) fn is_strange(&self) -> bool
-        ensures { result ≡ is_strange self.now.run.name self.now.run.answered }
+        ensures { result ≡ is_strange self.now.name (answered_by self.now.fate) }
     {
         match self.answered() {
             None => false,
@@ -181,28 +153,27 @@ impl Arrival {
 
     /// Returns the session that came back.
     pub(crate) fn session(&self) -> &Session
-        ensures { result.now.list.calls ≡ self.now.run.calls }
+        ensures { result.now ≡ self.now.returned }
     {
-        &self.session
+        self.returned.session()
     }
 
     /// Returns the name, the session, and the body if it was not called.
     pub(crate) fn into_parts(self) -> (Txn, Session, Option<Body>)
-        ensures name { result.0 ≡ self.run.name }
-        ensures session { result.1.list.calls ≡ self.run.calls }
-        ensures left { MatchOption result.2 (is_called self.run.answered ≡ true) (λ _. is_called self.run.answered ≡ false) }
+        ensures name { result.0 ≡ self.name }
+        ensures session { result.1 ≡ self.returned }
+        ensures left { result.2 ≡ body_of self.fate }
     {
         let Arrival {
             place: _,
             name,
             fate,
-            session,
-            manager: _,
+            returned,
         } = self;
         let body = match fate {
             Fate::Left(body) => Some(body),
             Fate::Called { .. } => None,
         };
-        (name, session, body)
+        (name, returned.into_session(), body)
     }
 }

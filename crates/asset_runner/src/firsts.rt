@@ -5,7 +5,6 @@ ghost use Rattle.indexmap.specs.IndexMap.{spare, IsEmpty};
 ghost use Rattle.asset_bodies.specs.Ends.{job_end};
 ghost use Rattle.asset_runner.specs.Runs.{end_in};
 ghost use Rattle.asset_runner.specs.Firsts.{HasFirsts};
-ghost use Rattle.asset_runner.specs.Arrived.{Arrived};
 ghost use Rattle.asset_runner.specs.Rows.{runs_of};
 
 use crate::arrival::Arrival;
@@ -58,7 +57,7 @@ pub(crate) fn end_in(order: &[Arrival], firsts: &Firsts, t: Txn) -> JobEnd
 
 /// Returns how the transaction ended by the session of the job at this place, and `Unsettled` if there is none.
 fn end_at(order: &[Arrival], place: usize, t: Txn) -> JobEnd
-    ensures { (arrival : Arrived) → slice_get order.now place ≡ Some arrival → result ≡ job_end t.0 arrival.run.calls }
+    ensures { (arrival : _) → slice_get order.now place ≡ Some arrival → result ≡ job_end t.0 arrival.returned.list.calls }
 {
     match order.get(place) {
         Some(arrival) => job_end(t, arrival.session().calls()),

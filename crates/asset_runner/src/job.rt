@@ -1,13 +1,13 @@
 //! The jobs of a plan, and what a worker does with one.
 
-ghost use Rattle.std.specs.Prelude.{◌≡◌, Some};
+ghost use Rattle.std.specs.Prelude.{◌≡◌, Some, IfSome};
 ghost use Rattle.std.specs.Arc.{arc_value};
 ghost use base.Stored.{Coded-set};
 ghost use Rattle.atomic_table.specs.Seated.{table_id_coded};
 ghost use Rattle.asset_counts.specs.Pass.{IsOf, IsOf-prop};
 ghost use Rattle.asset_bodies.specs.Working.{Working, Worked};
-ghost use Rattle.asset_runner.specs.Arrived.{left_at};
-ghost use Rattle.asset_runner.specs.Fates.{RunsBody};
+ghost use Rattle.asset_runner.specs.Arrived.{left_at, run_of};
+ghost use Rattle.asset_runner.specs.Fates.{body_of, RunsBody};
 
 use crate::arrival::Arrival;
 use crate::gate::Gate;
@@ -46,7 +46,7 @@ pub struct Crew<'a, G: Gate> {
 }
 
 impl<'a, G: Gate> Work<Planned, Arrival> for Crew<'a, G> {
-    ghost came = { λ j a. RunsBody (Body.post j.body) j.name (arc_value j.manager) j.session.list.calls a.run };
+    ghost came = { λ j a. RunsBody (Body.post j.body) j.name (arc_value j.manager) j.session.list.calls (run_of a) × IfSome (body_of a.fate) (λ body. body ≡ j.body) };
 
     fn run<R: Wait>(&self, rt: &R, job: Planned) -> Arrival {
         let name = job.name();
@@ -95,8 +95,9 @@ impl Planned {
 
     /// Begins the transaction, calls the body and asks the commit. If the transaction does not begin, the job is left.
     pub fn run<R: Wait>(self, rt: &R) -> Arrival
-        ensures place { (result.place ≡ self.place) × (result.run.name ≡ self.name) }
-        ensures called { RunsBody (post self.body) self.name (arc_value self.manager) self.session.list.calls result.run }
+        ensures place { (result.place ≡ self.place) × (result.name ≡ self.name) }
+        ensures called { RunsBody (post self.body) self.name (arc_value self.manager) self.session.list.calls (run_of result) }
+        ensures left { IfSome (body_of result.fate) (λ body. body ≡ self.body) }
     {
         let Planned {
             place,
@@ -118,7 +119,7 @@ impl Planned {
 
     /// Returns the job as one whose body is not called.
     pub fn leave(self) -> Arrival
-        ensures { result ≡ left_at self.place self.name self.session.list.calls }
+        ensures { result ≡ left_at self.place self.name self.body self.session }
     {
         let Planned {
             place,

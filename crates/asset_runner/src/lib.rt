@@ -9,6 +9,7 @@ mod job;
 mod order;
 mod plan;
 mod report;
+mod returned;
 mod rooms;
 
 pub use asset_bodies::{Body, ChildEnd, Finished, JobEnd, Tx, job_end};

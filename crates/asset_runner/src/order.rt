@@ -39,7 +39,7 @@ pub(crate) fn put_rows(slots: &mut Vec<Option<Arrival>>, mut rows: Vec<Vec<Arriv
 
 /// Puts the jobs that no worker took into their places, as jobs whose bodies are not called.
 pub(crate) fn put_left(slots: &mut Vec<Option<Arrival>>, mut left: Vec<Planned>)
-    ensures { slots.new.items ≡ placed slots.old.items (map (λ j. left_at j.place j.name j.session.list.calls) left.items) }
+    ensures { slots.new.items ≡ placed slots.old.items (map (λ j. left_at j.place j.name j.body j.session) left.items) }
 {
     'left: while let Some(job) = left.pop() {
         put(slots, job.leave());
@@ -84,7 +84,7 @@ pub(crate) fn place_all(
 ) -> Vec<Arrival>
     requires empty { (slots.items ≡ []) × (order.items ≡ []) }
     requires room { (jobs ≤ vec_capacity slots) × (jobs ≤ vec_capacity order) }
-    ensures { result.items ≡ somes (placed (placed (nones jobs) (map (λ j. left_at j.place j.name j.session.list.calls) left.items)) (all_of rows.items)) }
+    ensures { result.items ≡ somes (placed (placed (nones jobs) (map (λ j. left_at j.place j.name j.body j.session) left.items)) (all_of rows.items)) }
 {
     let mut slots = empty_slots(slots, jobs);
     put_left(&mut slots, left);

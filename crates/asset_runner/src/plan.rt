@@ -1,6 +1,6 @@
 //! A plan of jobs.
 
-ghost use Rattle.std.specs.Prelude.{◌≡◌, ◌≤◌, ◌<◌, ◌+◌, ◌++◌, ◌∷◌, ◌⊎◌, [], List, length, map, None, Some, vec_len, vec_capacity, OnOk, IfOk, IfErr, MatchOption, MatchResult};
+ghost use Rattle.std.specs.Prelude.{◌≡◌, ◌≤◌, ◌<◌, ◌+◌, ◌++◌, ◌∷◌, ◌⊎◌, [], List, length, map, None, Some, vec_len, vec_capacity, OnOk, IfOk, IfErr, IfSome, MatchOption, MatchResult};
 ghost use Rattle.std.specs.Arc.{arc_value};
 ghost use base.Stored.{Coded-set, coded_list, coded×, coded_ℕ};
 ghost use Rattle.asset_names.specs.declared.steps.Step.TheVariants as Step;
@@ -8,15 +8,15 @@ ghost use Rattle.atomic_table.specs.Seated.{TableId};
 ghost use Rattle.asset_counts.specs.Pass.{IsOf, IsOf-prop};
 ghost use Rattle.asset_manager.specs.Asker.{Asker};
 ghost use Rattle.asset_bodies.specs.Working.{Working, Worked};
-ghost use Rattle.asset_queue.specs.Each.{IsAmong};
+ghost use Rattle.asset_queue.specs.Each.{Each, IsAmong};
 ghost use Rattle.asset_queue.specs.Once.{SharedOut};
 ghost use Rattle.asset_queue.specs.Rows.{tickets_of, Came, EachOf};
 ghost use Rattle.asset_runner.specs.Placing.{nones, somes};
 ghost use Rattle.asset_runner.specs.Runs.{JobRun, first_stranger};
-ghost use Rattle.asset_runner.specs.Fates.{RunsBody};
-ghost use Rattle.asset_runner.specs.Arrived.{numbered, placed, left_at, ticket_of};
-ghost use Rattle.asset_runner.specs.Rows.{all_of, names_of, runs_of, CameBack};
-ghost use Rattle.asset_runner.specs.Comes.{Comes, ComesOrLost, IsCause, IsWorkCause, RunsOf};
+ghost use Rattle.asset_runner.specs.Fates.{body_of, RunsBody};
+ghost use Rattle.asset_runner.specs.Arrived.{numbered, placed, left_at, run_of, ticket_of};
+ghost use Rattle.asset_runner.specs.Rows.{all_of, names_of, runs_of, kept_of, CameBack};
+ghost use Rattle.asset_runner.specs.Comes.{Comes, ComesOrLost, IsCause, IsWorkCause, RunsOf, left_among};
 ghost use Rattle.asset_runner.specs.Initiated.{OneMore, IsInitiated, IsRefused, IsInitiation, cause_by};
 
 use crate::arrival::Arrival;
@@ -96,7 +96,8 @@ fn work<R: Threads + Wait + Sync, G: Gate>(
 ) -> FromWorkers
     ensures shared { SharedOut (map (λ j. (j.place, j.name.0)) jobs.items) (tickets_of ticket_of result.rows.items) (map (λ j. (j.place, j.name.0)) result.left.items) }
     ensures cause { MatchOption result.cause (0 < workers) (λ cause. IsWorkCause workers cause) }
-    ensures came { EachOf (Came (IsAmong jobs.items) (λ j. (j.place, j.name.0)) ticket_of (λ j a. RunsBody (Body.post j.body) j.name (arc_value j.manager) j.session.list.calls a.run)) result.rows.items }
+    ensures came { EachOf (Came (IsAmong jobs.items) (λ j. (j.place, j.name.0)) ticket_of (λ j a. RunsBody (Body.post j.body) j.name (arc_value j.manager) j.session.list.calls (run_of a) × IfSome (body_of a.fate) (λ body. body ≡ j.body))) result.rows.items }
+    ensures left { Each (IsAmong jobs.items) result.left.items }
 {
     if workers == 0 {
         return FromWorkers {
@@ -139,7 +140,7 @@ fn arrange(
 ) -> Vec<Arrival>
     requires empty { (slots.items ≡ []) × (order.items ≡ []) }
     requires room { (jobs ≤ vec_capacity slots) × (jobs ≤ vec_capacity order) }
-    ensures { result.items ≡ somes (placed (placed (nones jobs) (map (λ j. left_at j.place j.name j.session.list.calls) left.items)) (all_of rows.items)) }
+    ensures { result.items ≡ somes (placed (placed (nones jobs) (map (λ j. left_at j.place j.name j.body j.session) left.items)) (all_of rows.items)) }
 {
     if !left.is_empty() {
         return place_all(jobs, slots, order, rows, left);
@@ -163,7 +164,7 @@ fn gather<R: Wait>(
     requires room { (length names.now ≤ vec_capacity slots) × (length names.now ≤ vec_capacity order) }
     requires shared { SharedOut (numbered names.now) (tickets_of ticket_of rows.items) (map (λ j. (j.place, j.name.0)) left.items) }
     ensures names { names_of result.items ≡ names.now }
-    ensures back { CameBack rows.items result.items }
+    ensures back { CameBack (all_of rows.items ++ map (λ j. left_at j.place j.name j.body j.session) left.items) result.items }
 {
     let mut order = arrange(names.len(), slots, order, rows, left);
     settle(rt, &mut order);
@@ -187,6 +188,7 @@ fn run_jobs<R: Threads + Wait + Sync, G: Gate>(
     ensures names { names_of result.0.items ≡ names.now }
     ensures cause { MatchOption result.1 (0 < workers) (λ cause. IsWorkCause workers cause) }
     ensures ran { RunsOf (λ j. RunsBody (Body.post j.body) j.name (arc_value j.manager) j.session.list.calls) jobs.items (runs_of result.0.items) }
+    ensures left { kept_of result.0.items ≡ left_among (λ j. j.name) (λ j. j.body) jobs.items (runs_of result.0.items) }
 {
     let FromWorkers { rows, left, cause } = work(rt, alloc, jobs, workers, gate);
     (gather(rt, names, slots, order, rows, left), cause)
@@ -354,7 +356,8 @@ impl Plan {
 
     /// Has the jobs run by so many workers, 64 at most, each in a thread of its own, and returns what came of them. A
     /// worker takes a job, begins its transaction, calls its body, and asks the commit of what the body answered as done;
-    /// when all workers have ended, the commits that wait are asked again, in passes until a pass changes nothing.
+    /// when all workers have ended, the commits that wait are asked again, in passes until a pass changes nothing. A job
+    /// whose body was not called is left, and comes back with its name and its body.
     ///
     /// It fails with `NoWorkers` if there are none; otherwise with `NoMemory` if memory ran out before each job was
     /// taken; otherwise with `Stranger` for the first job whose body answered another's `Finished`. The fault has what
@@ -365,8 +368,8 @@ impl Plan {
         workers: usize,
         gate: &G,
     ) -> Result<Report, RunFault>
-        ensures ok { IfOk result (λ r. (runs : List JobRun) × Comes self.names.items self.session.list.calls runs r.ends.items (map (λ j. j.name) r.left.items) (map (λ (s : Asker). s.list.calls) r.sessions.items) × (first_stranger runs ≡ None) × RunsOf (λ j. RunsBody (Body.post j.body) j.name (arc_value j.manager) j.session.list.calls) self.jobs.items runs) }
-        ensures err { IfErr result (λ e. (runs : List JobRun) × ComesOrLost self.names.items self.session.list.calls runs e.report.ends.items (map (λ j. j.name) e.report.left.items) (map (λ (s : Asker). s.list.calls) e.report.sessions.items) × IsCause workers runs e.cause × RunsOf (λ j. RunsBody (Body.post j.body) j.name (arc_value j.manager) j.session.list.calls) self.jobs.items runs) }
+        ensures ok { IfOk result (λ r. (runs : List JobRun) × Comes self.names.items self.session.list.calls runs r.ends.items (map (λ j. j.name) r.left.items) (map (λ (s : Asker). s.list.calls) r.sessions.items) × (first_stranger runs ≡ None) × RunsOf (λ j. RunsBody (Body.post j.body) j.name (arc_value j.manager) j.session.list.calls) self.jobs.items runs × (map (λ l. (l.name, l.body)) r.left.items ≡ left_among (λ j. j.name) (λ j. j.body) self.jobs.items runs)) }
+        ensures err { IfErr result (λ e. (runs : List JobRun) × ComesOrLost self.names.items self.session.list.calls runs e.report.ends.items (map (λ j. j.name) e.report.left.items) (map (λ (s : Asker). s.list.calls) e.report.sessions.items) × IsCause workers runs e.cause × RunsOf (λ j. RunsBody (Body.post j.body) j.name (arc_value j.manager) j.session.list.calls) self.jobs.items runs × (map (λ l. (l.name, l.body)) e.report.left.items ≡ left_among (λ j. j.name) (λ j. j.body) self.jobs.items runs)) }
         ensures workers { OnOk result (0 < workers) }
         ensures session { MatchResult result (λ r. (rest : List Asker) × (r.sessions.items ≡ self.session ∷ rest)) (λ e. ((self.names.items ≡ []) × (e.report.sessions.items ≡ [])) ⊎ ((rest : List Asker) × (e.report.sessions.items ≡ self.session ∷ rest))) }
     {

@@ -3,9 +3,9 @@
 ghost use Rattle.std.specs.Prelude.{◌≡◌, ◌≤◌, ◌<◌, ◌+◌, ◌++◌, ◌∷◌, [], List, length, map, vec_len, vec_capacity};
 ghost use Rattle.indexmap.specs.IndexMap.{spare, IsEmpty};
 ghost use Rattle.asset_manager.specs.Asker.{Asker};
-ghost use Rattle.asset_runner.specs.Runs.{ends_of, first_stranger, left_of};
+ghost use Rattle.asset_runner.specs.Runs.{ends_of, first_stranger};
 ghost use Rattle.asset_runner.specs.Firsts.{HasFirsts};
-ghost use Rattle.asset_runner.specs.Rows.{names_of, runs_of};
+ghost use Rattle.asset_runner.specs.Rows.{names_of, runs_of, kept_of};
 ghost use Rattle.asset_runner.specs.Comes.{Comes};
 
 use crate::arrival::Arrival;
@@ -99,7 +99,7 @@ pub(crate) fn hand_out(
     requires empty { left.items ≡ [] }
     requires room { vec_len order ≤ vec_capacity left }
     requires more { vec_len sessions + vec_len order ≤ vec_capacity sessions }
-    ensures left { map (λ j. j.name) result.0.items ≡ left_of (runs_of order.items) }
+    ensures left { map (λ j. (j.name, j.body)) result.0.items ≡ kept_of order.items }
     ensures first { (rest : List Asker) × (result.1.items ≡ sessions.items ++ rest) }
     ensures sessions { map (λ (s : Asker). s.list.calls) result.1.items ≡ map (λ (s : Asker). s.list.calls) sessions.items ++ map (λ run. run.calls) (runs_of order.items) }
 {
@@ -127,6 +127,7 @@ pub(crate) fn report_on(
     requires empty { (ends.items ≡ []) × (left.items ≡ []) × (sessions.items ≡ []) × IsEmpty firsts }
     requires room { (vec_len order ≤ spare firsts) × (vec_len order ≤ vec_capacity ends) × (vec_len order ≤ vec_capacity left) × (vec_len order < vec_capacity sessions) }
     ensures comes { Comes (names_of order.items) session.list.calls (runs_of order.items) result.0.ends.items (map (λ j. j.name) result.0.left.items) (map (λ (s : Asker). s.list.calls) result.0.sessions.items) }
+    ensures left { map (λ j. (j.name, j.body)) result.0.left.items ≡ kept_of order.items }
     ensures stranger { result.1 ≡ first_stranger (runs_of order.items) }
     ensures session { (rest : List Asker) × (result.0.sessions.items ≡ session ∷ rest) }
 {

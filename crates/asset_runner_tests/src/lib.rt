@@ -16,6 +16,8 @@ mod hostile;
 #[cfg(test)]
 mod many;
 #[cfg(test)]
+mod own_bodies;
+#[cfg(test)]
 mod plans;
 #[cfg(test)]
 mod rows;

@@ -2,7 +2,7 @@ use Rattle.std.proofs.Common.{map, subst}
 use Rattle.asset_queue.specs.Once.{SharedOut}
 use Rattle.asset_queue.specs.Rows.{tickets_of}
 use Rattle.asset_runner.specs.Arrived.{ticket_of}
-use Rattle.asset_runner.proofs.RunLemmas.{runs_of_jobs}
+use Rattle.asset_runner.proofs.RunLemmas.{runs_of_jobs, left_of_jobs}
 use Rattle.asset_runner.proofs.plan.run_jobs.Goals as goal
 
 pub gather-requires-clause-shared : goal.gather-requires-clause-shared
@@ -11,4 +11,10 @@ gather-requires-clause-shared g c =
 
 pub returns-clause-ran : goal.returns-clause-ran
 returns-clause-ran g c =
-    runs_of_jobs _ _ _ _ _ c.args.names.now c.args.jobs.items c.work-rows.result.rows.items c.gather.result.items c.requires.tickets c.work-rows.ensures.came c.gather.ensures.back
+    runs_of_jobs (λ j. j.place) (λ j. j.name) (λ j. j.body) (λ j. j.session) _ _ c.args.names.now c.args.jobs.items c.work-rows.result.left.items c.work-rows.result.rows.items c.gather.result.items
+    c.requires.tickets c.work-rows.ensures.came c.work-rows.ensures.left c.gather.ensures.back
+
+pub returns-clause-left : goal.returns-clause-left
+returns-clause-left g c =
+    left_of_jobs (λ j. j.place) (λ j. j.name) (λ j. j.body) (λ j. j.session) _ _ c.args.names.now c.args.jobs.items c.work-rows.result.left.items c.work-rows.result.rows.items c.gather.result.items
+    c.requires.tickets c.work-rows.ensures.came c.work-rows.ensures.left c.gather.ensures.back c.gather.ensures.names
