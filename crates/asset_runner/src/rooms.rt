@@ -45,21 +45,18 @@ impl Rooms {
     fn with_room(alloc: Global, jobs: usize) -> Result<Rooms, AllocError>
         ensures { IfOk result (λ rooms. rooms.jobs ≡ jobs) }
     {
-        let slots = Vec::with_capacity(alloc, jobs)?;
-        let order = Vec::with_capacity(alloc, jobs)?;
-        let firsts = Firsts::with_capacity(alloc, jobs)?;
-        let ends = Vec::with_capacity(alloc, jobs)?;
-        let left = Vec::with_capacity(alloc, jobs)?;
-        let sessions = Vec::with_capacity(alloc, jobs)?;
-        Ok(Rooms {
-            jobs,
-            slots,
-            order,
-            firsts,
-            ends,
-            left,
-            sessions,
-        })
+        let mut rooms = Rooms::new(alloc);
+        if rooms.slots.reserve_exact(jobs).is_err()
+            || rooms.order.reserve_exact(jobs).is_err()
+            || rooms.firsts.reserve(jobs).is_err()
+            || rooms.ends.reserve_exact(jobs).is_err()
+            || rooms.left.reserve_exact(jobs).is_err()
+            || rooms.sessions.reserve_exact(jobs).is_err()
+        {
+            return Err(AllocError);
+        }
+        rooms.jobs = jobs;
+        Ok(rooms)
     }
 
     /// Takes room for so many jobs, and for twice as many as before if that is more. It fails if memory runs out. The
