@@ -1,6 +1,6 @@
 -- Lists of arrivals.
-use Rattle.std.proofs.Common.{◌≡◌, ℕ, zero, suc, ◌+◌, ◌≤◌, List, [], ◌∷◌, ◌++◌, length, map, set, Vec, Option, Some, None, sym, refl, ap, ◌∙◌, subst, append_assoc, arith}
-use Rattle.std.specs.Prelude.{slice_get}
+use Rattle.std.proofs.Common.{◌≡◌, ℕ, zero, suc, ◌+◌, ◌<◌, ◌≤◌, List, [], ◌∷◌, ◌++◌, length, map, set, Vec, Option, Some, None, sym, refl, ap, ◌∙◌, subst, append_assoc, arith}
+use Rattle.std.specs.Prelude.{slice_get, MatchOption}
 use Rattle.std.specs.declared.dyn_box.DynBox.{DynBox}
 use Rattle.std.specs.declared.alloc.Global.{Global}
 use Rattle.std.proofs.lemmas.List.{map-append, append-nil, length-map}
@@ -93,10 +93,17 @@ tickets_more f jobs jobs' job names names' t n j ns x len was =
     pushed f jobs jobs' job (numbered names) (0 + length nums, t.0) j was at
     ∙ sym (ap numbered ns ∙ (ap (placing.numbered 0) m ∙ numbered_last 0 nums t.0))
 
-pub work_cause : (workers : ℕ) (slots : List JobRun) (cause : RunCause) → IsWorkCause workers cause → IsCause workers slots cause
-work_cause workers slots NoWorkers h = h
-work_cause workers slots NoMemory h = h
-work_cause workers slots (Stranger t) h = absurd h
+pub work_cause : (workers : ℕ) (runs : List JobRun) (cause : RunCause) → IsWorkCause workers (left_of runs ≡ [] → runs ≡ []) cause → IsCause workers runs cause
+work_cause workers runs NoWorkers h = h
+work_cause workers runs NoMemory h = h
+work_cause workers runs (Stranger t) h = absurd h
+
+-- the cause stands with what follows of what is so if memory ran out
+pub cause_so : (workers : ℕ) (P Q : Type 0) (cause : Option RunCause) → (P → Q) → MatchOption cause (0 < workers) (λ k. IsWorkCause workers P k) → MatchOption cause (0 < workers) (λ k. IsWorkCause workers Q k)
+cause_so workers P Q None so h = h
+cause_so workers P Q (Some NoWorkers) so h = h
+cause_so workers P Q (Some NoMemory) so h = (h.0, so h.1)
+cause_so workers P Q (Some (Stranger t)) so h = absurd h
 
 module _ {X : Type 0} {B : X → Type 0} where
   pub placed-snoc : (slots : List (Option (Arrival X B))) (xs : List (Arrival X B)) (x : Arrival X B) → placed slots (xs ++ x ∷ []) ≡ placed (set slots x.place (Some x)) xs
@@ -109,7 +116,7 @@ module _ {X : Type 0} {B : X → Type 0} where
       let n : row.items ++ [] ≡ row.items = append-nil row.items in
       ap (placed slots) (e ∙ ap (λ l. all_of rows ++ l) n) ∙ placed-append (λ (a : Arrival X B). a.place) (λ (a : Arrival X B). a.name.0) slots (all_of rows) row.items
 
-  tickets_all : {A : Type 0} (rows : List (Vec (Arrival X B) A)) → tickets_of ticket_of rows ≡ map ticket_of (all_of rows)
+  pub tickets_all : {A : Type 0} (rows : List (Vec (Arrival X B) A)) → tickets_of ticket_of rows ≡ map ticket_of (all_of rows)
   tickets_all [] = refl
   tickets_all (r ∷ rs) = ap (λ l. map ticket_of r.items ++ l) (tickets_all rs) ∙ sym (map-append ticket_of r.items (all_of rs))
 

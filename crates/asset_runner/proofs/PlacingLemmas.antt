@@ -1,5 +1,5 @@
 -- What was shared out comes back in order.
-use Rattle.std.proofs.Common.{◌≡◌, ◌≢◌, ℕ, zero, suc, ◌+◌, ◌<◌, true, cond, eqb, List, [], ◌∷◌, ◌++◌, length, map, set, Option, Some, None, sym, refl, ap, ◌∙◌, subst, ⊎_elim, append_assoc, arith}
+use Rattle.std.proofs.Common.{◌≡◌, ◌≢◌, ℕ, zero, suc, ◌+◌, ◌<◌, ◌≤◌, true, cond, eqb, List, [], ◌∷◌, ◌++◌, length, map, set, Option, Some, None, sym, refl, ap, ◌∙◌, subst, ⊎_elim, append_assoc, arith}
 use Rattle.std.specs.Prelude.{slice_get}
 use Rattle.std.specs.Bool.{◌==◌}
 use Rattle.std.proofs.lemmas.List.{length-append, nil_from_length}
@@ -76,8 +76,37 @@ numbered_has k (t ∷ ts) x h = ⊎_elim
     (λ (some : is x (k, t) ≢ 0). let e = is_some x (k, t) (omega (arith, some)) in (0, omega (arith, e.0), ap Some e.1))
     (cases_eq (is x (k, t)) 0)
 
-at_place : (i j : ℕ) (t : ℕ) → j ≡ i → at i (j, t) ≡ 1
+pub at_place : (i j : ℕ) (t : ℕ) → j ≡ i → at i (j, t) ≡ 1
 at_place i j t h = grind (arith, nat_tests)
+
+none_before : (k : ℕ) (ts : List ℕ) (i : ℕ) → i < k → weigh (at i) (numbered k ts) ≡ 0
+none_before k [] i h = refl
+none_before k (t ∷ ts) i h = omega (arith, at_not i (k, t) (λ e. omega (arith, e, h)), none_before (k + 1) ts i (omega (arith, h)))
+
+-- each place is given once
+pub numbered_once : (k : ℕ) (ts : List ℕ) (i : ℕ) → weigh (at i) (numbered k ts) ≤ 1
+numbered_once k [] i = omega arith
+numbered_once k (t ∷ ts) i = ⊎_elim
+    (λ (e : k ≡ i). omega (arith, at_place i k t e, none_before (k + 1) ts i (omega (arith, e))))
+    (λ (n : k ≢ i). omega (arith, at_not i (k, t) n, numbered_once (k + 1) ts i))
+    (cases_eq k i)
+
+-- a place that was given is one of so many
+pub numbered_in : (k : ℕ) (ts : List ℕ) (i : ℕ) → 0 < weigh (at i) (numbered k ts) → i < k + length ts
+numbered_in k [] i h = absurd (omega (arith, h))
+numbered_in k (t ∷ ts) i h = ⊎_elim
+    (λ (e : k ≡ i). omega (arith, e))
+    (λ (n : k ≢ i). let r = numbered_in (k + 1) ts i (omega (arith, at_not i (k, t) n, h)) in omega (arith, r))
+    (cases_eq k i)
+
+-- the place of one of a list is given there
+pub weighs_among : {A : Type 0} (ticket : A → ℕ × ℕ) (xs : List A) (x : A) (i : ℕ) → IsAmong xs x → (ticket x).0 ≡ i → 0 < weigh (at i) (map ticket xs)
+weighs_among ticket [] x i among e = absurd (cc among.1)
+weighs_among ticket (y ∷ ys) x i (zero, here) e =
+    let same : y ≡ x = cc here in
+    let place : (ticket y).0 ≡ i = ap (λ z. (ticket z).0) same ∙ e in
+    omega (arith, at_place i (ticket y).0 (ticket y).1 place)
+weighs_among ticket (y ∷ ys) x i (suc n, here) e = omega (arith, weighs_among ticket ys x i (n, here) e)
 
 pub numbered_at : (k : ℕ) (ts : List ℕ) (i : ℕ) → i < length ts → 0 < weigh (at (k + i)) (numbered k ts)
 numbered_at k [] i h = absurd (omega arith)

@@ -1,6 +1,8 @@
 -- The runs are what came of the jobs, and what is left are jobs with their own bodies.
-use Rattle.std.proofs.Common.{◌≡◌, ℕ, zero, suc, ◌+◌, List, [], ◌∷◌, ◌++◌, cond, length, map, Vec, Option, Some, None, sym, refl, ap, ◌∙◌, subst, arith}
+use Rattle.std.proofs.Common.{◌≡◌, ℕ, zero, suc, ◌+◌, ◌<◌, ◌⊎◌, true, false, ⊎_elim, List, [], ◌∷◌, ◌++◌, cond, length, map, Vec, Option, Some, None, sym, refl, ap, ◌∙◌, subst, arith}
 use Rattle.std.specs.Prelude.{slice_get, IfSome}
+use Rattle.std.proofs.lemmas.List.{length-map}
+use mathlib.Core.Logic.{inl, inr}
 use Rattle.std.specs.declared.dyn_box.DynBox.{DynBox}
 use Rattle.std.specs.declared.alloc.Global.{Global}
 use Rattle.atomic_table.specs.Seated.{TableId}
@@ -9,7 +11,7 @@ use Rattle.asset_audit.specs.Audited.{Call}
 use Rattle.asset_manager.specs.Asker.{Asker}
 use Rattle.asset_bodies.specs.Working.{Working, Worked}
 use Rattle.asset_queue.specs.Each.{Each, IsAmong}
-use Rattle.asset_queue.specs.Once.{Ticket, SharedOut}
+use Rattle.asset_queue.specs.Once.{Ticket, weigh, SharedOut}
 use Rattle.asset_queue.specs.Rows.{tickets_of, Came, EachOf}
 use Rattle.asset_queue.proofs.Eaches.{each_append, each_among}
 use Rattle.asset_runner.specs.Placing as placing
@@ -17,12 +19,13 @@ use Rattle.asset_runner.specs.Placing.{somes, nones}
 use Rattle.asset_runner.specs.declared.arrival.Arrival.{Arrival}
 use Rattle.asset_runner.specs.declared.arrival.Fate.{Fate}
 use Rattle.asset_runner.specs.declared.arrival.Fate.TheVariants.{Left, Called}
-use Rattle.asset_runner.specs.Runs.{JobRun, is_called}
+use Rattle.asset_runner.specs.Runs.{JobRun, is_called, left_row, left_of}
 use Rattle.asset_runner.specs.Fates.{answered_by, body_of, CallsBody, RunsBody}
 use Rattle.asset_runner.specs.Arrived.{ticket_of, run_of, left_at, numbered, placed, GoesOn, AllGoOn}
 use Rattle.asset_runner.specs.Rows.{all_of, names_of, runs_of, kept_row, kept_of, CameBack}
 use Rattle.asset_runner.specs.Comes.{RunsOf, left_among}
-use Rattle.asset_runner.proofs.ArrivedLemmas.{same_txn, stand_placed}
+use Rattle.asset_runner.proofs.ArrivedLemmas.{same_txn, stand_placed, tickets_all, as_many}
+use Rattle.asset_runner.proofs.PlacingLemmas.{at, weighs_among, numbered_once, numbered_in}
 use Rattle.asset_runner.proofs.GoesLemmas.{asks_more, all_at}
 
 each_all : {E A : Type 0} (P : E → Type 0) (rows : List (Vec E A)) → EachOf P rows → Each P (all_of rows)
@@ -43,9 +46,19 @@ numbered_place ticket (x ∷ xs) base (n ∷ ns) (suc k) j h e =
     let r = numbered_place ticket xs (base + 1) ns k j rest e in
     omega (arith, r)
 
+entry_at : {A : Type 0} (xs : List A) (i : ℕ) → i < length xs → (x : A) × (slice_get xs i ≡ Some x)
+entry_at [] i below = absurd (omega (arith, below))
+entry_at (x ∷ xs) zero below = (x, refl)
+entry_at (x ∷ xs) (suc i) below = entry_at xs i (omega (arith, below))
+
 if_some : {A : Type 0} (o : Option A) (P : A → Type 0) → ((u : A) → o ≡ Some u → P u) → IfSome o P
 if_some None P h = tt
 if_some (Some u) P h = h u refl
+
+-- if a row of left jobs and more is empty, its job was called
+row_called : (t : Txn) (answered : Option Txn) (more : List Txn) → left_row t answered ++ more ≡ [] → (is_called answered ≡ true) × (more ≡ [])
+row_called t None more e = absurd (cc e)
+row_called t (Some u) more e = (refl, e)
 
 -- without runs there is nothing to say
 pub nothing_ran : {J : Type 0} (ran : J → JobRun → Type 0) (jobs : List J) → RunsOf ran jobs []
@@ -157,3 +170,67 @@ module _ {J X : Type 0} {B : X → Type 0} (place : J → ℕ) (name : J → Txn
       kept_are order jobs 0 (ts ∙ sym (ap numbered ns)) (λ i job b at_job at.
       let a = came_of names jobs left rows order ts came among back i job b at_job at in
       subst (λ (o : Option (DynBox X Global B)). IfSome o (λ (d : DynBox X Global B). d ≡ body job)) (sym a.1.body) a.3)
+
+module _ {X : Type 0} {B : X → Type 0} where
+  among_either : (xs ys : List (Arrival X B)) (x : Arrival X B) → IsAmong (xs ++ ys) x → IsAmong xs x ⊎ IsAmong ys x
+  among_either [] ys x at = inr at
+  among_either (y ∷ xs) ys x (zero, e) = inl (0, e)
+  among_either (y ∷ xs) ys x (suc i, e) = ⊎_elim (λ m. inl (suc m.0, m.1)) (λ m. inr m) (among_either xs ys x (i, e))
+
+  -- if none is left, each was called
+  called_at : (order : List (Arrival X B)) (i : ℕ) (b : Arrival X B) → left_of (runs_of order) ≡ [] → slice_get order i ≡ Some b → is_called (answered_by b.fate) ≡ true
+  called_at [] i b none at = absurd (cc at)
+  called_at (x ∷ xs) zero b none at =
+      let same : x ≡ b = cc at in
+      subst (λ (y : Arrival X B). is_called (answered_by y.fate) ≡ true) same (row_called x.name (answered_by x.fate) (left_of (runs_of xs)) none).0
+  called_at (x ∷ xs) (suc i) b none at = called_at xs i b (row_called x.name (answered_by x.fate) (left_of (runs_of xs)) none).1 at
+
+module _ {J X : Type 0} {B : X → Type 0} (place : J → ℕ) (name : J → Txn) (body : J → DynBox X Global B) (session : J → Asker) where
+  abbrev given : J → Ticket
+  given j = (place j, (name j).0)
+
+  abbrev as_left : List J → List (Arrival X B)
+  as_left left = map (λ j. left_at (place j) (name j) (body j) (session j)) left
+
+  -- of a job that was left no body was called
+  lefts_uncalled : (left : List J) → Each (λ (a : Arrival X B). is_called (answered_by a.fate) ≡ false) (as_left left)
+  lefts_uncalled [] = tt
+  lefts_uncalled (j ∷ left) = (refl, lefts_uncalled left)
+
+  -- the place of a job that was left has one that was not called
+  left_stands : {A : Type 0} (names : List Txn) (jobs left : List J) (rows : List (Vec (Arrival X B) A)) (order : List (Arrival X B)) (j : J)
+      → map given jobs ≡ numbered names → SharedOut (map given jobs) (tickets_of ticket_of rows) (map given left) → CameBack (all_of rows ++ as_left left) order → names_of order ≡ names
+      → left_of (runs_of order) ≡ [] → IsAmong left j → ⊥
+  left_stands names jobs left rows order j ts shared back ns none among =
+      let p = place j in
+      let numbers = map (λ (t : Txn). t.0) names in
+      let even = shared (at p) in
+      let whole : weigh (at p) (map given jobs) ≡ weigh (at p) (numbered names) = ap (weigh (at p)) ts in
+      let one : 0 < weigh (at p) (map given left) = weighs_among given left j p among refl in
+      let once = numbered_once 0 numbers p in
+      let few : p < 0 + length numbers = numbered_in 0 numbers p (omega (arith, even, whole, one)) in
+      let many : length order ≡ length names = as_many order names ns in
+      let there = entry_at order p (omega (arith, few, many, length-map names (λ (t : Txn). t.0))) in
+      let a = back p there.0 there.1 in
+      let called : is_called (answered_by a.0.fate) ≡ true = subst (λ (o : Option Txn). is_called o ≡ true) a.3.answered (called_at order p there.0 none there.1) in
+      ⊎_elim
+      (λ (in_row : IsAmong (all_of rows) a.0).
+      let two : 0 < weigh (at p) (map ticket_of (all_of rows)) = weighs_among ticket_of (all_of rows) a.0 p in_row a.2 in
+      let same : weigh (at p) (tickets_of ticket_of rows) ≡ weigh (at p) (map ticket_of (all_of rows)) = ap (weigh (at p)) (tickets_all rows) in
+      omega (arith, even, whole, once, one, two, same))
+      (λ (in_left : IsAmong (as_left left) a.0).
+      let not_called : is_called (answered_by a.0.fate) ≡ false = each_among (λ (a : Arrival X B). is_called (answered_by a.fate) ≡ false) (as_left left) a.0 (lefts_uncalled left) in_left in
+      cc (called, not_called))
+      (among_either (all_of rows) (as_left left) a.0 a.1)
+
+  -- if the workers left a job unless there are no jobs, then by the runs some body was not called, unless there are no runs
+  pub somebody_left : {A : Type 0} (names : List Txn) (jobs left : List J) (rows : List (Vec (Arrival X B) A)) (order : List (Arrival X B))
+      → map given jobs ≡ numbered names → SharedOut (map given jobs) (tickets_of ticket_of rows) (map given left) → CameBack (all_of rows ++ as_left left) order → names_of order ≡ names
+      → (left ≡ [] → jobs ≡ []) → left_of (runs_of order) ≡ [] → runs_of order ≡ []
+  somebody_left names jobs [] rows order ts shared back ns ran_out none = nothing names order (sym (ap (map given) (ran_out refl)) ∙ ts) ns
+    where
+      nothing : (names : List Txn) (order : List (Arrival X B)) → [] ≡ numbered names → names_of order ≡ names → runs_of order ≡ []
+      nothing names [] ts ns = refl
+      nothing [] (b ∷ bs) ts ns = absurd (cc ns)
+      nothing (t ∷ names) (b ∷ bs) ts ns = absurd (cc ts)
+  somebody_left names jobs (j ∷ left) rows order ts shared back ns ran_out none = absurd (left_stands names jobs (j ∷ left) rows order j ts shared back ns none (0, refl))

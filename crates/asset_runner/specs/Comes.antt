@@ -36,14 +36,14 @@ pub record IsLost (names : List Txn) (runs : List JobRun) (ends : List (Txn × J
 abbrev pub ComesOrLost : List Txn → List Call → List JobRun → List (Txn × JobEnd) → List Txn → List (List Call) → Type 0
 ComesOrLost names plan runs ends left sessions = Comes names plan runs ends left sessions ⊎ IsLost names runs ends left sessions
 
--- why a run did not go as planned
+-- why a run did not go as planned: if memory ran out, a job is left, unless there were none
 abbrev pub IsCause : ℕ → List JobRun → RunCause → Type 0
 IsCause workers runs NoWorkers = workers ≡ 0
-IsCause workers runs NoMemory = 0 < workers
+IsCause workers runs NoMemory = (0 < workers) × (left_of runs ≡ [] → runs ≡ [])
 IsCause workers runs (Stranger t) = (0 < workers) × (first_stranger runs ≡ Some t)
 
--- of what the workers answer: strangers are looked for later
-abbrev pub IsWorkCause : ℕ → RunCause → Type 0
-IsWorkCause workers NoWorkers = workers ≡ 0
-IsWorkCause workers NoMemory = 0 < workers
-IsWorkCause workers (Stranger t) = ⊥
+-- of what the workers answer, who know what is so if memory ran out: strangers are looked for later
+abbrev pub IsWorkCause : ℕ → Type 0 → RunCause → Type 0
+IsWorkCause workers ran_out NoWorkers = workers ≡ 0
+IsWorkCause workers ran_out NoMemory = (0 < workers) × ran_out
+IsWorkCause workers ran_out (Stranger t) = ⊥

@@ -12,7 +12,7 @@ ghost use Rattle.asset_queue.specs.Each.{Each, IsAmong};
 ghost use Rattle.asset_queue.specs.Once.{SharedOut};
 ghost use Rattle.asset_queue.specs.Rows.{tickets_of, Came, EachOf};
 ghost use Rattle.asset_runner.specs.Placing.{nones, somes};
-ghost use Rattle.asset_runner.specs.Runs.{JobRun, first_stranger};
+ghost use Rattle.asset_runner.specs.Runs.{JobRun, first_stranger, left_of};
 ghost use Rattle.asset_runner.specs.Fates.{body_of, RunsBody};
 ghost use Rattle.asset_runner.specs.Arrived.{numbered, placed, left_at, run_of, ticket_of};
 ghost use Rattle.asset_runner.specs.Rows.{all_of, names_of, runs_of, kept_of, CameBack};
@@ -95,7 +95,7 @@ fn work<R: Threads + Wait + Sync, G: Gate>(
     gate: &G,
 ) -> FromWorkers
     ensures shared { SharedOut (map (λ j. (j.place, j.name.0)) jobs.items) (tickets_of ticket_of result.rows.items) (map (λ j. (j.place, j.name.0)) result.left.items) }
-    ensures cause { MatchOption result.cause (0 < workers) (λ cause. IsWorkCause workers cause) }
+    ensures cause { MatchOption result.cause (0 < workers) (λ cause. IsWorkCause workers (result.left.items ≡ [] → jobs.items ≡ []) cause) }
     ensures came { EachOf (Came (IsAmong jobs.items) (λ j. (j.place, j.name.0)) ticket_of (λ j a. RunsBody (Body.post j.body) j.name (arc_value j.manager) j.session.list.calls (run_of a) × IfSome (body_of a.fate) (λ body. body ≡ j.body))) result.rows.items }
     ensures left { Each (IsAmong jobs.items) result.left.items }
 {
@@ -186,7 +186,7 @@ fn run_jobs<R: Threads + Wait + Sync, G: Gate>(
     requires empty { (slots.items ≡ []) × (order.items ≡ []) }
     requires room { (length names.now ≤ vec_capacity slots) × (length names.now ≤ vec_capacity order) }
     ensures names { names_of result.0.items ≡ names.now }
-    ensures cause { MatchOption result.1 (0 < workers) (λ cause. IsWorkCause workers cause) }
+    ensures cause { MatchOption result.1 (0 < workers) (λ cause. IsWorkCause workers (left_of (runs_of result.0.items) ≡ [] → runs_of result.0.items ≡ []) cause) }
     ensures ran { RunsOf (λ j. RunsBody (Body.post j.body) j.name (arc_value j.manager) j.session.list.calls) jobs.items (runs_of result.0.items) }
     ensures left { kept_of result.0.items ≡ left_among (λ j. j.name) (λ j. j.body) jobs.items (runs_of result.0.items) }
 {
@@ -360,8 +360,9 @@ impl Plan {
     /// whose body was not called is left, and comes back with its name and its body.
     ///
     /// It fails with `NoWorkers` if there are none; otherwise with `NoMemory` if memory ran out before each job was
-    /// taken; otherwise with `Stranger` for the first job whose body answered another's `Finished`. The fault has what
-    /// came of the jobs all the same. Only a plan without jobs that is refused memory loses its session.
+    /// taken, and then a job is left unless there are no jobs; otherwise with `Stranger` for the first job whose body
+    /// answered another's `Finished`. The fault has what came of the jobs all the same. Only a plan without jobs that is
+    /// refused memory loses its session.
     pub fn run<R: Threads + Wait + Sync, G: Gate>(
         self,
         rt: &R,
