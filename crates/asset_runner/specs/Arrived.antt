@@ -16,9 +16,11 @@ abbrev pub numbered : List Txn → List Ticket
 numbered names = placing.numbered 0 (map (λ (t : Txn). t.0) names)
 
 module _ {X : Type 0} {B : X → Type 0} where
+  -- its place in the order of initiation, and its name
   abbrev pub ticket_of : Arrival X B → Ticket
   ticket_of a = (a.place, a.name.0)
 
+  -- what came of the job, without its place and its body
   abbrev pub run_of : Arrival X B → JobRun
   run_of a = record { name = a.name; answered = answered_by a.fate; calls = a.returned.list.calls }
 

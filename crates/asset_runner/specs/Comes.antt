@@ -42,7 +42,7 @@ IsCause workers runs NoWorkers = workers ≡ 0
 IsCause workers runs NoMemory = (0 < workers) × (left_of runs ≡ [] → runs ≡ [])
 IsCause workers runs (Stranger t) = (0 < workers) × (first_stranger runs ≡ Some t)
 
--- of what the workers answer, who know what is so if memory ran out: strangers are looked for later
+-- the same of what the workers answer: `ran_out` is so if memory ran out, and strangers are looked for later
 abbrev pub IsWorkCause : ℕ → Type 0 → RunCause → Type 0
 IsWorkCause workers ran_out NoWorkers = workers ≡ 0
 IsWorkCause workers ran_out NoMemory = (0 < workers) × ran_out

@@ -14,6 +14,7 @@ abbrev pub all_of : {E A : Type 0} → List (Vec E A) → List E
 all_of [] = []
 all_of (row ∷ rows) = row.items ++ all_of rows
 
+-- the name with the body, if there is one
 abbrev pub kept_row : {K : Type 0} → Txn → Option K → List (Txn × K)
 kept_row t None = []
 kept_row t (Some body) = (t, body) ∷ []
