@@ -199,10 +199,14 @@ fn run_jobs<R: Threads + Wait + Sync, G: Gate>(
 fn session_for(own: &mut Session, operations: usize) -> Result<Session, NoMemory>
     ensures same { own.new ≡ own.old }
     ensures calls { IfOk result (λ session. session.list.calls ≡ []) }
+    ensures room { IfOk result (λ session. operations + OWN_CALLS ≤ session.list.room) }
     ensures of { (manager : TableId) → IsOf own.old.of manager → IfOk result (λ session. IsOf session.of manager) }
 {
+    let Some(calls) = operations.checked_add(OWN_CALLS) else {
+        return Err(NoMemory);
+    };
     let mut session = own.split();
-    match session.reserve(operations.saturating_add(OWN_CALLS)) {
+    match session.reserve(calls) {
         Ok(()) => Ok(session),
         Err(NoMemory) => {
             own.join(session);
@@ -301,7 +305,7 @@ impl Plan {
         ensures back { IfErr result (λ fault. fault.body ≡ body) }
         ensures names { MatchResult result (λ _. self.new.names.items ≡ self.old.names.items ++ t ∷ []) (λ _. self.new.names.items ≡ self.old.names.items) }
         ensures asked { MatchResult result (λ _. IsInitiated self.old.session.list.calls (Step.Initiate t parent) self.new.session.list.calls) (λ fault. IsRefused self.old.session.list.calls (Step.Initiate t parent) fault.cause self.new.session.list.calls) }
-        ensures planned { MatchResult result (λ _. OneMore (λ j. (j.name ≡ t) × (j.body ≡ body) × (arc_value j.manager ≡ arc_value self.new.manager) × (j.session.list.calls ≡ [])) self.old.jobs.items self.new.jobs.items) (λ _. self.new.jobs.items ≡ self.old.jobs.items) }
+        ensures planned { MatchResult result (λ _. OneMore (λ j. (j.name ≡ t) × (j.body ≡ body) × (arc_value j.manager ≡ arc_value self.new.manager) × (j.session.list.calls ≡ []) × (EXPECTED + OWN_CALLS ≤ j.session.list.room)) self.old.jobs.items self.new.jobs.items) (λ _. self.new.jobs.items ≡ self.old.jobs.items) }
     {
         self.initiate_with_room(rt, t, parent, body, EXPECTED)
     }
@@ -327,7 +331,7 @@ impl Plan {
         ensures back { IfErr result (λ fault. fault.body ≡ body) }
         ensures names { MatchResult result (λ _. self.new.names.items ≡ self.old.names.items ++ t ∷ []) (λ _. self.new.names.items ≡ self.old.names.items) }
         ensures asked { MatchResult result (λ _. IsInitiated self.old.session.list.calls (Step.Initiate t parent) self.new.session.list.calls) (λ fault. IsRefused self.old.session.list.calls (Step.Initiate t parent) fault.cause self.new.session.list.calls) }
-        ensures planned { MatchResult result (λ _. OneMore (λ j. (j.name ≡ t) × (j.body ≡ body) × (arc_value j.manager ≡ arc_value self.new.manager) × (j.session.list.calls ≡ [])) self.old.jobs.items self.new.jobs.items) (λ _. self.new.jobs.items ≡ self.old.jobs.items) }
+        ensures planned { MatchResult result (λ _. OneMore (λ j. (j.name ≡ t) × (j.body ≡ body) × (arc_value j.manager ≡ arc_value self.new.manager) × (j.session.list.calls ≡ []) × (operations + OWN_CALLS ≤ j.session.list.room)) self.old.jobs.items self.new.jobs.items) (λ _. self.new.jobs.items ≡ self.old.jobs.items) }
     {
         if self.make_room(1).is_err() {
             return Err(fault(body, Cause::NoMemory));
