@@ -20,6 +20,8 @@ mod own_bodies;
 #[cfg(test)]
 mod plans;
 #[cfg(test)]
+mod room;
+#[cfg(test)]
 mod rows;
 #[cfg(test)]
 mod running;
