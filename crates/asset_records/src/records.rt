@@ -272,8 +272,7 @@ impl Records {
         set_mark(&mut self.marks, object, next);
     }
 
-    /// Takes back the record that became the transaction's last, by `push` or a hand-over, and returns what is left to do; `None`
-    /// if it has none.
+    /// Takes back the record that is the last in the transaction's column, and returns what is left to do; `None` if it has none.
     ///
     /// It looks at the adds over the record, up to the next write; over the record of an add only if a write has stood over an
     /// add of the object since the object last had no record.
