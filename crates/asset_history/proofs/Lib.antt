@@ -4,6 +4,7 @@ pub mod LinkLemmas
 pub mod LabelLemmas
 pub mod EntryLemmas
 pub mod UseLemmas
+pub mod ChainLemmas
 pub mod SaidLemmas
 pub mod NoteLemmas
 pub mod NextLemmas

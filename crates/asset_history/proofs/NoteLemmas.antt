@@ -22,9 +22,9 @@ use Rattle.asset_names.proofs.Common.{or_false}
 use Rattle.asset_names.proofs.LegalLemmas.{effect_unrefused, first_none}
 use Rattle.asset_entries.specs.Operating.{operator_of, operator_at, opener_of, opener_at}
 use Rattle.asset_history.specs.Kept.{before}
-use Rattle.asset_history.specs.Uses.{opened_obs, has_object, opens_on, opens, operates, user_by}
+use Rattle.asset_history.specs.Uses.{opened_obs, has_object, opens_on, opens, operates}
 use Rattle.asset_history.proofs.EntryLemmas.{at_cases}
-use Rattle.asset_history.proofs.UseLemmas.{used_on, user_is, one_more}
+use Rattle.asset_history.proofs.UseLemmas.{used_on, user_by, user_is, one_more}
 
 -- ---- objects in order
 

@@ -1,8 +1,8 @@
 -- Who uses an object by an entry, and by all entries.
-use Rattle.std.proofs.Common.{◌≡◌, ℕ, ◌<◌, Bool, true, false, cond, eqb, ◌&&◌, ◌||◌, List, [], ◌∷◌, length, reverse, refl, sym, ap, ◌∙◌, arith, ◌⊎◌, inl, inr, Some, None}
+use Rattle.std.proofs.Common.{◌≡◌, ℕ, Bool, true, false, cond, eqb, ◌&&◌, ◌||◌, List, [], ◌∷◌, reverse, refl, sym, ap, ◌∙◌, inl, inr, Some, None}
 use Rattle.std.specs.Prelude.{Option, slice_get}
 use Rattle.std.specs.List.{list_any}
-use Rattle.std.proofs.lemmas.Bool.{or_cases, or_left, or_right, and_parts, and_from, eqb-true, eq-eqb, false≢true, cond-true}
+use Rattle.std.proofs.lemmas.Bool.{or_cases, or_left, or_right, eq-eqb}
 use Rattle.asset_names.specs.declared.names.Txn.{Txn}
 use Rattle.asset_names.specs.declared.names.Ob.{Ob}
 use Rattle.asset_names.specs.declared.steps.Step.{Step}
@@ -14,14 +14,20 @@ use Rattle.asset_names.specs.Steps.{Entry, takes_effect, applied}
 use Rattle.asset_names.specs.Groups.{actor, partner, acted_on_by, acted_on, operates_on, same_group}
 use Rattle.asset_names.proofs.Common.{or_false}
 use Rattle.asset_laws.proofs.GroupLemmas.{group_sym, group_trans, joined_same}
-use Rattle.asset_entries.specs.Operating.{operator_of, operator_at, opener_of, opener_at}
-use Rattle.asset_history.specs.Uses.{opened_obs, has_object, opens_on, opens, operates, uses, user_by}
-use Rattle.asset_history.proofs.EntryLemmas.{newest_at, older_at, at_cases}
+use Rattle.asset_entries.specs.Operating.{operator_of, opener_of}
+use Rattle.asset_history.specs.Uses.{opened_obs, has_object, opens_on, opens, operates, uses}
+use Rattle.asset_history.proofs.EntryLemmas.{at_cases}
 use Rattle.asset_history.specs.Named.{names_of}
 use Rattle.asset_history.proofs.NameLemmas.{all_acted}
 use Rattle.asset_history.proofs.MeetLemmas.{meeting_joined, opener_acts, operator_acts}
 
 -- ---- by an entry
+
+-- who uses x by an entry, whose operator and whose opener with its objects are these, if there are such
+unfoldable pub user_by : Option (Txn × Ob) → Option (Txn × List Ob) → ℕ → Option Txn
+user_by (Some operator) opener x = cond (eqb operator.1.0 x) (Some operator.0) None
+user_by None (Some opener) x = cond (has_object opener.1 x) (Some opener.0) None
+user_by None None x = None
 
 -- whether a step uses x
 unfoldable pub used_on : Step → ℕ → Bool
@@ -63,10 +69,6 @@ user_is (Commit t) reply x = nobody (takes_effect (Commit t) reply) t
 user_is (Abort t) reply x = nobody (takes_effect (Abort t) reply) t
 user_is (WaitFor t) reply x = nobody (takes_effect (WaitFor t) reply) t
 
--- who uses x by the entry at an index
-abbrev pub user_at : List Entry → ℕ → ℕ → Option Txn
-user_at all i x = user_by (operator_at (slice_get (reverse all) i)) (opener_at (slice_get (reverse all) i)) x
-
 -- ---- by all entries
 
 pub one_more : (entry : Entry) (older : List Entry) (test : Step → Bool) → list_any test (applied (entry ∷ older)) ≡ ((takes_effect entry.0 entry.1 && test entry.0) || list_any test (applied older))
@@ -75,80 +77,6 @@ one_more entry older test = go (takes_effect entry.0 entry.1) where
   go : (effect : Bool) → list_any test (cond effect (entry.0 ∷ applied older) (applied older)) ≡ ((effect && test entry.0) || list_any test (applied older))
   go true = refl
   go false = refl
-
--- uses by older entries, and by the newest one
-pub uses_before : (entry : Entry) (older : List Entry) (u x : ℕ) → uses (applied older) u x ≡ true → uses (applied (entry ∷ older)) u x ≡ true
-unfolding uses opens operates
-uses_before entry older u x h = elim (or_cases (list_any (λ (step : Step). opens_on step x && eqb (actor step).0 u) (applied older)) _ h) [
-  | inl one ↦ or_left _ _ (one_more entry older (λ (step : Step). opens_on step x && eqb (actor step).0 u) ∙ or_right (takes_effect entry.0 entry.1 && (opens_on entry.0 x && eqb (actor entry.0).0 u)) _ one)
-  | inr one ↦
-      or_right (list_any (λ (step : Step). opens_on step x && eqb (actor step).0 u) (applied (entry ∷ older))) _
-      (one_more entry older (λ (step : Step). operates_on step x && eqb (actor step).0 u) ∙ or_right (takes_effect entry.0 entry.1 && (operates_on entry.0 x && eqb (actor entry.0).0 u)) _ one)
-]
-
-pub uses_now : (entry : Entry) (older : List Entry) (u x : ℕ) → takes_effect entry.0 entry.1 ≡ true → used_on entry.0 x ≡ true → (actor entry.0).0 ≡ u → uses (applied (entry ∷ older)) u x ≡ true
-unfolding uses opens operates used_on
-uses_now entry older u x effect used is = elim (or_cases (opens_on entry.0 x) _ used) [
-  | inl one ↦ or_left _ _ (one_more entry older (λ (step : Step). opens_on step x && eqb (actor step).0 u) ∙ or_left _ _ (and_from _ _ effect (and_from _ _ one (eq-eqb (actor entry.0).0 u is))))
-  | inr one ↦
-      or_right (list_any (λ (step : Step). opens_on step x && eqb (actor step).0 u) (applied (entry ∷ older))) _
-      (one_more entry older (λ (step : Step). operates_on step x && eqb (actor step).0 u) ∙ or_left _ _ (and_from _ _ effect (and_from _ _ one (eq-eqb (actor entry.0).0 u is))))
-]
-
-uses_cases : (entry : Entry) (older : List Entry) (u x : ℕ) → uses (applied (entry ∷ older)) u x ≡ true → ((takes_effect entry.0 entry.1 ≡ true) × (used_on entry.0 x ≡ true) × ((actor entry.0).0 ≡ u)) ⊎ (uses (applied older) u x ≡ true)
-unfolding uses opens operates used_on
-uses_cases entry older u x h = elim (or_cases (list_any (λ (step : Step). opens_on step x && eqb (actor step).0 u) (applied (entry ∷ older))) _ h) [
-  | inl one ↦ elim (or_cases (takes_effect entry.0 entry.1 && (opens_on entry.0 x && eqb (actor entry.0).0 u)) _ (sym (one_more entry older (λ (step : Step). opens_on step x && eqb (actor step).0 u)) ∙ one)) [
-    | inl now ↦
-        let parts = and_parts (takes_effect entry.0 entry.1) _ now in
-        let both = and_parts (opens_on entry.0 x) _ parts.1 in
-        inl (parts.0, or_left _ _ both.0, eqb-true (actor entry.0).0 u both.1)
-    | inr was ↦ inr (or_left _ _ was)
-  ]
-  | inr one ↦ elim (or_cases (takes_effect entry.0 entry.1 && (operates_on entry.0 x && eqb (actor entry.0).0 u)) _ (sym (one_more entry older (λ (step : Step). operates_on step x && eqb (actor step).0 u)) ∙ one)) [
-    | inl now ↦
-        let parts = and_parts (takes_effect entry.0 entry.1) _ now in
-        let both = and_parts (operates_on entry.0 x) _ parts.1 in
-        inl (parts.0, or_right (opens_on entry.0 x) _ both.0, eqb-true (actor entry.0).0 u both.1)
-    | inr was ↦ inr (or_right (list_any (λ (step : Step). opens_on step x && eqb (actor step).0 u) (applied older)) _ was)
-  ]
-]
-
-user_parts : (entry : Entry) (x : ℕ) (t : Txn) → user_by (operator_of entry.0 entry.1) (opener_of entry.0 entry.1) x ≡ Some t → (takes_effect entry.0 entry.1 ≡ true) × (used_on entry.0 x ≡ true) × (actor entry.0 ≡ t)
-user_parts entry x t is = go (takes_effect entry.0 entry.1) (used_on entry.0 x) (sym (user_is entry.0 entry.1 x) ∙ is) where
-  go : (a b : Bool) → cond (a && b) (Some (actor entry.0)) None ≡ Some t → (a ≡ true) × (b ≡ true) × (actor entry.0 ≡ t)
-  go true true h = (refl, refl, cc)
-  go true false h = absurd cc
-  go false b h = absurd cc
-
-user_from : (entry : Entry) (x : ℕ) → takes_effect entry.0 entry.1 ≡ true → used_on entry.0 x ≡ true → user_by (operator_of entry.0 entry.1) (opener_of entry.0 entry.1) x ≡ Some (actor entry.0)
-user_from entry x effect used = user_is entry.0 entry.1 x ∙ cond-true (takes_effect entry.0 entry.1 && used_on entry.0 x) (Some (actor entry.0)) None (and_from _ _ effect used)
-
--- who uses x by an entry uses it by all
-pub user_uses : (all : List Entry) (i x : ℕ) (entry : Entry) (t : Txn) → slice_get (reverse all) i ≡ Some entry → user_by (operator_of entry.0 entry.1) (opener_of entry.0 entry.1) x ≡ Some t → uses (applied all) t.0 x ≡ true
-user_uses [] i x entry t at is = absurd cc
-user_uses (newest ∷ older) i x entry t at is = elim (at_cases newest older i entry at) [
-  | inl here ↦ let parts = user_parts newest x t (rw (← here.1) is) in uses_now newest older t.0 x parts.0 parts.1 (ap (λ (u : Txn). u.0) parts.2)
-  | inr was ↦ uses_before newest older t.0 x (user_uses older i x entry t was.1 is)
-]
-
--- whoever uses x by all does so by some entry
-pub uses_at : (all : List Entry) (u x : ℕ) → uses (applied all) u x ≡ true → (i : ℕ) × (i < length all) × (t : Txn) × (user_at all i x ≡ Some t) × (t.0 ≡ u)
-unfolding uses opens operates applied
-uses_at [] u x h = absurd (false≢true h)
-uses_at (entry ∷ older) u x h = elim (uses_cases entry older u x h) [
-  | inl now ↦ (length older, omega arith, actor entry.0, rw (newest_at entry older) (user_from entry x now.0 now.1), now.2)
-  | inr was ↦
-      let found = uses_at older u x was in
-      (found.0, omega (arith, found.1), found.2, rw (older_at entry older found.0 found.1) found.3, found.4)
-]
-
-pub user_at_uses : (all : List Entry) (i x : ℕ) (t : Txn) → user_at all i x ≡ Some t → uses (applied all) t.0 x ≡ true
-unfolding user_by
-user_at_uses all i x t is = go (slice_get (reverse all) i) refl is where
-  go : (found : Option Entry) → slice_get (reverse all) i ≡ found → user_by (operator_at found) (opener_at found) x ≡ Some t → uses (applied all) t.0 x ≡ true
-  go None at h = absurd cc
-  go (Some entry) at h = user_uses all i x entry t at h
 
 -- users are named
 pub uses_listed : (all : List Entry) (u x : ℕ) → uses (applied all) u x ≡ true → lists (names_of all) u ≡ true

@@ -8,6 +8,8 @@ use Rattle.asset_entries.specs.Committing.{commit_at, has_commit}
 use Rattle.asset_entries.specs.Knowing.{is_of_known_at}
 use Rattle.asset_name_groups.specs.NamesInGroups.{NamesInGroups, flag_at}
 use Rattle.asset_history.specs.declared.users.Users.{Users}
+use Rattle.asset_history.specs.declared.links.Link.{Link}
+use Rattle.asset_history.specs.Links.{Links}
 use Rattle.asset_history.specs.Named.{names_of}
 use Rattle.asset_history.specs.Uses.{opens, operates}
 use Rattle.asset_history.specs.Together.{name_at, label_at, AreOfEntries, AreFlagged}
@@ -25,8 +27,8 @@ abbrev pub before : List Entry → ℕ → List Entry
 before all i = reverse (take i (reverse all))
 
 -- what is kept of each object says who uses it by the first i entries
-abbrev pub SayUsers : NamesInGroups → List Entry → ℕ → (ℕ → Option Users) → Type 0
-SayUsers groups all i found = SayAll groups all (opens (applied (before all i))) (operates (applied (before all i))) found
+abbrev pub SayUsers : NamesInGroups → List Link → List Entry → ℕ → (ℕ → Option Users) → Type 0
+SayUsers groups links all i found = SayAll groups links all (opens (applied (before all i))) (operates (applied (before all i))) found
 
 -- labels keep two names in one group if an arrow leads from one to the other
 abbrev pub Respect : NamesInGroups → List Arrow → Type 0
@@ -54,16 +56,21 @@ abbrev pub leaves_groups_at : Option Entry → Bool
 leaves_groups_at entry = is_of_known_at entry && not (is_some (commit_at entry))
 
 -- Users are kept from the first open permit on, which is when an object is opened: what is kept says who uses objects by the
--- entries so far, which are among all. Until then there is room for the users of each object.
-pub record AreKept (opening : Opening) (all entries : List Entry) (found : ℕ → Option Users) (spare : ℕ) (is_opened : Bool) (groups : NamesInGroups) : Type 0 where
+-- entries so far, which are among all. Until then there is room for the users of each object, and no link. An entry takes 16 links
+-- at most.
+pub record AreKept (opening : Opening) (all entries : List Entry) (found : ℕ → Option Users) (spare : ℕ) (links : List Link) (is_opened : Bool) (groups : NamesInGroups) : Type 0 where
   pub closed : is_opened ≡ false → (a x : ℕ) → opens (applied entries) a x ≡ false
   pub room : is_opened ≡ false → length opening ≤ spare
   pub empty : is_opened ≡ false → (x : ℕ) → found x ≡ None
+  pub unlinked : is_opened ≡ false → links ≡ []
+  pub few : length links ≤ 16 * length entries
   pub there : is_opened ≡ true → (x : ℕ) → exists opening x ≡ true → is_some (found x) ≡ true
-  pub say : is_opened ≡ true → SayAll groups all (opens (applied entries)) (operates (applied entries)) found
+  pub say : is_opened ≡ true → SayAll groups links all (opens (applied entries)) (operates (applied entries)) found
 
--- what a history keeps beside its entries: the labels of their groups, the users of objects, and room for two names for each entry
-pub record IsHistory (opening : Opening) (entries : List Entry) (capacity : ℕ) (groups : NamesInGroups) (found : ℕ → Option Users) (spare : ℕ) (is_opened : Bool) : Type 0 where
+-- what a history keeps beside its entries: the labels of their groups, the users of objects, and room for two names and 16 links for
+-- each entry
+pub record IsHistory (opening : Opening) (entries : List Entry) (capacity : ℕ) (groups : NamesInGroups) (found : ℕ → Option Users) (spare : ℕ) (links : Links) (is_opened : Bool) : Type 0 where
   pub labels : AreLabels entries groups
-  pub users : AreKept opening entries entries found spare is_opened groups
+  pub users : AreKept opening entries entries found spare links.links is_opened groups
   pub room : 2 * capacity ≤ groups.room
+  pub link_room : 16 * capacity ≤ links.room

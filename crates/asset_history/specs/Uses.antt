@@ -1,7 +1,6 @@
 -- Who uses an object: who opens it by open permits, and who operates on it.
-use Rattle.std.specs.Prelude.{ℕ, Bool, ◌==◌, ◌&&◌, ◌||◌, cond, List, [], map, Option, Some, None}
+use Rattle.std.specs.Prelude.{ℕ, Bool, ◌==◌, ◌&&◌, ◌||◌, List, [], map}
 use Rattle.std.specs.List.{list_any}
-use Rattle.asset_names.specs.declared.names.Txn.{Txn}
 use Rattle.asset_names.specs.declared.names.Ob.{Ob}
 use Rattle.asset_names.specs.declared.steps.Step.{Step}
 use Rattle.asset_names.specs.declared.steps.Step.TheVariants.{PermitAny}
@@ -36,9 +35,3 @@ partners entries = map (λ (entry : Entry). ((actor entry.0).0, (partner entry.0
 -- whether t opens x or operates on it
 unfoldable pub uses : List Step → ℕ → ℕ → Bool
 uses steps t x = opens steps t x || operates steps t x
-
--- who uses x by an entry, whose operator and whose opener with its objects are these, if there are such
-unfoldable pub user_by : Option (Txn × Ob) → Option (Txn × List Ob) → ℕ → Option Txn
-user_by (Some operator) opener x = cond (operator.1.0 == x) (Some operator.0) None
-user_by None (Some opener) x = cond (has_object opener.1 x) (Some opener.0) None
-user_by None None x = None

@@ -36,7 +36,7 @@ impl Model for History {
 
     ghost view = { λ history. history.entries };
 
-    ghost invariant = { λ history. IsHistory history.entries.opening history.entries.entries history.entries.capacity history.kept.groups (get nat_eq history.kept.users) (spare history.kept.users) history.kept.is_opened };
+    ghost invariant = { λ history. IsHistory history.entries.opening history.entries.entries history.entries.capacity history.kept.groups (get nat_eq history.kept.users.found) (spare history.kept.users.found) history.kept.users.links history.kept.is_opened };
 }
 
 impl History {

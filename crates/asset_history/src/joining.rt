@@ -1,16 +1,15 @@
 //! Joins the groups of names that are there.
 
-ghost use Rattle.std.specs.Prelude.{◌≡◌, ℕ, ◌<◌, true, List, length, slice_index};
+ghost use Rattle.std.specs.Prelude.{◌≡◌, ℕ, ◌<◌, ◌≤◌, true, List, length, slice_index};
 ghost use Rattle.asset_names.specs.Arrows.{lists};
-ghost use Rattle.asset_names.specs.Steps.{Entry, applied};
+ghost use Rattle.asset_names.specs.Steps.{Entry};
 ghost use Rattle.asset_names.specs.Groups.{same_group};
-ghost use Rattle.asset_history.specs.Named.{names_of};
-ghost use Rattle.asset_history.specs.Together.{name_at, label_at, IsWith, AreJoined, HaveGrown};
-ghost use Rattle.asset_history.specs.Uses.{uses, user_by, has_object};
+ghost use Rattle.asset_history.specs.Links.{IsIn};
+ghost use Rattle.asset_history.specs.Together.{name_at, label_at, AreJoined, HaveGrown};
 
-use asset_entries::Entries;
+use crate::links::UserLinks;
 use asset_name_groups::NameGroups;
-use asset_names::{Ob, ObList, Txn};
+use asset_names::Txn;
 
 /// Returns the node of a name that is there.
 #[inline(always)]
@@ -38,38 +37,20 @@ pub(crate) fn join_nodes(groups: &mut NameGroups, i: usize, j: usize)
     groups.join(i, j);
 }
 
-/// Returns whether the object is listed.
-#[tactic(auto, unfolding(crate::specs::Uses::has_object))]
-fn has_object(obs: &[Ob], x: Ob) -> bool
-    ensures { result ≡ has_object obs.now x.0 }
-{
-    obs.iter().any(|y| y.0 == x.0)
-}
-
-/// Returns who uses the object, by the operator and the opener of an entry, if there are such.
-#[tactic(auto, unfolding(crate::specs::Uses::user_by))]
-fn user_by(operator: Option<(Txn, Ob)>, opener: Option<(Txn, ObList)>, x: Ob) -> Option<Txn>
-    ensures { result ≡ user_by operator opener x.0 }
-{
-    match (operator, opener) {
-        (Some((t, y)), _) => (y.0 == x.0).then_some(t),
-        (None, Some((t, obs))) => has_object(obs.objects(), x).then_some(t),
-        (None, None) => None,
-    }
-}
-
-/// Joins all who use the object with the node, whose name is of one group with them. It goes over the entries.
-pub(crate) fn join_users(groups: &mut NameGroups, entries: &Entries, x: Ob, node: usize)
-    requires named { groups.old.names ≡ names_of entries.now.entries }
+/// Joins with a node, whose name is of one group with theirs, those in a chain.
+pub(crate) fn join_chain(groups: &mut NameGroups, links: &UserLinks, chain: usize, node: usize)
     requires node { node < length groups.old.names }
-    ensures joined { ((u : ℕ) → uses (applied entries.now.entries) u x.0 ≡ true → same_group entries.now.entries (name_at groups.old node) u ≡ true) → AreJoined entries.now.entries groups.old groups.new }
+    requires linked { chain ≤ length links.now.links }
+    requires chained { (other : ℕ) → IsIn links.now.links chain other → other < length groups.old.names }
+    ensures joined { (entries : List Entry) → ((other : ℕ) → IsIn links.now.links chain other → same_group entries (name_at groups.old node) (name_at groups.old other) ≡ true) → AreJoined entries groups.old groups.new }
     ensures names { groups.new.names ≡ groups.old.names }
-    ensures one { (u : ℕ) → uses (applied entries.now.entries) u x.0 ≡ true → IsWith groups.new u node }
+    ensures grown { HaveGrown groups.old groups.new }
+    ensures one { (other : ℕ) → IsIn links.now.links chain other → label_at groups.new other ≡ label_at groups.new node }
 {
-    'entries: for i in 0..entries.len() {
-        if let Some(t) = user_by(entries.operator(i), entries.opener(i), x) {
-            let other = node_of_known(groups, t);
-            join_nodes(groups, node, other);
-        }
+    let mut at = chain;
+    'links: while at > 0 {
+        let link = links.newest(at);
+        join_nodes(groups, node, link.node as usize);
+        at = link.before as usize;
     }
 }

@@ -7,9 +7,11 @@ ghost use Rattle.asset_history.specs.Named.{names_of};
 ghost use Rattle.asset_history.specs.Together.{AreFlagged, HaveGrown};
 
 use crate::joining::{join_nodes, node_of_known};
+use crate::links::UserLinks;
 use crate::noting::{UsersOfObjects, note_entry, note_first};
 use asset_entries::Entries;
 use asset_name_groups::NameGroups;
+use asset_names::MOST_OBJECTS;
 use indexmap::IndexMap;
 use std::alloc::{AllocError, Global};
 
@@ -80,29 +82,35 @@ impl KeptGroups {
     ghost use Rattle.asset_name_groups.specs.NamesInGroups.{none_named};
     ghost use Rattle.asset_entries.specs.Operating.{opener_at};
     ghost use Rattle.asset_history.specs.Kept.{before, AreLabels, AreKept};
+    ghost use Rattle.asset_history.specs.Links.{no_links};
     ghost use Rattle.asset_history.specs.Named.{names_of};
     ghost use Rattle.asset_history.specs.Together.{AreJoined};
 
-    /// Returns no groups, with room for two names for each of `capacity` entries, and for the users of so many objects. It takes
-    /// that room here, and fails if memory runs out.
+    /// Returns no groups, with room for two names and 16 links for each of `capacity` entries, and for the users of so many objects.
+    /// It takes that room here, and fails if memory runs out.
     pub(crate) fn with_room(
         alloc: Global,
         objects: usize,
         capacity: usize,
     ) -> Result<KeptGroups, AllocError>
         ensures groups { IfOk result (λ kept. kept.groups ≡ none_named (2 * capacity)) }
-        ensures users { IfOk result (λ kept. (x : ℕ) → get nat_eq kept.users x ≡ None) }
-        ensures room { IfOk result (λ kept. objects ≤ spare kept.users) }
+        ensures users { IfOk result (λ kept. (x : ℕ) → get nat_eq kept.users.found x ≡ None) }
+        ensures room { IfOk result (λ kept. objects ≤ spare kept.users.found) }
+        ensures links { IfOk result (λ kept. kept.users.links ≡ no_links (16 * capacity)) }
         ensures closed { IfOk result (λ kept. kept.is_opened ≡ false) }
     {
         let Some(names) = capacity.checked_mul(2) else {
             return Err(AllocError);
         };
+        let Some(links) = capacity.checked_mul(MOST_OBJECTS) else {
+            return Err(AllocError);
+        };
         let groups = NameGroups::with_room(alloc, names)?;
+        let links = UserLinks::with_room(alloc, links)?;
         match IndexMap::with_capacity(alloc, objects) {
-            Ok(users) => Ok(KeptGroups {
+            Ok(found) => Ok(KeptGroups {
                 groups,
-                users,
+                users: UsersOfObjects { found, links },
                 is_opened: false,
             }),
             Err(fault) => Err(fault),
@@ -114,9 +122,11 @@ impl KeptGroups {
         requires newest { length entries.now.entries ≡ newest + 1 }
         requires legal { IsLegal entries.now.opening entries.now.entries }
         requires named { self.old.groups.names ≡ names_of entries.now.entries }
-        requires kept { AreKept entries.now.opening entries.now.entries (before entries.now.entries newest) (get nat_eq self.old.users) (spare self.old.users) self.old.is_opened self.old.groups }
+        requires kept { AreKept entries.now.opening entries.now.entries (before entries.now.entries newest) (get nat_eq self.old.users.found) (spare self.old.users.found) self.old.users.links.links self.old.is_opened self.old.groups }
+        requires links { 16 * length entries.now.entries ≤ self.old.users.links.room }
         ensures joined { AreJoined entries.now.entries self.old.groups self.new.groups }
-        ensures kept { AreKept entries.now.opening entries.now.entries (before entries.now.entries newest) (get nat_eq self.new.users) (spare self.new.users) self.new.is_opened self.new.groups }
+        ensures kept { AreKept entries.now.opening entries.now.entries (before entries.now.entries newest) (get nat_eq self.new.users.found) (spare self.new.users.found) self.new.users.links.links self.new.is_opened self.new.groups }
+        ensures links { self.new.users.links.room ≡ self.old.users.links.room }
         ensures closed { self.new.is_opened ≡ false → opener_at (slice_get (reverse entries.now.entries) newest) ≡ None }
     {
         if !self.is_opened && entries.opener(newest).is_some() {
@@ -130,9 +140,11 @@ impl KeptGroups {
         requires newest { length entries.now.entries ≡ newest + 1 }
         requires legal { IsLegal entries.now.opening entries.now.entries }
         requires named { self.old.groups.names ≡ names_of entries.now.entries }
-        requires kept { AreKept entries.now.opening entries.now.entries (before entries.now.entries newest) (get nat_eq self.old.users) (spare self.old.users) self.old.is_opened self.old.groups }
+        requires kept { AreKept entries.now.opening entries.now.entries (before entries.now.entries newest) (get nat_eq self.old.users.found) (spare self.old.users.found) self.old.users.links.links self.old.is_opened self.old.groups }
+        requires links { 16 * length entries.now.entries ≤ self.old.users.links.room }
         ensures joined { AreJoined entries.now.entries self.old.groups self.new.groups }
-        ensures kept { AreKept entries.now.opening entries.now.entries entries.now.entries (get nat_eq self.new.users) (spare self.new.users) self.new.is_opened self.new.groups }
+        ensures kept { AreKept entries.now.opening entries.now.entries entries.now.entries (get nat_eq self.new.users.found) (spare self.new.users.found) self.new.users.links.links self.new.is_opened self.new.groups }
+        ensures links { self.new.users.links.room ≡ self.old.users.links.room }
     {
         self.open_by_newest(entries, newest);
         if self.is_opened {
@@ -145,11 +157,13 @@ impl KeptGroups {
         requires newest { length entries.now.entries ≡ newest + 1 }
         requires legal { IsLegal entries.now.opening entries.now.entries }
         requires labels { AreLabels (before entries.now.entries newest) self.old.groups }
-        requires kept { AreKept entries.now.opening (before entries.now.entries newest) (before entries.now.entries newest) (get nat_eq self.old.users) (spare self.old.users) self.old.is_opened self.old.groups }
+        requires kept { AreKept entries.now.opening (before entries.now.entries newest) (before entries.now.entries newest) (get nat_eq self.old.users.found) (spare self.old.users.found) self.old.users.links.links self.old.is_opened self.old.groups }
         requires room { 2 * length entries.now.entries ≤ self.old.groups.room }
+        requires links { 16 * length entries.now.entries ≤ self.old.users.links.room }
         ensures labels { AreLabels entries.now.entries self.new.groups }
-        ensures kept { AreKept entries.now.opening entries.now.entries entries.now.entries (get nat_eq self.new.users) (spare self.new.users) self.new.is_opened self.new.groups }
+        ensures kept { AreKept entries.now.opening entries.now.entries entries.now.entries (get nat_eq self.new.users.found) (spare self.new.users.found) self.new.users.links.links self.new.is_opened self.new.groups }
         ensures room { self.new.groups.room ≡ self.old.groups.room }
+        ensures links { self.new.users.links.room ≡ self.old.users.links.room }
     {
         name_newest(&mut self.groups, entries, newest);
         flag_newest(&mut self.groups, entries, newest);
@@ -164,11 +178,13 @@ impl KeptGroups {
         requires newest { length entries.now.entries ≡ newest + 1 }
         requires legal { IsLegal entries.now.opening entries.now.entries }
         requires labels { AreLabels (before entries.now.entries newest) self.old.groups }
-        requires kept { AreKept entries.now.opening (before entries.now.entries newest) (before entries.now.entries newest) (get nat_eq self.old.users) (spare self.old.users) self.old.is_opened self.old.groups }
+        requires kept { AreKept entries.now.opening (before entries.now.entries newest) (before entries.now.entries newest) (get nat_eq self.old.users.found) (spare self.old.users.found) self.old.users.links.links self.old.is_opened self.old.groups }
         requires room { 2 * length entries.now.entries ≤ self.old.groups.room }
+        requires links { 16 * length entries.now.entries ≤ self.old.users.links.room }
         ensures labels { AreLabels entries.now.entries self.new.groups }
-        ensures kept { AreKept entries.now.opening entries.now.entries entries.now.entries (get nat_eq self.new.users) (spare self.new.users) self.new.is_opened self.new.groups }
+        ensures kept { AreKept entries.now.opening entries.now.entries entries.now.entries (get nat_eq self.new.users.found) (spare self.new.users.found) self.new.users.links.links self.new.is_opened self.new.groups }
         ensures room { self.new.groups.room ≡ self.old.groups.room }
+        ensures links { self.new.users.links.room ≡ self.old.users.links.room }
     {
         self.groups.laws();
         if !self.is_opened && leaves_groups(entries, newest) {

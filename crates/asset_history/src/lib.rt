@@ -6,6 +6,7 @@ mod committing;
 mod history;
 mod joining;
 mod labelling;
+mod links;
 mod noting;
 mod users;
 

@@ -3,16 +3,16 @@
 //! If somebody opens an object and somebody operates on it, all its users are of one group. Until then those of one side may be of
 //! several.
 
-ghost use Rattle.std.specs.Prelude.{◌≡◌, ℕ, ◌<◌, Bool, true, false, ◌&&◌, nat_eq, length, not};
+ghost use Rattle.std.specs.Prelude.{◌≡◌, ℕ, ◌+◌, ◌<◌, ◌≤◌, ◌⊎◌, Bool, true, not, List, length};
 ghost use Rattle.asset_names.specs.Groups.{same_group};
-ghost use Rattle.asset_names.specs.Steps.{applied};
-ghost use Rattle.asset_history.specs.Named.{names_of};
-ghost use Rattle.asset_history.specs.Together.{name_at, label_at, IsWith, AreJoined, HaveGrown};
-ghost use Rattle.asset_history.specs.Uses.{opens, operates, uses};
-ghost use Rattle.asset_history.specs.Users.{AreSaid, AreAmong, also, node_in, uses_as};
+ghost use Rattle.asset_names.specs.Steps.{Entry, applied};
+ghost use Rattle.asset_history.specs.Links.{IsIn, HaveMore};
+ghost use Rattle.asset_history.specs.Together.{name_at, label_at, AreJoined, HaveGrown};
+ghost use Rattle.asset_history.specs.Uses.{opens, operates};
+ghost use Rattle.asset_history.specs.Users.{AreSaid, AreAmong, AreWithin, also, uses_as};
 
-use crate::joining::{join_nodes, join_users};
-use asset_entries::Entries;
+use crate::joining::{join_chain, join_nodes};
+use crate::links::UserLinks;
 use asset_name_groups::NameGroups;
 use asset_names::Ob;
 
@@ -21,11 +21,12 @@ use asset_names::Ob;
 pub(crate) enum Users {
     /// There is none.
     Nobody,
-    /// All open the object, or all operate on it. The node is one of them, and of the group of all if `are_one`.
+    /// All open the object, or all operate on it. Each is of the group of the node, which is the first, or of that of a node in the
+    /// chain.
     OneSide {
         opens: bool,
         node: usize,
-        are_one: bool,
+        chain: usize,
     },
     /// Somebody opens the object and somebody operates on it. All are of the group of the node.
     Met {
@@ -41,75 +42,104 @@ pub(crate) struct Use {
     pub opens: bool,
 }
 
-/// Joins the users of an object, who are all of one side, with one of the other side. The node is one of them, and of the group of
-/// all if `are_one`.
-fn meet(groups: &mut NameGroups, entries: &Entries, node: usize, are_one: bool, used: Use)
-    requires named { groups.old.names ≡ names_of entries.now.entries }
+/// Joins with another node a node and those in a chain.
+fn meet(groups: &mut NameGroups, links: &UserLinks, node: usize, chain: usize, other: usize)
     requires node { node < length groups.old.names }
-    requires user { used.node < length groups.old.names }
-    ensures joined { uses (applied entries.now.entries) (name_at groups.old node) used.x.0 ≡ true
-        → ((u v : ℕ) → uses (applied entries.now.entries) u used.x.0 ≡ true → uses (applied entries.now.entries) v used.x.0 ≡ true → same_group entries.now.entries u v ≡ true)
-        → uses (applied entries.now.entries) (name_at groups.old used.node) used.x.0 ≡ true → AreJoined entries.now.entries groups.old groups.new }
+    requires other { other < length groups.old.names }
+    requires linked { chain ≤ length links.now.links }
+    requires chained { (k : ℕ) → IsIn links.now.links chain k → k < length groups.old.names }
+    ensures joined { (all : List Entry) → same_group all (name_at groups.old other) (name_at groups.old node) ≡ true
+        → ((k : ℕ) → IsIn links.now.links chain k → same_group all (name_at groups.old other) (name_at groups.old k) ≡ true) → AreJoined all groups.old groups.new }
     ensures names { groups.new.names ≡ groups.old.names }
-    ensures grown { are_one ≡ true → HaveGrown groups.old groups.new }
-    ensures one { are_one ≡ true → label_at groups.new node ≡ label_at groups.new used.node }
-    ensures all { are_one ≡ false → (u : ℕ) → uses (applied entries.now.entries) u used.x.0 ≡ true → IsWith groups.new u used.node }
+    ensures grown { HaveGrown groups.old groups.new }
+    ensures one { label_at groups.new node ≡ label_at groups.new other }
+    ensures each { (k : ℕ) → IsIn links.now.links chain k → label_at groups.new k ≡ label_at groups.new other }
 {
-    if are_one {
-        join_nodes(groups, node, used.node);
-    } else {
-        join_users(groups, entries, used.x, used.node);
-    }
+    join_nodes(groups, other, node);
+    join_chain(groups, links, chain, other);
 }
 
-/// Returns whether all users of an object are of one group with one more: whether they were, and it is of the group of the node, which is
-/// one of them.
-fn stay_one(groups: &NameGroups, node: usize, are_one: bool, other: usize) -> bool
+/// Returns whether another node is of the group of the node, or of that of the newest in the chain.
+fn is_known(groups: &NameGroups, links: &UserLinks, node: usize, chain: usize, other: usize) -> bool
     requires node { node < length groups.now.names }
     requires other { other < length groups.now.names }
-    ensures { result ≡ (are_one && nat_eq (label_at groups.now node) (label_at groups.now other)) }
+    requires linked { chain ≤ length links.now.links }
+    requires chained { (k : ℕ) → IsIn links.now.links chain k → k < length groups.now.names }
+    ensures { result ≡ true → (label_at groups.now node ≡ label_at groups.now other) ⊎ ((k : ℕ) × IsIn links.now.links chain k × (label_at groups.now k ≡ label_at groups.now other)) }
 {
-    are_one && groups.label(node) == groups.label(other)
+    let label = groups.label(other);
+    if groups.label(node) == label {
+        return true;
+    }
+    chain > 0 && groups.label(links.newest(chain).node as usize) == label
 }
 
-/// Returns the users of an object once one more uses it, and joins those who meet by it. It goes over the entries only if somebody of
-/// one side uses an object that several groups use from the other.
+/// Returns the chain of the users of an object once another node of the same side uses it. The chain becomes longer unless that node
+/// is of a group that is known.
+fn with_other(
+    groups: &NameGroups,
+    links: &mut UserLinks,
+    node: usize,
+    chain: usize,
+    other: usize,
+) -> usize
+    requires node { node < length groups.now.names }
+    requires other { other < length groups.now.names }
+    requires linked { chain ≤ length links.old.links }
+    requires chained { (k : ℕ) → IsIn links.old.links chain k → k < length groups.now.names }
+    requires room { length links.old.links < links.old.room }
+    ensures more { HaveMore links.old.links links.new.links }
+    ensures few { length links.new.links ≤ length links.old.links + 1 }
+    ensures room { links.new.room ≡ links.old.room }
+    ensures linked { result ≤ length links.new.links }
+    ensures kept { (k : ℕ) → IsIn links.old.links chain k → IsIn links.new.links result k }
+    ensures only { (k : ℕ) → IsIn links.new.links result k → IsIn links.old.links chain k ⊎ (k ≡ other) }
+    ensures reached { (label_at groups.now node ≡ label_at groups.now other) ⊎ ((k : ℕ) × IsIn links.new.links result k × (label_at groups.now k ≡ label_at groups.now other)) }
+{
+    if is_known(groups, links, node, chain, other) {
+        return chain;
+    }
+    groups.laws();
+    links.add(other, chain)
+}
+
+/// Returns the users of an object once one more uses it, and joins those who meet by it.
 pub(crate) fn with_user(
     groups: &mut NameGroups,
-    entries: &Entries,
+    links: &mut UserLinks,
     users: Users,
     used: Use,
 ) -> Users
-    requires named { groups.old.names ≡ names_of entries.now.entries }
     requires node { used.node < length groups.old.names }
-    requires within { node_in users < length groups.old.names }
-    requires user { uses_as used.opens (applied entries.now.entries) (name_at groups.old used.node) used.x.0 ≡ true }
+    requires within { AreWithin (length groups.old.names) links.old.links users }
+    requires room { length links.old.links < links.old.room }
     ensures names { groups.new.names ≡ groups.old.names }
-    ensures within { node_in result < length groups.old.names }
-    ensures said { (openers operators : ℕ → Bool) → AreAmong openers (λ a. opens (applied entries.now.entries) a used.x.0) → AreAmong operators (λ t. operates (applied entries.now.entries) t used.x.0)
-        → AreSaid groups.old openers operators (λ a. opens (applied entries.now.entries) a used.x.0) (λ t. operates (applied entries.now.entries) t used.x.0) users
-        → AreJoined entries.now.entries groups.old groups.new
-        × AreSaid groups.new (also used.opens (name_at groups.old used.node) openers) (also (not used.opens) (name_at groups.old used.node) operators) (λ a. opens (applied entries.now.entries) a used.x.0) (λ t. operates (applied entries.now.entries) t used.x.0) result }
+    ensures within { AreWithin (length groups.new.names) links.new.links result }
+    ensures more { HaveMore links.old.links links.new.links }
+    ensures few { length links.new.links ≤ length links.old.links + 1 }
+    ensures room { links.new.room ≡ links.old.room }
+    ensures said { (all : List Entry) (openers operators : ℕ → Bool) → uses_as used.opens (applied all) (name_at groups.old used.node) used.x.0 ≡ true
+        → AreAmong openers (λ a. opens (applied all) a used.x.0) → AreAmong operators (λ t. operates (applied all) t used.x.0)
+        → AreSaid groups.old links.old.links openers operators (λ a. opens (applied all) a used.x.0) (λ t. operates (applied all) t used.x.0) users
+        → AreJoined all groups.old groups.new
+        × AreSaid groups.new links.new.links (also used.opens (name_at groups.old used.node) openers) (also (not used.opens) (name_at groups.old used.node) operators) (λ a. opens (applied all) a used.x.0) (λ t. operates (applied all) t used.x.0) result }
 {
     match users {
         Users::Nobody => Users::OneSide {
             opens: used.opens,
             node: used.node,
-            are_one: true,
+            chain: 0,
         },
-        Users::OneSide {
-            opens,
-            node,
-            are_one,
-        } => {
+        Users::OneSide { opens, node, chain } => {
             if opens == used.opens {
+                let longer = with_other(groups, links, node, chain, used.node);
                 return Users::OneSide {
                     opens,
                     node,
-                    are_one: stay_one(groups, node, are_one, used.node),
+                    chain: longer,
                 };
             }
-            meet(groups, entries, node, are_one, used);
+            meet(groups, links, node, chain, used.node);
             Users::Met { node: used.node }
         }
         Users::Met { node } => {

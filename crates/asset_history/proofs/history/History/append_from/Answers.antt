@@ -49,7 +49,7 @@ note_newest-requires-clause-kept c =
     let one = entry_at c.other.inside.entries.entries c.args.index (rw (← c.other.view_is) at c.requires.there) in
     let is = c.append_from.ensures one.0 one.1 in
     let kept = c.self.inside.kept in
-    kept_next_ready old new one.0.0 one.0.1 c.len-newest.result is c.len-newest.ensures.len (get nat_eq kept.users) (spare kept.users) kept.is_opened kept.groups c.self.invariant.users
+    kept_next_ready old new one.0.0 one.0.1 c.len-newest.result is c.len-newest.ensures.len (get nat_eq kept.users.found) (spare kept.users.found) kept.users.links.links kept.is_opened kept.groups c.self.invariant.users
 
 pub note_newest-requires-clause-room : goal.note_newest-requires-clause-room
 note_newest-requires-clause-room c =
@@ -58,6 +58,14 @@ note_newest-requires-clause-room c =
     let one = entry_at c.other.inside.entries.entries c.args.index (rw (← c.other.view_is) at c.requires.there) in
     let is = c.append_from.ensures one.0 one.1 in
     omega (arith, rw (← c.self.view_is) at c.requires.room, c.self.invariant.room, size_next old new one.0.0 one.0.1 c.len-newest.result is c.len-newest.ensures.len, c.len-newest.ensures.len)
+
+pub note_newest-requires-clause-links : goal.note_newest-requires-clause-links
+note_newest-requires-clause-links c =
+    let old = c.self.inside.entries in
+    let new = c.append_from.new.self in
+    let one = entry_at c.other.inside.entries.entries c.args.index (rw (← c.other.view_is) at c.requires.there) in
+    let is = c.append_from.ensures one.0 one.1 in
+    omega (arith, rw (← c.self.view_is) at c.requires.room, c.self.invariant.link_room, size_next old new one.0.0 one.0.1 c.len-newest.result is c.len-newest.ensures.len, c.len-newest.ensures.len)
 
 pub invariant_of-self : goal.invariant_of-self
 invariant_of-self c =
@@ -69,4 +77,5 @@ invariant_of-self c =
       labels = c.note_newest.ensures.labels;
       users = c.note_newest.ensures.kept;
       room = omega (arith, c.note_newest.ensures.room, c.self.invariant.room, capacity_next old new one.0.0 one.0.1 c.len-newest.result is c.len-newest.ensures.len);
+      link_room = omega (arith, c.note_newest.ensures.links, c.self.invariant.link_room, capacity_next old new one.0.0 one.0.1 c.len-newest.result is c.len-newest.ensures.len);
     }

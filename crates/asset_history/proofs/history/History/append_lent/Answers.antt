@@ -17,15 +17,20 @@ note_newest-requires-clause-labels c = labels_next_ready c.self.inside.entries c
 pub note_newest-requires-clause-kept : goal.note_newest-requires-clause-kept
 note_newest-requires-clause-kept c =
     let kept = c.self.inside.kept in
-    kept_next_ready c.self.inside.entries c.append_lent.new.self c.args.step.now c.args.reply c.len-newest.result c.append_lent.ensures c.len-newest.ensures.len (get nat_eq kept.users) (spare kept.users) kept.is_opened kept.groups c.self.invariant.users
+    kept_next_ready c.self.inside.entries c.append_lent.new.self c.args.step.now c.args.reply c.len-newest.result c.append_lent.ensures c.len-newest.ensures.len (get nat_eq kept.users.found) (spare kept.users.found) kept.users.links.links kept.is_opened kept.groups c.self.invariant.users
 
 pub note_newest-requires-clause-room : goal.note_newest-requires-clause-room
 note_newest-requires-clause-room c =
     omega (arith, rw (← c.self.view_is) at c.requires.room, c.self.invariant.room, size_next c.self.inside.entries c.append_lent.new.self c.args.step.now c.args.reply c.len-newest.result c.append_lent.ensures c.len-newest.ensures.len, c.len-newest.ensures.len)
+
+pub note_newest-requires-clause-links : goal.note_newest-requires-clause-links
+note_newest-requires-clause-links c =
+    omega (arith, rw (← c.self.view_is) at c.requires.room, c.self.invariant.link_room, size_next c.self.inside.entries c.append_lent.new.self c.args.step.now c.args.reply c.len-newest.result c.append_lent.ensures c.len-newest.ensures.len, c.len-newest.ensures.len)
 
 pub invariant_of-self : goal.invariant_of-self
 invariant_of-self c = record {
   labels = c.note_newest.ensures.labels;
   users = c.note_newest.ensures.kept;
   room = omega (arith, c.note_newest.ensures.room, c.self.invariant.room, capacity_next c.self.inside.entries c.append_lent.new.self c.args.step.now c.args.reply c.len-newest.result c.append_lent.ensures c.len-newest.ensures.len);
+  link_room = omega (arith, c.note_newest.ensures.links, c.self.invariant.link_room, capacity_next c.self.inside.entries c.append_lent.new.self c.args.step.now c.args.reply c.len-newest.result c.append_lent.ensures c.len-newest.ensures.len);
 }

@@ -8,4 +8,4 @@ pub invariant_of-result : goal.invariant_of-result
 unfolding opened
 invariant_of-result c =
     let kept = c.in-Ok.kept in
-    rw c.in_ok-entries.ensures (nothing_kept c.args.opening.now c.args.capacity (get nat_eq kept.users) (spare kept.users) kept.is_opened kept.groups c.in-Ok.ensures.groups c.in-Ok.ensures.closed c.in-Ok.ensures.users c.in-Ok.ensures.room)
+    rw c.in_ok-entries.ensures (nothing_kept c.args.opening.now c.args.capacity (get nat_eq kept.users.found) (spare kept.users.found) kept.users.links kept.is_opened kept.groups c.in-Ok.ensures.groups c.in-Ok.ensures.links c.in-Ok.ensures.closed c.in-Ok.ensures.users c.in-Ok.ensures.room)

@@ -8,10 +8,10 @@ pub returns-then-leaves_groups-clause-labels : goal.returns-then-leaves_groups-c
 returns-then-leaves_groups-clause-labels c =
     let old = c.args.self.now in
     stay_labels c.args.entries.now.opening c.args.entries.now.entries c.args.newest c.requires.newest c.requires.legal (sym c.leaves_groups.ensures ∙ c.if-leaves_groups.true)
-    (get nat_eq old.users) (spare old.users) old.is_opened old.groups c.if-not-self.true c.requires.kept c.laws.ensures c.requires.labels
+    (get nat_eq old.users.found) (spare old.users.found) old.users.links.links old.is_opened old.groups c.if-not-self.true c.requires.kept c.laws.ensures c.requires.labels
 
 pub returns-then-leaves_groups-clause-kept : goal.returns-then-leaves_groups-clause-kept
 returns-then-leaves_groups-clause-kept c =
     let old = c.args.self.now in
     stay_kept c.args.entries.now.opening c.args.entries.now.entries c.args.newest c.requires.newest c.requires.legal (sym c.leaves_groups.ensures ∙ c.if-leaves_groups.true)
-    (get nat_eq old.users) (spare old.users) old.is_opened old.groups c.if-not-self.true c.requires.kept
+    (get nat_eq old.users.found) (spare old.users.found) old.users.links.links old.is_opened old.groups c.if-not-self.true c.requires.kept

@@ -1,0 +1,20 @@
+use Rattle.std.proofs.Common.{refl, subst, arith, inr}
+use Rattle.asset_history.specs.Links.{IsIn}
+use Rattle.asset_history.proofs.ChainLemmas.{one_longer, room_is, longer_kept, longer_only, longer_has}
+use Rattle.asset_history.proofs.users.with_other.Goals as goal
+
+pub returns-clause-few : goal.returns-clause-few
+returns-clause-few c = omega (arith, one_longer c.args.links.now c.add.new.self c.args.other c.args.chain c.add.ensures.added c.add.ensures.more c.requires.linked)
+
+pub returns-clause-room : goal.returns-clause-room
+returns-clause-room c = room_is c.args.links.now c.add.new.self c.args.other c.args.chain c.add.ensures.added c.add.ensures.more c.requires.linked
+
+pub returns-clause-kept : goal.returns-clause-kept
+returns-clause-kept c = λ k h. rw (c.add.ensures.longer) (longer_kept c.args.links.now c.add.new.self c.args.other c.args.chain c.add.ensures.added c.add.ensures.more c.requires.linked k h)
+
+pub returns-clause-only : goal.returns-clause-only
+returns-clause-only c = λ k h. longer_only c.args.links.now c.add.new.self c.args.other c.args.chain c.add.ensures.added c.add.ensures.more c.requires.linked k (subst (λ at. IsIn c.add.new.self.links at k) c.add.ensures.longer h)
+
+pub returns-clause-reached : goal.returns-clause-reached
+returns-clause-reached c =
+    inr (c.args.other, rw (c.add.ensures.longer) (longer_has c.args.links.now c.add.new.self c.args.other c.args.chain c.add.ensures.added c.add.ensures.more c.requires.linked), refl)
