@@ -7,6 +7,8 @@ mod add_rows;
 #[cfg(test)]
 mod add_tables;
 #[cfg(test)]
+mod chains;
+#[cfg(test)]
 mod drawn;
 #[cfg(test)]
 mod many;

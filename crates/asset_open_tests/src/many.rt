@@ -16,9 +16,9 @@ const MANY: usize = 400;
 
 const ROOM: usize = 8_000;
 
-const DONE: Outcome = Outcome::Answer(Reply::Done);
+pub(crate) const DONE: Outcome = Outcome::Answer(Reply::Done);
 
-const READ: Outcome = Outcome::Answer(Reply::Value(100));
+pub(crate) const READ: Outcome = Outcome::Answer(Reply::Value(100));
 
 /// Returns objects 1 to 400 with one value.
 fn objects() -> [(Ob, i64); MANY] {
@@ -33,7 +33,7 @@ fn objects() -> [(Ob, i64); MANY] {
 
 /// Returns the history of a facility over the objects once steps are played, and the first transaction whose steps are not
 /// answered as they must be.
-fn played<P: Fn(&mut Core) -> Option<u64> + Drop>(
+pub(crate) fn played<P: Fn(&mut Core) -> Option<u64> + Drop>(
     alloc: Global,
     play: P,
 ) -> Result<(History, Option<u64>), OpenFault>
@@ -45,7 +45,7 @@ fn played<P: Fn(&mut Core) -> Option<u64> + Drop>(
 }
 
 /// Returns whether each step has the outcome beside it.
-fn all_are(core: &mut Core, steps: &[(Step, Outcome)]) -> bool {
+pub(crate) fn all_are(core: &mut Core, steps: &[(Step, Outcome)]) -> bool {
     for (step, outcome) in steps {
         if ask(core, step) != Ok(*outcome) {
             return false;
@@ -91,7 +91,7 @@ fn pairs_meet(core: &mut Core) -> Option<u64> {
 }
 
 /// Returns the first two of these that are of one group, or not, unexpectedly.
-fn first_other(found: &Groups, pairs: &[(u64, u64, bool)]) -> Option<(u64, u64)> {
+pub(crate) fn first_other(found: &Groups, pairs: &[(u64, u64, bool)]) -> Option<(u64, u64)> {
     for (t, u, same) in pairs {
         if found.same(Txn(*t), Txn(*u)) != *same {
             return Some((*t, *u));
@@ -124,7 +124,7 @@ fn hundreds_of_objects_are_opened(rt: HostRuntime) -> Result<(), Fail> {
 }
 
 /// Starts a transaction that then asks a step.
-fn one_asks(core: &mut Core, t: u64, step: Step, outcome: Outcome) -> bool {
+pub(crate) fn one_asks(core: &mut Core, t: u64, step: Step, outcome: Outcome) -> bool {
     all_are(
         core,
         &[(initiate(t), DONE), (begin(t), DONE), (step, outcome)],
