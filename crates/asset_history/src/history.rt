@@ -55,7 +55,7 @@ impl History {
 
     /// Returns a history of these opening values without entries, with room for `capacity` of them, for the names of twice as
     /// many transactions, and for the users of each object. No object is given twice. It takes that room here, and fails if memory
-    /// runs out.
+    /// runs out or `capacity` is above 2^28 - 1.
     pub fn open(alloc: Global, opening: &[(Ob, i64)], capacity: usize) -> Result<History, NoMemory>
         requires different { HasNoDouble (objects_of opening.now) }
         ensures { IfOk result (λ history. history ≡ opened opening.now capacity) }

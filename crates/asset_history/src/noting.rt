@@ -21,12 +21,12 @@ use asset_names::Ob;
 use indexmap::IndexMap;
 
 /// What is kept of the users of each object.
-type Found = IndexMap<u64, Users>;
+pub(crate) type Found = IndexMap<u64, Users>;
 
 /// The users of each object, and the chains of those who are of several groups.
 #[derive(Drop)]
 pub(crate) struct UsersOfObjects {
-    pub found: IndexMap<u64, Users>,
+    pub found: Found,
     pub links: UserLinks,
 }
 
