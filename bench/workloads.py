@@ -376,9 +376,9 @@ def open_each(script, giver, ops):
         script.open(giver, ops, ",".join(map(str, range(first, min(first + 16, script.objects + 1)))))
 
 
-def opened_late(steps, seed):
-    """Short transactions write some objects, and then one lets anybody read all of them."""
-    script = Script(steps, seed, min(1000, steps // 10))
+def written_then_opened(steps, seed, objects):
+    """Short transactions write so many objects, and then one lets anybody read all of them."""
+    script = Script(steps, seed, objects)
     while script.has_room(10 + script.objects // 16):
         t = script.start()
         script.write(t, script.object())
@@ -389,9 +389,19 @@ def opened_late(steps, seed):
     return script
 
 
-def two_openers(steps, seed):
-    """Two let anybody write all of some objects, and short transactions write them, one after another."""
-    script = Script(steps, seed, min(1000, steps // 10))
+def opened_late(steps, seed):
+    """Short transactions write some objects, and then one lets anybody read all of them."""
+    return written_then_opened(steps, seed, min(1000, steps // 10))
+
+
+def all_opened_late(steps, seed):
+    """As opened_late, with an object for every twenty steps."""
+    return written_then_opened(steps, seed, steps // 20 + 1)
+
+
+def opened_by_two(steps, seed, objects):
+    """Two let anybody write so many objects, and short transactions write them, one after another."""
+    script = Script(steps, seed, objects)
     openers = script.start_many(2)
     for t in openers:
         open_each(script, t, "rw")
@@ -401,6 +411,16 @@ def two_openers(steps, seed):
         script.finish(t)
     script.finish_some(openers, 0.0)
     return script
+
+
+def two_openers(steps, seed):
+    """Two let anybody write all of some objects, and short transactions write them, one after another."""
+    return opened_by_two(steps, seed, min(1000, steps // 10))
+
+
+def two_openers_of_all(steps, seed):
+    """As two_openers, with an object for every ten steps."""
+    return opened_by_two(steps, seed, steps // 10 + 1)
 
 
 def open_chains_of_64(steps, seed):
@@ -689,7 +709,9 @@ LOADS = {
         one_opener,
         drafts,
         opened_late,
+        all_opened_late,
         two_openers,
+        two_openers_of_all,
         open_chains_of_64,
         one_long_open_chain,
         two_writers,
