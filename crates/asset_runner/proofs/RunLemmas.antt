@@ -102,49 +102,28 @@ module _ {X : Type 0} {B : X → Type 0} where
         kept = asks_more u h.finished.list.calls a.returned.list.calls b.returned.list.calls h.kept (g.calls u e);
       }
 
-module _ {J X : Type 0} {B : X → Type 0} (place : J → ℕ) (name : J → Txn) (body : J → DynBox X Global B) (session : J → Asker) (manager : J → TableId) (post : J → Working → Worked → Type 0) where
+  among_either : (xs ys : List (Arrival X B)) (x : Arrival X B) → IsAmong (xs ++ ys) x → IsAmong xs x ⊎ IsAmong ys x
+  among_either [] ys x at = inr at
+  among_either (y ∷ xs) ys x (zero, e) = inl (0, e)
+  among_either (y ∷ xs) ys x (suc i, e) = ⊎_elim (λ m. inl (suc m.0, m.1)) (λ m. inr m) (among_either xs ys x (i, e))
+
+  -- if none is left, each was called
+  called_at : (order : List (Arrival X B)) (i : ℕ) (b : Arrival X B) → left_of (runs_of order) ≡ [] → slice_get order i ≡ Some b → is_called (answered_by b.fate) ≡ true
+  called_at [] i b none at = absurd (cc at)
+  called_at (x ∷ xs) zero b none at =
+      let same : x ≡ b = cc at in
+      subst (λ (y : Arrival X B). is_called (answered_by y.fate) ≡ true) same (row_called x.name (answered_by x.fate) (left_of (runs_of xs)) none).0
+  called_at (x ∷ xs) (suc i) b none at = called_at xs i b (row_called x.name (answered_by x.fate) (left_of (runs_of xs)) none).1 at
+
+module _ {J X : Type 0} {B : X → Type 0} (place : J → ℕ) (name : J → Txn) (body : J → DynBox X Global B) (session : J → Asker) where
   abbrev ticket : J → Ticket
   ticket j = (place j, (name j).0)
-
-  abbrev Ran : J → JobRun → Type 0
-  Ran j run = RunsBody (post j) (name j) (manager j) (session j).list.calls run
-
-  abbrev Has : J → Fate X B → Type 0
-  Has j fate = IfSome (body_of fate) (λ (d : DynBox X Global B). d ≡ body j)
-
-  abbrev Is : List J → Arrival X B → Type 0
-  Is jobs a = Came (IsAmong jobs) ticket ticket_of (λ (j : J) (a : Arrival X B). Ran j (run_of a) × Has j a.fate) a
 
   abbrev lefts : List J → List (Arrival X B)
   lefts left = map (λ j. left_at (place j) (name j) (body j) (session j)) left
 
-  -- a job that was left has its own body
-  each_left : (jobs left : List J) → Each (IsAmong jobs) left → Each (Is jobs) (lefts left)
-  each_left jobs [] all = tt
-  each_left jobs (j ∷ left) all = (record { job = j; one = all.0; same = refl; is = (tt, refl) }, each_left jobs left all.1)
-
-  -- who stands at the place of a job came of it
-  came_of : {A : Type 0} (names : List Txn) (jobs left : List J) (rows : List (Vec (Arrival X B) A)) (order : List (Arrival X B))
-      → map ticket jobs ≡ numbered names → EachOf (Is jobs) rows → Each (IsAmong jobs) left → CameBack (all_of rows ++ lefts left) order
-      → (i : ℕ) (job : J) (b : Arrival X B) → slice_get jobs i ≡ Some job → slice_get order i ≡ Some b → (a : Arrival X B) × GoesOn a b × Ran job (run_of a) × Has job a.fate
-  came_of names jobs left rows order ts came among back i job b at_job at =
-      let a = back i b at in
-      let c : Is jobs a.0 = each_among (Is jobs) (all_of rows ++ lefts left) a.0 (each_append (Is jobs) (all_of rows) (lefts left) (each_all (Is jobs) rows came) (each_left jobs left among)) a.1 in
-      let stands : place c.job ≡ 0 + c.one.0 = numbered_place ticket jobs 0 (map (λ (t : Txn). t.0) names) c.one.0 c.job ts c.one.1 in
-      let given : a.0.place ≡ place c.job = ap (λ (t : Ticket). t.0) c.same in
-      let here : c.one.0 ≡ i = omega (arith, stands, given, a.2) in
-      let both : Some c.job ≡ Some job = sym c.one.1 ∙ (ap (slice_get jobs) here ∙ at_job) in
-      let same : c.job ≡ job = cc both in
-      let is : Ran job (run_of a.0) × Has job a.0.fate = subst (λ (j : J). Ran j (run_of a.0) × Has j a.0.fate) same c.is in
-      (a.0, a.3, is.0, is.1)
-
-  pub runs_of_jobs : {A : Type 0} (names : List Txn) (jobs left : List J) (rows : List (Vec (Arrival X B) A)) (order : List (Arrival X B))
-      → map ticket jobs ≡ numbered names → EachOf (Is jobs) rows → Each (IsAmong jobs) left → CameBack (all_of rows ++ lefts left) order → RunsOf Ran jobs (runs_of order)
-  runs_of_jobs names jobs left rows order ts came among back i job run at_job at_run =
-      let b = runs_at order i run at_run in
-      let a = came_of names jobs left rows order ts came among back i job b.0 at_job b.1 in
-      subst (Ran job) b.2 (if_some (answered_by b.0.fate) (CallsBody (post job) (name job) (manager job) (session job).list.calls b.0.returned.list.calls) (λ u who.
-      ran_on (post job) (name job) (manager job) (session job).list.calls a.0 b.0 u a.1 who a.2))
+  abbrev Has : J → Fate X B → Type 0
+  Has j fate = IfSome (body_of fate) (λ (d : DynBox X Global B). d ≡ body j)
 
   -- what is kept stands under the names of the jobs, each with the body of the job at its place
   kept_are : (order : List (Arrival X B)) (jobs : List J) (k : ℕ) → map ticket jobs ≡ placing.numbered k (map (λ (t : Txn). t.0) (names_of order))
@@ -163,50 +142,21 @@ module _ {J X : Type 0} {B : X → Type 0} (place : J → ℕ) (name : J → Txn
       row t named (Left d) same = λ i. (named i, same i) ∷ []
       row t named (Called answered waits) same = refl
 
-  pub left_of_jobs : {A : Type 0} (names : List Txn) (jobs left : List J) (rows : List (Vec (Arrival X B) A)) (order : List (Arrival X B))
-      → map ticket jobs ≡ numbered names → EachOf (Is jobs) rows → Each (IsAmong jobs) left → CameBack (all_of rows ++ lefts left) order → names_of order ≡ names
-      → kept_of order ≡ left_among name body jobs (runs_of order)
-  left_of_jobs names jobs left rows order ts came among back ns =
-      kept_are order jobs 0 (ts ∙ sym (ap numbered ns)) (λ i job b at_job at.
-      let a = came_of names jobs left rows order ts came among back i job b at_job at in
-      subst (λ (o : Option (DynBox X Global B)). IfSome o (λ (d : DynBox X Global B). d ≡ body job)) (sym a.1.body) a.3)
-
-module _ {X : Type 0} {B : X → Type 0} where
-  among_either : (xs ys : List (Arrival X B)) (x : Arrival X B) → IsAmong (xs ++ ys) x → IsAmong xs x ⊎ IsAmong ys x
-  among_either [] ys x at = inr at
-  among_either (y ∷ xs) ys x (zero, e) = inl (0, e)
-  among_either (y ∷ xs) ys x (suc i, e) = ⊎_elim (λ m. inl (suc m.0, m.1)) (λ m. inr m) (among_either xs ys x (i, e))
-
-  -- if none is left, each was called
-  called_at : (order : List (Arrival X B)) (i : ℕ) (b : Arrival X B) → left_of (runs_of order) ≡ [] → slice_get order i ≡ Some b → is_called (answered_by b.fate) ≡ true
-  called_at [] i b none at = absurd (cc at)
-  called_at (x ∷ xs) zero b none at =
-      let same : x ≡ b = cc at in
-      subst (λ (y : Arrival X B). is_called (answered_by y.fate) ≡ true) same (row_called x.name (answered_by x.fate) (left_of (runs_of xs)) none).0
-  called_at (x ∷ xs) (suc i) b none at = called_at xs i b (row_called x.name (answered_by x.fate) (left_of (runs_of xs)) none).1 at
-
-module _ {J X : Type 0} {B : X → Type 0} (place : J → ℕ) (name : J → Txn) (body : J → DynBox X Global B) (session : J → Asker) where
-  abbrev given : J → Ticket
-  given j = (place j, (name j).0)
-
-  abbrev as_left : List J → List (Arrival X B)
-  as_left left = map (λ j. left_at (place j) (name j) (body j) (session j)) left
-
   -- of a job that was left no body was called
-  lefts_uncalled : (left : List J) → Each (λ (a : Arrival X B). is_called (answered_by a.fate) ≡ false) (as_left left)
+  lefts_uncalled : (left : List J) → Each (λ (a : Arrival X B). is_called (answered_by a.fate) ≡ false) (lefts left)
   lefts_uncalled [] = tt
   lefts_uncalled (j ∷ left) = (refl, lefts_uncalled left)
 
   -- the place of a job that was left has one that was not called
   left_stands : {A : Type 0} (names : List Txn) (jobs left : List J) (rows : List (Vec (Arrival X B) A)) (order : List (Arrival X B)) (j : J)
-      → map given jobs ≡ numbered names → SharedOut (map given jobs) (tickets_of ticket_of rows) (map given left) → CameBack (all_of rows ++ as_left left) order → names_of order ≡ names
+      → map ticket jobs ≡ numbered names → SharedOut (map ticket jobs) (tickets_of ticket_of rows) (map ticket left) → CameBack (all_of rows ++ lefts left) order → names_of order ≡ names
       → left_of (runs_of order) ≡ [] → IsAmong left j → ⊥
   left_stands names jobs left rows order j ts shared back ns none among =
       let p = place j in
       let numbers = map (λ (t : Txn). t.0) names in
       let even = shared (at p) in
-      let whole : weigh (at p) (map given jobs) ≡ weigh (at p) (numbered names) = ap (weigh (at p)) ts in
-      let one : 0 < weigh (at p) (map given left) = weighs_among given left j p among refl in
+      let whole : weigh (at p) (map ticket jobs) ≡ weigh (at p) (numbered names) = ap (weigh (at p)) ts in
+      let one : 0 < weigh (at p) (map ticket left) = weighs_among ticket left j p among refl in
       let once = numbered_once 0 numbers p in
       let few : p < 0 + length numbers = numbered_in 0 numbers p (omega (arith, even, whole, one)) in
       let many : length order ≡ length names = as_many order names ns in
@@ -218,19 +168,62 @@ module _ {J X : Type 0} {B : X → Type 0} (place : J → ℕ) (name : J → Txn
       let two : 0 < weigh (at p) (map ticket_of (all_of rows)) = weighs_among ticket_of (all_of rows) a.0 p in_row a.2 in
       let same : weigh (at p) (tickets_of ticket_of rows) ≡ weigh (at p) (map ticket_of (all_of rows)) = ap (weigh (at p)) (tickets_all rows) in
       omega (arith, even, whole, once, one, two, same))
-      (λ (in_left : IsAmong (as_left left) a.0).
-      let not_called : is_called (answered_by a.0.fate) ≡ false = each_among (λ (a : Arrival X B). is_called (answered_by a.fate) ≡ false) (as_left left) a.0 (lefts_uncalled left) in_left in
+      (λ (in_left : IsAmong (lefts left) a.0).
+      let not_called : is_called (answered_by a.0.fate) ≡ false = each_among (λ (a : Arrival X B). is_called (answered_by a.fate) ≡ false) (lefts left) a.0 (lefts_uncalled left) in_left in
       cc (called, not_called))
-      (among_either (all_of rows) (as_left left) a.0 a.1)
+      (among_either (all_of rows) (lefts left) a.0 a.1)
 
   -- if the workers left a job unless there are no jobs, then by the runs some body was not called, unless there are no runs
   pub somebody_left : {A : Type 0} (names : List Txn) (jobs left : List J) (rows : List (Vec (Arrival X B) A)) (order : List (Arrival X B))
-      → map given jobs ≡ numbered names → SharedOut (map given jobs) (tickets_of ticket_of rows) (map given left) → CameBack (all_of rows ++ as_left left) order → names_of order ≡ names
+      → map ticket jobs ≡ numbered names → SharedOut (map ticket jobs) (tickets_of ticket_of rows) (map ticket left) → CameBack (all_of rows ++ lefts left) order → names_of order ≡ names
       → (left ≡ [] → jobs ≡ []) → left_of (runs_of order) ≡ [] → runs_of order ≡ []
-  somebody_left names jobs [] rows order ts shared back ns ran_out none = nothing names order (sym (ap (map given) (ran_out refl)) ∙ ts) ns
+  somebody_left names jobs [] rows order ts shared back ns ran_out none = nothing names order (sym (ap (map ticket) (ran_out refl)) ∙ ts) ns
     where
       nothing : (names : List Txn) (order : List (Arrival X B)) → [] ≡ numbered names → names_of order ≡ names → runs_of order ≡ []
       nothing names [] ts ns = refl
       nothing [] (b ∷ bs) ts ns = absurd (cc ns)
       nothing (t ∷ names) (b ∷ bs) ts ns = absurd (cc ts)
   somebody_left names jobs (j ∷ left) rows order ts shared back ns ran_out none = absurd (left_stands names jobs (j ∷ left) rows order j ts shared back ns none (0, refl))
+
+  module _ (manager : J → TableId) (post : J → Working → Worked → Type 0) where
+    abbrev Ran : J → JobRun → Type 0
+    Ran j run = RunsBody (post j) (name j) (manager j) (session j).list.calls run
+
+    abbrev Is : List J → Arrival X B → Type 0
+    Is jobs a = Came (IsAmong jobs) ticket ticket_of (λ (j : J) (a : Arrival X B). Ran j (run_of a) × Has j a.fate) a
+
+    -- a job that was left has its own body
+    each_left : (jobs left : List J) → Each (IsAmong jobs) left → Each (Is jobs) (lefts left)
+    each_left jobs [] all = tt
+    each_left jobs (j ∷ left) all = (record { job = j; one = all.0; same = refl; is = (tt, refl) }, each_left jobs left all.1)
+
+    -- who stands at the place of a job came of it
+    came_of : {A : Type 0} (names : List Txn) (jobs left : List J) (rows : List (Vec (Arrival X B) A)) (order : List (Arrival X B))
+        → map ticket jobs ≡ numbered names → EachOf (Is jobs) rows → Each (IsAmong jobs) left → CameBack (all_of rows ++ lefts left) order
+        → (i : ℕ) (job : J) (b : Arrival X B) → slice_get jobs i ≡ Some job → slice_get order i ≡ Some b → (a : Arrival X B) × GoesOn a b × Ran job (run_of a) × Has job a.fate
+    came_of names jobs left rows order ts came among back i job b at_job at =
+        let a = back i b at in
+        let c : Is jobs a.0 = each_among (Is jobs) (all_of rows ++ lefts left) a.0 (each_append (Is jobs) (all_of rows) (lefts left) (each_all (Is jobs) rows came) (each_left jobs left among)) a.1 in
+        let stands : place c.job ≡ 0 + c.one.0 = numbered_place ticket jobs 0 (map (λ (t : Txn). t.0) names) c.one.0 c.job ts c.one.1 in
+        let given : a.0.place ≡ place c.job = ap (λ (t : Ticket). t.0) c.same in
+        let here : c.one.0 ≡ i = omega (arith, stands, given, a.2) in
+        let both : Some c.job ≡ Some job = sym c.one.1 ∙ (ap (slice_get jobs) here ∙ at_job) in
+        let same : c.job ≡ job = cc both in
+        let is : Ran job (run_of a.0) × Has job a.0.fate = subst (λ (j : J). Ran j (run_of a.0) × Has j a.0.fate) same c.is in
+        (a.0, a.3, is.0, is.1)
+
+    pub runs_of_jobs : {A : Type 0} (names : List Txn) (jobs left : List J) (rows : List (Vec (Arrival X B) A)) (order : List (Arrival X B))
+        → map ticket jobs ≡ numbered names → EachOf (Is jobs) rows → Each (IsAmong jobs) left → CameBack (all_of rows ++ lefts left) order → RunsOf Ran jobs (runs_of order)
+    runs_of_jobs names jobs left rows order ts came among back i job run at_job at_run =
+        let b = runs_at order i run at_run in
+        let a = came_of names jobs left rows order ts came among back i job b.0 at_job b.1 in
+        subst (Ran job) b.2 (if_some (answered_by b.0.fate) (CallsBody (post job) (name job) (manager job) (session job).list.calls b.0.returned.list.calls) (λ u who.
+        ran_on (post job) (name job) (manager job) (session job).list.calls a.0 b.0 u a.1 who a.2))
+
+    pub left_of_jobs : {A : Type 0} (names : List Txn) (jobs left : List J) (rows : List (Vec (Arrival X B) A)) (order : List (Arrival X B))
+        → map ticket jobs ≡ numbered names → EachOf (Is jobs) rows → Each (IsAmong jobs) left → CameBack (all_of rows ++ lefts left) order → names_of order ≡ names
+        → kept_of order ≡ left_among name body jobs (runs_of order)
+    left_of_jobs names jobs left rows order ts came among back ns =
+        kept_are order jobs 0 (ts ∙ sym (ap numbered ns)) (λ i job b at_job at.
+        let a = came_of names jobs left rows order ts came among back i job b at_job at in
+        subst (λ (o : Option (DynBox X Global B)). IfSome o (λ (d : DynBox X Global B). d ≡ body job)) (sym a.1.body) a.3)
