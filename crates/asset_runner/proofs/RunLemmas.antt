@@ -46,10 +46,10 @@ numbered_place ticket (x ∷ xs) base (n ∷ ns) (suc k) j h e =
     let r = numbered_place ticket xs (base + 1) ns k j rest e in
     omega (arith, r)
 
-entry_at : {A : Type 0} (xs : List A) (i : ℕ) → i < length xs → (x : A) × (slice_get xs i ≡ Some x)
-entry_at [] i below = absurd (omega (arith, below))
-entry_at (x ∷ xs) zero below = (x, refl)
-entry_at (x ∷ xs) (suc i) below = entry_at xs i (omega (arith, below))
+one_at : {A : Type 0} (xs : List A) (i : ℕ) → i < length xs → (x : A) × (slice_get xs i ≡ Some x)
+one_at [] i below = absurd (omega (arith, below))
+one_at (x ∷ xs) zero below = (x, refl)
+one_at (x ∷ xs) (suc i) below = one_at xs i (omega (arith, below))
 
 if_some : {A : Type 0} (o : Option A) (P : A → Type 0) → ((u : A) → o ≡ Some u → P u) → IfSome o P
 if_some None P h = tt
@@ -160,7 +160,7 @@ module _ {J X : Type 0} {B : X → Type 0} (place : J → ℕ) (name : J → Txn
       let once = numbered_once 0 numbers p in
       let few : p < 0 + length numbers = numbered_in 0 numbers p (omega (arith, even, whole, one)) in
       let many : length order ≡ length names = as_many order names ns in
-      let there = entry_at order p (omega (arith, few, many, length-map names (λ (t : Txn). t.0))) in
+      let there = one_at order p (omega (arith, few, many, length-map names (λ (t : Txn). t.0))) in
       let a = back p there.0 there.1 in
       let called : is_called (answered_by a.0.fate) ≡ true = subst (λ (o : Option Txn). is_called o ≡ true) a.3.answered (called_at order p there.0 none there.1) in
       ⊎_elim
