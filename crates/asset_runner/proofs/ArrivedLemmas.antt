@@ -21,7 +21,7 @@ use Rattle.asset_runner.specs.Runs.{JobRun, left_row, left_of}
 use Rattle.asset_runner.specs.Fates.{answered_by, body_of}
 use Rattle.asset_runner.specs.Arrived.{ticket_of, left_at, numbered, placed}
 use Rattle.asset_runner.specs.Rows.{all_of, names_of, runs_of, kept_row, kept_of}
-use Rattle.asset_runner.specs.Comes.{IsCause, IsWorkCause}
+use Rattle.asset_runner.specs.Comes.{IsWorkCause}
 use Rattle.asset_runner.proofs.PlacingLemmas.{placed-append, length_placed, length_nones, somes-append, comes_back, stand_among}
 
 pub all_of-append : {E A : Type 0} (xs ys : List (Vec E A)) → all_of (xs ++ ys) ≡ all_of xs ++ all_of ys
@@ -92,11 +92,6 @@ tickets_more f jobs jobs' job names names' t n j ns x len was =
     let m : map (λ (t : Txn). t.0) (names ++ t ∷ []) ≡ nums ++ t.0 ∷ [] = map-append (λ (t : Txn). t.0) names (t ∷ []) in
     pushed f jobs jobs' job (numbered names) (0 + length nums, t.0) j was at
     ∙ sym (ap numbered ns ∙ (ap (placing.numbered 0) m ∙ numbered_last 0 nums t.0))
-
-pub work_cause : (workers : ℕ) (runs : List JobRun) (cause : RunCause) → IsWorkCause workers (left_of runs ≡ [] → runs ≡ []) cause → IsCause workers runs cause
-work_cause workers runs NoWorkers h = h
-work_cause workers runs NoMemory h = h
-work_cause workers runs (Stranger t) h = absurd h
 
 -- the cause stands with what follows of what is so if memory ran out
 pub cause_so : (workers : ℕ) (P Q : Type 0) (cause : Option RunCause) → (P → Q) → MatchOption cause (0 < workers) (λ k. IsWorkCause workers P k) → MatchOption cause (0 < workers) (λ k. IsWorkCause workers Q k)
