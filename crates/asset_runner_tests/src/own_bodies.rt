@@ -4,7 +4,7 @@ ghost use Rattle.std.specs.Prelude.{◌≡◌, Some};
 
 use crate::bodies::{Work, does};
 use crate::gates::Holding;
-use crate::running::{Setting, initiated, open_manager, told};
+use crate::running::{initiated, open_plan, told};
 use asset_runner::{Body, Finished, Job, Plan, Report, Tx};
 use std::alloc::{AllocError, Global};
 use std::sync::{Arc, Wait};
@@ -64,13 +64,7 @@ fn keep_their_own<R: Threads + Wait + Sync>(
 fn jobs_that_are_left_have_their_own_bodies(rt: HostRuntime) -> Result<(), Fail> {
     let alloc = rt.alloc();
     let numbers = numbers_of_all(alloc)?;
-    let Setting {
-        manager: _,
-        shared,
-        session,
-        other: _,
-    } = open_manager(alloc)?;
-    let mut plan = Plan::new(alloc, shared, session, None);
+    let mut plan = open_plan(alloc)?;
     for (name, number) in numbers.iter().enumerate() {
         let Ok(number) = Arc::try_clone(number) else {
             continue;

@@ -4,7 +4,7 @@ ghost use Rattle.std.specs.Prelude.{◌≡◌, Some};
 ghost use Rattle.asset_bodies.specs.Working.{Working, Worked};
 
 use crate::bodies::{Work, does};
-use crate::running::{Setting, initiated, open_manager};
+use crate::running::{initiated, open_plan};
 use asset_names::Txn;
 use asset_runner::{Body, Cause, Finished, InitFault, Plan, Tx};
 use std::sync::Wait;
@@ -40,13 +40,7 @@ fn causes_of<R: Wait>(rt: &R, plan: &mut Plan, body: Body) -> Option<(Cause, Cau
 #[test]
 fn room_that_no_machine_has_is_refused_to_a_job(rt: HostRuntime) -> Result<(), Fail> {
     let alloc = rt.alloc();
-    let Setting {
-        manager: _,
-        shared,
-        session,
-        other: _,
-    } = open_manager(alloc)?;
-    let mut plan = Plan::new(alloc, shared, session, None);
+    let mut plan = open_plan(alloc)?;
     let made: Result<Box<_>, _> = Box::new(alloc, move |tx: Tx| does(&rt, tx, Work::Nothing));
     let body: Body = made?;
     let causes = causes_of(&rt, &mut plan, body);

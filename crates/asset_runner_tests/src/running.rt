@@ -59,6 +59,17 @@ pub(crate) fn open_manager(alloc: Global) -> Result<Setting, AllocError>
     }
 }
 
+/// Opens a manager over three objects, and returns a plan of it without jobs.
+pub(crate) fn open_plan(alloc: Global) -> Result<Plan, AllocError> {
+    let Setting {
+        manager: _,
+        shared,
+        session,
+        other: _,
+    } = open_manager(alloc)?;
+    Ok(Plan::new(alloc, shared, session, None))
+}
+
 /// Initiates a job, and returns why it was not. If memory runs out once, its body comes back, and it is initiated again.
 pub(crate) fn initiated<R: Wait>(rt: &R, plan: &mut Plan, t: u64, body: Body) -> Option<Cause>
     requires ready { (tx : Working) → pre body tx }
