@@ -1,12 +1,15 @@
 -- Rows of what came back.
-use Rattle.std.specs.Prelude.{◌≡◌, ℕ, List, [], ◌∷◌, ◌++◌, map, Vec, Option, None, Some, slice_get}
+use Rattle.std.specs.Prelude.{◌≡◌, ℕ, List, [], ◌∷◌, ◌++◌, map, Vec, Option, None, Some, IfSome, slice_get}
+use Rattle.std.specs.Arc.{arc_value}
 use Rattle.std.specs.declared.dyn_box.DynBox.{DynBox}
 use Rattle.std.specs.declared.alloc.Global.{Global}
 use Rattle.asset_names.specs.declared.names.Txn.{Txn}
+use Rattle.asset_bodies.specs.Working.{Working, Worked}
 use Rattle.asset_queue.specs.Each.{IsAmong}
 use Rattle.asset_runner.specs.declared.arrival.Arrival.{Arrival}
+use Rattle.asset_runner.specs.declared.job.Planned.{Planned}
 use Rattle.asset_runner.specs.Runs.{JobRun}
-use Rattle.asset_runner.specs.Fates.{body_of}
+use Rattle.asset_runner.specs.Fates.{body_of, RunsBody}
 use Rattle.asset_runner.specs.Arrived.{run_of, GoesOn}
 
 -- what all rows have, one row after another
@@ -20,6 +23,11 @@ kept_row t None = []
 kept_row t (Some body) = (t, body) ∷ []
 
 module _ {X : Type 0} {B : X → Type 0} where
+  -- what may come of a job whose body answers as `post` says: if the body was called, then with a transaction of the job's name and
+  -- manager, after the calls of the job's session; if not, it is the job's own that is left
+  abbrev pub ComesOf : {callable : _} → (Working → Worked → Type 0) → Planned X B callable → Arrival X B → Type 0
+  ComesOf post job a = RunsBody post job.name (arc_value job.manager) job.session.list.calls (run_of a) × IfSome (body_of a.fate) (λ body. body ≡ job.body)
+
   -- each that stands in this order goes on from one of these, which has the same place
   abbrev pub CameBack : List (Arrival X B) → List (Arrival X B) → Type 0
   CameBack all order = (i : ℕ) (b : Arrival X B) → slice_get order i ≡ Some b → (a : Arrival X B) × IsAmong all a × (a.place ≡ i) × GoesOn a b

@@ -46,7 +46,9 @@ pub struct Crew<'a, G: Gate> {
 }
 
 impl<'a, G: Gate> Work<Planned, Arrival> for Crew<'a, G> {
-    ghost came = { λ j a. RunsBody (Body.post j.body) j.name (arc_value j.manager) j.session.list.calls (run_of a) × IfSome (body_of a.fate) (λ body. body ≡ j.body) };
+    ghost use Rattle.asset_runner.specs.Rows.{ComesOf};
+
+    ghost came = { λ j. ComesOf (Body.post j.body) j };
 
     fn run<R: Wait>(&self, rt: &R, job: Planned) -> Arrival {
         let name = job.name();

@@ -1,6 +1,6 @@
 //! A plan of jobs.
 
-ghost use Rattle.std.specs.Prelude.{◌≡◌, ◌≤◌, ◌<◌, ◌+◌, ◌++◌, ◌∷◌, ◌⊎◌, [], List, length, map, None, Some, vec_len, vec_capacity, OnOk, IfOk, IfErr, IfSome, MatchOption, MatchResult};
+ghost use Rattle.std.specs.Prelude.{◌≡◌, ◌≤◌, ◌<◌, ◌+◌, ◌++◌, ◌∷◌, ◌⊎◌, [], List, length, map, None, Some, vec_len, vec_capacity, OnOk, IfOk, IfErr, MatchOption, MatchResult};
 ghost use Rattle.std.specs.Arc.{arc_value};
 ghost use base.Stored.{Coded-set, coded_list, coded×, coded_ℕ};
 ghost use Rattle.asset_names.specs.declared.steps.Step.TheVariants as Step;
@@ -13,11 +13,11 @@ ghost use Rattle.asset_queue.specs.Once.{SharedOut};
 ghost use Rattle.asset_queue.specs.Rows.{tickets_of, Came, EachOf};
 ghost use Rattle.asset_runner.specs.Placing.{nones, somes};
 ghost use Rattle.asset_runner.specs.Runs.{JobRun, first_stranger, left_of};
-ghost use Rattle.asset_runner.specs.Fates.{body_of, RunsBody};
-ghost use Rattle.asset_runner.specs.Arrived.{numbered, placed, left_at, run_of, ticket_of};
-ghost use Rattle.asset_runner.specs.Rows.{all_of, names_of, runs_of, kept_of, CameBack};
+ghost use Rattle.asset_runner.specs.Fates.{RunsBody};
+ghost use Rattle.asset_runner.specs.Arrived.{numbered, placed, left_at, ticket_of};
+ghost use Rattle.asset_runner.specs.Rows.{all_of, names_of, runs_of, kept_of, CameBack, ComesOf};
 ghost use Rattle.asset_runner.specs.Comes.{Comes, ComesOrLost, IsCause, IsWorkCause, RunsOf, left_among};
-ghost use Rattle.asset_runner.specs.Initiated.{OneMore, IsInitiated, IsRefused, IsInitiation, cause_by};
+ghost use Rattle.asset_runner.specs.Initiated.{OneMore, IsPlanned, IsInitiated, IsRefused, IsInitiation, cause_by};
 
 use crate::arrival::Arrival;
 use crate::gate::Gate;
@@ -96,7 +96,7 @@ fn work<R: Threads + Wait + Sync, G: Gate>(
 ) -> FromWorkers
     ensures shared { SharedOut (map (λ j. (j.place, j.name.0)) jobs.items) (tickets_of ticket_of result.rows.items) (map (λ j. (j.place, j.name.0)) result.left.items) }
     ensures cause { MatchOption result.cause (0 < workers) (λ cause. IsWorkCause workers (result.left.items ≡ [] → jobs.items ≡ []) cause) }
-    ensures came { EachOf (Came (IsAmong jobs.items) (λ j. (j.place, j.name.0)) ticket_of (λ j a. RunsBody (Body.post j.body) j.name (arc_value j.manager) j.session.list.calls (run_of a) × IfSome (body_of a.fate) (λ body. body ≡ j.body))) result.rows.items }
+    ensures came { EachOf (Came (IsAmong jobs.items) (λ j. (j.place, j.name.0)) ticket_of (λ j. ComesOf (Body.post j.body) j)) result.rows.items }
     ensures left { Each (IsAmong jobs.items) result.left.items }
 {
     if workers == 0 {
@@ -305,7 +305,7 @@ impl Plan {
         ensures back { IfErr result (λ fault. fault.body ≡ body) }
         ensures names { MatchResult result (λ _. self.new.names.items ≡ self.old.names.items ++ t ∷ []) (λ _. self.new.names.items ≡ self.old.names.items) }
         ensures asked { MatchResult result (λ _. IsInitiated self.old.session.list.calls (Step.Initiate t parent) self.new.session.list.calls) (λ fault. IsRefused self.old.session.list.calls (Step.Initiate t parent) fault.cause self.new.session.list.calls) }
-        ensures planned { MatchResult result (λ _. OneMore (λ j. (j.name ≡ t) × (j.body ≡ body) × (arc_value j.manager ≡ arc_value self.new.manager) × (j.session.list.calls ≡ []) × (EXPECTED + OWN_CALLS ≤ j.session.list.room)) self.old.jobs.items self.new.jobs.items) (λ _. self.new.jobs.items ≡ self.old.jobs.items) }
+        ensures planned { MatchResult result (λ _. OneMore (IsPlanned t body (arc_value self.new.manager) (EXPECTED + OWN_CALLS)) self.old.jobs.items self.new.jobs.items) (λ _. self.new.jobs.items ≡ self.old.jobs.items) }
     {
         self.initiate_with_room(rt, t, parent, body, EXPECTED)
     }
@@ -331,7 +331,7 @@ impl Plan {
         ensures back { IfErr result (λ fault. fault.body ≡ body) }
         ensures names { MatchResult result (λ _. self.new.names.items ≡ self.old.names.items ++ t ∷ []) (λ _. self.new.names.items ≡ self.old.names.items) }
         ensures asked { MatchResult result (λ _. IsInitiated self.old.session.list.calls (Step.Initiate t parent) self.new.session.list.calls) (λ fault. IsRefused self.old.session.list.calls (Step.Initiate t parent) fault.cause self.new.session.list.calls) }
-        ensures planned { MatchResult result (λ _. OneMore (λ j. (j.name ≡ t) × (j.body ≡ body) × (arc_value j.manager ≡ arc_value self.new.manager) × (j.session.list.calls ≡ []) × (operations + OWN_CALLS ≤ j.session.list.room)) self.old.jobs.items self.new.jobs.items) (λ _. self.new.jobs.items ≡ self.old.jobs.items) }
+        ensures planned { MatchResult result (λ _. OneMore (IsPlanned t body (arc_value self.new.manager) (operations + OWN_CALLS)) self.old.jobs.items self.new.jobs.items) (λ _. self.new.jobs.items ≡ self.old.jobs.items) }
     {
         if self.make_room(1).is_err() {
             return Err(fault(body, Cause::NoMemory));
