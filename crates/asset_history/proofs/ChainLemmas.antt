@@ -1,8 +1,11 @@
 -- The nodes of a chain.
-use Rattle.std.proofs.Common.{◌≡◌, ℕ, zero, suc, ◌+◌, ◌-◌, ◌<◌, ◌≤◌, eqb, ◌||◌, List, [], ◌∷◌, ◌++◌, length, refl, sym, ap, ◌∙◌, ◌⊎◌, arith, inl, inr}
-use Rattle.std.proofs.lemmas.Bool.{or_cases, or_left, or_right, eqb-true, eq-eqb, false≢true}
+use Rattle.std.proofs.Common.{◌≡◌, ℕ, zero, suc, ◌+◌, ◌-◌, ◌<◌, ◌≤◌, eqb, ◌||◌, List, [], ◌∷◌, ◌++◌, length, refl, sym, ap, ◌∙◌, ◌⊎◌, arith, inl, inr, Bool, true, false, ltb}
+use Rattle.std.proofs.lemmas.Bool.{or_cases, or_left, or_right, and_parts, eqb-true, eq-eqb, lt-ltb, ltb-true, false_from_ne_true, false≢true}
 use Rattle.std.proofs.lemmas.List.{get_or_append_left, get_or_push, length_push}
 use Rattle.asset_history.specs.declared.links.Link.{Link}
+use Rattle.asset_name_groups.specs.NamesInGroups.{NamesInGroups}
+use Rattle.asset_history.specs.Together.{label_at}
+use Rattle.asset_history.specs.Users.{is_known}
 use Rattle.asset_history.specs.Links.{Links, link_at, has_node, one_link_more, IsIn, HaveMore}
 
 has_at : (most : ℕ) (links : List Link) (chain node : ℕ) → 0 < chain → has_node (suc most) links chain node ≡ (eqb (link_at links (chain - 1)).node node || has_node most links (link_at links (chain - 1)).before node)
@@ -98,3 +101,34 @@ module _ (all after : Links) (node chain : ℕ) (is : after ≡ one_link_more al
 
   pub longer_has : IsIn after.links (length after.links) node
   longer_has = in_newest after.links (length after.links) link some newest
+
+-- ---- whether a node is of a group that is known
+
+apart_not : (a b : ℕ) → (a ≡ b → ⊥) → eqb a b ≡ false
+apart_not a b apart = false_from_ne_true (eqb a b) (λ same. apart (eqb-true a b same))
+
+module _ (g : NamesInGroups) (links : List Link) (node chain other : ℕ) where
+  abbrev pub is_newest : Bool
+  is_newest = eqb (label_at g (link_at links (chain - 1)).node) (label_at g other)
+
+  pub known_here : label_at g node ≡ label_at g other → is_known g links node chain other ≡ true
+  unfolding is_known
+  known_here same = or_left _ _ (eq-eqb (label_at g node) (label_at g other) same)
+
+  pub known_if_newest : (label_at g node ≡ label_at g other → ⊥) → 0 < chain → is_known g links node chain other ≡ is_newest
+  unfolding is_known
+  known_if_newest apart some = rw (apart_not (label_at g node) (label_at g other) apart, lt-ltb 0 chain some) refl
+
+  pub known_if_none : (label_at g node ≡ label_at g other → ⊥) → chain ≡ 0 → is_known g links node chain other ≡ false
+  unfolding is_known
+  known_if_none apart none = rw (apart_not (label_at g node) (label_at g other) apart, none) refl
+
+  -- who is known is of the group of the node, or of that of one in the chain
+  pub known_reached : is_known g links node chain other ≡ true → (label_at g node ≡ label_at g other) ⊎ ((k : ℕ) × IsIn links chain k × (label_at g k ≡ label_at g other))
+  unfolding is_known
+  known_reached h = elim (or_cases (eqb (label_at g node) (label_at g other)) _ h) [
+    | inl here ↦ inl (eqb-true (label_at g node) (label_at g other) here)
+    | inr last ↦
+        let parts = and_parts (ltb 0 chain) is_newest last in
+        inr ((link_at links (chain - 1)).node, in_newest links chain (link_at links (chain - 1)) (ltb-true 0 chain parts.0) refl, eqb-true _ (label_at g other) parts.1)
+  ]

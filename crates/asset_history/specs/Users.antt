@@ -1,13 +1,13 @@
 -- What is kept of the users of an object, and what it says of them.
-use Rattle.std.specs.Prelude.{◌≡◌, ℕ, ◌<◌, ◌≤◌, Bool, true, false, ◌||◌, ◌&&◌, ◌==◌, ◌⊎◌, cond, List, Option, Some, None, length}
+use Rattle.std.specs.Prelude.{◌≡◌, ℕ, ◌-◌, ◌<◌, ◌≤◌, nat_eq, nat_lt, Bool, true, false, ◌||◌, ◌&&◌, ◌==◌, ◌⊎◌, cond, List, Option, Some, None, length}
 use Rattle.asset_history.specs.declared.users.Users.{Users}
 use Rattle.asset_history.specs.declared.users.Users.TheVariants as Users'
 use Rattle.asset_history.specs.declared.links.Link.{Link}
 use Rattle.asset_name_groups.specs.NamesInGroups.{NamesInGroups}
 use Rattle.asset_names.specs.declared.steps.Step.{Step}
 use Rattle.asset_names.specs.Steps.{Entry, applied}
-use Rattle.asset_history.specs.Together.{name_at, IsWith}
-use Rattle.asset_history.specs.Links.{IsIn}
+use Rattle.asset_history.specs.Together.{name_at, label_at, IsWith}
+use Rattle.asset_history.specs.Links.{IsIn, link_at}
 use Rattle.asset_history.specs.Uses.{opens, operates}
 
 -- those who pass the test, and t if the condition holds
@@ -21,6 +21,11 @@ uses_as as_opener steps t x = cond as_opener (opens steps t x) (operates steps t
 -- u is of the group of the node, or of that of a node in the chain
 abbrev pub IsReached : NamesInGroups → List Link → ℕ → ℕ → ℕ → Type 0
 IsReached groups links u node chain = IsWith groups u node ⊎ ((other : ℕ) × IsIn links chain other × IsWith groups u other)
+
+-- whether another node is of the group of the node, or of that of the newest in the chain
+unfoldable pub is_known : NamesInGroups → List Link → ℕ → ℕ → ℕ → Bool
+is_known groups links node chain other =
+    nat_eq (label_at groups node) (label_at groups other) || (nat_lt 0 chain && nat_eq (label_at groups (link_at links (chain - 1)).node) (label_at groups other))
 
 -- Only openers use the object, or only operators: `mine` are they, among all of the history, and `others` would be the rest. The
 -- node and those in the chain are of some of them, and each of them is of the group of one of these.

@@ -9,7 +9,7 @@ ghost use Rattle.asset_names.specs.Steps.{Entry, applied};
 ghost use Rattle.asset_history.specs.Links.{IsIn, HaveMore};
 ghost use Rattle.asset_history.specs.Together.{name_at, label_at, AreJoined, HaveGrown};
 ghost use Rattle.asset_history.specs.Uses.{opens, operates};
-ghost use Rattle.asset_history.specs.Users.{AreSaid, AreAmong, AreWithin, also, uses_as};
+ghost use Rattle.asset_history.specs.Users.{AreSaid, AreAmong, AreWithin, also, is_known, uses_as};
 
 use crate::joining::{join_chain, join_nodes};
 use crate::links::UserLinks;
@@ -65,7 +65,7 @@ fn is_known(groups: &NameGroups, links: &UserLinks, node: usize, chain: usize, o
     requires other { other < length groups.now.names }
     requires linked { chain ≤ length links.now.links }
     requires chained { (k : ℕ) → IsIn links.now.links chain k → k < length groups.now.names }
-    ensures { result ≡ true → (label_at groups.now node ≡ label_at groups.now other) ⊎ ((k : ℕ) × IsIn links.now.links chain k × (label_at groups.now k ≡ label_at groups.now other)) }
+    ensures { result ≡ is_known groups.now links.now.links node chain other }
 {
     let label = groups.label(other);
     if groups.label(node) == label {
@@ -88,6 +88,7 @@ fn with_other(
     requires linked { chain ≤ length links.old.links }
     requires chained { (k : ℕ) → IsIn links.old.links chain k → k < length groups.now.names }
     requires room { length links.old.links < links.old.room }
+    ensures known { is_known groups.now links.old.links node chain other ≡ true → (result ≡ chain) × (links.new ≡ links.old) }
     ensures more { HaveMore links.old.links links.new.links }
     ensures few { length links.new.links ≤ length links.old.links + 1 }
     ensures room { links.new.room ≡ links.old.room }

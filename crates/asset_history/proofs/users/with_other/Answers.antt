@@ -1,6 +1,6 @@
-use Rattle.std.proofs.Common.{refl, subst, arith, inr}
+use Rattle.std.proofs.Common.{refl, subst, sym, ◌∙◌, arith, inr}
 use Rattle.asset_history.specs.Links.{IsIn}
-use Rattle.asset_history.proofs.ChainLemmas.{one_longer, room_is, longer_kept, longer_only, longer_has}
+use Rattle.asset_history.proofs.ChainLemmas.{known_reached, one_longer, room_is, longer_kept, longer_only, longer_has}
 use Rattle.asset_history.proofs.users.with_other.Goals as goal
 
 pub returns-clause-few : goal.returns-clause-few
@@ -18,3 +18,6 @@ returns-clause-only c = λ k h. longer_only c.args.links.now c.add.new.self c.ar
 pub returns-clause-reached : goal.returns-clause-reached
 returns-clause-reached c =
     inr (c.args.other, rw (c.add.ensures.longer) (longer_has c.args.links.now c.add.new.self c.args.other c.args.chain c.add.ensures.added c.add.ensures.more c.requires.linked), refl)
+
+pub returns-then-is_known-clause-reached : goal.returns-then-is_known-clause-reached
+returns-then-is_known-clause-reached c = known_reached c.args.groups.now c.args.links.now.links c.args.node c.args.chain c.args.other (sym c.is_known.ensures ∙ c.if-is_known.true)
