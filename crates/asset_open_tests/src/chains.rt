@@ -18,12 +18,7 @@ fn writes(core: &mut Core, t: u64, x: u64) -> bool {
 
 /// A transaction lets anybody read an object.
 fn opens(core: &mut Core, t: u64, x: u64) -> bool {
-    one_asks(
-        core,
-        t,
-        permit_any(t, &[Ob(x)], Ops::only(Op::Read)),
-        DONE,
-    )
+    one_asks(core, t, permit_any(t, &[Ob(x)], Ops::only(Op::Read)), DONE)
 }
 
 /// Transactions 1 to 300 write object 1 and 2,001 to 2,300 object 2, one after another, and then 5,000 opens object 1.
