@@ -54,12 +54,6 @@ more_one links link earlier = record { more = omega (arith, length_push links li
 pub more_none : (links : List Link) → HaveMore links links
 more_none links = record { more = omega arith; same = λ most chain node below. refl }
 
-pub more_trans : (a b c : List Link) → HaveMore a b → HaveMore b c → HaveMore a c
-more_trans a b c first second = record {
-  more = omega (arith, first.more, second.more);
-  same = λ most chain node below. second.same most chain node (omega (arith, below, first.more)) ∙ first.same most chain node below;
-}
-
 -- what is in a chain stays there, and nothing comes
 pub in_more : (before after : List Link) (chain node : ℕ) → HaveMore before after → chain ≤ length before → IsIn before chain node → IsIn after chain node
 in_more before after chain node more below (most, h) = (most, more.same most chain node below ∙ h)

@@ -1,7 +1,8 @@
 -- What is kept beside the entries, an entry further.
 use Rattle.std.proofs.Common.{◌≡◌, ℕ, ◌+◌, ◌*◌, ◌<◌, ◌≤◌, Bool, true, false, eqb, ◌&&◌, ◌||◌, List, [], ◌∷◌, length, get_or, reverse, refl, sym, ap, subst, ◌∙◌, arith, inl, inr, Some, None}
-use Rattle.std.specs.Prelude.{Option, slice_get}
-use Rattle.std.proofs.lemmas.Bool.{or_cases, or_left, false≢true}
+use Rattle.std.specs.Prelude.{nat_eq, Option, slice_get}
+use Rattle.std.proofs.lemmas.Bool.{cases_Bool, or_cases, or_left, false≢true}
+use Rattle.indexmap.specs.IndexMap.{get, spare}
 use Rattle.asset_names.specs.Arrows.{Arrow, has_arrow}
 use Rattle.asset_names.specs.Steps.{Opening, Entry, takes_effect, applied}
 use Rattle.asset_names.specs.Groups.{actor, partner, joins, same_group}
@@ -12,16 +13,15 @@ use Rattle.asset_names.specs.declared.replies.Reply.TheVariants as Reply'
 use Rattle.asset_names.proofs.Common.{and_false}
 use Rattle.asset_entries.specs.Operating.{opener_of, opener_at}
 use Rattle.asset_name_groups.specs.NamesInGroups.{NamesInGroups, none_named, IsConsistent}
-use Rattle.asset_history.specs.declared.users.Users.{Users}
+use Rattle.asset_history.specs.declared.labelling.KeptGroups.{KeptGroups}
 use Rattle.asset_history.specs.Named.{names_of}
 use Rattle.asset_history.specs.Together.{name_at, label_at, IsWith, AreOfEntries, AreFlagged, AreJoined, HaveGrown}
 use Rattle.asset_history.specs.Uses.{opened_obs, has_object, opens_on, opens, operates, partners}
 use Rattle.asset_history.specs.Users.{users_or_nobody}
 use Rattle.asset_names.specs.declared.replies.Outcome.TheVariants.{Answer}
 use Rattle.asset_names.specs.Answers.{IsLegal}
-use Rattle.asset_entries.specs.Recorded.{Recorded, with_entry, answer_to}
+use Rattle.asset_entries.specs.Recorded.{Recorded, opened, with_entry, answer_to}
 use Rattle.asset_history.specs.Kept.{IsHistory, before, pair_of, pair_at, Respect, AreLabels, AreNamed, AreKept}
-use Rattle.asset_history.specs.declared.links.Link.{Link}
 use Rattle.asset_history.specs.Links.{Links, no_links}
 use Rattle.asset_history.proofs.ChainLemmas.{more_none}
 use Rattle.asset_history.proofs.EntryLemmas.{before_newest, split_newest}
@@ -34,9 +34,9 @@ use Rattle.asset_history.proofs.StepLemmas.{labels_say}
 -- ---- users, before and after the newest entry
 
 -- what is kept of older entries is so among all, in groups that have grown
-pub kept_wider : (opening : Opening) (all : List Entry) (n : ℕ) (found : ℕ → Option Users) (spare : ℕ) (links : List Link) (is_opened : Bool) (g after : NamesInGroups) → HaveGrown g after
-    → AreKept opening (before all n) (before all n) found spare links is_opened g → AreKept opening all (before all n) found spare links is_opened after
-kept_wider opening all n found spare links is_opened g after grown kept = record {
+pub kept_wider : (opening : Opening) (all : List Entry) (n : ℕ) (old : KeptGroups) (after : NamesInGroups) → HaveGrown old.groups after
+    → AreKept opening (before all n) (before all n) old → AreKept opening all (before all n) (record { groups = after; users = old.users; is_opened = old.is_opened })
+kept_wider opening all n old after grown kept = record {
   closed = kept.closed;
   room = kept.room;
   empty = kept.empty;
@@ -45,9 +45,11 @@ kept_wider opening all n found spare links is_opened g after grown kept = record
   there = kept.there;
   say = λ is_open x.
       let older = before all n in
-      said_wider after links (λ a. opens (applied older) a x) (λ t. operates (applied older) t x) (λ a. opens (applied older) a x) (λ t. operates (applied older) t x) (λ a. opens (applied all) a x) (λ t. operates (applied all) t x) (users_or_nobody (found x))
+      let links = old.users.links.links in
+      let users = users_or_nobody (get nat_eq old.users.found x) in
+      said_wider after links (λ a. opens (applied older) a x) (λ t. operates (applied older) t x) (λ a. opens (applied older) a x) (λ t. operates (applied older) t x) (λ a. opens (applied all) a x) (λ t. operates (applied all) t x) users
       (λ u h. opens_among all n u x h) (λ u h. operates_among all n u x h)
-      (said_grown g after links links (λ a. opens (applied older) a x) (λ t. operates (applied older) t x) (λ a. opens (applied older) a x) (λ t. operates (applied older) t x) (users_or_nobody (found x)) grown (more_none links) (kept.say is_open x));
+      (said_grown old.groups after links links (λ a. opens (applied older) a x) (λ t. operates (applied older) t x) (λ a. opens (applied older) a x) (λ t. operates (applied older) t x) users grown (more_none links) (kept.say is_open x));
 }
 
 opener_none : (step : Step) (reply : Reply) (y : ℕ) → opener_of step reply ≡ None → (takes_effect step reply && opens_on step y) ≡ false
@@ -90,20 +92,22 @@ with_both g u v node i j sound first second is_i is_j name_i name_j =
     let b : j ≡ second.0 = sound.different j second.0 is_j second.1 (name_j ∙ sym second.2) in
     ap (label_at g) a ∙ first.3 ∙ sym second.3 ∙ sym (ap (label_at g) b)
 
-respect_met : (opening : Opening) (all : List Entry) (found : ℕ → Option Users) (spare : ℕ) (links : List Link) (is_opened : Bool) (g : NamesInGroups) → IsConsistent g → AreKept opening all all found spare links is_opened g
-    → (a t x : ℕ) → opens (applied all) a x ≡ true → operates (applied all) t x ≡ true → (node : ℕ) × IsWith g a node × IsWith g t node
-respect_met opening all found spare links true g sound kept a t x opening_x operation =
-    said_both g links (λ b. opens (applied all) b x) (λ s. operates (applied all) s x) (λ b. opens (applied all) b x) (λ s. operates (applied all) s x) (users_or_nobody (found x)) a t (kept.say refl x) opening_x operation
-respect_met opening all found spare links false g sound kept a t x opening_x operation = absurd (false≢true (sym (kept.closed refl a x) ∙ opening_x))
+respect_met : (opening : Opening) (all : List Entry) (after : KeptGroups) → AreKept opening all all after
+    → (a t x : ℕ) → opens (applied all) a x ≡ true → operates (applied all) t x ≡ true → (node : ℕ) × IsWith after.groups a node × IsWith after.groups t node
+respect_met opening all after kept a t x opening_x operation = elim (cases_Bool after.is_opened) [
+  | inl opened ↦
+      said_both after.groups after.users.links.links (λ b. opens (applied all) b x) (λ s. operates (applied all) s x) (λ b. opens (applied all) b x) (λ s. operates (applied all) s x) (users_or_nobody (get nat_eq after.users.found x)) a t (kept.say opened x) opening_x operation
+  | inr closed ↦ absurd (false≢true (sym (kept.closed closed a x) ∙ opening_x))
+]
 
-respect_all : (opening : Opening) (all : List Entry) (found : ℕ → Option Users) (spare : ℕ) (links : List Link) (is_opened : Bool) (g : NamesInGroups) → IsConsistent g → AreKept opening all all found spare links is_opened g → Respect g (partners all) → Respect g (joins all)
-respect_all opening all found spare links is_opened g sound kept pairs u v h i j is_i is_j name_i name_j = elim (join_met all u v h) [
+respect_all : (opening : Opening) (all : List Entry) (after : KeptGroups) → IsConsistent after.groups → AreKept opening all all after → Respect after.groups (partners all) → Respect after.groups (joins all)
+respect_all opening all after sound kept pairs u v h i j is_i is_j name_i name_j = elim (join_met all u v h) [
   | inl pair ↦ pairs u v pair i j is_i is_j name_i name_j
   | inr meeting ↦ met meeting
 ] where
-  met : Meet (applied all) u v → label_at g i ≡ label_at g j
-  met (x, inl one) = let both = respect_met opening all found spare links is_opened g sound kept u v x one.0 one.1 in with_both g u v both.0 i j sound both.1 both.2 is_i is_j name_i name_j
-  met (x, inr one) = let both = respect_met opening all found spare links is_opened g sound kept v u x one.1 one.0 in with_both g u v both.0 i j sound both.2 both.1 is_i is_j name_i name_j
+  met : Meet (applied all) u v → label_at after.groups i ≡ label_at after.groups j
+  met (x, inl one) = let both = respect_met opening all after kept u v x one.0 one.1 in with_both after.groups u v both.0 i j sound both.1 both.2 is_i is_j name_i name_j
+  met (x, inr one) = let both = respect_met opening all after kept v u x one.1 one.0 in with_both after.groups u v both.0 i j sound both.2 both.1 is_i is_j name_i name_j
 
 -- names and labels that stay respect what they did, and are of the same entries
 respect_same : (g after : NamesInGroups) (arrows : List Arrow) → after.names ≡ g.names → ((i j : ℕ) → i < length g.names → j < length g.names → label_at g i ≡ label_at g j → label_at after i ≡ label_at after j) → Respect g arrows → Respect after arrows
@@ -118,17 +122,18 @@ of_same entries g after names labels of i j is_i is_j same =
     ∙ of i j (omega (arith, is_i, ap length names)) (omega (arith, is_j, ap length names)) (ap (λ l. get_or l i 0) (sym labels) ∙ same ∙ ap (λ l. get_or l j 0) labels)
 
 -- the labels of all entries: after names and joins of partners, a flag, and the joins of users
-pub labels_next : (opening : Opening) (all : List Entry) (n : ℕ) (found : ℕ → Option Users) (spare : ℕ) (links : List Link) (is_opened : Bool) (named flagged after : NamesInGroups) → length all ≡ n + 1
-    → AreNamed all (before all n) (pair_at all n) named → flagged.names ≡ named.names → flagged.labels ≡ named.labels → AreFlagged all flagged → AreJoined all flagged after → IsConsistent after → AreKept opening all all found spare links is_opened after
-    → AreLabels all after
-labels_next opening all n found spare links is_opened named flagged after size is names labels flags joined sound kept =
+pub labels_next : (opening : Opening) (all : List Entry) (n : ℕ) (named flagged : NamesInGroups) (new : KeptGroups) → length all ≡ n + 1
+    → AreNamed all (before all n) (pair_at all n) named → flagged.names ≡ named.names → flagged.labels ≡ named.labels → AreFlagged all flagged → AreJoined all flagged new.groups → IsConsistent new.groups → AreKept opening all all new
+    → AreLabels all new.groups
+labels_next opening all n named flagged new size is names labels flags joined sound kept =
+    let after = new.groups in
     let all_names : after.names ≡ names_of all = joined.names ∙ names ∙ is.names in
     let of : AreOfEntries all after = joined.of_entries (of_same all named flagged names labels is.of_entries) in
     let stay : (i j : ℕ) → i < length named.names → j < length named.names → label_at named i ≡ label_at named j → label_at after i ≡ label_at after j = λ i j is_i is_j same.
     joined.stay i j (omega (arith, is_i, ap length names)) (omega (arith, is_j, ap length names)) (ap (λ l. get_or l i 0) labels ∙ same ∙ ap (λ l. get_or l j 0) (sym labels)) in
     let older : Respect after (joins (before all n)) = respect_same named after (joins (before all n)) (joined.names ∙ names) stay is.joined_before in
     let newest : Respect after (pair_at all n ∷ []) = respect_same named after (pair_at all n ∷ []) (joined.names ∙ names) stay is.joined_now in
-    let same = labels_say all after sound all_names of (respect_all opening all found spare links is_opened after sound kept (respect_partners all n after size older newest)) in
+    let same = labels_say all after sound all_names of (respect_all opening all new sound kept (respect_partners all n after size older newest)) in
     record { names = all_names; same = same; flags = flags_by_groups all after all_names same (joined.flagged all flags) }
 
 pub grown_same : (g after : NamesInGroups) → after.names ≡ g.names → after.labels ≡ g.labels → HaveGrown g after
@@ -166,17 +171,15 @@ module _ (old new : Recorded) (step : Step) (reply : Reply) (n : ℕ) (is : new 
   pub labels_next_ready : (g : NamesInGroups) → AreLabels old.entries g → AreLabels (before new.entries n) g
   labels_next_ready g labels = subst (λ (entries : List Entry). AreLabels entries g) (sym before_next_is) labels
 
-  pub kept_next_ready : (found : ℕ → Option Users) (spare : ℕ) (links : List Link) (is_opened : Bool) (g : NamesInGroups) → AreKept old.opening old.entries old.entries found spare links is_opened g
-      → AreKept new.opening (before new.entries n) (before new.entries n) found spare links is_opened g
-  kept_next_ready found spare links is_opened g kept =
-      subst (λ (entries : List Entry). AreKept new.opening entries entries found spare links is_opened g) (sym before_next_is)
-      (subst (λ (opening : Opening). AreKept opening old.entries old.entries found spare links is_opened g) (sym opening_next) kept)
+  pub kept_next_ready : (groups : KeptGroups) → AreKept old.opening old.entries old.entries groups → AreKept new.opening (before new.entries n) (before new.entries n) groups
+  kept_next_ready groups kept =
+      subst (λ (entries : List Entry). AreKept new.opening entries entries groups) (sym before_next_is) (subst (λ (opening : Opening). AreKept opening old.entries old.entries groups) (sym opening_next) kept)
 
 -- a history without entries
-pub nothing_kept : (opening : Opening) (capacity : ℕ) (found : ℕ → Option Users) (spare : ℕ) (links : Links) (is_opened : Bool) (g : NamesInGroups) → g ≡ none_named (2 * capacity) → links ≡ no_links (16 * capacity) → is_opened ≡ false → ((x : ℕ) → found x ≡ None) → length opening ≤ spare
-    → IsHistory opening [] capacity g found spare links is_opened
-unfolding none_named no_links names_of opens applied
-nothing_kept opening capacity found spare links is_opened g is unlinked closed empty room = record {
+pub nothing_kept : (opening : Opening) (capacity : ℕ) (kept : KeptGroups) → kept.groups ≡ none_named (2 * capacity) → kept.users.links ≡ no_links (16 * capacity) → kept.is_opened ≡ false → ((x : ℕ) → get nat_eq kept.users.found x ≡ None)
+    → length opening ≤ spare kept.users.found → IsHistory (opened opening capacity) kept
+unfolding none_named no_links names_of opens applied opened
+nothing_kept opening capacity kept is unlinked closed empty room = record {
   labels = rw is (record { names = refl; same = λ i j is_i is_j. absurd (omega arith); flags = λ k below. absurd (omega arith) });
   users = record {
     closed = λ closed a x. refl;

@@ -1,5 +1,5 @@
 -- An entry that leaves groups leaves all that is kept as it is.
-use Rattle.std.proofs.Common.{◌≡◌, ℕ, ◌+◌, true, false, Bool, not, List, ◌∷◌, length, reverse, refl, sym, ap, subst, ◌∙◌, arith, Some, None}
+use Rattle.std.proofs.Common.{◌≡◌, ℕ, ◌+◌, true, false, not, List, ◌∷◌, length, reverse, refl, sym, ap, subst, ◌∙◌, arith, Some, None}
 use Rattle.std.specs.Prelude.{Option, slice_get, is_some}
 use Rattle.std.proofs.lemmas.Bool.{and_parts, false≢true}
 use Rattle.asset_names.specs.declared.names.Txn.{Txn}
@@ -12,9 +12,8 @@ use Rattle.asset_names.specs.Steps.{Opening, Entry}
 use Rattle.asset_entries.specs.Committing.{committed_by}
 use Rattle.asset_entries.specs.Knowing.{is_of_one, is_of_known}
 use Rattle.asset_entries.specs.Operating.{opener_of, opener_at}
-use Rattle.asset_name_groups.specs.NamesInGroups.{NamesInGroups, IsConsistent}
-use Rattle.asset_history.specs.declared.links.Link.{Link}
-use Rattle.asset_history.specs.declared.users.Users.{Users}
+use Rattle.asset_name_groups.specs.NamesInGroups.{IsConsistent}
+use Rattle.asset_history.specs.declared.labelling.KeptGroups.{KeptGroups}
 use Rattle.asset_history.specs.Kept.{before, leaves_groups_at, pair_at, AreLabels, AreNamed, AreKept}
 use Rattle.asset_history.specs.Together.{AreFlagged}
 use Rattle.asset_history.proofs.EntryLemmas.{split_newest, legal_at}
@@ -51,8 +50,8 @@ module _ (opening : Opening) (all : List Entry) (n : ℕ) (size : length all ≡
   opens_none : opener_at (slice_get (reverse all) n) ≡ None
   opens_none = ap opener_at split.1 ∙ known_opens_none entry.0 entry.1 parts.0
 
-  module _ (found : ℕ → Option Users) (spare : ℕ) (links : List Link) (is_opened : Bool) (g : NamesInGroups) (closed : is_opened ≡ false) (kept : AreKept opening older older found spare links is_opened g) where
-    pub stay_kept : AreKept opening all all found spare links is_opened g
+  module _ (groups : KeptGroups) (closed : groups.is_opened ≡ false) (kept : AreKept opening older older groups) where
+    pub stay_kept : AreKept opening all all groups
     stay_kept = record {
       closed = λ is_closed. closed_next all n size opens_none (kept.closed is_closed);
       room = kept.room;
@@ -63,9 +62,10 @@ module _ (opening : Opening) (all : List Entry) (n : ℕ) (size : length all ≡
       say = λ opened. absurd (false≢true (sym closed ∙ opened));
     }
 
-    pub stay_labels : IsConsistent g → AreLabels older g → AreLabels all g
+    pub stay_labels : IsConsistent groups.groups → AreLabels older groups.groups → AreLabels all groups.groups
     stay_labels sound labels =
+        let g = groups.groups in
         let known = known_acts opening older entry.0 entry.1 (legal_at opening all n entry legal split.1).0 parts.0 in
         let named : AreNamed all older (pair_at all n) g = named_at all n entry g split.1 split.2 (named_known entry older g sound labels (all_acted older (actor entry.0).0 ∙ known.0) known.1) in
         let flagged : AreFlagged all g = subst (λ (l : List Entry). AreFlagged l g) (sym split.2) (flagged_none entry older g (no_some (committed_by entry.0 entry.1) parts.1) named.flagged) in
-        labels_next opening all n found spare links is_opened g g g size named refl refl flagged (joined_none all g) sound stay_kept
+        labels_next opening all n g g groups size named refl refl flagged (joined_none all g) sound stay_kept

@@ -1,15 +1,17 @@
 -- What a history keeps beside its entries.
 use Rattle.std.specs.Prelude.{◌≡◌, ℕ, ◌<◌, ◌≤◌, Bool, true, false, nat_eq, not, ◌&&◌, List, [], ◌∷◌, ◌*◌, length, reverse, take, slice_get, Option, Some, None, is_some}
+use Rattle.indexmap.specs.IndexMap.{get, spare}
 use Rattle.asset_names.specs.Arrows.{Arrow, has_arrow}
 use Rattle.asset_names.specs.Steps.{Opening, Entry, applied}
 use Rattle.asset_names.specs.Groups.{actor, partner, joins, same_group}
 use Rattle.asset_names.specs.Operations.{exists}
 use Rattle.asset_entries.specs.Committing.{commit_at, has_commit}
 use Rattle.asset_entries.specs.Knowing.{is_of_known_at}
+use Rattle.asset_entries.specs.Recorded.{Recorded}
 use Rattle.asset_name_groups.specs.NamesInGroups.{NamesInGroups, flag_at}
 use Rattle.asset_history.specs.declared.users.Users.{Users}
 use Rattle.asset_history.specs.declared.links.Link.{Link}
-use Rattle.asset_history.specs.Links.{Links}
+use Rattle.asset_history.specs.declared.labelling.KeptGroups.{KeptGroups}
 use Rattle.asset_history.specs.Named.{names_of}
 use Rattle.asset_history.specs.Uses.{opens, operates}
 use Rattle.asset_history.specs.Together.{name_at, label_at, AreOfEntries, AreFlagged}
@@ -58,19 +60,19 @@ leaves_groups_at entry = is_of_known_at entry && not (is_some (commit_at entry))
 -- Users are kept from the first open permit on, which is when an object is opened: what is kept says who uses objects by the
 -- entries so far, which are among all. Until then there is room for the users of each object, and no link. An entry takes 16 links
 -- at most.
-pub record AreKept (opening : Opening) (all entries : List Entry) (found : ℕ → Option Users) (spare : ℕ) (links : List Link) (is_opened : Bool) (groups : NamesInGroups) : Type 0 where
-  pub closed : is_opened ≡ false → (a x : ℕ) → opens (applied entries) a x ≡ false
-  pub room : is_opened ≡ false → length opening ≤ spare
-  pub empty : is_opened ≡ false → (x : ℕ) → found x ≡ None
-  pub unlinked : is_opened ≡ false → links ≡ []
-  pub few : length links ≤ 16 * length entries
-  pub there : is_opened ≡ true → (x : ℕ) → exists opening x ≡ true → is_some (found x) ≡ true
-  pub say : is_opened ≡ true → SayAll groups links all (opens (applied entries)) (operates (applied entries)) found
+pub record AreKept (opening : Opening) (all entries : List Entry) (kept : KeptGroups) : Type 0 where
+  pub closed : kept.is_opened ≡ false → (a x : ℕ) → opens (applied entries) a x ≡ false
+  pub room : kept.is_opened ≡ false → length opening ≤ spare kept.users.found
+  pub empty : kept.is_opened ≡ false → (x : ℕ) → get nat_eq kept.users.found x ≡ None
+  pub unlinked : kept.is_opened ≡ false → kept.users.links.links ≡ []
+  pub few : length kept.users.links.links ≤ 16 * length entries
+  pub there : kept.is_opened ≡ true → (x : ℕ) → exists opening x ≡ true → is_some (get nat_eq kept.users.found x) ≡ true
+  pub say : kept.is_opened ≡ true → SayAll kept.groups kept.users.links.links all (opens (applied entries)) (operates (applied entries)) (get nat_eq kept.users.found)
 
 -- what a history keeps beside its entries: the labels of their groups, the users of objects, and room for two names and 16 links for
 -- each entry
-pub record IsHistory (opening : Opening) (entries : List Entry) (capacity : ℕ) (groups : NamesInGroups) (found : ℕ → Option Users) (spare : ℕ) (links : Links) (is_opened : Bool) : Type 0 where
-  pub labels : AreLabels entries groups
-  pub users : AreKept opening entries entries found spare links.links is_opened groups
-  pub room : 2 * capacity ≤ groups.room
-  pub link_room : 16 * capacity ≤ links.room
+pub record IsHistory (recorded : Recorded) (kept : KeptGroups) : Type 0 where
+  pub labels : AreLabels recorded.entries kept.groups
+  pub users : AreKept recorded.opening recorded.entries recorded.entries kept
+  pub room : 2 * recorded.capacity ≤ kept.groups.room
+  pub link_room : 16 * recorded.capacity ≤ kept.users.links.room

@@ -27,8 +27,6 @@ impl Drop for History {
 }
 
 impl Model for History {
-    ghost use Rattle.std.specs.Prelude.{nat_eq};
-    ghost use Rattle.indexmap.specs.IndexMap.{get, spare};
     ghost use Rattle.asset_entries.specs.Recorded.{Recorded};
     ghost use Rattle.asset_history.specs.Kept.{IsHistory};
 
@@ -36,7 +34,7 @@ impl Model for History {
 
     ghost view = { λ history. history.entries };
 
-    ghost invariant = { λ history. IsHistory history.entries.opening history.entries.entries history.entries.capacity history.kept.groups (get nat_eq history.kept.users.found) (spare history.kept.users.found) history.kept.users.links history.kept.is_opened };
+    ghost invariant = { λ history. IsHistory history.entries history.kept };
 }
 
 impl History {

@@ -122,10 +122,10 @@ impl KeptGroups {
         requires newest { length entries.now.entries ≡ newest + 1 }
         requires legal { IsLegal entries.now.opening entries.now.entries }
         requires named { self.old.groups.names ≡ names_of entries.now.entries }
-        requires kept { AreKept entries.now.opening entries.now.entries (before entries.now.entries newest) (get nat_eq self.old.users.found) (spare self.old.users.found) self.old.users.links.links self.old.is_opened self.old.groups }
+        requires kept { AreKept entries.now.opening entries.now.entries (before entries.now.entries newest) self.old }
         requires links { 16 * length entries.now.entries ≤ self.old.users.links.room }
         ensures joined { AreJoined entries.now.entries self.old.groups self.new.groups }
-        ensures kept { AreKept entries.now.opening entries.now.entries (before entries.now.entries newest) (get nat_eq self.new.users.found) (spare self.new.users.found) self.new.users.links.links self.new.is_opened self.new.groups }
+        ensures kept { AreKept entries.now.opening entries.now.entries (before entries.now.entries newest) self.new }
         ensures links { self.new.users.links.room ≡ self.old.users.links.room }
         ensures closed { self.new.is_opened ≡ false → opener_at (slice_get (reverse entries.now.entries) newest) ≡ None }
     {
@@ -140,10 +140,10 @@ impl KeptGroups {
         requires newest { length entries.now.entries ≡ newest + 1 }
         requires legal { IsLegal entries.now.opening entries.now.entries }
         requires named { self.old.groups.names ≡ names_of entries.now.entries }
-        requires kept { AreKept entries.now.opening entries.now.entries (before entries.now.entries newest) (get nat_eq self.old.users.found) (spare self.old.users.found) self.old.users.links.links self.old.is_opened self.old.groups }
+        requires kept { AreKept entries.now.opening entries.now.entries (before entries.now.entries newest) self.old }
         requires links { 16 * length entries.now.entries ≤ self.old.users.links.room }
         ensures joined { AreJoined entries.now.entries self.old.groups self.new.groups }
-        ensures kept { AreKept entries.now.opening entries.now.entries entries.now.entries (get nat_eq self.new.users.found) (spare self.new.users.found) self.new.users.links.links self.new.is_opened self.new.groups }
+        ensures kept { AreKept entries.now.opening entries.now.entries entries.now.entries self.new }
         ensures links { self.new.users.links.room ≡ self.old.users.links.room }
     {
         self.open_by_newest(entries, newest);
@@ -157,11 +157,11 @@ impl KeptGroups {
         requires newest { length entries.now.entries ≡ newest + 1 }
         requires legal { IsLegal entries.now.opening entries.now.entries }
         requires labels { AreLabels (before entries.now.entries newest) self.old.groups }
-        requires kept { AreKept entries.now.opening (before entries.now.entries newest) (before entries.now.entries newest) (get nat_eq self.old.users.found) (spare self.old.users.found) self.old.users.links.links self.old.is_opened self.old.groups }
+        requires kept { AreKept entries.now.opening (before entries.now.entries newest) (before entries.now.entries newest) self.old }
         requires room { 2 * length entries.now.entries ≤ self.old.groups.room }
         requires links { 16 * length entries.now.entries ≤ self.old.users.links.room }
         ensures labels { AreLabels entries.now.entries self.new.groups }
-        ensures kept { AreKept entries.now.opening entries.now.entries entries.now.entries (get nat_eq self.new.users.found) (spare self.new.users.found) self.new.users.links.links self.new.is_opened self.new.groups }
+        ensures kept { AreKept entries.now.opening entries.now.entries entries.now.entries self.new }
         ensures room { self.new.groups.room ≡ self.old.groups.room }
         ensures links { self.new.users.links.room ≡ self.old.users.links.room }
     {
@@ -178,11 +178,11 @@ impl KeptGroups {
         requires newest { length entries.now.entries ≡ newest + 1 }
         requires legal { IsLegal entries.now.opening entries.now.entries }
         requires labels { AreLabels (before entries.now.entries newest) self.old.groups }
-        requires kept { AreKept entries.now.opening (before entries.now.entries newest) (before entries.now.entries newest) (get nat_eq self.old.users.found) (spare self.old.users.found) self.old.users.links.links self.old.is_opened self.old.groups }
+        requires kept { AreKept entries.now.opening (before entries.now.entries newest) (before entries.now.entries newest) self.old }
         requires room { 2 * length entries.now.entries ≤ self.old.groups.room }
         requires links { 16 * length entries.now.entries ≤ self.old.users.links.room }
         ensures labels { AreLabels entries.now.entries self.new.groups }
-        ensures kept { AreKept entries.now.opening entries.now.entries entries.now.entries (get nat_eq self.new.users.found) (spare self.new.users.found) self.new.users.links.links self.new.is_opened self.new.groups }
+        ensures kept { AreKept entries.now.opening entries.now.entries entries.now.entries self.new }
         ensures room { self.new.groups.room ≡ self.old.groups.room }
         ensures links { self.new.users.links.room ≡ self.old.users.links.room }
     {

@@ -1,8 +1,7 @@
 use Rattle.std.proofs.Common.{◌≡◌, ℕ, ◌<◌, List, length, reverse, sym, ap, ◌∙◌, arith, Some, inl, inr}
-use Rattle.std.specs.Prelude.{nat_eq, slice_get}
+use Rattle.std.specs.Prelude.{slice_get}
 use Rattle.std.proofs.lemmas.List.{length-reverse}
 use Rattle.std.proofs.lemmas.Option.{slice_get_cases}
-use Rattle.indexmap.specs.IndexMap.{get, spare}
 use Rattle.asset_names.specs.Steps.{Entry}
 use Rattle.asset_names.specs.declared.replies.Outcome.TheVariants.{Answer}
 use Rattle.asset_entries.specs.Recorded.{Recorded, answer_to}
@@ -48,8 +47,7 @@ note_newest-requires-clause-kept c =
     let new = c.append_from.new.self in
     let one = entry_at c.other.inside.entries.entries c.args.index (rw (← c.other.view_is) at c.requires.there) in
     let is = c.append_from.ensures one.0 one.1 in
-    let kept = c.self.inside.kept in
-    kept_next_ready old new one.0.0 one.0.1 c.len-newest.result is c.len-newest.ensures.len (get nat_eq kept.users.found) (spare kept.users.found) kept.users.links.links kept.is_opened kept.groups c.self.invariant.users
+    kept_next_ready old new one.0.0 one.0.1 c.len-newest.result is c.len-newest.ensures.len c.self.inside.kept c.self.invariant.users
 
 pub note_newest-requires-clause-room : goal.note_newest-requires-clause-room
 note_newest-requires-clause-room c =

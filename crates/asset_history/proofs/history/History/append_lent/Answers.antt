@@ -1,6 +1,4 @@
 use Rattle.std.proofs.Common.{arith}
-use Rattle.std.specs.Prelude.{nat_eq}
-use Rattle.indexmap.specs.IndexMap.{get, spare}
 use Rattle.asset_history.proofs.HistoryLemmas.{capacity_next, size_next, legal_next, labels_next_ready, kept_next_ready}
 use Rattle.asset_history.proofs.history.History.append_lent.Goals as goal
 
@@ -16,8 +14,7 @@ note_newest-requires-clause-labels c = labels_next_ready c.self.inside.entries c
 
 pub note_newest-requires-clause-kept : goal.note_newest-requires-clause-kept
 note_newest-requires-clause-kept c =
-    let kept = c.self.inside.kept in
-    kept_next_ready c.self.inside.entries c.append_lent.new.self c.args.step.now c.args.reply c.len-newest.result c.append_lent.ensures c.len-newest.ensures.len (get nat_eq kept.users.found) (spare kept.users.found) kept.users.links.links kept.is_opened kept.groups c.self.invariant.users
+    kept_next_ready c.self.inside.entries c.append_lent.new.self c.args.step.now c.args.reply c.len-newest.result c.append_lent.ensures c.len-newest.ensures.len c.self.inside.kept c.self.invariant.users
 
 pub note_newest-requires-clause-room : goal.note_newest-requires-clause-room
 note_newest-requires-clause-room c =

@@ -1,5 +1,3 @@
-use Rattle.std.specs.Prelude.{nat_eq}
-use Rattle.indexmap.specs.IndexMap.{get, spare}
 use Rattle.asset_history.specs.Together.{HaveGrown}
 use Rattle.asset_history.proofs.LabelLemmas.{grown_trans}
 use Rattle.asset_history.proofs.HistoryLemmas.{kept_wider, labels_next, grown_same}
@@ -11,10 +9,9 @@ note_users-requires-clause-kept c =
     let named = c.name_newest.new.groups in
     let flagged = c.flag_newest.new.groups in
     let grown : HaveGrown old.groups flagged = grown_trans old.groups named flagged c.name_newest.ensures.grown (grown_same named flagged c.flag_newest.ensures.names c.flag_newest.ensures.labels) in
-    kept_wider c.args.entries.now.opening c.args.entries.now.entries c.args.newest (get nat_eq old.users.found) (spare old.users.found) old.users.links.links old.is_opened old.groups flagged grown c.requires.kept
+    kept_wider c.args.entries.now.opening c.args.entries.now.entries c.args.newest old flagged grown c.requires.kept
 
 pub returns-clause-labels : goal.returns-clause-labels
 returns-clause-labels c =
-    let new = c.note_users.new.self in
-    labels_next c.args.entries.now.opening c.args.entries.now.entries c.args.newest (get nat_eq new.users.found) (spare new.users.found) new.users.links.links new.is_opened c.name_newest.new.groups c.flag_newest.new.groups new.groups c.requires.newest
+    labels_next c.args.entries.now.opening c.args.entries.now.entries c.args.newest c.name_newest.new.groups c.flag_newest.new.groups c.note_users.new.self c.requires.newest
     c.name_newest.ensures.named c.flag_newest.ensures.names c.flag_newest.ensures.labels c.flag_newest.ensures.flagged c.note_users.ensures.joined c.laws.ensures c.note_users.ensures.kept
