@@ -10,7 +10,7 @@ use Rattle.asset_grammar.specs.declared.grammar.Line.{Line}
 use Rattle.asset_grammar.specs.declared.grammar.Line.TheVariants.{Blank, Command, Bad}
 use Rattle.asset_grammar.specs.Grammar.{line_of}
 use Rattle.asset_grammar.specs.Lines.{lines}
-use Rattle.asset_grammar.specs.Texts.{line_end}
+use Rattle.asset_printing.specs.Texts.{line_end}
 use Rattle.asset_grammar.specs.Words.{words}
 use Rattle.asset_scripts.specs.declared.ends.RunEnd.TheVariants.{Finished, BadLine}
 use Rattle.asset_scripts.specs.Renders.{end_at}

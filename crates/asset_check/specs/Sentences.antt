@@ -1,7 +1,7 @@
 -- How a reason is said.
 use Rattle.std.specs.Prelude.{ℕ, ◌&&◌, Bool, true, false, cond, nat_lt, List, [], ◌++◌, take, map, Option, None, Some, codes}
 use Rattle.std.specs.Fmt.{decimal}
-use Rattle.asset_grammar.specs.Texts.{line_end}
+use Rattle.asset_printing.specs.Texts.{line_end}
 use Rattle.asset_reasons.specs.declared.reasons.Reason.{Reason}
 use Rattle.asset_reasons.specs.declared.reasons.Reason.TheVariants as Reason'
 use Rattle.asset_reasons.specs.declared.reasons.Shape.{Shape}

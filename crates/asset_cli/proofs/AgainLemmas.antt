@@ -17,7 +17,7 @@ use Rattle.asset_grammar.specs.declared.grammar.Command.TheVariants.{Ask}
 use Rattle.asset_grammar.specs.declared.grammar.Line.TheVariants.{Command}
 use Rattle.asset_grammar.specs.Grammar.{line_of}
 use Rattle.asset_grammar.specs.Lines.{lines}
-use Rattle.asset_grammar.specs.Texts.{outcome_line, reply_line}
+use Rattle.asset_printing.specs.Texts.{outcome_line, reply_line}
 use Rattle.asset_grammar.proofs.LineLemmas.{lines_cut}
 use Rattle.asset_printing.specs.Printed.{object_text, step_text}
 use Rattle.asset_printing.proofs.PlainLemmas.{object_one_line, step_one_line}

@@ -8,7 +8,7 @@ use Rattle.asset_grammar.specs.declared.grammar.Command.TheVariants.{Object, Ask
 use Rattle.asset_grammar.specs.declared.grammar.Line.TheVariants.{Blank, Command, Bad}
 use Rattle.asset_scripts.specs.declared.ends.RunEnd.{RunEnd}
 use Rattle.asset_grammar.specs.Grammar.{line_of}
-use Rattle.asset_grammar.specs.Texts.{bad_line}
+use Rattle.asset_printing.specs.Texts.{bad_line}
 use Rattle.asset_scripts.specs.Transcript.{Transcript, joined_by, steps_from, steps_transcript, step_line, printed, with_prefix, finished, stopped}
 use Rattle.asset_scripts.specs.Renders.{end_at}
 use Rattle.asset_scripts.specs.declared.prints.Prints.{Prints}

@@ -6,7 +6,7 @@ use Rattle.asset_names.specs.Groups.{without}
 use Rattle.asset_entries.specs.Recorded.{Recorded}
 use Rattle.asset_history.specs.Named.{names_of}
 use Rattle.asset_laws.specs.Serial.{serial}
-use Rattle.asset_grammar.specs.Texts.{reply_line}
+use Rattle.asset_printing.specs.Texts.{reply_line}
 use Rattle.asset_scripts.specs.declared.ends.RunEnd.TheVariants.{Finished}
 use Rattle.asset_scripts.specs.Transcript.{Transcript, transcript}
 use Rattle.asset_scripts.specs.declared.prints.Prints.TheVariants.{Nothing, Replies}

@@ -16,9 +16,10 @@ ghost use Rattle.asset_cli.specs.Playing.{prints_for};
 use crate::listing::{entry_of, push_columns};
 use crate::reporting::Work;
 use asset_core::Core;
-use asset_grammar::{Said, ScriptLines, push_bad_line, push_full, push_outcome};
+use asset_grammar::{Said, ScriptLines};
 use asset_history::History;
 use asset_names::{Fault, Ob, Outcome, Step};
+use asset_printing::{push_bad_line, push_full, push_outcome};
 use asset_scripts::{ObjectLine, OpeningObjects, Preamble, Prints, ScriptFault, take_objects};
 use std::alloc::{AllocError, Global};
 

@@ -2,9 +2,10 @@
 
 use crate::again::ask;
 use asset_core::Core;
-use asset_grammar::{Said, ScriptLines, push_full, push_outcome};
+use asset_grammar::{Said, ScriptLines};
 use asset_history::History;
 use asset_names::{Fault, Outcome, Step, Txn};
+use asset_printing::{push_full, push_outcome};
 use std::alloc::{AllocError, Global};
 
 /// Returns the step that a line of a script asks for.

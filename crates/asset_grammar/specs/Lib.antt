@@ -8,5 +8,4 @@ pub mod DependOperands
 pub mod Sets
 pub mod Grammar
 pub mod JobLines
-pub mod Texts
 pub mod Writable

@@ -1,5 +1,4 @@
-//! The lines of scripts and of job scripts: what each of them says, and the lines of text that answer them. Reads and writes
-//! nothing, and asks no facility.
+//! The lines of scripts and of job scripts: what each of them says. Reads and writes nothing, and asks no facility.
 #![tactic(auto)]
 
 mod grammar;
@@ -11,11 +10,9 @@ mod numbers;
 mod operands;
 mod script;
 mod sets;
-mod texts;
 mod words;
 
 pub use grammar::{Command, Line, Said};
 pub use job_lines::{JobAct, JobLine};
 pub use laws::lines_say_what_is_in_range;
 pub use script::ScriptLines;
-pub use texts::{push_bad_line, push_full, push_outcome};

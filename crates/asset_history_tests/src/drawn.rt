@@ -2,9 +2,9 @@
 use crate::deletion::{DRAWN_ROOM, left_undead, steps_are_drawn};
 use crate::histories::played;
 use crate::memory::expect;
-use asset_grammar::push_outcome;
 use asset_history::History;
 use asset_names::{NoMemory, Outcome};
+use asset_printing::push_outcome;
 use asset_reports::push_pruned;
 use asset_scripts::RunEnd;
 use std::alloc::{AllocError, Global};

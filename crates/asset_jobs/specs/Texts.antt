@@ -5,7 +5,7 @@ use Rattle.asset_names.specs.declared.names.Txn.{Txn}
 use Rattle.asset_names.specs.declared.counts.Counts.{Counts}
 use Rattle.asset_audit.specs.declared.auditing.AuditFault.{AuditFault}
 use Rattle.asset_audit.specs.declared.auditing.AuditFault.TheVariants.{Differs, Missing}
-use Rattle.asset_grammar.specs.Texts.{line_end}
+use Rattle.asset_printing.specs.Texts.{line_end}
 use Rattle.asset_jobs.specs.declared.rows.JobText.{JobText}
 use Rattle.asset_jobs.specs.declared.rows.JobText.TheVariants.{Committed, Aborted, Unsettled, NotBegun}
 

@@ -34,7 +34,7 @@ fn words_of(end: JobText) -> &'static str
 }
 
 /// Appends the line of a job.
-#[tactic(auto, unfolding(crate::specs::Texts::row_line, asset_grammar::specs::Texts::line_end))]
+#[tactic(auto, unfolding(crate::specs::Texts::row_line, asset_printing::specs::Texts::line_end))]
 fn push_row(text: &mut String, row: (Txn, JobText)) -> Result<(), AllocError>
     ensures { OnOk result (string_bytes text.new ≡ string_bytes text.old ++ row_line row) }
 {
@@ -52,7 +52,7 @@ fn push_rows(text: &mut String, rows: &[(Txn, JobText)]) -> Result<(), AllocErro
 }
 
 /// Appends the line of an audit that found nothing.
-#[tactic(auto, unfolding(crate::specs::Texts::counts_line, asset_grammar::specs::Texts::line_end))]
+#[tactic(auto, unfolding(crate::specs::Texts::counts_line, asset_printing::specs::Texts::line_end))]
 fn push_counts(text: &mut String, counts: Counts) -> Result<(), AllocError>
     ensures { OnOk result (string_bytes text.new ≡ string_bytes text.old ++ counts_line counts) }
 {
@@ -64,7 +64,7 @@ fn push_counts(text: &mut String, counts: Counts) -> Result<(), AllocError>
 }
 
 /// Appends the line of what an audit found.
-#[tactic(auto, unfolding(crate::specs::Texts::fault_line, asset_grammar::specs::Texts::line_end))]
+#[tactic(auto, unfolding(crate::specs::Texts::fault_line, asset_printing::specs::Texts::line_end))]
 fn push_fault(text: &mut String, fault: AuditFault) -> Result<(), AllocError>
     ensures { OnOk result (string_bytes text.new ≡ string_bytes text.old ++ fault_line fault) }
 {

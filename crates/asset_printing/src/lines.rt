@@ -1,12 +1,12 @@
 //! The lines of steps and of objects. If memory runs out, a part of a line may have been appended to the text.
 ghost use Rattle.std.specs.Prelude.{◌≡◌, ◌++◌, ◌<◌, ◌^◌, ◌||◌, true, [], ◌∷◌, OnOk, Some, codes, string_bytes};
-ghost use Rattle.std.specs.Fmt.{decimal, signed_decimal};
-ghost use Rattle.std.specs.Int.Signed.{mag};
+ghost use Rattle.std.specs.Fmt.{decimal};
 ghost use Rattle.asset_grammar.specs.Grammar.{command_of};
 ghost use Rattle.asset_grammar.specs.declared.grammar.Command.TheVariants.{Ask, Object as ObjectOf};
 ghost use Rattle.asset_names.specs.declared.steps.Step.TheVariants.{Initiate, Permit, PermitAny, Delegate};
 ghost use Rattle.asset_printing.specs.Printed.{kind_text, object_text, ops_text, step_text};
 
+use crate::numbers::{push_next_number, push_next_value};
 use crate::sets::{push_objects, push_set};
 use asset_names::{Kind, Ob, ObList, ObSet, Op, Ops, Step, Txn, value_asked};
 use std::alloc::AllocError;
@@ -16,7 +16,8 @@ fn push_one(text: &mut String, word: &str, number: u64) -> Result<(), AllocError
     ensures text { OnOk result (string_bytes text.new ≡ string_bytes text.old ++ word.now ++ 32 ∷ decimal number) }
     ensures small { number < 2 ^ 64 }
 {
-    write!(text, "{word} {number}")
+    text.push_str(word)?;
+    push_next_number(text, number)
 }
 
 /// Appends a word and two numbers.
@@ -25,15 +26,8 @@ fn push_two(text: &mut String, word: &str, first: u64, second: u64) -> Result<()
     ensures first { first < 2 ^ 64 }
     ensures second { second < 2 ^ 64 }
 {
-    write!(text, "{word} {first} {second}")
-}
-
-/// Appends a space and a value.
-fn push_value(text: &mut String, v: i64) -> Result<(), AllocError>
-    ensures text { OnOk result (string_bytes text.new ≡ string_bytes text.old ++ 32 ∷ signed_decimal v) }
-    ensures small { mag v < 2 ^ 63 }
-{
-    write!(text, " {v}")
+    push_one(text, word, first)?;
+    push_next_number(text, second)
 }
 
 /// Appends the line of an object with its value, without a line feed. It reads back as that object with that value.
@@ -43,7 +37,7 @@ pub fn push_object(text: &mut String, x: Ob, v: i64) -> Result<(), AllocError>
     ensures reads { OnOk result (command_of (object_text x v) ≡ Some (ObjectOf (x, v))) }
 {
     push_one(text, "object", x.0)?;
-    push_value(text, v)
+    push_next_value(text, v)
 }
 
 /// Appends the line of an initiate.
@@ -140,11 +134,11 @@ pub fn push_step(text: &mut String, step: &Step) -> Result<(), AllocError>
         Step::Read { t, x } => push_two(text, "read", t.0, x.0),
         Step::Write { t, x, .. } => {
             push_two(text, "write", t.0, x.0)?;
-            push_value(text, value_asked(step))
+            push_next_value(text, value_asked(step))
         }
         Step::Add { t, x, .. } => {
             push_two(text, "add", t.0, x.0)?;
-            push_value(text, value_asked(step))
+            push_next_value(text, value_asked(step))
         }
         Step::Complete { t } => push_one(text, "complete", t.0),
         Step::Permit {

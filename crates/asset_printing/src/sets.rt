@@ -6,23 +6,17 @@ ghost use Rattle.asset_grammar.specs.Lines.{Lacks};
 ghost use Rattle.asset_grammar.specs.Sets.{set_of};
 ghost use Rattle.asset_printing.specs.Printed.{AreNumbers, list_text, more_text, set_text};
 
+use crate::numbers::push_number;
 use asset_names::{Ob, ObList, ObSet};
 use std::alloc::AllocError;
-
-/// Appends a number. It is passed by itself, so that the proof knows its range.
-fn push_number(text: &mut String, number: u64) -> Result<(), AllocError>
-    ensures text { OnOk result (string_bytes text.new ≡ string_bytes text.old ++ decimal number) }
-    ensures small { number < 2 ^ 64 }
-{
-    write!(text, "{number}")
-}
 
 /// Appends a comma and a number.
 fn push_further(text: &mut String, number: u64) -> Result<(), AllocError>
     ensures text { OnOk result (string_bytes text.new ≡ string_bytes text.old ++ 44 ∷ decimal number) }
     ensures small { number < 2 ^ 64 }
 {
-    write!(text, ",{number}")
+    text.push_str(",")?;
+    push_number(text, number)
 }
 
 /// Appends the numbers of the objects, each after a comma.

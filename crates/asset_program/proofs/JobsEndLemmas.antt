@@ -6,7 +6,7 @@ use Rattle.asset_scripts.specs.Device.{DeviceState}
 use Rattle.asset_scripts.specs.Transfers.{TookPrefix}
 use Rattle.asset_program.specs.declared.jobs_end.JobsStop.{JobsStop}
 use Rattle.asset_program.specs.declared.jobs_end.JobsStop.TheVariants.{BadLine, Read, Write, NoMemory, OutOfRange, InUse}
-use Rattle.asset_grammar.specs.Texts.{bad_line}
+use Rattle.asset_printing.specs.Texts.{bad_line}
 use Rattle.asset_program.specs.JobsEnd.{EndsStopped, SaysBadLine, stop_status}
 
 -- a fault is none of the bad lines

@@ -6,7 +6,7 @@ use Rattle.asset_scripts.specs.declared.faults.ScriptFault.{ScriptFault}
 use Rattle.asset_scripts.specs.declared.faults.ScriptFault.TheVariants as ScriptFault'
 use Rattle.asset_scripts.specs.Device.{DeviceState}
 use Rattle.asset_scripts.specs.Transfers.{TookPrefix}
-use Rattle.asset_grammar.specs.Texts.{bad_line}
+use Rattle.asset_printing.specs.Texts.{bad_line}
 use Rattle.asset_jobs.specs.declared.faults.JobsFault.{JobsFault}
 use Rattle.asset_jobs.specs.declared.faults.JobsFault.TheVariants as JobsFault'
 use Rattle.asset_program.specs.declared.jobs_end.JobsStop.{JobsStop}

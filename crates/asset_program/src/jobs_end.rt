@@ -5,8 +5,8 @@ ghost use Rattle.asset_program.specs.JobsEnd.{EndsJobs, EndsStopped, SaysBadLine
 ghost use Rattle.asset_program.specs.declared.jobs_end.JobsStop.TheVariants.{NoMemory};
 
 use asset_audit::AuditFault;
-use asset_grammar::push_bad_line;
 use asset_jobs::JobsFault;
+use asset_printing::push_bad_line;
 use asset_scripts::{Device, ScriptFault, write_all};
 use std::alloc::{AllocError, Global};
 use std::io::Write;

@@ -9,6 +9,7 @@ use asset_buckets::Buckets;
 use asset_deletion::{Groups, groups};
 use asset_history::History;
 use asset_names::NoMemory;
+use asset_printing::{push_next_number, push_number};
 use std::alloc::{AllocError, Global};
 
 /// Appends a space and the name at the index, if there is one.
@@ -17,7 +18,7 @@ fn push_member(text: &mut String, groups: &Groups, index: usize) -> Result<(), A
     ensures { OnOk result (string_bytes text.new ≡ string_bytes text.old ++ member_word groups.now index) }
 {
     match groups.name(index) {
-        Some(t) => write!(text, " {}", t.0),
+        Some(t) => push_next_number(text, t.0),
         None => Ok(()),
     }
 }
@@ -50,11 +51,8 @@ fn is_dead(groups: &Groups, members: &[usize]) -> bool
 fn push_state(text: &mut String, number: usize, is_dead: bool) -> Result<(), AllocError>
     ensures { OnOk result (string_bytes text.new ≡ string_bytes text.old ++ state_text number is_dead) }
 {
-    if is_dead {
-        write!(text, "{number} dead")
-    } else {
-        write!(text, "{number} committed")
-    }
+    push_number(text, number as u64)?;
+    text.push_str(if is_dead { " dead" } else { " committed" })
 }
 
 /// Appends the line of a group, by the indices of its names.

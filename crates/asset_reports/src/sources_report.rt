@@ -6,7 +6,7 @@ ghost use Rattle.asset_sources.specs.Sourced.{source_at};
 ghost use Rattle.asset_reports.specs.Sources.{source_word, found_text, read_text, source_text, sources_text};
 
 use asset_names::{NoMemory, Step, Txn};
-use asset_printing::push_step;
+use asset_printing::{push_next_number, push_next_value, push_number, push_step};
 use asset_sources::{Source, Trace};
 use std::alloc::AllocError;
 
@@ -17,7 +17,10 @@ fn push_word(text: &mut String, source: Source) -> Result<(), AllocError>
 {
     match source {
         Source::Opening => text.push_str(" opening"),
-        Source::Entry(number) => write!(text, " entry {number}"),
+        Source::Entry(number) => {
+            text.push_str(" entry")?;
+            push_next_number(text, number as u64)
+        }
     }
 }
 
@@ -26,7 +29,7 @@ fn push_word(text: &mut String, source: Source) -> Result<(), AllocError>
 fn push_found(text: &mut String, v: i64, source: Source) -> Result<(), AllocError>
     ensures { OnOk result (string_bytes text.new ≡ string_bytes text.old ++ found_text v source) }
 {
-    write!(text, " {v}")?;
+    push_next_value(text, v)?;
     push_word(text, source)?;
     text.push_str("\n")
 }
@@ -42,7 +45,8 @@ fn push_read(
 ) -> Result<(), AllocError>
     ensures { OnOk result (string_bytes text.new ≡ string_bytes text.old ++ read_text number step.now v source) }
 {
-    write!(text, "{number} ")?;
+    push_number(text, number as u64)?;
+    text.push_str(" ")?;
     push_step(text, step)?;
     push_found(text, v, source)
 }

@@ -15,7 +15,7 @@ use Rattle.asset_scripts.specs.declared.prints.Prints.TheVariants.{Nothing, Repl
 use Rattle.asset_scripts.specs.Listing.{entry_of, listed}
 use Rattle.asset_grammar.specs.Lines.{lines}
 use Rattle.asset_grammar.specs.Grammar.{line_of}
-use Rattle.asset_grammar.specs.Texts.{outcome_line, full_line, bad_line}
+use Rattle.asset_printing.specs.Texts.{outcome_line, full_line, bad_line}
 
 -- what a run prints, how it ends, and the history when it ends
 pub record Transcript : Type 0 where

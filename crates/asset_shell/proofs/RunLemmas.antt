@@ -10,7 +10,7 @@ use Rattle.asset_grammar.specs.declared.grammar.Line.{Line}
 use Rattle.asset_grammar.specs.declared.grammar.Line.TheVariants.{Blank, Command, Bad}
 use Rattle.asset_grammar.specs.Grammar.{line_of}
 use Rattle.asset_grammar.specs.Lines.{lines}
-use Rattle.asset_grammar.specs.Texts.{bad_line}
+use Rattle.asset_printing.specs.Texts.{bad_line}
 use Rattle.asset_grammar.specs.Words.{words}
 use Rattle.asset_scripts.specs.declared.ends.RunEnd.TheVariants.{Finished}
 use Rattle.asset_scripts.specs.Transcript.{Transcript, finished, stopped, with_prefix, printed, answered_text, full_text, joined_by, step_line, steps_transcript, object_line, objects_transcript, transcript}

@@ -5,7 +5,7 @@ use Rattle.asset_entries.specs.Recorded.{Recorded, opened}
 use Rattle.asset_core.specs.Pending.{Facility}
 use Rattle.asset_grammar.specs.declared.grammar.Said.{Said}
 use Rattle.asset_grammar.specs.declared.grammar.Said.TheVariants.{Ask}
-use Rattle.asset_grammar.specs.Texts.{bad_line}
+use Rattle.asset_printing.specs.Texts.{bad_line}
 use Rattle.asset_check.specs.Checked.{Seen}
 use Rattle.asset_reasons.specs.Mistakes.{Found}
 use Rattle.asset_shell.specs.Sessions.{Session, new_session}

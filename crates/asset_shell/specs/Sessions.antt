@@ -9,7 +9,7 @@ use Rattle.asset_grammar.specs.declared.grammar.Command.TheVariants.{Object, Ask
 use Rattle.asset_grammar.specs.declared.grammar.Line.{Line}
 use Rattle.asset_grammar.specs.declared.grammar.Line.TheVariants.{Blank, Command, Bad}
 use Rattle.asset_grammar.specs.Grammar.{line_of}
-use Rattle.asset_grammar.specs.Texts.{bad_line, full_line, outcome_line}
+use Rattle.asset_printing.specs.Texts.{bad_line, full_line, outcome_line}
 use Rattle.asset_scripts.specs.Transcript.{joined_by}
 use Rattle.asset_check.specs.Checked.{Seen, mistake_at}
 use Rattle.asset_reasons.specs.Mistakes.{Found}

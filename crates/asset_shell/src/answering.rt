@@ -3,7 +3,7 @@ ghost use Rattle.std.specs.Prelude.{◌≡◌, ◌++◌, true, Option, None, Som
 ghost use Rattle.asset_core.specs.OpenFaults.{IsCapacity};
 ghost use Rattle.asset_reasons.specs.Mistakes.{Finds, Found};
 ghost use Rattle.asset_entries.specs.Recorded.{answer_to};
-ghost use Rattle.asset_grammar.specs.Texts.{bad_line};
+ghost use Rattle.asset_printing.specs.Texts.{bad_line};
 ghost use Rattle.asset_scripts.specs.Transcript.{joined_by};
 ghost use Rattle.asset_shell.specs.Sessions.{outcome_text};
 ghost use Rattle.asset_check.specs.Sentences.{mistake_line};
@@ -12,8 +12,9 @@ ghost use Rattle.asset_shell.specs.Answering.{asks, bad_if, IsJoint, open_histor
 use crate::answers::Answers;
 use asset_check::{Checker, first_of, push_mistake, said_of};
 use asset_core::Core;
-use asset_grammar::{Said, push_bad_line, push_full, push_outcome};
+use asset_grammar::Said;
 use asset_names::{Fault, Step};
+use asset_printing::{push_bad_line, push_full, push_outcome};
 use asset_reasons::Mistake;
 use asset_scripts::ScriptFault;
 use std::alloc::Global;

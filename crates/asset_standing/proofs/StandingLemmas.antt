@@ -10,7 +10,7 @@ use Rattle.asset_grammar.specs.declared.grammar.Line.{Line}
 use Rattle.asset_grammar.specs.declared.grammar.Line.TheVariants.{Blank, Command, Bad}
 use Rattle.asset_grammar.specs.Grammar.{line_of}
 use Rattle.asset_grammar.specs.Lines.{lines}
-use Rattle.asset_grammar.specs.Texts.{bad_line as bad_line_text}
+use Rattle.asset_printing.specs.Texts.{bad_line as bad_line_text}
 use Rattle.asset_scripts.specs.declared.ends.RunEnd.{RunEnd}
 use Rattle.asset_scripts.specs.declared.ends.RunEnd.TheVariants as Run'
 use Rattle.asset_scripts.specs.declared.faults.ScriptFault.{ScriptFault}

@@ -9,7 +9,7 @@ ghost use Rattle.asset_standing.specs.Waited.{waited};
 
 use crate::standing::{Stood, stand};
 use asset_core::Core;
-use asset_grammar::push_bad_line;
+use asset_printing::push_bad_line;
 use asset_scripts::{Device, Render, RunEnd, ScriptFault, render_all};
 use asset_waits::push_waits;
 use std::alloc::Global;

@@ -1,5 +1,5 @@
 use Rattle.std.proofs.Common.{append_assoc}
-use Rattle.asset_grammar.specs.Texts.{line_end}
+use Rattle.asset_printing.specs.Texts.{line_end}
 use Rattle.asset_jobs.specs.Texts.{fault_line}
 use Rattle.asset_jobs.proofs.rows.push_fault.Goals as goal
 

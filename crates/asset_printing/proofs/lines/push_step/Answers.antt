@@ -36,8 +36,8 @@ returns-in_ok-push_two-in-Write-clause-reads c =
     let pushed = c.push_two-in-Write.ensures in
     let back : to_z w64 (of_z w64 c.value_asked.result) ≡ c.value_asked.result = grind (arith, to_z-of_z) in
     let asked : c.value_asked.result ≡ c.in-Write.v = rw c.in-Write.is at c.value_asked.ensures in
-    let fits = rw (back, asked) at c.push_value.ensures.small in
-    rw c.in-Write.is (always_ok c.push_value.result (write_reads c.in-Write.t c.in-Write.x c.in-Write.v pushed.first pushed.second fits))
+    let fits = rw (back, asked) at c.push_next_value.ensures.small in
+    rw c.in-Write.is (always_ok c.push_next_value.result (write_reads c.in-Write.t c.in-Write.x c.in-Write.v pushed.first pushed.second fits))
 
 pub returns-in_ok-push_two-in-Add-clause-reads : goal.returns-in_ok-push_two-in-Add-clause-reads
 unfolding value_asked
@@ -45,5 +45,5 @@ returns-in_ok-push_two-in-Add-clause-reads c =
     let pushed = c.push_two-in-Add.ensures in
     let back : to_z w64 (of_z w64 c.value_asked-in-Add.result) ≡ c.value_asked-in-Add.result = grind (arith, to_z-of_z) in
     let asked : c.value_asked-in-Add.result ≡ c.in-Add.d = rw c.in-Add.is at c.value_asked-in-Add.ensures in
-    let fits = rw (back, asked) at c.push_value-in-Add.ensures.small in
-    rw c.in-Add.is (always_ok c.push_value-in-Add.result (add_reads c.in-Add.t c.in-Add.x c.in-Add.d pushed.first pushed.second fits))
+    let fits = rw (back, asked) at c.push_next_value-in-Add.ensures.small in
+    rw c.in-Add.is (always_ok c.push_next_value-in-Add.result (add_reads c.in-Add.t c.in-Add.x c.in-Add.d pushed.first pushed.second fits))

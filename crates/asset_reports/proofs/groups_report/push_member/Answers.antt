@@ -7,7 +7,7 @@ pub returns-in-Some : goal.returns-in-Some
 unfolding member_word word_of
 returns-in-Some c =
     let name = told_name (slice_get c.args.groups.now.names c.args.index) c.in-Some.t (sym c.name.ensures ∙ c.in-Some.is) in
-    rw name c.write.ensures.bytes
+    rw name c.push_next_number.ensures.text
 
 pub returns-in-None : goal.returns-in-None
 unfolding member_word word_of

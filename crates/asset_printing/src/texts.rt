@@ -1,8 +1,9 @@
-//! The lines that a script's run prints. If memory runs out, a part of a line may have been appended to
+//! The lines that a run prints in answer to the lines of a script. If memory runs out, a part of a line may have been appended to
 //! the text.
 ghost use Rattle.std.specs.Prelude.{◌≡◌, ◌++◌, OnOk, string_bytes};
-ghost use Rattle.asset_grammar.specs.Texts.{bad_line, full_line, outcome_line, refusal_line, refused_by, reply_line};
+ghost use Rattle.asset_printing.specs.Texts.{bad_line, full_line, outcome_line, refusal_line, refused_by, reply_line};
 
+use crate::numbers::push_value;
 use asset_names::{Outcome, Refusal, Reply};
 use std::alloc::AllocError;
 
@@ -42,7 +43,10 @@ fn push_reply(text: &mut String, reply: Reply) -> Result<(), AllocError>
 {
     match reply {
         Reply::Done => text.push_str("ok\n"),
-        Reply::Value(v) => writeln!(text, "{v}"),
+        Reply::Value(v) => {
+            push_value(text, v)?;
+            text.push_str("\n")
+        }
         Reply::Committed => text.push_str("committed\n"),
         Reply::Aborted => text.push_str("aborted\n"),
         Reply::Refused(refusal) => push_refusal(text, refusal),

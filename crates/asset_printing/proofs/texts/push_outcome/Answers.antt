@@ -1,6 +1,6 @@
 use Rattle.std.proofs.Common.{rules}
-use Rattle.asset_grammar.specs.Texts.{outcome_line, line_end}
-use Rattle.asset_grammar.proofs.texts.push_outcome.Goals as goal
+use Rattle.asset_printing.specs.Texts.{outcome_line, line_end}
+use Rattle.asset_printing.proofs.texts.push_outcome.Goals as goal
 
 pub returns-in-Wait : goal.returns-in-Wait
 unfolding outcome_line line_end

@@ -1,0 +1,5 @@
+use Rattle.std.proofs.Common.{rules}
+use Rattle.asset_printing.proofs.numbers.push_number.Goals as goal
+
+pub returns-clause-text : goal.returns-clause-text
+returns-clause-text c = search rules
