@@ -1,7 +1,7 @@
 /*
  * The facility of Vuzhakkiram for callers in C and in every language that can call C.
  *
- * A facility keeps transactions that can share unfinished work, and the history of all that they asked. It is owned by a
+ * A facility keeps transactions that can share unfinished work, and the history of their steps with the replies. It is owned by a
  * `struct asset`, a handle of 16 bytes that the caller provides:
  *
  *     struct asset asset = ASSET_CLOSED_HANDLE;
@@ -172,8 +172,8 @@ uint32_t asset_step(struct asset *asset, const struct asset_step *step, struct a
 /* Tells the status of a transaction. Answers ASSET_CLOSED. */
 uint32_t asset_status(struct asset *asset, uint64_t transaction, uint32_t *status);
 
-/* Tells the value of an object, with all that unfinished transactions wrote. Answers ASSET_CLOSED, and ASSET_ABSENT if there is no
- * such object. */
+/* Tells the value of an object, with all that unfinished transactions wrote and added. Answers ASSET_CLOSED, and ASSET_ABSENT if
+ * there is no such object. */
 uint32_t asset_value(struct asset *asset, uint64_t object, int64_t *value);
 
 /* Tells who waits for an object: the waiter at the index from 0, in order of initiation. Answers ASSET_CLOSED, and ASSET_ABSENT past
