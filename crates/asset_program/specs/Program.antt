@@ -1,5 +1,6 @@
 -- What a run of the program comes to.
-use Rattle.std.specs.Prelude.{◌≡◌, ℕ, List, Option, MatchOption, Result, MatchResult, string_bytes}
+use Rattle.std.specs.Prelude.{◌≡◌, ◌⊎◌, ℕ, true, List, Option, MatchOption, Result, MatchResult, string_bytes}
+use Rattle.std.specs.Io.KnownBytes.{Appends}
 use Rattle.asset_scripts.specs.declared.ends.RunEnd.{RunEnd}
 use Rattle.asset_scripts.specs.declared.faults.ScriptFault.{ScriptFault}
 use Rattle.asset_scripts.specs.Device.{DeviceState}
@@ -43,8 +44,12 @@ module _ {R W : Type 0} (remaining : R → Option (List ℕ)) (contents : W → 
       ((status ≡ 2) × (input' ≡ input) × (output' ≡ output))
       (λ capacity. RunsScript request.task capacity input input' output output' status)
 
--- help and the version go to the writer, or a prefix of them if it fails; of another answer it sees nothing
+-- a writer took the whole text; or a call of it failed, and it took a prefix
+abbrev pub TookText : {W : Type 0} → (W → Option (List ℕ)) → DeviceState W → DeviceState W → List ℕ → Type 0
+TookText contents output output' text = Appends (contents output.inner) (contents output'.inner) text ⊎ ((output'.failed ≡ true) × TookPrefix contents output output' text)
+
+-- help and the version go to the writer, whole or a prefix of them if it fails; of another answer it sees nothing
 unfoldable pub Shows : {W : Type 0} → (W → Option (List ℕ)) → Answer → DeviceState W → DeviceState W → Type 0
-Shows contents (Help text) output output' = TookPrefix contents output output' (string_bytes text)
+Shows contents (Help text) output output' = TookText contents output output' (string_bytes text)
 Shows contents (Refusal text) output output' = output' ≡ output
 Shows contents (Fault fault) output output' = output' ≡ output
