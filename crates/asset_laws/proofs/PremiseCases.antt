@@ -62,8 +62,8 @@ sharing_breaks_it : ¬ IsLegal three (serial permitted)
 unfolding IsLegal serial entries_of committed_names committed_by actor same_kind answer rules_for unrefused first_refusal outcome_unless unknown ended not_running taken begun_before too_late no_object one_name missing_in missing_rule no_object_of is_unknown has_ended is_running is_completed is_committed has_begun may_commit class_completed commit_outcome free blocks allows openers opened_by permits_along reaches_opener permits permitted_by in_set numbers conflict op_of operations operated value value_after after_use was_aborted stands opening_value opening_at exists status status_of end_of ended_by live same_class has_outside_source has_outside class_arrows order_arrows doom_arrows dependencies dependency_by both_ways initiated begun completed initiated_by begun_by completed_by applied takes_effect among linked lists
 sharing_breaks_it legal = let read = legal.1.1.0 in cc
 
--- Two groups that commit in parts: 8 shares with 7, and 9 with nobody. 9 reads what 7 committed, and 8 what 9 committed. So
--- neither order of the groups gives the values that were read: 7 and 8 before 9, or 9 before 7 and 8.
+-- Two groups, one of which commits in two parts: 8 shares with 7, and 9 with nobody. 9 reads what 7 committed, and 8 what
+-- 9 committed. So neither order of the groups gives the values that were read: 7 and 8 before 9, or 9 before 7 and 8.
 abbrev group_before : List Step
 group_before = Initiate (t 7) None ∷ Begin (t 7) ∷ Initiate (t 8) None ∷ Begin (t 8) ∷ Permit (t 7) (t 8) (Listed (x 3 ∷ [])) read_only ∷ Write (t 7) (x 1) (pos 50) ∷ Complete (t 7) ∷ Commit (t 7) ∷ []
 

@@ -91,7 +91,7 @@ permits [] x op = []
 permits (step ∷ older) x op = permitted_by step older (permits older x op) x op ++ permits older x op
 
 -- the names that a step adds to those who permit op on x to anybody, over the steps before it and their names: an open
--- permit adds its giver, if it covers op on x; a delegation adds its taker, if the giver is one of them and hands over x
+-- permit adds its giver, if it opens x for op; a delegation adds its taker, if the giver is one of them and hands over x
 unfoldable pub opened_by : Step → List Step → List ℕ → ℕ → Op → List ℕ
 opened_by (PermitAny giver obs ops) older names x op = cond (in_set (Listed obs) x && has_op ops op) (giver.0 ∷ []) []
 opened_by (Delegate giver taker obs) older names x op = cond ((in_set obs x && holds_object older giver.0 x) && lists names giver.0) (taker.0 ∷ []) []

@@ -58,7 +58,7 @@ unfoldable pub label_text : Bool → Lane → List ℕ
 label_text wide lane = pieces (codes "<rect class='" ∷ band_word lane.group ∷ codes "' y='-26' width='100%' height='56'/><text class='note' x='16' y='-12'>group " ∷ decimal lane.group ∷ codes " " ∷ state_word lane.is_dead
     ∷ codes "</text><text class='name' x='" ∷ decimal (x_at wide (unwrap_or lane.span.start 0)) ∷ codes "' dx='-12' y='5'>" ∷ decimal lane.t ∷ codes "</text>" ∷ [])
 
--- the end of a line: a bar, or the right edge if the transaction is live
+-- the end of a line: a bar, or the place after the last entry if the transaction is live
 unfoldable pub stop_text : Bool → ℕ → Option ℕ → List ℕ
 stop_text wide count None = decimal (x_at wide count)
 stop_text wide count (Some stop) = pieces (decimal (x_at wide stop) ∷ codes "v-7v14" ∷ [])

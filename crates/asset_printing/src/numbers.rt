@@ -1,4 +1,4 @@
-//! Numbers and values in decimal digits. If memory runs out, no digit was appended.
+//! Numbers and values in decimal digits. If memory runs out, a part of them may have been appended to the text.
 ghost use Rattle.std.specs.Prelude.{◌≡◌, ◌++◌, ◌<◌, ◌^◌, ◌∷◌, OnOk, string_bytes};
 ghost use Rattle.std.specs.Fmt.{decimal, signed_decimal};
 ghost use Rattle.std.specs.Int.Signed.{mag};
