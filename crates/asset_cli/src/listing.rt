@@ -5,7 +5,7 @@ ghost use Rattle.asset_scripts.specs.Listing.{column, entry_of, entry_word, list
 ghost use Rattle.asset_printing.specs.Printed.{step_text};
 
 use asset_names::{Outcome, Step};
-use asset_printing::push_step;
+use asset_printing::{push_number, push_step};
 use std::alloc::AllocError;
 
 /// The width of a column of numbers.
@@ -47,11 +47,11 @@ fn end_column(text: &mut String, start: usize, width: usize) -> Result<(), Alloc
 
 /// Appends a number in a column.
 #[tactic(auto, using(crate::proofs::ListingLemmas::column_pushed))]
-fn push_number(text: &mut String, number: u64) -> Result<(), AllocError>
+fn push_number_column(text: &mut String, number: u64) -> Result<(), AllocError>
     ensures { OnOk result (string_bytes text.new ≡ string_bytes text.old ++ column 7 (decimal number)) }
 {
     let start = text.as_bytes().len();
-    write!(text, "{number}")?;
+    push_number(text, number)?;
     end_column(text, start, NUMBER_WIDTH)?;
     Ok(())
 }
@@ -62,7 +62,7 @@ fn push_entry(text: &mut String, entry: Option<usize>) -> Result<(), AllocError>
     ensures { OnOk result (string_bytes text.new ≡ string_bytes text.old ++ column 7 (entry_word entry)) }
 {
     match entry {
-        Some(number) => push_number(text, number as u64),
+        Some(number) => push_number_column(text, number as u64),
         None => {
             let start = text.as_bytes().len();
             text.push_str("-")?;
@@ -94,7 +94,7 @@ pub(crate) fn push_columns(
 ) -> Result<(), AllocError>
     ensures { (reply : List ℕ) → OnOk result (string_bytes text.new ++ reply ≡ string_bytes text.old ++ listed number entry step.now reply) }
 {
-    push_number(text, number)?;
+    push_number_column(text, number)?;
     push_entry(text, entry)?;
     push_step_column(text, step)
 }
