@@ -216,6 +216,7 @@ impl Records {
     pub fn add_object(&mut self) -> Result<(), NoMemory>
         ensures added { OnOk result (lists_in self.new ≡ lists_in self.old ++ [] ∷ []) }
         ensures unchanged { OnErr result (self.new ≡ self.old) }
+        ensures reserved { has_room self.new ≡ has_room self.old }
         ensures few { IsNoMore self.old self.new }
         ensures tied { (seats : Seated) → IsTied self.old seats → IsTied self.new seats }
     {

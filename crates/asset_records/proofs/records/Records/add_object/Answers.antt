@@ -3,7 +3,8 @@ use Rattle.std.specs.Prelude.{slice_index_or}
 use Rattle.slab.specs.Slab.{Slab}
 use Rattle.asset_chains.specs.Chained.{Chained, home_of}
 use Rattle.asset_records.specs.declared.records.Record.{Record}
-use Rattle.asset_chains.specs.Crossed.{Crossed}
+use Rattle.asset_chains.specs.Crossed.{Crossed, has_room}
+use Rattle.asset_chains.proofs.CrossedLemmas.{room_of_items}
 use Rattle.asset_records.specs.declared.layers.Mark.{Mark}
 use Rattle.asset_records.specs.Layered.{AreMarked, mark_at, fits}
 use Rattle.asset_records.specs.Listed.{on, lists_in}
@@ -24,6 +25,12 @@ returns-clause-tied c = elim c.match-add.branch [
       (λ seats tied. tied_grown c.self.inside.records c.add.new.self seats tied (ap (λ (s : Slab Record). s.slots) w.in-Ok.ensures.items) (λ k. ap (λ (table : Chained). home_of table k) w.in-Ok.ensures.others)
       (omega (arith, ap (λ (table : Chained). length table.chains) w.in-Ok.ensures.others)))
   | in-Err w ↦ rw (← c.self.view_is) (rw w.in-Err.ensures.unchanged (λ seats tied. tied))
+]
+
+pub returns-clause-reserved : goal.returns-clause-reserved
+returns-clause-reserved c = elim c.match-add.branch [
+  | in-Ok w ↦ rw (← c.self.view_is) (room_of_items c.self.inside.records c.add.new.self w.in-Ok.ensures.items)
+  | in-Err w ↦ rw (← c.self.view_is) (ap has_room w.in-Err.ensures.unchanged)
 ]
 
 pub invariant_of-self : goal.invariant_of-self
