@@ -97,7 +97,7 @@ pub(crate) fn part_of(number: usize, ops: Ops) -> Part
 }
 
 impl LockStore {
-    ghost use Rattle.std.specs.Prelude.{◌≡◌, ℕ, ◌<◌, [], ◌∷◌, ◌++◌, length, OnOk, OnErr};
+    ghost use Rattle.std.specs.Prelude.{◌≡◌, ℕ, ◌<◌, [], ◌∷◌, ◌++◌, length, take, OnOk, OnErr};
     ghost use Rattle.asset_chains.specs.Chained.{chain_of, home_of, IsConsistent};
     ghost use Rattle.asset_lock_store.specs.Stored.{IsStored, IsGrown, lock_at, locks_at};
 
@@ -157,6 +157,7 @@ impl LockStore {
     /// Gives each of the objects the next number, in order. If memory runs out, some may have got one. No lock changes.
     pub fn add_objects(&mut self, objects: &[Ob]) -> Result<(), NoMemory>
         ensures added { OnOk result (self.new.objects ≡ self.old.objects ++ objects.now) }
+        ensures kept { take (length self.old.objects) self.new.objects ≡ self.old.objects }
         ensures locks { self.new.locks ≡ self.old.locks }
         ensures by_owner { self.new.by_owner ≡ self.old.by_owner }
     {

@@ -72,7 +72,7 @@ fn request_at(pending: &[Option<(Ob, Op)>], c: usize) -> Option<(Ob, Op)>
 }
 
 impl SeatedLocks {
-    ghost use Rattle.std.specs.Prelude.{◌≡◌, ℕ, ◌==◌, Bool, cond, true, false, [], ◌∷◌, ◌++◌, None, Some, is_some, slice_get, filter, IfOk, IsErr, OnOk, OnErr};
+    ghost use Rattle.std.specs.Prelude.{◌≡◌, ℕ, ◌==◌, Bool, cond, true, false, [], ◌∷◌, ◌++◌, length, take, None, Some, is_some, slice_get, filter, IfOk, IsErr, OnOk, OnErr};
     ghost use Rattle.asset_names.specs.Arrows.{lists};
     ghost use Rattle.asset_names.specs.declared.names.Ob.{Ob as Object};
     ghost use Rattle.asset_names.specs.declared.operations.Op.{Op as Operation};
@@ -118,6 +118,7 @@ impl SeatedLocks {
     /// Gives each of the objects the next number, in order. If memory runs out, some may have got one. No row changes.
     pub fn add_objects(&mut self, objects: &[Ob]) -> Result<(), NoMemory>
         ensures added { OnOk result (self.new.store.objects ≡ self.old.store.objects ++ objects.now) }
+        ensures kept { take (length self.old.store.objects) self.new.store.objects ≡ self.old.store.objects }
         ensures rows { (seats : Seated) → rows_in seats self.new ≡ rows_in seats self.old }
         ensures tied { (seats : Seated) → IsTied self.old seats → IsTied self.new seats }
     {
