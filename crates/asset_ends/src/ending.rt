@@ -156,6 +156,7 @@ impl Tables {
         ensures tried { result ≡ tried (may_commit_in self.old t.0) }
         ensures stand { ShowsWithIf self.old (may_commit_in self.old t.0) (Step.Commit t) self.new }
         ensures locks { self.new.locks ≡ cond (may_commit_in self.old t.0) (release_in (class_in self.old.deps t.0) self.old.locks) self.old.locks }
+        ensures still { may_commit_in self.old t.0 ≡ false → self.new ≡ self.old }
     {
         let (status, one) = self.find(t);
         self.try_commit_at(one, status)
@@ -170,6 +171,7 @@ impl Tables {
         ensures tried { result ≡ tried (may_commit_in self.old one.t.0) }
         ensures stand { ShowsWithIf self.old (may_commit_in self.old one.t.0) (Step.Commit one.t) self.new }
         ensures locks { self.new.locks ≡ cond (may_commit_in self.old one.t.0) (release_in (class_in self.old.deps one.t.0) self.old.locks) self.old.locks }
+        ensures still { may_commit_in self.old one.t.0 ≡ false → self.new ≡ self.old }
     {
         let is_alone = !self.parts.deps.is_linked(&self.parts.seats, one);
         if is_alone {
@@ -189,6 +191,7 @@ impl Tables {
         ensures tried { result ≡ tried (may_commit_in self.old one.t.0) }
         ensures stand { ShowsWithIf self.old (may_commit_in self.old one.t.0) (Step.Commit one.t) self.new }
         ensures locks { self.new.locks ≡ cond (may_commit_in self.old one.t.0) (release_in (class_in self.old.deps one.t.0) self.old.locks) self.old.locks }
+        ensures still { may_commit_in self.old one.t.0 ≡ false → self.new ≡ self.old }
     {
         if status.is_completed() {
             end_one(&mut self.parts, one, End::Committed);
@@ -205,6 +208,7 @@ impl Tables {
         ensures tried { result ≡ tried (may_commit_in self.old one.t.0) }
         ensures stand { ShowsWithIf self.old (may_commit_in self.old one.t.0) (Step.Commit one.t) self.new }
         ensures locks { self.new.locks ≡ cond (may_commit_in self.old one.t.0) (release_in (class_in self.old.deps one.t.0) self.old.locks) self.old.locks }
+        ensures still { may_commit_in self.old one.t.0 ≡ false → self.new ≡ self.old }
     {
         if class_may_commit(
             &self.parts.seats,

@@ -44,10 +44,11 @@ impl Model for Tables {
 }
 
 impl Tables {
-    ghost use Rattle.std.specs.Prelude.{◌≡◌, ℕ, slice_get, [], None, Some, is_some, OnOk, IfOk, IfErr};
+    ghost use Rattle.std.specs.Prelude.{◌≡◌, ℕ, ℤ, slice_get, [], None, Some, is_some, map, OnOk, IfOk, IfErr};
     ghost use Rattle.asset_names.specs.declared.names.Ob.{Ob as Object};
     ghost use Rattle.asset_names.specs.declared.operations.Op.{Op as Operation};
     ghost use Rattle.asset_names.specs.InSet.{only_in};
+    ghost use Rattle.asset_names.specs.Numbered.{number_in};
     ghost use Rattle.asset_names.specs.Steps.{Opening};
     ghost use Rattle.asset_names.specs.Orderly.{IsOrderly};
     ghost use Rattle.asset_names.specs.Endings.{status};
@@ -65,12 +66,13 @@ impl Tables {
     ghost use Rattle.asset_ends.specs.Shows.{Shows};
     ghost use Rattle.asset_ends.specs.Standing.{values_of, allows_in, is_free_for};
 
-    /// Returns the tables of an opening, before the first step.
+    /// Returns the tables of an opening, before the first step. The objects are numbered in the order of the opening.
     ///
     /// It answers `DoubleObject` with the least object that is given twice; otherwise `NoMemory` if memory runs out.
     pub fn open(alloc: Global, opening: &[(Ob, i64)]) -> Result<Tables, ObjectsFault>
         ensures shows { IfOk result (λ tables. Shows opening.now [] (values_of tables)) }
         ensures locks { IfOk result (λ tables. tables.locks ≡ []) }
+        ensures numbers { IfOk result (λ tables. (x : ℕ) → number_of tables.objects x ≡ number_in (map (λ (pair : Object × ℤ). pair.0) opening.now) x) }
         ensures different { OnOk result (HasNoDouble (objects_of opening.now)) }
         ensures fault { IfErr result (λ fault. IsObjectsFault opening.now fault) }
     {
@@ -80,12 +82,13 @@ impl Tables {
         }
     }
 
-    /// Returns the tables of an opening that gives no object twice, before the first step. It fails only if memory
-    /// runs out.
+    /// Returns the tables of an opening that gives no object twice, before the first step. The objects are numbered in the
+    /// order of the opening. It fails only if memory runs out.
     pub fn open_distinct(alloc: Global, opening: &[(Ob, i64)]) -> Result<Tables, NoMemory>
         requires distinct { HasNoDouble (objects_of opening.now) }
         ensures shows { IfOk result (λ tables. Shows opening.now [] (values_of tables)) }
         ensures locks { IfOk result (λ tables. tables.locks ≡ []) }
+        ensures numbers { IfOk result (λ tables. (x : ℕ) → number_of tables.objects x ≡ number_in (map (λ (pair : Object × ℤ). pair.0) opening.now) x) }
     {
         Tables::over(alloc, SeatedObjects::open_distinct(alloc, opening)?)
     }
@@ -95,6 +98,7 @@ impl Tables {
         requires { (seats : Seated) → ((c : ℕ) → seat seats c ≡ None) → IsTied objects seats }
         ensures shows { IfOk result (λ tables. (opening : Opening) → cells (objects_in objects) ≡ opened opening → Shows opening [] (values_of tables)) }
         ensures locks { IfOk result (λ tables. tables.locks ≡ []) }
+        ensures numbers { IfOk result (λ tables. (x : ℕ) → number_of tables.objects x ≡ number_in objects.objects x) }
     {
         let mut locks = SeatedLocks::new(alloc);
         locks.add_objects(objects.objects())?;

@@ -1,5 +1,6 @@
 use Rattle.std.proofs.Common.{◌++◌, List, ap, ◌∙◌}
 use Rattle.asset_names.specs.declared.names.Ob.{Ob}
+use Rattle.asset_objects.proofs.PlacedLemmas.{number_named}
 use Rattle.asset_ends.proofs.ShowsLemmas.{opened_shows}
 use Rattle.asset_ends.proofs.EnrolledLemmas.{nobody_enrolled, nobody_seated}
 use Rattle.asset_ends.proofs.StandingLemmas.{stand_as}
@@ -14,3 +15,6 @@ invariant_of-result c = record {
 
 pub returns-clause-shows : goal.returns-clause-shows
 returns-clause-shows c = λ opening at_first. stand_as opening _ _ _ _ _ _ _ c.new-3.ensures at_first (c.add_objects.ensures.rows _ ∙ c.new-locks.ensures.rows _) c.new-2.ensures.permits c.new-4.ensures.dependencies (opened_shows opening)
+
+pub returns-clause-numbers : goal.returns-clause-numbers
+returns-clause-numbers c = λ x. number_named c.args.objects x

@@ -1,4 +1,4 @@
-use Rattle.std.proofs.Common.{◌∙◌, sym, ap, refl}
+use Rattle.std.proofs.Common.{rules, ◌∙◌, sym, ap, refl}
 use Rattle.asset_names.specs.declared.statuses.End.TheVariants as End'
 use Rattle.asset_names.proofs.Common.{eqb-flip}
 use Rattle.asset_locks.specs.LockTable as Locks
@@ -53,3 +53,8 @@ returns-else-is_completed-clause-stand c =
 pub returns-else-is_completed-clause-locks : goal.returns-else-is_completed-clause-locks
 returns-else-is_completed-clause-locks c =
     rw (← completed_may _ _ _ _ _ c.if-is_completed.ensures c.requires.status c.requires.live c.requires.alone c.requires.no_source) refl
+
+pub returns-then-is_completed-clause-still : goal.returns-then-is_completed-clause-still
+returns-then-is_completed-clause-still c =
+    let may = completed_may _ _ _ _ _ c.if-is_completed.ensures c.requires.status c.requires.live c.requires.alone c.requires.no_source in
+    rw (← may) (search rules)
