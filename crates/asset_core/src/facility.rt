@@ -142,9 +142,9 @@ impl Core {
         }
     }
 
-    /// Asks for one step. An answered step, refused or not, becomes an entry of the history. A step that waits
-    /// does not, and may be asked again: a read, a write or an add that waits becomes its transaction's pending
-    /// request, until the next one that is granted.
+    /// Asks for one step. An answered step, refused or not, becomes an entry of the history. A step that waits does
+    /// not, and may be asked again: a read, a write or an add that waits becomes its transaction's pending request,
+    /// until the transaction's next read, write or add that is granted or waits, or until it ends.
     ///
     /// It answers `Full` exactly if the entries with this one, together with those that live transactions are
     /// owed after it, exceed the capacity. A complete, a commit or an abort that changes a status always finds

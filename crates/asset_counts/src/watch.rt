@@ -69,7 +69,7 @@ impl Model for Reader {
 }
 
 /// How far somebody has seen the published counts. Contracts see its word, and the counts that it saw last, which are
-/// zeros if it has none. It is `Send`.
+/// zeros if it has no word. It is `Send`.
 #[derive(Drop)]
 pub struct WatchPass {
     reader: Option<Reader>,

@@ -9,9 +9,10 @@ use asset_buckets::Buckets;
 use std::alloc::{AllocError, Global};
 use std::marker::Model;
 
-/// The cycles of a graph, whose nodes are numbered from 0 on. Two nodes are on one cycle if arrows lead from each to the
-/// other, and a node is on a cycle if arrows lead from it back to it. The label of a node is the least node that is on one
-/// cycle with it. Contracts see the label of each node, in order.
+/// The cycles of a graph, whose nodes are numbered from 0 on. Two nodes are on one cycle if arrows lead from each to
+/// the other, that is, if they are in one strongly connected component. A node is on a cycle if arrows lead from it
+/// back to it. The label of a node is the least node that is on one cycle with it. Contracts see the label of each
+/// node, in order.
 ///
 /// `own` has the labels once each, rising, and `members` has the nodes in buckets by their labels.
 #[derive(Drop)]

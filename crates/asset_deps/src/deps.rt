@@ -7,8 +7,8 @@ use asset_seats::{Seats, Sitter};
 use std::alloc::Global;
 use std::marker::Model;
 
-/// The dependencies that stand between enrolled transactions, and those of them that are marked. Exactly those who are
-/// enrolled have a seat, by which the table is asked.
+/// The dependencies that stand between enrolled transactions, and which of these transactions are marked. Exactly those
+/// who are enrolled have a seat, by which the table is asked.
 ///
 /// A transaction that never depends on another nor is depended on needs no place here.
 pub struct Deps {
@@ -166,7 +166,8 @@ impl Deps {
         self.table.has_outside_source(&self.seats, Sitter { t, at })
     }
 
-    /// Marks the transaction's class, and nobody else. A search forgets no mark.
+    /// Marks the transaction's class, and nobody else. The marks stay through `would_cycle`, `same_class` and
+    /// `has_outside_source`.
     pub fn mark_class(&mut self, t: Txn)
         requires { lists self.old.names t.0 ≡ true }
         ensures marked { (n : ℕ) → lists self.new.marked n ≡ class_in self.old.dependencies t.0 n }
@@ -177,7 +178,8 @@ impl Deps {
         self.table.mark_class(&self.seats, one);
     }
 
-    /// Marks whom an abort of the transaction aborts, and nobody else. A search forgets no mark.
+    /// Marks whom an abort of the transaction aborts, and nobody else. The marks stay through `would_cycle`,
+    /// `same_class` and `has_outside_source`.
     pub fn mark_doomed(&mut self, t: Txn)
         requires { lists self.old.names t.0 ≡ true }
         ensures marked { (n : ℕ) → lists self.new.marked n ≡ doomed_in self.old.dependencies t.0 n }

@@ -18,7 +18,8 @@ impl SeatedDeps {
     ghost use Rattle.asset_deps.specs.Reached.{ways_in};
     ghost use Rattle.asset_deps.specs.Valid.{dependencies_in, marked_in, IsTied};
 
-    /// Marks the transaction's class, and nobody else. A search forgets no mark.
+    /// Marks the transaction's class, and nobody else. The marks stay through `would_cycle`, `same_class` and
+    /// `has_outside_source`.
     pub fn mark_class(&mut self, seats: &Seats, t: Sitter)
         requires tied { IsTied self.old seats.now }
         requires sits { HasSeat seats.now t }
@@ -29,7 +30,8 @@ impl SeatedDeps {
         self.mark(seats, Kinds::Class, t);
     }
 
-    /// Marks whom an abort of the transaction aborts, and nobody else. A search forgets no mark.
+    /// Marks whom an abort of the transaction aborts, and nobody else. The marks stay through `would_cycle`,
+    /// `same_class` and `has_outside_source`.
     pub fn mark_doomed(&mut self, seats: &Seats, t: Sitter)
         requires tied { IsTied self.old seats.now }
         requires sits { HasSeat seats.now t }

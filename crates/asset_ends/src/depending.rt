@@ -39,8 +39,8 @@ impl Tables {
             .would_cycle(&self.parts.seats, kind, source, dependent)
     }
 
-    /// Makes `b` depend on `a`, both of which are live; a group commit joins their classes. It closes no cycle. If memory
-    /// runs out, nothing that any call shows has changed.
+    /// Makes `b` depend on `a`, both of which are live; a group commit joins their classes. The caller has made sure
+    /// that it closes no cycle. If memory runs out, nothing that any call shows has changed.
     pub fn depend(&mut self, kind: Kind, a: Txn, b: Txn) -> Result<(), NoMemory>
         requires source { is_live_status (status_in self.old.trans a.0) ≡ true }
         requires dependent { is_live_status (status_in self.old.trans b.0) ≡ true }

@@ -188,7 +188,8 @@ impl Tables {
     }
 
     /// Returns whether `x` is free for `t` to do `op`. Nothing changes: a search for permits marks what it met, and no
-    /// call shows that.
+    /// call shows that. It also says, for proofs, who allows whom: the tables say the same as each history that they
+    /// show.
     pub fn is_free(&mut self, t: Txn, x: Ob, op: Op) -> bool
         ensures free { result ≡ is_free_for self.old t.0 x.0 op }
         ensures shown { ForShown self.old (λ opening steps. result ≡ free steps t.0 x.0 op) }

@@ -207,8 +207,8 @@ impl History {
         self.kept.note_newest(&self.entries, newest);
     }
 
-    /// Returns the transactions that steps act on, in order of first use and of a step the first before the second, in their groups;
-    /// that of a group in which a member has committed is flagged.
+    /// Returns the transactions that steps act on, in order of first use and of a step the first before the second, in
+    /// their groups. A group of which a member has committed is flagged.
     pub fn groups(&self) -> &NameGroups
         ensures labels { AreLabels self.now.entries result.now }
         ensures legal { IsLegal self.now.opening self.now.entries }

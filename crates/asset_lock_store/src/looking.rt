@@ -160,7 +160,8 @@ impl LockStore {
         }
     }
 
-    /// Looks at the locks on the object that is asked for, whose number is given, as `look_on` does.
+    /// Looks at the locks on the object that is asked for, whose number is given if it has one: for a read at those
+    /// that do not only read, for an add at those that do not only add, and for a write at all.
     #[inline(always)]
     pub fn look<A: Allows>(
         &self,

@@ -157,7 +157,8 @@ impl LockStore {
         }
     }
 
-    /// Returns the object at the index among those on which the seat has a lock, from 0 in order of first grant or move.
+    /// Returns the object at the index among those on which the seat has a lock, from 0 in order of first grant or
+    /// move, and `None` past the end.
     pub fn held_at(&self, c: usize, index: usize) -> Option<Ob>
         ensures { result ≡ slice_get (map (λ (lock : Held). lock.object) (locks_at self.now c)) index }
     {

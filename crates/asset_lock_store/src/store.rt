@@ -137,7 +137,8 @@ impl LockStore {
         self.objects.as_slice()
     }
 
-    /// Gives the object the next number, and a list. If memory runs out, no object gets one. No lock changes.
+    /// The object gets the next number, and a list. The caller makes sure that it has none yet, which no clause asks
+    /// for. If memory runs out, no object gets one. No lock changes.
     pub fn add_object(&mut self, x: Ob) -> Result<(), NoMemory>
         ensures added { OnOk result (self.new.objects ≡ self.old.objects ++ x ∷ []) }
         ensures unchanged { OnErr result (self.new.objects ≡ self.old.objects) }
@@ -154,7 +155,8 @@ impl LockStore {
         }
     }
 
-    /// Gives each of the objects the next number, in order. If memory runs out, some may have got one. No lock changes.
+    /// Each of the objects gets the next number, in order. The caller makes sure that none has one yet, which no clause
+    /// asks for. If memory runs out, some may have got one. Those that had numbers keep them. No lock changes.
     pub fn add_objects(&mut self, objects: &[Ob]) -> Result<(), NoMemory>
         ensures added { OnOk result (self.new.objects ≡ self.old.objects ++ objects.now) }
         ensures kept { take (length self.old.objects) self.new.objects ≡ self.old.objects }
@@ -167,7 +169,7 @@ impl LockStore {
         Ok(())
     }
 
-    /// Returns the lock at the key.
+    /// Returns the lock at the key. If there is none, a suspended read lock on object 0.
     #[tactic(auto, unfolding(crate::specs::Stored::lock_at, crate::specs::Stored::no_lock, asset_names::specs::OpSets::only_op))]
     pub fn lock(&self, key: usize) -> Lock
         ensures { result ≡ lock_at self.now.locks key }

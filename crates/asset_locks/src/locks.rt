@@ -177,7 +177,8 @@ impl Locks {
         self.table.waiters(&self.seats, x, n)
     }
 
-    /// Ends the enrolment of `t`, with its locks and its pending request. The cost is that of its own locks.
+    /// Ends the enrolment of `t`, with its locks and its pending request. If `t` is not enrolled, nothing changes. The
+    /// cost is that of its own locks.
     pub fn release(&mut self, t: Txn)
         ensures { self.new ≡ release_in (λ n. n == t.0) self.old }
     {

@@ -105,7 +105,8 @@ impl SeatedLocks {
         self.store.objects()
     }
 
-    /// Gives the object the next number. If memory runs out, no object gets one. No row changes.
+    /// The object gets the next number. The caller makes sure that it has none yet, which no clause asks for. If memory
+    /// runs out, no object gets one. No row changes.
     pub fn add_object(&mut self, x: Ob) -> Result<(), NoMemory>
         ensures added { OnOk result (self.new.store.objects ≡ self.old.store.objects ++ x ∷ []) }
         ensures unchanged { OnErr result (self.new.store.objects ≡ self.old.store.objects) }
@@ -115,7 +116,8 @@ impl SeatedLocks {
         self.store.add_object(x)
     }
 
-    /// Gives each of the objects the next number, in order. If memory runs out, some may have got one. No row changes.
+    /// Each of the objects gets the next number, in order. The caller makes sure that none has one yet, which no clause
+    /// asks for. If memory runs out, some may have got one. Those that had numbers keep them. No row changes.
     pub fn add_objects(&mut self, objects: &[Ob]) -> Result<(), NoMemory>
         ensures added { OnOk result (self.new.store.objects ≡ self.old.store.objects ++ objects.now) }
         ensures kept { take (length self.old.store.objects) self.new.store.objects ≡ self.old.store.objects }

@@ -148,8 +148,8 @@ impl Session {
         self.list.as_slice()
     }
 
-    /// Makes room in the list for `count` more calls. It answers `NoMemory` if memory runs out, and then nothing has
-    /// changed.
+    /// Makes room in the list for `count` more calls. It answers `NoMemory` if memory runs out, and then no call and no
+    /// room is lost.
     pub fn reserve(&mut self, count: usize) -> Result<(), NoMemory>
         ensures same { (self.new.of ≡ self.old.of) × (self.new.seen ≡ self.old.seen) × (self.new.list.calls ≡ self.old.list.calls) }
         ensures room { OnOk result (length self.new.list.calls + count ≤ self.new.list.room) }
@@ -254,7 +254,8 @@ impl Session {
     }
 
     /// Asks the manager for one step, and takes its lock once. A recorded answer is appended to the history and, with
-    /// the number of its entry, to the session's list, and the session has seen its counts. A wait is not recorded.
+    /// the number of its entry, to the session's list, and the session has seen a count of entries that includes it. A
+    /// wait is not recorded.
     ///
     /// The faults are those of `Core::step`, after which no list or history has changed. `NoMemory` comes also if
     /// memory runs out for the list, or if a session without a pass finds that the word has too many owners: with room in
@@ -322,8 +323,9 @@ impl Session {
         }
     }
 
-    /// Returns the first of those with whom `t` has come to share, in the order in which steps first acted on them, and `None` if no
-    /// step acts on `t`. It may be `t` itself. It takes the lock once, and no memory; the answer is that of the history at that moment.
+    /// Returns the first of those with whom `t` has come to share, in the order in which steps first acted on them, and
+    /// `None` if no step acts on `t`. It may be `t` itself. It takes the lock once, and no memory; the answer is that
+    /// of the history at that moment. The clause says only that this is some legal history.
     pub fn first_of<R: Wait>(&self, rt: &R, manager: &Manager, t: Txn) -> Option<Txn>
         requires { IsOf self.now.of manager.now }
         ensures { IsFirst t result }
@@ -331,8 +333,9 @@ impl Session {
         manager.first_of(rt, t)
     }
 
-    /// Returns whether somebody with whom `t` has come to share has committed, or `t` itself. It takes the lock once, and no memory;
-    /// the answer is that of the history at that moment.
+    /// Returns whether somebody with whom `t` has come to share has committed, or `t` itself. It takes the lock once,
+    /// and no memory; the answer is that of the history at that moment. The clause says only that this is some legal
+    /// history.
     pub fn group_committed<R: Wait>(&self, rt: &R, manager: &Manager, t: Txn) -> bool
         requires { IsOf self.now.of manager.now }
         ensures { HasCommitted t result }
@@ -352,8 +355,9 @@ impl Session {
         }
     }
 
-    /// Asks the manager for one step, as `call` does, and, while the answer is to wait, at most `turns` times again. Between
-    /// two asks it lets a while pass, which ends as soon as the published counts show that a transaction has ended.
+    /// Asks the manager for one step, as `call` does, and, while the answer is to wait, at most `turns` times again.
+    /// Between two asks it lets a while pass, which ends once the published counts show another number of ended
+    /// transactions than after the pause before; the first ends at once if any transaction has ended before.
     pub fn call_turns<R: Wait>(
         &mut self,
         rt: &R,

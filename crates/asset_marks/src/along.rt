@@ -46,7 +46,7 @@ fn across_from<T, P: Pick<T>>(way: &Way<T>, pick: &P, key: usize) -> Option<usiz
     }
 }
 
-/// Meets the nodes to which the items in the chain of the node lead that pass.
+/// Meets the nodes to which those items in the node's chain lead that pass the test.
 pub fn expand_along<T, P: Pick<T>>(way: &Way<T>, pick: &P, node: usize, marks: &mut Marks)
     requires { AreWithin (arrows_along (P.passes pick.now) way.now.items.now.items (lines way.now.side way.now.items.now) (lines (other_side way.now.side) way.now.items.now)) marks.old.size }
     ensures size { marks.new.size ≡ marks.old.size }
@@ -62,7 +62,7 @@ pub fn expand_along<T, P: Pick<T>>(way: &Way<T>, pick: &P, node: usize, marks: &
     }
 }
 
-/// Returns whether an item in the chain of the node that passes leads to a node that is not met.
+/// Returns whether some item in the node's chain passes the test and leads to a node that is not met.
 pub fn leads_out<T, P: Pick<T>>(way: &Way<T>, pick: &P, node: usize, marks: &Marks) -> bool
     requires { AreWithin (arrows_along (P.passes pick.now) way.now.items.now.items (lines way.now.side way.now.items.now) (lines (other_side way.now.side) way.now.items.now)) marks.now.size }
     ensures leads { result ≡ true → (t : ℕ) × (has_arrow (arrows_along (P.passes pick.now) way.now.items.now.items (lines way.now.side way.now.items.now) (lines (other_side way.now.side) way.now.items.now)) node t ≡ true) × (lists marks.now.nodes t ≡ false) }

@@ -54,8 +54,8 @@ fn is_linked_within<A: Arrows>(
     Some(false)
 }
 
-/// Returns whether the arrows lead from a node to another. It expands only the first node and those that it meets,
-/// and stops once it has met the second node.
+/// Returns whether the arrows lead from a node to another. It expands only the first node and those that it meets, and
+/// stops once it has met the second node. What was met before is forgotten; what is met afterwards means nothing.
 pub fn is_linked<A: Arrows>(way: &A, from: usize, to: usize, marks: &mut Marks) -> bool
     requires within { AreWithin (A.arrows way.now) marks.old.size }
     requires to { to < marks.old.size }
@@ -70,9 +70,10 @@ pub fn is_linked<A: Arrows>(way: &A, from: usize, to: usize, marks: &mut Marks) 
     found
 }
 
-/// Returns what `is_linked` does, by two searches in turn: one from the first node, and one from the second along arrows that lead
-/// back. Both expand `first` nodes, and then twice as many each time, until one of the two knows. A node is expanded anew each
-/// time, so `first` should be about as many as the busier of the two has arrows.
+/// Returns what `is_linked` does, by two searches in turn: one from the first node, and one from the second along
+/// arrows that lead back. Both expand `first` nodes, and then twice as many each time, until one of the two knows. A
+/// node is expanded anew each time, so `first` should be about as many as the busier of the two has arrows. What was
+/// met before is forgotten; what is met afterwards means nothing.
 pub fn is_linked_either_way<A: Arrows>(
     forth: &A,
     from: usize,

@@ -61,7 +61,7 @@ pub enum Fault {
     NoMemory,
 }
 
-/// Memory ran out. Nothing changes.
+/// Memory ran out. The call says what may have changed.
 #[derive(Clone, Copy, Debug, PartialEq, Eq, Error)]
 #[error("no memory")]
 pub struct NoMemory;

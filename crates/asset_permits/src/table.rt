@@ -153,9 +153,9 @@ impl SeatedPermits {
         Ok(())
     }
 
-    /// Returns whether the giver allows the taker to do `op` on `x`: they are one transaction, or a chain of
-    /// permits leads from the one to the other, or from the one to an opener, each of which covers the operation on the
-    /// object. No permit changes.
+    /// Returns whether the giver allows the taker to do `op` on `x`: they are one transaction, or a chain of permits
+    /// leads from the one to the other, or from the one to an opener, each of which covers the operation on the object.
+    /// No permit changes. It also says, for proofs, that no permit stands twice.
     ///
     /// It searches from the giver, or from the taker if fewer permits are for the taker than the giver gives, and
     /// looks only at the permits of the transactions that it meets. If open permits were given, it may search from the giver

@@ -153,7 +153,8 @@ impl Seats {
         c
     }
 
-    /// Takes the seat from whoever has it. It is given next, and there is room for that.
+    /// Takes the seat from whoever has it. It is given next, and there is room for that. If nobody has it, nothing
+    /// changes.
     pub fn leave(&mut self, c: usize)
         ensures seats { (d : ℕ) → seat self.new d ≡ cond (d == c) None (seat self.old d) }
         ensures vacant { is_some (seat self.old c) ≡ true → self.new.vacant ≡ c }

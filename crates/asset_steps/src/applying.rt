@@ -138,7 +138,7 @@ pub fn apply(tables: &mut Tables, step: &Step, reply: Reply) -> Result<(), NoMem
     apply_step(tables, step)
 }
 
-/// Makes a request that waits its transaction's pending request. It takes no memory.
+/// Makes a request that waits its transaction's pending request. Of any other step nothing is kept. It takes no memory.
 pub fn wait(tables: &mut Tables, step: &Step)
     requires waits { MayWait step.now tables.old }
     ensures stand { ShowsStill tables.old tables.new }

@@ -246,7 +246,7 @@ impl Trans {
         self.change(t, Status::Completed);
     }
 
-    /// Ends `t`, which is live.
+    /// Ends `t`, which is live, in this way.
     pub fn end(&mut self, t: Txn, how: End)
         requires live { is_live_status (status_in self.old t.0) ≡ true }
         ensures { self.new ≡ set_in (λ n. n == t.0) (ended_as how) self.old }
