@@ -115,11 +115,15 @@ fn close_child<R: Wait>(
 impl Tx {
     /// Runs a child of this transaction by the body, on this thread, and returns how it ended.
     ///
-    /// The child is initiated, permitted everything that its parent may do, and begun, each asked once. If one of these
-    /// is not answered `Done`, or if there is no room or no memory, the body comes back; a child that was initiated is
-    /// aborted first. Once the body is done, the child's work is handed over to this transaction, and the child is
-    /// committed; if it did not complete or could not hand over, it is aborted. If the body answers the `Finished` of
-    /// another transaction, nothing more is asked, and this transaction goes on with the session of that one.
+    /// The child is initiated, permitted all operations on all objects although they conflict with its parent's, and
+    /// begun, each asked once. If one of these is not answered `Done`, or if there is no room or no memory, the body
+    /// comes back; a child that was initiated is aborted first. Once the body is done, the child's work is handed over
+    /// to this transaction, and the child is committed; if it did not complete or could not hand over, it is aborted.
+    /// If the body answers the `Finished` of another transaction, nothing more is asked, and this transaction goes on
+    /// with the session of that one.
+    ///
+    /// Requires that the body may be called with any transaction of this manager, and that the `Finished` that it then
+    /// answers is of this manager.
     pub fn run_child<R: Wait>(self, rt: &R, child: Txn, body: Body) -> (Tx, ChildEnd)
         requires ready { (tx : Tx) → tx.manager ≡ self.manager → pre body tx }
         requires same { (tx : Tx) (f : Finished) → tx.manager ≡ self.manager → post body tx f → f.of ≡ Some tx.manager }

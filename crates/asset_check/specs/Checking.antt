@@ -13,6 +13,6 @@ unfoldable pub or_first : Option ℕ → Option ℕ → Option ℕ
 or_first None later = later
 or_first (Some n) later = Some n
 
--- the first bad line after this one, which is bad or not
+-- the first bad line so far, with this one, which is bad or not
 unfoldable pub or_this : Option ℕ → Bool → ℕ → Option ℕ
 or_this bad is_bad n = or_first bad (cond is_bad (Some n) None)

@@ -67,7 +67,8 @@ impl Checker {
         }
     }
 
-    /// Returns the objects that were added, and takes no further ones, as from the first step on.
+    /// Returns the objects that were added, and takes no further ones, as from the first step on. Requires that no step
+    /// was asked for yet, and that the objects were not returned before.
     pub fn end_objects(&mut self, alloc: Global) -> OpeningObjects
         requires { (opening : Opening) × (self.old ≡ Some opening) }
         ensures objects { self.old ≡ Some result }

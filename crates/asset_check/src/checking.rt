@@ -44,7 +44,7 @@ fn check_line(
     }
 }
 
-/// Returns the number of the first bad line, after this one.
+/// Returns the number of the first bad line so far: the earlier one if there was one, and else this one if it is bad.
 #[tactic(auto, unfolding(crate::specs::Checking::or_this, crate::specs::Checking::or_first))]
 pub fn first_of(bad: Option<u64>, is_bad: bool, number: u64) -> Option<u64>
     ensures { result ≡ or_this bad is_bad number }

@@ -108,8 +108,8 @@ fn push_reason(text: &mut String, mistake: Mistake<'_>) -> Result<(), AllocError
     text.push_str(after)
 }
 
-/// Appends the line that names a bad line by its number, with its reason. A word of the line is printed by its first 40 bytes;
-/// each of them that is not printable ASCII is printed as a question mark.
+/// Appends the line that names a bad line by its number, with its reason. A word of the line is printed by its first 40
+/// bytes; each of them that is not printable ASCII, or is a space, is printed as a question mark.
 #[tactic(auto, unfolding(crate::specs::Sentences::mistake_line, asset_printing::specs::Texts::line_end))]
 pub fn push_mistake(text: &mut String, number: u64, mistake: Mistake<'_>) -> Result<(), AllocError>
     ensures { OnOk result (string_bytes text.new ≡ string_bytes text.old ++ mistake_line number (Some (mistake.entry.reason, mistake.entry.word.now))) }

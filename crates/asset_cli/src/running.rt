@@ -123,10 +123,10 @@ pub fn groups_script<R: Read, W: Write>(
 }
 
 /// Runs the script that the reader gives, and writes the script of those who committed, one after another in the order of
-/// their commits: the objects, and the steps of each that were answered. Run again, it gets the replies that they had, and
-/// leaves what they left. If those who committed shared something with anybody, the line `shared` is written instead, and
-/// the run ends with `Shared`. A bad line is all that is written, if there is one. What `run_script` says of faults and
-/// requires holds here too.
+/// their commits: the objects, and the steps of each that were answered. Run again, over a history with room for its
+/// entries, it gets the replies that they had, and leaves what they left. If those who committed shared something with
+/// anybody, the line `shared` is written instead, and the run ends with `Shared`. A bad line is all that is written, if
+/// there is one. What `run_script` says of faults and requires holds here too.
 pub fn serial_script<R: Read, W: Write>(
     alloc: Global,
     input: &mut Device<R>,

@@ -96,7 +96,8 @@ fn push_mark_at(
     }
 }
 
-/// Returns the marks of all entries, oldest first, or `NoMemory` if memory runs out. `groups` are those of the history, and
+/// Returns the marks of all entries that have one, oldest first, or `NoMemory` if memory runs out. A read has one if it
+/// was answered by a value, and a write or an add if it was answered `Done`. `groups` are those of the history, and
 /// `rows` what `lane_names` returns for them.
 pub fn marks(
     alloc: Global,

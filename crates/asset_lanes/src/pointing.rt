@@ -211,9 +211,10 @@ fn arrows_by(
     Ok(found)
 }
 
-/// Returns the arrows of all entries, oldest first, or `NoMemory` if memory runs out. They are from who permits, hands over or
-/// is depended on to the other, from who permits to anybody to itself, and from each read to its source, if that is no opening
-/// value. `groups` are those of the history, and `rows` what `lane_names` returns for them.
+/// Returns the arrows of all entries that have one, oldest first, or `NoMemory` if memory runs out. They are from who
+/// permits, hands over or is depended on to the other, and from who permits to anybody to itself, if that was answered
+/// `Done`; and from each read that was answered by a value to its source, if that is no opening value. `groups` are
+/// those of the history, and `rows` what `lane_names` returns for them.
 pub fn arrows(
     alloc: Global,
     history: &History,

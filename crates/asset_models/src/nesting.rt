@@ -102,8 +102,10 @@ fn run_nested<A: Asset>(
     last_commit(asset, t, tries)
 }
 
-/// Runs a transaction and then its children in turn. A child may do what the parent may, and what it did becomes the
-/// parent's when it commits. A child that aborts does not stop the parent.
+/// Runs a transaction and then its children in turn. A child is permitted all operations on all objects although they
+/// conflict with its parent's. Once it has completed, and before its commit, it hands what it did over to the parent. A
+/// child that aborts does not stop the parent. A step that is no act and is refused ends the model, also if it is a
+/// child's.
 pub fn nested<A: Asset>(
     asset: &mut A,
     p: &Part,

@@ -71,8 +71,9 @@ pub(crate) fn push_history(text: &mut String, history: &History) -> Result<(), A
     push_steps(text, history)
 }
 
-/// Appends a history without its dead groups as a script. Run again, the script gets the replies that its steps had. It
-/// answers `NoMemory` if memory runs out, and takes time that is nearly in proportion to the entries.
+/// Appends a history without its dead groups as a script. Run again, over a history with room for its entries, the
+/// script gets the replies that its steps had (law `printed_scripts_run_again` of `asset_cli`). It answers `NoMemory`
+/// if memory runs out, and takes time that is nearly in proportion to the entries.
 #[tactic(auto, unfolding(crate::specs::Reports::pruned_text))]
 pub fn push_pruned(alloc: Global, history: &History, text: &mut String) -> Result<(), NoMemory>
     ensures { OnOk result (string_bytes text.new ≡ string_bytes text.old ++ pruned_text history.now) }

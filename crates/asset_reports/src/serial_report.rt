@@ -10,9 +10,10 @@ use asset_names::NoMemory;
 use asset_serial::{committed_share_nothing, serial};
 use std::alloc::Global;
 
-/// Appends the history of those who committed, one after another in the order of their commits, as a script. Run alone, it
-/// gets the replies that they had. Returns whether there is one: if those who committed shared something, a line says so.
-/// It answers `NoMemory` if memory runs out, and takes time that is nearly in proportion to the entries.
+/// Appends the history of those who committed, one after another in the order of their commits, as a script. Run alone,
+/// over a history with room for its entries, it gets the replies that they had (law `printed_scripts_run_again` of
+/// `asset_cli`). Returns whether there is one: if those who committed shared something, a line says so. It answers
+/// `NoMemory` if memory runs out, and takes time that is nearly in proportion to the entries.
 #[tactic(auto, unfolding(crate::specs::Reports::serial_text))]
 pub fn push_serial(alloc: Global, history: &History, text: &mut String) -> Result<bool, NoMemory>
     ensures text { OnOk result (string_bytes text.new ≡ string_bytes text.old ++ serial_text history.now) }

@@ -8,8 +8,8 @@ use thiserror::Error;
 /// Why a script was not run to its end.
 #[derive(Clone, Copy, Debug, PartialEq, Eq, Error)]
 pub enum ScriptFault {
-    /// The reader failed, or gave too much: more than 67,108,864 bytes or 134,217,728 requests if the input is read whole, and
-    /// 70,368,744,177,664 requests in a conversation.
+    /// The reader failed, or came to no end: read whole, it gave more than 67,108,864 bytes or was asked 134,217,728
+    /// times; in a conversation it was asked 70,368,744,177,664 times.
     #[error("read fault")]
     Read,
     /// The writer failed.

@@ -27,9 +27,9 @@ pub enum ObjectLine {
 pub struct Preamble<'a> {
     /// The line at which they end: the first step or a bad line, or `More` at the end of the script.
     pub line: ObjectLine,
-    /// The number of that line.
+    /// The number of that line, if there is one.
     pub number: u64,
-    /// The lines after it.
+    /// The lines after it, if it is the first step.
     pub rest: ScriptLines<'a>,
     /// The slot for steps, with the first step if that line asks for it.
     pub step: Step,
@@ -56,7 +56,7 @@ fn take_line(opening: &mut OpeningObjects, said: Said) -> Result<ObjectLine, Scr
 }
 
 /// Takes the object lines at the start of a script into the opening, which is empty before. Returns where they end. Answers
-/// `NoMemory` if memory runs out; a part of the objects may have been taken then.
+/// `NoMemory` if memory runs out; a part of the objects may have been taken then. Requires fewer than 2^64 - 1 lines.
 pub fn take_objects<'a>(
     opening: &mut OpeningObjects,
     bytes: &'a [u8],
