@@ -225,6 +225,7 @@ fn run_alone<J: Ticketed + Drop, E: Ticketed + Drop, W: Work<J, E>, R: Wait>(
     ensures once { IfOk result (λ r. SharedOut (map J.ticket all.items) (tickets_of E.ticket r.0.items) (map J.ticket r.1.items)) }
     ensures came { IfOk result (λ r. EachOf (Came (IsAmong all.items) J.ticket E.ticket W.came) r.0.items) }
     ensures left { IfOk result (λ r. Each (IsAmong all.items) r.1.items) }
+    ensures rows { IfOk result (λ r. vec_len r.0 ≤ 1) }
     ensures err { IfErr result (λ back. back.items ≡ all.items) }
 {
     let (Ok(mut rows), Ok(ends)) = (
@@ -256,6 +257,7 @@ fn run_shared<
     ensures once { IfOk result (λ r. SharedOut (map J.ticket all.items) (tickets_of E.ticket r.0.items) (map J.ticket r.1.items)) }
     ensures came { IfOk result (λ r. EachOf (Came O.from J.ticket E.ticket W.came) r.0.items) }
     ensures left { IfOk result (λ r. Each O.from r.1.items) }
+    ensures rows { IfOk result (λ r. vec_len r.0 ≤ workers) }
     ensures err { IfErr result (λ back. back.items ≡ all.items) }
 {
     let Ok(left) = Vec::with_capacity(alloc, all.len()) else {
@@ -273,10 +275,10 @@ fn run_shared<
     Ok((rows, left))
 }
 
-/// Has the jobs done by so many workers, each in a thread of its own, and returns what came of them, a row for each
-/// worker that had memory for one, and the jobs that nobody took: each job is once in one or the other, and each answer came
-/// of one of the jobs. A job is left only if memory ran out. If it ran out before the workers started, all jobs come back as
-/// the error.
+/// Has the jobs done by so many workers, from 1 to 64, of which one works in this thread and the others each in a thread of its
+/// own. Returns what came of the jobs, a row for each worker that had memory for one, and the jobs that nobody took: each job is
+/// once in one or the other, and each answer came of one of the jobs. A job is left only if memory ran out. If it ran out before
+/// the workers started, all jobs come back as the error.
 pub fn run<
     J: Ticketed + Drop + Send,
     E: Ticketed + Drop + Send,
@@ -293,6 +295,7 @@ pub fn run<
     ensures once { IfOk result (λ r. SharedOut (map J.ticket all.items) (tickets_of E.ticket r.0.items) (map J.ticket r.1.items)) }
     ensures came { IfOk result (λ r. EachOf (Came (IsAmong all.items) J.ticket E.ticket W.came) r.0.items) }
     ensures left { IfOk result (λ r. Each (IsAmong all.items) r.1.items) }
+    ensures rows { IfOk result (λ r. vec_len r.0 ≤ workers) }
     ensures err { IfErr result (λ back. back.items ≡ all.items) }
 {
     if workers == 1 {
