@@ -1,5 +1,5 @@
 -- What is written turn by turn.
-use Rattle.std.proofs.Common.{◌≡◌, ℕ, ◌<◌, ◌≤◌, List, [], ◌++◌, Option, None, length, nat_lt, take, refl, sym, ap, ◌∙◌, append_assoc, append-nil, arith}
+use Rattle.std.proofs.Common.{◌≡◌, ℕ, ◌<◌, ◌≤◌, ◌⊎◌, true, List, [], ◌++◌, Option, None, inl, length, nat_lt, take, refl, sym, ap, ◌∙◌, append_assoc, append-nil, arith}
 use Rattle.std.specs.Bool.{OnTrue}
 use Rattle.std.proofs.lemmas.Bool.{OnTrue_from}
 use Rattle.std.proofs.lemmas.List.{length-take-le}
@@ -10,6 +10,7 @@ use Rattle.asset_grammar.specs.Lines.{lines}
 use Rattle.asset_scripts.specs.declared.ends.RunEnd.{RunEnd}
 use Rattle.asset_scripts.specs.declared.faults.ScriptFault.{ScriptFault}
 use Rattle.asset_scripts.specs.declared.faults.ScriptFault.TheVariants.{Read, Write, NoMemory}
+use Rattle.asset_scripts.specs.Device.{DeviceState}
 use Rattle.asset_scripts.specs.Renders.{end_at}
 use Rattle.asset_check.specs.Checked.{check_lines, checked}
 use Rattle.asset_check.specs.Checking.{or_first}
@@ -17,7 +18,7 @@ use Rattle.asset_shell.specs.Laws.{StaysSaid}
 use Rattle.asset_shell.specs.Sessions.{new_session, reason_for, reply_to, said_of_each, seen_in}
 use Rattle.asset_shell.specs.Shelled.{complete, shell_reasons, shell_text}
 use Rattle.asset_shell.specs.Talking.{Talk, after, ended_last, new_talk, said, said_last}
-use Rattle.asset_shell.specs.Turns.{HasWrittenAll, HasWrittenPart, IsUpToDate, StopsWith, Streams, TookPart, streams}
+use Rattle.asset_shell.specs.Turns.{HasWrittenAll, HasWrittenPart, IsUpToDate, StopsFor, StopsWith, Streams, TookPart, streams}
 use Rattle.asset_shell.proofs.CutLemmas.{reason_cut, reply_cut}
 use Rattle.asset_shell.proofs.SeenLemmas.{reasons_each}
 use Rattle.asset_shell.proofs.TalkLemmas.{after_append, said_append}
@@ -160,6 +161,14 @@ finished_part start left answers answers' reasons reasons' capacity talk u answe
 pub none_stops : (start : Streams) (capacity : ℕ) → StopsWith start start capacity NoMemory
 unfolding StopsWith
 none_stops start capacity = record { bytes = []; read = Consumes-nil start.left; answers = none_taken start.answers _; reasons = none_taken start.reasons _ }
+
+-- why a conversation stops, by what was noted of each fault
+pub stops_for : {R W E : Type 0} (input input' : DeviceState R) (output' : DeviceState W) (reasons' : DeviceState E) (fault : ScriptFault) → (fault ≡ Read → input'.failed ≡ true)
+    → (fault ≡ Write → (output'.failed ≡ true) ⊎ (reasons'.failed ≡ true)) → StopsFor input input' output' reasons' fault
+unfolding StopsFor
+stops_for input input' output' reasons' Read read write = inl (read refl)
+stops_for input input' output' reasons' Write read write = write refl
+stops_for input input' output' reasons' NoMemory read write = tt
 
 -- ---- what a turn that goes on was given
 abbrev GaveSome : Option (List ℕ) → Option (List ℕ) → Type 0

@@ -1,9 +1,10 @@
 -- What a conversation does to its reader and its writers.
-use Rattle.std.specs.Prelude.{◌≡◌, ℕ, List, ◌++◌, Option}
+use Rattle.std.specs.Prelude.{◌≡◌, ◌≤◌, ◌⊎◌, ℕ, List, ◌++◌, Option, true}
 use Rattle.std.specs.Io.KnownBytes.{Appends, Consumes, IsAtEnd}
 use Rattle.asset_scripts.specs.declared.ends.RunEnd.{RunEnd}
 use Rattle.asset_scripts.specs.declared.faults.ScriptFault.{ScriptFault}
 use Rattle.asset_scripts.specs.declared.faults.ScriptFault.TheVariants.{Read, Write, NoMemory}
+use Rattle.asset_scripts.specs.Device.{DeviceState, counted}
 use Rattle.asset_check.specs.Checked.{checked}
 use Rattle.asset_shell.specs.Shelled.{complete, shell_reasons, shell_text}
 use Rattle.asset_shell.specs.Talking.{Talk, after, new_talk}
@@ -52,3 +53,13 @@ unfoldable pub StopsWith : Streams → Streams → ℕ → ScriptFault → Type 
 StopsWith start now capacity Read = (talk : Talk) × IsUpToDate start now capacity talk
 StopsWith start now capacity Write = HasWrittenPart start now capacity
 StopsWith start now capacity NoMemory = HasWrittenPart start now capacity
+
+-- how often the reader of a conversation is asked at most
+abbrev pub turn_limit : ℕ
+turn_limit = 70368744177664
+
+-- why a conversation stops: its reader failed or was asked as often as is allowed; a writer failed; or there is no memory
+unfoldable pub StopsFor : {R W E : Type 0} → DeviceState R → DeviceState R → DeviceState W → DeviceState E → ScriptFault → Type 0
+StopsFor input input' output' reasons' Read = (input'.failed ≡ true) ⊎ (counted input.asked turn_limit ≤ input'.asked)
+StopsFor input input' output' reasons' Write = (output'.failed ≡ true) ⊎ (reasons'.failed ≡ true)
+StopsFor input input' output' reasons' NoMemory = Unit {0}

@@ -1,8 +1,8 @@
 //! A whole conversation.
-ghost use Rattle.std.specs.Prelude.{◌≡◌, ◌≤◌, ◌⊎◌, true, length, Err, IfOk, OnOk, IfErr, vec_len};
+ghost use Rattle.std.specs.Prelude.{◌≡◌, length, IfOk, IfErr, vec_len};
 ghost use Rattle.asset_core.specs.OpenFaults.{IsCapacity};
 ghost use Rattle.asset_shell.specs.Talking.{new_talk};
-ghost use Rattle.asset_shell.specs.Turns.{HasWrittenAll, StopsWith, streams};
+ghost use Rattle.asset_shell.specs.Turns.{HasWrittenAll, StopsFor, StopsWith, streams};
 
 use crate::conversation::Conversation;
 use asset_scripts::{Device, RunEnd, ScriptFault};
@@ -36,7 +36,7 @@ fn talk<R: Read, W: Write, E: Write>(
     requires room { length piece.old ≡ 65536 }
     ensures wrote { IfOk result (HasWrittenAll (streams (R.remaining input.old.inner) (W.contents output.old.inner) (E.contents errors.old.inner)) (streams (R.remaining input.new.inner) (W.contents output.new.inner) (E.contents errors.new.inner)) capacity) }
     ensures stopped { IfErr result (StopsWith (streams (R.remaining input.old.inner) (W.contents output.old.inner) (E.contents errors.old.inner)) (streams (R.remaining input.new.inner) (W.contents output.new.inner) (E.contents errors.new.inner)) capacity) }
-    ensures write { result ≡ Err ScriptFault.Write → (output.new.failed ≡ true) ⊎ (errors.new.failed ≡ true) }
+    ensures cause { IfErr result (StopsFor input.old input.new output.new errors.new) }
 {
     'requests: for _ in 0..MOST_REQUESTS {
         if !conversation.turn(alloc, input, output, errors, piece)? {
@@ -67,7 +67,7 @@ pub fn run_shell<R: Read, W: Write, E: Write>(
     requires capacity { IsCapacity capacity }
     ensures wrote { IfOk result (HasWrittenAll (streams (R.remaining input.old.inner) (W.contents output.old.inner) (E.contents errors.old.inner)) (streams (R.remaining input.new.inner) (W.contents output.new.inner) (E.contents errors.new.inner)) capacity) }
     ensures stopped { IfErr result (StopsWith (streams (R.remaining input.old.inner) (W.contents output.old.inner) (E.contents errors.old.inner)) (streams (R.remaining input.new.inner) (W.contents output.new.inner) (E.contents errors.new.inner)) capacity) }
-    ensures write { result ≡ Err ScriptFault.Write → (output.new.failed ≡ true) ⊎ (errors.new.failed ≡ true) }
+    ensures cause { IfErr result (StopsFor input.old input.new output.new errors.new) }
 {
     let mut piece = zeros(alloc)?;
     let mut conversation = Conversation::new(alloc, capacity);

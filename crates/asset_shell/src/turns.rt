@@ -44,6 +44,7 @@ fn ask_reader<R: Read, W: Write, E: Write>(
     ensures end { IfSome result (λ n. n ≡ 0 → 0 < length piece.new → IsAtEnd (R.remaining input.new.inner)) }
     ensures gave_nothing { IfNone result (Keeps (R.remaining input.old.inner) (R.remaining input.new.inner)) }
     ensures failed { input.new.failed ≡ (input.old.failed || is_none result) }
+    ensures asked { input.new.asked ≡ counted input.old.asked 1 }
 {
     input.read(piece)
 }
@@ -76,6 +77,7 @@ impl Conversation {
         ensures few { OnOk result (self.new.number ≤ self.old.number + length piece.old) }
         ensures stopped { IfErr result (λ fault. (start : Streams) (capacity : ℕ) → IsUpToDate start (streams (R.remaining input.old.inner) (W.contents output.old.inner) (E.contents errors.old.inner)) capacity self.old
             → StopsWith start (streams (R.remaining input.new.inner) (W.contents output.new.inner) (E.contents errors.new.inner)) capacity fault) }
+        ensures asked { input.new.asked ≡ counted input.old.asked 1 }
         ensures read { result ≡ Err ScriptFault.Read → input.new.failed ≡ true }
         ensures write { result ≡ Err ScriptFault.Write → (output.new.failed ≡ true) ⊎ (errors.new.failed ≡ true) }
     {

@@ -1,5 +1,4 @@
 use Rattle.std.proofs.Common.{[], refl, sym, ◌∙◌}
-use Rattle.std.specs.Option.{is_some}
 use Rattle.asset_core.specs.Pending.{facility_of}
 use Rattle.asset_shell.specs.Answering.{open_history}
 use Rattle.asset_shell.proofs.AnsweringLemmas.{joint_ended, joint_new, joint_objects, joint_open, objects_shown, open_shown}
