@@ -1,29 +1,55 @@
 -- How calls go on, and what came of jobs.
-use Rattle.std.proofs.Common.{◌≡◌, ℕ, zero, suc, ◌<◌, List, [], ◌∷◌, ◌++◌, length, set, get_or, Some, sym, refl, ap, ◌∙◌, subst, append_assoc, arith}
+use Rattle.std.proofs.Common.{◌≡◌, ℕ, zero, suc, ◌<◌, ◌⊎◌, ⊎_elim, Bool, true, false, List, [], ◌∷◌, length, set, get_or, Option, Some, None, Result, Ok, Err, sym, refl, ap, ◌∙◌, subst, arith}
 use Rattle.std.specs.Prelude.{slice_get}
-use Rattle.std.proofs.lemmas.List.{append-nil}
+use mathlib.Core.Logic.{inl, inr}
 use Rattle.asset_names.specs.declared.names.Txn.{Txn}
-use Rattle.asset_names.specs.declared.steps.Step.TheVariants.{Commit}
+use Rattle.asset_names.specs.declared.steps.Step.TheVariants.{Begin}
+use Rattle.asset_names.specs.declared.replies.Reply.TheVariants.{Done}
+use Rattle.asset_names.specs.declared.replies.Outcome.{Outcome}
+use Rattle.asset_names.specs.declared.replies.Outcome.TheVariants.{Answer, Wait}
+use Rattle.asset_names.specs.declared.replies.Fault.{Fault}
 use Rattle.asset_audit.specs.Audited.{Call}
-use Rattle.asset_queue.proofs.Eaches.{each_append}
+use Rattle.asset_manager.specs.Listed.{IsListed}
 use Rattle.asset_runner.specs.declared.arrival.Arrival.{Arrival}
-use Rattle.asset_runner.specs.Fates.{AsksCommits}
+use Rattle.asset_runner.specs.Fates.{answered_by, waits_by, AsksOnce, AsksCommit, AsksBegin}
 use Rattle.asset_runner.specs.Arrived.{GoesOn, AllGoOn}
 use Rattle.asset_runner.specs.Rows.{names_of}
 
-pub asks_same : (u : Txn) (before later : List Call) → later ≡ before → AsksCommits u before later
-asks_same u before later e = ([], e ∙ sym (append-nil before), tt)
+-- what a commit came to is one call more or none
+pub asks_once : (u : Txn) (before later : List Call) (came : Option Outcome) → AsksOnce u before came later → AsksCommit u before later
+asks_once u before later None same = inl same
+asks_once u before later (Some Wait) same = inl same
+asks_once u before later (Some (Answer reply)) more = inr (more.0, reply, more.1)
 
-pub asks_more : (u : Txn) (a b c : List Call) → AsksCommits u a b → AsksCommits u b c → AsksCommits u a c
-asks_more u a b c one two = (
-  one.0 ++ two.0,
-  two.1 ∙ (ap (λ l. l ++ two.0) one.1 ∙ append_assoc a one.0 two.0),
-  each_append (λ (call : Call). call.1 ≡ Commit u) one.0 two.0 one.2 two.2,
-)
+-- a commit that waits is no call
+pub waits_once : (u : Txn) (before later : List Call) (came : Option Outcome) → came ≡ Some Wait → AsksOnce u before came later → later ≡ before
+waits_once u before later came is asked = subst (λ (came : Option Outcome). AsksOnce u before came later) is asked
+
+-- a begin that was not answered `Done` is one call more or none
+pub asks_begin : (t : Txn) (before later : List Call) (result : Result Outcome Fault) → (result ≡ Ok (Answer Done) → ⊥) → IsListed before (Begin t) result later → AsksBegin t before later
+asks_begin t before later (Ok (Answer reply)) not_done listed = inr (listed.0, reply, listed.1, λ is. not_done (ap (λ r. Ok (Answer r)) is))
+asks_begin t before later (Ok Wait) not_done listed = inl listed
+asks_begin t before later (Err fault) not_done listed = inl listed
+
+either : (b : Bool) → (b ≡ true) ⊎ (b ≡ false)
+either true = inl refl
+either false = inr refl
 
 module _ {X : Type 0} {B : X → Type 0} where
   pub goes_same : (a : Arrival X B) → GoesOn a a
-  goes_same a = record { place = refl; name = refl; answered = refl; body = refl; calls = λ u e. asks_same u a.returned.list.calls a.returned.list.calls refl }
+  goes_same a = record { place = refl; name = refl; answered = refl; body = refl; calls = λ u e. inl refl; waiting = λ w. refl; settled = λ w. (w, refl) }
+
+  -- a commit waits later only if it waited before
+  pub waited : (a b : Arrival X B) → GoesOn a b → waits_by b.fate ≡ true → waits_by a.fate ≡ true
+  waited a b g w = ⊎_elim (λ is. is) (λ not. absurd (cc (w, (g.settled not).0))) (either (waits_by a.fate))
+
+  -- a commit that was not answered before may be answered later, and one that was is not asked again
+  pub asks_on : (a b : Arrival X B) (u : Txn) (calls : List Call) → GoesOn a b → answered_by a.fate ≡ Some u → AsksCommit u calls a.returned.list.calls
+      → (waits_by a.fate ≡ true → a.returned.list.calls ≡ calls) → AsksCommit u calls b.returned.list.calls
+  asks_on a b u calls g e kept waiting = ⊎_elim
+      (λ is. subst (λ (l : List Call). AsksCommit u l b.returned.list.calls) (waiting is) (g.calls u e))
+      (λ not. subst (λ (l : List Call). AsksCommit u calls l) (sym (g.settled not).1) kept)
+      (either (waits_by a.fate))
 
   goes_more : (a b c : Arrival X B) → GoesOn a b → GoesOn b c → GoesOn a c
   goes_more a b c x y = record {
@@ -31,7 +57,9 @@ module _ {X : Type 0} {B : X → Type 0} where
     name = y.name ∙ x.name;
     answered = y.answered ∙ x.answered;
     body = y.body ∙ x.body;
-    calls = λ u e. asks_more u a.returned.list.calls b.returned.list.calls c.returned.list.calls (x.calls u e) (y.calls u (x.answered ∙ e));
+    calls = λ u e. asks_on b c u a.returned.list.calls y (x.answered ∙ e) (x.calls u e) x.waiting;
+    waiting = λ w. y.waiting w ∙ x.waiting (waited b c y w);
+    settled = λ w. ((y.settled (x.settled w).0).0, (y.settled (x.settled w).0).1 ∙ (x.settled w).1);
   }
 
   pub all_same : (xs : List (Arrival X B)) → AllGoOn xs xs

@@ -1,6 +1,6 @@
 -- The runs are what came of the jobs, and what is left are jobs with their own bodies.
 use Rattle.std.proofs.Common.{◌≡◌, ℕ, zero, suc, ◌+◌, ◌<◌, ◌⊎◌, true, false, ⊎_elim, List, [], ◌∷◌, ◌++◌, cond, length, map, Vec, Option, Some, None, sym, refl, ap, ◌∙◌, subst, arith}
-use Rattle.std.specs.Prelude.{slice_get, IfSome}
+use Rattle.std.specs.Prelude.{slice_get, IfSome, MatchOption}
 use Rattle.std.proofs.lemmas.List.{length-map}
 use mathlib.Core.Logic.{inl, inr}
 use Rattle.std.specs.declared.dyn_box.DynBox.{DynBox}
@@ -20,13 +20,13 @@ use Rattle.asset_runner.specs.declared.arrival.Arrival.{Arrival}
 use Rattle.asset_runner.specs.declared.arrival.Fate.{Fate}
 use Rattle.asset_runner.specs.declared.arrival.Fate.TheVariants.{Left, Called}
 use Rattle.asset_runner.specs.Runs.{JobRun, is_called, left_row, left_of}
-use Rattle.asset_runner.specs.Fates.{answered_by, body_of, CallsBody, RunsBody}
+use Rattle.asset_runner.specs.Fates.{answered_by, body_of, waits_by, AsksBegin, CallsBody, RunsBody}
 use Rattle.asset_runner.specs.Arrived.{ticket_of, run_of, left_at, numbered, placed, GoesOn, AllGoOn}
 use Rattle.asset_runner.specs.Rows.{all_of, names_of, runs_of, kept_row, kept_of, CameBack}
 use Rattle.asset_runner.specs.Comes.{RunsOf, left_among}
 use Rattle.asset_runner.proofs.ArrivedLemmas.{same_txn, stand_placed, tickets_all, as_many}
 use Rattle.asset_runner.proofs.PlacingLemmas.{at, weighs_among, numbered_once, numbered_in}
-use Rattle.asset_runner.proofs.GoesLemmas.{asks_more, all_at}
+use Rattle.asset_runner.proofs.GoesLemmas.{asks_on, waited, all_at}
 
 each_all : {E A : Type 0} (P : E → Type 0) (rows : List (Vec E A)) → EachOf P rows → Each P (all_of rows)
 each_all P [] all = tt
@@ -50,10 +50,6 @@ one_at : {A : Type 0} (xs : List A) (i : ℕ) → i < length xs → (x : A) × (
 one_at [] i below = absurd (omega (arith, below))
 one_at (x ∷ xs) zero below = (x, refl)
 one_at (x ∷ xs) (suc i) below = one_at xs i (omega (arith, below))
-
-if_some : {A : Type 0} (o : Option A) (P : A → Type 0) → ((u : A) → o ≡ Some u → P u) → IfSome o P
-if_some None P h = tt
-if_some (Some u) P h = h u refl
 
 -- if a row of left jobs and more is empty, its job was called
 row_called : (t : Txn) (answered : Option Txn) (more : List Txn) → left_row t answered ++ more ≡ [] → (is_called answered ≡ true) × (more ≡ [])
@@ -85,22 +81,36 @@ module _ {X : Type 0} {B : X → Type 0} where
   runs_at (x ∷ xs) zero run e = let same : run_of x ≡ run = cc e in (x, refl, same)
   runs_at (x ∷ xs) (suc i) run e = runs_at xs i run e
 
-  -- what was called goes on
-  ran_on : (post : Working → Worked → Type 0) (name : Txn) (manager : TableId) (before : List Call) (a b : Arrival X B) (u : Txn) → GoesOn a b → answered_by b.fate ≡ Some u
-      → RunsBody post name manager before (run_of a) → CallsBody post name manager before b.returned.list.calls u
-  ran_on post name manager before a b u g who ran =
-      let e : answered_by a.fate ≡ Some u = sym g.answered ∙ who in
-      let h : CallsBody post name manager before a.returned.list.calls u = subst (λ (o : Option Txn). IfSome o (CallsBody post name manager before a.returned.list.calls)) e ran in
-      record {
-        tx = h.tx;
-        finished = h.finished;
-        named = h.named;
-        of = h.of;
-        begun = h.begun;
-        answered = h.answered;
-        whose = h.whose;
-        kept = asks_more u h.finished.list.calls a.returned.list.calls b.returned.list.calls h.kept (g.calls u e);
-      }
+  -- a job that was left has no commit that waits
+  fate_left : (fate : Fate X B) → answered_by fate ≡ None → waits_by fate ≡ false
+  fate_left (Left body) e = refl
+  fate_left (Called answered waits) e = absurd (cc e)
+
+  -- what was called goes on, and what was left stays so
+  runs_on : (post : Working → Worked → Type 0) (name : Txn) (manager : TableId) (before : List Call) (a b : Arrival X B) → GoesOn a b
+      → RunsBody post name manager before (run_of a) → RunsBody post name manager before (run_of b)
+  runs_on post name manager before a b g ran = go (answered_by b.fate) refl
+    where
+      go : (o : Option Txn) → answered_by b.fate ≡ o → MatchOption o (AsksBegin name before b.returned.list.calls) (CallsBody post name manager before (run_of b))
+      go None who =
+          let e : answered_by a.fate ≡ None = sym g.answered ∙ who in
+          let h : AsksBegin name before a.returned.list.calls = subst (λ (o : Option Txn). MatchOption o (AsksBegin name before a.returned.list.calls) (CallsBody post name manager before (run_of a))) e ran in
+          subst (λ (l : List Call). AsksBegin name before l) (sym (g.settled (fate_left a.fate e)).1) h
+      go (Some u) who =
+          let e : answered_by a.fate ≡ Some u = sym g.answered ∙ who in
+          let h : CallsBody post name manager before (run_of a) u = subst (λ (o : Option Txn). MatchOption o (AsksBegin name before a.returned.list.calls) (CallsBody post name manager before (run_of a))) e ran in
+          record {
+            tx = h.tx;
+            finished = h.finished;
+            named = h.named;
+            of = h.of;
+            begun = h.begun;
+            answered = h.answered;
+            whose = h.whose;
+            kept = asks_on a b u h.finished.list.calls g e h.kept h.waiting;
+            waiting = λ w. g.waiting w ∙ h.waiting (waited a b g w);
+            given_up = λ d. let up = h.given_up d in let on = g.settled up.0 in (on.0, on.1 ∙ up.1);
+          }
 
   among_either : (xs ys : List (Arrival X B)) (x : Arrival X B) → IsAmong (xs ++ ys) x → IsAmong xs x ⊎ IsAmong ys x
   among_either [] ys x at = inr at
@@ -195,7 +205,7 @@ module _ {J X : Type 0} {B : X → Type 0} (place : J → ℕ) (name : J → Txn
     -- a job that was left has its own body
     each_left : (jobs left : List J) → Each (IsAmong jobs) left → Each (Is jobs) (lefts left)
     each_left jobs [] all = tt
-    each_left jobs (j ∷ left) all = (record { job = j; one = all.0; same = refl; is = (tt, refl) }, each_left jobs left all.1)
+    each_left jobs (j ∷ left) all = (record { job = j; one = all.0; same = refl; is = (inl refl, refl) }, each_left jobs left all.1)
 
     -- who stands at the place of a job came of it
     came_of : {A : Type 0} (names : List Txn) (jobs left : List J) (rows : List (Vec (Arrival X B) A)) (order : List (Arrival X B))
@@ -217,8 +227,7 @@ module _ {J X : Type 0} {B : X → Type 0} (place : J → ℕ) (name : J → Txn
     runs_of_jobs names jobs left rows order ts came among back i job run at_job at_run =
         let b = runs_at order i run at_run in
         let a = came_of names jobs left rows order ts came among back i job b.0 at_job b.1 in
-        subst (Ran job) b.2 (if_some (answered_by b.0.fate) (CallsBody (post job) (name job) (manager job) (session job).list.calls b.0.returned.list.calls) (λ u who.
-        ran_on (post job) (name job) (manager job) (session job).list.calls a.0 b.0 u a.1 who a.2))
+        subst (Ran job) b.2 (runs_on (post job) (name job) (manager job) (session job).list.calls a.0 b.0 a.1 a.2)
 
     pub left_of_jobs : {A : Type 0} (names : List Txn) (jobs left : List J) (rows : List (Vec (Arrival X B) A)) (order : List (Arrival X B))
         → map ticket jobs ≡ numbered names → EachOf (Is jobs) rows → Each (IsAmong jobs) left → CameBack (all_of rows ++ lefts left) order → names_of order ≡ names

@@ -1,5 +1,5 @@
 -- What comes back from the workers.
-use Rattle.std.specs.Prelude.{◌≡◌, ℕ, ⊤, List, [], ◌∷◌, length, map, Option, Some, slice_get}
+use Rattle.std.specs.Prelude.{◌≡◌, ℕ, ⊤, true, false, List, [], ◌∷◌, length, map, Option, Some, slice_get}
 use Rattle.std.specs.declared.dyn_box.DynBox.{DynBox}
 use Rattle.std.specs.declared.alloc.Global.{Global}
 use Rattle.asset_names.specs.declared.names.Txn.{Txn}
@@ -8,7 +8,7 @@ use Rattle.asset_queue.specs.Once.{Ticket}
 use Rattle.asset_runner.specs.declared.arrival.Arrival.{Arrival}
 use Rattle.asset_runner.specs.declared.arrival.Fate.TheVariants.{Left}
 use Rattle.asset_runner.specs.Runs.{JobRun}
-use Rattle.asset_runner.specs.Fates.{answered_by, body_of, AsksCommits}
+use Rattle.asset_runner.specs.Fates.{answered_by, body_of, waits_by, AsksCommit}
 use Rattle.asset_runner.specs.Placing as placing
 
 -- the tickets of jobs of these names, in order
@@ -22,19 +22,21 @@ module _ {X : Type 0} {B : X → Type 0} where
 
   -- what came of the job, without its place and its body
   abbrev pub run_of : Arrival X B → JobRun
-  run_of a = record { name = a.name; answered = answered_by a.fate; calls = a.returned.list.calls }
+  run_of a = record { name = a.name; answered = answered_by a.fate; waits = waits_by a.fate; calls = a.returned.list.calls }
 
   -- a job whose body was not called, with its session
   abbrev pub left_at : ℕ → Txn → DynBox X Global B → Asker → Arrival X B
   left_at place t body session = record { place = place; name = t; fate = Left body; returned = session }
 
-  -- the same job, whose commit may have been asked again
+  -- the same job, whose commit may have been asked again if it waits
   pub record GoesOn (before later : Arrival X B) : Type 0 where
     pub place : later.place ≡ before.place
     pub name : later.name ≡ before.name
     pub answered : answered_by later.fate ≡ answered_by before.fate
     pub body : body_of later.fate ≡ body_of before.fate
-    pub calls : (u : Txn) → answered_by before.fate ≡ Some u → AsksCommits u before.returned.list.calls later.returned.list.calls
+    pub calls : (u : Txn) → answered_by before.fate ≡ Some u → AsksCommit u before.returned.list.calls later.returned.list.calls
+    pub waiting : waits_by later.fate ≡ true → later.returned.list.calls ≡ before.returned.list.calls
+    pub settled : waits_by before.fate ≡ false → (waits_by later.fate ≡ false) × (later.returned.list.calls ≡ before.returned.list.calls)
 
   -- the same jobs, in the same order
   abbrev pub AllGoOn : List (Arrival X B) → List (Arrival X B) → Type 0

@@ -1,14 +1,16 @@
 -- What a worker did with a job.
-use Rattle.std.specs.Prelude.{◌≡◌, ℕ, List, [], ◌∷◌, ◌++◌, Option, Some, None, IfSome}
+use Rattle.std.specs.Prelude.{◌≡◌, ◌≢◌, ◌⊎◌, ℕ, Bool, true, false, List, [], ◌∷◌, ◌++◌, Option, Some, None, MatchOption}
 use Rattle.std.specs.declared.dyn_box.DynBox.{DynBox}
 use Rattle.std.specs.declared.alloc.Global.{Global}
 use Rattle.atomic_table.specs.Seated.{TableId}
 use Rattle.asset_names.specs.declared.names.Txn.{Txn}
 use Rattle.asset_names.specs.declared.steps.Step.TheVariants.{Begin, Commit}
+use Rattle.asset_names.specs.declared.replies.Reply.{Reply}
 use Rattle.asset_names.specs.declared.replies.Reply.TheVariants.{Done}
+use Rattle.asset_names.specs.declared.replies.Outcome.{Outcome}
+use Rattle.asset_names.specs.declared.replies.Outcome.TheVariants.{Answer, Wait}
 use Rattle.asset_audit.specs.Audited.{Call}
 use Rattle.asset_bodies.specs.Working.{Working, Worked}
-use Rattle.asset_queue.specs.Each.{Each}
 use Rattle.asset_runner.specs.Runs.{JobRun}
 use Rattle.asset_runner.specs.declared.arrival.Fate.{Fate}
 use Rattle.asset_runner.specs.declared.arrival.Fate.TheVariants.{Left, Called}
@@ -23,13 +25,29 @@ abbrev pub body_of : {X : Type 0} {B : X → Type 0} → Fate X B → Option (Dy
 body_of (Left body) = Some body
 body_of (Called answered waits) = None
 
--- more was asked after these calls, and each call more is a commit of u
-abbrev pub AsksCommits : Txn → List Call → List Call → Type 0
-AsksCommits u before later = (more : List Call) × (later ≡ before ++ more) × Each (λ (call : Call). call.1 ≡ Commit u) more
+-- whether a commit was asked and still waits
+abbrev pub waits_by : {X : Type 0} {B : X → Type 0} → Fate X B → Bool
+waits_by (Left body) = false
+waits_by (Called answered waits) = waits
 
--- the body was called with a transaction of this name and manager, whose begin was answered `Done` after the calls before, and it
--- answered the `Finished` of u; the calls later are those of that `Finished` and then commits of u
-pub record CallsBody (post : Working → Worked → Type 0) (name : Txn) (manager : TableId) (before later : List Call) (u : Txn) : Type 0 where
+-- a commit of u that came to this: an answer is one call more, and otherwise there is none
+abbrev pub AsksOnce : Txn → List Call → Option Outcome → List Call → Type 0
+AsksOnce u before (Some (Answer reply)) later = (n : ℕ) × (later ≡ before ++ (n, Commit u, reply) ∷ [])
+AsksOnce u before (Some Wait) later = later ≡ before
+AsksOnce u before None later = later ≡ before
+
+-- after these calls nothing was answered, or once a commit of u
+abbrev pub AsksCommit : Txn → List Call → List Call → Type 0
+AsksCommit u before later = (later ≡ before) ⊎ ((n : ℕ) × (reply : Reply) × (later ≡ before ++ (n, Commit u, reply) ∷ []))
+
+-- after these calls nothing was answered, or once the begin of a transaction, and not by `Done`
+abbrev pub AsksBegin : Txn → List Call → List Call → Type 0
+AsksBegin t before later = (later ≡ before) ⊎ ((n : ℕ) × (reply : Reply) × (later ≡ before ++ (n, Begin t, reply) ∷ []) × (reply ≢ Done))
+
+-- The body was called with a transaction of this name and manager, whose begin was answered `Done` after the calls before, and it
+-- answered the `Finished` of u. The calls of the run are those of that `Finished`, and then the commit of u, if the body answered
+-- it as done and the commit was answered.
+pub record CallsBody (post : Working → Worked → Type 0) (name : Txn) (manager : TableId) (before : List Call) (run : JobRun) (u : Txn) : Type 0 where
   pub tx : Working
   pub finished : Worked
   pub named : tx.name ≡ name
@@ -37,8 +55,10 @@ pub record CallsBody (post : Working → Worked → Type 0) (name : Txn) (manage
   pub begun : (n : ℕ) × (tx.list.calls ≡ before ++ (n, Begin name, Done) ∷ [])
   pub answered : post tx finished
   pub whose : finished.name ≡ u
-  pub kept : AsksCommits u finished.list.calls later
+  pub kept : AsksCommit u finished.list.calls run.calls
+  pub waiting : run.waits ≡ true → run.calls ≡ finished.list.calls
+  pub given_up : finished.done ≡ false → (run.waits ≡ false) × (run.calls ≡ finished.list.calls)
 
--- if the run says that its body answered somebody's `Finished`, then this body did, and the run has the calls of that one
+-- the run of a job with these calls before: its begin was not answered `Done`, and it was left; or its body was called
 abbrev pub RunsBody : (Working → Worked → Type 0) → Txn → TableId → List Call → JobRun → Type 0
-RunsBody post name manager before run = IfSome run.answered (CallsBody post name manager before run.calls)
+RunsBody post name manager before run = MatchOption run.answered (AsksBegin name before run.calls) (CallsBody post name manager before run)

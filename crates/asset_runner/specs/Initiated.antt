@@ -20,11 +20,11 @@ use Rattle.asset_runner.specs.declared.plan.Cause.TheVariants as Cause'
 abbrev pub OneMore : {J : Type 0} → (J → Type 0) → List J → List J → Type 0
 OneMore {J} is before later = (job : J) × (later ≡ before ++ job ∷ []) × is job
 
--- the job has this name and this body, and asks this manager by a session of its own that has asked nothing and has room for so
--- many calls
-abbrev pub IsPlanned : {X : Type 0} {B : X → Type 0} {callable : _} → Txn → DynBox X Global B → TableId → ℕ → Planned X B callable → Type 0
-IsPlanned t body manager calls job =
-    (job.name ≡ t) × (job.body ≡ body) × (arc_value job.manager ≡ manager) × (job.session.list.calls ≡ []) × (calls ≤ job.session.list.room)
+-- the job has this name, these turns and this body, and asks this manager by a session of its own that has asked nothing and has
+-- room for so many calls
+abbrev pub IsPlanned : {X : Type 0} {B : X → Type 0} {callable : _} → Txn → Option ℕ → DynBox X Global B → TableId → ℕ → Planned X B callable → Type 0
+IsPlanned t turns body manager calls job =
+    (job.name ≡ t) × (job.turns ≡ turns) × (job.body ≡ body) × (arc_value job.manager ≡ manager) × (job.session.list.calls ≡ []) × (calls ≤ job.session.list.room)
 
 -- an initiation that was answered `Done` is one call more
 abbrev pub IsInitiated : List Call → Step → List Call → Type 0

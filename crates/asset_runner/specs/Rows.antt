@@ -24,7 +24,7 @@ kept_row t (Some body) = (t, body) ∷ []
 
 module _ {X : Type 0} {B : X → Type 0} where
   -- what may come of a job whose body answers as `post` says: if the body was called, then with a transaction of the job's name and
-  -- manager, after the calls of the job's session; if not, it is the job's own that is left
+  -- manager, after the calls of the job's session; if not, its begin was not answered `Done`, and it is the job's own body that is left
   abbrev pub ComesOf : {callable : _} → (Working → Worked → Type 0) → Planned X B callable → Arrival X B → Type 0
   ComesOf post job a = RunsBody post job.name (arc_value job.manager) job.session.list.calls (run_of a) × IfSome (body_of a.fate) (λ body. body ≡ job.body)
 

@@ -1,10 +1,11 @@
 //! What came of a job.
 
-ghost use Rattle.std.specs.Prelude.{◌≡◌, Some, None};
+ghost use Rattle.std.specs.Prelude.{◌≡◌, true, false, Some, None};
+ghost use Rattle.asset_names.specs.declared.replies.Outcome.TheVariants.{Wait as Waits};
 ghost use Rattle.std.specs.Arc.{arc_value};
 ghost use Rattle.asset_counts.specs.Pass.{IsOf};
 ghost use Rattle.asset_runner.specs.Runs.{is_called, is_strange};
-ghost use Rattle.asset_runner.specs.Fates.{answered_by, body_of, AsksCommits};
+ghost use Rattle.asset_runner.specs.Fates.{answered_by, body_of, waits_by, AsksCommit};
 ghost use Rattle.asset_runner.specs.Arrived.{left_at, GoesOn};
 
 use crate::returned::Returned;
@@ -38,7 +39,9 @@ impl Ticketed for Arrival {
 }
 
 /// Returns whether the commit was asked and waits.
-fn is_wait(outcome: Option<Outcome>) -> bool {
+fn is_wait(outcome: Option<Outcome>) -> bool
+    ensures { result ≡ true → outcome ≡ Some Waits }
+{
     matches!(outcome, Some(Outcome::Wait))
 }
 
@@ -73,7 +76,9 @@ impl Arrival {
         requires { finished.of ≡ Some (arc_value manager) }
         ensures place { (result.place ≡ place) × (result.name ≡ name) }
         ensures answered { (answered_by result.fate ≡ Some finished.name) × (body_of result.fate ≡ None) }
-        ensures kept { AsksCommits finished.name finished.list.calls result.returned.list.calls }
+        ensures kept { AsksCommit finished.name finished.list.calls result.returned.list.calls }
+        ensures waiting { waits_by result.fate ≡ true → result.returned.list.calls ≡ finished.list.calls }
+        ensures given_up { finished.done ≡ false → (waits_by result.fate ≡ false) × (result.returned.list.calls ≡ finished.list.calls) }
     {
         let (answered, done, _, session) = finished.into_parts();
         let mut returned = Returned::new(session, manager);

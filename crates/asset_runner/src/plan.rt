@@ -305,7 +305,7 @@ impl Plan {
         ensures back { IfErr result (λ fault. fault.body ≡ body) }
         ensures names { MatchResult result (λ _. self.new.names.items ≡ self.old.names.items ++ t ∷ []) (λ _. self.new.names.items ≡ self.old.names.items) }
         ensures asked { MatchResult result (λ _. IsInitiated self.old.session.list.calls (Step.Initiate t parent) self.new.session.list.calls) (λ fault. IsRefused self.old.session.list.calls (Step.Initiate t parent) fault.cause self.new.session.list.calls) }
-        ensures planned { MatchResult result (λ _. OneMore (IsPlanned t body (arc_value self.new.manager) (EXPECTED + OWN_CALLS)) self.old.jobs.items self.new.jobs.items) (λ _. self.new.jobs.items ≡ self.old.jobs.items) }
+        ensures planned { MatchResult result (λ _. OneMore (IsPlanned t self.old.turns body (arc_value self.new.manager) (EXPECTED + OWN_CALLS)) self.old.jobs.items self.new.jobs.items) (λ _. self.new.jobs.items ≡ self.old.jobs.items) }
     {
         self.initiate_with_room(rt, t, parent, body, EXPECTED)
     }
@@ -331,7 +331,7 @@ impl Plan {
         ensures back { IfErr result (λ fault. fault.body ≡ body) }
         ensures names { MatchResult result (λ _. self.new.names.items ≡ self.old.names.items ++ t ∷ []) (λ _. self.new.names.items ≡ self.old.names.items) }
         ensures asked { MatchResult result (λ _. IsInitiated self.old.session.list.calls (Step.Initiate t parent) self.new.session.list.calls) (λ fault. IsRefused self.old.session.list.calls (Step.Initiate t parent) fault.cause self.new.session.list.calls) }
-        ensures planned { MatchResult result (λ _. OneMore (IsPlanned t body (arc_value self.new.manager) (operations + OWN_CALLS)) self.old.jobs.items self.new.jobs.items) (λ _. self.new.jobs.items ≡ self.old.jobs.items) }
+        ensures planned { MatchResult result (λ _. OneMore (IsPlanned t self.old.turns body (arc_value self.new.manager) (operations + OWN_CALLS)) self.old.jobs.items self.new.jobs.items) (λ _. self.new.jobs.items ≡ self.old.jobs.items) }
     {
         if self.make_room(1).is_err() {
             return Err(fault(body, Cause::NoMemory));
@@ -358,10 +358,10 @@ impl Plan {
         Ok(())
     }
 
-    /// Has the jobs run by so many workers, 64 at most, each in a thread of its own, and returns what came of them. A
-    /// worker takes a job, begins its transaction, calls its body, and asks the commit of what the body answered as done;
-    /// when all workers have ended, the commits that wait are asked again, in passes until a pass changes nothing. A job
-    /// whose body was not called is left, and comes back with its name and its body.
+    /// Has the jobs run by so many workers, 64 at most, of which one works in this thread and the others each in a thread of its
+    /// own, and returns what came of them. A worker takes a job, begins its transaction, calls its body, and asks the commit of
+    /// what the body answered as done; when all workers have ended, the commits that wait are asked again, in passes until a
+    /// pass changes nothing. A job whose begin is not answered `Done` is left, and comes back with its name and its body.
     ///
     /// It fails with `NoWorkers` if there are none; otherwise with `NoMemory` if memory ran out before each job was
     /// taken, and then a job is left unless there are no jobs; otherwise with `Stranger` for the first job whose body

@@ -27,9 +27,10 @@ pub struct Job {
 /// What came of a plan's jobs.
 #[derive(Drop)]
 pub struct Report {
-    /// How each job ended whose body was called, in order of initiation.
+    /// How each job ended whose body was called, in order of initiation: as its last commit or abort was answered in the session
+    /// that came back in the first `Finished` of its name. It is unsettled if none came back or neither was answered.
     pub ends: Vec<(Txn, JobEnd)>,
-    /// The jobs whose bodies were not called, in order of initiation.
+    /// The jobs whose bodies were not called, in order of initiation. No begin of theirs was answered `Done`.
     pub left: Vec<Job>,
     /// The plan's session, and then the session that came back from each job, in order of initiation.
     pub sessions: Vec<Session>,

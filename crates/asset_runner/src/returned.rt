@@ -3,7 +3,7 @@
 ghost use Rattle.std.specs.Prelude.{◌≡◌};
 ghost use Rattle.std.specs.Arc.{arc_value};
 ghost use Rattle.asset_counts.specs.Pass.{IsOf};
-ghost use Rattle.asset_runner.specs.Fates.{AsksCommits};
+ghost use Rattle.asset_runner.specs.Fates.{AsksOnce};
 
 use asset_manager::{Manager, Session};
 use asset_names::{Outcome, Step, Txn};
@@ -59,7 +59,7 @@ impl Returned {
 
     /// Asks the commit once, if the list has room for its answer.
     pub fn commit<R: Wait>(&mut self, rt: &R, t: Txn) -> Option<Outcome>
-        ensures { AsksCommits t self.old.list.calls self.new.list.calls }
+        ensures { AsksOnce t self.old.list.calls result self.new.list.calls }
     {
         if !self.session.has_room(1) {
             return None;

@@ -36,5 +36,5 @@ returns-clause-planned g c =
     let job = c.new-job.result in (
       job,
       c.push_reserved-2.ensures.items ∙ ap (λ l. l ++ job ∷ []) c.make_room.ensures.planned,
-      (c.new-job.ensures.named.1, c.new-job.ensures.own.0, search rules, ap (λ (asker : Asker). asker.list.calls) c.new-job.ensures.own.1 ∙ search rules, rw c.new-job.ensures.own.1 (search rules)),
+      (c.new-job.ensures.named.1, c.new-job.ensures.named.2 ∙ c.make_room.ensures.turns, c.new-job.ensures.own.0, search rules, ap (λ (asker : Asker). asker.list.calls) c.new-job.ensures.own.1 ∙ search rules, rw c.new-job.ensures.own.1 (search rules)),
     )
