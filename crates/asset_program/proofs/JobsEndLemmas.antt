@@ -1,12 +1,9 @@
 -- How jobs end that were not run to their end.
-use Rattle.std.proofs.Common.{◌≡◌, ℕ, List, [], refl, inr}
+use Rattle.std.proofs.Common.{◌≡◌, ℕ, List, refl, inr}
 use Rattle.std.specs.Prelude.{Option}
-use Rattle.std.proofs.KnownBytes.{Appends-nil}
 use Rattle.asset_scripts.specs.Device.{DeviceState}
-use Rattle.asset_scripts.specs.Transfers.{TookPrefix}
 use Rattle.asset_program.specs.declared.jobs_end.JobsStop.{JobsStop}
 use Rattle.asset_program.specs.declared.jobs_end.JobsStop.TheVariants.{BadLine, Read, Write, NoMemory, OutOfRange, InUse}
-use Rattle.asset_printing.specs.Texts.{bad_line}
 use Rattle.asset_program.specs.JobsEnd.{EndsStopped, SaysBadLine, stop_status}
 
 -- a fault is none of the bad lines
@@ -21,5 +18,5 @@ ends_at_fault contents InUse old status no_line says = (says, refl)
 
 -- a bad line that was not written, as memory ran out
 pub says_nothing : {W : Type 0} (contents : W → Option (List ℕ)) (n : ℕ) (old : DeviceState W) (status : ℕ) → status ≡ 1 → SaysBadLine contents n old old status
-unfolding SaysBadLine TookPrefix
-says_nothing contents n old status one = inr (one, ([], bad_line n, refl, Appends-nil (contents old.inner)))
+unfolding SaysBadLine
+says_nothing contents n old status one = inr (one, inr refl)

@@ -4,7 +4,6 @@ use Rattle.asset_scripts.specs.Device.{DeviceState}
 use Rattle.asset_scripts.specs.declared.faults.ScriptFault.{ScriptFault}
 use Rattle.asset_scripts.specs.declared.faults.ScriptFault.TheVariants as ScriptFault'
 use Rattle.std.specs.Prelude.{Vec, [], ◌∷◌}
-use Rattle.std.specs.Io.KnownBytes.{Appends}
 use Rattle.std.specs.declared.alloc.Global.{Global}
 use Rattle.std.proofs.Common.{ap}
 use Rattle.asset_names.specs.declared.names.Txn.{Txn}
@@ -28,7 +27,7 @@ use Rattle.asset_program.specs.declared.limits.JobsRequest.{JobsRequest}
 use Rattle.asset_program.specs.declared.limits.Limits.{Limits}
 use Rattle.asset_program.specs.JobsEnd.{stop_of_read, stop_of_write}
 use Rattle.asset_program.specs.Limits.{limits_by}
-use Rattle.asset_program.specs.JobsRun.{BeginsJobs, StopsBefore, StopsWriting, StopsAfter, RanJobs, IsAudited, FinishesJobs}
+use Rattle.asset_program.specs.JobsRun.{BeginsJobs, StopsBefore, StopsWriting, StopsAfter, RanJobs, IsAudited, SaysJobs}
 
 -- a fault of reading is why jobs were not begun
 pub stops_reading : {R : Type 0} (remaining : R → Option (List ℕ)) (request : JobsRequest) (old new : DeviceState R) (fault : JobsFault) (stop : JobsStop) → stop ≡ stop_of_read fault → FailsToRead remaining old new fault → StopsBefore remaining request old new stop
@@ -45,23 +44,24 @@ stops_writing contents old new text ScriptFault'.NoMemory stop is fails = rw is 
 stops_writing contents old new text ScriptFault'.Read stop is fails = absurd fails
 
 -- and so they were not finished
-pub stops_after : {W : Type 0} (contents : W → Option (List ℕ)) (old new : DeviceState W) (text : List ℕ) (stop : JobsStop) → StopsWriting contents old new text stop → StopsAfter contents old new stop
+pub stops_after : {W : Type 0} (contents : W → Option (List ℕ)) (says : Result Unit AuditFault → List ℕ → Type 0) (audit : Result Unit AuditFault) (old new : DeviceState W) (text : List ℕ) (stop : JobsStop)
+    → says audit text → StopsWriting contents old new text stop → StopsAfter contents says old new stop
 unfolding StopsWriting StopsAfter
-stops_after contents old new text Write stops = (text, stops.0, stops.1)
-stops_after contents old new text NoMemory stops = stops
-stops_after contents old new text (BadLine n) stops = absurd stops
-stops_after contents old new text Read stops = absurd stops
-stops_after contents old new text OutOfRange stops = absurd stops
-stops_after contents old new text InUse stops = absurd stops
+stops_after contents says audit old new text Write said stops = (audit, text, said, stops.0, stops.1)
+stops_after contents says audit old new text NoMemory said stops = stops
+stops_after contents says audit old new text (BadLine n) said stops = absurd stops
+stops_after contents says audit old new text Read said stops = absurd stops
+stops_after contents says audit old new text OutOfRange said stops = absurd stops
+stops_after contents says audit old new text InUse said stops = absurd stops
 
 -- before anything is written, only memory and the manager stop them
-pub stops_unwritten : {W : Type 0} (contents : W → Option (List ℕ)) (now : DeviceState W) (stop : JobsStop) → stop ≡ NoMemory → StopsAfter contents now now stop
+pub stops_unwritten : {W : Type 0} (contents : W → Option (List ℕ)) (says : Result Unit AuditFault → List ℕ → Type 0) (now : DeviceState W) (stop : JobsStop) → stop ≡ NoMemory → StopsAfter contents says now now stop
 unfolding StopsAfter
-stops_unwritten contents now stop is = rw is refl
+stops_unwritten contents says now stop is = rw is refl
 
-pub stops_in_use : {W : Type 0} (contents : W → Option (List ℕ)) (now : DeviceState W) (stop : JobsStop) → stop ≡ InUse → StopsAfter contents now now stop
+pub stops_in_use : {W : Type 0} (contents : W → Option (List ℕ)) (says : Result Unit AuditFault → List ℕ → Type 0) (now : DeviceState W) (stop : JobsStop) → stop ≡ InUse → StopsAfter contents says now now stop
 unfolding StopsAfter
-stops_in_use contents now stop is = rw is refl
+stops_in_use contents says now stop is = rw is refl
 
 -- what holds of each value of a result holds of its value
 pub if_ok : {A E : Type 0} (result : Result A E) (P Q : A → Type 0) → ((x : A) → P x → Q x) → IfOk result P → IfOk result Q
@@ -92,16 +92,15 @@ begins remaining request old new script jobs names limits within gave same is ca
   within = limited ∙ ap Some (sym is);
 }
 
--- the jobs were run and audited, and what was written has counts that are not below those that were seen
-pub finishes : {W : Type 0} (contents : W → Option (List ℕ)) (planned : List Txn) (plan : List Call) (seen : Counts) (names : List Txn) (audit : Result Unit AuditFault) (old new : DeviceState W)
-    (ends : List (Txn × JobEnd)) (sessions : List (List Call)) (counts : Counts) → RanJobs planned plan ends sessions → IsAudited sessions audit
-    → Appends (contents old.inner) (contents new.inner) (jobs_text (map (row_among ends) names) audit counts) → IsBelow seen counts → FinishesJobs contents planned plan seen names audit old new
-finishes contents planned plan seen names audit old new ends sessions counts ran audited wrote later = record {
+-- the jobs were run and audited, and this text says so, with counts that are not below those that were seen
+pub says_jobs : (planned : List Txn) (plan : List Call) (seen : Counts) (names : List Txn) (audit : Result Unit AuditFault) (ends : List (Txn × JobEnd)) (sessions : List (List Call)) (counts : Counts)
+    → RanJobs planned plan ends sessions → IsAudited sessions audit → IsBelow seen counts → SaysJobs planned plan seen names audit (jobs_text (map (row_among ends) names) audit counts)
+says_jobs planned plan seen names audit ends sessions counts ended audited later = record {
   ends = ends;
   sessions = sessions;
   counts = counts;
-  ran = ran;
+  ended = ended;
   audited = audited;
   later = later;
-  wrote = wrote;
+  says = refl;
 }

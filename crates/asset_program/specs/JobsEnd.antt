@@ -1,5 +1,5 @@
 -- How a run of jobs ends.
-use Rattle.std.specs.Prelude.{◌≡◌, ◌⊎◌, ℕ, List, Option, Result, Ok, Err}
+use Rattle.std.specs.Prelude.{◌≡◌, ◌⊎◌, ℕ, true, List, Option, Result, Ok, Err}
 use Rattle.std.specs.Io.KnownBytes.{Appends}
 use Rattle.asset_audit.specs.declared.auditing.AuditFault.{AuditFault}
 use Rattle.asset_scripts.specs.declared.faults.ScriptFault.{ScriptFault}
@@ -30,10 +30,11 @@ stop_status (BadLine n) = 2
 stop_status OutOfRange = 2
 stop_status stop = 1
 
--- the line that says that line n is bad was written, and the status is 2; at a fault a prefix of it was, and the status is 1
+-- the line that says that line n is bad was written, and the status is 2; or the status is 1, and the writer failed after a prefix of
+-- it, or there was no memory and nothing was written
 unfoldable pub SaysBadLine : {W : Type 0} → (W → Option (List ℕ)) → ℕ → DeviceState W → DeviceState W → ℕ → Type 0
 SaysBadLine contents n old new status =
-    ((status ≡ 2) × Appends (contents old.inner) (contents new.inner) (bad_line n)) ⊎ ((status ≡ 1) × TookPrefix contents old new (bad_line n))
+    ((status ≡ 2) × Appends (contents old.inner) (contents new.inner) (bad_line n)) ⊎ ((status ≡ 1) × (((new.failed ≡ true) × TookPrefix contents old new (bad_line n)) ⊎ (new ≡ old)))
 
 -- a bad line alone is written
 unfoldable pub EndsStopped : {W : Type 0} → (W → Option (List ℕ)) → JobsStop → DeviceState W → DeviceState W → ℕ → Type 0

@@ -19,7 +19,7 @@ use Rattle.asset_jobs.specs.Reads.{GaveScript}
 use Rattle.asset_jobs.specs.Texts.{jobs_text}
 use Rattle.asset_runner.specs.Comes.{Comes}
 use Rattle.asset_runner.specs.Initiated.{IsInitiated}
-use Rattle.asset_runner.specs.Runs.{JobRun}
+use Rattle.asset_runner.specs.Runs.{JobRun, first_stranger}
 use Rattle.asset_program.specs.declared.jobs_end.JobsStop.{JobsStop}
 use Rattle.asset_program.specs.declared.jobs_end.JobsStop.TheVariants.{BadLine, Read, Write, NoMemory, OutOfRange, InUse}
 use Rattle.asset_program.specs.declared.limits.JobsRequest.{JobsRequest}
@@ -50,27 +50,33 @@ unfoldable pub AddsJob : List Txn → List Call → Txn → List Txn → List Ca
 AddsJob names calls t names' calls' =
     ((names' ≡ names ++ t ∷ []) × IsInitiated calls (Initiate t None) calls') ⊎ ((names' ≡ names) × IsKeptOut calls t calls')
 
--- the jobs of a plan were run, and ended so; the plan's session and then theirs have these calls
+-- the jobs of a plan were run, and ended so; no body answered another's `Finished`, and the plan's session and then theirs have these
+-- calls
 pub record RanJobs (planned : List Txn) (plan : List Call) (ends : List (Txn × JobEnd)) (sessions : List (List Call)) : Type 0 where
   pub runs : List JobRun
   pub left : List Txn
   pub came : Comes planned plan runs ends left sessions
+  pub no_stranger : first_stranger runs ≡ None
 
 -- this is the audit of the sessions against some history
 pub record IsAudited (sessions : List (List Call)) (audit : Result Unit AuditFault) : Type 0 where
   pub entries : List Entry
   pub audited : IsAudit (reverse entries) sessions audit
 
--- the jobs of a plan were run, their sessions audited, and how those of the script ended was written, with counts that are
+-- the jobs of a plan were run and their sessions audited, and this text says how those of these names ended, with counts that are
 -- not below those that the plan's session had seen
-pub record FinishesJobs {W : Type 0} (contents : W → Option (List ℕ)) (planned : List Txn) (plan : List Call) (seen : Counts) (names : List Txn) (audit : Result Unit AuditFault) (old new : DeviceState W) : Type 0 where
+pub record SaysJobs (planned : List Txn) (plan : List Call) (seen : Counts) (names : List Txn) (audit : Result Unit AuditFault) (text : List ℕ) : Type 0 where
   pub ends : List (Txn × JobEnd)
   pub sessions : List (List Call)
   pub counts : Counts
-  pub ran : RanJobs planned plan ends sessions
+  pub ended : RanJobs planned plan ends sessions
   pub audited : IsAudited sessions audit
   pub later : IsBelow seen counts
-  pub wrote : Appends (contents old.inner) (contents new.inner) (jobs_text (map (row_among ends) names) audit counts)
+  pub says : text ≡ jobs_text (map (row_among ends) names) audit counts
+
+-- the text that says how jobs ended was written
+abbrev pub FinishesJobs : {W : Type 0} → (W → Option (List ℕ)) → (Result Unit AuditFault → List ℕ → Type 0) → Result Unit AuditFault → DeviceState W → DeviceState W → Type 0
+FinishesJobs contents says audit old new = (text : List ℕ) × says audit text × Appends (contents old.inner) (contents new.inner) text
 
 -- why the text of jobs was not written: the writer failed after a prefix of it, or there was no memory
 unfoldable pub StopsWriting : {W : Type 0} → (W → Option (List ℕ)) → DeviceState W → DeviceState W → List ℕ → JobsStop → Type 0
@@ -78,10 +84,10 @@ StopsWriting contents old new text Write = TookPrefix contents old new text × (
 StopsWriting contents old new text NoMemory = new ≡ old
 StopsWriting contents old new text stop = ⊥
 
--- why jobs were not finished: the writer failed after a prefix of some text; or nothing was written, because there was no
--- memory, the run failed, or somebody else had the manager
-unfoldable pub StopsAfter : {W : Type 0} → (W → Option (List ℕ)) → DeviceState W → DeviceState W → JobsStop → Type 0
-StopsAfter contents old new Write = (text : List ℕ) × TookPrefix contents old new text × (new.failed ≡ true)
-StopsAfter contents old new NoMemory = new ≡ old
-StopsAfter contents old new InUse = new ≡ old
-StopsAfter contents old new stop = ⊥
+-- why jobs were not finished: the writer failed after a prefix of the text that says how they ended; or nothing was written, because
+-- there was no memory, the run failed, or somebody else had the manager
+unfoldable pub StopsAfter : {W : Type 0} → (W → Option (List ℕ)) → (Result Unit AuditFault → List ℕ → Type 0) → DeviceState W → DeviceState W → JobsStop → Type 0
+StopsAfter contents says old new Write = (audit : Result Unit AuditFault) × (text : List ℕ) × says audit text × TookPrefix contents old new text × (new.failed ≡ true)
+StopsAfter contents says old new NoMemory = new ≡ old
+StopsAfter contents says old new InUse = new ≡ old
+StopsAfter contents says old new stop = ⊥

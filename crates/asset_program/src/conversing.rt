@@ -2,7 +2,7 @@
 
 ghost use Rattle.std.specs.Prelude.{◌≡◌};
 ghost use Rattle.asset_core.specs.OpenFaults.{IsCapacity};
-ghost use Rattle.asset_program.specs.Converse.{Converses, Talks, seen_of};
+ghost use Rattle.asset_program.specs.Converse.{Converses, Talks};
 
 use crate::program::{say_fault, say_range};
 use crate::requests::capacity_or_default;
@@ -21,7 +21,7 @@ fn talk<R: Read, W: Write, E: Write, F: Write>(
     errors: &mut F,
 ) -> u8
     requires capacity { IsCapacity capacity }
-    ensures { Talks capacity (seen_of R.remaining W.contents E.contents input.old output.old reasons.old) (seen_of R.remaining W.contents E.contents input.new output.new reasons.new) result }
+    ensures { Talks R.remaining W.contents E.contents capacity input.old input.new output.old output.new reasons.old reasons.new result }
 {
     let ended = run_shell(alloc, input, output, reasons, capacity);
     say_fault(ended, errors)

@@ -1,18 +1,20 @@
 //! Runs the jobs of a job script. The caller boxes their bodies.
 
-ghost use Rattle.std.specs.Prelude.{◌≡◌, ◌<◌, Some, IfErr, IfOk, OnErr, OnOk, map, vec_len, ◌∷◌, List};
+ghost use Rattle.std.specs.Prelude.{◌≡◌, ◌<◌, ◌+◌, ◌⊎◌, Some, IfErr, IfOk, OnErr, OnOk, map, vec_len, [], ◌∷◌, List};
 ghost use Rattle.std.specs.Arc.{arc_value};
 ghost use Rattle.std.specs.Io.KnownBytes.{Appends};
 ghost use Rattle.asset_counts.specs.Pass.{IsOf};
 ghost use Rattle.asset_names.specs.Counted.{IsBelow};
+ghost use Rattle.asset_counts.specs.Shown.{no_counts};
 ghost use Rattle.asset_scripts.specs.Device.{IsUnused};
 ghost use Rattle.asset_manager.specs.Asker.{Asker};
 ghost use Rattle.asset_bodies.specs.Working.{Working, Worked};
 ghost use Rattle.asset_jobs.specs.Ended.{row_among};
 ghost use Rattle.asset_jobs.specs.Scripts.{named};
 ghost use Rattle.asset_jobs.specs.Texts.{jobs_text};
+ghost use Rattle.asset_runner.specs.Initiated.{OneMore, IsPlanned};
 ghost use Rattle.asset_program.specs.declared.jobs_end.JobsStop.TheVariants as Stop;
-ghost use Rattle.asset_program.specs.JobsRun.{AddsJob, BeginsJobs, FinishesJobs, IsAudited, RanJobs, StopsAfter, StopsBefore, StopsWriting};
+ghost use Rattle.asset_program.specs.JobsRun.{AddsJob, BeginsJobs, FinishesJobs, IsAudited, RanJobs, SaysJobs, StopsAfter, StopsBefore, StopsWriting};
 
 use crate::jobs_end::JobsStop;
 use crate::limits::{JobsRequest, Limits, limits_of};
@@ -27,7 +29,7 @@ use std::io::{Read, Write};
 use std::sync::{Arc, Wait};
 use std::thread::Threads;
 
-/// A manager over the objects of a job script, twice, and its first session.
+/// Two references to one manager over the objects of a job script, and its first session.
 #[derive(Drop)]
 struct Opened {
     manager: Arc<Manager, Global>,
@@ -46,7 +48,7 @@ pub struct Begun {
     pub manager: Arc<Manager, Global>,
     /// The manager, for the plan of the jobs.
     pub theirs: Arc<Manager, Global>,
-    /// The first session of the manager.
+    /// The first session of the manager, which has asked nothing.
     pub session: Session,
     /// Within which limits the jobs are run.
     pub limits: Limits,
@@ -74,6 +76,7 @@ impl Gate for Open {
 fn open_manager(alloc: Global, opening: &[(Ob, i64)], capacity: usize) -> Result<Opened, JobsStop>
     ensures of { IfOk result (λ opened. IsOf opened.session.of (arc_value opened.theirs)) }
     ensures one { IfOk result (λ opened. arc_value opened.theirs ≡ arc_value opened.manager) }
+    ensures first { IfOk result (λ opened. (opened.session.list.calls ≡ []) × (opened.session.seen ≡ no_counts)) }
     ensures stopped { IfErr result (λ stop. stop ≡ Stop.NoMemory) }
 {
     let Ok((manager, session)) = Manager::open(alloc, opening, capacity) else {
@@ -96,6 +99,7 @@ fn open_manager(alloc: Global, opening: &[(Ob, i64)], capacity: usize) -> Result
 fn open_script(alloc: Global, script: JobScript, limits: Limits) -> Result<Begun, JobsStop>
     ensures of { IfOk result (λ begun. IsOf begun.session.of (arc_value begun.theirs)) }
     ensures one { IfOk result (λ begun. arc_value begun.theirs ≡ arc_value begun.manager) }
+    ensures first { IfOk result (λ begun. (begun.session.list.calls ≡ []) × (begun.session.seen ≡ no_counts)) }
     ensures begun { IfOk result (λ begun. (begun.jobs ≡ script.jobs) × (begun.limits ≡ limits) × (begun.names.items ≡ map (λ job. job.0) script.jobs.items)) }
     ensures stopped { IfErr result (λ stop. stop ≡ Stop.NoMemory) }
 {
@@ -135,6 +139,7 @@ pub fn begin_jobs<R: Read>(
     requires { IsUnused input.old }
     ensures of { IfOk result (λ begun. IsOf begun.session.of (arc_value begun.theirs)) }
     ensures one { IfOk result (λ begun. arc_value begun.theirs ≡ arc_value begun.manager) }
+    ensures first { IfOk result (λ begun. (begun.session.list.calls ≡ []) × (begun.session.seen ≡ no_counts)) }
     ensures begun { IfOk result (λ begun. BeginsJobs R.remaining request input.old input.new (map named begun.jobs.items) begun.names.items begun.limits) }
     ensures stopped { IfErr result (StopsBefore R.remaining request input.old input.new) }
 {
@@ -159,8 +164,10 @@ pub fn add_job<R: Wait>(
     requires ready { (tx : Working) → pre body tx }
     requires same { (tx : Working) (f : Worked) → post body tx f → f.of ≡ Some tx.manager }
     ensures manager { arc_value plan.new.manager ≡ arc_value plan.old.manager }
+    ensures turns { plan.new.turns ≡ plan.old.turns }
+    ensures planned { OnOk result (OneMore (IsPlanned t plan.old.turns body (arc_value plan.new.manager) (operations + 3)) plan.old.jobs.items plan.new.jobs.items ⊎ (plan.new.jobs.items ≡ plan.old.jobs.items)) }
     ensures added { OnOk result (AddsJob plan.old.names.items plan.old.session.list.calls t plan.new.names.items plan.new.session.list.calls) }
-    ensures unchanged { OnErr result ((plan.new.names.items ≡ plan.old.names.items) × (plan.new.session.list.calls ≡ plan.old.session.list.calls)) }
+    ensures unchanged { OnErr result ((plan.new.names.items ≡ plan.old.names.items) × (plan.new.jobs.items ≡ plan.old.jobs.items) × (plan.new.session.list.calls ≡ plan.old.session.list.calls)) }
     ensures stopped { IfErr result (λ stop. stop ≡ Stop.NoMemory) }
 {
     match plan.initiate_with_room(rt, t, None, body, operations) {
@@ -269,8 +276,8 @@ pub fn finish_jobs<R: AllocGlobal + Threads + Wait + Sync, W: Write>(
     output: &mut Device<W>,
 ) -> Result<Result<(), AuditFault>, JobsStop>
     requires { arc_value plan.manager ≡ arc_value manager }
-    ensures finished { IfOk result (λ audit. FinishesJobs W.contents plan.names.items plan.session.list.calls plan.session.seen names.now audit output.old output.new) }
-    ensures stopped { IfErr result (StopsAfter W.contents output.old output.new) }
+    ensures finished { IfOk result (λ audit. FinishesJobs W.contents (SaysJobs plan.names.items plan.session.list.calls plan.session.seen names.now) audit output.old output.new) }
+    ensures stopped { IfErr result (StopsAfter W.contents (SaysJobs plan.names.items plan.session.list.calls plan.session.seen names.now) output.old output.new) }
 {
     let alloc = rt.alloc();
     match run_plan(rt, &manager, plan, limits.workers) {

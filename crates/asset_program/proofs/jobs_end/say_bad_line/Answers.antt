@@ -11,7 +11,7 @@ returns-in-Ok-write_all g c =
 pub returns-in-Ok : goal.returns-in-Ok
 unfolding SaysBadLine stop_status
 returns-in-Ok g c =
-    inr (c.say_stop.ensures, rw (c.as_bytes.ensures.value, c.in-Ok.ensures, c.new-text.ensures.bytes) at c.in-Err-write_all.ensures.prefix)
+    inr (c.say_stop.ensures, inl (c.in-Err-write_all.ensures.failed, rw (c.as_bytes.ensures.value, c.in-Ok.ensures, c.new-text.ensures.bytes) at c.in-Err-write_all.ensures.prefix))
 
 pub returns : goal.returns
 unfolding stop_status
