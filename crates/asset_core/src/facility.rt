@@ -17,9 +17,6 @@ use std::marker::Model;
 /// The greatest capacity of a history.
 const MOST: usize = 1_000_000;
 
-/// Does nothing. A call of it fails to compile unless the type may go to another thread.
-fn needs_send<T: Send>() {}
-
 /// Returns whether the step initiates a transaction.
 #[tactic(auto, unfolding(asset_names::specs::Room::initiates))]
 fn initiates(step: &Step) -> bool
@@ -135,7 +132,6 @@ impl Core {
         requires locks { tables.locks ≡ [] }
         ensures { IfOk result (λ core. core ≡ facility_of opening.now capacity) }
     {
-        needs_send::<Core>();
         match History::open(alloc, opening, capacity) {
             Ok(history) => Ok(Core { history, tables }),
             Err(_) => Err(NoMemory),

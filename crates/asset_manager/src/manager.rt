@@ -35,12 +35,6 @@ fn pass_time(tried: u32) {
     }
 }
 
-/// Does nothing. A call of it fails to compile unless the type may go to another thread.
-fn needs_send<T: Send>() {}
-
-/// Does nothing. A call of it fails to compile unless threads may share the type.
-fn needs_sync<T: Sync>() {}
-
 /// A word of counts that shows zeros, three times, with the right to publish there and a pass of it.
 #[derive(Drop)]
 struct Word {
@@ -156,9 +150,6 @@ impl Manager {
         ensures calls { result.1.list.calls ≡ [] }
         ensures seen { result.1.seen ≡ no_counts }
     {
-        needs_send::<Session>();
-        needs_send::<Manager>();
-        needs_sync::<Manager>();
         let Word {
             for_book,
             for_session,
