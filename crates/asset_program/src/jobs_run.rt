@@ -22,12 +22,11 @@ use asset_audit::AuditFault;
 use asset_jobs::{JobAct, JobScript, names_of, read_jobs, rows_of, write_jobs};
 use asset_manager::{Manager, Session, WatchPass};
 use asset_names::{Counts, Ob, Txn};
-use asset_runner::{Body, Cause, Gate, InitFault, JobEnd, Plan, Report};
+use asset_runner::{Body, Cause, InitFault, JobEnd, OpenGate, Plan, Report, Runtime};
 use asset_scripts::Device;
 use std::alloc::Global;
 use std::io::{Read, Write};
 use std::sync::{Arc, Wait};
-use std::thread::Threads;
 
 /// Two references to one manager over the objects of a job script, and its first session.
 #[derive(Drop)]
@@ -61,15 +60,6 @@ struct Ran {
     ends: Vec<(Txn, JobEnd)>,
     sessions: Vec<Session>,
     counts: Counts,
-}
-
-/// A gate that does nothing.
-struct Open;
-
-impl Gate for Open {
-    fn entered(&self, _t: Txn) {}
-
-    fn left(&self, _t: Txn) {}
 }
 
 /// Opens a manager over objects that are all different. It answers `NoMemory` if memory runs out.
@@ -196,7 +186,7 @@ fn counts_of(manager: &Manager, sessions: &mut Vec<Session>) -> Counts
 
 /// Runs the plan, and looks at the counts by its session. It answers `NoMemory` if the run fails: memory
 /// ran out, there are no workers, or a body answered another's `Finished`.
-fn run_plan<R: Threads + Wait + Sync>(
+fn run_plan<R: Runtime>(
     rt: &R,
     manager: &Manager,
     plan: Plan,
@@ -207,7 +197,7 @@ fn run_plan<R: Threads + Wait + Sync>(
     ensures later { IfOk result (λ ran. IsBelow plan.session.seen ran.counts) }
     ensures stopped { IfErr result (λ stop. stop ≡ Stop.NoMemory) }
 {
-    match plan.run(rt, workers, &Open) {
+    match plan.run(rt, workers, &OpenGate) {
         Ok(
             Report {
                 ends,
@@ -267,7 +257,7 @@ fn write_ends<W: Write>(
 /// It answers `InUse` if somebody else has the manager; `NoMemory` if memory runs out, and also if there are no workers or a body
 /// answered another's `Finished`, to which limits of `begin_jobs` and bodies of `do_acts` never lead; and `Write` if the writer
 /// failed.
-pub fn finish_jobs<R: AllocGlobal + Threads + Wait + Sync, W: Write>(
+pub fn finish_jobs<R: AllocGlobal + Runtime, W: Write>(
     rt: &R,
     manager: Arc<Manager, Global>,
     plan: Plan,

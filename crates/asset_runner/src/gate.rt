@@ -10,3 +10,12 @@ pub trait Gate: Sync {
     /// The worker is done with the job, whether it ended or not.
     fn left(&self, t: Txn);
 }
+
+/// A gate that does nothing.
+pub struct OpenGate;
+
+impl Gate for OpenGate {
+    fn entered(&self, _t: Txn) {}
+
+    fn left(&self, _t: Txn) {}
+}

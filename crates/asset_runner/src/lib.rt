@@ -11,8 +11,10 @@ mod plan;
 mod report;
 mod returned;
 mod rooms;
+mod runtime;
 
 pub use asset_bodies::{Body, ChildEnd, Finished, JobEnd, Tx, job_end};
-pub use gate::Gate;
+pub use gate::{Gate, OpenGate};
 pub use plan::{Cause, InitFault, Plan};
 pub use report::{Job, Report, RunCause, RunFault};
+pub use runtime::Runtime;

@@ -25,6 +25,7 @@ use crate::job::{Crew, Planned};
 use crate::order::{place_all, row_in_order, settle};
 use crate::report::{Report, RunCause, RunFault, report_on};
 use crate::rooms::Rooms;
+use crate::runtime::Runtime;
 use asset_bodies::Body;
 use asset_manager::{Manager, Session};
 use asset_names::{Fault, NoMemory, Outcome, Refusal, Reply, Step, Txn};
@@ -367,7 +368,7 @@ impl Plan {
     /// taken, and then a job is left unless there are no jobs; otherwise with `Stranger` for the first job whose body
     /// answered another's `Finished`. The fault has what came of the jobs all the same. Only a plan without jobs that is
     /// refused memory loses its session.
-    pub fn run<R: Threads + Wait + Sync, G: Gate>(
+    pub fn run<R: Runtime, G: Gate>(
         self,
         rt: &R,
         workers: usize,
