@@ -51,6 +51,10 @@ module _ {X : Type 0} {B : X → Type 0} where
       (λ not. subst (λ (l : List Call). AsksCommit u calls l) (sym (g.settled not).1) kept)
       (either (waits_by a.fate))
 
+  -- what was given up has no commit that waits
+  pub not_waiting : (a : Arrival X B) (done : Bool) → done ≡ false → (waits_by a.fate ≡ true → done ≡ true) → waits_by a.fate ≡ false
+  not_waiting a done given_up waiting = ⊎_elim (λ is. absurd (cc (given_up, waiting is))) (λ not. not) (either (waits_by a.fate))
+
   goes_more : (a b c : Arrival X B) → GoesOn a b → GoesOn b c → GoesOn a c
   goes_more a b c x y = record {
     place = y.place ∙ x.place;

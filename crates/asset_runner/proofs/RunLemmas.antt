@@ -20,13 +20,13 @@ use Rattle.asset_runner.specs.declared.arrival.Arrival.{Arrival}
 use Rattle.asset_runner.specs.declared.arrival.Fate.{Fate}
 use Rattle.asset_runner.specs.declared.arrival.Fate.TheVariants.{Left, Called}
 use Rattle.asset_runner.specs.Runs.{JobRun, is_called, left_row, left_of}
-use Rattle.asset_runner.specs.Fates.{answered_by, body_of, waits_by, AsksBegin, CallsBody, RunsBody}
-use Rattle.asset_runner.specs.Arrived.{ticket_of, run_of, left_at, numbered, placed, GoesOn, AllGoOn}
+use Rattle.asset_runner.specs.Fates.{answered_by, body_of, waits_by, AsksBegin, CallsBody, CallsSoFar, RunsBody}
+use Rattle.asset_runner.specs.Arrived.{ticket_of, run_of, left_at, numbered, placed, DoesJob, GoesOn, AllGoOn}
 use Rattle.asset_runner.specs.Rows.{all_of, names_of, runs_of, kept_row, kept_of, CameBack}
 use Rattle.asset_runner.specs.Comes.{RunsOf, left_among}
 use Rattle.asset_runner.proofs.ArrivedLemmas.{same_txn, stand_placed, tickets_all, as_many}
 use Rattle.asset_runner.proofs.PlacingLemmas.{at, weighs_among, numbered_once, numbered_in}
-use Rattle.asset_runner.proofs.GoesLemmas.{asks_on, waited, all_at}
+use Rattle.asset_runner.proofs.GoesLemmas.{asks_on, not_waiting, all_at}
 
 each_all : {E A : Type 0} (P : E → Type 0) (rows : List (Vec E A)) → EachOf P rows → Each P (all_of rows)
 each_all P [] all = tt
@@ -88,28 +88,27 @@ module _ {X : Type 0} {B : X → Type 0} where
 
   -- what was called goes on, and what was left stays so
   runs_on : (post : Working → Worked → Type 0) (name : Txn) (manager : TableId) (before : List Call) (a b : Arrival X B) → GoesOn a b
-      → RunsBody post name manager before (run_of a) → RunsBody post name manager before (run_of b)
-  runs_on post name manager before a b g ran = go (answered_by b.fate) refl
+      → DoesJob post name manager before a → RunsBody post name manager before (run_of b)
+  runs_on post name manager before a b g does = go (answered_by b.fate) refl
     where
-      go : (o : Option Txn) → answered_by b.fate ≡ o → MatchOption o (AsksBegin name before b.returned.list.calls) (CallsBody post name manager before (run_of b))
+      go : (o : Option Txn) → answered_by b.fate ≡ o → MatchOption o (AsksBegin name before b.returned.list.calls) (CallsBody post name manager before b.returned.list.calls)
       go None who =
           let e : answered_by a.fate ≡ None = sym g.answered ∙ who in
-          let h : AsksBegin name before a.returned.list.calls = subst (λ (o : Option Txn). MatchOption o (AsksBegin name before a.returned.list.calls) (CallsBody post name manager before (run_of a))) e ran in
+          let h : AsksBegin name before a.returned.list.calls = subst (λ (o : Option Txn). MatchOption o (AsksBegin name before a.returned.list.calls) (CallsSoFar post name manager before a.returned.list.calls (waits_by a.fate))) e does in
           subst (λ (l : List Call). AsksBegin name before l) (sym (g.settled (fate_left a.fate e)).1) h
       go (Some u) who =
           let e : answered_by a.fate ≡ Some u = sym g.answered ∙ who in
-          let h : CallsBody post name manager before (run_of a) u = subst (λ (o : Option Txn). MatchOption o (AsksBegin name before a.returned.list.calls) (CallsBody post name manager before (run_of a))) e ran in
+          let h : CallsSoFar post name manager before a.returned.list.calls (waits_by a.fate) u = subst (λ (o : Option Txn). MatchOption o (AsksBegin name before a.returned.list.calls) (CallsSoFar post name manager before a.returned.list.calls (waits_by a.fate))) e does in
           record {
-            tx = h.tx;
-            finished = h.finished;
-            named = h.named;
-            of = h.of;
-            begun = h.begun;
-            answered = h.answered;
-            whose = h.whose;
-            kept = asks_on a b u h.finished.list.calls g e h.kept h.waiting;
-            waiting = λ w. g.waiting w ∙ h.waiting (waited a b g w);
-            given_up = λ d. let up = h.given_up d in let on = g.settled up.0 in (on.0, on.1 ∙ up.1);
+            tx = h.calls.tx;
+            finished = h.calls.finished;
+            named = h.calls.named;
+            of = h.calls.of;
+            begun = h.calls.begun;
+            answered = h.calls.answered;
+            whose = h.calls.whose;
+            kept = asks_on a b u h.calls.finished.list.calls g e h.calls.kept (λ w. (h.waiting w).1);
+            given_up = λ d. (g.settled (not_waiting a h.calls.finished.done d (λ w. (h.waiting w).0))).1 ∙ h.calls.given_up d;
           }
 
   among_either : (xs ys : List (Arrival X B)) (x : Arrival X B) → IsAmong (xs ++ ys) x → IsAmong xs x ⊎ IsAmong ys x
@@ -199,8 +198,11 @@ module _ {J X : Type 0} {B : X → Type 0} (place : J → ℕ) (name : J → Txn
     abbrev Ran : J → JobRun → Type 0
     Ran j run = RunsBody (post j) (name j) (manager j) (session j).list.calls run
 
+    abbrev Does : J → Arrival X B → Type 0
+    Does j a = DoesJob (post j) (name j) (manager j) (session j).list.calls a
+
     abbrev Is : List J → Arrival X B → Type 0
-    Is jobs a = Came (IsAmong jobs) ticket ticket_of (λ (j : J) (a : Arrival X B). Ran j (run_of a) × Has j a.fate) a
+    Is jobs a = Came (IsAmong jobs) ticket ticket_of (λ (j : J) (a : Arrival X B). Does j a × Has j a.fate) a
 
     -- a job that was left has its own body
     each_left : (jobs left : List J) → Each (IsAmong jobs) left → Each (Is jobs) (lefts left)
@@ -210,7 +212,7 @@ module _ {J X : Type 0} {B : X → Type 0} (place : J → ℕ) (name : J → Txn
     -- who stands at the place of a job came of it
     came_of : {A : Type 0} (names : List Txn) (jobs left : List J) (rows : List (Vec (Arrival X B) A)) (order : List (Arrival X B))
         → map ticket jobs ≡ numbered names → EachOf (Is jobs) rows → Each (IsAmong jobs) left → CameBack (all_of rows ++ lefts left) order
-        → (i : ℕ) (job : J) (b : Arrival X B) → slice_get jobs i ≡ Some job → slice_get order i ≡ Some b → (a : Arrival X B) × GoesOn a b × Ran job (run_of a) × Has job a.fate
+        → (i : ℕ) (job : J) (b : Arrival X B) → slice_get jobs i ≡ Some job → slice_get order i ≡ Some b → (a : Arrival X B) × GoesOn a b × Does job a × Has job a.fate
     came_of names jobs left rows order ts came among back i job b at_job at =
         let a = back i b at in
         let c : Is jobs a.0 = each_among (Is jobs) (all_of rows ++ lefts left) a.0 (each_append (Is jobs) (all_of rows) (lefts left) (each_all (Is jobs) rows came) (each_left jobs left among)) a.1 in
@@ -219,7 +221,7 @@ module _ {J X : Type 0} {B : X → Type 0} (place : J → ℕ) (name : J → Txn
         let here : c.one.0 ≡ i = omega (arith, stands, given, a.2) in
         let both : Some c.job ≡ Some job = sym c.one.1 ∙ (ap (slice_get jobs) here ∙ at_job) in
         let same : c.job ≡ job = cc both in
-        let is : Ran job (run_of a.0) × Has job a.0.fate = subst (λ (j : J). Ran j (run_of a.0) × Has j a.0.fate) same c.is in
+        let is : Does job a.0 × Has job a.0.fate = subst (λ (j : J). Does j a.0 × Has j a.0.fate) same c.is in
         (a.0, a.3, is.0, is.1)
 
     pub runs_of_jobs : {A : Type 0} (names : List Txn) (jobs left : List J) (rows : List (Vec (Arrival X B) A)) (order : List (Arrival X B))

@@ -1,14 +1,17 @@
 -- What comes back from the workers.
-use Rattle.std.specs.Prelude.{◌≡◌, ℕ, ⊤, true, false, List, [], ◌∷◌, length, map, Option, Some, slice_get}
+use Rattle.std.specs.Prelude.{◌≡◌, ℕ, ⊤, true, false, List, [], ◌∷◌, length, map, Option, Some, MatchOption, slice_get}
 use Rattle.std.specs.declared.dyn_box.DynBox.{DynBox}
 use Rattle.std.specs.declared.alloc.Global.{Global}
+use Rattle.atomic_table.specs.Seated.{TableId}
 use Rattle.asset_names.specs.declared.names.Txn.{Txn}
+use Rattle.asset_audit.specs.Audited.{Call}
 use Rattle.asset_manager.specs.Asker.{Asker}
+use Rattle.asset_bodies.specs.Working.{Working, Worked}
 use Rattle.asset_queue.specs.Once.{Ticket}
 use Rattle.asset_runner.specs.declared.arrival.Arrival.{Arrival}
 use Rattle.asset_runner.specs.declared.arrival.Fate.TheVariants.{Left}
 use Rattle.asset_runner.specs.Runs.{JobRun}
-use Rattle.asset_runner.specs.Fates.{answered_by, body_of, waits_by, AsksCommit}
+use Rattle.asset_runner.specs.Fates.{answered_by, body_of, waits_by, AsksBegin, AsksCommit, CallsSoFar}
 use Rattle.asset_runner.specs.Placing as placing
 
 -- the tickets of jobs of these names, in order
@@ -22,7 +25,12 @@ module _ {X : Type 0} {B : X → Type 0} where
 
   -- what came of the job, without its place and its body
   abbrev pub run_of : Arrival X B → JobRun
-  run_of a = record { name = a.name; answered = answered_by a.fate; waits = waits_by a.fate; calls = a.returned.list.calls }
+  run_of a = record { name = a.name; answered = answered_by a.fate; calls = a.returned.list.calls }
+
+  -- what a worker does with a job of this name and manager, after these calls of its session: its begin is not answered `Done`, and it
+  -- is left; or its body is called
+  abbrev pub DoesJob : (Working → Worked → Type 0) → Txn → TableId → List Call → Arrival X B → Type 0
+  DoesJob post name manager before a = MatchOption (answered_by a.fate) (AsksBegin name before a.returned.list.calls) (CallsSoFar post name manager before a.returned.list.calls (waits_by a.fate))
 
   -- a job whose body was not called, with its session
   abbrev pub left_at : ℕ → Txn → DynBox X Global B → Asker → Arrival X B

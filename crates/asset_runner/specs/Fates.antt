@@ -45,9 +45,9 @@ abbrev pub AsksBegin : Txn → List Call → List Call → Type 0
 AsksBegin t before later = (later ≡ before) ⊎ ((n : ℕ) × (reply : Reply) × (later ≡ before ++ (n, Begin t, reply) ∷ []) × (reply ≢ Done))
 
 -- The body was called with a transaction of this name and manager, whose begin was answered `Done` after the calls before, and it
--- answered the `Finished` of u. The calls of the run are those of that `Finished`, and then the commit of u, if the body answered
--- it as done and the commit was answered.
-pub record CallsBody (post : Working → Worked → Type 0) (name : Txn) (manager : TableId) (before : List Call) (run : JobRun) (u : Txn) : Type 0 where
+-- answered the `Finished` of u. The calls later are those of that `Finished`, and then the commit of u, if the body answered it as
+-- done and the commit was answered.
+pub record CallsBody (post : Working → Worked → Type 0) (name : Txn) (manager : TableId) (before later : List Call) (u : Txn) : Type 0 where
   pub tx : Working
   pub finished : Worked
   pub named : tx.name ≡ name
@@ -55,10 +55,14 @@ pub record CallsBody (post : Working → Worked → Type 0) (name : Txn) (manage
   pub begun : (n : ℕ) × (tx.list.calls ≡ before ++ (n, Begin name, Done) ∷ [])
   pub answered : post tx finished
   pub whose : finished.name ≡ u
-  pub kept : AsksCommit u finished.list.calls run.calls
-  pub waiting : run.waits ≡ true → run.calls ≡ finished.list.calls
-  pub given_up : finished.done ≡ false → (run.waits ≡ false) × (run.calls ≡ finished.list.calls)
+  pub kept : AsksCommit u finished.list.calls later
+  pub given_up : finished.done ≡ false → later ≡ finished.list.calls
+
+-- the same, while commits may be asked again: one that waits was asked of what is done, and was not answered yet
+pub record CallsSoFar (post : Working → Worked → Type 0) (name : Txn) (manager : TableId) (before later : List Call) (waits : Bool) (u : Txn) : Type 0 where
+  pub calls : CallsBody post name manager before later u
+  pub waiting : waits ≡ true → (calls.finished.done ≡ true) × (later ≡ calls.finished.list.calls)
 
 -- the run of a job with these calls before: its begin was not answered `Done`, and it was left; or its body was called
 abbrev pub RunsBody : (Working → Worked → Type 0) → Txn → TableId → List Call → JobRun → Type 0
-RunsBody post name manager before run = MatchOption run.answered (AsksBegin name before run.calls) (CallsBody post name manager before run)
+RunsBody post name manager before run = MatchOption run.answered (AsksBegin name before run.calls) (CallsBody post name manager before run.calls)

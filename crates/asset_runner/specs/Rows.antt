@@ -9,8 +9,8 @@ use Rattle.asset_queue.specs.Each.{IsAmong}
 use Rattle.asset_runner.specs.declared.arrival.Arrival.{Arrival}
 use Rattle.asset_runner.specs.declared.job.Planned.{Planned}
 use Rattle.asset_runner.specs.Runs.{JobRun}
-use Rattle.asset_runner.specs.Fates.{body_of, RunsBody}
-use Rattle.asset_runner.specs.Arrived.{run_of, GoesOn}
+use Rattle.asset_runner.specs.Fates.{body_of}
+use Rattle.asset_runner.specs.Arrived.{run_of, GoesOn, DoesJob}
 
 -- what all rows have, one row after another
 abbrev pub all_of : {E A : Type 0} → List (Vec E A) → List E
@@ -23,10 +23,9 @@ kept_row t None = []
 kept_row t (Some body) = (t, body) ∷ []
 
 module _ {X : Type 0} {B : X → Type 0} where
-  -- what may come of a job whose body answers as `post` says: if the body was called, then with a transaction of the job's name and
-  -- manager, after the calls of the job's session; if not, its begin was not answered `Done`, and it is the job's own body that is left
+  -- what may come of a job whose body answers as `post` says; if the body was not called, it is the job's own that is left
   abbrev pub ComesOf : {callable : _} → (Working → Worked → Type 0) → Planned X B callable → Arrival X B → Type 0
-  ComesOf post job a = RunsBody post job.name (arc_value job.manager) job.session.list.calls (run_of a) × IfSome (body_of a.fate) (λ body. body ≡ job.body)
+  ComesOf post job a = DoesJob post job.name (arc_value job.manager) job.session.list.calls a × IfSome (body_of a.fate) (λ body. body ≡ job.body)
 
   -- each that stands in this order goes on from one of these, which has the same place
   abbrev pub CameBack : List (Arrival X B) → List (Arrival X B) → Type 0

@@ -6,12 +6,11 @@ use Rattle.asset_bodies.specs.declared.ends.JobEnd.{JobEnd}
 use Rattle.asset_bodies.specs.declared.ends.JobEnd.TheVariants.{Unsettled}
 use Rattle.asset_bodies.specs.Ends.{job_end}
 
--- a job after the run: its name, whose `Finished` its body answered (nobody's if it was not called), whether its commit still
--- waits, and the calls of the session that came back
+-- a job after the run: its name, whose `Finished` its body answered (nobody's if it was not called), and the calls of
+-- the session that came back
 pub record JobRun : Type 0 where
   pub name : Txn
   pub answered : Option Txn
-  pub waits : Bool
   pub calls : List Call
 
 -- the body answered the `Finished` of t

@@ -77,8 +77,8 @@ impl Arrival {
         ensures place { (result.place ≡ place) × (result.name ≡ name) }
         ensures answered { (answered_by result.fate ≡ Some finished.name) × (body_of result.fate ≡ None) }
         ensures kept { AsksCommit finished.name finished.list.calls result.returned.list.calls }
-        ensures waiting { waits_by result.fate ≡ true → result.returned.list.calls ≡ finished.list.calls }
-        ensures given_up { finished.done ≡ false → (waits_by result.fate ≡ false) × (result.returned.list.calls ≡ finished.list.calls) }
+        ensures waiting { waits_by result.fate ≡ true → (finished.done ≡ true) × (result.returned.list.calls ≡ finished.list.calls) }
+        ensures given_up { finished.done ≡ false → result.returned.list.calls ≡ finished.list.calls }
     {
         let (answered, done, _, session) = finished.into_parts();
         let mut returned = Returned::new(session, manager);

@@ -6,8 +6,8 @@ ghost use base.Stored.{Coded-set};
 ghost use Rattle.atomic_table.specs.Seated.{table_id_coded};
 ghost use Rattle.asset_counts.specs.Pass.{IsOf, IsOf-prop};
 ghost use Rattle.asset_bodies.specs.Working.{Working, Worked};
-ghost use Rattle.asset_runner.specs.Arrived.{left_at, run_of};
-ghost use Rattle.asset_runner.specs.Fates.{body_of, RunsBody};
+ghost use Rattle.asset_runner.specs.Arrived.{left_at, DoesJob};
+ghost use Rattle.asset_runner.specs.Fates.{body_of};
 
 use crate::arrival::Arrival;
 use crate::gate::Gate;
@@ -98,7 +98,7 @@ impl Planned {
     /// Begins the transaction, calls the body and asks the commit. If the transaction does not begin, the job is left.
     pub fn run<R: Wait>(self, rt: &R) -> Arrival
         ensures place { (result.place ≡ self.place) × (result.name ≡ self.name) }
-        ensures called { RunsBody (post self.body) self.name (arc_value self.manager) self.session.list.calls (run_of result) }
+        ensures called { DoesJob (post self.body) self.name (arc_value self.manager) self.session.list.calls result }
         ensures left { IfSome (body_of result.fate) (λ body. body ≡ self.body) }
     {
         let Planned {

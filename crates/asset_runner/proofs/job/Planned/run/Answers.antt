@@ -15,4 +15,5 @@ pub returns-in-Ok-Answer-Done-clause-place : goal.returns-in-Ok-Answer-Done-clau
 returns-in-Ok-Answer-Done-clause-place g c = search rules
 
 pub returns-in-Ok-Answer-Done-clause-called : goal.returns-in-Ok-Answer-Done-clause-called
-returns-in-Ok-Answer-Done-clause-called g c = search rules
+returns-in-Ok-Answer-Done-clause-called g c =
+    rw c.called.ensures.answered.0 (record { calls = search rules; waiting = c.called.ensures.waiting })
