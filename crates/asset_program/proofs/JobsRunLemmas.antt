@@ -12,6 +12,7 @@ use Rattle.asset_names.specs.Counted.{IsBelow}
 use Rattle.asset_audit.specs.Audited.{Call}
 use Rattle.asset_audit.specs.declared.auditing.AuditFault.{AuditFault}
 use Rattle.asset_bodies.specs.declared.ends.JobEnd.{JobEnd}
+use Rattle.asset_runner.specs.Runs.{JobRun}
 use Rattle.asset_jobs.specs.Ended.{row_among}
 use Rattle.asset_jobs.specs.Texts.{jobs_text}
 use Rattle.asset_grammar.specs.declared.job_lines.JobAct.{JobAct}
@@ -93,9 +94,9 @@ begins remaining request old new script jobs names limits within gave same is ca
 }
 
 -- the jobs were run and audited, and this text says so, with counts that are not below those that were seen
-pub says_jobs : (planned : List Txn) (plan : List Call) (seen : Counts) (names : List Txn) (audit : Result Unit AuditFault) (ends : List (Txn × JobEnd)) (sessions : List (List Call)) (counts : Counts)
-    → RanJobs planned plan ends sessions → IsAudited sessions audit → IsBelow seen counts → SaysJobs planned plan seen names audit (jobs_text (map (row_among ends) names) audit counts)
-says_jobs planned plan seen names audit ends sessions counts ended audited later = record {
+pub says_jobs : {J : Type 0} (ran : J → JobRun → Type 0) (jobs : List J) (planned : List Txn) (plan : List Call) (seen : Counts) (names : List Txn) (audit : Result Unit AuditFault) (ends : List (Txn × JobEnd)) (sessions : List (List Call)) (counts : Counts)
+    → RanJobs ran jobs planned plan ends sessions → IsAudited sessions audit → IsBelow seen counts → SaysJobs ran jobs planned plan seen names audit (jobs_text (map (row_among ends) names) audit counts)
+says_jobs ran jobs planned plan seen names audit ends sessions counts ended audited later = record {
   ends = ends;
   sessions = sessions;
   counts = counts;

@@ -24,7 +24,7 @@ stop_of_write ScriptFault'.Read = Read
 stop_of_write ScriptFault'.Write = Write
 stop_of_write ScriptFault'.NoMemory = NoMemory
 
--- the exit status: 2 if a line is bad or a number is out of range, and 1 at a fault
+-- the exit status: 2 if a line is bad or a number is out of range, and 1 otherwise, also if somebody else has the manager
 unfoldable pub stop_status : JobsStop → ℕ
 stop_status (BadLine n) = 2
 stop_status OutOfRange = 2
@@ -36,12 +36,14 @@ unfoldable pub SaysBadLine : {W : Type 0} → (W → Option (List ℕ)) → ℕ 
 SaysBadLine contents n old new status =
     ((status ≡ 2) × Appends (contents old.inner) (contents new.inner) (bad_line n)) ⊎ ((status ≡ 1) × (((new.failed ≡ true) × TookPrefix contents old new (bad_line n)) ⊎ (new ≡ old)))
 
--- a bad line alone is written
+-- how the program ends if jobs were stopped: at a bad line as `SaysBadLine` says; at any other stop nothing more is written, and the
+-- status is that of the stop
 unfoldable pub EndsStopped : {W : Type 0} → (W → Option (List ℕ)) → JobsStop → DeviceState W → DeviceState W → ℕ → Type 0
 EndsStopped contents (BadLine n) old new status = SaysBadLine contents n old new status
 EndsStopped contents stop old new status = (status ≡ stop_status stop) × (new ≡ old)
 
--- the status is 0 if the audit found nothing, and 1 if it did
+-- the status is 0 if the audit found nothing, and 1 if it did, and nothing more is written; jobs that were stopped end as `EndsStopped`
+-- says
 unfoldable pub EndsJobs : {W : Type 0} → (W → Option (List ℕ)) → Result (Result Unit AuditFault) JobsStop → DeviceState W → DeviceState W → ℕ → Type 0
 EndsJobs contents (Ok (Ok u)) old new status = (status ≡ 0) × (new ≡ old)
 EndsJobs contents (Ok (Err fault)) old new status = (status ≡ 1) × (new ≡ old)

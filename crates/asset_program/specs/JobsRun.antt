@@ -7,6 +7,7 @@ use Rattle.asset_names.specs.declared.steps.Step.TheVariants.{Initiate}
 use Rattle.asset_names.specs.declared.replies.Reply.TheVariants.{Refused}
 use Rattle.asset_names.specs.declared.replies.Refusal.{Refusal}
 use Rattle.asset_names.specs.Steps.{Opening, Entry}
+use Rattle.asset_names.specs.Answers.{IsLegal}
 use Rattle.asset_names.specs.Counted.{IsBelow}
 use Rattle.asset_audit.specs.Audited.{Call, IsAudit}
 use Rattle.asset_audit.specs.declared.auditing.AuditFault.{AuditFault}
@@ -17,7 +18,7 @@ use Rattle.asset_jobs.specs.Ended.{row_among}
 use Rattle.asset_jobs.specs.Jobs.{Named}
 use Rattle.asset_jobs.specs.Reads.{GaveScript}
 use Rattle.asset_jobs.specs.Texts.{jobs_text}
-use Rattle.asset_runner.specs.Comes.{Comes}
+use Rattle.asset_runner.specs.Comes.{Comes, RunsOf}
 use Rattle.asset_runner.specs.Initiated.{IsInitiated}
 use Rattle.asset_runner.specs.Runs.{JobRun, first_stranger}
 use Rattle.asset_program.specs.declared.jobs_end.JobsStop.{JobsStop}
@@ -50,26 +51,29 @@ unfoldable pub AddsJob : List Txn → List Call → Txn → List Txn → List Ca
 AddsJob names calls t names' calls' =
     ((names' ≡ names ++ t ∷ []) × IsInitiated calls (Initiate t None) calls') ⊎ ((names' ≡ names) × IsKeptOut calls t calls')
 
--- the jobs of a plan were run, and ended so; no body answered another's `Finished`, and the plan's session and then theirs have these
--- calls
-pub record RanJobs (planned : List Txn) (plan : List Call) (ends : List (Txn × JobEnd)) (sessions : List (List Call)) : Type 0 where
+-- the jobs of a plan were run, and ended so: what came of each is what `ran` says may come of it, no body answered another's
+-- `Finished`, and the plan's session and then theirs have these calls
+pub record RanJobs {J : Type 0} (ran : J → JobRun → Type 0) (jobs : List J) (planned : List Txn) (plan : List Call) (ends : List (Txn × JobEnd)) (sessions : List (List Call)) : Type 0 where
   pub runs : List JobRun
   pub left : List Txn
   pub came : Comes planned plan runs ends left sessions
   pub no_stranger : first_stranger runs ≡ None
+  pub bodies : RunsOf ran jobs runs
 
--- this is the audit of the sessions against some history
+-- this is the audit of the sessions against some legal history
 pub record IsAudited (sessions : List (List Call)) (audit : Result Unit AuditFault) : Type 0 where
+  pub opening : Opening
   pub entries : List Entry
+  pub legal : IsLegal opening entries
   pub audited : IsAudit (reverse entries) sessions audit
 
 -- the jobs of a plan were run and their sessions audited, and this text says how those of these names ended, with counts that are
 -- not below those that the plan's session had seen
-pub record SaysJobs (planned : List Txn) (plan : List Call) (seen : Counts) (names : List Txn) (audit : Result Unit AuditFault) (text : List ℕ) : Type 0 where
+pub record SaysJobs {J : Type 0} (ran : J → JobRun → Type 0) (jobs : List J) (planned : List Txn) (plan : List Call) (seen : Counts) (names : List Txn) (audit : Result Unit AuditFault) (text : List ℕ) : Type 0 where
   pub ends : List (Txn × JobEnd)
   pub sessions : List (List Call)
   pub counts : Counts
-  pub ended : RanJobs planned plan ends sessions
+  pub ended : RanJobs ran jobs planned plan ends sessions
   pub audited : IsAudited sessions audit
   pub later : IsBelow seen counts
   pub says : text ≡ jobs_text (map (row_among ends) names) audit counts
@@ -85,7 +89,7 @@ StopsWriting contents old new text NoMemory = new ≡ old
 StopsWriting contents old new text stop = ⊥
 
 -- why jobs were not finished: the writer failed after a prefix of the text that says how they ended; or nothing was written, because
--- there was no memory, the run failed, or somebody else had the manager
+-- there was no memory or the run failed (`NoMemory`), or somebody else had the manager (`InUse`)
 unfoldable pub StopsAfter : {W : Type 0} → (W → Option (List ℕ)) → (Result Unit AuditFault → List ℕ → Type 0) → DeviceState W → DeviceState W → JobsStop → Type 0
 StopsAfter contents says old new Write = (audit : Result Unit AuditFault) × (text : List ℕ) × says audit text × TookPrefix contents old new text × (new.failed ≡ true)
 StopsAfter contents says old new NoMemory = new ≡ old

@@ -12,6 +12,7 @@ ghost use Rattle.asset_bodies.specs.Working.{Working, Worked};
 ghost use Rattle.asset_jobs.specs.Ended.{row_among};
 ghost use Rattle.asset_jobs.specs.Scripts.{named};
 ghost use Rattle.asset_jobs.specs.Texts.{jobs_text};
+ghost use Rattle.asset_runner.specs.Fates.{RunsBody};
 ghost use Rattle.asset_runner.specs.Initiated.{OneMore, IsPlanned};
 ghost use Rattle.asset_program.specs.declared.jobs_end.JobsStop.TheVariants as Stop;
 ghost use Rattle.asset_program.specs.JobsRun.{AddsJob, BeginsJobs, FinishesJobs, IsAudited, RanJobs, SaysJobs, StopsAfter, StopsBefore, StopsWriting};
@@ -22,7 +23,7 @@ use asset_audit::AuditFault;
 use asset_jobs::{JobAct, JobScript, names_of, read_jobs, rows_of, write_jobs};
 use asset_manager::{Manager, Session, WatchPass};
 use asset_names::{Counts, Ob, Txn};
-use asset_runner::{Body, Cause, InitFault, JobEnd, OpenGate, Plan, Report, Runtime};
+use asset_runner::{Body, Cause, Finished, InitFault, JobEnd, OpenGate, Plan, Report, Runtime, Tx};
 use asset_scripts::Device;
 use std::alloc::Global;
 use std::io::{Read, Write};
@@ -193,7 +194,7 @@ fn run_plan<R: Runtime>(
     workers: usize,
 ) -> Result<Ran, JobsStop>
     requires { arc_value plan.manager ≡ manager.now }
-    ensures ran { IfOk result (λ ran. RanJobs plan.names.items plan.session.list.calls ran.ends.items (map (λ (s : Asker). s.list.calls) ran.sessions.items)) }
+    ensures ran { IfOk result (λ ran. RanJobs (λ j. RunsBody (⟦<Body as FnOnce(Tx) -> Finished>⟧.post j.body) j.name (arc_value j.manager) j.session.list.calls) plan.jobs.items plan.names.items plan.session.list.calls ran.ends.items (map (λ (s : Asker). s.list.calls) ran.sessions.items)) }
     ensures later { IfOk result (λ ran. IsBelow plan.session.seen ran.counts) }
     ensures stopped { IfErr result (λ stop. stop ≡ Stop.NoMemory) }
 {
@@ -266,8 +267,8 @@ pub fn finish_jobs<R: AllocGlobal + Runtime, W: Write>(
     output: &mut Device<W>,
 ) -> Result<Result<(), AuditFault>, JobsStop>
     requires { arc_value plan.manager ≡ arc_value manager }
-    ensures finished { IfOk result (λ audit. FinishesJobs W.contents (SaysJobs plan.names.items plan.session.list.calls plan.session.seen names.now) audit output.old output.new) }
-    ensures stopped { IfErr result (StopsAfter W.contents (SaysJobs plan.names.items plan.session.list.calls plan.session.seen names.now) output.old output.new) }
+    ensures finished { IfOk result (λ audit. FinishesJobs W.contents (SaysJobs (λ j. RunsBody (⟦<Body as FnOnce(Tx) -> Finished>⟧.post j.body) j.name (arc_value j.manager) j.session.list.calls) plan.jobs.items plan.names.items plan.session.list.calls plan.session.seen names.now) audit output.old output.new) }
+    ensures stopped { IfErr result (StopsAfter W.contents (SaysJobs (λ j. RunsBody (⟦<Body as FnOnce(Tx) -> Finished>⟧.post j.body) j.name (arc_value j.manager) j.session.list.calls) plan.jobs.items plan.names.items plan.session.list.calls plan.session.seen names.now) output.old output.new) }
 {
     let alloc = rt.alloc();
     match run_plan(rt, &manager, plan, limits.workers) {

@@ -4,7 +4,7 @@ use Rattle.asset_program.proofs.jobs_run.finish_jobs.Goals as goal
 
 pub returns-in-Ok-close-clause-stopped : goal.returns-in-Ok-close-clause-stopped
 returns-in-Ok-close-clause-stopped g c =
-    let said = says_jobs _ _ _ c.args.names.now c.in-Ok-close.audit _ _ _ c.in-Ok.ensures.ran c.in-Ok-close.ensures.audited (search rules) in
+    let said = says_jobs _ _ _ _ _ c.args.names.now c.in-Ok-close.audit _ _ _ c.in-Ok.ensures.ran c.in-Ok-close.ensures.audited (search rules) in
     stops_after g.W.Write.contents _ c.in-Ok-close.audit c.args.output.now c.write_ends.new.output _ c.in-Err-write_ends.stop said (rw c.deref-in-Ok-close.ensures.value at c.in-Err-write_ends.ensures.stopped)
 
 pub returns-in-Ok-clause-stopped : goal.returns-in-Ok-clause-stopped
@@ -15,5 +15,5 @@ returns-clause-stopped g c = stops_unwritten g.W.Write.contents _ c.args.output.
 
 pub returns-in-Ok-write_ends-clause-finished : goal.returns-in-Ok-write_ends-clause-finished
 returns-in-Ok-write_ends-clause-finished g c =
-    let said = says_jobs _ _ _ c.args.names.now c.in-Ok-close.audit _ _ _ c.in-Ok.ensures.ran c.in-Ok-close.ensures.audited (search rules) in
+    let said = says_jobs _ _ _ _ _ c.args.names.now c.in-Ok-close.audit _ _ _ c.in-Ok.ensures.ran c.in-Ok-close.ensures.audited (search rules) in
     (_, said, rw c.deref-in-Ok-close.ensures.value at c.in-Ok-write_ends.ensures.wrote)
