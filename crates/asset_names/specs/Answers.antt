@@ -69,10 +69,11 @@ ended steps t = (has_ended (status steps t.0), Refusal'.Ended t)
 unfoldable pub not_running : List Step → Txn → Rule
 not_running steps t = (not (is_running (status steps t.0)), Refusal'.NotRunning t)
 
--- a name is initiated once, and a transaction begun once
+-- an initiate is refused if t was initiated before
 unfoldable pub taken : List Step → Txn → Rule
 taken steps t = (not (is_unknown (status steps t.0)), Refusal'.Taken t)
 
+-- a begin is refused if t is live and has begun
 unfoldable pub begun_before : List Step → Txn → Rule
 begun_before steps t = (has_begun (status steps t.0), Refusal'.Begun t)
 
@@ -92,16 +93,17 @@ one_name giver taker = (giver.0 == taker.0, Refusal'.Same)
 unfoldable pub cycle : List Step → Kind → Txn → Txn → Rule
 cycle steps kind a b = (would_cycle steps kind a.0 b.0, Refusal'.Cycle)
 
--- the first object of a set that does not exist: of a list, which rises, the least; all objects exist
+-- the first object of a list that does not exist; None if each of them exists, and for the set of all objects
 unfoldable pub missing_in : Opening → ObSet → Option Ob
 missing_in opening All = None
 missing_in opening (Listed list) = find (λ (x : Ob). not (exists opening x.0)) list
 
--- a permit or a delegation is refused on a set with an object that does not exist
+-- the refusal for a missing object, which applies if there is one
 unfoldable pub missing_rule : Option Ob → Rule
 missing_rule None = (false, Refusal'.NoObject no_object_name)
 missing_rule (Some x) = (true, Refusal'.NoObject x)
 
+-- a permit or a delegation is refused on a list with an object that does not exist
 unfoldable pub no_object_of : Opening → ObSet → Rule
 no_object_of opening obs = missing_rule (missing_in opening obs)
 
@@ -164,6 +166,7 @@ unrefused opening steps (Commit t) = commit_outcome (status steps t.0) (may_comm
 unrefused opening steps (Abort t) = Answer Reply'.Aborted
 unrefused opening steps (WaitFor t) = wait_outcome (status steps t.0)
 
+-- the outcome of a step: the refusal if there is one, or else this outcome
 unfoldable pub outcome_unless : Option Refusal → Outcome → Outcome
 outcome_unless None outcome = outcome
 outcome_unless (Some refusal) outcome = Answer (Reply'.Refused refusal)

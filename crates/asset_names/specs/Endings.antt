@@ -26,7 +26,8 @@ dependencies kind steps = flat_map (dependency_by kind) steps
 unfoldable pub class_arrows : List Step → List Arrow
 class_arrows steps = both_ways (dependencies Gc steps)
 
--- the arrows of order: a dependent ends after its source by a commit dependency, and by an abort dependency
+-- The arrows of order: those of commit and of abort dependencies. A dependent commits only after its source has ended; it may
+-- abort at any time.
 unfoldable pub order_arrows : List Step → List Arrow
 order_arrows steps = dependencies Cd steps ++ dependencies Ad steps
 
@@ -59,6 +60,7 @@ status_of true begun true None = Status'.Completed
 status_of true true false None = Status'.Running
 status_of true false false None = Status'.Initiated
 
+-- the status of t after the steps
 unfoldable pub status : List Step → ℕ → Status
 status steps t = status_of (lists (initiated steps) t) (lists (begun steps) t) (lists (completed steps) t) (end_of steps t)
 

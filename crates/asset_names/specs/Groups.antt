@@ -87,7 +87,7 @@ dead entries t = not (list_any (λ n. same_group entries t n && was_committed (e
 unfoldable pub stays : List Entry → List ℕ → ℕ → Bool
 stays entries chosen n = not (list_any (λ c. same_group entries c n && dead entries c) chosen)
 
--- the entries whose steps act on transactions that are kept
+-- the entries whose step has an actor that passes the test
 unfoldable pub kept : (ℕ → Bool) → List Entry → List Entry
 kept keep entries = filter (λ (entry : Entry). keep (actor entry.0).0) entries
 

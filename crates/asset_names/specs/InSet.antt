@@ -6,7 +6,7 @@ use Rattle.asset_names.specs.declared.sets.ObSet.TheVariants.{All, Listed}
 use Rattle.asset_names.specs.Arrows.{lists}
 use Rattle.asset_names.specs.Sets.{numbers}
 
--- all objects, or those that are listed
+-- whether an object with this number is in the set: in the set of all objects each is, and in a list those that it lists
 unfoldable pub in_set : ObSet → ℕ → Bool
 in_set All x = true
 in_set (Listed list) x = lists (numbers list) x

@@ -9,6 +9,7 @@ pub record OpSet : Type 0 where
   pub write : Bool
   pub add : Bool
 
+-- the set that has Read, Write and Add exactly if these are true
 abbrev pub op_set : Bool → Bool → Bool → OpSet
 op_set read write add = record { read = read; write = write; add = add }
 

@@ -66,11 +66,11 @@ unfoldable pub operations : List Step → List Operation
 operations [] = []
 operations (step ∷ older) = operated step (operations older)
 
--- a live transaction holds x by the operations on x for which it is responsible
+-- t holds x by op: it is live, and responsible for an operation of this kind on x
 unfoldable pub holds : List Step → ℕ → ℕ → Op → Bool
 holds steps t x op = live steps t && list_any (λ (o : Operation). o.owner == t && o.object == x && same_op (op_of o.use_of) op) (operations steps)
 
--- a live transaction holds x where it is responsible for an operation on x
+-- t holds x: it is live, and responsible for an operation on x
 unfoldable pub holds_object : List Step → ℕ → ℕ → Bool
 holds_object steps t x = live steps t && list_any (λ (o : Operation). o.owner == t && o.object == x) (operations steps)
 

@@ -44,7 +44,7 @@ numbered entries = zip (operation_numbers entries) (operations (applied entries)
 unfoldable pub stands_on : List Entry → ℕ → Numbered → Bool
 stands_on entries x found = found.1.object == x && is_write found.1.use_of && stands (applied entries) found.1
 
--- the source of x after the entries: the last write on x that stands, and none if x has its opening value
+-- the source of x after the entries: the last write on x that stands; None if no write on x stands, even if adds do
 unfoldable pub source : List Entry → ℕ → Option Numbered
 source entries x = find (stands_on entries x) (numbered entries)
 

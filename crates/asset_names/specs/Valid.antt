@@ -6,6 +6,7 @@ use Rattle.std.proofs.lemmas.List.{length-take-le, take-append-drop}
 use Rattle.asset_names.specs.declared.names.Ob.{Ob}
 use Rattle.asset_names.specs.Sets.{numbers, no_object_name}
 
+-- of 16 slots the first `count`, at least one, have objects in strictly rising order, and the others are empty
 pub record IsValid (objects : List Ob) (count : ℕ) : Type 0 where
   pub some : 0 < count
   pub few : count ≤ 16
