@@ -1,4 +1,4 @@
--- Those who committed, one after another in the order of their commits, with nobody else.
+-- Those who committed by a commit of their own, one after another in the order of their commits, with nobody else.
 use Rattle.std.specs.Prelude.{◌≡◌, ℕ, ℤ, Bool, true, cond, not, ◌==◌, ◌||◌, List, [], ◌∷◌, ◌++◌, filter, flat_map}
 use Rattle.std.specs.List.{list_all}
 use Rattle.asset_names.specs.declared.steps.Step.{Step}
@@ -19,11 +19,11 @@ unfoldable pub committed_names : List Step → List ℕ
 committed_names [] = []
 committed_names (step ∷ older) = committed_by step older ++ committed_names older
 
--- the entries whose steps act on t
+-- the entries whose step has t as its actor
 unfoldable pub entries_of : List Entry → ℕ → List Entry
 entries_of entries t = filter (λ (entry : Entry). (actor entry.0).0 == t) entries
 
--- the entries of those who committed, one transaction after another in the order of their commits
+-- the entries of those who committed by a commit of their own, one transaction after another in the order of their commits
 unfoldable pub serial : List Entry → List Entry
 serial entries = flat_map (entries_of entries) (committed_names (applied entries))
 
@@ -39,6 +39,6 @@ is_apart test arrow = arrow.0 == arrow.1 || not (test arrow.0 || test arrow.1)
 unfoldable pub shares_nothing : List Entry → Bool
 shares_nothing entries = list_all (is_apart (λ n. was_committed (end_of (applied entries) n))) (joins entries)
 
--- the value of x that those who committed left
+-- the value of x by the operations of those who committed by a commit of their own, and of nobody else
 unfoldable pub committed_value : Opening → List Step → ℕ → ℤ
 committed_value opening steps x = value_after (λ (o : Operation). lists (committed_names steps) o.owner) x (opening_value opening x) (operations steps)

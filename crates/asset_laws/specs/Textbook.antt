@@ -13,7 +13,7 @@ pub data Path (classes orders : List Arrow) : ℕ → ℕ → Type 0 where
   within : (a b : ℕ) → linked classes a b ≡ true → Path classes orders a b
   onward : (a c d b : ℕ) → linked classes a c ≡ true → has_arrow orders c d ≡ true → Path classes orders d b → Path classes orders a b
 
--- no cycle stands: from where an arrow of order leads, no path leads back
+-- no cycle stands: from where an arrow of order ends, no path leads to where it begins
 abbrev pub IsAcyclic : List Arrow → List Arrow → Type 0
 IsAcyclic classes orders = (c d : ℕ) → has_arrow orders c d ≡ true → ¬ Path classes orders d c
 
