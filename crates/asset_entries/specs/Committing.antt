@@ -22,7 +22,7 @@ passes test None = false
 unfoldable pub has_commit : (ℕ → Bool) → List Entry → Bool
 has_commit test entries = list_any (λ (entry : Entry). passes test (committed_by entry.0 entry.1)) entries
 
--- the transaction whose commit is answered so by an entry, if there is one
+-- the transaction whose commit the entry answers with `Committed`, if there is an entry and it does
 abbrev pub commit_at : Option Entry → Option Txn
 commit_at None = None
 commit_at (Some entry) = committed_by entry.0 entry.1

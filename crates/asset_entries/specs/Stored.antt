@@ -77,7 +77,7 @@ reply_of_two first second x ReplyTag'.SecondUnknown = Reply'.Refused (Refusal'.U
 reply_of_two first second x ReplyTag'.SecondEnded = Reply'.Refused (Refusal'.Ended second)
 reply_of_two first second x tag = reply_about first x (pos 0) tag
 
--- the index of an object in a list
+-- the index of the first x in a list; the length of the list if x is not in it
 unfoldable pub position : Ob → List Ob → ℕ
 position x [] = 0
 position x (y ∷ objects) = cond (y.0 == x.0) 0 (suc (position x objects))
@@ -87,7 +87,7 @@ unfoldable pub missing_at : ObSet → Reply → ℕ
 missing_at (Listed objects) (Reply'.Refused (Refusal'.NoObject x)) = position x objects
 missing_at obs reply = 0
 
--- the object at an index of a set
+-- the object at an index of a list; object 0 past its end, and for the set of all objects
 unfoldable pub object_at : ObSet → ℕ → Ob
 object_at All index = no_object_name
 object_at (Listed objects) index = unwrap_or (slice_get objects index) no_object_name
@@ -173,11 +173,13 @@ has_set count (Stored'.PermitAny tag missing ops set giver) = nat_lt set count
 has_set count (Stored'.Delegate tag missing set giver taker) = nat_lt set count
 has_set count stored = true
 
+-- the same of each of the stored entries
 unfoldable pub all_have_sets : ℕ → List Stored → Bool
 all_have_sets count entries = list_all (has_set count) entries
 
--- a stored history is valid: its opening gives no object twice, its entries are legal, and their sets are there; and the
--- room that was reserved is enough for all entries, each of which may have a set
+-- A stored history is valid: its opening gives no object twice, its entries are legal, and their sets are there. There are no
+-- more sets than entries, and no more entries than the capacity. The room that was reserved is enough for as many entries as
+-- the capacity, each of which may have a set.
 pub record IsValid (opening : Opening) (entries : List Stored) (sets : List StoredSet) (capacity reserved reserved_sets : ℕ) : Type 0 where
   pub different : HasNoDouble (objects_of opening)
   pub legal : IsLegal opening (entries_of sets entries)

@@ -42,7 +42,7 @@ pub record IsStretch (objects : List Ob) (s : Stretch) : Type 0 where
   pub few : s.count ≤ 16
   pub rising : IsStrictlyIncreasing (numbers (stretch_of objects s))
 
--- each set is a stretch, and there is room for 16 objects a set
+-- each set is a stretch; at most 16 objects a set are stored; and there is room for `room` sets with 16 objects each
 pub record IsValid (objects : List Ob) (stretches : List Stretch) (room object_slots stretch_slots : ℕ) : Type 0 where
   pub each : Each (IsStretch objects) stretches
   pub used : length objects ≤ 16 * length stretches
