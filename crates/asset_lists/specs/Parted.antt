@@ -26,7 +26,7 @@ pub record AreKeys (table : Parted) (part : Part) (keys : List ℕ) : Type 0 whe
   pub all : (k : ℕ) → part_of table k ≡ Some part → (q : ℕ) × IsAt keys q k
   pub once : (p q k : ℕ) → IsAt keys p k → IsAt keys q k → p ≡ q
 
--- whether a part is the last one given, or stands before it: the front part comes first, and the back part last
+-- whether the second section is the first one given, or stands before it: the front comes first, and the back last
 unfoldable pub is_up_to : Section → Section → Bool
 is_up_to Front Front = true
 is_up_to Front section = false
@@ -34,7 +34,7 @@ is_up_to Middle Back = false
 is_up_to Middle section = true
 is_up_to Back section = true
 
--- a part of the list that the part is of
+-- this section of the list that the part is of
 abbrev pub beside : Part → Section → Part
 beside part section = record { list = part.list; section = section }
 

@@ -1,5 +1,5 @@
--- How lists of keys are stored: of each list its keys, those of the front part first and those of the back part last, and of each key its list, as the
--- number of the list and 1, or 0 for none, and its position there.
+-- How lists of keys are stored: of each list its keys, those of the front part first and those of the back part last, and of
+-- each key its list, as the number of the list and 1, or 0 for none, and its position there.
 use Rattle.std.specs.Prelude.{◌≡◌, ℕ, ◌==◌, ◌<◌, ◌≤◌, ◌^◌, nat_lt, suc, zero, cond, List, [], Option, None, Some, length, map, slice_index_or}
 use Rattle.asset_lists.specs.declared.part.Part.{Part}
 use Rattle.asset_lists.specs.declared.part.Section.{Section}
@@ -16,7 +16,7 @@ no_row = record { keys = record { items = []; capacity = 0 }; front = 0; back = 
 abbrev pub no_place : Place
 no_place = record { home = 0; position = 0 }
 
--- what is stored of a list, past the last of which there is none
+-- what is stored of a list; a list without keys past the last one
 abbrev pub row_at : List Row → ℕ → Row
 row_at rows x = slice_index_or rows x no_row
 
@@ -28,10 +28,11 @@ keys_of rows x = (row_at rows x).keys.items
 unfoldable pub section_in : ℕ → ℕ → ℕ → Section
 section_in front back position = cond (nat_lt position front) Front (cond (nat_lt position back) Middle Back)
 
+-- the part of a stored list that a position is in
 abbrev pub section_at : Row → ℕ → Section
 section_at row position = section_in row.front row.back position
 
--- the place of a key, past the last of which there is none
+-- the place of a key; that of a key in no list past the last one
 abbrev pub place_at : List Place → ℕ → Place
 place_at places k = slice_index_or places k no_place
 
@@ -57,7 +58,7 @@ pub record IsSplit (row : Row) : Type 0 where
   pub middle : row.front ≤ row.back
   pub end : row.back ≤ length row.keys.items
 
--- rows and places agree, and numbers fit
+-- rows and places agree, the parts of each list are in order, and all numbers are below 2 ^ 32
 pub record IsValid (rows : List Row) (places : List Place) : Type 0 where
   pub placed : IsPlaced (keys_of rows) (place_at places)
   pub split : (x : ℕ) → IsSplit (row_at rows x)
@@ -65,7 +66,7 @@ pub record IsValid (rows : List Row) (places : List Place) : Type 0 where
   pub few_keys : length places < 2 ^ 32
   pub few_lists : length rows < 2 ^ 32
 
--- the position that another has if those at p and q are swapped
+-- the position of the key that stood at i after those at p and q are swapped
 abbrev pub swapped : ℕ → ℕ → ℕ → ℕ
 swapped p q i = cond (i == p) q (cond (i == q) p i)
 
