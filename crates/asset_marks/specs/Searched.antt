@@ -15,7 +15,7 @@ arrow_between (Some u) None = []
 arrow_between None other = []
 
 module _ {D : Type 0} (test : D → Bool) where
-  -- the arrows of the items in the slots that pass the test, the first of which has this key
+  -- the arrows of the items that pass the test, where k is the key of the first slot
   abbrev pub arrows_from : Chained → Chained → ℕ → List (Option D) → List Arrow
   arrows_from along across k [] = []
   arrows_from along across k (None ∷ slots) = arrows_from along across (k + 1) slots
