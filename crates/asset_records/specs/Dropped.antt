@@ -7,13 +7,14 @@ use Rattle.asset_records.specs.declared.records.Record.TheVariants.{Write, Add, 
 use Rattle.asset_records.specs.Listed.{record_at}
 use Rattle.asset_records.specs.Mended.{is_write, mended_record}
 
--- what the record at a key added, if it is that of an add
+-- what a record added, if there is one and it is that of an add
 unfoldable pub added_by : Option Record → Option ℤ
 added_by None = None
 added_by (Some (Write owner before)) = None
 added_by (Some (Add owner amount)) = Some amount
 added_by (Some (Lasting amount)) = Some amount
 
+-- what the record at a key added, if there is one and it is that of an add
 abbrev pub added_at : Slab Record → ℕ → Option ℤ
 added_at records k = added_by (get records k)
 

@@ -103,8 +103,8 @@ pub record LosesLast (column i : ℕ) (old new : Crossed Record) : Type 0 where
   pub on_object : home_of old.rows key ≡ Some i
   pub gone : get new.items key ≡ None
 
--- One record of the transaction's is gone from an object. The value over it is mended: in the first write after it, or else
--- what is to be done with the value in place is restored.
+-- One record of the transaction's is gone from an object. If a write stands after it, the first one finds the mended value, and
+-- nothing is left to mend. Otherwise `restored` says how the value in place is to be mended.
 pub record TakesBack (t : ℕ) (i : ℕ) (restored : Option Mend) (old new : List (List Record)) : Type 0 where
   pub older : List Record
   pub gone : Record
@@ -128,7 +128,8 @@ settled_many (Write owner before) older = 1 + count_by (is_owned (λ (n : ℕ). 
 settled_many (Add owner amount) older = 1
 settled_many (Lasting amount) older = 0
 
--- one record of the transaction's stands for good; an add does not go if a write stands on the object
+-- One record of the transaction's stands for good. If a write stands before it, an add becomes nobody's and does not go. The
+-- records visited are at least as many as those of somebody that go or become nobody's, and at most four times as many.
 pub record Settles (t : ℕ) (object visited : ℕ) (old new : List (List Record)) : Type 0 where
   pub older : List Record
   pub gone : Record
