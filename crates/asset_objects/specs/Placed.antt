@@ -86,7 +86,8 @@ pub record ObjectParts : Type 0 where
 abbrev pub objects_in : ObjectParts → ObjectTable
 objects_in parts = object_table parts.objects parts.values (lists_in parts.records) parts.reserved parts.visits
 
--- each record is in the column of its owner's seat, and each seat that is taken has its column
+-- each record is in the column of its owner's seat, or in the first one if it is nobody's, and each seat that is taken has its
+-- column
 abbrev pub IsTied : ObjectParts → Seated → Type 0
 IsTied parts seats = AreTied parts.records seats
 
@@ -94,21 +95,22 @@ IsTied parts seats = AreTied parts.records seats
 abbrev pub HasRoom : ObjectParts → ℕ → Type 0
 HasRoom parts c = seat_column c < length parts.records.columns.chains
 
--- each object has a value in place and a list of records, and a reservation is one of the records
+-- there are as many values in place and as many lists of records as objects; if one more update is reserved, the records have
+-- room for one more
 pub record IsPlaced (parts : ObjectParts) : Type 0 where
   pub valued : length parts.values ≡ length parts.objects
   pub many : length (lists_in parts.records) ≡ length parts.objects
   pub room : parts.reserved ≡ true → has_room parts.records ≡ true
 
--- the table by name: if there is a record, there are more seats than records; if an update is reserved, at least two more; and
--- each seat has its column
+-- the table by name: it is tied to the seats, and each seat has its column; if there is a record, there are more seats than
+-- records; if an update is reserved, there are at least two more
 pub record IsSpared (parts : ObjectParts) (seats : Seated) : Type 0 where
   pub tied : IsTied parts seats
   pub columns : (c : ℕ) → c < length seats.slots → HasRoom parts c
   pub spare : 0 < slab_len parts.records.items → slab_len parts.records.items < length seats.slots
   pub room : parts.reserved ≡ true → slab_len parts.records.items + 1 < length seats.slots
 
--- the objects of an opening at their opening values, with no record
+-- the objects of an opening at their opening values, which fit into 64 bits, with no record
 pub record IsOpened (opening : Opening) (objects : List Ob) (values : List ℤ) (lists : List (List Record)) : Type 0 where
   pub named : objects ≡ map (λ (pair : Ob × ℤ). pair.0) opening
   pub valued : values ≡ map (λ (pair : Ob × ℤ). pair.1) opening
