@@ -20,10 +20,11 @@ pub record Descriptor : Type 0 where
   pub ops : OpSet
   pub is_open : Bool
 
--- the permit that names its taker, and the one to anybody
+-- the permit that names its taker
 abbrev pub named_permit : ℕ → ℕ → ObSet → OpSet → Descriptor
 named_permit giver taker objects ops = record { giver = giver; taker = taker; objects = objects; ops = ops; is_open = false }
 
+-- the permit to anybody
 abbrev pub open_permit : ℕ → ObSet → OpSet → Descriptor
 open_permit giver objects ops = record { giver = giver; taker = giver; objects = objects; ops = ops; is_open = true }
 
@@ -67,7 +68,7 @@ opens_on x op d = d.is_open && includes x op d
 unfoldable pub lets : ℕ → ℕ → ℕ → Op → Descriptor → Bool
 lets giver taker x op d = d.giver == giver && d.taker == taker && covers x op d
 
--- whether a descriptor that stands lets the taker do op on x
+-- whether a descriptor that stands is of this giver for this taker, and covers op on x
 unfoldable pub one_covers : List Descriptor → ℕ → ℕ → ℕ → Op → Bool
 one_covers descriptors giver taker x op = list_any (lets giver taker x op) descriptors
 
@@ -75,7 +76,7 @@ one_covers descriptors giver taker x op = list_any (lets giver taker x op) descr
 unfoldable pub lets_all : ℕ → ℕ → Op → Descriptor → Bool
 lets_all giver x op d = d.giver == giver && opens_on x op d
 
--- whether a descriptor that stands lets anybody do op on x
+-- whether a descriptor that stands is of this giver, and opens x for op
 unfoldable pub opens : List Descriptor → ℕ → ℕ → Op → Bool
 opens descriptors giver x op = list_any (lets_all giver x op) descriptors
 

@@ -18,6 +18,7 @@ pub record Parts : Type 0 where
   pub across : Chained
   pub seats : Seated
 
+-- the parts, made of these
 abbrev pub parts : Slab Descriptor → Chained → Chained → Seated → Parts
 parts permits along across seats = record { permits = permits; along = along; across = across; seats = seats }
 
@@ -47,7 +48,8 @@ IsNamed name_of permits table seats =
 abbrev pub IsWithin : Chained → Chained → Seated → ℕ → Type 0
 IsWithin along across seats size = (c : ℕ) → is_some (seat seats c) ≡ true → (c < length along.chains) × (c < length across.chains) × (c < size)
 
--- a permit's homes are the seats of its giver and its taker, and no permit stands twice
+-- exactly the permits have homes, a permit's homes are the seats of its giver and its taker, no permit stands twice, and each
+-- seat that is taken has its chains and its mark
 pub record IsValid (p : Parts) (size : ℕ) : Type 0 where
   pub seated : IsSeated p
   pub given : IsNamed (λ (d : Descriptor). d.giver) p.permits p.along p.seats
@@ -69,7 +71,7 @@ permits_in table = descriptors_of table.permits.items
 abbrev pub used_in : PermitTable → ℕ → Bool
 used_in table c = is_used table.permits.rows table.permits.columns c
 
--- who gives or takes something has the seat of its row and column, and each seat that is taken has room
+-- who gives or takes something has the seat of its row and column, no permit stands twice, and each seat that is taken has room
 abbrev pub IsTied : PermitTable → Seated → Type 0
 IsTied table seats = IsValid (parts_of table.permits seats) table.size
 
