@@ -62,7 +62,7 @@ carries table t x op = list_any (λ (who : Enrolled). who.name == t && list_any 
 unfoldable pub is_free_in : LockTable → (ℕ → Bool) → ℕ → ℕ → Op → Bool
 is_free_in table allows t x op = not (list_any (λ (who : Enrolled). blocks allows t x op who.name who.locks) table)
 
--- who waits for x, if this is a pending on x
+-- t with the operation that it asked for, if this is its pending request and it is for x
 unfoldable pub waiting_at : ℕ → ℕ → PendingRequest → List (Txn × Op)
 waiting_at x t None = []
 waiting_at x t (Some request) = cond (request.0.0 == x) ((record { 0 = t }, request.1) ∷ []) []

@@ -7,7 +7,7 @@ use Rattle.asset_lock_store.specs.Stored.{Stored, locks_at}
 use Rattle.asset_locks.specs.LockTable.{Enrolled, LockTable, PendingRequest, enrolled_in}
 
 -- ---- the rows of the table
--- the name of one who has a seat
+-- the name of one who has a seat; 0 for nobody
 unfoldable pub name_or_zero : Option Txn → ℕ
 name_or_zero None = 0
 name_or_zero (Some t) = t.0
@@ -31,7 +31,7 @@ pub record HasPlaces (pending : List PendingRequest) (order : Chained) (store : 
   pub chain : 0 < length order.chains
   pub key : c < length order.homes
 
--- who is enrolled has a seat, who has locks is enrolled, and each seat that is taken has its places
+-- who is enrolled has a seat, nobody has two seats, who has locks is enrolled, and each seat that is taken has its places
 pub record AreSeated (seats : Seated) (pending : List PendingRequest) (order : Chained) (store : Stored) : Type 0 where
   -- those who are enrolled are in one chain
   pub enrolled : (c d : ℕ) → home_of order c ≡ Some d → (d ≡ 0) × (is_some (seat seats c) ≡ true)
@@ -61,7 +61,7 @@ pub record LockParts : Type 0 where
 abbrev pub rows_in : Seated → LockParts → LockTable
 rows_in seats table = rows_of seats table.pending table.order table.store
 
--- who is enrolled has a seat, who has locks is enrolled, and each seat that is taken has room
+-- who is enrolled has a seat, nobody has two seats, who has locks is enrolled, and each seat that is taken has room
 abbrev pub IsTied : LockParts → Seated → Type 0
 IsTied table seats = AreSeated seats table.pending table.order table.store
 
