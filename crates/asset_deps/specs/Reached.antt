@@ -1,4 +1,5 @@
--- What a search goes along: dependencies of some kinds from source to dependent, and group commits both ways.
+-- What a search goes along: dependencies of some kinds from source to dependent, and all group commits from dependent to
+-- source. So a group commit leads both ways if it is of one of the kinds; for `Order`, which leaves it out, it leads back alone.
 use Rattle.std.specs.Prelude.{ℕ, Bool, true, false, ◌==◌, ◌&&◌, List, ◌++◌, map, filter}
 use Rattle.std.specs.List.{list_any}
 use Rattle.slab.specs.Slab.{Slab}

@@ -33,6 +33,7 @@ pub record Parts : Type 0 where
   pub across : Chained
   pub seats : Seated
 
+-- the parts, made of these
 abbrev pub parts : Slab Dependency → Chained → Chained → Seated → Parts
 parts links along across seats = record { links = links; along = along; across = across; seats = seats }
 
@@ -54,8 +55,8 @@ IsWithin along across seats size room = (c : ℕ) → is_some (seat seats c) ≡
 abbrev pub AreTaken : Seated → List ℕ → Type 0
 AreTaken seats nodes = (c : ℕ) → lists nodes c ≡ true → is_some (seat seats c) ≡ true
 
--- a dependency's homes are the seats of its source and its dependent, each seat that is taken has its chains and its marks,
--- none is marked that is not taken, and no dependency is stored twice
+-- exactly the dependencies have homes, a dependency's homes are the seats of its source and its dependent, each seat that is
+-- taken has its chains and its marks, none is marked that is not taken, and no dependency is stored twice
 pub record IsValid (p : Parts) (size : ℕ) (marked : Met) : Type 0 where
   pub placed : IsPlaced p.links p.along p.across
   pub sources : IsNamed (λ (d : Dependency). d.source) p.links p.along p.seats
@@ -79,8 +80,8 @@ dependencies_in table = dependencies_of table.links.items
 abbrev pub marked_in : Seated → LinkTable → List ℕ
 marked_in seats table = marked_of seats table.marked.nodes
 
--- who depends or is depended on has the seat of its row and column, who is marked has a seat, and each seat that is taken
--- has room
+-- who depends or is depended on has the seat of its row and column, who is marked has a seat, no dependency is stored twice,
+-- and each seat that is taken has room
 abbrev pub IsTied : LinkTable → Seated → Type 0
 IsTied table seats = IsValid (parts table.links.items table.links.rows table.links.columns seats) table.size table.marked
 

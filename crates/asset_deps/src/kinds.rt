@@ -11,7 +11,7 @@ pub(crate) enum Kinds {
     Class,
     /// Group commits and abort dependencies, along which an abort spreads.
     Dooming,
-    /// Commit and abort dependencies, which say who ends first.
+    /// Commit and abort dependencies, whose dependents commit only after their sources have ended.
     Order,
     /// All kinds.
     All,
