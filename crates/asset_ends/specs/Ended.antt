@@ -29,15 +29,15 @@ locks_of tables = rows_in tables.seats tables.locks
 abbrev pub marked_by : Parts → List ℕ
 marked_by tables = marked_in tables.seats tables.deps
 
--- the descriptors of those who pass the test have gone
+-- no descriptor of one who passes the test, as the giver or the taker, covers anything any more; the others cover what they did
 abbrev pub IsDropped : (ℕ → Bool) → List Descriptor → List Descriptor → Type 0
 IsDropped test before later = (u n x : ℕ) (op : Op) → one_covers later u n x op ≡ (one_covers before u n x op && not (test u) && not (test n))
 
--- those who pass the test open nothing any more
+-- those who pass the test open nothing any more, and the others open what they did
 abbrev pub IsClosed : (ℕ → Bool) → List Descriptor → List Descriptor → Type 0
 IsClosed test before later = (u x : ℕ) (op : Op) → opens later u x op ≡ (opens before u x op && not (test u))
 
--- the dependencies of those who pass the test have gone
+-- the dependencies of those who pass the test, and on them, have gone, and the others stand
 abbrev pub AreLeft : (ℕ → Bool) → List Dependency → List Dependency → Type 0
 AreLeft test before later = (k : Kind) (u v : ℕ) → has_arrow (arrows_of k later) u v ≡ (has_arrow (arrows_of k before) u v && not (test u) && not (test v))
 

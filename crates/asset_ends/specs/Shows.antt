@@ -52,6 +52,7 @@ pub record TableValues : Type 0 where
   pub permits : List Descriptor
   pub deps : List Dependency
 
+-- what the tables hold, made of these
 abbrev pub table_values : List NamedTransRow → Cells → Locks.LockTable → List Descriptor → List Dependency → TableValues
 table_values rows objects locks permits deps = record { rows = rows; objects = objects; locks = locks; permits = permits; deps = deps }
 

@@ -9,8 +9,8 @@ use Rattle.asset_trans.specs.TransRows.{NamedTransRow}
 use Rattle.asset_ends.specs.declared.parts.Parts.{Parts}
 use Rattle.asset_ends.specs.Standing.{AreEnrolled, LiveAreSeated}
 
--- writes, locks, permits and dependencies are those of transactions that have seats, and the locks know each object by the number
--- that it has among the objects
+-- The updates of somebody, the locks, the permits and the dependencies are those of transactions that have seats. The locks
+-- know each object by the number that it has among the objects.
 pub record AreTied (written : Objects.ObjectParts) (table : Locks.LockParts) (given : Permits.PermitTable) (links : Deps.LinkTable) (seating : Seated) : Type 0 where
   pub objects : Objects.IsTied written seating
   pub locks : Locks.IsTied table seating
