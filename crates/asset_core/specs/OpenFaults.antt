@@ -10,7 +10,7 @@ use Rattle.asset_core.specs.declared.open_fault.OpenFault.TheVariants.{BadCapaci
 abbrev pub IsCapacity : ℕ → Type 0
 IsCapacity capacity = (1 ≤ capacity) × (capacity ≤ 1000000)
 
--- the capacity is one, and no object is given twice
+-- the capacity is from 1 to 1,000,000, and no object is given twice
 abbrev pub MayOpen : Opening → ℕ → Type 0
 MayOpen opening capacity = IsCapacity capacity × HasNoDouble (objects_of opening)
 
