@@ -5,7 +5,7 @@ use Rattle.asset_names.specs.declared.names.Txn.{Txn}
 use Rattle.asset_chains.specs.Chained.{Chained, chain_of, home_of, last_of}
 use Rattle.asset_seats.specs.Seated.{Seated}
 
--- the bucket of a name among so many
+-- the bucket of a name among `buckets` buckets
 unfoldable pub bucket_in : ℕ → ℕ → ℕ
 bucket_in t buckets = ((t * 0x9E37_79B9_7F4A_7C15) % 0x1_0000_0000_0000_0000 / 0x1_0000_0000) % buckets
 
