@@ -25,14 +25,17 @@ names_of rows = map (λ (entry : NamedTransRow). entry.0.0) rows
 unfoldable pub row_in : List NamedTransRow → ℕ → Option TransRow
 row_in rows t = lookup (λ (name : Txn). t == name.0) rows
 
+-- the status in a row; Unknown if there is no row
 unfoldable pub status_or_unknown : Option TransRow → Status
 status_or_unknown None = Status'.Unknown
 status_or_unknown (Some row) = row.status
 
+-- the parent in a row, if there is a row and it has one
 unfoldable pub parent_or_none : Option TransRow → Option Txn
 parent_or_none None = None
 parent_or_none (Some row) = row.parent
 
+-- the seat in a row; 0 if there is no row
 unfoldable pub seat_or_zero : Option TransRow → ℕ
 seat_or_zero None = 0
 seat_or_zero (Some row) = row.seat
@@ -53,10 +56,11 @@ seat_in rows t = seat_or_zero (row_in rows t)
 unfoldable pub initiate_in : List NamedTransRow → Txn → Option Txn → ℕ → List NamedTransRow
 initiate_in rows t parent seat = rows ++ (t, record { status = Status'.Initiated; parent = parent; seat = seat }) ∷ []
 
--- each transaction that passes the test gets the status
+-- a row with the status, if its transaction passes the test
 unfoldable pub set_entry : (ℕ → Bool) → Status → NamedTransRow → NamedTransRow
 set_entry test status entry = cond (test entry.0.0) (entry.0, record entry.1 { status = status }) entry
 
+-- each transaction that passes the test gets the status
 unfoldable pub set_in : (ℕ → Bool) → Status → List NamedTransRow → List NamedTransRow
 set_in test status rows = map (set_entry test status) rows
 
