@@ -47,7 +47,8 @@ flags_with labels flags a = map (λ k. slice_index labels k == a || flag_at flag
 unfoldable pub with_flag : NamesInGroups → ℕ → NamesInGroups
 with_flag groups i = record { names = groups.names; labels = groups.labels; flags = flags_with groups.labels groups.flags (slice_index groups.labels i); room = groups.room }
 
--- No name is there twice. A label is the first node of its group, and nodes of one group have one flag. A node and 1 take 32 bits.
+-- No name is there twice, and each has a label and a flag. A label is the first node of its group, and nodes of one group have
+-- one flag. There are no more names than there is room for, and the room and 1 fit into 32 bits.
 pub record IsConsistent (groups : NamesInGroups) : Type 0 where
   pub different : (i j : ℕ) → i < length groups.names → j < length groups.names → slice_index groups.names i ≡ slice_index groups.names j → i ≡ j
   pub each_has_label : length groups.labels ≡ length groups.names
