@@ -42,26 +42,30 @@ unfoldable pub applied : List Entry → List Step
 applied [] = []
 applied (entry ∷ older) = cond (takes_effect entry.0 entry.1) (entry.0 ∷ applied older) (applied older)
 
--- the transaction that the step initiates, begins or completes
+-- the transaction that the step initiates, if it initiates one
 unfoldable pub initiated_by : Step → List ℕ
 initiated_by (Initiate t parent) = t.0 ∷ []
 initiated_by step = []
 
+-- the transaction that the step begins, if it begins one
 unfoldable pub begun_by : Step → List ℕ
 begun_by (Begin t) = t.0 ∷ []
 begun_by step = []
 
+-- the transaction that the step completes, if it completes one
 unfoldable pub completed_by : Step → List ℕ
 completed_by (Complete t) = t.0 ∷ []
 completed_by step = []
 
--- the transactions that were initiated, begun or completed
+-- the transactions that were initiated, the last one first
 unfoldable pub initiated : List Step → List ℕ
 initiated steps = flat_map initiated_by steps
 
+-- the transactions that were begun, the last one first
 unfoldable pub begun : List Step → List ℕ
 begun steps = flat_map begun_by steps
 
+-- the transactions that were completed, the last one first
 unfoldable pub completed : List Step → List ℕ
 completed steps = flat_map completed_by steps
 
