@@ -36,7 +36,7 @@ pub(crate) fn missing_at(obs: &ObSet, reply: Reply) -> u8
     }
 }
 
-/// Returns the object at the index of a set, and the default object past the end.
+/// Returns the object at the index of a list; object 0 past its end, and for the set of all objects.
 #[tactic(auto, unfolding(crate::specs::Stored::object_at))]
 pub(crate) fn object_at(obs: &ObSet, index: u8) -> Ob
     ensures { result ≡ object_at obs.now index }

@@ -4,7 +4,8 @@ use asset_names::{Ob, ObList, ObSet};
 use std::alloc::{AllocError, Global};
 use std::marker::Model;
 
-/// Where the objects of a set are stored: so many from a position on. Every object is stored as none.
+/// Where the objects of a set are stored: `count` of them from the position `start` on. The set of all objects is stored as
+/// none.
 #[derive(Clone, Copy)]
 pub(crate) struct Stretch {
     start: usize,
@@ -40,7 +41,7 @@ impl StoredSets {
     ghost use Rattle.asset_names.specs.Sets.{numbers};
     ghost use Rattle.asset_entries.specs.StoredSets.{StoredSet, set_or_all, stored_set};
 
-    /// Returns no sets, with room for so many. It takes memory for as many lists of 16 objects, of which no more is used
+    /// Returns no sets, with room for `room` of them. It takes memory for as many lists of 16 objects, of which no more is used
     /// than the sets list.
     pub(crate) fn with_room(alloc: Global, room: usize) -> Result<StoredSets, AllocError>
         ensures sets { IfOk result (λ sets. sets.sets ≡ []) }
