@@ -1,5 +1,5 @@
 -- What a search goes along: dependencies of some kinds from source to dependent, and all group commits from dependent to
--- source. So a group commit leads both ways if it is of one of the kinds; for `Order`, which leaves it out, it leads back alone.
+-- source. So a group commit leads both ways if it is of one of the kinds. For `Order`, which leaves it out, it leads back only.
 use Rattle.std.specs.Prelude.{ℕ, Bool, true, false, ◌==◌, ◌&&◌, List, ◌++◌, map, filter}
 use Rattle.std.specs.List.{list_any}
 use Rattle.slab.specs.Slab.{Slab}

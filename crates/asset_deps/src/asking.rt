@@ -125,8 +125,8 @@ impl SeatedDeps {
         leads_outside(&back, &self.marks)
     }
 
-    /// Returns whether dependencies of these kinds, and group commits to and fro, lead from the one to the other. Nothing
-    /// changes.
+    /// Returns whether dependencies lead from the one to the other: those of these kinds from source to dependent, and all
+    /// group commits back. Nothing changes.
     fn is_reached(&mut self, seats: &Seats, kinds: Kinds, a: Sitter, b: Sitter) -> bool
         requires tied { IsTied self.old seats.now }
         requires source { HasSeat seats.now a }

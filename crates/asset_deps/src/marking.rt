@@ -42,7 +42,8 @@ impl SeatedDeps {
         self.mark(seats, Kinds::Dooming, t);
     }
 
-    /// Marks those to whom dependencies of these kinds, and group commits to and fro, lead.
+    /// Marks those to whom dependencies lead from the transaction, and nobody else: those of these kinds from source to
+    /// dependent, and all group commits back. The transaction is marked too.
     fn mark(&mut self, seats: &Seats, kinds: Kinds, t: Sitter)
         requires tied { IsTied self.old seats.now }
         requires sits { HasSeat seats.now t }

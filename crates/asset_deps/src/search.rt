@@ -5,8 +5,8 @@ use crate::link::Link;
 use asset_chains::{Crossed, Side};
 use asset_marks::{Arrows, Marks, Way, expand_along};
 
-/// Dependencies of some kinds, along which a search goes from the one end to the other, and group commits, along which it
-/// also goes back. The nodes are the seats.
+/// Dependencies of some kinds, along which a search goes from the one end to the other, and all group commits, along which it
+/// goes back. The nodes are the seats.
 #[derive(Clone, Copy)]
 pub(crate) struct Search<'a> {
     pub links: &'a Crossed<Link>,
