@@ -63,7 +63,7 @@ impl Tables {
     ghost use Rattle.asset_ends.specs.Shown.{ShowsWith};
     ghost use Rattle.asset_ends.specs.Standing.{SameViewInAnyOrder};
 
-    /// Hands over to the taker what the giver did on the objects: its writes and its locks there are the taker's, and the
+    /// Hands over to the taker what the giver did on the objects: its updates and its locks there are the taker's, and the
     /// taker gives a copy of each of the giver's permits on each object on which a lock moved. Both are live.
     ///
     /// If memory runs out, nothing that any call shows has changed. The cost is that of the giver's locks and update

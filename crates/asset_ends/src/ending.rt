@@ -149,7 +149,7 @@ impl Tables {
         )
     }
 
-    /// Commits a live transaction with its whole class, if the class may commit: their writes stand for good, and their
+    /// Commits a live transaction with its whole class, if the class may commit: their updates stand for good, and their
     /// locks, permits and dependencies go. Otherwise nothing changes. The cost is that of what goes. It takes no memory.
     pub fn try_commit(&mut self, t: Txn) -> Tried
         requires live { is_live_status (status_in self.old.trans t.0) ≡ true }
@@ -223,7 +223,7 @@ impl Tables {
         }
     }
 
-    /// Aborts a live transaction, with its class and all to whom abort dependencies lead: their writes are undone, and
+    /// Aborts a live transaction, with its class and all to whom abort dependencies lead: their updates are undone, and
     /// their locks, permits and dependencies go. The cost is that of what goes. It takes no memory.
     pub fn abort(&mut self, t: Txn)
         requires live { is_live_status (status_in self.old.trans t.0) ≡ true }
