@@ -9,7 +9,7 @@ use crate::room::add_chains;
 use asset_chains::Chains;
 use asset_names::{NoMemory, Txn};
 
-/// Returns the bucket of a transaction among so many.
+/// Returns the bucket of a transaction among `buckets` buckets.
 pub(crate) fn bucket_of(t: Txn, buckets: usize) -> usize
     requires { 0 < buckets }
     ensures bucket { result ≡ bucket_in t.0 buckets }
@@ -68,7 +68,7 @@ fn rebucket(name: Txn, chains: &mut Chains, buckets: usize, key: usize)
     }
 }
 
-/// Moves each seat that somebody has to its bucket among so many.
+/// Moves each seat that somebody has to the bucket of its name among `buckets` buckets.
 fn spread(names: &[Txn], chains: &mut Chains, buckets: usize)
     requires named { length chains.old.homes ≤ length names.now }
     requires ready { 0 < buckets }
@@ -108,7 +108,7 @@ pub(crate) fn widen(names: &[Txn], chains: &mut Chains, buckets: &mut usize) -> 
     Ok(())
 }
 
-/// Makes a place for one more name than so many. If memory runs out, the names stay.
+/// Makes a place for one more name than `count`. If memory runs out, the names stay.
 pub(crate) fn add_name(names: &mut Vec<Txn>, count: usize) -> Result<(), NoMemory>
     requires { count ≤ length names.old.items }
     ensures there { OnOk result (count < length names.new.items) }
