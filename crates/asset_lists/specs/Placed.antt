@@ -48,7 +48,7 @@ seen rows places = record {
   parts = map (λ (place : Place). part_in (row_at rows) place.home place.position) places;
 }
 
--- each key of a list has its position as its place, and stands at its place
+-- each key of a list has that list and its position there as its place, and a key with a list stands at its place
 pub record IsPlaced (row : ℕ → List ℕ) (place : ℕ → Place) : Type 0 where
   pub listed : (x q k : ℕ) → IsAt (row x) q k → place k ≡ record { home = suc x; position = q }
   pub placed : (k x : ℕ) → (place k).home ≡ suc x → IsAt (row x) (place k).position k
