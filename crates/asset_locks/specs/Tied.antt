@@ -40,7 +40,7 @@ pub record AreSeated (seats : Seated) (pending : List PendingRequest) (order : C
   pub places : (c : ℕ) (t : Txn) → seat seats c ≡ Some t → HasPlaces pending order store c
   pub holders : (c k : ℕ) → home_of store.by_owner k ≡ Some c → home_of order c ≡ Some 0
 
--- more places, and each request and each enrolment where it was
+-- no fewer places, chains and keys, and each request and each enrolment where it was
 pub record IsRoomMade (pending : List PendingRequest) (order : Chained) (longer : List PendingRequest) (grown : Chained) : Type 0 where
   pub requests : (c : ℕ) → pending_at longer c ≡ pending_at pending c
   pub places : length pending ≤ length longer
