@@ -33,7 +33,7 @@ unfoldable pub request_after : Step → Ob → Op → Outcome → Option (Ob × 
 request_after step x op Wait before = Some (x, op)
 request_after step x op (Answer reply) before = cond (takes_effect step reply) None before
 
--- an operation changes the pending request of its own transaction, and no other step changes one
+-- an operation may change the pending request of its own transaction, as `request_after` says, and no other step changes one
 unfoldable pub asker_after : Step → Outcome → Pending → Pending
 asker_after (Read t x) outcome asker = cond (asker.name == t.0) (record asker { request = request_after (Read t x) x Op'.Read outcome asker.request }) asker
 asker_after (Write t x v) outcome asker = cond (asker.name == t.0) (record asker { request = request_after (Write t x v) x Op'.Write outcome asker.request }) asker
