@@ -74,7 +74,7 @@ pub record Loses {T : Type 0} (keys : List ℕ) (old new : Crossed T) : Type 0 w
   pub many : (side : Side) → length (lines side new).chains ≡ length (lines side old).chains
   pub len : slab_len new.items + length keys ≡ slab_len old.items
 
--- there are more rows or columns, or more room, and nothing else changed
+-- there may be more rows or columns, and the items with their homes and their order are as before; of room it says nothing
 pub record IsGrown {T : Type 0} (old new : Crossed T) : Type 0 where
   pub items : new.items.slots ≡ old.items.slots
   pub chains : (side : Side) (c : ℕ) → chain_of (lines side new) c ≡ chain_of (lines side old) c
