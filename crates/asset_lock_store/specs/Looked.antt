@@ -34,13 +34,15 @@ key_named store seats t k = is_named t (name_of seats (home_of store.by_owner k)
 unfoldable pub key_conflicts : Stored → Seated → ℕ → Op → ℕ → Bool
 key_conflicts store seats t op k = name_conflicts t op (lock_at store.locks k) (name_of seats (home_of store.by_owner k))
 
--- of the lock at a key, a look that nobody blocked notes whether it is t's, and whether it is another's that conflicts
+-- a look that nobody blocked: the lock at the key does not block; it is not t's if no own lock was noted, and it is no other's
+-- that conflicts if no conflict was noted
 pub record IsSeen (store : Stored) (seats : Seated) (allows : ℕ → Bool) (t : ℕ) (op : Op) (look : Look) (k : ℕ) : Type 0 where
   pub free : key_blocks store seats allows t op k ≡ false
   pub own : look.own ≡ None → key_named store seats t k ≡ false
   pub alone : look.conflicts ≡ false → key_conflicts store seats t op k ≡ false
 
--- this is what a look at these locks finds: an own lock, whether one of them blocks, and else what it noted of each
+-- This is what a look at these locks finds: an own lock, whether one of them blocks, and, if none blocks, what it noted of each.
+-- Without a note of conflicts there is none. A look may note conflicts where there is none, which costs time alone.
 pub record IsLook (store : Stored) (seats : Seated) (allows : ℕ → Bool) (t : ℕ) (op : Op) (looked : ℕ → Type 0) (look : Look) : Type 0 where
   pub own : IfSome look.own (λ k. looked k × (key_named store seats t k ≡ true))
   pub blocked : look.blocked ≡ true → (k : ℕ) × looked k × (key_blocks store seats allows t op k ≡ true)
@@ -61,8 +63,8 @@ pub record IsLookedAt (store : Stored) (x : ℕ) (op : Op) (k : ℕ) : Type 0 wh
   pub on : is_on x (lock_at store.locks k) ≡ true
   pub at : is_looked_at op (lock_at store.locks k) ≡ true
 
--- what a grant of op on x to a seat has to know: the lock of the seat on x, if a look for op is at it, and whether a
--- lock of another on x conflicts with op
+-- what a grant of op on x to a seat has to know: the lock of the seat on x, if a look for op is at it, and, unless conflicts are
+-- noted, that no lock of another on x conflicts with op
 pub record IsNoted (store : Stored) (c x : ℕ) (op : Op) (look : Look) : Type 0 where
   pub own : IfSome look.own (λ k. (home_of store.by_owner k ≡ Some c) × (is_on x (lock_at store.locks k) ≡ true))
   pub none : IfNone look.own ((k : ℕ) → home_of store.by_owner k ≡ Some c → is_on x (lock_at store.locks k) ≡ true → is_looked_at op (lock_at store.locks k) ≡ false)

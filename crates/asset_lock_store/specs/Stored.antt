@@ -15,6 +15,7 @@ use Rattle.asset_lock_store.specs.declared.lock.Lock.{Lock}
 use Rattle.asset_names.specs.OpSets.{OpSet}
 use Rattle.asset_lock_store.specs.LockRules.{suspended, with_moved, is_some_op, both_conflict, one_conflicts, excludes}
 
+-- the locks of a table, and who has them
 pub record Stored : Type 0 where
   -- the locks, by key
   pub locks : Slab Lock
@@ -85,7 +86,7 @@ pub record IsStored (store : Stored) : Type 0 where
   pub apart : (j k c d : ℕ) → home_of store.by_owner j ≡ Some c → home_of store.by_owner k ≡ Some d → (c ≡ d → ⊥) → (lock_at store.locks j).object.0 ≡ (lock_at store.locks k).object.0
       → both_conflict (lock_at store.locks j).ops (lock_at store.locks k).ops ≡ true → ((lock_at store.locks j).granted && (lock_at store.locks k).granted) ≡ false
 
--- whether the lock at a key belongs to another than t, who does not allow t, and conflicts with op
+-- whether a lock conflicts with op and is another's than t's, who does not allow t, by who has it; nobody's lock does not block
 unfoldable pub name_blocks : (ℕ → Bool) → ℕ → Op → Lock → Option Txn → Bool
 name_blocks allows t op lock None = false
 name_blocks allows t op lock (Some u) = not (u.0 == t) && one_conflicts lock.ops op && not (allows u.0)
@@ -95,16 +96,17 @@ unfoldable pub name_of : Seated → Option ℕ → Option Txn
 name_of seats None = None
 name_of seats (Some c) = seat seats c
 
+-- whether the lock at a key blocks t's op: it conflicts with op and is another's than t's, who does not allow t
 unfoldable pub key_blocks : Stored → Seated → (ℕ → Bool) → ℕ → Op → ℕ → Bool
 key_blocks store seats allows t op k = name_blocks allows t op (lock_at store.locks k) (name_of seats (home_of store.by_owner k))
 
--- whether the lock at a key is in a chain of another than c
+-- whether a key with this home is another's than c's: it is in the chain of another seat, or in no chain
 unfoldable pub is_others : ℕ → Option ℕ → Bool
 is_others c None = true
 is_others c (Some d) = not (d == c)
 
 -- ---- what a call of the store leaves
--- more room, and each lock where it was
+-- there may be more seats, and each lock is where it was
 pub record IsGrown (old new : Stored) : Type 0 where
   pub locks : (k : ℕ) → get new.locks k ≡ get old.locks k
   pub chains : (c : ℕ) → chain_of new.by_owner c ≡ chain_of old.by_owner c
