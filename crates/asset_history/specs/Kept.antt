@@ -36,8 +36,8 @@ SayUsers groups links all i found = SayAll groups links all (opens (applied (bef
 abbrev pub Respect : NamesInGroups → List Arrow → Type 0
 Respect groups arrows = (u v : ℕ) → has_arrow arrows u v ≡ true → (i j : ℕ) → i < length groups.names → j < length groups.names → name_at groups i ≡ u → name_at groups j ≡ v → label_at groups i ≡ label_at groups j
 
--- The names of all entries are there, in groups that are those of the older entries with the two of the newest one joined, and that are
--- flagged by the older ones.
+-- The names of all entries are there. Their groups join what the joins of the older entries join, and the two of the newest one,
+-- and nobody who is not of one group by all entries; they are flagged by the older entries.
 pub record AreNamed (all older : List Entry) (pair : Arrow) (groups : NamesInGroups) : Type 0 where
   pub names : groups.names ≡ names_of all
   pub of_entries : AreOfEntries all groups
@@ -45,7 +45,7 @@ pub record AreNamed (all older : List Entry) (pair : Arrow) (groups : NamesInGro
   pub joined_now : Respect groups (pair ∷ [])
   pub flagged : AreFlagged older groups
 
--- the two transactions that the step at the index acts on
+-- the two transactions that the entry's step acts on, and 0 twice if there is no entry
 unfoldable pub pair_of : Option Entry → Arrow
 pair_of (Some entry) = ((actor entry.0).0, (partner entry.0).0)
 pair_of None = (0, 0)
@@ -57,9 +57,9 @@ pair_at all i = pair_of (slice_get (reverse all) i)
 abbrev pub leaves_groups_at : Option Entry → Bool
 leaves_groups_at entry = is_of_known_at entry && not (is_some (commit_at entry))
 
--- Users are kept from the first open permit on, which is when an object is opened: what is kept says who uses objects by the
--- entries so far, which are among all. Until then there is room for the users of each object, and no link. An entry takes 16 links
--- at most.
+-- Once `is_opened` holds, what is kept says who uses objects by the entries so far, which are among all. Until then no object
+-- is opened, there is room for the users of each object, and nobody and no link is kept. That it does not hold before the first
+-- open permit is not said: it costs time alone. An entry takes 16 links at most.
 pub record AreKept (opening : Opening) (all entries : List Entry) (kept : KeptGroups) : Type 0 where
   pub closed : kept.is_opened ≡ false → (a x : ℕ) → opens (applied entries) a x ≡ false
   pub room : kept.is_opened ≡ false → length opening ≤ spare kept.users.found

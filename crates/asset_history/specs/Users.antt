@@ -27,8 +27,9 @@ unfoldable pub is_known : NamesInGroups → List Link → ℕ → ℕ → ℕ �
 is_known groups links node chain other =
     nat_eq (label_at groups node) (label_at groups other) || (nat_lt 0 chain && nat_eq (label_at groups (link_at links (chain - 1)).node) (label_at groups other))
 
--- Only openers use the object, or only operators: `mine` are they, among all of the history, and `others` would be the rest. The
--- node and those in the chain are of some of them, and each of them is of the group of one of these.
+-- The users of the object so far are openers alone, or operators alone: `mine` are they, `all_mine` are those of all entries,
+-- and of the other kind, `others`, there is nobody so far. The node and those in the chain are names of `all_mine`, and each of
+-- `mine` is of the group of one of these nodes.
 pub record AreOfOneSide (groups : NamesInGroups) (links : List Link) (mine others all_mine : ℕ → Bool) (node chain : ℕ) : Type 0 where
   pub within : node < length groups.names
   pub user : all_mine (name_at groups node) ≡ true
@@ -84,5 +85,6 @@ SayAll groups links all openers operators found = (x : ℕ) → AreSaid groups l
 abbrev pub AreAmong : (ℕ → Bool) → (ℕ → Bool) → Type 0
 AreAmong some all = (u : ℕ) → some u ≡ true → all u ≡ true
 
+-- users of each object who are among those of all entries
 abbrev pub AreAmongAll : (ℕ → ℕ → Bool) → (ℕ → ℕ → Bool) → Type 0
 AreAmongAll some all = (u x : ℕ) → some u x ≡ true → all u x ≡ true
