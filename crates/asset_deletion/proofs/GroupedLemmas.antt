@@ -1,9 +1,10 @@
 -- What the groups of a history are, in the words of a reader.
 use Rattle.std.proofs.Common.{◌≡◌, ℕ, ◌<◌, Bool, true, false, cond, eqb, List, [], ◌∷◌, ◌++◌, length, get_or, refl, sym, ap, subst, ◌∙◌, arith, suc, zero, inl, inr}
 use Rattle.std.proofs.lemmas.Bool.{cases_eq, eqb-true}
+use Rattle.std.proofs.lemmas.List.{get_or-map, length-map}
 use Rattle.asset_names.specs.Arrows.{lists}
 use Rattle.asset_names.specs.Steps.{Entry}
-use Rattle.asset_names.specs.Groups.{actor, partner, same_group}
+use Rattle.asset_names.specs.Groups.{actor, partner, same_group, dead}
 use Rattle.asset_names.specs.Orderly.{Distinct}
 use Rattle.asset_names.proofs.ListLemmas.{distinct_pushed}
 use Rattle.asset_deletion.specs.Numbered.{groups_before, group_numbers, group_count}
@@ -67,6 +68,8 @@ groups_are entries = record {
   same = (entries_numbered entries).same;
   occurs = subst (λ (ls : List ℕ). (g : ℕ) → g < groups_before ls (length ls) → (k : ℕ) × (k < length (names_of entries)) × (get_or (group_numbers ls) k 0 ≡ g)) is occurs;
   rising = subst (λ (ls : List ℕ). (i j : ℕ) → i < j → j < length (names_of entries) → IsFirst (group_numbers ls) i → IsFirst (group_numbers ls) j → get_or (group_numbers ls) i 0 < get_or (group_numbers ls) j 0) is rising;
+  marks = length-map (names_of entries) (dead entries);
+  marked = λ k below. get_or-map (dead entries) (names_of entries) k 0 false below;
 } where
   labels : List ℕ
   labels = (labels_exist entries).0

@@ -24,7 +24,7 @@ keeps groups going n = not (dead_at going (number_in groups n))
 abbrev pub AreBelow : Grouping → ℕ → Type 0
 AreBelow groups bound = (n g : ℕ) → number_in groups n ≡ Some g → g < bound
 
--- the marks say who stays if these transactions are chosen
+-- there are transactions for which the marks say, of each name of the entries, whether it stays if they are chosen
 pub record SaysWhoStays (entries : List Entry) (groups : Grouping) (going : List Bool) : Type 0 where
   pub chosen : List ℕ
   pub exact : (n : ℕ) → lists (names_of entries) n ≡ true → keeps groups going n ≡ stays entries chosen n

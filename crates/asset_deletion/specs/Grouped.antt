@@ -1,8 +1,8 @@
 -- What the groups of a history are, in the words of a reader.
-use Rattle.std.specs.Prelude.{◌≡◌, ◌≢◌, ℕ, ◌<◌, nat_eq, List, length, slice_index}
+use Rattle.std.specs.Prelude.{◌≡◌, ◌≢◌, ℕ, ◌<◌, false, nat_eq, List, length, slice_index, slice_index_or}
 use Rattle.asset_names.specs.Arrows.{lists}
 use Rattle.asset_names.specs.Steps.{Entry}
-use Rattle.asset_names.specs.Groups.{same_group, acted_on}
+use Rattle.asset_names.specs.Groups.{same_group, acted_on, dead}
 use Rattle.asset_names.specs.Orderly.{Distinct}
 use Rattle.asset_deletion.specs.Grouping.{Grouping}
 
@@ -11,8 +11,8 @@ abbrev pub IsFirst : List ℕ → ℕ → Type 0
 IsFirst numbers k = (m : ℕ) → m < k → slice_index numbers m ≢ slice_index numbers k
 
 -- The names are exactly those that some step acts on, each once. Each has a number below the count, and two have one number
--- if they are of one group. Each number below the count is that of some name, and numbers rise with the first names of
--- groups.
+-- exactly if they are of one group. Each number below the count is that of some name, and numbers rise with the first names of
+-- groups. Each name has a mark, which says whether its group is dead.
 pub record AreGroups (entries : List Entry) (groups : Grouping) : Type 0 where
   pub acted_on : (n : ℕ) → lists groups.names n ≡ lists (acted_on entries) n
   pub once : Distinct groups.names
@@ -22,3 +22,5 @@ pub record AreGroups (entries : List Entry) (groups : Grouping) : Type 0 where
       nat_eq (slice_index groups.numbers i) (slice_index groups.numbers j) ≡ same_group entries (slice_index groups.names i) (slice_index groups.names j)
   pub occurs : (g : ℕ) → g < groups.count → (k : ℕ) × (k < length groups.names) × (slice_index groups.numbers k ≡ g)
   pub rising : (i j : ℕ) → i < j → j < length groups.names → IsFirst groups.numbers i → IsFirst groups.numbers j → slice_index groups.numbers i < slice_index groups.numbers j
+  pub marks : length groups.dead ≡ length groups.names
+  pub marked : (k : ℕ) → k < length groups.names → slice_index_or groups.dead k false ≡ dead entries (slice_index groups.names k)

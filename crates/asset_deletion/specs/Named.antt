@@ -2,7 +2,7 @@
 use Rattle.std.specs.Prelude.{◌≡◌, ℕ, ◌<◌, ◌≤◌, Bool, false, nat_eq, List, length, slice_index}
 use Rattle.asset_names.specs.Arrows.{lists}
 
--- Each name's label is the index of the first name that it leads to or comes from, and two names have one label if they
+-- Each name's label is the index of the first name that it leads to or comes from, and two names have one label exactly if they
 -- lead to each other. A name that is not listed leads to itself alone.
 pub record Means (leads : ℕ → ℕ → Bool) (names labels : List ℕ) : Type 0 where
   pub long : length labels ≡ length names
@@ -12,8 +12,8 @@ pub record Means (leads : ℕ → ℕ → Bool) (names labels : List ℕ) : Type
   pub first : (n m : ℕ) → lists names n ≡ false → leads n m ≡ nat_eq n m
   pub second : (n m : ℕ) → lists names m ≡ false → leads n m ≡ nat_eq n m
 
--- Each name has the number of its group, below the count, and two names have one number if they lead to each other.
--- Nothing else leads to a name that is not listed.
+-- Each name has the number of its group, below the count, and two names have one number exactly if they lead to
+-- each other. To a name that is not listed it alone leads.
 pub record IsNumbered (leads : ℕ → ℕ → Bool) (names numbers : List ℕ) (count : ℕ) : Type 0 where
   pub long : length numbers ≡ length names
   pub below : (k : ℕ) → k < length names → slice_index numbers k < count
