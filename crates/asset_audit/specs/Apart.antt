@@ -43,6 +43,6 @@ pub record SharesEarlier (ss : List (List Call)) (place : ℕ) : Type 0 where
 abbrev pub AreGoodAlone : List Entry → List (List Call) → ℕ → Type 0
 AreGoodAlone log ss n = (i : ℕ) (l : List Call) → i < n → slice_get ss i ≡ Some l → AreGoodBelow log [] l (length l)
 
--- not all calls of the list at the place are good, after these earlier lists
+-- if there is a list at the place, not all of its calls are good after these earlier lists; past the end it says nothing
 abbrev pub IsWrongAt : List Entry → List (List Call) → List (List Call) → ℕ → Type 0
 IsWrongAt log earlier ss place = (l : List Call) → slice_get ss place ≡ Some l → ¬ AreGoodBelow log earlier l (length l)

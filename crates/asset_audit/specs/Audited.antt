@@ -6,6 +6,7 @@ use Rattle.asset_names.specs.Steps.{Entry}
 use Rattle.asset_audit.specs.declared.auditing.AuditFault.{AuditFault}
 use Rattle.asset_audit.specs.declared.auditing.AuditFault.TheVariants.{Differs, Missing}
 
+-- a call that was recorded for a session: the number of its entry, the step and the reply
 abbrev pub Call : Type 0
 Call = ℕ × Step × Reply
 
@@ -17,9 +18,11 @@ HasNumber l n = (k : ℕ) × (c : Call) × (slice_get l k ≡ Some c) × (c.0 �
 abbrev pub Rises : List Call → Type 0
 Rises l = (i j : ℕ) (a b : Call) → i < j → slice_get l i ≡ Some a → slice_get l j ≡ Some b → a.0 < b.0
 
+-- in each list the numbers rise
 abbrev pub AllRise : List (List Call) → Type 0
 AllRise ss = (i : ℕ) (l : List Call) → slice_get ss i ≡ Some l → Rises l
 
+-- some list has a call of this number
 abbrev pub AnyHas : List (List Call) → ℕ → Type 0
 AnyHas ss n = (i : ℕ) × (l : List Call) × (slice_get ss i ≡ Some l) × HasNumber l n
 
@@ -27,7 +30,8 @@ AnyHas ss n = (i : ℕ) × (l : List Call) × (slice_get ss i ≡ Some l) × Has
 abbrev pub IsAbove : List Call → ℕ → Type 0
 IsAbove l n = (k : ℕ) (b : Call) → slice_get l k ≡ Some b → b.0 < n
 
--- of a call with those before it in its list, and the lists of earlier sessions: its number is above theirs, its entry is as it says, and no earlier session has it
+-- A call is good after those before it in its list, and after the lists of earlier sessions: its number is above the numbers
+-- before it in its list, the entry of that number is its step with its reply, and no earlier session has the number.
 pub record IsGood (log : List Entry) (earlier : List (List Call)) (before : List Call) (c : Call) : Type 0 where
   pub rises : IsAbove before c.0
   pub entry : slice_get log c.0 ≡ Some (c.1, c.2)
@@ -57,10 +61,14 @@ pub record IsFirstDifference (log : List Entry) (ss : List (List Call)) (session
   pub first : IsFirstWrong log (take session ss) list number
   pub sessions : ListsAreGood log ss session
 
+-- how many calls the lists have
 abbrev pub told_by : List (List Call) → ℕ
 told_by [] = 0
 told_by (l ∷ ls) = length l + told_by ls
 
+-- This is the audit of the lists against a history, oldest entry first. It is fine if all calls are good and there are as many
+-- as entries. Else it names the first call that is not good, by its session and its number; or all calls are good, and there
+-- are not as many as entries.
 abbrev pub IsAudit : List Entry → List (List Call) → Result (Unit {0}) AuditFault → Type 0
 IsAudit log ss (Ok u) = ListsAreGood log ss (length ss) × (told_by ss ≡ length log)
 IsAudit log ss (Err (Differs s n)) = IsFirstDifference log ss s n
