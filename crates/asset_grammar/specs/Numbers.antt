@@ -4,12 +4,12 @@ use Rattle.std.specs.Char.{is_ascii_digit}
 use Rattle.std.specs.List.{list_all}
 use Rattle.std.specs.Str.Parse.{digits_value}
 
--- a text has a first byte, and no zero before another byte
+-- a text has a first byte, and that is no zero unless it is the only one
 unfoldable pub begins_well : List ℕ → Bool
 begins_well [] = false
 begins_well (first ∷ rest) = not (first == 48) || length rest == 0
 
--- a text is a numeral: digits, at least one, and no zero before another digit
+-- a text is a numeral: digits, at least one, and the first is no zero unless it is the only one
 unfoldable pub is_numeral : List ℕ → Bool
 is_numeral [] = false
 is_numeral (first ∷ rest) = list_all is_ascii_digit (first ∷ rest) && (not (first == 48) || length rest == 0)

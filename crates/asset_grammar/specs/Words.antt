@@ -36,7 +36,7 @@ abbrev pub Takes : {A : Type 0} → (List ℕ → Option A) → LineLeft → Opt
 Takes read old None new = taken read old.words ≡ None
 Takes read old (Some x) new = (taken read old.words ≡ Some (x, new.words)) × (new.tail ≡ old.tail)
 
--- no word of the line is left
+-- no word of the line is left, and the text from its end on is as before
 abbrev pub AtEnd : LineLeft → LineLeft → Type 0
 AtEnd old new = (new.words ≡ []) × (new.tail ≡ old.tail)
 
@@ -57,7 +57,7 @@ pub record Ends (text : List ℕ) (size : ℕ) (after : LineLeft) : Type 0 where
   pub words_are : Lacks 32 (take size (first_line text)) → parts 32 (first_line text) ≡ take size (first_line text) ∷ after.words
   pub tail_is : after.tail ≡ line_tail text
 
--- the word at the start of a line goes on after its first `size` bytes
+-- the line goes on after its first `size` bytes, and not with a space: if these are all of one word, the word goes on
 pub record GoesOn (text : List ℕ) (size : ℕ) : Type 0 where
   pub inside : size < length (first_line text)
   pub no_space : get_or (first_line text) size 0 ≡ 32 → ⊥
