@@ -8,7 +8,8 @@ use Rattle.asset_scripts.specs.Device.{DeviceState}
 use Rattle.asset_scripts.specs.Transfers.{IsReadFault, TookPrefix, input_limit}
 use Rattle.asset_scripts.specs.Transcript.{Transcript}
 
--- these are all the bytes that the reader gave, up to its end, and no call of it failed
+-- these are all the bytes that the reader gave, up to its end; they are within the limit, no call of the reader failed so far,
+-- and the device counts them
 pub record GaveAll {R : Type 0} (remaining : R → Option (List ℕ)) (old new : DeviceState R) (bytes : List ℕ) : Type 0 where
   pub gave : Consumes (remaining old.inner) (remaining new.inner) bytes
   pub end : IsAtEnd (remaining new.inner)
