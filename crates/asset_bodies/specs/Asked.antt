@@ -18,17 +18,19 @@ abbrev pub IsAsked : List Call → Step → Met → List Call → Type 0
 IsAsked before step (Some result) later = IsListed before step result later
 IsAsked before step None later = later ≡ before
 
+-- whether the step was answered `Done`
 abbrev pub is_done : Met → Bool
 is_done (Some (Ok (Answer Done))) = true
 is_done met = false
 
 -- the step was asked, and memory did not run out
-abbrev pub HasOutcome : Met → Type 0
-HasOutcome (Some (Err NoMemory)) = ⊥
-HasOutcome None = ⊥
-HasOutcome met = Unit {0}
+abbrev pub HadMemory : Met → Type 0
+HadMemory (Some (Err NoMemory)) = ⊥
+HadMemory None = ⊥
+HadMemory met = Unit {0}
 
--- the steps were asked in order, each once, up to the first that was not answered `Done`; `all` says that each was
+-- the steps were asked in order, each once at most, up to the first that was not answered `Done` or that could not be asked;
+-- `all` says whether each was answered `Done`
 abbrev pub InTurn : List Step → List Call → Bool → List Call → Type 0
 InTurn [] before all later = (all ≡ true) × (later ≡ before)
 InTurn (step ∷ steps) before all later = (met : Met) × (between : List Call) × IsAsked before step met between

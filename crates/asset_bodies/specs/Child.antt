@@ -22,7 +22,8 @@ pub record Begun (parent child : Txn) (before later : List Call) : Type 0 where
   pub initiated : InTurn (initiates parent child) before true between
   pub begun : InTurn (begins parent child) between true later
 
--- a child that was initiated and did not begin was aborted, and nothing more was asked of one that was not initiated
+-- after a begin that failed: nothing more was asked of a child that was not initiated, and of one that was initiated an abort
+-- was asked, whatever came of it
 abbrev pub GivesUp : Txn → Txn → Bool → List Call → List Call → Type 0
 GivesUp parent child false before later = later ≡ before
 GivesUp parent child true before later = (between : List Call) × (met : Met) × InTurn (begins parent child) before false between × IsAsked between (Abort child) met later
@@ -31,13 +32,13 @@ GivesUp parent child true before later = (between : List Call) × (met : Met) ×
 abbrev pub FailsToBegin : Txn → Txn → List Call → List Call → Type 0
 FailsToBegin parent child before later = (initiated : Bool) × (between : List Call) × InTurn (initiates parent child) before initiated between × GivesUp parent child initiated between later
 
--- a child whose work was handed over is committed, and else it is aborted
+-- the last step that is asked of a child: a commit if its work was handed over, and else an abort
 abbrev pub last_step : Txn → Bool → Step
 last_step child true = Commit child
 last_step child false = Abort child
 
--- after the body: nothing if it gave up; an abort if it is done and has not completed; else its work is handed over to
--- its parent, and its last step is asked
+-- What is asked after the body: nothing if it gave up; an abort if it is done and its complete was not answered `Done`; else that
+-- the child's work is handed over to its parent, and then its last step.
 abbrev pub Closes : Txn → Txn → Bool → Bool → List Call → List Call → Type 0
 Closes parent child false completed before later = later ≡ before
 Closes parent child true false before later = (met : Met) × IsAsked before (Abort child) met later

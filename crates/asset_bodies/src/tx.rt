@@ -4,7 +4,7 @@ ghost use Rattle.std.specs.Prelude.{◌≡◌, ◌≤◌, ◌<◌, ◌+◌, true
 ghost use Rattle.asset_names.specs.declared.steps.Step.TheVariants as Step;
 ghost use Rattle.asset_names.specs.Answers.{takes_memory};
 ghost use Rattle.asset_manager.specs.Listed.{IsListed};
-ghost use Rattle.asset_bodies.specs.Asked.{IsAsked, HasOutcome};
+ghost use Rattle.asset_bodies.specs.Asked.{IsAsked, HadMemory};
 ghost use Rattle.asset_bodies.specs.Working.{HasRoom, IsSame};
 
 use crate::agent::Agent;
@@ -210,7 +210,7 @@ impl Tx {
         ensures asked { IsAsked self.list.calls step.now result.met result.list.calls }
         ensures room { self.list.room ≤ result.list.room }
         ensures if_room { MatchOption result.met (self.list.room ≤ length self.list.calls) (λ _. length self.list.calls < self.list.room) }
-        ensures memory { length self.list.calls < self.list.room → (takes_memory step.now ≡ true → ⊥) → HasOutcome result.met }
+        ensures memory { length self.list.calls < self.list.room → (takes_memory step.now ≡ true → ⊥) → HadMemory result.met }
     {
         let Tx {
             name,
@@ -236,7 +236,7 @@ impl Tx {
         ensures asked { IsAsked self.list.calls (Step.Complete self.name) result.met result.list.calls }
         ensures room { self.list.room ≤ result.list.room }
         ensures if_room { MatchOption result.met (self.list.room ≤ length self.list.calls) (λ _. length self.list.calls < self.list.room) }
-        ensures memory { length self.list.calls < self.list.room → HasOutcome result.met }
+        ensures memory { length self.list.calls < self.list.room → HadMemory result.met }
     {
         let step = Step::Complete { t: self.name };
         self.end(rt, true, &step)
@@ -249,7 +249,7 @@ impl Tx {
         ensures asked { IsAsked self.list.calls (Step.Abort self.name) result.met result.list.calls }
         ensures room { self.list.room ≤ result.list.room }
         ensures if_room { MatchOption result.met (self.list.room ≤ length self.list.calls) (λ _. length self.list.calls < self.list.room) }
-        ensures memory { length self.list.calls < self.list.room → HasOutcome result.met }
+        ensures memory { length self.list.calls < self.list.room → HadMemory result.met }
     {
         let step = Step::Abort { t: self.name };
         self.end(rt, false, &step)
