@@ -16,7 +16,7 @@ pub served_later : (session given later : Asker) (step : Step) (result : Result 
 served_later session given later step result same room of seen is = record {
   before = is.before;
   later = is.later;
-  legal = is.legal;
+  held = is.held;
   serves = record {
     steps = go is.serves.steps;
     lists = subst (λ (calls : List Call). Lists (length is.before.history.entries) calls step result later.list.calls) same is.serves.lists;

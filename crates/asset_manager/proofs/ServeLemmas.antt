@@ -5,10 +5,9 @@ use Rattle.asset_names.specs.declared.replies.Reply.{Reply}
 use Rattle.asset_names.specs.declared.counts.Counts.{Counts}
 use Rattle.asset_names.specs.declared.replies.Outcome.TheVariants.{Answer, Wait}
 use Rattle.asset_names.specs.Steps.{Opening, applied, initiated}
-use Rattle.asset_names.specs.Answers.{IsLegal}
 use Rattle.asset_names.specs.Counted.{counts_of, ended_count, IsBelow}
 use Rattle.asset_names.proofs.CountLemmas.{counts_grow}
-use Rattle.asset_entries.specs.Recorded.{Recorded, opened, answer_to, after, with_entry}
+use Rattle.asset_entries.specs.Recorded.{Recorded, opened, after, with_entry}
 use Rattle.asset_core.specs.Pending.{Facility, facility_of}
 use Rattle.asset_core.specs.Stepped.{IsStep}
 use Rattle.asset_counts.specs.Shown.{no_counts}
@@ -36,11 +35,3 @@ answer_counts before later step reply is =
 -- what was published is below what is
 pub rises_from : (first second third fourth : Counts) → first ≡ second → IsBelow second third → fourth ≡ third → IsBelow first fourth
 rises_from first second third fourth a below b = rw (a, b) below
-
--- a legal history stays legal
-pub answer_is_legal : (before later : Facility) (step : Step) (reply : Reply) → IsStep before step (Ok (Answer reply)) later → IsLegal before.history.opening before.history.entries → IsLegal later.history.opening later.history.entries
-unfolding after with_entry answer_to IsLegal
-answer_is_legal before later step reply is legal = subst (λ (history : Recorded). IsLegal history.opening history.entries) (sym is.grown) (sym is.answered, legal)
-
-pub wait_is_legal : (before later : Facility) (step : Step) → IsStep before step (Ok Wait) later → IsLegal before.history.opening before.history.entries → IsLegal later.history.opening later.history.entries
-wait_is_legal before later step is legal = subst (λ (history : Recorded). IsLegal history.opening history.entries) (sym (wait_is_same before later step is)) legal

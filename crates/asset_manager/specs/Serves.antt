@@ -4,11 +4,11 @@ use Rattle.asset_names.specs.declared.steps.Step.{Step}
 use Rattle.asset_names.specs.declared.replies.Outcome.{Outcome}
 use Rattle.asset_names.specs.declared.replies.Fault.{Fault}
 use Rattle.asset_names.specs.declared.replies.Fault.TheVariants.{NoMemory}
-use Rattle.asset_names.specs.Answers.{IsLegal}
 use Rattle.asset_core.specs.Pending.{Facility}
 use Rattle.asset_core.specs.Stepped.{IsStep}
 use Rattle.asset_manager.specs.Listed.{Lists}
 use Rattle.asset_manager.specs.Asker.{Asker}
+use Rattle.asset_manager.specs.Booked.{CanBeHeld}
 
 -- the list has no room for a call, and there is no memory for more: the step is not asked
 pub record IsUnlisted (before : Facility) (session : Asker) (result : Result Outcome Fault) (later : Facility) : Type 0 where
@@ -25,9 +25,9 @@ pub record Serves (before : Facility) (session : Asker) (step : Step) (result : 
   pub of : session'.of ≡ session.of
   pub seen : session'.seen ≡ session.seen
 
--- some facility with a legal history served the step
+-- some facility served the step, with a history that a facility can have; which facility this was is not said
 pub record IsServed (session : Asker) (step : Step) (result : Result Outcome Fault) (session' : Asker) : Type 0 where
   pub before : Facility
   pub later : Facility
-  pub legal : IsLegal before.history.opening before.history.entries
+  pub held : CanBeHeld before.history
   pub serves : Serves before session step result later session'

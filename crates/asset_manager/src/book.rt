@@ -140,7 +140,7 @@ impl Book {
     fn laws(&self)
         ensures { IsValid self.now }
     {
-        // The contract of `len` says that the history is legal.
+        // The contracts of `history` and `len` say that a facility can have it.
         let _len = self.core.history().len();
     }
 
@@ -185,10 +185,17 @@ impl Book {
                 list.add(number, step, reply);
                 let counts = self.core.counts();
                 self.watch.publish(&mut self.by, counts);
+                self.laws();
                 Ok(Outcome::Answer(reply))
             }
-            Ok(Outcome::Wait) => Ok(Outcome::Wait),
-            Err(fault) => Err(fault),
+            Ok(Outcome::Wait) => {
+                self.laws();
+                Ok(Outcome::Wait)
+            }
+            Err(fault) => {
+                self.laws();
+                Err(fault)
+            }
         }
     }
 

@@ -1,7 +1,7 @@
 use Rattle.std.proofs.Common.{rules, ◌∙◌, sym, ap}
 use Rattle.asset_names.specs.Counted.{counts_of}
 use Rattle.asset_entries.specs.Recorded.{Recorded}
-use Rattle.asset_manager.proofs.ServeLemmas.{wait_is_same, answer_counts, rises_from, answer_is_legal, wait_is_legal}
+use Rattle.asset_manager.proofs.ServeLemmas.{wait_is_same, answer_counts, rises_from}
 use Rattle.asset_manager.proofs.book.Book.ask.Goals as goal
 
 pub publish-requires-clause-rises : goal.publish-requires-clause-rises
@@ -17,18 +17,6 @@ returns-in-Ok-Answer-clause-asked c = search rules
 pub returns-in-Ok-Answer-clause-lists : goal.returns-in-Ok-Answer-clause-lists
 returns-in-Ok-Answer-clause-lists c = search rules
 
-pub returns-in-Ok-Answer-clause-valid : goal.returns-in-Ok-Answer-clause-valid
-returns-in-Ok-Answer-clause-valid c = record {
-  legal = answer_is_legal _ _ _ _ (rw c.in-Ok-Answer.field-0-is at c.in-Ok-Answer.ensures) (rw (← c.history.ensures.history) c.len-number.ensures.legal);
-  shown = search rules;
-}
-
 pub invariant_of-self-in-Ok-Wait : goal.invariant_of-self-in-Ok-Wait
 invariant_of-self-in-Ok-Wait c =
     (c.self.invariant.0, c.self.invariant.1 ∙ ap (λ (history : Recorded). counts_of history.entries) (sym (wait_is_same _ _ _ (rw c.in-Ok-Wait.field-0-is at c.in-Ok-Wait.ensures))))
-
-pub returns-in-Ok-Wait-clause-valid : goal.returns-in-Ok-Wait-clause-valid
-returns-in-Ok-Wait-clause-valid c = record {
-  legal = wait_is_legal _ _ _ (rw c.in-Ok-Wait.field-0-is at c.in-Ok-Wait.ensures) (rw (← c.history.ensures.history) c.len-number.ensures.legal);
-  shown = c.self.invariant.1 ∙ ap (λ (history : Recorded). counts_of history.entries) (sym (wait_is_same _ _ _ (rw c.in-Ok-Wait.field-0-is at c.in-Ok-Wait.ensures)));
-}
