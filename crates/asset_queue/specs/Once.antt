@@ -9,6 +9,7 @@ use Rattle.asset_queue.specs.Each.{Each}
 abbrev pub Ticket : Type 0
 Ticket = ℕ × ℕ
 
+-- a pass with so many parts, and with the tickets of what it has put and of what it has taken
 abbrev pub hand : ℕ → List Ticket → List Ticket → Hand
 hand parts put taken = record { parts = parts; put = put; taken = taken }
 
@@ -26,8 +27,9 @@ total f (v ∷ vs) = f v + total f vs
 abbrev pub IdleIsEmpty : List Hand → Type 0
 IdleIsEmpty views = (port : ℕ) (v : Hand) → get_elem? views port ≡ some v → v.parts ≡ 0 → (v.put ≡ []) × (v.taken ≡ [])
 
--- the rule: what was put is what was taken and what the queue holds, however tickets are weighed, and so each as often;
--- there are 128 parts in all
+-- The rule: the passes have 128 parts in all, and a pass without a part has put and taken nothing. However tickets are
+-- weighed, what all passes have put weighs as much as what they have taken and what the queue holds: so each ticket was put
+-- as often as it was taken or is held.
 pub record Balanced (items : List Ticket) (views : List Hand) : Type 0 where
   pub parts : total (λ v. v.parts) views ≡ 128
   pub even : (h : Ticket → ℕ) → total (λ v. weigh h v.put) views ≡ total (λ v. weigh h v.taken) views + weigh h items

@@ -46,8 +46,8 @@ impl<J: Ticketed, O: Origin<J>> Protocol<J, Hand> for Once<O> {
     ghost first = { hand 128 [] [] };
 }
 
-/// How a pass is split, and how two are joined: half of the parts go to the new one, which has taken nothing, and the
-/// one that takes another in has what both have.
+/// How a pass is split, and how two are joined: half of the parts go to the new one, which has put and taken nothing, and
+/// the one that takes another in has what both have.
 pub struct Halves;
 
 impl Split<Hand> for Halves {
@@ -85,8 +85,8 @@ impl<J: Ticketed> Lesson<J, Hand> for Puts {
     ghost fact = { λ v items. Accounts v (map J.ticket items) };
 }
 
-/// The step that takes a job, which is one of those that may be there. If none is left, a pass with all parts knows that
-/// each that was put was taken.
+/// The step that takes a job, which is one of those that may be there. A pass with all parts has then taken no more than it
+/// put. If none is left, a pass with all parts knows that each that was put was taken.
 pub struct Takes<O>(PhantomData<O>);
 
 impl<J: Ticketed, O: Origin<J>> Outcome<J, Hand> for Takes<O> {

@@ -1,4 +1,4 @@
-//! Workers, each in a thread of its own, that take jobs until none is left.
+//! Workers that take jobs until none is left: one in the calling thread, and each of the others in a thread of its own.
 
 ghost use Rattle.std.specs.Prelude.{◌≡◌, ◌<◌, ◌≤◌, ◌+◌, ◌++◌, [], length, map, vec_len, vec_capacity, IfOk, IfErr};
 ghost use Rattle.std.specs.Thread.{IsSync};
@@ -104,8 +104,8 @@ fn joined<E: Drop>(mut rows: Vec<Vec<E>>, mut more: Vec<Vec<E>>) -> Vec<Vec<E>>
     rows
 }
 
-/// Shares the jobs among so many workers, by halves: the one half of them works here, the other in another thread. Each is
-/// expected to do so many jobs.
+/// Shares the jobs among so many workers, by halves: the one half of them works here, the other in another thread, or here
+/// afterwards if no thread can be started. Each is expected to do so many jobs.
 fn share<
     J: Ticketed + Send,
     E: Ticketed + Drop + Send,
@@ -276,7 +276,9 @@ fn run_shared<
 }
 
 /// Has the jobs done by so many workers, from 1 to 64, of which one works in this thread and the others each in a thread of its
-/// own. Returns what came of the jobs, a row for each worker that had memory for one, and the jobs that nobody took: each job is
+/// own. If a thread cannot be started, its workers work afterwards in the thread that was to start it.
+///
+/// Returns what came of the jobs, a row for each worker that had memory for one, and the jobs that nobody took: each job is
 /// once in one or the other, and each answer came of one of the jobs. A job is left only if memory ran out. If it ran out before
 /// the workers started, all jobs come back as the error.
 pub fn run<
