@@ -7,15 +7,15 @@ use Rattle.asset_runner.specs.declared.report.RunCause.{RunCause}
 use Rattle.asset_runner.specs.declared.report.RunCause.TheVariants.{NoWorkers, NoMemory, Stranger}
 use Rattle.asset_runner.specs.Runs.{JobRun, is_called, ends_of, left_of, first_stranger}
 
--- each job that was initiated, in order, is in `ends` or in `left`; the sessions' calls are the plan's and then the jobs',
--- in order
+-- There is one run for each job that was initiated, in order. If its body was called, its end by all runs is in `ends`, and
+-- otherwise its name is in `left`. The sessions' calls are the plan's, and then those of the runs, in order.
 pub record Comes (names : List Txn) (plan : List Call) (runs : List JobRun) (ends : List (Txn × JobEnd)) (left : List Txn) (sessions : List (List Call)) : Type 0 where
   pub names_are : map (λ (run : JobRun). run.name) runs ≡ names
   pub ends_are : ends ≡ ends_of runs runs
   pub left_are : left ≡ left_of runs
   pub sessions_are : sessions ≡ plan ∷ map (λ (run : JobRun). run.calls) runs
 
--- of the job and the run at each place this is so
+-- `ran` holds of the job and the run at each place that both lists have
 abbrev pub RunsOf : {J : Type 0} → (J → JobRun → Type 0) → List J → List JobRun → Type 0
 RunsOf {J} ran jobs runs = (i : ℕ) (job : J) (run : JobRun) → slice_get jobs i ≡ Some job → slice_get runs i ≡ Some run → ran job run
 
@@ -32,11 +32,12 @@ pub record IsLost (names : List Txn) (runs : List JobRun) (ends : List (Txn × J
   pub none_left : left ≡ []
   pub no_sessions : sessions ≡ []
 
--- what a run gives that did not go as planned
+-- what a plan's run gives that did not go as planned: what `Comes` says, or nothing
 abbrev pub ComesOrLost : List Txn → List Call → List JobRun → List (Txn × JobEnd) → List Txn → List (List Call) → Type 0
 ComesOrLost names plan runs ends left sessions = Comes names plan runs ends left sessions ⊎ IsLost names runs ends left sessions
 
--- why a run did not go as planned: if memory ran out, a job is left, unless there were none
+-- why a run did not go as planned: there were no workers; there were some, memory ran out, and a job is left unless there were
+-- no jobs; or there were some, and t is the first job whose body answered another's `Finished`
 abbrev pub IsCause : ℕ → List JobRun → RunCause → Type 0
 IsCause workers runs NoWorkers = workers ≡ 0
 IsCause workers runs NoMemory = (0 < workers) × (left_of runs ≡ [] → runs ≡ [])

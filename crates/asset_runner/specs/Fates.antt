@@ -15,7 +15,7 @@ use Rattle.asset_runner.specs.Runs.{JobRun}
 use Rattle.asset_runner.specs.declared.arrival.Fate.{Fate}
 use Rattle.asset_runner.specs.declared.arrival.Fate.TheVariants.{Left, Called}
 
--- whose `Finished` the body answered
+-- whose `Finished` the body answered, if it was called
 abbrev pub answered_by : {X : Type 0} {B : X → Type 0} → Fate X B → Option Txn
 answered_by (Left body) = None
 answered_by (Called answered waits) = Some answered

@@ -36,14 +36,14 @@ IsRefused before step (Cause'.Refused refusal) later = (n : ℕ) × (later ≡ b
 IsRefused before step Cause'.Full later = later ≡ before
 IsRefused before step Cause'.NoMemory later = later ≡ before
 
--- of an initiation: it is answered `Done` or refused, and does not wait
+-- of an initiation: it is answered `Done`, is refused or meets a fault, and does not wait
 abbrev pub IsInitiation : Result Outcome Fault → Type 0
 IsInitiation (Ok (Answer Done)) = Unit {0}
 IsInitiation (Ok (Answer (Refused refusal))) = Unit {0}
 IsInitiation (Err fault) = Unit {0}
 IsInitiation outcome = ⊥
 
--- why an initiation was not answered `Done`
+-- why an initiation was not answered `Done`, and nothing if it was
 abbrev pub cause_by : Result Outcome Fault → Option Cause
 cause_by (Ok (Answer (Refused refusal))) = Some (Cause'.Refused refusal)
 cause_by (Err NoMemory) = Some Cause'.NoMemory

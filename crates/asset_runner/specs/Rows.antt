@@ -31,13 +31,15 @@ module _ {X : Type 0} {B : X → Type 0} where
   abbrev pub CameBack : List (Arrival X B) → List (Arrival X B) → Type 0
   CameBack all order = (i : ℕ) (b : Arrival X B) → slice_get order i ≡ Some b → (a : Arrival X B) × IsAmong all a × (a.place ≡ i) × GoesOn a b
 
+  -- the names of these jobs, in order
   abbrev pub names_of : List (Arrival X B) → List Txn
   names_of all = map (λ (a : Arrival X B). a.name) all
 
+  -- what came of these jobs, in order, without their places and their bodies
   abbrev pub runs_of : List (Arrival X B) → List JobRun
   runs_of all = map run_of all
 
-  -- the names and bodies of the jobs whose bodies were not called
+  -- the names and bodies of the jobs whose bodies were not called, in order
   abbrev pub kept_of : List (Arrival X B) → List (Txn × DynBox X Global B)
   kept_of [] = []
   kept_of (a ∷ all) = kept_row a.name (body_of a.fate) ++ kept_of all

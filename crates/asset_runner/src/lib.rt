@@ -1,5 +1,5 @@
-//! Plans of jobs: each job is a transaction with a boxed body, and workers in threads of their own run them. Each job that
-//! was accepted has its end or is handed back, once, whatever bodies do.
+//! Plans of jobs: each job is a transaction with a boxed body, and workers run them, one in the calling thread and each of
+//! the others in a thread of its own. Each job that was accepted has its end or is handed back, once, whatever bodies do.
 #![tactic(auto)]
 
 mod arrival;
