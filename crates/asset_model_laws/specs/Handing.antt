@@ -15,8 +15,8 @@ use Rattle.asset_model_laws.specs.Owners.{responsible}
 unfoldable pub is_anothers : Txn → Entry → Bool
 is_anothers u entry = not ((actor entry.0).0 == u.0)
 
--- u has committed, and has taken over operations of t before; for all for which it was responsible then, it is responsible
--- for ever
+-- At an entry of the history t has handed over to u what it did on these objects, and u has committed. For each operation for
+-- which u was responsible right after that entry, it is responsible now, and after each legal history that goes on from here.
 pub record StandsAs (opening : Opening) (t u : Txn) (obs : ObSet) (entries : List Entry) : Type 0 where
   pub newer : List Entry
   pub older : List Entry
@@ -24,7 +24,8 @@ pub record StandsAs (opening : Opening) (t u : Txn) (obs : ObSet) (entries : Lis
   pub committed : end_of (applied entries) u.0 ≡ Some Committed
   pub stands : (n : ℕ) (later : List Entry) → responsible (applied ((Delegate t u obs, Done) ∷ older)) n ≡ Some u.0 → IsLegal opening (later ++ entries) → responsible (applied (later ++ entries)) n ≡ Some u.0
 
--- u has taken over all operations of t, and is responsible for them
+-- At an entry of the history t has handed over to u what it did on these objects. For each operation for which t was
+-- responsible right before that entry, u is responsible now.
 pub record TakesAll (t u : Txn) (obs : ObSet) (entries : List Entry) : Type 0 where
   pub newer : List Entry
   pub older : List Entry
