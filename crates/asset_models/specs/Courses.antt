@@ -23,14 +23,14 @@ pub data Course : Type 0 where
   ends : ModelEnd → Course
   asks : Step → (Reply → Course) → Course
 
--- a step is not answered: it still waited after the last try, or it met a fault
+-- how a run ends at a step that is not answered: stopped by the step, which still waited after the last try, or with a fault
 unfoldable pub IsCut : Step → Result ModelEnd Fault → Type 0
 IsCut step (Ok end) = end ≡ End'.Stopped step
 IsCut step (Err fault) = Unit {0}
 
--- The calls, newest first, that a run of the course adds to the old ones, and its result. A course that ends calls nothing more.
--- A step that a course asks is not answered, and the run ends there; or it is recorded with some reply, and the run goes on
--- by that.
+-- A run of the course leads from the old calls to the new ones, newest first, and has this result. A course that ends calls
+-- nothing more. A step that a course asks is not answered, and the run ends there; or it is recorded with some reply, and the
+-- run goes on by that.
 unfoldable pub IsRun : Course → List Entry → List Entry → Result ModelEnd Fault → Type 0
 IsRun (ends end) old new result = (new ≡ old) × (result ≡ Ok end)
 IsRun (asks step next) old new result = ((new ≡ old) × IsCut step result) ⊎ ((reply : Reply) × IsRun (next reply) ((step, reply) ∷ old) new result)
@@ -53,7 +53,7 @@ must_each_course (step ∷ steps) next = must_course step (must_each_course step
 unfoldable pub starts : Txn → List Step
 starts t = Initiate t None ∷ Begin t ∷ []
 
--- the course after the reply to a commit
+-- the course after the reply to a commit: a refusal ends the model, and any other reply but `Committed` is taken for an abort
 unfoldable pub by_commit : Txn → Reply → Course → Course → Course
 by_commit t Reply'.Committed committed aborted = committed
 by_commit t (Reply'.Refused refusal) committed aborted = ends (End'.Refused (Commit t))
@@ -80,7 +80,7 @@ act_course t (Write x v) done failed = operation_course (Step'.Write t x v) done
 act_course t (Add x d) done failed = operation_course (Step'.Add t x d) done failed
 act_course t GiveUp done failed = failed
 
--- acts in order up to the first that fails, and what comes after them if all are done and if one of t fails
+-- acts in order up to the first that fails, and what comes after them. What comes after an act that fails is told whose it was.
 unfoldable pub acts_course : List (Txn × Act) → Course → (Txn → Course) → Course
 acts_course [] done failed = done
 acts_course (act ∷ acts) done failed = act_course act.0 act.1 (acts_course acts done failed) (failed act.0)
@@ -123,7 +123,7 @@ unfoldable pub children_course : Txn → List Part → Course → Course
 children_course t [] next = next
 children_course t (child ∷ children) next = child_course t child (children_course t children next)
 
--- what comes after an act that fails: its transaction is aborted
+-- what comes after an act that fails: its transaction is aborted, and the model ends as aborted
 unfoldable pub give_up : Txn → Course
 give_up t = must_course (Abort t) (ends End'.Aborted)
 
@@ -147,7 +147,7 @@ split_course t u obs = must_each_course (Initiate u None ∷ Begin u ∷ Delegat
 unfoldable pub join_course : Txn → Txn → Course
 join_course t u = must_each_course (Delegate t u All ∷ Complete t ∷ []) (last_commit t)
 
--- the course of `distributed`: all parts are of one class, so the commit of the first commits all
+-- the course of `distributed`: group commits join the parts to the first one, whose commit then commits all
 unfoldable pub distributed_course : List Part → Course
 distributed_course [] = ends End'.Committed
 distributed_course (p ∷ parts) =
