@@ -15,7 +15,7 @@ pub record GaveScript {R : Type 0} (remaining : R → Option (List ℕ)) (old ne
   pub all : GaveAll remaining old new bytes
   pub says : jobs_of bytes ≡ said
 
--- why no script was read
+-- why no script was read: the first bad line of all that the reader gave, a fault of the reader, or memory ran out
 unfoldable pub FailsToRead : {R : Type 0} → (R → Option (List ℕ)) → DeviceState R → DeviceState R → JobsFault → Type 0
 FailsToRead remaining old new (BadLine n) = GaveScript remaining old new (Err n)
 FailsToRead remaining old new Read = IsReadFault remaining old new
