@@ -25,7 +25,7 @@ unfoldable pub list_text : List Ob → List ℕ
 list_text [] = []
 list_text (x ∷ objects) = decimal x.0 ++ more_text objects
 
--- a set of objects, whose list is rising
+-- a set of objects: `all`, or the numbers of its list, in the order of the list
 unfoldable pub set_text : ObSet → List ℕ
 set_text All = codes "all"
 set_text (Listed objects) = list_text objects

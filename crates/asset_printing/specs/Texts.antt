@@ -12,7 +12,7 @@ use Rattle.asset_names.specs.declared.replies.Outcome.TheVariants.{Answer, Wait}
 unfoldable pub line_end : List ℕ
 line_end = 10 ∷ []
 
--- the line of a refusal: which rule it was, and the name that it is about
+-- the line of a refusal: which rule it was, and the number of what it is about, if it is about something
 unfoldable pub refusal_line : Refusal → List ℕ
 refusal_line (Unknown t) = codes "refused unknown " ++ decimal t.0 ++ line_end
 refusal_line (Ended t) = codes "refused ended " ++ decimal t.0 ++ line_end
