@@ -32,6 +32,6 @@ bow_at row = 74 + 56 * row
 unfoldable pub columns : ℕ → ℕ
 columns count = cond (nat_lt count 12) 12 count
 
--- what is drawn pale
+-- the word, after a space, by which what is of a dead group is drawn pale; nothing for another group
 unfoldable pub pale : Bool → List ℕ
 pale is_dead = cond is_dead (codes " dead") []

@@ -38,7 +38,7 @@ open_text width height = pieces (codes "<svg xmlns='http://www.w3.org/2000/svg' 
 
 -- ---- lanes
 
--- how a transaction has ended
+-- the word of a status, which is the same for all who are live
 unfoldable pub status_word : Status → List ℕ
 status_word Status'.Unknown = codes "unknown"
 status_word Status'.Committed = codes "committed"
@@ -49,7 +49,7 @@ status_word status = codes "live"
 unfoldable pub band_word : ℕ → List ℕ
 band_word group = cond (group % 2 == 0) (codes "even") (codes "odd")
 
--- whether a group is dead
+-- the word of a group, by whether it is dead
 unfoldable pub state_word : Bool → List ℕ
 state_word is_dead = cond is_dead (codes "dead") (codes "committed")
 

@@ -62,7 +62,7 @@ pub(crate) fn columns(count: usize) -> usize
     if count < 12 { 12 } else { count }
 }
 
-/// Returns the word of what is drawn pale.
+/// Returns the word, after a space, by which what is of a dead group is drawn pale; nothing for another group.
 #[tactic(auto, unfolding(crate::specs::Layout::pale))]
 pub(crate) fn pale(is_dead: bool) -> &'static str
     ensures { result.now ≡ pale is_dead }
