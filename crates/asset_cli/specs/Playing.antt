@@ -4,7 +4,7 @@ use Rattle.asset_scripts.specs.declared.prints.Prints.TheVariants.{Nothing, Repl
 use Rattle.asset_cli.specs.declared.reporting.Work.{Work}
 use Rattle.asset_cli.specs.declared.reporting.Work.TheVariants as Work'
 
--- what steps print
+-- what the steps print of a script that is run for this work
 unfoldable pub prints_for : Work → Prints
 prints_for Work'.Run = Replies
 prints_for Work'.Steps = Listing

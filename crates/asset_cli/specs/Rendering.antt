@@ -13,7 +13,7 @@ pub record GoesOn (before : List ℕ) (all : Transcript) (after : List ℕ) (res
   pub end : all.end ≡ rest.end
   pub history : all.history ≡ rest.history
 
--- what is left when the steps end
+-- what is left when the steps end: the history, or only the number of the bad line if there is one
 unfoldable pub played_of : Recorded → Option ℕ → Played
 played_of history None = Played'.Finished history
 played_of history (Some n) = Played'.BadLine n

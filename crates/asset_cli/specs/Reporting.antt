@@ -40,12 +40,13 @@ sourced history = always (sources_text history.entries)
 abbrev pub serialized : Recorded → Reported
 serialized history = record { text = serial_text history; end = cond (shares_nothing history.entries) Finished Shared }
 
--- the report follows what was played, unless a line was bad
+-- the report follows what was printed, and the run ends as the report says, unless a line was bad
 unfoldable pub with_report : RunEnd → Transcript → Reported → Transcript
 with_report Finished run report = record run { text = run.text ++ report.text; end = report.end }
 with_report end run report = run
 
--- A report on the history that a script leaves. Its steps print nothing; a bad line is all that is printed then.
+-- A report on the history that a script leaves. The steps print nothing. If a line is bad, the line that says so is printed in
+-- place of the report.
 unfoldable pub reported : (Recorded → Reported) → List ℕ → ℕ → Transcript
 reported report bytes capacity = with_report (transcript Nothing bytes capacity).end (transcript Nothing bytes capacity) (report (transcript Nothing bytes capacity).history)
 
