@@ -76,7 +76,7 @@ unfoldable pub part_mistake : List (List ℕ) → Option Found
 part_mistake [] = None
 part_mistake (part ∷ rest) = cond (is_some (number_of part)) (part_mistake rest) (Some (why_no_number part, part))
 
--- nothing stands before, after or between commas
+-- whether one of the parts is empty
 unfoldable pub has_empty : List (List ℕ) → Bool
 has_empty [] = false
 has_empty (part ∷ rest) = cond (length part == 0) true (has_empty rest)
@@ -205,7 +205,7 @@ is_bad line = false
 abbrev pub HasReasonIfBad : List ℕ → Type 0
 HasReasonIfBad line = is_some (reason_of line) ≡ is_bad (line_of line)
 
--- the word after the first one of a line
+-- the second of these words, and an empty one if there is none
 unfoldable pub second_word : List (List ℕ) → List ℕ
 second_word (first ∷ second ∷ rest) = second
 second_word other = []
