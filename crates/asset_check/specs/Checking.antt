@@ -3,7 +3,7 @@ use Rattle.std.specs.Prelude.{ℕ, Bool, true, false, cond, Option, None, Some}
 use Rattle.asset_names.specs.Steps.{Opening}
 use Rattle.asset_check.specs.Checked.{Seen}
 
--- the objects so far, before the first step
+-- the objects so far, or nothing if a step was asked for, as the flag says
 unfoldable pub seen_in : Bool → Opening → Seen
 seen_in true opening = None
 seen_in false opening = Some opening
