@@ -16,7 +16,7 @@ pub record Answered : Type 0 where
   pub number : ℕ
   pub bad : Option ℕ
 
--- the session of a facility that is open, or of the objects so far
+-- the session of a facility that is open, and otherwise one without a step, with the objects so far if there are any
 unfoldable pub session_of : Option Facility → Seen → ℕ → Session
 session_of (Some core) seen capacity = record { history = core.history; stepped = true }
 session_of None (Some opening) capacity = record { history = opened opening capacity; stepped = false }
@@ -27,7 +27,7 @@ unfoldable pub IsJoint : Option Facility → Seen → Type 0
 IsJoint (Some core) seen = seen ≡ None
 IsJoint None seen = (opening : Opening) × (seen ≡ Some opening)
 
--- the history of a facility that is open
+-- the history of a facility that is open, and otherwise one without objects, entries and room
 unfoldable pub open_history : Option Facility → Recorded
 open_history (Some core) = core.history
 open_history None = opened [] 0

@@ -32,7 +32,7 @@ seen_in session = cond session.stepped None (Some session.history.opening)
 abbrev pub mistake_of : Session → List ℕ → Option Found
 mistake_of session line = mistake_at (seen_in session) line
 
--- the line that answers a step with this outcome: if there is no room for it, the step is not answered
+-- the line of a step with this outcome, which says `full` if there is no room for it: then the step is not answered
 unfoldable pub outcome_text : Recorded → Step → Outcome → List ℕ
 outcome_text history step outcome = cond (has_room history step outcome) (outcome_line outcome) full_line
 

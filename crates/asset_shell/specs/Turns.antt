@@ -15,6 +15,7 @@ pub record Streams : Type 0 where
   pub answers : Option (List ℕ)
   pub reasons : Option (List ℕ)
 
+-- the same, made of its three parts
 abbrev pub streams : Option (List ℕ) → Option (List ℕ) → Option (List ℕ) → Streams
 streams left answers reasons = record { left = left; answers = answers; reasons = reasons }
 
