@@ -3,6 +3,7 @@ use Rattle.std.specs.Prelude.{ℕ}
 use Rattle.asset_handle.specs.declared.codes.Code.{Code}
 use Rattle.asset_handle.specs.declared.codes.Code.TheVariants.{Done, Full, NoMemory, Closed, IsOpen, BadCapacity, DoubleObject, BadArgument, Absent}
 
+-- the number of a code
 abbrev pub number_of : Code → ℕ
 number_of Done = 0
 number_of Full = 1

@@ -12,11 +12,11 @@ use Rattle.asset_names.specs.declared.replies.Outcome.TheVariants.{Answer, Wait}
 use Rattle.asset_handle.specs.declared.plain.PlainAnswer.{PlainAnswer}
 use Rattle.asset_handle.specs.declared.plain.PlainStep.{PlainStep}
 
--- an answer of this kind about this name
+-- an answer of this kind about this name, without a value
 unfoldable pub about : ℕ → ℕ → PlainAnswer
 about kind name = record { kind = kind; name = name; value = pos 0 }
 
--- a refusal: 16 and more, with the name that it is about
+-- a refusal: 16 to 24, with the number of what it is about, or 0 if it is about nothing
 unfoldable pub told_refusal : Refusal → PlainAnswer
 told_refusal (Refusal'.Unknown t) = about 16 t.0
 told_refusal (Refusal'.Ended t) = about 17 t.0
@@ -28,7 +28,7 @@ told_refusal Refusal'.Same = about 22 0
 told_refusal Refusal'.Cycle = about 23 0
 told_refusal (Refusal'.TooLate t) = about 24 t.0
 
--- an outcome
+-- an outcome: 1 done, 2 a value, 3 committed, 4 aborted, 5 wait, or a refusal
 unfoldable pub told : Outcome → PlainAnswer
 told (Answer Done) = about 1 0
 told (Answer (Value v)) = record { kind = 2; name = 0; value = v }
