@@ -16,6 +16,7 @@ pub record Standing : Type 0 where
   pub facility : Facility
   pub bad : Option ℕ
 
+-- what a script leaves, made of its two parts
 abbrev pub stands : Facility → Option ℕ → Standing
 stands facility bad = record { facility = facility; bad = bad }
 
