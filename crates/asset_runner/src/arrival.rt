@@ -126,7 +126,7 @@ impl Arrival {
         self.name
     }
 
-    /// Returns whose `Finished` the body answered.
+    /// Returns whose `Finished` the body answered, if it was called.
     pub(crate) fn answered(&self) -> Option<Txn>
         ensures { result ≡ answered_by self.now.fate }
     {

@@ -30,7 +30,7 @@ fn note(firsts: &mut Firsts, order: &[Arrival], place: usize)
     }
 }
 
-/// Returns the places of all names, in a map that has room for them.
+/// Returns for each name the place of the first such job, in a map that has room for them.
 pub(crate) fn firsts_of(order: &[Arrival], mut firsts: Firsts) -> Firsts
     requires empty { IsEmpty firsts }
     requires room { length order.now ≤ spare firsts }
@@ -44,7 +44,8 @@ pub(crate) fn firsts_of(order: &[Arrival], mut firsts: Firsts) -> Firsts
     firsts
 }
 
-/// Returns how the transaction ended, by the session that came back in a `Finished` of its name.
+/// Returns how the transaction ended, by the first session that came back in a `Finished` of its name, and `Unsettled` if none
+/// did.
 pub(crate) fn end_in(order: &[Arrival], firsts: &Firsts, t: Txn) -> JobEnd
     requires { HasFirsts firsts.now 0 (runs_of order.now) }
     ensures { result ≡ end_in (runs_of order.now) t.0 }
