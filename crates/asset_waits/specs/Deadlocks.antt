@@ -27,6 +27,6 @@ arrows_before steps pending names count = flat_map (arrows_from steps pending na
 unfoldable pub wait_arrows : List Step → List Pending → List Arrow
 wait_arrows steps pending = arrows_before steps pending (live_names steps) (length (live_names steps))
 
--- for the place of each live transaction, the least place that is on one cycle of waits with it
+-- for the place of each live transaction, the least place that is on one cycle of waits with it, if there is one
 abbrev pub deadlock_labels : List Step → List Pending → List (Option ℕ)
 deadlock_labels steps pending = cycle_labels (wait_arrows steps pending) (length (live_names steps))
