@@ -10,7 +10,7 @@ use Rattle.asset_check.specs.Checked.{Seen}
 use Rattle.asset_reasons.specs.Mistakes.{Found}
 use Rattle.asset_shell.specs.Sessions.{Session, new_session}
 
--- the session after the lines so far, the number of the next line, and the number of the first bad line
+-- the session after the lines so far, the number of the next line, and the number of the first bad line so far
 pub record Answered : Type 0 where
   pub session : Session
   pub number : ℕ

@@ -124,7 +124,7 @@ fn is_ask(said: Said) -> bool
 }
 
 /// Answers lines. Contracts see the session after the lines so far, the number of the next line, and the number of the first
-/// bad line.
+/// bad line so far, if there was one.
 #[derive(Drop)]
 pub(crate) struct Answerer {
     alloc: Global,
@@ -180,7 +180,7 @@ impl Answerer {
         self.number
     }
 
-    /// Returns the number of the first bad line.
+    /// Returns the number of the first bad line, if there was one.
     pub(crate) fn bad(&self) -> Option<u64>
         ensures { result ≡ self.now.bad }
     {

@@ -90,7 +90,7 @@ impl Conversation {
         }
     }
 
-    /// Tells that no more of a line is kept than can be said of it. Does nothing.
+    /// Tells that at most 4,097 bytes of a line are kept. Does nothing.
     fn laws(&self)
         ensures { length self.now.begun ≤ 4097 }
     {
