@@ -69,7 +69,7 @@ fn listed_first(count: usize, names: &[u64; SLOTS]) -> Option<ObSet>
     listed(&objects[..count])
 }
 
-/// Returns the set that a plain step lists.
+/// Returns the set that a plain step lists, if it lists one.
 #[tactic(auto, unfolding(crate::specs::Listed::set_in))]
 fn set_of(asked: &PlainStep) -> Option<ObSet>
     ensures { result ≡ set_in asked.now.count asked.now.objects }
