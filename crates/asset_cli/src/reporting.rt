@@ -44,7 +44,7 @@ pub enum Work {
 }
 
 impl Work {
-    /// Returns what steps print.
+    /// Returns what the steps print of a script that is run for this work.
     #[tactic(auto, unfolding(crate::specs::Playing::prints_for))]
     pub(crate) fn prints(self) -> Prints
         ensures { result ≡ prints_for self }

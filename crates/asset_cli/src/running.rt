@@ -82,8 +82,8 @@ pub fn steps_script<R: Read, W: Write>(
 
 /// Runs the script that the reader gives, and writes the script that is left without its dead groups: the objects, and the
 /// steps that were answered and are of no dead group. Run again, over a history with room for its entries, it gets the replies
-/// that they had. A bad line is all that is written, if there is one. What `run_script` says of faults and requires holds
-/// here too.
+/// that they had. If a line is bad, the line that says so is all that is written. What `run_script` says of faults and requires
+/// holds here too.
 pub fn prune_script<R: Read, W: Write>(
     alloc: Global,
     input: &mut Device<R>,
@@ -102,9 +102,9 @@ pub fn prune_script<R: Read, W: Write>(
     run_for(alloc, input, output, capacity, Work::Report(Report::Pruned))
 }
 
-/// Runs the script that the reader gives, and writes a line for each group of the history that it leaves, in order of
-/// number: the number, `committed` if a member has committed and `dead` if none has, and the members in order of first use.
-/// A bad line is all that is written, if there is one. What `run_script` says of faults and requires holds here too.
+/// Runs the script that the reader gives, and writes a line for each group of the history that it leaves, in order of number:
+/// the number, `committed` if a member has committed and `dead` if none has, and the members in order of first use. If a line
+/// is bad, the line that says so is all that is written. What `run_script` says of faults and requires holds here too.
 pub fn groups_script<R: Read, W: Write>(
     alloc: Global,
     input: &mut Device<R>,
@@ -122,11 +122,11 @@ pub fn groups_script<R: Read, W: Write>(
     run_for(alloc, input, output, capacity, Work::Report(Report::Groups))
 }
 
-/// Runs the script that the reader gives, and writes the script of those who committed, one after another in the order of
-/// their commits: the objects, and the steps of each that were answered. Run again, over a history with room for its
-/// entries, it gets the replies that they had, and leaves what they left. If those who committed shared something with
-/// anybody, the line `shared` is written instead, and the run ends with `Shared`. A bad line is all that is written, if
-/// there is one. What `run_script` says of faults and requires holds here too.
+/// Runs the script that the reader gives, and writes the script of those who committed, one after another in the order of their
+/// commits: the objects, and the steps of each that were answered. Run again, over a history with room for its entries, it gets
+/// the replies that they had, and leaves what they left. If those who committed shared something with anybody, the line
+/// `shared` is written instead, and the run ends with `Shared`. If a line is bad, the line that says so is all that is written.
+/// What `run_script` says of faults and requires holds here too.
 pub fn serial_script<R: Read, W: Write>(
     alloc: Global,
     input: &mut Device<R>,
@@ -145,9 +145,9 @@ pub fn serial_script<R: Read, W: Write>(
     run_for(alloc, input, output, capacity, Work::Report(Report::Serial))
 }
 
-/// Runs the script that the reader gives, and writes a picture of the history that it leaves, as an SVG: a lane for each transaction
-/// with a mark for each operation, or a table of the transactions if there are more than 200 entries. A bad line is all that is
-/// written, if there is one. What `run_script` says of faults and requires holds here too.
+/// Runs the script that the reader gives, and writes a picture of the history that it leaves, as an SVG: a lane for each
+/// transaction with a mark for each operation, or a table of the transactions if there are more than 200 entries. If a line is
+/// bad, the line that says so is all that is written. What `run_script` says of faults and requires holds here too.
 pub fn picture_script<R: Read, W: Write>(
     alloc: Global,
     input: &mut Device<R>,
@@ -171,9 +171,9 @@ pub fn picture_script<R: Read, W: Write>(
     )
 }
 
-/// Runs the script that the reader gives, and writes a line for each read that was answered by a value: the number of its
-/// entry from 0, the read, the value, and its source: the number of the entry with the last write in the value, or `opening`
-/// if there is none. Adds in the value are not told. A bad line is all that is written, if there is one. What `run_script`
+/// Runs the script that the reader gives, and writes a line for each read that was answered by a value: the number of its entry
+/// from 0, the read, the value, and its source: the number of the entry with the last write in the value, or `opening` if there
+/// is none. Adds in the value are not told. If a line is bad, the line that says so is all that is written. What `run_script`
 /// says of faults and requires holds here too.
 pub fn sources_script<R: Read, W: Write>(
     alloc: Global,
