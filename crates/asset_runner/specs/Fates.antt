@@ -58,7 +58,7 @@ pub record CallsBody (post : Working → Worked → Type 0) (name : Txn) (manage
   pub kept : AsksCommit u finished.list.calls later
   pub given_up : finished.done ≡ false → later ≡ finished.list.calls
 
--- the same, while commits may be asked again: one that waits was asked of what is done, and was not answered yet
+-- the same, while commits may be asked again: if one waits, the body answered that it is done, and no commit was answered yet
 pub record CallsSoFar (post : Working → Worked → Type 0) (name : Txn) (manager : TableId) (before later : List Call) (waits : Bool) (u : Txn) : Type 0 where
   pub calls : CallsBody post name manager before later u
   pub waiting : waits ≡ true → (calls.finished.done ≡ true) × (later ≡ calls.finished.list.calls)
