@@ -2,11 +2,11 @@
 //! standard output; or it says why lines are bad, holds a conversation, or runs the jobs of a job script.
 #![tactic(auto)]
 
+use asset_arguments::{read_arguments, requested};
 use asset_bodies::Tx;
+use asset_job_runs::{JobsStop, add_job, begin_jobs, end_jobs, finish_jobs};
 use asset_jobs::do_acts;
-use asset_program::{
-    JobsStop, Next, add_job, begin_jobs, do_asked, end_jobs, finish_jobs, read_arguments, requested,
-};
+use asset_program::{Next, do_asked};
 use asset_runner::Plan;
 use asset_scripts::Device;
 use std::process::ExitCode;

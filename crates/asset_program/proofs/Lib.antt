@@ -1,3 +1,1 @@
 pub mod ProgramLemmas
-pub mod JobsEndLemmas
-pub mod JobsRunLemmas

@@ -4,7 +4,8 @@ use Rattle.asset_scripts.specs.declared.ends.RunEnd.{RunEnd}
 use Rattle.asset_scripts.specs.declared.faults.ScriptFault.{ScriptFault}
 use Rattle.asset_scripts.specs.Device.{DeviceState}
 use Rattle.asset_shell.specs.Turns.{Streams, HasWrittenAll, StopsFor, StopsWith, streams}
-use Rattle.asset_program.specs.Exit.{run_status, capacity_of}
+use Rattle.asset_requests.specs.Limits.{capacity_of}
+use Rattle.asset_program.specs.Exit.{run_status}
 
 module _ {R W E : Type 0} (remaining : R → Option (List ℕ)) (contents : W → Option (List ℕ)) (said : E → Option (List ℕ)) where
   -- what a reader and two writers have

@@ -1,12 +1,12 @@
 -- What is done by what the arguments ask for.
 use Rattle.std.specs.Prelude.{◌≡◌, ℕ, List, Option, Result, Ok, Err}
 use Rattle.asset_scripts.specs.Device.{DeviceState}
-use Rattle.asset_program.specs.declared.answers.Answer.{Answer}
-use Rattle.asset_program.specs.declared.requests.Asked.{Asked}
-use Rattle.asset_program.specs.declared.requests.Asked.TheVariants.{Script, Check, Shell, Jobs}
+use Rattle.asset_requests.specs.declared.answers.Answer.{Answer}
+use Rattle.asset_requests.specs.declared.requests.Asked.{Asked}
+use Rattle.asset_requests.specs.declared.requests.Asked.TheVariants.{Script, Check, Shell, Jobs}
 use Rattle.asset_program.specs.declared.doing.Next.{Next}
 use Rattle.asset_program.specs.declared.doing.Next.TheVariants as Next'
-use Rattle.asset_program.specs.Exit.{answer_status}
+use Rattle.asset_requests.specs.Answers.{answer_status}
 use Rattle.asset_program.specs.Program.{Serves, ChecksScript, Shows}
 use Rattle.asset_program.specs.Converse.{Converses}
 

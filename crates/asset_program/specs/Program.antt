@@ -10,12 +10,13 @@ use Rattle.asset_scripts.specs.Runs.{WroteAll, Stops}
 use Rattle.asset_scripts.specs.Transcript.{Transcript}
 use Rattle.asset_check.specs.Checked.{checked}
 use Rattle.asset_standing.specs.Waited.{waited}
-use Rattle.asset_program.specs.declared.requests.Request.{Request}
-use Rattle.asset_program.specs.declared.requests.Task.{Task}
-use Rattle.asset_program.specs.declared.requests.Task.TheVariants.{Run, Waits}
-use Rattle.asset_program.specs.declared.answers.Answer.{Answer}
-use Rattle.asset_program.specs.declared.answers.Answer.TheVariants.{Help, Refusal, Fault}
-use Rattle.asset_program.specs.Exit.{run_status, capacity_of}
+use Rattle.asset_requests.specs.declared.requests.Request.{Request}
+use Rattle.asset_requests.specs.declared.requests.Task.{Task}
+use Rattle.asset_requests.specs.declared.requests.Task.TheVariants.{Run, Waits}
+use Rattle.asset_requests.specs.declared.answers.Answer.{Answer}
+use Rattle.asset_requests.specs.declared.answers.Answer.TheVariants.{Help, Refusal, Fault}
+use Rattle.asset_requests.specs.Limits.{capacity_of}
+use Rattle.asset_program.specs.Exit.{run_status}
 
 -- what each task gives of the bytes of a script
 unfoldable pub given_by : Task → List ℕ → ℕ → Transcript

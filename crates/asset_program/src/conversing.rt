@@ -5,7 +5,7 @@ ghost use Rattle.asset_core.specs.OpenFaults.{IsCapacity};
 ghost use Rattle.asset_program.specs.Converse.{Converses, Talks};
 
 use crate::program::{say_fault, say_range};
-use crate::requests::capacity_or_default;
+use asset_requests::capacity_or_default;
 use asset_scripts::Device;
 use asset_shell::run_shell;
 use std::alloc::Global;

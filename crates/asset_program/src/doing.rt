@@ -3,11 +3,9 @@
 ghost use Rattle.asset_scripts.specs.Device.{IsUnused};
 ghost use Rattle.asset_program.specs.Doing.{LeadsTo};
 
-use crate::answers::Answer;
 use crate::conversing::converse;
-use crate::limits::JobsRequest;
 use crate::program::{run_check, run_program};
-use crate::requests::Asked;
+use asset_requests::{Answer, Asked, JobsRequest};
 use asset_scripts::Device;
 use std::alloc::Global;
 use std::io::{Read, Write};

@@ -2,10 +2,10 @@
 //! something, and 2 if the arguments or a line are refused.
 
 ghost use Rattle.std.specs.Prelude.{◌≡◌};
-ghost use Rattle.asset_program.specs.Exit.{run_status, answer_status};
+ghost use Rattle.asset_requests.specs.Answers.{answer_status};
+ghost use Rattle.asset_program.specs.Exit.{run_status};
 
-use crate::answers::Answer;
-use crate::arguments::ArgumentsFault;
+use asset_requests::{Answer, ArgumentsFault};
 use asset_scripts::{RunEnd, ScriptFault};
 
 /// Returns the exit status of a run.
@@ -22,7 +22,7 @@ pub fn status_of_run(ended: Result<RunEnd, ScriptFault>) -> u8
 }
 
 /// Returns the exit status with an answer in place of a run.
-#[tactic(auto, unfolding(crate::specs::Exit::answer_status))]
+#[tactic(auto, unfolding(asset_requests::specs::Answers::answer_status))]
 pub fn status_of_answer(answer: &Answer) -> u8
     ensures { result ≡ answer_status answer.now }
 {

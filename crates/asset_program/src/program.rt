@@ -3,14 +3,14 @@
 ghost use Rattle.std.specs.Prelude.{◌≡◌, IfOk, IfErr, OnErr};
 ghost use Rattle.asset_core.specs.OpenFaults.{IsCapacity};
 ghost use Rattle.asset_scripts.specs.Device.{IsUnused};
-ghost use Rattle.asset_program.specs.Exit.{answer_status, run_status};
+ghost use Rattle.asset_requests.specs.Answers.{answer_status};
+ghost use Rattle.asset_program.specs.Exit.{run_status};
 ghost use Rattle.asset_program.specs.Program.{ChecksScript, RunsScript, Serves, Shows};
 
-use crate::answers::Answer;
 use crate::exit::{status_of_answer, status_of_run};
-use crate::requests::{Request, Task, capacity_or_default};
 use asset_check::check_script;
 use asset_cli::run_for;
+use asset_requests::{Answer, Request, Task, capacity_or_default};
 use asset_scripts::{Device, RunEnd, ScriptFault, write_all};
 use asset_standing::waits_script;
 use std::alloc::Global;

@@ -2,7 +2,8 @@
 
 use crate::asserts::same;
 use crate::running::{list, run_over};
-use asset_program::{ArgumentsFault, Next};
+use asset_program::Next;
+use asset_requests::ArgumentsFault;
 use asset_scripts::ScriptFault;
 use std::io;
 use std::process::Abort;

@@ -2,8 +2,9 @@
 
 use crate::job_running::run_jobs;
 use asset_bodies::Tx;
+use asset_job_runs::{JobsStop, add_job, begin_jobs, end_jobs, finish_jobs};
 use asset_jobs::do_acts;
-use asset_program::{JobsRequest, JobsStop, add_job, begin_jobs, end_jobs, finish_jobs};
+use asset_requests::JobsRequest;
 use asset_runner::Plan;
 use asset_scripts::Device;
 use std::alloc::Global;

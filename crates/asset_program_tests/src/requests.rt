@@ -2,10 +2,10 @@
 
 use crate::asserts::same;
 use crate::running::{list, run};
+use asset_arguments::requested;
 use asset_cli::{Report, Work};
-use asset_program::{
-    Asked, JobsRequest, Limits, Next, Request, Task, capacity_or_default, limits_of, requested,
-};
+use asset_program::Next;
+use asset_requests::{Asked, JobsRequest, Limits, Request, Task, capacity_or_default, limits_of};
 use std::alloc::{AllocError, Global};
 use std::process::Abort;
 

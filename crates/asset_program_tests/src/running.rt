@@ -1,6 +1,8 @@
 //! How a test runs the program.
 
-use asset_program::{ArgumentsFault, Next, do_asked, requested};
+use asset_arguments::requested;
+use asset_program::{Next, do_asked};
+use asset_requests::ArgumentsFault;
 use asset_scripts::Device;
 use std::alloc::{AllocError, Global};
 use std::io;

@@ -1,8 +1,10 @@
 //! The exit status of each end.
 
 use crate::asserts::same;
+use asset_job_runs::{JobsStop, end_jobs};
 use asset_manager::AuditFault;
-use asset_program::{Answer, ArgumentsFault, JobsStop, end_jobs, status_of_answer, status_of_run};
+use asset_program::{status_of_answer, status_of_run};
+use asset_requests::{Answer, ArgumentsFault};
 use asset_scripts::{Device, RunEnd, ScriptFault};
 use std::alloc::Global;
 use std::process::Abort;

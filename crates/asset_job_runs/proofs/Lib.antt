@@ -1,0 +1,2 @@
+pub mod JobsEndLemmas
+pub mod JobsRunLemmas

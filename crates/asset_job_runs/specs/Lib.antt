@@ -1,0 +1,2 @@
+pub mod JobsEnd
+pub mod JobsRun
