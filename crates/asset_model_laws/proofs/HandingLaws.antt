@@ -26,7 +26,7 @@ use Rattle.asset_model_laws.specs.Owners.{responsible}
 use Rattle.asset_model_laws.specs.Handing.{is_anothers, StandsAs, TakesAll}
 use Rattle.asset_model_laws.proofs.RunAmid.{IsRunAmid, whole}
 use Rattle.asset_model_laws.proofs.EndLaws.{commit_committed_end}
-use Rattle.asset_model_laws.proofs.OwnerLaws.{owner_later, handed_kept, all_handed, responsible_stays}
+use Rattle.asset_model_laws.proofs.OwnerLaws.{owner_later, handed_kept, all_handed, set_handed, responsible_stays}
 use Rattle.asset_model_laws.proofs.AmidLemmas.{Grows, run_grows}
 use Rattle.asset_model_laws.proofs.FinalLemmas.{is_final, ends_so, not_cut, not_refused}
 use Rattle.asset_model_laws.proofs.NestedLaw.{done_reply}
@@ -167,6 +167,7 @@ split_stands opening t u obs old calls new legal run amid =
       older = all.older;
       split = all.grows.1;
       committed = committed;
+      takes = λ n is on. set_handed all.older t u obs n is on;
       stands = λ n later is legal'. responsible_stays opening later new u.0 End'.Committed n legal' committed (all.rest.keeps n is);
     }
 

@@ -19,7 +19,7 @@ use Rattle.asset_names.specs.Answers.{IsLegal, answer}
 use Rattle.asset_names.proofs.AppliedLemmas.{applied_with_effect, applied_without_effect}
 use Rattle.asset_names.proofs.EndLemmas.{live_parts}
 use Rattle.asset_names.proofs.LegalLemmas.{delegate_live}
-use Rattle.asset_model_laws.specs.Owners.{owner_in, responsible}
+use Rattle.asset_model_laws.specs.Owners.{owner_in, is_on, responsible}
 use Rattle.asset_model_laws.proofs.EndLaws.{end_later}
 
 not_eqb : (n m : ℕ) → n < m → eqb n m ≡ false
@@ -79,6 +79,29 @@ handed_moved giver taker (o ∷ os) n is =
           → cond b (Some (handed_over giver taker All o).owner) (owner_in (map (handed_over giver taker All) os) n) ≡ Some taker
       go true here deeper = ap Some (taken (some_same _ _ here))
       go false here deeper = deeper here
+
+-- a delegation hands over what is the giver's on the objects of its set
+moved_on : (giver taker : ℕ) (obs : ObSet) (os : List Operation) (n : ℕ) → owner_in os n ≡ Some giver → is_on obs os n ≡ true → owner_in (map (handed_over giver taker obs) os) n ≡ Some taker
+unfolding owner_in is_on handed_over
+moved_on giver taker obs [] n is on = cc
+moved_on giver taker obs (o ∷ os) n is on =
+    rw (length-map os (handed_over giver taker obs)) (go (eqb n (length os)) is on (λ before within. moved_on giver taker obs os n before within)) where
+      some_same : (a b : ℕ) → Some a ≡ Some b → a ≡ b
+      some_same a b e = cc
+
+      taken : o.owner ≡ giver → in_set obs o.object ≡ true → (handed_over giver taker obs o).owner ≡ taker
+      taken own within = rw (eq-eqb o.owner giver own, within) refl
+
+      go : (b : Bool) → cond b (Some o.owner) (owner_in os n) ≡ Some giver → cond b (in_set obs o.object) (is_on obs os n) ≡ true
+          → (owner_in os n ≡ Some giver → is_on obs os n ≡ true → owner_in (map (handed_over giver taker obs) os) n ≡ Some taker)
+          → cond b (Some (handed_over giver taker obs o).owner) (owner_in (map (handed_over giver taker obs) os) n) ≡ Some taker
+      go true here within deeper = ap Some (taken (some_same _ _ here) within)
+      go false here within deeper = deeper here within
+
+pub set_handed : (older : List Entry) (giver taker : Txn) (obs : ObSet) (n : ℕ) → responsible (applied older) n ≡ Some giver.0 → is_on obs (operations (applied older)) n ≡ true
+    → responsible (applied ((Delegate giver taker obs, Reply'.Done) ∷ older)) n ≡ Some taker.0
+unfolding responsible takes_effect operations operated
+set_handed older giver taker obs n is on = rw (applied_with_effect (Delegate giver taker obs, Reply'.Done) older refl) (moved_on giver.0 taker.0 obs (operations (applied older)) n is on)
 
 pub all_handed : (older : List Entry) (giver taker : Txn) (n : ℕ) → responsible (applied older) n ≡ Some giver.0 → responsible (applied ((Delegate giver taker All, Reply'.Done) ∷ older)) n ≡ Some taker.0
 unfolding responsible takes_effect operations operated
