@@ -19,7 +19,7 @@ use Rattle.asset_sources.proofs.WalkLemmas.{older_length}
 use Rattle.asset_lanes.specs.declared.marking.Mark.{Mark}
 use Rattle.asset_lanes.specs.Lanes.{row_of, lane_names}
 use Rattle.asset_lanes.specs.Marks.{marked, mark_of, mark_list, marks}
-use Rattle.asset_lanes.specs.Promised.{picture_marks, marks_numbered, operates, HasOneMark, HasNoMark}
+use Rattle.asset_lanes.specs.Promised.{picture_marks, marks_numbered, operates, ShowsEntry, HasOneMark, HasNoMark}
 use Rattle.asset_lanes.proofs.RowLemmas.{actor_in_lane}
 
 -- ---- the mark of one entry
@@ -70,19 +70,19 @@ pub numbered_mark : (groups : Grouping) (rows : List ℕ) (number : ℕ) (step :
     → marks_numbered k (mark_list (mark_of groups rows number step reply)) ≡ cond (number == k) (mark_list (mark_of groups rows number step reply)) []
 numbered_mark groups rows number step reply k = numbered_list (mark_of groups rows number step reply) number k (mark_number groups rows number step reply)
 
--- the mark of an entry that operates is in its transaction's lane
+-- the mark of an entry that operates is in its transaction's lane, and shows what was done
 one_mark : (groups : Grouping) (rows : List ℕ) (number : ℕ) (step : Step) (reply : Reply) → (takes_effect step reply && is_operation step) ≡ true
-    → (mark : Mark) × (mark_list (mark_of groups rows number step reply) ≡ mark ∷ []) × (mark.row ≡ row_of rows (actor step).0)
+    → (mark : Mark) × (mark_list (mark_of groups rows number step reply) ≡ mark ∷ []) × (mark.row ≡ row_of rows (actor step).0) × ShowsEntry mark step reply
 unfolding takes_effect is_operation actor mark_list mark_of marked
 one_mark groups rows number (Initiate t parent) reply operating = absurd (and_false_true (takes_effect (Initiate t parent) reply) operating)
 one_mark groups rows number (Begin t) reply operating = absurd (and_false_true (takes_effect (Begin t) reply) operating)
 one_mark groups rows number (Read t x) Reply'.Done operating = absurd (false≢true operating)
-one_mark groups rows number (Read t x) (Reply'.Value w) operating = (marked groups rows number Op'.Read t x w, refl, refl)
+one_mark groups rows number (Read t x) (Reply'.Value w) operating = (marked groups rows number Op'.Read t x w, refl, refl, (refl, refl, refl))
 one_mark groups rows number (Read t x) Reply'.Committed operating = absurd (false≢true operating)
 one_mark groups rows number (Read t x) Reply'.Aborted operating = absurd (false≢true operating)
 one_mark groups rows number (Read t x) (Reply'.Refused refusal) operating = absurd (false≢true operating)
-one_mark groups rows number (Write t x v) Reply'.Done operating = (marked groups rows number Op'.Write t x v, refl, refl)
-one_mark groups rows number (Add t x v) Reply'.Done operating = (marked groups rows number Op'.Add t x v, refl, refl)
+one_mark groups rows number (Write t x v) Reply'.Done operating = (marked groups rows number Op'.Write t x v, refl, refl, (refl, refl, refl))
+one_mark groups rows number (Add t x v) Reply'.Done operating = (marked groups rows number Op'.Add t x v, refl, refl, (refl, refl, refl))
 one_mark groups rows number (Write t x v) (Reply'.Value w) operating = absurd (false≢true operating)
 one_mark groups rows number (Add t x v) (Reply'.Value w) operating = absurd (false≢true operating)
 one_mark groups rows number (Write t x v) Reply'.Committed operating = absurd (false≢true operating)
@@ -172,7 +172,7 @@ has_one_mark entries i entry at operating =
     let groups = grouping_of entries in
     let rows = lane_names groups in
     let one = one_mark groups rows i entry.0 entry.1 operating in
-    (one.0, marks_at groups rows entries i entry at ∙ one.1, ap (λ (row : ℕ). slice_get rows row) one.2 ∙ actor_in_lane entries i entry at)
+    (one.0, marks_at groups rows entries i entry at ∙ one.1, ap (λ (row : ℕ). slice_get rows row) one.2 ∙ actor_in_lane entries i entry at, one.3)
 
 pub has_no_mark : (entries : List Entry) (i : ℕ) (entry : Entry) → slice_get (reverse entries) i ≡ Some entry → operates entry ≡ false → HasNoMark entries i
 unfolding picture_marks operates

@@ -13,7 +13,8 @@ use Rattle.asset_ends.specs.Standing.{Standing, values_of}
 use Rattle.asset_steps.specs.Ready.{IsReady}
 use Rattle.asset_steps.proofs.ReadyLemmas.{ready}
 use Rattle.asset_sources.proofs.WalkLemmas.{legal_here, older_length}
-use Rattle.asset_lanes.specs.Walked.{first_entries, ShowsFirst}
+use Rattle.asset_sources.specs.Walked.{first_entries}
+use Rattle.asset_lanes.specs.Walked.{ShowsFirst}
 use Rattle.asset_lanes.specs.Lanes.{spanned, span_of}
 
 -- the entry at i finds tables ready that show the older ones

@@ -1,13 +1,10 @@
 -- How far a walk over a history has come.
-use Rattle.std.specs.Prelude.{ℕ, List, reverse, take}
-use Rattle.asset_names.specs.Steps.{Entry, applied}
+use Rattle.std.specs.Prelude.{ℕ}
+use Rattle.asset_names.specs.Steps.{applied}
 use Rattle.asset_entries.specs.Recorded.{Recorded}
 use Rattle.asset_ends.specs.Shows.{Shows}
 use Rattle.asset_ends.specs.Standing.{Standing, values_of}
-
--- the first entries of a history, newest first
-abbrev pub first_entries : Recorded → ℕ → List Entry
-first_entries history count = reverse (take count (reverse history.entries))
+use Rattle.asset_sources.specs.Walked.{first_entries}
 
 -- the tables show the first entries of a history
 abbrev pub ShowsFirst : Recorded → ℕ → Standing → Type 0

@@ -2,7 +2,8 @@
 
 ghost use Rattle.std.specs.Prelude.{◌≡◌, ◌++◌, ◌∷◌, [], ◌+◌, ◌<◌, length, IfOk, OnOk};
 ghost use Rattle.asset_lanes.specs.Lanes.{number_if, spanned, span_of, lane_of, lanes};
-ghost use Rattle.asset_lanes.specs.Walked.{first_entries, ShowsFirst};
+ghost use Rattle.asset_sources.specs.Walked.{first_entries};
+ghost use Rattle.asset_lanes.specs.Walked.{ShowsFirst};
 
 use crate::rows::row_of;
 use crate::walking::{pass, tables_before};

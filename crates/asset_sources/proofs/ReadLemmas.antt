@@ -18,10 +18,10 @@ use Rattle.asset_sources.specs.Sourced.{source_from, source_at, sources_of, read
 use Rattle.asset_sources.proofs.WalkLemmas.{alone_found, each_source, listed_front, listed_end}
 
 -- the elements of a list that grew, oldest first
-reversed_front : {X : Type 0} (x : X) (xs : List X) (i : ℕ) → i < length xs → slice_get (reverse (x ∷ xs)) i ≡ slice_get (reverse xs) i
+pub reversed_front : {X : Type 0} (x : X) (xs : List X) (i : ℕ) → i < length xs → slice_get (reverse (x ∷ xs)) i ≡ slice_get (reverse xs) i
 reversed_front x xs i below = ap (λ l. slice_get l i) (reverse-append (x ∷ []) xs) ∙ listed_front (reverse xs) (x ∷ []) i (omega (arith, below, length-reverse xs))
 
-reversed_end : {X : Type 0} (x : X) (xs : List X) (i : ℕ) → i ≡ length xs → slice_get (reverse (x ∷ xs)) i ≡ Some x
+pub reversed_end : {X : Type 0} (x : X) (xs : List X) (i : ℕ) → i ≡ length xs → slice_get (reverse (x ∷ xs)) i ≡ Some x
 reversed_end x xs i same = ap (λ l. slice_get l i) (reverse-append (x ∷ []) xs) ∙ ap (slice_get (reverse xs ++ x ∷ [])) (same ∙ sym (length-reverse xs)) ∙ listed_end (reverse xs) x
 
 -- what is told of the entry at i is by its source among all
@@ -37,7 +37,7 @@ told_of entries found is i step reply here one at entry there =
 -- ---- who is alone
 
 -- the entry over the older ones has their count as its index
-at_between : (newer older : List Entry) (entry : Entry) → slice_get (reverse (newer ++ entry ∷ older)) (length older) ≡ Some entry
+pub at_between : (newer older : List Entry) (entry : Entry) → slice_get (reverse (newer ++ entry ∷ older)) (length older) ≡ Some entry
 at_between [] older entry = reversed_end entry older (length older) refl
 at_between (new ∷ newer) older entry = reversed_front new (newer ++ entry ∷ older) (length older) (omega (arith, length-append newer (entry ∷ older))) ∙ at_between newer older entry
 

@@ -1,5 +1,6 @@
 use Rattle.std.proofs.Common.{◌≡◌}
-use Rattle.asset_lanes.specs.Walked.{first_entries, ShowsFirst}
+use Rattle.asset_sources.specs.Walked.{first_entries}
+use Rattle.asset_lanes.specs.Walked.{ShowsFirst}
 use Rattle.asset_lanes.specs.Lanes.{span_of}
 use Rattle.asset_lanes.proofs.spanning.pass_all.Given as goal
 

@@ -3,7 +3,7 @@ use Rattle.asset_names.specs.declared.statuses.Status.{Status}
 use Rattle.asset_names.specs.Steps.{applied}
 use Rattle.asset_sources.proofs.WalkLemmas.{entry_there}
 use Rattle.asset_lanes.specs.declared.spanning.Span.{Span}
-use Rattle.asset_lanes.specs.Walked.{first_entries}
+use Rattle.asset_sources.specs.Walked.{first_entries}
 use Rattle.asset_lanes.specs.Lanes.{spanned, span_of}
 use Rattle.asset_lanes.proofs.WalkLemmas.{span_next}
 use Rattle.asset_lanes.proofs.spanning.pass_one.Goals as goal
