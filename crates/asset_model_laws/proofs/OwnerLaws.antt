@@ -63,23 +63,6 @@ handed_kept giver taker obs (o ∷ os) n t other is =
       go true here deeper = owner_of (eqb o.owner giver && in_set obs o.object) refl (some_same _ _ here)
       go false here deeper = deeper here
 
--- a delegation of all objects hands over all that is the giver's
-handed_moved : (giver taker : ℕ) (os : List Operation) (n : ℕ) → owner_in os n ≡ Some giver → owner_in (map (handed_over giver taker All) os) n ≡ Some taker
-unfolding owner_in handed_over in_set
-handed_moved giver taker [] n is = cc
-handed_moved giver taker (o ∷ os) n is =
-    rw (length-map os (handed_over giver taker All)) (go (eqb n (length os)) is (λ before. handed_moved giver taker os n before)) where
-      some_same : (a b : ℕ) → Some a ≡ Some b → a ≡ b
-      some_same a b e = cc
-
-      taken : o.owner ≡ giver → (handed_over giver taker All o).owner ≡ taker
-      taken own = rw (eq-eqb o.owner giver own) refl
-
-      go : (b : Bool) → cond b (Some o.owner) (owner_in os n) ≡ Some giver → (owner_in os n ≡ Some giver → owner_in (map (handed_over giver taker All) os) n ≡ Some taker)
-          → cond b (Some (handed_over giver taker All o).owner) (owner_in (map (handed_over giver taker All) os) n) ≡ Some taker
-      go true here deeper = ap Some (taken (some_same _ _ here))
-      go false here deeper = deeper here
-
 -- a delegation hands over what is the giver's on the objects of its set
 moved_on : (giver taker : ℕ) (obs : ObSet) (os : List Operation) (n : ℕ) → owner_in os n ≡ Some giver → is_on obs os n ≡ true → owner_in (map (handed_over giver taker obs) os) n ≡ Some taker
 unfolding owner_in is_on handed_over
@@ -103,9 +86,18 @@ pub set_handed : (older : List Entry) (giver taker : Txn) (obs : ObSet) (n : ℕ
 unfolding responsible takes_effect operations operated
 set_handed older giver taker obs n is on = rw (applied_with_effect (Delegate giver taker obs, Reply'.Done) older refl) (moved_on giver.0 taker.0 obs (operations (applied older)) n is on)
 
+-- each operation is on an object of the set of all objects
+all_on : (os : List Operation) (n t : ℕ) → owner_in os n ≡ Some t → is_on All os n ≡ true
+unfolding owner_in is_on in_set
+all_on [] n t is = cc
+all_on (o ∷ os) n t is = go (eqb n (length os)) is (λ before. all_on os n t before) where
+  go : (b : Bool) → cond b (Some o.owner) (owner_in os n) ≡ Some t → (owner_in os n ≡ Some t → is_on All os n ≡ true) → cond b true (is_on All os n) ≡ true
+  go true here deeper = refl
+  go false here deeper = deeper here
+
 pub all_handed : (older : List Entry) (giver taker : Txn) (n : ℕ) → responsible (applied older) n ≡ Some giver.0 → responsible (applied ((Delegate giver taker All, Reply'.Done) ∷ older)) n ≡ Some taker.0
-unfolding responsible takes_effect operations operated
-all_handed older giver taker n is = rw (applied_with_effect (Delegate giver taker All, Reply'.Done) older refl) (handed_moved giver.0 taker.0 (operations (applied older)) n is)
+unfolding responsible
+all_handed older giver taker n is = set_handed older giver taker All n is (all_on (operations (applied older)) n giver.0 is)
 
 -- who has ended stays responsible, as a step takes effect
 responsible_step : (opening : Opening) (steps : List Step) (step : Step) (reply : Reply) (n t : ℕ) (end : End) → answer opening steps step ≡ Answer reply → takes_effect step reply ≡ true
