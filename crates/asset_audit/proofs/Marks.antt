@@ -5,7 +5,7 @@ use Rattle.std.proofs.Math.ListN.{length-set}
 use Rattle.std.proofs.lemmas.List.{get_or-set_same}
 use Rattle.std.proofs.lemmas.Option.{slice_get-get_or}
 use Rattle.asset_audit.specs.Audited.{Call, Rises, HasNumber, AnyHas}
-use Rattle.asset_audit.specs.Apart.{IsMarked, HasMarked, AreApartIn, AreApartBelow, SharesEarlier}
+use Rattle.asset_audit.specs.Apart.{IsMarked, HasMark, AreApartIn, AreApartBelow, SharesEarlier}
 use Rattle.asset_audit.proofs.Places.{take_there, take_within, there_take}
 
 -- one of the first n calls has the number
@@ -111,7 +111,7 @@ marks_all l n first before after past marks = record {
 
 -- a call whose mark is set, although none of those before it has its number
 pub marks_shared : (l : List Call) (n first j : ℕ) (c : Call) (before after : List Bool) → Rises l → slice_get l n ≡ Some c → c.0 ≡ first + j → j < length before → slice_get after j ≡ Some true
-    → Marks l n first before after → HasMarked l first before
+    → Marks l n first before after → HasMark l first before
 marks_shared l n first j c before after rises at is within set marks = record { offset = j; within = within; has = (n, c, at, is); set = was } where
   was : slice_get before j ≡ Some true
   was = ⊎_elim (λ old. old) (λ has. absurd (let lower : has.1.0 < c.0 = rises has.0 n has.1 c has.2 has.3 at in let number : has.1.0 ≡ first + j = has.4 in omega arith)) (marks.only j set)
@@ -162,7 +162,7 @@ seen_more ss n first width l before after at seen size more = record { size = si
     go (no other) = seen.apart.apart i k a b j lt (omega arith) ea eb within in_a in_b
 
 -- a session that has a marked number
-pub seen_shared : (ss : List (List Call)) (n first width : ℕ) (l : List Call) (marks : List Bool) → slice_get ss n ≡ Some l → ShowsSeen ss n first width marks → HasMarked l first marks → SharesEarlier ss n
+pub seen_shared : (ss : List (List Call)) (n first width : ℕ) (l : List Call) (marks : List Bool) → slice_get ss n ≡ Some l → ShowsSeen ss n first width marks → HasMark l first marks → SharesEarlier ss n
 seen_shared ss n first width l marks at seen has = record { list = l; at_place = at; number = first + has.offset; has = has.has; earlier = seen.only has.offset has.set }
 
 -- fewer sessions

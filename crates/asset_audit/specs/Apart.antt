@@ -4,7 +4,7 @@ use Rattle.asset_names.specs.Steps.{Entry}
 use Rattle.asset_audit.specs.Audited.{Call, HasNumber, AnyHas, AreGoodBelow}
 
 -- the calls before the place have lower numbers, and the others do not
-pub record IsSplit (l : List Call) (number place : ℕ) : Type 0 where
+pub record IsSplitAt (l : List Call) (number place : ℕ) : Type 0 where
   pub within : place ≤ length l
   pub below : (k : ℕ) (c : Call) → k < place → slice_get l k ≡ Some c → c.0 < number
   pub above : (k : ℕ) (c : Call) → place ≤ k → slice_get l k ≡ Some c → number ≤ c.0
@@ -17,7 +17,7 @@ pub record IsMarked (l : List Call) (first : ℕ) (before after : List Bool) : T
   pub only : (j : ℕ) → slice_get after j ≡ Some true → (slice_get before j ≡ Some true) ⊎ HasNumber l (first + j)
 
 -- the mark of one of the calls is set
-pub record HasMarked (l : List Call) (first : ℕ) (marks : List Bool) : Type 0 where
+pub record HasMark (l : List Call) (first : ℕ) (marks : List Bool) : Type 0 where
   pub offset : ℕ
   pub within : offset < length marks
   pub has : HasNumber l (first + offset)

@@ -2,7 +2,7 @@
 
 ghost use Rattle.std.specs.Prelude.{◌↔◌, map, IsTrue};
 ghost use Rattle.asset_audit.specs.Audited.{Rises, HasNumber, AllRise, AnyHas};
-ghost use Rattle.asset_audit.specs.Apart.{IsSplit};
+ghost use Rattle.asset_audit.specs.Apart.{IsSplitAt};
 
 use crate::calls::Calls;
 use asset_names::{Reply, Step};
@@ -11,7 +11,7 @@ use asset_names::{Reply, Step};
 /// the first call are looked at.
 pub(crate) fn count_below(calls: &[(usize, Step, Reply)], number: usize) -> usize
     requires { Rises calls.now }
-    ensures { IsSplit calls.now number result }
+    ensures { IsSplitAt calls.now number result }
 {
     let count = calls.len();
     if count == 0 || calls[count - 1].0 < number {
@@ -26,7 +26,7 @@ pub(crate) fn count_below(calls: &[(usize, Step, Reply)], number: usize) -> usiz
 /// Returns how many calls have a lower number, by a binary search for the last of them.
 fn search_below(calls: &[(usize, Step, Reply)], number: usize) -> usize
     requires { Rises calls.now }
-    ensures { IsSplit calls.now number result }
+    ensures { IsSplitAt calls.now number result }
 {
     let mut low = 0;
     let mut high = calls.len();

@@ -2,7 +2,7 @@
 
 ghost use Rattle.std.specs.Prelude.{◌≡◌, ◌+◌, ◌<◌, ◌≤◌, ◌^◌, map, length, IsTrue, IsFalse};
 ghost use Rattle.asset_audit.specs.Audited.{Rises, AllRise};
-ghost use Rattle.asset_audit.specs.Apart.{IsMarked, HasMarked, AreApartIn, AreApartBelow, SharesEarlier};
+ghost use Rattle.asset_audit.specs.Apart.{IsMarked, HasMark, AreApartIn, AreApartBelow, SharesEarlier};
 
 use crate::calls::Calls;
 use crate::finding::count_below;
@@ -96,7 +96,7 @@ fn mark_calls(calls: &[(usize, Step, Reply)], first: usize, marks: &mut [bool]) 
     requires { Rises calls.now }
     ensures length { length marks.new ≡ length marks.old }
     ensures marked { IsTrue result → IsMarked calls.now first marks.old marks.new }
-    ensures shared { IsFalse result → HasMarked calls.now first marks.old }
+    ensures shared { IsFalse result → HasMark calls.now first marks.old }
 {
     let start = count_below(calls, first);
     for place in start..calls.len() {

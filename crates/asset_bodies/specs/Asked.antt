@@ -10,21 +10,21 @@ use Rattle.asset_audit.specs.Audited.{Call}
 use Rattle.asset_manager.specs.Listed.{IsListed}
 
 -- what a step met, or nothing if it was not asked
-abbrev pub Met : Type 0
-Met = Option (Result Outcome Fault)
+abbrev pub StepMet : Type 0
+StepMet = Option (Result Outcome Fault)
 
 -- the calls after a step: an answer is one call more, and a wait, a fault or a step that was not asked is none
-abbrev pub IsAsked : List Call → Step → Met → List Call → Type 0
-IsAsked before step (Some result) later = IsListed before step result later
-IsAsked before step None later = later ≡ before
+abbrev pub AreCallsAfter : List Call → Step → StepMet → List Call → Type 0
+AreCallsAfter before step (Some result) later = IsListed before step result later
+AreCallsAfter before step None later = later ≡ before
 
 -- whether the step was answered `Done`
-abbrev pub is_done : Met → Bool
+abbrev pub is_done : StepMet → Bool
 is_done (Some (Ok (Answer Done))) = true
 is_done met = false
 
 -- the step was asked, and memory did not run out
-abbrev pub HadMemory : Met → Type 0
+abbrev pub HadMemory : StepMet → Type 0
 HadMemory (Some (Err NoMemory)) = ⊥
 HadMemory None = ⊥
 HadMemory met = Unit {0}
@@ -33,5 +33,5 @@ HadMemory met = Unit {0}
 -- `all` says whether each was answered `Done`
 abbrev pub InTurn : List Step → List Call → Bool → List Call → Type 0
 InTurn [] before all later = (all ≡ true) × (later ≡ before)
-InTurn (step ∷ steps) before all later = (met : Met) × (between : List Call) × IsAsked before step met between
+InTurn (step ∷ steps) before all later = (met : StepMet) × (between : List Call) × AreCallsAfter before step met between
     × (((is_done met ≡ true) × InTurn steps between all later) ⊎ ((is_done met ≡ false) × (all ≡ false) × (later ≡ between)))

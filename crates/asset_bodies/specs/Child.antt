@@ -6,7 +6,7 @@ use Rattle.asset_names.specs.declared.sets.ObSet.TheVariants.{All}
 use Rattle.asset_names.specs.declared.steps.Step.{Step}
 use Rattle.asset_names.specs.declared.steps.Step.TheVariants.{Initiate, Begin, Permit, Delegate, Commit, Abort}
 use Rattle.asset_audit.specs.Audited.{Call}
-use Rattle.asset_bodies.specs.Asked.{Met, IsAsked, InTurn}
+use Rattle.asset_bodies.specs.Asked.{StepMet, AreCallsAfter, InTurn}
 
 -- first the child is initiated
 abbrev pub initiates : Txn → Txn → List Step
@@ -26,21 +26,21 @@ pub record Begun (parent child : Txn) (before later : List Call) : Type 0 where
 -- was asked, whatever came of it
 abbrev pub GivesUp : Txn → Txn → Bool → List Call → List Call → Type 0
 GivesUp parent child false before later = later ≡ before
-GivesUp parent child true before later = (between : List Call) × (met : Met) × InTurn (begins parent child) before false between × IsAsked between (Abort child) met later
+GivesUp parent child true before later = (between : List Call) × (met : StepMet) × InTurn (begins parent child) before false between × AreCallsAfter between (Abort child) met later
 
 -- a step before the body was not answered `Done`
 abbrev pub FailsToBegin : Txn → Txn → List Call → List Call → Type 0
 FailsToBegin parent child before later = (initiated : Bool) × (between : List Call) × InTurn (initiates parent child) before initiated between × GivesUp parent child initiated between later
 
 -- the last step that is asked of a child: a commit if its work was handed over, and else an abort
-abbrev pub last_step : Txn → Bool → Step
-last_step child true = Commit child
-last_step child false = Abort child
+abbrev pub end_of_child : Txn → Bool → Step
+end_of_child child true = Commit child
+end_of_child child false = Abort child
 
 -- What is asked after the body: nothing if it gave up; an abort if it is done and its complete was not answered `Done`; else that
 -- the child's work is handed over to its parent, and then its last step.
 abbrev pub Closes : Txn → Txn → Bool → Bool → List Call → List Call → Type 0
 Closes parent child false completed before later = later ≡ before
-Closes parent child true false before later = (met : Met) × IsAsked before (Abort child) met later
-Closes parent child true true before later = (handed : Bool) × (between : List Call) × (met : Met)
-    × InTurn (Delegate child parent All ∷ []) before handed between × IsAsked between (last_step child handed) met later
+Closes parent child true false before later = (met : StepMet) × AreCallsAfter before (Abort child) met later
+Closes parent child true true before later = (handed : Bool) × (between : List Call) × (met : StepMet)
+    × InTurn (Delegate child parent All ∷ []) before handed between × AreCallsAfter between (end_of_child child handed) met later

@@ -3,7 +3,7 @@ use Rattle.std.specs.Prelude.{◌≡◌, ◌≤◌, ◌+◌, ℕ, Bool, Option, 
 use Rattle.atomic_table.specs.Seated.{TableId}
 use Rattle.asset_names.specs.declared.names.Txn.{Txn}
 use Rattle.asset_manager.specs.Listed.{Listed}
-use Rattle.asset_bodies.specs.Asked.{Met}
+use Rattle.asset_bodies.specs.Asked.{StepMet}
 
 -- who asks: the manager, and the session's list
 pub record Asking : Type 0 where
@@ -22,7 +22,7 @@ pub record Working : Type 0 where
 pub record Worked : Type 0 where
   pub name : Txn
   pub done : Bool
-  pub met : Met
+  pub met : StepMet
   pub of : Option TableId
   pub list : Listed
 

@@ -4,7 +4,7 @@ ghost use Rattle.std.specs.Prelude.{◌≡◌, ◌≤◌, ◌<◌, ◌+◌, ◌�
 ghost use Rattle.std.specs.Arc.{arc_value};
 ghost use Rattle.asset_names.specs.Answers.{takes_memory};
 ghost use Rattle.asset_manager.specs.Listed.{IsListed};
-ghost use Rattle.asset_bodies.specs.Asked.{IsAsked, HadMemory, InTurn};
+ghost use Rattle.asset_bodies.specs.Asked.{AreCallsAfter, HadMemory, InTurn};
 
 use asset_manager::{Manager, Session};
 use asset_names::{Fault, NoMemory, Outcome, Reply, Step};
@@ -107,7 +107,7 @@ impl Agent {
     /// Asks one step once, if the list has room for its answer.
     pub fn ask_once<R: Wait>(&mut self, rt: &R, step: &Step) -> Option<Result<Outcome, Fault>>
         ensures manager { self.new.manager ≡ self.old.manager }
-        ensures asked { IsAsked self.old.list.calls step.now result self.new.list.calls }
+        ensures asked { AreCallsAfter self.old.list.calls step.now result self.new.list.calls }
         ensures room { self.old.list.room ≤ self.new.list.room }
         ensures if_room { MatchOption result (self.old.list.room ≤ length self.old.list.calls) (λ _. length self.old.list.calls < self.old.list.room) }
         ensures memory { length self.old.list.calls < self.old.list.room → (takes_memory step.now ≡ true → ⊥) → HadMemory result }

@@ -4,7 +4,7 @@ ghost use Rattle.std.specs.Prelude.{◌≡◌, ◌≤◌, ◌<◌, ◌+◌, true
 ghost use Rattle.asset_names.specs.declared.steps.Step.TheVariants as Step;
 ghost use Rattle.asset_names.specs.Answers.{takes_memory};
 ghost use Rattle.asset_manager.specs.Listed.{IsListed};
-ghost use Rattle.asset_bodies.specs.Asked.{IsAsked, HadMemory};
+ghost use Rattle.asset_bodies.specs.Asked.{AreCallsAfter, HadMemory};
 ghost use Rattle.asset_bodies.specs.Working.{HasRoom, IsSame};
 
 use crate::agent::Agent;
@@ -207,7 +207,7 @@ impl Tx {
     /// Asks its last step once, if the list has room for its answer.
     fn end<R: Wait>(self, rt: &R, done: bool, step: &Step) -> Finished
         ensures own { (result.name ≡ self.name) × (result.done ≡ done) × (result.of ≡ Some self.manager) }
-        ensures asked { IsAsked self.list.calls step.now result.met result.list.calls }
+        ensures asked { AreCallsAfter self.list.calls step.now result.met result.list.calls }
         ensures room { self.list.room ≤ result.list.room }
         ensures if_room { MatchOption result.met (self.list.room ≤ length self.list.calls) (λ _. length self.list.calls < self.list.room) }
         ensures memory { length self.list.calls < self.list.room → (takes_memory step.now ≡ true → ⊥) → HadMemory result.met }
@@ -233,7 +233,7 @@ impl Tx {
     #[tactic(auto, unfolding(asset_names::specs::Answers::takes_memory))]
     pub fn done<R: Wait>(self, rt: &R) -> Finished
         ensures own { (result.name ≡ self.name) × (result.done ≡ true) × (result.of ≡ Some self.manager) }
-        ensures asked { IsAsked self.list.calls (Step.Complete self.name) result.met result.list.calls }
+        ensures asked { AreCallsAfter self.list.calls (Step.Complete self.name) result.met result.list.calls }
         ensures room { self.list.room ≤ result.list.room }
         ensures if_room { MatchOption result.met (self.list.room ≤ length self.list.calls) (λ _. length self.list.calls < self.list.room) }
         ensures memory { length self.list.calls < self.list.room → HadMemory result.met }
@@ -246,7 +246,7 @@ impl Tx {
     #[tactic(auto, unfolding(asset_names::specs::Answers::takes_memory))]
     pub fn give_up<R: Wait>(self, rt: &R) -> Finished
         ensures own { (result.name ≡ self.name) × (result.done ≡ false) × (result.of ≡ Some self.manager) }
-        ensures asked { IsAsked self.list.calls (Step.Abort self.name) result.met result.list.calls }
+        ensures asked { AreCallsAfter self.list.calls (Step.Abort self.name) result.met result.list.calls }
         ensures room { self.list.room ≤ result.list.room }
         ensures if_room { MatchOption result.met (self.list.room ≤ length self.list.calls) (λ _. length self.list.calls < self.list.room) }
         ensures memory { length self.list.calls < self.list.room → HadMemory result.met }

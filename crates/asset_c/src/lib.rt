@@ -3,7 +3,7 @@
 #![tactic(auto)]
 
 ghost use Rattle.std.specs.Prelude.{◌≡◌, ◌≢◌};
-ghost use Rattle.asset_handle.specs.Calls.{IsAsked, IsClosed, IsEntry, IsGroup, IsLen, IsOpened, IsStatus, IsValue, IsWaiter, Keeps, opening_of};
+ghost use Rattle.asset_handle.specs.Calls.{IsPlainlyAsked, IsHandleClosed, IsEntry, IsGroup, IsLen, IsHandleOpened, IsStatus, IsValueTold, IsWaiter, Keeps, opening_of};
 
 use asset_handle::{Handle, PlainAnswer, PlainObject, PlainStep, PlainWaiter};
 use std::alloc::Global;
@@ -17,7 +17,7 @@ pub extern "C" fn asset_open(
     capacity: usize,
     double: &mut u64,
 ) -> u32
-    ensures { IsOpened asset.old.held.facility (opening_of objects.now) capacity double.old result asset.new.held.facility double.new }
+    ensures { IsHandleOpened asset.old.held.facility (opening_of objects.now) capacity double.old result asset.new.held.facility double.new }
 {
     asset.open(alloc, objects, capacity, double).number()
 }
@@ -30,7 +30,7 @@ pub extern "C" fn asset_step(
     asked: &PlainStep,
     answer: &mut PlainAnswer,
 ) -> u32
-    ensures step { Keeps asset.old.held.facility result asset.new.held.facility (λ f g. IsAsked f asked.now answer.old result g answer.new) }
+    ensures step { Keeps asset.old.held.facility result asset.new.held.facility (λ f g. IsPlainlyAsked f asked.now answer.old result g answer.new) }
     ensures kept { result ≢ 0 → answer.new ≡ answer.old }
 {
     asset.step(alloc, asked, answer).number()
@@ -48,7 +48,7 @@ pub extern "C" fn asset_status(alloc: Global, asset: &mut Handle, t: u64, status
 /// Tells the value of an object.
 #[unsafe(no_mangle)]
 pub extern "C" fn asset_value(alloc: Global, asset: &mut Handle, x: u64, value: &mut i64) -> u32
-    ensures value { Keeps asset.old.held.facility result asset.new.held.facility (λ f g. (g ≡ f) × IsValue f x value.old result value.new) }
+    ensures value { Keeps asset.old.held.facility result asset.new.held.facility (λ f g. (g ≡ f) × IsValueTold f x value.old result value.new) }
     ensures kept { result ≢ 0 → value.new ≡ value.old }
 {
     asset.value(alloc, x, value).number()
@@ -111,7 +111,7 @@ pub extern "C" fn asset_group_of(
 /// Closes the handle and frees what it holds.
 #[unsafe(no_mangle)]
 pub extern "C" fn asset_close(alloc: Global, asset: &mut Handle) -> u32
-    ensures { IsClosed asset.old.held.facility result asset.new.held.facility }
+    ensures { IsHandleClosed asset.old.held.facility result asset.new.held.facility }
 {
     asset.close(alloc).number()
 }

@@ -8,7 +8,7 @@ use Rattle.asset_cli.specs.declared.rendering.Played.{Played}
 use Rattle.asset_cli.specs.declared.rendering.Played.TheVariants as Played'
 
 -- the text after, with the rest of the transcript, is the text before with all of it
-pub record GoesOn (before : List ℕ) (all : Transcript) (after : List ℕ) (rest : Transcript) : Type 0 where
+pub record RendersOn (before : List ℕ) (all : Transcript) (after : List ℕ) (rest : Transcript) : Type 0 where
   pub text : before ++ all.text ≡ after ++ rest.text
   pub end : all.end ≡ rest.end
   pub history : all.history ≡ rest.history
@@ -24,7 +24,7 @@ played_end (Played'.Finished history) = RunEnd'.Finished
 played_end (Played'.BadLine n) = RunEnd'.BadLine n
 
 -- the text after is the text before with all of the transcript, which ends so, and leaves this history
-pub record Ends (before : List ℕ) (all : Transcript) (after : List ℕ) (end : RunEnd) (left : Recorded) : Type 0 where
+pub record RendersToEnd (before : List ℕ) (all : Transcript) (after : List ℕ) (end : RunEnd) (left : Recorded) : Type 0 where
   pub text : after ≡ before ++ all.text
   pub ends : end ≡ all.end
   pub history : left ≡ all.history

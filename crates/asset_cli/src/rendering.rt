@@ -10,7 +10,7 @@ ghost use Rattle.asset_scripts.specs.Transfers.{input_limit};
 ghost use Rattle.asset_scripts.specs.Transcript.{answered_text, full_text, printed, joined_by, steps_from, steps_transcript, transcript};
 ghost use Rattle.asset_scripts.specs.Renders.{end_at};
 ghost use Rattle.asset_scripts.specs.Preamble.{transcript_from};
-ghost use Rattle.asset_cli.specs.Rendering.{GoesOn, Ends, Plays, played_of};
+ghost use Rattle.asset_cli.specs.Rendering.{RendersOn, RendersToEnd, Plays, played_of};
 ghost use Rattle.asset_cli.specs.Playing.{prints_for};
 
 use crate::listing::{entry_of, push_columns};
@@ -118,9 +118,9 @@ fn render_line(
     prints: Prints,
 ) -> Result<bool, ScriptFault>
     ensures goes_on { IfOk result (λ goes_on. OnTrue goes_on ((line : List ℕ) (more : List (List ℕ)) → line_of line ≡ said_as said step.now →
-        GoesOn (string_bytes text.old) (steps_transcript prints (line ∷ more) number core.old.history) (string_bytes text.new) (steps_transcript prints more (number + 1) core.new.history))) }
+        RendersOn (string_bytes text.old) (steps_transcript prints (line ∷ more) number core.old.history) (string_bytes text.new) (steps_transcript prints more (number + 1) core.new.history))) }
     ensures stops { IfOk result (λ goes_on. OnFalse goes_on ((line : List ℕ) (more : List (List ℕ)) → line_of line ≡ said_as said step.now →
-        Ends (string_bytes text.old) (steps_transcript prints (line ∷ more) number core.old.history) (string_bytes text.new) (end_at (Some number)) core.new.history)) }
+        RendersToEnd (string_bytes text.old) (steps_transcript prints (line ∷ more) number core.old.history) (string_bytes text.new) (end_at (Some number)) core.new.history)) }
     ensures memory { IfErr result (λ fault. fault ≡ ScriptFault.NoMemory) }
 {
     match said {
@@ -151,7 +151,7 @@ fn render_steps(
     prints: Prints,
 ) -> Result<Option<u64>, ScriptFault>
     requires few { number + length rest.old + 1 < 2 ^ 64 }
-    ensures rendered { IfOk result (λ bad. Ends (string_bytes text.old) (steps_from prints step.old rest.old number core.old.history) (string_bytes text.new) (end_at bad) core.new.history) }
+    ensures rendered { IfOk result (λ bad. RendersToEnd (string_bytes text.old) (steps_from prints step.old rest.old number core.old.history) (string_bytes text.new) (end_at bad) core.new.history) }
     ensures memory { IfErr result (λ fault. fault ≡ ScriptFault.NoMemory) }
 {
     ask(core, text, step, number, prints)?;

@@ -8,7 +8,7 @@ use Rattle.asset_names.specs.declared.counts.Counts.{Counts}
 use Rattle.asset_names.specs.Counted.{IsBelow}
 use Rattle.asset_names.proofs.CountLemmas.{below_itself, below_through}
 use Rattle.asset_counts.specs.declared.rule.Last.{Last}
-use Rattle.asset_counts.specs.Shown.{no_counts, publisher, reader, IsPackable, packed, unpacked, Fits, All, Shows, published, looked, entered}
+use Rattle.asset_counts.specs.Shown.{no_counts, publisher, reader, IsPackable, packed, unpacked, Fits, All, ShowsPublished, published, looked, entered}
 
 -- zeros are below all counts
 none_below : (a : Counts) → IsBelow no_counts a
@@ -37,7 +37,7 @@ reader_fits book shown c b port = record { below = b; right = λ p. absurd (true
 
 -- to publish keeps it
 pub publishes : (id : ℕ) (me : Me ℕ Last) (c : Counts) (n slots : ℕ) → me.0.publishes ≡ true → n ≡ packed c → IsPackable c → IsBelow me.0.last c
-    → Allows Shows slots id me 0 (λ _. n) (λ _. published (step slots 0 n 0 none) me n)
+    → Allows ShowsPublished slots id me 0 (λ _. n) (λ _. published (step slots 0 n 0 none) me n)
 publishes id me c n slots p is fits up s h len at lt =
     let mine = h.each id me.0 at in
     let now : unpacked n ≡ c = ap unpacked is ∙ unpacked-packed c fits in
@@ -58,7 +58,7 @@ publishes id me c n slots p is fits up s h len at lt =
     )
 
 -- to read keeps it
-pub looks : (id : ℕ) (me : Me ℕ Last) (slots : ℕ) → Allows Shows slots id me 0 (λ n. n) (looked (step slots 0 0 0 none) me)
+pub looks : (id : ℕ) (me : Me ℕ Last) (slots : ℕ) → Allows ShowsPublished slots id me 0 (λ n. n) (looked (step slots 0 0 0 none) me)
 looks id me slots s h len at lt =
     let mine = h.each id me.0 at in
     let found : ℕ = slice_index s.words 0 in
@@ -78,7 +78,7 @@ looks id me slots s h len at lt =
     )
 
 -- to split keeps it
-pub splits : (id : ℕ) (v : Last) → Splits Shows id v v (reader v.last)
+pub splits : (id : ℕ) (v : Last) → Splits ShowsPublished id v v (reader v.last)
 splits id v s h at = record {
   word = h.word;
   book = h.book;
@@ -88,7 +88,7 @@ splits id v s h at = record {
 }
 
 -- to join keeps it
-pub joins : (id : ℕ) (v : Last) (other : ℕ) (w : Last) → Joins Shows id v other w v (reader no_counts)
+pub joins : (id : ℕ) (v : Last) (other : ℕ) (w : Last) → Joins ShowsPublished id v other w v (reader no_counts)
 joins id v other w s h at apart at' = record {
   word = h.word;
   book = h.book;
@@ -99,7 +99,7 @@ joins id v other w s h at apart at' = record {
 }
 
 -- to make a seat keeps it
-pub enters : (v : Me ℕ Last) (slots : ℕ) → Enters Shows slots 0 (λ n w. entered (step slots 0 0 0 none) v n (w, []))
+pub enters : (v : Me ℕ Last) (slots : ℕ) → Enters ShowsPublished slots 0 (λ n w. entered (step slots 0 0 0 none) v n (w, []))
 enters v slots s h len lt =
     let found : ℕ = slice_index s.words 0 in
     let same : unpacked h.word ≡ unpacked found = sym (ap (λ l. unpacked (slice_index l 0)) h.words) in

@@ -16,7 +16,7 @@ pass_coded = coded_via (coded× table_id_coded (coded× coded_ℕ (coded× coded
     (λ x y e i. record { of = (e i).0; last = record { entries = (e i).1.0; committed = (e i).1.1.0; aborted = (e i).1.1.1 } })
 
 -- of a pass: its word, if it has one, and the counts that it saw last
-pub record Seen : Type 0 where
+pub record PassSeen : Type 0 where
   pub of : Option TableId
   pub last : Counts
 

@@ -3,7 +3,7 @@ use Rattle.std.specs.Prelude.{Option, Some, None}
 use Rattle.atomic_table.specs.Seated.{TableId}
 use Rattle.asset_names.specs.declared.counts.Counts.{Counts}
 use Rattle.asset_counts.specs.Shown.{no_counts}
-use Rattle.asset_counts.specs.Pass.{Pass, Seen}
+use Rattle.asset_counts.specs.Pass.{Pass, PassSeen}
 use Rattle.asset_counts.specs.declared.watch.WatchPass.TheInside.{Inside}
 
 -- its word, the counts that it saw last, and both
@@ -15,5 +15,5 @@ abbrev pub last_of : Option Pass → Counts
 last_of None = no_counts
 last_of (Some reader) = reader.last
 
-abbrev pub seen_by : Inside → Seen
+abbrev pub seen_by : Inside → PassSeen
 seen_by pass = record { of = of_reader pass.reader; last = last_of pass.reader }

@@ -42,7 +42,7 @@ abbrev pub All : (ℕ → Last → Type 0) → List Last → Type 0
 All F views = (port : ℕ) (v : Last) → get_elem? views port ≡ some v → F port v
 
 -- the rule: there is one word, and it shows what its one publisher published last, and no seat has seen more
-pub record Shows (s : State ℕ Last) : Type 0 where
+pub record ShowsPublished (s : State ℕ Last) : Type 0 where
   pub word : ℕ
   pub book : ℕ
   pub words : s.words ≡ word ∷ []

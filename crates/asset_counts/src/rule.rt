@@ -15,9 +15,9 @@ pub struct Last {
 pub struct Published;
 
 impl TableRule<u8, Last, ()> for Published {
-    ghost use Rattle.asset_counts.specs.Shown.{Shows, publisher, no_counts};
+    ghost use Rattle.asset_counts.specs.Shown.{ShowsPublished, publisher, no_counts};
 
-    ghost holds = { λ _. Shows };
+    ghost holds = { λ _. ShowsPublished };
 
     ghost first = { λ _. publisher no_counts };
 }

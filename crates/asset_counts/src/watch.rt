@@ -76,9 +76,9 @@ pub struct WatchPass {
 }
 
 impl Model for WatchPass {
-    ghost use Rattle.asset_counts.specs.Pass.{Seen};
+    ghost use Rattle.asset_counts.specs.Pass.{PassSeen};
 
-    ghost Value = { Seen };
+    ghost Value = { PassSeen };
 
     ghost use Rattle.asset_counts.specs.Seen.{seen_by};
 

@@ -12,7 +12,7 @@ use Rattle.asset_deletion.proofs.NumberLemmas.{before_more, number_at}
 use Rattle.asset_history.specs.Named.{with_name, names_of}
 use Rattle.asset_deletion.specs.Named.{Means}
 use Rattle.asset_deletion.specs.Grouping.{first_labels, grouping_of}
-use Rattle.asset_deletion.specs.Grouped.{IsFirst, AreGroups}
+use Rattle.asset_deletion.specs.Grouped.{IsFirstOfGroup, AreGroups}
 use Rattle.asset_history.proofs.NameLemmas.{all_acted}
 use Rattle.asset_deletion.proofs.GroupingLemmas.{labels_first, labels_exist, entries_numbered}
 
@@ -49,7 +49,7 @@ reached labels g (suc n) below = go (eqb (get_or labels n 0) n) refl below (reac
   ]
 
 -- the first name of a group is its own label
-first_own : (leads : ℕ → ℕ → Bool) (names labels : List ℕ) (k : ℕ) → Means leads names labels → k < length names → IsFirst (group_numbers labels) k → get_or labels k 0 ≡ k
+first_own : (leads : ℕ → ℕ → Bool) (names labels : List ℕ) (k : ℕ) → Means leads names labels → k < length names → IsFirstOfGroup (group_numbers labels) k → get_or labels k 0 ≡ k
 first_own leads names labels k means below first = elim (cases_eq (get_or labels k 0) k) [
   | inl same ↦ same
   | inr other ↦
@@ -67,7 +67,7 @@ groups_are entries = record {
   below = (entries_numbered entries).below;
   same = (entries_numbered entries).same;
   occurs = subst (λ (ls : List ℕ). (g : ℕ) → g < groups_before ls (length ls) → (k : ℕ) × (k < length (names_of entries)) × (get_or (group_numbers ls) k 0 ≡ g)) is occurs;
-  rising = subst (λ (ls : List ℕ). (i j : ℕ) → i < j → j < length (names_of entries) → IsFirst (group_numbers ls) i → IsFirst (group_numbers ls) j → get_or (group_numbers ls) i 0 < get_or (group_numbers ls) j 0) is rising;
+  rising = subst (λ (ls : List ℕ). (i j : ℕ) → i < j → j < length (names_of entries) → IsFirstOfGroup (group_numbers ls) i → IsFirstOfGroup (group_numbers ls) j → get_or (group_numbers ls) i 0 < get_or (group_numbers ls) j 0) is rising;
   marks = length-map (names_of entries) (dead entries);
   marked = λ k below. get_or-map (dead entries) (names_of entries) k 0 false below;
 } where
@@ -85,7 +85,7 @@ groups_are entries = record {
       let found = reached labels g (length labels) below in
       (found.0, omega (arith, found.1, means.long), number_at labels found.0 found.1 ∙ ap (groups_before labels) found.2 ∙ found.3)
 
-  rising : (i j : ℕ) → i < j → j < length (names_of entries) → IsFirst (group_numbers labels) i → IsFirst (group_numbers labels) j → get_or (group_numbers labels) i 0 < get_or (group_numbers labels) j 0
+  rising : (i j : ℕ) → i < j → j < length (names_of entries) → IsFirstOfGroup (group_numbers labels) i → IsFirstOfGroup (group_numbers labels) j → get_or (group_numbers labels) i 0 < get_or (group_numbers labels) j 0
   rising i j less below first second =
       let own = first_own (same_group entries) (names_of entries) labels i means (omega arith) first in
       let other = first_own (same_group entries) (names_of entries) labels j means below second in

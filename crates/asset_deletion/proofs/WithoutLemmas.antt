@@ -17,7 +17,7 @@ use Rattle.asset_names.proofs.ListLemmas.{any_map, any_alike, listed_any}
 use Rattle.asset_laws.proofs.GroupLemmas.{group_refl, group_sym, dead_alike, stays_answered}
 use Rattle.asset_history.specs.Named.{with_name, names_of}
 use Rattle.asset_deletion.specs.Grouping.{Grouping, grouping_of, number_in, same_number, dead_in, dead_at}
-use Rattle.asset_deletion.specs.Going.{takes_along, goes, keeps, AreBelow, SaysWhoStays}
+use Rattle.asset_deletion.specs.Going.{takes_along, goes, keeps, AreNumbersBelow, SaysWhoStays}
 use Rattle.asset_deletion.proofs.GroupingLemmas.{entries_numbered, name_position, named_in_group, dead_in_group, same_in_group}
 
 -- ---- names
@@ -75,7 +75,7 @@ kept_same test other (entry ∷ older) agree =
 
 -- ---- numbers
 
-pub numbers_below : (entries : List Entry) → AreBelow (grouping_of entries) (grouping_of entries).count
+pub numbers_below : (entries : List Entry) → AreNumbersBelow (grouping_of entries) (grouping_of entries).count
 unfolding number_in grouping_of
 numbers_below entries n g is = elim (name_position (names_of entries) n) [
   | inl at ↦

@@ -21,8 +21,8 @@ unfoldable pub keeps : Grouping → List Bool → ℕ → Bool
 keeps groups going n = not (dead_at going (number_in groups n))
 
 -- each number of a group is below the bound
-abbrev pub AreBelow : Grouping → ℕ → Type 0
-AreBelow groups bound = (n g : ℕ) → number_in groups n ≡ Some g → g < bound
+abbrev pub AreNumbersBelow : Grouping → ℕ → Type 0
+AreNumbersBelow groups bound = (n g : ℕ) → number_in groups n ≡ Some g → g < bound
 
 -- there are transactions for which the marks say, of each name of the entries, whether it stays if they are chosen
 pub record SaysWhoStays (entries : List Entry) (groups : Grouping) (going : List Bool) : Type 0 where

@@ -7,7 +7,7 @@ ghost use Rattle.asset_names.specs.Groups.{actor, kept, without};
 ghost use Rattle.asset_names.specs.Answers.{IsLegal};
 ghost use Rattle.asset_entries.specs.Recorded.{opened};
 ghost use Rattle.asset_history.specs.Named.{names_of};
-ghost use Rattle.asset_deletion.specs.Going.{keeps, AreBelow, SaysWhoStays};
+ghost use Rattle.asset_deletion.specs.Going.{keeps, AreNumbersBelow, SaysWhoStays};
 
 use crate::going::{dead_groups, going_with};
 use crate::grouped::Groups;
@@ -45,7 +45,7 @@ pub fn without_dead(alloc: Global, history: &History) -> Result<History, NoMemor
 
 /// Returns the history without the entries of the groups that are marked.
 fn left_by(history: &History, groups: &Groups, going: &Vec<bool>) -> Result<History, NoMemory>
-    requires below { AreBelow groups.now (length going.now.items) }
+    requires below { AreNumbersBelow groups.now (length going.now.items) }
     requires says { SaysWhoStays history.now.entries groups.now going.now.items }
     ensures { IfOk result (λ left. left ≡ record history.now { entries = kept (keeps groups.now going.now.items) history.now.entries }) }
 {
@@ -56,7 +56,7 @@ fn left_by(history: &History, groups: &Groups, going: &Vec<bool>) -> Result<Hist
 
 /// Appends the entries of the groups that are not marked to an empty history like this one.
 fn copy_staying(history: &History, groups: &Groups, going: &Vec<bool>, left: &mut History)
-    requires below { AreBelow groups.now (length going.now.items) }
+    requires below { AreNumbersBelow groups.now (length going.now.items) }
     requires says { SaysWhoStays history.now.entries groups.now going.now.items }
     requires empty { left.old ≡ opened history.now.opening history.now.capacity }
     ensures { left.new ≡ record history.now { entries = kept (keeps groups.now going.now.items) history.now.entries } }
@@ -70,7 +70,7 @@ fn copy_staying(history: &History, groups: &Groups, going: &Vec<bool>, left: &mu
 
 /// Returns whether the entry at the index is of a group that is not marked.
 fn stays_at(history: &History, index: usize, groups: &Groups, going: &Vec<bool>) -> bool
-    requires { AreBelow groups.now (length going.now.items) }
+    requires { AreNumbersBelow groups.now (length going.now.items) }
     ensures { (entry : Entry) → slice_get (reverse history.now.entries) index ≡ Some entry → result ≡ keeps groups.now going.now.items (actor entry.0).0 }
 {
     match history.acted_on(index) {
@@ -81,7 +81,7 @@ fn stays_at(history: &History, index: usize, groups: &Groups, going: &Vec<bool>)
 
 /// Returns whether the transaction's group is not marked.
 fn stays(groups: &Groups, going: &Vec<bool>, t: Txn) -> bool
-    requires { AreBelow groups.now (length going.now.items) }
+    requires { AreNumbersBelow groups.now (length going.now.items) }
     ensures { result ≡ keeps groups.now going.now.items t.0 }
 {
     match groups.of(t) {

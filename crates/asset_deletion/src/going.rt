@@ -3,7 +3,7 @@
 ghost use Rattle.std.specs.Prelude.{◌≡◌, ℕ, ◌<◌, false, not, ◌||◌, length, slice_index_or, IfOk};
 ghost use Rattle.asset_names.specs.declared.names.Txn.{Txn as Name};
 ghost use Rattle.asset_deletion.specs.Grouping.{dead_in};
-ghost use Rattle.asset_deletion.specs.Going.{takes_along, goes, keeps, AreBelow};
+ghost use Rattle.asset_deletion.specs.Going.{takes_along, goes, keeps, AreNumbersBelow};
 
 use crate::grouped::Groups;
 use asset_names::{NoMemory, Txn};
@@ -11,7 +11,7 @@ use std::alloc::Global;
 
 /// Marks the group of a chosen transaction if it is dead. A transaction that is not named marks nothing.
 fn mark_going(groups: &Groups, going: &mut Vec<bool>, t: Txn)
-    requires { AreBelow groups.now (length going.old.items) }
+    requires { AreNumbersBelow groups.now (length going.old.items) }
     ensures size { length going.new.items ≡ length going.old.items }
     ensures marked { (g : ℕ) → slice_index_or going.new.items g false ≡ (slice_index_or going.old.items g false || takes_along groups.now g t) }
 {
@@ -24,7 +24,7 @@ fn mark_going(groups: &Groups, going: &mut Vec<bool>, t: Txn)
 
 /// Marks the group of the chosen transaction at the index if it is dead.
 fn mark_at(groups: &Groups, going: &mut Vec<bool>, chosen: &[Txn], index: usize)
-    requires below { AreBelow groups.now (length going.old.items) }
+    requires below { AreNumbersBelow groups.now (length going.old.items) }
     requires there { index < length chosen.now }
     ensures size { length going.new.items ≡ length going.old.items }
     ensures marked { (g : ℕ) (t : Name) → slice_index_or going.new.items g false ≡ (slice_index_or going.old.items g false || takes_along groups.now g (slice_index_or chosen.now index t)) }
@@ -34,7 +34,7 @@ fn mark_at(groups: &Groups, going: &mut Vec<bool>, chosen: &[Txn], index: usize)
 
 /// Marks the dead groups that have a chosen transaction.
 fn mark_chosen(groups: &Groups, going: &mut Vec<bool>, chosen: &[Txn])
-    requires below { AreBelow groups.now (length going.old.items) }
+    requires below { AreNumbersBelow groups.now (length going.old.items) }
     requires none { (g : ℕ) → slice_index_or going.old.items g false ≡ false }
     ensures size { length going.new.items ≡ length going.old.items }
     ensures marked { (g : ℕ) → slice_index_or going.new.items g false ≡ goes groups.now chosen.now g }
@@ -51,7 +51,7 @@ pub(crate) fn going_with(
     groups: &Groups,
     chosen: &[Txn],
 ) -> Result<Vec<bool>, NoMemory>
-    requires { AreBelow groups.now groups.now.count }
+    requires { AreNumbersBelow groups.now groups.now.count }
     ensures size { IfOk result (λ going. length going.items ≡ groups.now.count) }
     ensures marked { IfOk result (λ going. (g : ℕ) → slice_index_or going.items g false ≡ goes groups.now chosen.now g) }
 {

@@ -47,7 +47,7 @@ use Rattle.asset_ends.specs.Updates.{step_of, effect_of}
 use Rattle.asset_ends.specs.Standing.{allows_in}
 use Rattle.asset_ends.specs.Shows.{Shows, used, cell_of, cell_after, permitted, is_opener, depended, table_values}
 use Rattle.asset_permits.proofs.ArrowLaws.{arrows_stand}
-use Rattle.asset_ends.specs.Ended.{IsDropped, IsClosed, AreLeft}
+use Rattle.asset_ends.specs.Ended.{PermitsGo, OpenersGo, DependenciesGo}
 use Rattle.asset_ends.proofs.PermitLaws.{IsAdded, OpensSame, CoversSame, permitted_quiet, permitted_initiate, permitted_end, permitted_permit, permit_ends}
 use Rattle.asset_ends.proofs.OpenerLaws.{IsWidened, opener_quiet, opener_initiate, opener_end, opener_opened, open_ends, reaches_shown}
 use Rattle.asset_ends.proofs.DependLaws.{IsJoined, depended_quiet, depended_initiate, depended_end, depended_depend, depend_ends}
@@ -204,8 +204,8 @@ set_known test after rows steps alive n is = status_set test after rows n ∙ rw
   go true e = rw (row_known rows n (known (status_in rows n) (ap is_live_status is ∙ sym (live_by_status steps n) ∙ alive n e))) refl
 
 -- a commit: the tables after it, by the test of those whom it ends
-pub commit_shows : (opening : Opening) (steps : List Step) (rows : List NamedTransRow) (objects : Cells) (table : Locks.LockTable) (descriptors : List Descriptor) (deps : List Dependency) (t : Txn) → Shows opening steps (table_values rows objects table descriptors deps) → (later : List Descriptor) → IsDropped (commits steps t.0) descriptors later → IsClosed (commits steps t.0) descriptors later
-    → (left : List Dependency) → AreLeft (commits steps t.0) deps left → Shows opening (Commit t ∷ steps) (table_values (set_in (commits steps t.0) Status'.Committed rows) (change_each (settled (commits steps t.0)) objects) (Locks.release_in (commits steps t.0) table) later left)
+pub commit_shows : (opening : Opening) (steps : List Step) (rows : List NamedTransRow) (objects : Cells) (table : Locks.LockTable) (descriptors : List Descriptor) (deps : List Dependency) (t : Txn) → Shows opening steps (table_values rows objects table descriptors deps) → (later : List Descriptor) → PermitsGo (commits steps t.0) descriptors later → OpenersGo (commits steps t.0) descriptors later
+    → (left : List Dependency) → DependenciesGo (commits steps t.0) deps left → Shows opening (Commit t ∷ steps) (table_values (set_in (commits steps t.0) Status'.Committed rows) (change_each (settled (commits steps t.0)) objects) (Locks.release_in (commits steps t.0) table) later left)
 unfolding initiated initiated_by parent_of parent_by operations operated permits permitted_by openers opened_by dependencies dependency_by
 commit_shows opening steps rows objects table descriptors deps t shows later dropped closed left left_over = record {
   names = names_set (commits steps t.0) Status'.Committed rows ∙ shows.names;
@@ -220,8 +220,8 @@ commit_shows opening steps rows objects table descriptors deps t shows later dro
 }
 
 -- an abort: the tables after it, by the test of those whom it ends
-pub abort_shows : (opening : Opening) (steps : List Step) (rows : List NamedTransRow) (objects : Cells) (table : Locks.LockTable) (descriptors : List Descriptor) (deps : List Dependency) (t : Txn) → Shows opening steps (table_values rows objects table descriptors deps) → (later : List Descriptor) → IsDropped (aborts steps t.0) descriptors later → IsClosed (aborts steps t.0) descriptors later
-    → (left : List Dependency) → AreLeft (aborts steps t.0) deps left → Shows opening (Abort t ∷ steps) (table_values (set_in (aborts steps t.0) Status'.Aborted rows) (change_each (undone (aborts steps t.0)) objects) (Locks.release_in (aborts steps t.0) table) later left)
+pub abort_shows : (opening : Opening) (steps : List Step) (rows : List NamedTransRow) (objects : Cells) (table : Locks.LockTable) (descriptors : List Descriptor) (deps : List Dependency) (t : Txn) → Shows opening steps (table_values rows objects table descriptors deps) → (later : List Descriptor) → PermitsGo (aborts steps t.0) descriptors later → OpenersGo (aborts steps t.0) descriptors later
+    → (left : List Dependency) → DependenciesGo (aborts steps t.0) deps left → Shows opening (Abort t ∷ steps) (table_values (set_in (aborts steps t.0) Status'.Aborted rows) (change_each (undone (aborts steps t.0)) objects) (Locks.release_in (aborts steps t.0) table) later left)
 unfolding initiated initiated_by parent_of parent_by operations operated permits permitted_by openers opened_by dependencies dependency_by
 abort_shows opening steps rows objects table descriptors deps t shows later dropped closed left left_over = record {
   names = names_set (aborts steps t.0) Status'.Aborted rows ∙ shows.names;

@@ -30,16 +30,16 @@ abbrev pub marked_by : Parts → List ℕ
 marked_by tables = marked_in tables.seats tables.deps
 
 -- no descriptor of one who passes the test, as the giver or the taker, covers anything any more; the others cover what they did
-abbrev pub IsDropped : (ℕ → Bool) → List Descriptor → List Descriptor → Type 0
-IsDropped test before later = (u n x : ℕ) (op : Op) → one_covers later u n x op ≡ (one_covers before u n x op && not (test u) && not (test n))
+abbrev pub PermitsGo : (ℕ → Bool) → List Descriptor → List Descriptor → Type 0
+PermitsGo test before later = (u n x : ℕ) (op : Op) → one_covers later u n x op ≡ (one_covers before u n x op && not (test u) && not (test n))
 
 -- those who pass the test open nothing any more, and the others open what they did
-abbrev pub IsClosed : (ℕ → Bool) → List Descriptor → List Descriptor → Type 0
-IsClosed test before later = (u x : ℕ) (op : Op) → opens later u x op ≡ (opens before u x op && not (test u))
+abbrev pub OpenersGo : (ℕ → Bool) → List Descriptor → List Descriptor → Type 0
+OpenersGo test before later = (u x : ℕ) (op : Op) → opens later u x op ≡ (opens before u x op && not (test u))
 
 -- the dependencies of those who pass the test, and on them, have gone, and the others stand
-abbrev pub AreLeft : (ℕ → Bool) → List Dependency → List Dependency → Type 0
-AreLeft test before later = (k : Kind) (u v : ℕ) → has_arrow (arrows_of k later) u v ≡ (has_arrow (arrows_of k before) u v && not (test u) && not (test v))
+abbrev pub DependenciesGo : (ℕ → Bool) → List Dependency → List Dependency → Type 0
+DependenciesGo test before later = (k : Kind) (u v : ℕ) → has_arrow (arrows_of k later) u v ≡ (has_arrow (arrows_of k before) u v && not (test u) && not (test v))
 
 -- who has a seat once those who pass the test have left theirs
 unfoldable pub unless_gone : (ℕ → Bool) → Option Txn → Option Txn
@@ -52,7 +52,7 @@ pub record AreEnded (test : ℕ → Bool) (how : End) (before later : Parts) : T
   pub rows : later.trans ≡ set_in test (ended_as how) before.trans
   pub objects : cells (objects_in later.objects) ≡ change_each (ended how test) (cells (objects_in before.objects))
   pub locks : locks_of later ≡ Locks.release_in test (locks_of before)
-  pub permits : IsDropped test (permits_in before.permits) (permits_in later.permits)
-  pub openers : IsClosed test (permits_in before.permits) (permits_in later.permits)
-  pub deps : AreLeft test (dependencies_in before.deps) (dependencies_in later.deps)
+  pub permits : PermitsGo test (permits_in before.permits) (permits_in later.permits)
+  pub openers : OpenersGo test (permits_in before.permits) (permits_in later.permits)
+  pub deps : DependenciesGo test (dependencies_in before.deps) (dependencies_in later.deps)
   pub seats : (c : ℕ) → seat later.seats c ≡ unless_gone test (seat before.seats c)

@@ -6,7 +6,7 @@ use Rattle.asset_names.specs.declared.sets.ObSet.TheVariants.{All, Listed}
 use Rattle.asset_names.specs.declared.replies.Reply.{Reply}
 use Rattle.asset_names.specs.OpSets.{OpSet}
 use Rattle.asset_names.specs.Groups.{actor, partner}
-use Rattle.asset_entries.specs.Committing.{committed_by}
+use Rattle.asset_entries.specs.Committing.{committer}
 use Rattle.asset_entries.specs.StoredSets.{StoredSet}
 use Rattle.asset_entries.specs.Stored.{opened_step, sets_after}
 
@@ -17,8 +17,8 @@ opened_acts giver All ops = (refl, refl)
 opened_acts giver (Listed obs) ops = (refl, refl)
 
 -- it commits nobody
-pub opened_commits : (giver : Txn) (obs : ObSet) (ops : OpSet) (reply : Reply) → committed_by (opened_step giver obs ops) reply ≡ None
-unfolding opened_step committed_by
+pub opened_commits : (giver : Txn) (obs : ObSet) (ops : OpSet) (reply : Reply) → committer (opened_step giver obs ops) reply ≡ None
+unfolding opened_step committer
 opened_commits giver All ops reply = refl
 opened_commits giver (Listed obs) ops reply = refl
 

@@ -9,9 +9,9 @@ use Rattle.asset_names.specs.declared.replies.Reply.TheVariants as Reply'
 use Rattle.asset_names.specs.Steps.{Entry}
 
 -- the transaction whose commit the reply answers with `Committed`
-unfoldable pub committed_by : Step → Reply → Option Txn
-committed_by (Commit t) Reply'.Committed = Some t
-committed_by step reply = None
+unfoldable pub committer : Step → Reply → Option Txn
+committer (Commit t) Reply'.Committed = Some t
+committer step reply = None
 
 -- a transaction is there, and passes the test
 unfoldable pub passes : (ℕ → Bool) → Option Txn → Bool
@@ -20,9 +20,9 @@ passes test None = false
 
 -- whether a commit of a transaction that passes the test was answered with `Committed`
 unfoldable pub has_commit : (ℕ → Bool) → List Entry → Bool
-has_commit test entries = list_any (λ (entry : Entry). passes test (committed_by entry.0 entry.1)) entries
+has_commit test entries = list_any (λ (entry : Entry). passes test (committer entry.0 entry.1)) entries
 
 -- the transaction whose commit the entry answers with `Committed`, if there is an entry and it does
 abbrev pub commit_at : Option Entry → Option Txn
 commit_at None = None
-commit_at (Some entry) = committed_by entry.0 entry.1
+commit_at (Some entry) = committer entry.0 entry.1

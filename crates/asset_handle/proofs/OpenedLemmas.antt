@@ -8,10 +8,10 @@ use Rattle.asset_core.specs.Pending.{Facility, facility_of}
 use Rattle.asset_handle.specs.declared.codes.Code.{Code}
 use Rattle.asset_handle.specs.declared.codes.Code.TheVariants.{Done, Full, NoMemory, Closed, IsOpen, BadCapacity, DoubleObject, BadArgument, Absent}
 use Rattle.asset_handle.specs.Codes.{number_of}
-use Rattle.asset_handle.specs.Calls.{IsFault, IsOpened}
+use Rattle.asset_handle.specs.Calls.{IsFault, IsHandleOpened}
 
 -- a fault opens nothing
-pub opens_nothing : (before : Option Facility) (opening : Opening) (room first named : ℕ) (code : Code) → before ≡ None → IsFault opening room first code named → IsOpened before opening room first (number_of code) before named
+pub opens_nothing : (before : Option Facility) (opening : Opening) (room first named : ℕ) (code : Code) → before ≡ None → IsFault opening room first code named → IsHandleOpened before opening room first (number_of code) before named
 opens_nothing before opening room first named BadCapacity closed fault = record {
   opened = λ e. absurd (omega (arith, e));
   may = λ e. absurd (omega (arith, e));
@@ -56,7 +56,7 @@ opens_nothing before opening room first named BadArgument closed fault = absurd 
 opens_nothing before opening room first named Absent closed fault = absurd fault
 
 -- an open handle is not opened again
-pub opens_no_more : (before : Option Facility) (opening : Opening) (room first : ℕ) → is_some before ≡ true → IsOpened before opening room first 4 before first
+pub opens_no_more : (before : Option Facility) (opening : Opening) (room first : ℕ) → is_some before ≡ true → IsHandleOpened before opening room first 4 before first
 opens_no_more before opening room first is = record {
   opened = λ e. absurd (omega (arith, e));
   may = λ e. absurd (omega (arith, e));
@@ -76,7 +76,7 @@ none_is_there None closed = refl
 none_is_there (Some x) closed = absurd (true≢false closed)
 
 -- a closed handle is opened
-pub opens : (before later : Option Facility) (opening : Opening) (room first named : ℕ) → before ≡ None → later ≡ Some (facility_of opening room) → MayOpen opening room → named ≡ first → IsOpened before opening room first 0 later named
+pub opens : (before later : Option Facility) (opening : Opening) (room first named : ℕ) → before ≡ None → later ≡ Some (facility_of opening room) → MayOpen opening room → named ≡ first → IsHandleOpened before opening room first 0 later named
 opens before later opening room first named closed is may same = record {
   opened = λ _. is;
   may = λ _. may;

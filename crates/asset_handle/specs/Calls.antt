@@ -51,8 +51,8 @@ pub record IsAnswered (before : Facility) (step : Step) (first : PlainAnswer) (c
   pub kept : code ≢ 0 → answer ≡ first
 
 -- a plain step: one that asks for nothing is a bad argument, and changes nothing
-abbrev pub IsAsked : Facility → PlainStep → PlainAnswer → ℕ → Facility → PlainAnswer → Type 0
-IsAsked before asked first code later answer =
+abbrev pub IsPlainlyAsked : Facility → PlainStep → PlainAnswer → ℕ → Facility → PlainAnswer → Type 0
+IsPlainlyAsked before asked first code later answer =
     MatchOption (step_in asked) ((code ≡ 7) × (later ≡ before) × (answer ≡ first)) (λ step. IsAnswered before step first code later answer)
 
 -- the number of the status of a transaction
@@ -60,8 +60,8 @@ abbrev pub IsStatus : Facility → ℕ → ℕ → ℕ → Type 0
 IsStatus f t code number = (code ≡ 0) × (number ≡ status_number (status (applied f.history.entries) t))
 
 -- the value of an object, if there is one
-abbrev pub IsValue : Facility → ℕ → ℤ → ℕ → ℤ → Type 0
-IsValue f x first code value =
+abbrev pub IsValueTold : Facility → ℕ → ℤ → ℕ → ℤ → Type 0
+IsValueTold f x first code value =
     MatchOption (value_if_any f.history.opening (applied f.history.entries) x) ((code ≡ 8) × (value ≡ first)) (λ v. (code ≡ 0) × (value ≡ v))
 
 -- the waiter of an object at an index, if there is one
@@ -94,7 +94,7 @@ IsFault opening room first _ named = ⊥
 
 -- A handle is opened. Done: it has the facility over these objects. Of the faults the first one that applies comes: that it is
 -- open, the capacity, and the least object that is given twice. Memory may run out before the last two are looked at.
-pub record IsOpened (before : Option Facility) (opening : Opening) (room first code : ℕ) (later : Option Facility) (named : ℕ) : Type 0 where
+pub record IsHandleOpened (before : Option Facility) (opening : Opening) (room first code : ℕ) (later : Option Facility) (named : ℕ) : Type 0 where
   pub opened : code ≡ 0 → later ≡ Some (facility_of opening room)
   pub may : code ≡ 0 → MayOpen opening room
   pub already : (f : Facility) → before ≡ Some f → code ≡ 4
@@ -107,5 +107,5 @@ pub record IsOpened (before : Option Facility) (opening : Opening) (room first c
   pub kept : code ≢ 6 → named ≡ first
 
 -- a handle is closed, whether or not it was before, and the code says which
-abbrev pub IsClosed : Option Facility → ℕ → Option Facility → Type 0
-IsClosed before code later = (later ≡ None) × MatchOption before (code ≡ 3) (λ f. code ≡ 0)
+abbrev pub IsHandleClosed : Option Facility → ℕ → Option Facility → Type 0
+IsHandleClosed before code later = (later ≡ None) × MatchOption before (code ≡ 3) (λ f. code ≡ 0)

@@ -2,7 +2,7 @@
 
 ghost use Rattle.std.specs.Prelude.{◌≡◌, MatchOption};
 ghost use Rattle.asset_handle.specs.Codes.{number_of};
-ghost use Rattle.asset_handle.specs.Calls.{IsAnswered, IsAsked, IsEntry, IsGroup, IsLen, IsStatus, IsValue, IsWaiter};
+ghost use Rattle.asset_handle.specs.Calls.{IsAnswered, IsPlainlyAsked, IsEntry, IsGroup, IsLen, IsStatus, IsValueTold, IsWaiter};
 
 use crate::asked::put_step;
 use crate::codes::Code;
@@ -31,7 +31,7 @@ fn answer_step(core: &mut Core, step: &Step, answer: &mut PlainAnswer) -> Code
 /// Asks for the step of a plain step, and tells the answer.
 #[inline(always)]
 pub(crate) fn ask(core: &mut Core, asked: &PlainStep, answer: &mut PlainAnswer) -> Code
-    ensures { IsAsked core.old asked.now answer.old (number_of result) core.new answer.new }
+    ensures { IsPlainlyAsked core.old asked.now answer.old (number_of result) core.new answer.new }
 {
     let mut step = Step::Begin { t: Txn(0) };
     if put_step(asked, &mut step) {
@@ -51,7 +51,7 @@ pub(crate) fn tell_status(core: &Core, t: u64, status: &mut u32) -> Code
 
 /// Tells the value of an object.
 pub(crate) fn tell_value(core: &Core, x: u64, value: &mut i64) -> Code
-    ensures { IsValue core.now x value.old (number_of result) value.new }
+    ensures { IsValueTold core.now x value.old (number_of result) value.new }
 {
     match core.value(Ob(x)) {
         Some(found) => {

@@ -1,7 +1,7 @@
 //! The handle that a caller keeps.
 
 ghost use Rattle.std.specs.Prelude.{◌≡◌, ◌≢◌, Option, Some, None, true, is_some, ◌↔◌, IfSome, IsNone};
-ghost use Rattle.asset_handle.specs.Calls.{IsAsked, IsClosed, IsEntry, IsGroup, IsLen, IsOpened, IsStatus, IsValue, IsWaiter, Keeps, opening_of};
+ghost use Rattle.asset_handle.specs.Calls.{IsPlainlyAsked, IsHandleClosed, IsEntry, IsGroup, IsLen, IsHandleOpened, IsStatus, IsValueTold, IsWaiter, Keeps, opening_of};
 ghost use Rattle.asset_handle.specs.Codes.{number_of};
 ghost use Rattle.asset_handle.specs.Handle.{held_coded, handle_owns, IsTied};
 ghost use Rattle.asset_core.specs.declared.facility.Core.{Core};
@@ -134,7 +134,7 @@ impl Handle {
         capacity: usize,
         double: &mut u64,
     ) -> Code
-        ensures { IsOpened self.old.held.facility (opening_of objects.now) capacity double.old (number_of result) self.new.held.facility double.new }
+        ensures { IsHandleOpened self.old.held.facility (opening_of objects.now) capacity double.old (number_of result) self.new.held.facility double.new }
     {
         if self.is_open {
             return Code::IsOpen;
@@ -155,7 +155,7 @@ impl Handle {
     /// that may need memory would take effect. A complete, a commit or an abort that changes a status meets neither.
     #[inline(always)]
     pub fn step(&mut self, alloc: Global, asked: &PlainStep, answer: &mut PlainAnswer) -> Code
-        ensures step { Keeps self.old.held.facility (number_of result) self.new.held.facility (λ f g. IsAsked f asked.now answer.old (number_of result) g answer.new) }
+        ensures step { Keeps self.old.held.facility (number_of result) self.new.held.facility (λ f g. IsPlainlyAsked f asked.now answer.old (number_of result) g answer.new) }
         ensures kept { number_of result ≢ 0 → answer.new ≡ answer.old }
     {
         match self.take(alloc) {
@@ -186,7 +186,7 @@ impl Handle {
 
     /// Tells the value of an object. It answers `Closed` if the handle is closed, and `Absent` if there is no such object.
     pub fn value(&mut self, alloc: Global, x: u64, value: &mut i64) -> Code
-        ensures value { Keeps self.old.held.facility (number_of result) self.new.held.facility (λ f g. (g ≡ f) × IsValue f x value.old (number_of result) value.new) }
+        ensures value { Keeps self.old.held.facility (number_of result) self.new.held.facility (λ f g. (g ≡ f) × IsValueTold f x value.old (number_of result) value.new) }
         ensures kept { number_of result ≢ 0 → value.new ≡ value.old }
     {
         match self.take(alloc) {
@@ -272,7 +272,7 @@ impl Handle {
 
     /// Closes the handle and frees what it holds. It answers `Closed` if it was closed already.
     pub fn close(&mut self, alloc: Global) -> Code
-        ensures { IsClosed self.old.held.facility (number_of result) self.new.held.facility }
+        ensures { IsHandleClosed self.old.held.facility (number_of result) self.new.held.facility }
     {
         match self.take(alloc) {
             Some(core) => {

@@ -23,14 +23,14 @@ use Rattle.asset_names.proofs.LegalLemmas.{effect_unrefused, first_none, known_i
 use Rattle.asset_laws.proofs.KeptLemmas.{RespectsEntries, respects_applied, kept_alike}
 use Rattle.asset_laws.proofs.AlikeLemmas.{commits_keeps}
 use Rattle.asset_laws.proofs.GroupLemmas.{keeps_respects, group_keeps, dead_uncommitted}
-use Rattle.asset_entries.specs.Committing.{committed_by, passes, has_commit}
+use Rattle.asset_entries.specs.Committing.{committer, passes, has_commit}
 
 -- ---- who has committed was ended by an answered commit of a member of its group
 
 -- what a step that took effect ends by a commit, it commits
 commit_passes : (test : ℕ → Bool) (step : Step) (reply : Reply) (steps : List Step) (n : ℕ) → takes_effect step reply ≡ true → ((u : ℕ) → commits steps u n ≡ true → test u ≡ true)
-    → was_committed (ended_by step (λ m. lists (initiated steps) m && is_none (end_of steps m)) steps n) ≡ true → passes test (committed_by step reply) ≡ true
-unfolding takes_effect ended_by commits live same_class passes committed_by was_committed
+    → was_committed (ended_by step (λ m. lists (initiated steps) m && is_none (end_of steps m)) steps n) ≡ true → passes test (committer step reply) ≡ true
+unfolding takes_effect ended_by commits live same_class passes committer was_committed
 commit_passes test (Commit u) Reply'.Committed steps n carried known h = known u.0 (go _ h) where
   go : (b : Bool) → was_committed (cond b (Some End'.Committed) None) ≡ true → b ≡ true
   go true h = refl
@@ -57,11 +57,11 @@ committed_by_member test (entry ∷ older) respects n here h = go (takes_effect 
 
   go : (effect : Bool) → takes_effect entry.0 entry.1 ≡ effect → (was_committed (end_of steps n) ≡ true → has_commit test older ≡ true)
       → was_committed (end_of (cond effect (entry.0 ∷ steps) steps) n) ≡ true → has_commit test (entry ∷ older) ≡ true
-  go false e known h = or_right (passes test (committed_by entry.0 entry.1)) _ (known h)
+  go false e known h = or_right (passes test (committer entry.0 entry.1)) _ (known h)
   go true e known h =
       let alike = kept_alike test steps (respects_applied test older respects.1) in
       elim (committed_now (end_of steps n) _ h) [
-        | inl before ↦ or_right (passes test (committed_by entry.0 entry.1)) _ (known before)
+        | inl before ↦ or_right (passes test (committer entry.0 entry.1)) _ (known before)
         | inr now ↦ or_left _ _ (commit_passes test entry.0 entry.1 steps n e (λ u commit. commits_keeps test _ steps alike u n commit ∙ here) now)
       ]
 
@@ -92,16 +92,16 @@ committed_stays entry older n h = go (takes_effect entry.0 entry.1) where
   go true = stays (end_of (applied older) n) _ h
   go false = h
 
-commit_counts : (opening : Opening) (test : ℕ → Bool) (step : Step) (reply : Reply) (older : List Entry) → answer opening (applied older) step ≡ Answer reply → passes test (committed_by step reply) ≡ true
+commit_counts : (opening : Opening) (test : ℕ → Bool) (step : Step) (reply : Reply) (older : List Entry) → answer opening (applied older) step ≡ Answer reply → passes test (committer step reply) ≡ true
     → (n : ℕ) × (test n ≡ true) × (was_committed (end_of (applied ((step, reply) ∷ older)) n) ≡ true)
-unfolding passes committed_by applied takes_effect
+unfolding passes committer applied takes_effect
 commit_counts opening test (Commit t) Reply'.Committed older is h = (t.0, h, committed_after opening (applied older) t is)
 commit_counts opening test step reply older is h = absurd (false≢true h)
 
 pub member_committed : (opening : Opening) (test : ℕ → Bool) (entries : List Entry) → IsLegal opening entries → has_commit test entries ≡ true → (n : ℕ) × (test n ≡ true) × (was_committed (end_of (applied entries) n) ≡ true)
 unfolding IsLegal has_commit
 member_committed opening test [] legal h = absurd (false≢true h)
-member_committed opening test (entry ∷ older) legal h = elim (or_cases (passes test (committed_by entry.0 entry.1)) _ h) [
+member_committed opening test (entry ∷ older) legal h = elim (or_cases (passes test (committer entry.0 entry.1)) _ h) [
   | inl here ↦ commit_counts opening test entry.0 entry.1 older legal.0 here
   | inr before ↦
       let known = member_committed opening test older legal.1 before in

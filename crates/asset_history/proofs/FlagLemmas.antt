@@ -13,7 +13,7 @@ use Rattle.asset_names.specs.Steps.{Entry}
 use Rattle.asset_names.specs.Groups.{actor, partner, acted_on_by, acted_on, same_group}
 use Rattle.asset_names.proofs.Common.{both_follow}
 use Rattle.asset_names.proofs.ListLemmas.{listed_at}
-use Rattle.asset_entries.specs.Committing.{committed_by, passes, has_commit}
+use Rattle.asset_entries.specs.Committing.{committer, passes, has_commit}
 use Rattle.asset_name_groups.specs.NamesInGroups.{NamesInGroups, flag_at, flags_with, with_flag, IsConsistent}
 use Rattle.asset_history.specs.Named.{names_of}
 use Rattle.asset_history.specs.Together.{name_at, label_at, commits, AreFlagged}
@@ -36,29 +36,29 @@ passes_one test c None is h = absurd (false≢true h)
 pub commit_found : (test : ℕ → Bool) (entries : List Entry) → has_commit test entries ≡ true → (c : ℕ) × (test c ≡ true) × (commits entries c ≡ true)
 unfolding has_commit
 commit_found test [] h = absurd (false≢true h)
-commit_found test (entry ∷ older) h = elim (or_cases (passes test (committed_by entry.0 entry.1)) _ h) [
-  | inl here ↦ let one = passed test (committed_by entry.0 entry.1) here in (one.0, one.1, or_left _ _ one.2)
-  | inr later ↦ let one = commit_found test older later in (one.0, one.1, or_right (passes (eqb one.0) (committed_by entry.0 entry.1)) _ one.2)
+commit_found test (entry ∷ older) h = elim (or_cases (passes test (committer entry.0 entry.1)) _ h) [
+  | inl here ↦ let one = passed test (committer entry.0 entry.1) here in (one.0, one.1, or_left _ _ one.2)
+  | inr later ↦ let one = commit_found test older later in (one.0, one.1, or_right (passes (eqb one.0) (committer entry.0 entry.1)) _ one.2)
 ]
 
 pub commit_passes : (test : ℕ → Bool) (c : ℕ) (entries : List Entry) → test c ≡ true → commits entries c ≡ true → has_commit test entries ≡ true
 unfolding has_commit
 commit_passes test c [] is h = absurd (false≢true h)
-commit_passes test c (entry ∷ older) is h = elim (or_cases (passes (eqb c) (committed_by entry.0 entry.1)) _ h) [
-  | inl here ↦ or_left _ _ (passes_one test c (committed_by entry.0 entry.1) is here)
-  | inr later ↦ or_right (passes test (committed_by entry.0 entry.1)) _ (commit_passes test c older is later)
+commit_passes test c (entry ∷ older) is h = elim (or_cases (passes (eqb c) (committer entry.0 entry.1)) _ h) [
+  | inl here ↦ or_left _ _ (passes_one test c (committer entry.0 entry.1) is here)
+  | inr later ↦ or_right (passes test (committer entry.0 entry.1)) _ (commit_passes test c older is later)
 ]
 
 -- who committed was acted on
-committed_acts : (step : Step) (reply : Reply) (c : ℕ) → passes (eqb c) (committed_by step reply) ≡ true → (actor step).0 ≡ c
-unfolding passes committed_by actor
+committed_acts : (step : Step) (reply : Reply) (c : ℕ) → passes (eqb c) (committer step reply) ≡ true → (actor step).0 ≡ c
+unfolding passes committer actor
 committed_acts (Commit t) Reply'.Committed c h = sym (eqb-true c t.0 h)
 committed_acts step reply c h = absurd (false≢true h)
 
 pub commit_acts : (entries : List Entry) (c : ℕ) → commits entries c ≡ true → lists (acted_on entries) c ≡ true
 unfolding has_commit acted_on acted_on_by lists
 commit_acts [] c h = absurd (false≢true h)
-commit_acts (entry ∷ older) c h = elim (or_cases (passes (eqb c) (committed_by entry.0 entry.1)) _ h) [
+commit_acts (entry ∷ older) c h = elim (or_cases (passes (eqb c) (committer entry.0 entry.1)) _ h) [
   | inl here ↦ or_left _ _ (eq-eqb (actor entry.0).0 c (committed_acts entry.0 entry.1 c here))
   | inr later ↦ or_right (eqb (actor entry.0).0 c) _ (or_right (eqb (partner entry.0).0 c) _ (commit_acts older c later))
 ]
@@ -102,10 +102,10 @@ flags_by_groups entries g names same flagged k below = both_follow _ _ there bac
 -- ---- a commit more
 
 -- an entry that commits nobody
-pub flagged_none : (entry : Entry) (older : List Entry) (g : NamesInGroups) → committed_by entry.0 entry.1 ≡ None → AreFlagged older g → AreFlagged (entry ∷ older) g
+pub flagged_none : (entry : Entry) (older : List Entry) (g : NamesInGroups) → committer entry.0 entry.1 ≡ None → AreFlagged older g → AreFlagged (entry ∷ older) g
 unfolding has_commit passes
 flagged_none entry older g none flagged = record {
-  by = λ k below h. let one = flagged.by k below h in (one.0, one.1, one.2, or_right (passes (eqb (name_at g one.0)) (committed_by entry.0 entry.1)) _ one.3);
+  by = λ k below h. let one = flagged.by k below h in (one.0, one.1, one.2, or_right (passes (eqb (name_at g one.0)) (committer entry.0 entry.1)) _ one.3);
   flagged = λ k m is_k is_m same h. flagged.flagged k m is_k is_m same (ap (λ found. passes (eqb (name_at g m)) found || commits older (name_at g m)) (sym none) ∙ h);
 }
 
@@ -115,14 +115,14 @@ flag_after g node k sound below =
     get_or-map-range_with_len (λ m. eqb (get_or g.labels m 0) (get_or g.labels node 0) || get_or g.flags m false) 0 (length g.labels) k k false (omega (arith, below, sound.each_has_label)) (omega arith)
 
 -- an entry that commits the name of a node, whose group is flagged
-pub flagged_one : (entry : Entry) (older : List Entry) (g : NamesInGroups) (t : Txn) (node : ℕ) → IsConsistent g → committed_by entry.0 entry.1 ≡ Some t → node < length g.names → name_at g node ≡ t.0 → AreFlagged older g → AreFlagged (entry ∷ older) (with_flag g node)
+pub flagged_one : (entry : Entry) (older : List Entry) (g : NamesInGroups) (t : Txn) (node : ℕ) → IsConsistent g → committer entry.0 entry.1 ≡ Some t → node < length g.names → name_at g node ≡ t.0 → AreFlagged older g → AreFlagged (entry ∷ older) (with_flag g node)
 unfolding has_commit passes with_flag
 flagged_one entry older g t node sound is within name flagged = record {
   by = λ k below h. elim (or_cases (eqb (label_at g k) (label_at g node)) _ (sym (flag_after g node k sound below) ∙ h)) [
     | inl here ↦ (node, within, sym (eqb-true (label_at g k) (label_at g node) here), or_left _ _ (ap (λ found. passes (eqb (name_at g node)) found) is ∙ eq-eqb (name_at g node) t.0 name))
-    | inr before ↦ let one = flagged.by k below before in (one.0, one.1, one.2, or_right (passes (eqb (name_at g one.0)) (committed_by entry.0 entry.1)) _ one.3)
+    | inr before ↦ let one = flagged.by k below before in (one.0, one.1, one.2, or_right (passes (eqb (name_at g one.0)) (committer entry.0 entry.1)) _ one.3)
   ];
-  flagged = λ k m is_k is_m same h. flag_after g node k sound is_k ∙ elim (or_cases (passes (eqb (name_at g m)) (committed_by entry.0 entry.1)) _ h) [
+  flagged = λ k m is_k is_m same h. flag_after g node k sound is_k ∙ elim (or_cases (passes (eqb (name_at g m)) (committer entry.0 entry.1)) _ h) [
     | inl here ↦
         let named : name_at g m ≡ t.0 = eqb-true (name_at g m) t.0 (ap (λ found. passes (eqb (name_at g m)) found) (sym is) ∙ here) in
         let one : m ≡ node = sound.different m node is_m within (named ∙ sym name) in
@@ -132,6 +132,6 @@ flagged_one entry older g t node sound is within name flagged = record {
 }
 
 -- who commits by the newest entry was acted on
-pub committed_listed : (entry : Entry) (older : List Entry) (t : Txn) → committed_by entry.0 entry.1 ≡ Some t → lists (acted_on (entry ∷ older)) t.0 ≡ true
+pub committed_listed : (entry : Entry) (older : List Entry) (t : Txn) → committer entry.0 entry.1 ≡ Some t → lists (acted_on (entry ∷ older)) t.0 ≡ true
 unfolding has_commit passes
 committed_listed entry older t is = commit_acts (entry ∷ older) t.0 (or_left _ _ (ap (λ found. passes (eqb t.0) found) is ∙ eq-eqb t.0 t.0 refl))

@@ -12,7 +12,7 @@ use Rattle.asset_history.specs.declared.links.Link.{Link}
 use Rattle.asset_history.specs.Links.{IsIn, HaveMore}
 use Rattle.asset_history.specs.Together.{name_at, label_at, IsWith, HaveGrown}
 use Rattle.asset_history.specs.Uses.{opens, operates, uses}
-use Rattle.asset_history.specs.Users.{AreOfOneSide, AreSaid, AreAmong, AreWithin, IsReached, SayAll, also, node_in, chain_in, users_or_nobody, uses_as}
+use Rattle.asset_history.specs.Users.{AreOfOneSide, AreSaid, AreAmong, AreUsersWithin, IsReached, SayAll, also, node_in, chain_in, users_or_nobody, uses_as}
 use Rattle.asset_names.proofs.Common.{and_true, and_false}
 use Rattle.asset_history.proofs.ChainLemmas.{in_none, in_more, was_in}
 use Rattle.asset_history.proofs.LabelLemmas.{with_grown}
@@ -25,7 +25,7 @@ neither false true h = absurd (false≢true (sym h))
 
 -- ---- the nodes of users
 
-pub said_within : (g : NamesInGroups) (links : List Link) (o p O P : ℕ → Bool) (users : Users) → 0 < length g.names → AreSaid g links o p O P users → AreWithin (length g.names) links users
+pub said_within : (g : NamesInGroups) (links : List Link) (o p O P : ℕ → Bool) (users : Users) → 0 < length g.names → AreSaid g links o p O P users → AreUsersWithin (length g.names) links users
 unfolding AreSaid node_in chain_in
 said_within g links o p O P Users'.Nobody some said = record { node = some; linked = omega arith; chained = λ other h. absurd (in_none links other h) }
 said_within g links o p O P (Users'.OneSide true node chain) some said = record { node = said.within; linked = said.linked; chained = λ other h. (said.users other h).0 }
@@ -33,7 +33,7 @@ said_within g links o p O P (Users'.OneSide false node chain) some said = record
 said_within g links o p O P (Users'.Met node) some said = record { node = said.within; linked = omega arith; chained = λ other h. absurd (in_none links other h) }
 
 -- more names, and more links
-pub within_more : (nodes more : ℕ) (links after : List Link) (users : Users) → nodes ≤ more → HaveMore links after → AreWithin nodes links users → AreWithin more after users
+pub within_more : (nodes more : ℕ) (links after : List Link) (users : Users) → nodes ≤ more → HaveMore links after → AreUsersWithin nodes links users → AreUsersWithin more after users
 within_more nodes more links after users grown linked within = record {
   node = omega (arith, within.node, grown);
   linked = omega (arith, within.linked, linked.more);

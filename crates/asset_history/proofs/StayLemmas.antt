@@ -9,7 +9,7 @@ use Rattle.asset_names.specs.declared.replies.Reply.{Reply}
 use Rattle.asset_names.specs.Answers.{IsLegal}
 use Rattle.asset_names.specs.Groups.{actor}
 use Rattle.asset_names.specs.Steps.{Opening, Entry}
-use Rattle.asset_entries.specs.Committing.{committed_by}
+use Rattle.asset_entries.specs.Committing.{committer}
 use Rattle.asset_entries.specs.Knowing.{is_of_one, is_of_known}
 use Rattle.asset_entries.specs.Operating.{opener_of, opener_at}
 use Rattle.asset_name_groups.specs.NamesInGroups.{IsConsistent}
@@ -44,8 +44,8 @@ module _ (opening : Opening) (all : List Entry) (n : ℕ) (size : length all ≡
   abbrev entry : Entry
   entry = split.0
 
-  parts : (is_of_known entry.0 entry.1 ≡ true) × (not (is_some (committed_by entry.0 entry.1)) ≡ true)
-  parts = and_parts (is_of_known entry.0 entry.1) (not (is_some (committed_by entry.0 entry.1))) (ap leaves_groups_at (sym split.1) ∙ stays)
+  parts : (is_of_known entry.0 entry.1 ≡ true) × (not (is_some (committer entry.0 entry.1)) ≡ true)
+  parts = and_parts (is_of_known entry.0 entry.1) (not (is_some (committer entry.0 entry.1))) (ap leaves_groups_at (sym split.1) ∙ stays)
 
   opens_none : opener_at (slice_get (reverse all) n) ≡ None
   opens_none = ap opener_at split.1 ∙ known_opens_none entry.0 entry.1 parts.0
@@ -67,5 +67,5 @@ module _ (opening : Opening) (all : List Entry) (n : ℕ) (size : length all ≡
         let g = groups.groups in
         let known = known_acts opening older entry.0 entry.1 (legal_at opening all n entry legal split.1).0 parts.0 in
         let named : AreNamed all older (pair_at all n) g = named_at all n entry g split.1 split.2 (named_known entry older g sound labels (all_acted older (actor entry.0).0 ∙ known.0) known.1) in
-        let flagged : AreFlagged all g = subst (λ (l : List Entry). AreFlagged l g) (sym split.2) (flagged_none entry older g (no_some (committed_by entry.0 entry.1) parts.1) named.flagged) in
+        let flagged : AreFlagged all g = subst (λ (l : List Entry). AreFlagged l g) (sym split.2) (flagged_none entry older g (no_some (committer entry.0 entry.1) parts.1) named.flagged) in
         labels_next opening all n g g groups size named refl refl flagged (joined_none all g) sound stay_kept

@@ -67,7 +67,7 @@ chain_in (Users'.OneSide opens node chain) = chain
 chain_in (Users'.Met node) = 0
 
 -- the node that is kept and those in the chain are among so many, and the chain is linked
-pub record AreWithin (nodes : ℕ) (links : List Link) (users : Users) : Type 0 where
+pub record AreUsersWithin (nodes : ℕ) (links : List Link) (users : Users) : Type 0 where
   pub node : node_in users < nodes
   pub linked : chain_in users ≤ length links
   pub chained : (other : ℕ) → IsIn links (chain_in users) other → other < nodes

@@ -10,7 +10,7 @@ ghost use Rattle.asset_history.specs.declared.users.Users.TheVariants.{Nobody};
 ghost use Rattle.asset_history.specs.Named.{names_of};
 ghost use Rattle.asset_history.specs.Together.{name_at, AreJoined};
 ghost use Rattle.asset_history.specs.Uses.{opens, operates, has_object};
-ghost use Rattle.asset_history.specs.Users.{also, uses_as, users_or_nobody, AreAmongAll, AreWithin, SayAll};
+ghost use Rattle.asset_history.specs.Users.{also, uses_as, users_or_nobody, AreAmongAll, AreUsersWithin, SayAll};
 
 use crate::joining::node_of_known;
 use crate::links::UserLinks;
@@ -54,11 +54,11 @@ fn put_users(found: &mut Found, x: Ob, users: Users)
 fn note_use(groups: &mut NameGroups, users: &mut UsersOfObjects, used: Use)
     requires node { used.node < length groups.old.names }
     requires there { is_some (get nat_eq users.old.found used.x.0) ≡ true }
-    requires within { AreWithin (length groups.old.names) users.old.links.links (users_or_nobody (get nat_eq users.old.found used.x.0)) }
+    requires within { AreUsersWithin (length groups.old.names) users.old.links.links (users_or_nobody (get nat_eq users.old.found used.x.0)) }
     requires links { length users.old.links.links < users.old.links.room }
     ensures names { groups.new.names ≡ groups.old.names }
     ensures there { (y : ℕ) → is_some (get nat_eq users.old.found y) ≡ true → is_some (get nat_eq users.new.found y) ≡ true }
-    ensures within { (y : ℕ) → AreWithin (length groups.old.names) users.old.links.links (users_or_nobody (get nat_eq users.old.found y)) → AreWithin (length groups.new.names) users.new.links.links (users_or_nobody (get nat_eq users.new.found y)) }
+    ensures within { (y : ℕ) → AreUsersWithin (length groups.old.names) users.old.links.links (users_or_nobody (get nat_eq users.old.found y)) → AreUsersWithin (length groups.new.names) users.new.links.links (users_or_nobody (get nat_eq users.new.found y)) }
     ensures few { length users.new.links.links ≤ length users.old.links.links + 1 }
     ensures room { users.new.links.room ≡ users.old.links.room }
     ensures said { (all : List Entry) (openers operators : ℕ → ℕ → Bool) → uses_as used.opens (applied all) (name_at groups.old used.node) used.x.0 ≡ true
@@ -76,7 +76,7 @@ fn note_use(groups: &mut NameGroups, users: &mut UsersOfObjects, used: Use)
 fn note_opened(groups: &mut NameGroups, users: &mut UsersOfObjects, node: usize, obs: &[Ob])
     requires node { node < length groups.old.names }
     requires there { (x : ℕ) → has_object obs.now x ≡ true → is_some (get nat_eq users.old.found x) ≡ true }
-    requires within { (x : ℕ) → AreWithin (length groups.old.names) users.old.links.links (users_or_nobody (get nat_eq users.old.found x)) }
+    requires within { (x : ℕ) → AreUsersWithin (length groups.old.names) users.old.links.links (users_or_nobody (get nat_eq users.old.found x)) }
     requires links { length users.old.links.links + length obs.now ≤ users.old.links.room }
     ensures names { groups.new.names ≡ groups.old.names }
     ensures there { (y : ℕ) → is_some (get nat_eq users.old.found y) ≡ true → is_some (get nat_eq users.new.found y) ≡ true }

@@ -9,7 +9,7 @@ ghost use Rattle.asset_names.specs.Steps.{Entry, applied};
 ghost use Rattle.asset_history.specs.Links.{IsIn, HaveMore};
 ghost use Rattle.asset_history.specs.Together.{name_at, label_at, AreJoined, HaveGrown};
 ghost use Rattle.asset_history.specs.Uses.{opens, operates};
-ghost use Rattle.asset_history.specs.Users.{AreSaid, AreAmong, AreWithin, also, is_known, uses_as};
+ghost use Rattle.asset_history.specs.Users.{AreSaid, AreAmong, AreUsersWithin, also, is_known, uses_as};
 
 use crate::joining::{join_chain, join_nodes};
 use crate::links::UserLinks;
@@ -112,10 +112,10 @@ pub(crate) fn with_user(
     used: Use,
 ) -> Users
     requires node { used.node < length groups.old.names }
-    requires within { AreWithin (length groups.old.names) links.old.links users }
+    requires within { AreUsersWithin (length groups.old.names) links.old.links users }
     requires room { length links.old.links < links.old.room }
     ensures names { groups.new.names ≡ groups.old.names }
-    ensures within { AreWithin (length groups.new.names) links.new.links result }
+    ensures within { AreUsersWithin (length groups.new.names) links.new.links result }
     ensures more { HaveMore links.old.links links.new.links }
     ensures few { length links.new.links ≤ length links.old.links + 1 }
     ensures room { links.new.room ≡ links.old.room }

@@ -9,7 +9,7 @@ use Rattle.asset_names.specs.declared.replies.Outcome.TheVariants.{Answer}
 use Rattle.asset_names.specs.declared.replies.Fault.{Fault}
 use Rattle.asset_audit.specs.Audited.{Call}
 use Rattle.asset_manager.specs.Listed.{IsListed}
-use Rattle.asset_bodies.specs.Asked.{IsAsked}
+use Rattle.asset_bodies.specs.Asked.{AreCallsAfter}
 use Rattle.asset_bodies.specs.Working.{Working, Worked}
 use Rattle.asset_grammar.specs.declared.job_lines.JobAct.{JobAct}
 use Rattle.asset_grammar.specs.declared.job_lines.JobAct.TheVariants.{Read, Write, Add, GiveUp}
@@ -49,4 +49,4 @@ last_step t false = Step'.Abort t
 pub record DidActs (tx : Working) (acts : List JobAct) (ended : Worked) : Type 0 where
   pub between : List Call
   pub did : DoesActs tx.name acts tx.list.calls ended.done between
-  pub last : IsAsked between (last_step tx.name ended.done) ended.met ended.list.calls
+  pub last : AreCallsAfter between (last_step tx.name ended.done) ended.met ended.list.calls

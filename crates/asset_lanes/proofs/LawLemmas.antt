@@ -19,7 +19,7 @@ use Rattle.asset_sources.proofs.WalkLemmas.{older_length}
 use Rattle.asset_lanes.specs.declared.marking.Mark.{Mark}
 use Rattle.asset_lanes.specs.Lanes.{row_of, lane_names}
 use Rattle.asset_lanes.specs.Marks.{marked, mark_of, mark_list, marks}
-use Rattle.asset_lanes.specs.Promised.{picture_marks, marks_numbered, operates, ShowsEntry, HasOneMark, HasNoMark}
+use Rattle.asset_lanes.specs.Promised.{picture_marks, marks_numbered, operates, ShowsOperation, HasOneMark, HasNoMark}
 use Rattle.asset_lanes.proofs.RowLemmas.{actor_in_lane}
 
 -- ---- the mark of one entry
@@ -72,7 +72,7 @@ numbered_mark groups rows number step reply k = numbered_list (mark_of groups ro
 
 -- the mark of an entry that operates is in its transaction's lane, and shows what was done
 one_mark : (groups : Grouping) (rows : List ℕ) (number : ℕ) (step : Step) (reply : Reply) → (takes_effect step reply && is_operation step) ≡ true
-    → (mark : Mark) × (mark_list (mark_of groups rows number step reply) ≡ mark ∷ []) × (mark.row ≡ row_of rows (actor step).0) × ShowsEntry mark step reply
+    → (mark : Mark) × (mark_list (mark_of groups rows number step reply) ≡ mark ∷ []) × (mark.row ≡ row_of rows (actor step).0) × ShowsOperation mark step reply
 unfolding takes_effect is_operation actor mark_list mark_of marked
 one_mark groups rows number (Initiate t parent) reply operating = absurd (and_false_true (takes_effect (Initiate t parent) reply) operating)
 one_mark groups rows number (Begin t) reply operating = absurd (and_false_true (takes_effect (Begin t) reply) operating)

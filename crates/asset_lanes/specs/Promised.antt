@@ -39,16 +39,16 @@ abbrev pub IsRowOf : List Entry → ℕ → ℕ → Type 0
 IsRowOf entries row n = slice_get (lane_names (grouping_of entries)) row ≡ Some n
 
 -- the mark shows what was done: a read and the value that it got, a write and what it wrote, or an add and what it added
-abbrev pub ShowsEntry : Mark → Step → Reply → Type 0
-ShowsEntry mark (Read t x) (Value v) = (mark.op ≡ Op'.Read) × (mark.x ≡ x.0) × (mark.v ≡ v)
-ShowsEntry mark (Write t x v) reply = (mark.op ≡ Op'.Write) × (mark.x ≡ x.0) × (mark.v ≡ v)
-ShowsEntry mark (Add t x d) reply = (mark.op ≡ Op'.Add) × (mark.x ≡ x.0) × (mark.v ≡ d)
-ShowsEntry mark step reply = ⊥
+abbrev pub ShowsOperation : Mark → Step → Reply → Type 0
+ShowsOperation mark (Read t x) (Value v) = (mark.op ≡ Op'.Read) × (mark.x ≡ x.0) × (mark.v ≡ v)
+ShowsOperation mark (Write t x v) reply = (mark.op ≡ Op'.Write) × (mark.x ≡ x.0) × (mark.v ≡ v)
+ShowsOperation mark (Add t x d) reply = (mark.op ≡ Op'.Add) × (mark.x ≡ x.0) × (mark.v ≡ d)
+ShowsOperation mark step reply = ⊥
 
 -- the entry has one mark, in its transaction's lane, which shows what was done
 abbrev pub HasOneMark : List Entry → ℕ → Entry → Type 0
 HasOneMark entries number entry =
-    (mark : Mark) × (marks_numbered number (picture_marks entries) ≡ mark ∷ []) × IsRowOf entries mark.row (actor entry.0).0 × ShowsEntry mark entry.0 entry.1
+    (mark : Mark) × (marks_numbered number (picture_marks entries) ≡ mark ∷ []) × IsRowOf entries mark.row (actor entry.0).0 × ShowsOperation mark entry.0 entry.1
 
 -- the entry has no mark
 abbrev pub HasNoMark : List Entry → ℕ → Type 0

@@ -62,7 +62,7 @@ pub record IsAnswer (step : Step) (outcome : Outcome) : Type 0 where
   pub answered : outcome ≡ answer_to history step
 
 -- the result is the first of those with whom t shares, after some history that a facility can have
-pub record IsFirst (t : Txn) (result : Option Txn) : Type 0 where
+pub record IsFirstSharer (t : Txn) (result : Option Txn) : Type 0 where
   pub history : Recorded
   pub held : CanBeHeld history
   pub is : result ≡ first_of history.entries t.0

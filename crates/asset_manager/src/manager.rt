@@ -8,7 +8,7 @@ ghost use Rattle.asset_audit.specs.Audited.{IsAudit, HasEach};
 ghost use Rattle.asset_core.specs.OpenFaults.{MayOpen, IsOpenFault};
 ghost use Rattle.asset_counts.specs.Shown.{no_counts};
 ghost use Rattle.asset_manager.specs.Serves.{IsServed};
-ghost use Rattle.asset_manager.specs.Asks.{Asks, IsFirst, HasCommitted, as_outcome};
+ghost use Rattle.asset_manager.specs.Asks.{Asks, IsFirstSharer, HasCommitted, as_outcome};
 
 use crate::book::{Book, Closed};
 use crate::session::Session;
@@ -242,7 +242,7 @@ impl Manager {
 
     /// Returns the first of those with whom `t` has come to share, under the lock.
     pub(crate) fn first_of<R: Wait>(&self, rt: &R, t: Txn) -> Option<Txn>
-        ensures { IsFirst t result }
+        ensures { IsFirstSharer t result }
     {
         let book = self.lock(rt);
         book.first_of(t)

@@ -9,7 +9,7 @@ ghost use Rattle.asset_names.specs.Answers.{takes_memory};
 ghost use Rattle.asset_names.specs.Counted.{IsBelow};
 ghost use Rattle.asset_counts.specs.Pass.{IsOf};
 ghost use Rattle.asset_manager.specs.Listed.{IsListed};
-ghost use Rattle.asset_manager.specs.Asks.{AreOfOne, Asks, IsAnswer, IsFirst, HasCommitted, SawLast, as_outcome};
+ghost use Rattle.asset_manager.specs.Asks.{AreOfOne, Asks, IsAnswer, IsFirstSharer, HasCommitted, SawLast, as_outcome};
 
 use crate::book::CallList;
 use crate::manager::Manager;
@@ -328,7 +328,7 @@ impl Session {
     /// of the history at that moment. The clause says only that this is some legal history.
     pub fn first_of<R: Wait>(&self, rt: &R, manager: &Manager, t: Txn) -> Option<Txn>
         requires { IsOf self.now.of manager.now }
-        ensures { IsFirst t result }
+        ensures { IsFirstSharer t result }
     {
         manager.first_of(rt, t)
     }

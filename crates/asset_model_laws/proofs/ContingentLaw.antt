@@ -14,7 +14,7 @@ use Rattle.asset_models.specs.Courses.Course.{ends}
 use Rattle.asset_model_laws.specs.Amid.{IsAmid}
 use Rattle.asset_model_laws.proofs.RunAmid.{IsRunAmid, whole}
 use Rattle.asset_model_laws.specs.Ended.{AllEnded}
-use Rattle.asset_model_laws.specs.Contingent.{IsOf, IsFirst, OneAtMost}
+use Rattle.asset_model_laws.specs.Contingent.{IsOneOfParts, IsFirstPart, OneAtMost}
 use Rattle.asset_model_laws.proofs.AmidLemmas.{OnlyOf, Settles, part_amid, ends_amid, only_same, only_on}
 use Rattle.asset_model_laws.proofs.AmidLemmas.Settles.{unsettled, commits, falls}
 
@@ -24,10 +24,10 @@ record Tried (parts : List Part) (made calls entries : List Entry) : Type 0 wher
   pub left : List Part
   pub split : parts ≡ gone ++ left
   pub fell : AllEnded End'.Aborted entries gone
-  pub tried : (t : ℕ) → lists (initiated (applied calls)) t ≡ true → (IsOf gone t ⊎ IsFirst left t) ⊎ (lists (initiated (applied made)) t ≡ true)
+  pub tried : (t : ℕ) → lists (initiated (applied calls)) t ≡ true → (IsOneOfParts gone t ⊎ IsFirstPart left t) ⊎ (lists (initiated (applied made)) t ≡ true)
 
 tried_first : (p : Part) (parts : List Part) (made calls entries : List Entry) → OnlyOf p.name.0 made calls → Tried (p ∷ parts) made calls entries
-unfolding AllEnded IsFirst
+unfolding AllEnded IsFirstPart
 tried_first p parts made calls entries only = record {
   gone = [];
   left = p ∷ parts;
@@ -37,7 +37,7 @@ tried_first p parts made calls entries only = record {
 }
 
 tried_more : (p : Part) (parts : List Part) (made made' calls entries : List Entry) → OnlyOf p.name.0 made made' → AllEnded End'.Aborted entries (p ∷ []) → Tried parts made' calls entries → Tried (p ∷ parts) made calls entries
-unfolding AllEnded IsOf
+unfolding AllEnded IsOneOfParts
 tried_more p parts made made' calls entries only fell later = record {
   gone = p ∷ later.gone;
   left = later.left;

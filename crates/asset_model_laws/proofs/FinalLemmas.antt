@@ -14,7 +14,7 @@ use Rattle.asset_names.specs.declared.replies.Outcome.TheVariants.{Answer}
 use Rattle.asset_names.specs.Steps.{Opening, Entry, applied}
 use Rattle.asset_names.specs.Endings.{end_of, status}
 use Rattle.asset_names.specs.Answers.{IsLegal, may_commit, outcome_unless}
-use Rattle.asset_entries.specs.Committing.{committed_by}
+use Rattle.asset_entries.specs.Committing.{committer}
 use Rattle.asset_models.specs.declared.parts.Act.{Act}
 use Rattle.asset_models.specs.declared.parts.Act.TheVariants as Act'
 use Rattle.asset_models.specs.declared.parts.Part.{Part}
@@ -70,7 +70,7 @@ pub record Answered (new : List Entry) (step : Step) : Type 0 where
 
 -- no reply to the step commits somebody
 abbrev pub Quiet : Step → Type 0
-Quiet step = (reply : Reply) → committed_by step reply ≡ None
+Quiet step = (reply : Reply) → committer step reply ≡ None
 
 pub must_onto : (test : Entry → Bool) (step : Step) (next : Course) (made old calls new : List Entry) (end : ModelEnd) → is_final end ≡ true → Quiet step
     → IsRunAmid test (must_course step next) made old calls new (Ok end) → Onto test (commits_in made) next calls new end × Answered new step
@@ -116,7 +116,7 @@ operation_onto test step done failed made old calls new end final quiet (inr mor
 
 act_onto : (test : Entry → Bool) (t : Txn) (act : Act) (done failed : Course) (made old calls new : List Entry) (end : ModelEnd) → is_final end ≡ true
     → IsRunAmid test (act_course t act done failed) made old calls new (Ok end) → Onto test (commits_in made) done calls new end ⊎ Onto test (commits_in made) failed calls new end
-unfolding act_course committed_by
+unfolding act_course committer
 act_onto test t (Act'.Read x) done failed made old calls new end final run = operation_onto test (Read t x) done failed made old calls new end final (λ reply. refl) run
 act_onto test t (Act'.Write x v) done failed made old calls new end final run = operation_onto test (Write t x v) done failed made old calls new end final (λ reply. refl) run
 act_onto test t (Act'.Add x d) done failed made old calls new end final run = operation_onto test (Add t x d) done failed made old calls new end final (λ reply. refl) run
@@ -152,7 +152,7 @@ acts_onto test P (act ∷ acts) done failed made old calls new end final (more_o
 pub commit_onto : (opening : Opening) (test : Entry → Bool) (t : Txn) (committed aborted : Course) (made old calls new : List Entry) (end : ModelEnd) → IsLegal opening new → is_final end ≡ true
     → IsRunAmid test (commit_course t committed aborted) made old calls new (Ok end)
     → (Onto test (t ∷ commits_in made) committed calls new end × (end_of (applied new) t.0 ≡ Some End'.Committed)) ⊎ (Onto test (commits_in made) aborted calls new end × (end_of (applied new) t.0 ≡ Some End'.Aborted))
-unfolding commit_course IsRunAmid by_commit is_refusal commits_in one_commit committed_by
+unfolding commit_course IsRunAmid by_commit is_refusal commits_in one_commit committer
 commit_onto opening test t committed aborted made old calls new end legal final (inl cut) = absurd (not_cut (Commit t) end final cut.2)
 commit_onto opening test t committed aborted made old calls new end legal final (inr more) = go more.2 more.3 where
   replies : (reply : Reply) → Grows ((Commit t, reply) ∷ more.0) new → (reply ≡ Reply'.Committed) ⊎ ((reply ≡ Reply'.Aborted) ⊎ (is_refusal reply ≡ true))
@@ -188,15 +188,15 @@ aborted_so opening t new legal told =
     ]
 
 pub abort_quiet : (t : Txn) → Quiet (Abort t)
-unfolding committed_by
+unfolding committer
 abort_quiet t reply = refl
 
 pub complete_quiet : (t : Txn) → Quiet (Complete t)
-unfolding committed_by
+unfolding committer
 complete_quiet t reply = refl
 
 pub starts_quiet : (t : Txn) → AllQuiet (starts t)
-unfolding starts committed_by
+unfolding starts committer
 starts_quiet t = more_quiet (λ reply. refl) (more_quiet (λ reply. refl) none_quiet)
 
 -- the acts of one

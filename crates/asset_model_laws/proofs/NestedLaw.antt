@@ -12,7 +12,7 @@ use Rattle.asset_names.specs.declared.replies.Reply.TheVariants as Reply'
 use Rattle.asset_names.specs.Steps.{Opening, Entry, applied}
 use Rattle.asset_names.specs.Endings.{end_of}
 use Rattle.asset_names.specs.Answers.{IsLegal, answer, first_refusal, rules_for, unrefused}
-use Rattle.asset_entries.specs.Committing.{committed_by}
+use Rattle.asset_entries.specs.Committing.{committer}
 use Rattle.asset_models.specs.declared.parts.Part.{Part}
 use Rattle.asset_models.specs.declared.parts.ModelEnd.{ModelEnd}
 use Rattle.asset_models.specs.declared.parts.ModelEnd.TheVariants as ModelEnd'
@@ -66,7 +66,7 @@ goes_on onto = record { made = onto.made; old = onto.old; run = onto.run }
 child_onto : (opening : Opening) (test : Entry → Bool) (t : Txn) (child : Part) (next : Course) (made old calls new : List Entry) (end : ModelEnd) → IsLegal opening new → is_final end ≡ true
     → IsRunAmid test (child_course t child next) made old calls new (Ok end)
     → Goes test next calls new end × (HandsOver child.name t new ⊎ (end_of (applied new) child.name.0 ≡ Some End'.Aborted))
-unfolding child_course committed_by
+unfolding child_course committer
 child_onto opening test t child next made old calls new end legal final run =
     let begun = (musts_onto test starting work made old calls new end final (more_quiet (λ reply. refl) (more_quiet (λ reply. refl) (more_quiet (λ reply. refl) none_quiet))) run).0 in
     elim (acts_onto test (λ u. u ≡ child.name) (acts_of child.name child.acts.items) finish fail begun.made begun.old calls new end final (own_of (λ u. u ≡ child.name) child.name child.acts.items refl) begun.run) [

@@ -13,7 +13,7 @@ use Rattle.asset_names.specs.declared.replies.Reply.TheVariants as Reply'
 use Rattle.asset_names.specs.Steps.{Opening, Entry, applied}
 use Rattle.asset_names.specs.Endings.{end_of}
 use Rattle.asset_names.specs.Answers.{IsLegal, answer, first_refusal, rules_for, unrefused}
-use Rattle.asset_entries.specs.Committing.{committed_by}
+use Rattle.asset_entries.specs.Committing.{committer}
 use Rattle.asset_models.specs.declared.parts.Act.{Act}
 use Rattle.asset_models.specs.declared.parts.Part.{Part}
 use Rattle.asset_models.specs.declared.parts.ModelEnd.{ModelEnd}
@@ -89,17 +89,17 @@ acts_tell opening test p acts completes made old calls new end legal final all q
 ]
 
 starts_quiet : (parts : List Part) → AllQuiet (flat_map (λ (q : Part). starts q.name) parts)
-unfolding starts committed_by
+unfolding starts committer
 starts_quiet [] = none_quiet
 starts_quiet (q ∷ parts) = more_quiet (λ reply. refl) (more_quiet (λ reply. refl) (starts_quiet parts))
 
 joins_quiet : (t : Txn) (parts : List Part) → AllQuiet (map (λ (q : Part). Depend Gc t q.name) parts)
-unfolding committed_by
+unfolding committer
 joins_quiet t [] = none_quiet
 joins_quiet t (q ∷ parts) = more_quiet (λ reply. refl) (joins_quiet t parts)
 
 completes_quiet : (parts : List Part) → AllQuiet (map (λ (q : Part). Complete q.name) parts)
-unfolding committed_by
+unfolding committer
 completes_quiet [] = none_quiet
 completes_quiet (q ∷ parts) = more_quiet (λ reply. refl) (completes_quiet parts)
 
@@ -147,7 +147,7 @@ turns_of P t u (act ∷ acts) (act' ∷ others) one other = more_of one (more_of
 
 pub cooperating_one_way : (opening : Opening) (test : Entry → Bool) (p q : Part) (obs : ObSet) (old calls new : List Entry) (end : ModelEnd) → IsLegal opening new → is_final end ≡ true
     → IsRun (cooperating_course p q obs) [] calls (Ok end) → IsAmid test old calls new → OneWay new (p ∷ q ∷ []) end
-unfolding cooperating_course joins committed_by
+unfolding cooperating_course joins committer
 cooperating_one_way opening test p q obs old calls new end legal final run amid =
     let begun = (musts_onto test starting joining [] old calls new end final (more_quiet (λ reply. refl) (more_quiet (λ reply. refl) (more_quiet (λ reply. refl) (more_quiet (λ reply. refl) none_quiet)))) (whole test (must_each_course starting joining) calls old new (Ok end) run amid)).0 in
     let tied = musts_onto test (joins p.name q.name obs) working begun.made begun.old calls new end final (more_quiet (λ reply. refl) (more_quiet (λ reply. refl) (more_quiet (λ reply. refl) none_quiet))) begun.run in

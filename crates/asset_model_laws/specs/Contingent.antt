@@ -7,14 +7,14 @@ use Rattle.asset_models.specs.declared.parts.Part.{Part}
 use Rattle.asset_model_laws.specs.Ended.{AllEnded}
 
 -- t is one of the parts
-unfoldable pub IsOf : List Part → ℕ → Type 0
-IsOf [] t = ⊥
-IsOf (p ∷ parts) t = (t ≡ p.name.0) ⊎ IsOf parts t
+unfoldable pub IsOneOfParts : List Part → ℕ → Type 0
+IsOneOfParts [] t = ⊥
+IsOneOfParts (p ∷ parts) t = (t ≡ p.name.0) ⊎ IsOneOfParts parts t
 
 -- t is the first of the parts
-unfoldable pub IsFirst : List Part → ℕ → Type 0
-IsFirst [] t = ⊥
-IsFirst (p ∷ parts) t = t ≡ p.name.0
+unfoldable pub IsFirstPart : List Part → ℕ → Type 0
+IsFirstPart [] t = ⊥
+IsFirstPart (p ∷ parts) t = t ≡ p.name.0
 
 -- All parts that the calls initiated have aborted, but perhaps the last of them: so at most one has committed, and all before
 -- it have aborted.
@@ -23,4 +23,4 @@ pub record OneAtMost (parts : List Part) (calls entries : List Entry) : Type 0 w
   pub left : List Part
   pub split : parts ≡ gone ++ left
   pub fell : AllEnded Aborted entries gone
-  pub tried : (t : ℕ) → lists (initiated (applied calls)) t ≡ true → IsOf gone t ⊎ IsFirst left t
+  pub tried : (t : ℕ) → lists (initiated (applied calls)) t ≡ true → IsOneOfParts gone t ⊎ IsFirstPart left t

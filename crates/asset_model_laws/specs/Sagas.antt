@@ -4,7 +4,7 @@ use Rattle.asset_names.specs.declared.names.Txn.{Txn}
 use Rattle.asset_names.specs.declared.statuses.End.TheVariants.{Committed, Aborted}
 use Rattle.asset_names.specs.Steps.{Entry, applied}
 use Rattle.asset_names.specs.Endings.{end_of}
-use Rattle.asset_entries.specs.Committing.{committed_by}
+use Rattle.asset_entries.specs.Committing.{committer}
 use Rattle.asset_models.specs.declared.parts.Part.{Part}
 use Rattle.asset_model_laws.specs.Ended.{AllEnded}
 
@@ -16,7 +16,7 @@ one_commit (Some t) = t ∷ []
 -- the transactions whose commits were answered with `Committed`, the latest first
 unfoldable pub commits_in : List Entry → List Txn
 commits_in [] = []
-commits_in (entry ∷ older) = one_commit (committed_by entry.0 entry.1) ++ commits_in older
+commits_in (entry ∷ older) = one_commit (committer entry.0 entry.1) ++ commits_in older
 
 -- the first and the second part of a pair, and their transactions
 abbrev pub Pair : Type 0

@@ -5,8 +5,8 @@ use Rattle.asset_names.specs.Steps.{Entry}
 use Rattle.asset_audit.specs.Audited.{Call}
 use Rattle.asset_manager.specs.Asker.{Asker}
 
--- a client: the word of its manager, and its session
-pub record Talk : Type 0 where
+-- what contracts see of a client: the word of its manager, and its session
+pub record ClientSession : Type 0 where
   pub manager : TableId
   pub session : Asker
 
@@ -15,5 +15,5 @@ abbrev pub entry_of : Call → Entry
 entry_of call = (call.1, call.2)
 
 -- the recorded calls of a client's session, without their numbers, newest first
-unfoldable pub calls_by : Talk → List Entry
-calls_by talk = reverse (map entry_of talk.session.list.calls)
+unfoldable pub calls_by : ClientSession → List Entry
+calls_by client = reverse (map entry_of client.session.list.calls)

@@ -19,9 +19,9 @@ pub struct Client<'a, R: Wait> {
 
 impl<'a, R: Wait> Model for Client<'a, R> {
     ghost use Rattle.asset_counts.specs.Pass.{IsOf};
-    ghost use Rattle.asset_models.specs.Clients.{Talk};
+    ghost use Rattle.asset_models.specs.Clients.{ClientSession};
 
-    ghost Value = { Talk };
+    ghost Value = { ClientSession };
 
     ghost view = { λ client. record { manager = client.manager.now; session = client.session } };
 

@@ -13,7 +13,7 @@ use Rattle.asset_chains.proofs.SoundLemmas.{listed_once}
 use Rattle.asset_seats.specs.Seated.{Seated, seat}
 use Rattle.asset_permits.specs.Descriptors.{Descriptor}
 use Rattle.asset_permits.specs.Valid.{parts_of, is_used, IsUsed, IsValid}
-use Rattle.asset_permits.specs.Changes.{Shrinks, AreLeft}
+use Rattle.asset_permits.specs.Changes.{Shrinks, NoSeatComes}
 use Rattle.asset_permits.proofs.SeatLemmas.{used_along, used_across, key_of_used, used_same, seated_by}
 
 -- ---- a seat whose chains are not used is left
@@ -95,7 +95,7 @@ valid_without permits seats left size s valid gone leaves = record {
 -- ---- seats are left
 -- two leave their seats, each unless it is used
 module _ (used : ℕ → Bool) (from to : ℕ) (seats left : Seated) (leaves : (c : ℕ) → seat left c ≡ cond (eqb c to && not (used c)) None (cond (eqb c from && not (used c)) None (seat seats c))) where
-  pub left_are : AreLeft seats left
+  pub left_are : NoSeatComes seats left
   left_are c t there = go (eqb c to && not (used c)) (eqb c from && not (used c)) (sym (leaves c) ∙ there) where
     go : (a b : Bool) → cond a None (cond b None (seat seats c)) ≡ Some t → seat seats c ≡ Some t
     go true b e = cc e
@@ -136,7 +136,7 @@ seat_kept old new c less some t sat =
     found.1 ∙ same
 
 -- if those who give or take something still have their seats
-pub valid_left : (permits : Crossed Descriptor) (seats left : Seated) (size : ℕ) → IsValid (parts_of permits seats) size → AreLeft seats left → ((c : ℕ) → is_used permits.rows permits.columns c ≡ true → is_some (seat left c) ≡ true) → IsCrossed permits
+pub valid_left : (permits : Crossed Descriptor) (seats left : Seated) (size : ℕ) → IsValid (parts_of permits seats) size → NoSeatComes seats left → ((c : ℕ) → is_used permits.rows permits.columns c ≡ true → is_some (seat left c) ≡ true) → IsCrossed permits
     → IsValid (parts_of permits left) size
 valid_left permits seats left size valid fewer used crossed = record {
   seated = seated_by permits left crossed;

@@ -27,5 +27,5 @@ pub record Shrinks (old new : Crossed Descriptor) : Type 0 where
   pub many : (side : Side) → length (lines side new).chains ≡ length (lines side old).chains
 
 -- who has a seat afterwards had the same one before
-abbrev pub AreLeft : Seated → Seated → Type 0
-AreLeft were left = (c : ℕ) (t : Txn) → seat left c ≡ Some t → seat were c ≡ Some t
+abbrev pub NoSeatComes : Seated → Seated → Type 0
+NoSeatComes were left = (c : ℕ) (t : Txn) → seat left c ≡ Some t → seat were c ≡ Some t

@@ -5,7 +5,7 @@ ghost use Rattle.slab.specs.Slab.{get, slab_len};
 ghost use Rattle.asset_chains.specs.Chained.{home_of};
 ghost use Rattle.asset_chains.specs.Crossed.{lines};
 ghost use Rattle.asset_permits.specs.Valid.{IsUsed};
-ghost use Rattle.asset_permits.specs.Changes.{Shrinks, AreLeft};
+ghost use Rattle.asset_permits.specs.Changes.{Shrinks, NoSeatComes};
 
 use crate::permit::Permit;
 use crate::seating::leave_if_unused;
@@ -18,7 +18,7 @@ pub(crate) fn drop_at(permits: &mut Crossed<Permit>, seats: &mut Seats, key: usi
     requires there { is_some (get permits.old.items key) ≡ true }
     ensures used { IsUsed permits.new seats.new }
     ensures shrinks { Shrinks permits.old permits.new }
-    ensures left { AreLeft seats.old seats.new }
+    ensures left { NoSeatComes seats.old seats.new }
     ensures others { (k : ℕ) → k ≢ key → get permits.new.items k ≡ get permits.old.items k }
     ensures gone { get permits.new.items key ≡ None }
     ensures fewer { slab_len permits.new.items < slab_len permits.old.items }
@@ -39,7 +39,7 @@ pub(crate) fn drop_along(permits: &mut Crossed<Permit>, seats: &mut Seats, side:
     requires { IsUsed permits.old seats.old }
     ensures used { IsUsed permits.new seats.new }
     ensures shrinks { Shrinks permits.old permits.new }
-    ensures left { AreLeft seats.old seats.new }
+    ensures left { NoSeatComes seats.old seats.new }
     ensures gone { (k : ℕ) → home_of (lines side permits.new) k ≢ Some seat }
     ensures kept { (k : ℕ) → home_of (lines side permits.old) k ≢ Some seat → get permits.new.items k ≡ get permits.old.items k }
 {

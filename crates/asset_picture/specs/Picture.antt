@@ -15,12 +15,12 @@ use Rattle.asset_picture.specs.Shapes.{open_text, style_text, legend_text, lane_
 use Rattle.asset_picture.specs.Tables.{table_in}
 
 -- the number of an entry above its column
-unfoldable pub step_text : Bool → ℕ → List ℕ
-step_text wide number = pieces (codes "<text class='step' x='" ∷ decimal (x_at wide number) ∷ codes "' y='76'>" ∷ decimal number ∷ codes "</text>\n" ∷ [])
+unfoldable pub column_number_text : Bool → ℕ → List ℕ
+column_number_text wide number = pieces (codes "<text class='step' x='" ∷ decimal (x_at wide number) ∷ codes "' y='76'>" ∷ decimal number ∷ codes "</text>\n" ∷ [])
 
 -- the numbers of `count` entries
-unfoldable pub steps_text : Bool → ℕ → List ℕ
-steps_text wide count = flat_map (step_text wide) (range_with_len 0 count)
+unfoldable pub column_numbers_text : Bool → ℕ → List ℕ
+column_numbers_text wide count = flat_map (column_number_text wide) (range_with_len 0 count)
 
 -- all lanes, marks and arrows
 unfoldable pub lanes_text : Bool → ℕ → List Lane → List ℕ
@@ -46,7 +46,7 @@ rest_text wide arrows marks = arrows_text wide arrows ++ (marks_text wide marks 
 
 -- a picture of `count` entries: later shapes cover earlier ones
 unfoldable pub shapes_in : Bool → ℕ → List Lane → List Arrow → List Mark → List ℕ
-shapes_in wide count lanes arrows marks = frame_for wide count (length lanes) ++ (lanes_text wide count lanes ++ (steps_text wide count ++ rest_text wide arrows marks))
+shapes_in wide count lanes arrows marks = frame_for wide count (length lanes) ++ (lanes_text wide count lanes ++ (column_numbers_text wide count ++ rest_text wide arrows marks))
 
 -- its columns are wide if some mark has a long number
 unfoldable pub shapes_text : ℕ → List Lane → List Arrow → List Mark → List ℕ

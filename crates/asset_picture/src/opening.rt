@@ -2,7 +2,7 @@
 
 ghost use Rattle.std.specs.Prelude.{◌≡◌, ◌++◌, OnOk, string_bytes};
 ghost use Rattle.asset_picture.specs.Shapes.{open_text};
-ghost use Rattle.asset_picture.specs.Picture.{step_text, steps_text};
+ghost use Rattle.asset_picture.specs.Picture.{column_number_text, column_numbers_text};
 
 use crate::layout::x_at;
 use std::alloc::AllocError;
@@ -19,9 +19,9 @@ pub(crate) fn push_open(text: &mut String, width: u128, height: u128) -> Result<
 }
 
 /// Appends the number of an entry above its column.
-#[tactic(auto, unfolding(crate::specs::Picture::step_text, crate::specs::Layout::pieces))]
+#[tactic(auto, unfolding(crate::specs::Picture::column_number_text, crate::specs::Layout::pieces))]
 fn push_step(text: &mut String, wide: bool, number: usize) -> Result<(), AllocError>
-    ensures { OnOk result (string_bytes text.new ≡ string_bytes text.old ++ step_text wide number) }
+    ensures { OnOk result (string_bytes text.new ≡ string_bytes text.old ++ column_number_text wide number) }
 {
     let x = x_at(wide, number);
     write!(text, "<text class='step' x='{x}' y='76'>{number}</text>\n")
@@ -29,7 +29,7 @@ fn push_step(text: &mut String, wide: bool, number: usize) -> Result<(), AllocEr
 
 /// Appends the numbers of `count` entries.
 pub(crate) fn push_steps(text: &mut String, wide: bool, count: usize) -> Result<(), AllocError>
-    ensures { OnOk result (string_bytes text.new ≡ string_bytes text.old ++ steps_text wide count) }
+    ensures { OnOk result (string_bytes text.new ≡ string_bytes text.old ++ column_numbers_text wide count) }
 {
     'entries: for i in 0..count {
         push_step(text, wide, i)?;

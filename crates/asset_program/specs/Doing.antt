@@ -7,7 +7,7 @@ use Rattle.asset_requests.specs.declared.requests.Asked.TheVariants.{Script, Che
 use Rattle.asset_program.specs.declared.doing.Next.{Next}
 use Rattle.asset_program.specs.declared.doing.Next.TheVariants as Next'
 use Rattle.asset_requests.specs.Answers.{answer_status}
-use Rattle.asset_program.specs.Program.{Serves, ChecksScript, Shows}
+use Rattle.asset_program.specs.Program.{Serves, ChecksScript, ShowsAnswer}
 use Rattle.asset_program.specs.Converse.{Converses}
 
 module _ {R W E : Type 0} (remaining : R → Option (List ℕ)) (contents : W → Option (List ℕ)) (said : E → Option (List ℕ)) where
@@ -21,7 +21,7 @@ module _ {R W E : Type 0} (remaining : R → Option (List ℕ)) (contents : W �
       Converses remaining contents said requested input input' output output' reasons reasons' status
   Ends (Ok (Jobs request)) input input' output output' reasons reasons' status = ⊥
   Ends (Err answer) input input' output output' reasons reasons' status =
-      Shows contents answer output output' × (status ≡ answer_status answer) × (input' ≡ input) × (reasons' ≡ reasons)
+      ShowsAnswer contents answer output output' × (status ≡ answer_status answer) × (input' ≡ input) × (reasons' ≡ reasons)
 
   -- jobs that are asked for are handed back, and nothing is read or written; anything else is done, and the program exits
   unfoldable pub LeadsTo : Result Asked Answer → DeviceState R → DeviceState R → DeviceState W → DeviceState W → DeviceState E → DeviceState E → Next → Type 0

@@ -50,7 +50,7 @@ abbrev pub TookText : {W : Type 0} → (W → Option (List ℕ)) → DeviceState
 TookText contents output output' text = Appends (contents output.inner) (contents output'.inner) text ⊎ ((output'.failed ≡ true) × TookPrefix contents output output' text)
 
 -- help and the version go to the writer, whole or a prefix of them if it fails; of another answer it sees nothing
-unfoldable pub Shows : {W : Type 0} → (W → Option (List ℕ)) → Answer → DeviceState W → DeviceState W → Type 0
-Shows contents (Help text) output output' = TookText contents output output' (string_bytes text)
-Shows contents (Refusal text) output output' = output' ≡ output
-Shows contents (Fault fault) output output' = output' ≡ output
+unfoldable pub ShowsAnswer : {W : Type 0} → (W → Option (List ℕ)) → Answer → DeviceState W → DeviceState W → Type 0
+ShowsAnswer contents (Help text) output output' = TookText contents output output' (string_bytes text)
+ShowsAnswer contents (Refusal text) output output' = output' ≡ output
+ShowsAnswer contents (Fault fault) output output' = output' ≡ output

@@ -5,7 +5,7 @@ ghost use Rattle.asset_core.specs.OpenFaults.{IsCapacity};
 ghost use Rattle.asset_scripts.specs.Device.{IsUnused};
 ghost use Rattle.asset_requests.specs.Answers.{answer_status};
 ghost use Rattle.asset_program.specs.Exit.{run_status};
-ghost use Rattle.asset_program.specs.Program.{ChecksScript, RunsScript, Serves, Shows};
+ghost use Rattle.asset_program.specs.Program.{ChecksScript, RunsScript, Serves, ShowsAnswer};
 
 use crate::exit::{status_of_answer, status_of_run};
 use asset_check::check_script;
@@ -75,9 +75,9 @@ fn serve<R: Read, W: Write, E: Write>(
 }
 
 /// Writes the help or the version that was asked for to the output, or why no script is run to the errors.
-#[tactic(auto, unfolding(crate::specs::Program::Shows))]
+#[tactic(auto, unfolding(crate::specs::Program::ShowsAnswer))]
 fn show<W: Write, E: Write>(answer: &Answer, output: &mut Device<W>, errors: &mut E)
-    ensures { Shows W.contents answer.now output.old output.new }
+    ensures { ShowsAnswer W.contents answer.now output.old output.new }
 {
     match answer {
         Answer::Help(text) => {
@@ -107,7 +107,7 @@ pub fn run_program<R: Read, W: Write, E: Write>(
     requires unused_input { IsUnused input.old }
     requires unused_output { IsUnused output.old }
     ensures serves { IfOk request.now (λ request. Serves R.remaining W.contents request input.old input.new output.old output.new result) }
-    ensures shows { IfErr request.now (λ answer. Shows W.contents answer output.old output.new) }
+    ensures shows { IfErr request.now (λ answer. ShowsAnswer W.contents answer output.old output.new) }
     ensures status { IfErr request.now (λ answer. result ≡ answer_status answer) }
     ensures unread { OnErr request.now (input.new ≡ input.old) }
 {

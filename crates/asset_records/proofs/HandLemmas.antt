@@ -15,7 +15,7 @@ use Rattle.asset_records.specs.declared.records.Record.{Record}
 use Rattle.asset_records.specs.declared.records.Record.TheVariants.{Write, Add, Lasting}
 use Rattle.asset_seats.specs.Seated.{Seated, seat}
 use Rattle.asset_records.specs.Listed.{on, record_at, at_keys, is_of, is_owned, owner_of, owner_at, somebody, IsTied}
-use Rattle.asset_records.specs.Handed.{renamed, given, is_picked, goes, picked_at, IsHanded}
+use Rattle.asset_records.specs.Handed.{renamed, given, is_picked, goes, picked_at, AreHanded}
 use Rattle.asset_records.proofs.ListedLemmas.{on_chain, keys_same, has_record, home_of_owner, has_owned, owned_is, owner_is}
 use Rattle.asset_records.proofs.DropLemmas.{read_some}
 
@@ -72,13 +72,13 @@ keys_mapped f old new (k ∷ keys) same = λ i. same k (or_left (eqb k k) (lists
 
 -- the columns are those of the seats
 pub hands_by : (records more : Crossed Record) (picks : ℕ → Bool) (taker : Txn) (from to f t : ℕ) → f ≡ suc from → t ≡ suc to
-    → IsHanded (chain_of records.columns f) (picked_at picks records) f t taker records more → IsHanded (chain_of records.columns (suc from)) (picked_at picks records) (suc from) (suc to) taker records more
+    → AreHanded (chain_of records.columns f) (picked_at picks records) f t taker records more → AreHanded (chain_of records.columns (suc from)) (picked_at picks records) (suc from) (suc to) taker records more
 hands_by records more picks taker from to f t from_is to_is hands =
-    subst (λ (n : ℕ). IsHanded (chain_of records.columns n) (picked_at picks records) n (suc to) taker records more) from_is (subst (λ (n : ℕ). IsHanded (chain_of records.columns f) (picked_at picks records) f n taker records more) to_is hands)
+    subst (λ (n : ℕ). AreHanded (chain_of records.columns n) (picked_at picks records) n (suc to) taker records more) from_is (subst (λ (n : ℕ). AreHanded (chain_of records.columns f) (picked_at picks records) f n taker records more) to_is hands)
 
 -- the records of the one who has the seat `from` went over
 module _ (records more : Crossed Record) (seats : Seated) (picks : ℕ → Bool) (from : ℕ) (giver taker : Txn) (tied : IsTied records seats) (crossed : IsCrossed records)
-    (sat : seat seats from ≡ Some giver) (alone : (d : ℕ) → seat seats d ≡ Some giver → d ≡ from) (to : ℕ) (hands : IsHanded (chain_of records.columns (suc from)) (picked_at picks records) (suc from) (suc to) taker records more) where
+    (sat : seat seats from ≡ Some giver) (alone : (d : ℕ) → seat seats d ≡ Some giver → d ≡ from) (to : ℕ) (hands : AreHanded (chain_of records.columns (suc from)) (picked_at picks records) (suc from) (suc to) taker records more) where
   -- a record is in this column exactly if it is the giver's
   in_column : (k : ℕ) (one : Record) → get records.items k ≡ Some one → lists (chain_of records.columns (suc from)) k ≡ is_of giver.0 one
   in_column k one there = elim (cases_Bool (is_of giver.0 one)) [

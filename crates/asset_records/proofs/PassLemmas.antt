@@ -10,7 +10,7 @@ use Rattle.asset_chains.specs.declared.side.Side.TheVariants.{Row, Column}
 use Rattle.asset_chains.specs.Crossed.{Crossed, IsCrossed}
 use Rattle.asset_chains.proofs.Walks.{from_key}
 use Rattle.asset_records.specs.declared.records.Record.{Record}
-use Rattle.asset_records.specs.Handed.{given, is_picked, is_at, goes, picked_at, stands_in, HandedOne, IsHanded}
+use Rattle.asset_records.specs.Handed.{given, is_picked, is_at, goes, picked_at, stands_in, HandedOne, AreHanded}
 use Rattle.asset_records.proofs.WalkLemmas.{append_assoc, apart_before, apart_later, behind_split, without_split, listed_middle, IsWalked, walk_starts, later, walk_listed, walk_home, walk_next, walk_within, walk_smaller, walk_moves, walk_stays}
 
 -- ---- along a column
@@ -141,7 +141,7 @@ module _ (picks : ℕ → Bool) (object from to : ℕ) (taker : Txn) (old new : 
         picked_is None = refl
         picked_is (Some j) = only j
 
-  pub same_handed : IsHanded (chain_of old.rows object) (stands_in from old) from to taker old new → IsHanded (chain_of old.columns from) (picked_at picks old) from to taker old new
+  pub same_handed : AreHanded (chain_of old.rows object) (stands_in from old) from to taker old new → AreHanded (chain_of old.columns from) (picked_at picks old) from to taker old new
   same_handed hands = record {
     rows = hands.rows;
     items = λ k. hands.items k ∙ ap (λ (b : Bool). cond b (option_map (given taker) (get old.items k)) (get old.items k)) (same_goes k);

@@ -15,7 +15,7 @@ use Rattle.asset_chains.proofs.KeyLemmas.{lists-append, distinct_parts, without_
 use Rattle.asset_chains.proofs.SoundLemmas.{listed_once}
 use Rattle.asset_chains.proofs.Walks.{from_key, chains_without}
 use Rattle.asset_records.specs.declared.records.Record.{Record}
-use Rattle.asset_records.specs.Handed.{given, goes, HandedOne, IsHanded}
+use Rattle.asset_records.specs.Handed.{given, goes, HandedOne, AreHanded}
 use Rattle.asset_records.proofs.DropLemmas.{count_kept}
 use Rattle.asset_records.proofs.DropLemmas.{written_over, room_over}
 
@@ -143,9 +143,9 @@ less_handed keys test key was now over left before k = go (eqb k key) refl where
       rw (eqb-true k key e) (before key ∙ ap (λ (b : Bool). cond b (over key) (was key)) (goes_never keys test key left ∙ sym (goes_here keys test key ∙ left)))
   go false e = before k ∙ sym (ap (λ (b : Bool). cond b (over k) (was k)) (goes_on keys test key k (eqb-false k key e)))
 
-module _ (keys : List ℕ) (test : ℕ → Bool) (from to : ℕ) (taker : Txn) (old now new : Crossed Record) (key : ℕ) (hands : IsHanded keys test from to taker old now) where
+module _ (keys : List ℕ) (test : ℕ → Bool) (from to : ℕ) (taker : Txn) (old now new : Crossed Record) (key : ℕ) (hands : AreHanded keys test from to taker old now) where
   -- one more record goes over
-  pub hands_more : lists keys key ≡ false → test key ≡ true → IsCrossed now → home_of now.columns key ≡ Some from → HandedOne key taker to now new → IsHanded (keys ++ key ∷ []) test from to taker old new
+  pub hands_more : lists keys key ≡ false → test key ≡ true → IsCrossed now → home_of now.columns key ≡ Some from → HandedOne key taker to now new → AreHanded (keys ++ key ∷ []) test from to taker old new
   hands_more none passes crossed home one = record {
     rows = one.rows ∙ hands.rows;
     items = more_handed keys test key (get old.items) (get now.items) (get new.items) (λ k. option_map (given taker) (get old.items k)) none passes hands.items
@@ -161,7 +161,7 @@ module _ (keys : List ℕ) (test : ℕ → Bool) (from to : ℕ) (taker : Txn) (
   }
 
   -- or it stays
-  pub hands_less : test key ≡ false → new ≡ now → IsHanded (keys ++ key ∷ []) test from to taker old new
+  pub hands_less : test key ≡ false → new ≡ now → AreHanded (keys ++ key ∷ []) test from to taker old new
   hands_less left same = record {
     rows = ap (λ (table : Crossed Record). table.rows) same ∙ hands.rows;
     items = λ k. ap (λ (table : Crossed Record). get table.items k) same ∙ less_handed keys test key (get old.items) (get now.items) (λ k. option_map (given taker) (get old.items k)) left hands.items k;
@@ -173,10 +173,10 @@ module _ (keys : List ℕ) (test : ℕ → Bool) (from to : ℕ) (taker : Txn) (
   }
 
 -- a key whose record has not gone is where it was
-home_as_was : (keys : List ℕ) (test : ℕ → Bool) (from to : ℕ) (taker : Txn) (old now : Crossed Record) (key : ℕ) → IsHanded keys test from to taker old now → lists keys key ≡ false → home_of now.columns key ≡ home_of old.columns key
+home_as_was : (keys : List ℕ) (test : ℕ → Bool) (from to : ℕ) (taker : Txn) (old now : Crossed Record) (key : ℕ) → AreHanded keys test from to taker old now → lists keys key ≡ false → home_of now.columns key ≡ home_of old.columns key
 home_as_was keys test from to taker old now key hands none = hands.homes key ∙ ap (λ (b : Bool). cond b (Some to) (home_of old.columns key)) (goes_not keys test key none)
 
-pub hands_nothing : (test : ℕ → Bool) (from to : ℕ) (taker : Txn) (old : Crossed Record) → IsHanded [] test from to taker old old
+pub hands_nothing : (test : ℕ → Bool) (from to : ℕ) (taker : Txn) (old : Crossed Record) → AreHanded [] test from to taker old old
 unfolding goes
 hands_nothing test from to taker old = record { rows = refl; items = λ k. refl; homes = λ k. refl; chains = λ c first second. refl; many = refl; len = refl; room = refl }
 
@@ -208,7 +208,7 @@ pub record IsWalked (keys : List ℕ) (test : ℕ → Bool) (from to : ℕ) (tak
   pub left : List ℕ
   pub split : keys ≡ passed ++ left
   pub at : next ≡ first_of left
-  pub hands : IsHanded passed test from to taker old now
+  pub hands : AreHanded passed test from to taker old now
   pub least : length passed ≤ visits
   pub few : visits ≤ 4 * length passed
 
@@ -253,7 +253,7 @@ module _ (keys : List ℕ) (test : ℕ → Bool) (from to : ℕ) (taker : Txn) (
     before = ap (from_key (Some key)) split_here ∙ from_left is.passed (key ∷ later.0) (subst (IsDistinct eqb) split_here distinct)
 
   module _ (new : Crossed Record) (next : Option ℕ) (more : ℕ) (at : next ≡ first_of later.0) (least : visits + 1 ≤ more) (few : more ≤ visits + 4) where
-    abbrev pub with_hands : IsHanded (is.passed ++ key ∷ []) test from to taker old new → IsWalked keys test from to taker old new next more
+    abbrev pub with_hands : AreHanded (is.passed ++ key ∷ []) test from to taker old new → IsWalked keys test from to taker old new next more
     with_hands hands = record {
       passed = is.passed ++ key ∷ [];
       left = later.0;
@@ -274,8 +274,8 @@ module _ (keys : List ℕ) (test : ℕ → Bool) (from to : ℕ) (taker : Txn) (
   all : is.passed ≡ keys
   all = sym (is.split ∙ ap (λ (l : List ℕ). is.passed ++ l) (no_first is.left is.at) ∙ append-nil is.passed)
 
-  pub walk_ends : IsHanded keys test from to taker old now
-  walk_ends = subst (λ (l : List ℕ). IsHanded l test from to taker old now) all is.hands
+  pub walk_ends : AreHanded keys test from to taker old now
+  walk_ends = subst (λ (l : List ℕ). AreHanded l test from to taker old now) all is.hands
 
   pub walk_least : length keys ≤ visits
   walk_least = subst (λ (l : List ℕ). length l ≤ visits) all is.least

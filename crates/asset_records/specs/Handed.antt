@@ -53,7 +53,7 @@ pub record HandedOne (key : ℕ) (taker : Txn) (to : ℕ) (old new : Crossed Rec
 
 -- those of the records at these keys that pass the test, which were in this column, are the taker's, in the column of its
 -- seat, and nothing else changed
-pub record IsHanded (keys : List ℕ) (test : ℕ → Bool) (from to : ℕ) (taker : Txn) (old new : Crossed Record) : Type 0 where
+pub record AreHanded (keys : List ℕ) (test : ℕ → Bool) (from to : ℕ) (taker : Txn) (old new : Crossed Record) : Type 0 where
   pub rows : new.rows ≡ old.rows
   pub items : (k : ℕ) → get new.items k ≡ cond (goes keys test k) (option_map (given taker) (get old.items k)) (get old.items k)
   pub homes : (k : ℕ) → home_of new.columns k ≡ cond (goes keys test k) (Some to) (home_of old.columns k)

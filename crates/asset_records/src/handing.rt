@@ -3,7 +3,7 @@
 ghost use Rattle.std.specs.Prelude.{◌≡◌, ℕ, ◌==◌, ◌≤◌, ◌*◌, ◌<◌, true, false, length, is_some, IfSome};
 ghost use Rattle.slab.specs.Slab.{get};
 ghost use Rattle.asset_chains.specs.Chained.{chain_of, home_of};
-ghost use Rattle.asset_records.specs.Handed.{given, is_picked, is_at, goes, picked_at, stands_in, HandedOne, IsHanded};
+ghost use Rattle.asset_records.specs.Handed.{given, is_picked, is_at, goes, picked_at, stands_in, HandedOne, AreHanded};
 
 use crate::dropping::counted;
 use crate::records::Record;
@@ -115,7 +115,7 @@ fn hand_over_along<P: Picks>(
 ) -> usize
     requires another { (from == to.at) ≡ false }
     requires seat { to.at < length records.old.columns.chains }
-    ensures handed { IsHanded (chain_of records.old.columns from) (picked_at (P.picks picks.now) records.old) from to.at to.t records.old records.new }
+    ensures handed { AreHanded (chain_of records.old.columns from) (picked_at (P.picks picks.now) records.old) from to.at to.t records.old records.new }
     ensures counted { length (chain_of records.old.columns from) ≤ result }
     ensures visits { result ≤ 4 * length (chain_of records.old.columns from) }
 {
@@ -150,7 +150,7 @@ fn pass_from(records: &mut Crossed<Record>, key: usize, from: usize, to: Sitter)
 fn hand_over_row(records: &mut Crossed<Record>, object: usize, from: usize, to: Sitter) -> usize
     requires another { (from == to.at) ≡ false }
     requires seat { to.at < length records.old.columns.chains }
-    ensures handed { IsHanded (chain_of records.old.rows object) (stands_in from records.old) from to.at to.t records.old records.new }
+    ensures handed { AreHanded (chain_of records.old.rows object) (stands_in from records.old) from to.at to.t records.old records.new }
     ensures counted { length (chain_of records.old.rows object) ≤ result }
     ensures visits { result ≤ 4 * length (chain_of records.old.rows object) }
 {
@@ -189,7 +189,7 @@ pub(crate) fn hand_over_picked<P: Picks>(
 ) -> usize
     requires another { (from == to.at) ≡ false }
     requires seat { to.at < length records.old.columns.chains }
-    ensures handed { IsHanded (chain_of records.old.columns from) (picked_at (P.picks picks.now) records.old) from to.at to.t records.old records.new }
+    ensures handed { AreHanded (chain_of records.old.columns from) (picked_at (P.picks picks.now) records.old) from to.at to.t records.old records.new }
     ensures counted { (k : ℕ) → goes (chain_of records.old.columns from) (picked_at (P.picks picks.now) records.old) k ≡ true → 1 ≤ result }
     ensures visits { result ≤ 4 * length (chain_of records.old.columns from) }
 {

@@ -13,11 +13,11 @@ use Rattle.asset_scripts.specs.declared.preamble.ObjectLine.TheVariants.{More, F
 use Rattle.asset_grammar.specs.Grammar.{line_of}
 use Rattle.asset_entries.specs.Recorded.{opened}
 use Rattle.asset_scripts.specs.Transcript.{objects_transcript, object_line, steps_from, steps_transcript, stopped}
-use Rattle.asset_scripts.specs.Preamble.{bad_line, begun_by, beginning, transcript_begun, Takes}
+use Rattle.asset_scripts.specs.Preamble.{bad_line, begun_by, beginning, transcript_begun, TakesLine}
 use Rattle.asset_scripts.specs.declared.prints.Prints.{Prints}
 
-pub takes_blank : (line : List ℕ) (step : Step) (opening : Opening) → line_of line ≡ Line'.Blank → Takes More step line opening opening
-unfolding Takes beginning begun_by
+pub takes_blank : (line : List ℕ) (step : Step) (opening : Opening) → line_of line ≡ Line'.Blank → TakesLine More step line opening opening
+unfolding TakesLine beginning begun_by
 takes_blank line step opening e = λ more n. rw e
 
 -- an object that no earlier line added is added
@@ -26,20 +26,20 @@ pub object_taken : (line : List ℕ) (opening : Opening) (object : Ob × ℤ) �
 unfolding objects_transcript object_line
 object_taken line opening object e new = λ prints more n capacity. rw (e, new)
 
-pub takes_object : (line : List ℕ) (step : Step) (opening : Opening) (object : Ob × ℤ) → line_of line ≡ Line'.Command (Object object) → exists opening object.0.0 ≡ false → Takes More step line opening (opening ++ object ∷ [])
-unfolding Takes beginning begun_by
+pub takes_object : (line : List ℕ) (step : Step) (opening : Opening) (object : Ob × ℤ) → line_of line ≡ Line'.Command (Object object) → exists opening object.0.0 ≡ false → TakesLine More step line opening (opening ++ object ∷ [])
+unfolding TakesLine beginning begun_by
 takes_object line step opening object e new = λ more n. rw (e, new)
 
-pub takes_double : (line : List ℕ) (step : Step) (opening : Opening) (object : Ob × ℤ) → line_of line ≡ Line'.Command (Object object) → exists opening object.0.0 ≡ true → Takes Bad step line opening opening
-unfolding Takes beginning begun_by
+pub takes_double : (line : List ℕ) (step : Step) (opening : Opening) (object : Ob × ℤ) → line_of line ≡ Line'.Command (Object object) → exists opening object.0.0 ≡ true → TakesLine Bad step line opening opening
+unfolding TakesLine beginning begun_by
 takes_double line step opening object e there = λ more n. rw (e, there)
 
-pub takes_step : (line : List ℕ) (step : Step) (opening : Opening) → line_of line ≡ Line'.Command (Ask step) → Takes First step line opening opening
-unfolding Takes beginning begun_by
+pub takes_step : (line : List ℕ) (step : Step) (opening : Opening) → line_of line ≡ Line'.Command (Ask step) → TakesLine First step line opening opening
+unfolding TakesLine beginning begun_by
 takes_step line step opening e = λ more n. rw e
 
-pub takes_bad : (line : List ℕ) (step : Step) (opening : Opening) → line_of line ≡ Line'.Bad → Takes Bad step line opening opening
-unfolding Takes beginning begun_by
+pub takes_bad : (line : List ℕ) (step : Step) (opening : Opening) → line_of line ≡ Line'.Bad → TakesLine Bad step line opening opening
+unfolding TakesLine beginning begun_by
 takes_bad line step opening e = λ more n. rw e
 
 -- ---- the transcript of a script, by how it begins

@@ -49,7 +49,7 @@ unfoldable pub transcript_from : Prints → ObjectLine → Step → List (List �
 transcript_from prints line step more n opening capacity = transcript_begun prints (begun_at line step more n opening) capacity
 
 -- a line that is taken leaves the later lines with the new opening; the first step and a bad line end the object lines
-unfoldable pub Takes : ObjectLine → Step → List ℕ → Opening → Opening → Type 0
-Takes More step line old new = (more : List (List ℕ)) (n : ℕ) → beginning (line ∷ more) n old ≡ beginning more (n + 1) new
-Takes First step line old new = (more : List (List ℕ)) (n : ℕ) → beginning (line ∷ more) n old ≡ first_step step more n new
-Takes Bad step line old new = (more : List (List ℕ)) (n : ℕ) → beginning (line ∷ more) n old ≡ bad_line n new
+unfoldable pub TakesLine : ObjectLine → Step → List ℕ → Opening → Opening → Type 0
+TakesLine More step line old new = (more : List (List ℕ)) (n : ℕ) → beginning (line ∷ more) n old ≡ beginning more (n + 1) new
+TakesLine First step line old new = (more : List (List ℕ)) (n : ℕ) → beginning (line ∷ more) n old ≡ first_step step more n new
+TakesLine Bad step line old new = (more : List (List ℕ)) (n : ℕ) → beginning (line ∷ more) n old ≡ bad_line n new

@@ -4,7 +4,7 @@ ghost use Rattle.asset_names.specs.Sets.{HasNoDouble};
 ghost use Rattle.asset_entries.specs.Recorded.{objects_of};
 ghost use Rattle.asset_grammar.specs.Grammar.{line_of, said_as};
 ghost use Rattle.asset_grammar.specs.Lines.{lines};
-ghost use Rattle.asset_scripts.specs.Preamble.{beginning, begun_at, Takes};
+ghost use Rattle.asset_scripts.specs.Preamble.{beginning, begun_at, TakesLine};
 
 use crate::faults::ScriptFault;
 use crate::opening_objects::OpeningObjects;
@@ -37,7 +37,7 @@ pub struct Preamble<'a> {
 
 /// Takes one line before the first step into the opening.
 fn take_line(opening: &mut OpeningObjects, said: Said) -> Result<ObjectLine, ScriptFault>
-    ensures takes { IfOk result (λ taken. (line : List ℕ) (step : Step) → line_of line ≡ said_as said step → Takes taken step line opening.old opening.new) }
+    ensures takes { IfOk result (λ taken. (line : List ℕ) (step : Step) → line_of line ≡ said_as said step → TakesLine taken step line opening.old opening.new) }
     ensures different { OnOk result (HasNoDouble (objects_of opening.old) → HasNoDouble (objects_of opening.new)) }
     ensures memory { IfErr result (λ fault. fault ≡ ScriptFault.NoMemory) }
 {

@@ -7,7 +7,7 @@ use Rattle.asset_names.specs.declared.names.Txn.{Txn}
 use Rattle.asset_chains.specs.Chained.{Chained, chain_of, home_of, last_of, pushed, one_key_more}
 use Rattle.asset_chains.proofs.Laws.{read_more, pushes, key_more-home, key_more-keys, key_more-chains, IsPushed}
 use Rattle.asset_seats.specs.Seated.{Seated, seat}
-use Rattle.asset_seats.specs.Bucketed.{bucket_in, no_name, name_in, taken, seats_of, rebucketed, AreSeated}
+use Rattle.asset_seats.specs.Bucketed.{bucket_in, no_name, name_in, taken, seats_of, rebucketed, AreBucketed}
 use Rattle.asset_seats.proofs.SeatLemmas.{seat_at, seat_is, same_taken, vacant_is, room_is, many_at, many_are, last_appended}
 
 -- past the last key there is no home
@@ -34,10 +34,10 @@ unfolding name_in
 name_more names k = read_more names no_name k
 
 -- ---- each seat is in its bucket of more
-module _ (names : List Txn) (table new : Chained) (buckets more : ℕ) (kept : AreSeated names table buckets)
+module _ (names : List Txn) (table new : Chained) (buckets more : ℕ) (kept : AreBucketed names table buckets)
     (homes : (k : ℕ) → home_of new k ≡ rebucketed (bucket_in (name_in names k).0 more) (home_of table k))
     (keys : length new.homes ≡ length table.homes) (some : 0 < more) (chains : more ≤ length new.chains - 1) where
-  pub spreads_valid : AreSeated names new more
+  pub spreads_valid : AreBucketed names new more
   spreads_valid = record {
     named = omega (arith, kept.named, keys);
     homed = λ k within. ap is_some (homes k) ∙ rebucketed_some (bucket_in (name_in names k).0 more) (home_of table k) ∙ kept.homed k (omega (arith, within, keys));
@@ -56,7 +56,7 @@ module _ (names : List Txn) (table new : Chained) (buckets more : ℕ) (kept : A
   spreads_taken k t = ap (λ (o : Option ℕ). taken o t) (homes k) ∙ same_taken (bucket_in (name_in names k).0 more) (home_of table k) t
 
 -- ---- more chains, and nothing else
-pub chains_valid : (names : List Txn) (table new : Chained) (buckets : ℕ) → AreSeated names table buckets → new.homes ≡ table.homes → length table.chains ≤ length new.chains → AreSeated names new buckets
+pub chains_valid : (names : List Txn) (table new : Chained) (buckets : ℕ) → AreBucketed names table buckets → new.homes ≡ table.homes → length table.chains ≤ length new.chains → AreBucketed names new buckets
 unfolding home_of
 chains_valid names table new buckets kept same many = record {
   named = omega (arith, kept.named, ap length same);
@@ -70,7 +70,7 @@ chains_valid names table new buckets kept same many = record {
   at k = ap (λ (l : List (Option ℕ)). slice_index_or l k None) same
 
 -- ---- more names, and nothing else
-pub names_valid : (names more : List Txn) (table : Chained) (buckets : ℕ) → AreSeated names table buckets → ((k : ℕ) → name_in more k ≡ name_in names k) → length names ≤ length more → AreSeated more table buckets
+pub names_valid : (names more : List Txn) (table : Chained) (buckets : ℕ) → AreBucketed names table buckets → ((k : ℕ) → name_in more k ≡ name_in names k) → length names ≤ length more → AreBucketed more table buckets
 names_valid names more table buckets kept same size = record {
   named = omega (arith, kept.named, size);
   homed = kept.homed;
@@ -81,7 +81,7 @@ names_valid names more table buckets kept same size = record {
 }
 
 -- ---- one more seat, which is free
-module _ (names : List Txn) (table longer new : Chained) (buckets : ℕ) (kept : AreSeated names table buckets) (some : 0 < buckets) (place : length table.homes < length names)
+module _ (names : List Txn) (table longer new : Chained) (buckets : ℕ) (kept : AreBucketed names table buckets) (some : 0 < buckets) (place : length table.homes < length names)
     (more : longer ≡ one_key_more table) (push : new ≡ pushed 0 (length table.homes) longer) where
   pub longer_homes : (k : ℕ) → home_of longer k ≡ home_of table k
   longer_homes k = ap (λ (t : Chained). home_of t k) more ∙ key_more-home table k
@@ -111,7 +111,7 @@ module _ (names : List Txn) (table longer new : Chained) (buckets : ℕ) (kept :
   pub added_keys : length new.homes ≡ length table.homes + 1
   added_keys = change.same_keys ∙ longer_keys
 
-  pub added_valid : AreSeated names new buckets
+  pub added_valid : AreBucketed names new buckets
   added_valid = record {
     named = omega (arith, added_keys, place);
     homed = λ k within. elim (cases_eq k (length table.homes)) [

@@ -6,7 +6,7 @@ use Rattle.asset_names.specs.declared.names.Txn.{Txn}
 use Rattle.asset_chains.specs.Chained.{Chained, chain_of, home_of, unlinked}
 use Rattle.asset_chains.proofs.Laws.{unlinks, unlinks_nothing}
 use Rattle.asset_seats.specs.Seated.{Seated, seat}
-use Rattle.asset_seats.specs.Bucketed.{bucket_in, no_name, name_in, taken, seats_of, AreSeated}
+use Rattle.asset_seats.specs.Bucketed.{bucket_in, no_name, name_in, taken, seats_of, AreBucketed}
 use Rattle.asset_seats.proofs.SeatLemmas.{seat_at, seat_is}
 
 -- a key that is out of its chain, if it was in one
@@ -51,7 +51,7 @@ name_there names c t j apart = get_or-set_other names c j t no_name apart
 bucket_same : (t u : Txn) (buckets : ℕ) → t ≡ u → bucket_in t.0 buckets ≡ bucket_in u.0 buckets
 bucket_same t u buckets same = ap (λ (v : Txn). bucket_in v.0 buckets) same
 
-module _ (names more : List Txn) (table new : Chained) (buckets k : ℕ) (t : Txn) (kept : AreSeated names table buckets)
+module _ (names more : List Txn) (table new : Chained) (buckets k : ℕ) (t : Txn) (kept : AreBucketed names table buckets)
     (absent : (j a : ℕ) → home_of table j ≡ Some (suc a) → name_in names j ≡ t → ⊥)
     (home : home_of new k ≡ Some (suc (bucket_in t.0 buckets))) (homes : (j : ℕ) → (j ≡ k → ⊥) → home_of new j ≡ home_of table j)
     (keys : length new.homes ≡ length table.homes) (many : length new.chains ≡ length table.chains)
@@ -83,7 +83,7 @@ module _ (names more : List Txn) (table new : Chained) (buckets k : ℕ) (t : Tx
     ]
   ]
 
-  pub sits_valid : AreSeated more new buckets
+  pub sits_valid : AreBucketed more new buckets
   sits_valid = record {
     named = omega (arith, kept.named, keys, size);
     homed = sits_homed;
@@ -102,7 +102,7 @@ module _ (names more : List Txn) (table new : Chained) (buckets k : ℕ) (t : Tx
         let apart = eqb-false d k e in
         ap (λ (o : Option ℕ). taken o (name_in more d)) (homes d apart) ∙ ap (taken (home_of table d)) (there d apart) ∙ sym (seat_is names table now d view)
 
-module _ (names : List Txn) (table new : Chained) (buckets k : ℕ) (kept : AreSeated names table buckets)
+module _ (names : List Txn) (table new : Chained) (buckets k : ℕ) (kept : AreBucketed names table buckets)
     (home : home_of new k ≡ Some 0) (homes : (j : ℕ) → (j ≡ k → ⊥) → home_of new j ≡ home_of table j)
     (keys : length new.homes ≡ length table.homes) (many : length new.chains ≡ length table.chains) where
   -- a seat in a bucket was in it before
@@ -112,7 +112,7 @@ module _ (names : List Txn) (table new : Chained) (buckets k : ℕ) (kept : AreS
     | inr apart ↦ sym (homes j apart) ∙ at
   ]
 
-  pub leaves_valid : AreSeated names new buckets
+  pub leaves_valid : AreBucketed names new buckets
   leaves_valid = record {
     named = omega (arith, kept.named, keys);
     homed = λ j within. elim (cases_eq j k) [

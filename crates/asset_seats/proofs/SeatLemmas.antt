@@ -7,7 +7,7 @@ use Rattle.asset_names.proofs.Common.{some_of}
 use Rattle.asset_chains.specs.Chained.{Chained, chain_of, home_of, last_of, lists, IsConsistent}
 use Rattle.asset_chains.proofs.Laws.{key_within, chain_at_last}
 use Rattle.asset_seats.specs.Seated.{Seated, seat}
-use Rattle.asset_seats.specs.Bucketed.{bucket_in, no_name, name_in, taken, slots_of, seats_of, rebucketed, AreSeated}
+use Rattle.asset_seats.specs.Bucketed.{bucket_in, no_name, name_in, taken, slots_of, seats_of, rebucketed, AreBucketed}
 
 -- what is read within a list is read whatever stands past it
 pub read_within : {X : Type 0} (xs : List X) (i : ℕ) (x y : X) → i < length xs → get_or xs i x ≡ get_or xs i y
@@ -111,7 +111,7 @@ vacant_past names table now view none =
       go (Some k) h = absurd (true≢false h)
 
 -- ---- laws
-module _ (names : List Txn) (table : Chained) (buckets : ℕ) (now : Seated) (view : seats_of names table ≡ now) (kept : AreSeated names table buckets) where
+module _ (names : List Txn) (table : Chained) (buckets : ℕ) (now : Seated) (view : seats_of names table ≡ now) (kept : AreBucketed names table buckets) where
   -- one transaction has one seat
   pub one_seat : (t : Txn) (c d : ℕ) → seat now c ≡ Some t → seat now d ≡ Some t → d ≡ c
   one_seat t c d here there =
@@ -168,7 +168,7 @@ module _ (names : List Txn) (table : Chained) (buckets : ℕ) (now : Seated) (vi
       omega (arith, some, none)
 
 -- ---- nobody sits, at first
-pub seated_nothing : (names : List Txn) (table : Chained) → table.homes ≡ [] → AreSeated names table 0
+pub seated_nothing : (names : List Txn) (table : Chained) → table.homes ≡ [] → AreBucketed names table 0
 unfolding home_of
 seated_nothing names table none = record {
   named = omega (arith, ap length none);

@@ -44,7 +44,7 @@ rebucketed bucket (Some zero) = Some zero
 rebucketed bucket (Some (suc other)) = Some (suc bucket)
 
 -- each seat is free or in the bucket of its name, and no two have the same name
-pub record AreSeated (names : List Txn) (table : Chained) (buckets : ℕ) : Type 0 where
+pub record AreBucketed (names : List Txn) (table : Chained) (buckets : ℕ) : Type 0 where
   -- each seat has a place for a name
   pub named : length table.homes ≤ length names
   -- each seat is in a chain

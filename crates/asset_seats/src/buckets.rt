@@ -3,7 +3,7 @@
 ghost use Rattle.std.specs.Prelude.{◌≡◌, ◌≢◌, ℕ, ◌+◌, ◌<◌, ◌≤◌, suc, length, List, [], ◌∷◌, ◌++◌, Some, IfSome, IfNone, OnOk};
 ghost use Rattle.asset_chains.specs.Chained.{chain_of, home_of};
 ghost use Rattle.asset_names.specs.declared.names.Txn.{Txn};
-ghost use Rattle.asset_seats.specs.Bucketed.{bucket_in, name_in, taken, rebucketed, AreSeated};
+ghost use Rattle.asset_seats.specs.Bucketed.{bucket_in, name_in, taken, rebucketed, AreBucketed};
 
 use crate::room::add_chains;
 use asset_chains::Chains;
@@ -90,8 +90,8 @@ fn spread(names: &[Txn], chains: &mut Chains, buckets: usize)
 ///
 /// Each seat moves once in about as many calls as there are seats.
 pub(crate) fn widen(names: &[Txn], chains: &mut Chains, buckets: &mut usize) -> Result<(), NoMemory>
-    requires { AreSeated names.now chains.old buckets.old }
-    ensures seated { AreSeated names.now chains.new buckets.new }
+    requires { AreBucketed names.now chains.old buckets.old }
+    ensures seated { AreBucketed names.now chains.new buckets.new }
     ensures ready { OnOk result (0 < buckets.new) }
     ensures seats { (k : ℕ) (t : Txn) → taken (home_of chains.new k) t ≡ taken (home_of chains.old k) t }
     ensures free { chain_of chains.new 0 ≡ chain_of chains.old 0 }

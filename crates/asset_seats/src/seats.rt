@@ -31,13 +31,13 @@ impl Drop for Seats {
 
 impl Model for Seats {
     ghost use Rattle.asset_seats.specs.Seated.{Seated};
-    ghost use Rattle.asset_seats.specs.Bucketed.{seats_of, AreSeated};
+    ghost use Rattle.asset_seats.specs.Bucketed.{seats_of, AreBucketed};
 
     ghost Value = { Seated };
 
     ghost view = { λ o. seats_of o.names.items o.chains };
 
-    ghost invariant = { λ o. AreSeated o.names.items o.chains o.buckets };
+    ghost invariant = { λ o. AreBucketed o.names.items o.chains o.buckets };
 }
 
 impl Seats {

@@ -23,7 +23,7 @@ use Rattle.asset_names.proofs.ListLemmas.{lists_at}
 use Rattle.asset_laws.specs.Serial.{committed_by as named_by, committed_names, is_apart, shares_nothing, CommittedShareNothing}
 use Rattle.asset_laws.proofs.KeepLinks.{Keeps}
 use Rattle.asset_laws.proofs.GroupLemmas.{later_join, keeps_respects}
-use Rattle.asset_entries.specs.Committing.{committed_by, passes, has_commit, commit_at}
+use Rattle.asset_entries.specs.Committing.{committer, passes, has_commit, commit_at}
 use Rattle.asset_entries.proofs.EntryLemmas.{next_entry}
 use Rattle.asset_history.specs.Uses.{partners}
 use Rattle.asset_meetings.specs.Meetings.{join_arrows}
@@ -64,7 +64,7 @@ answered_more names None n = refl
 answered_as : (entries : List Entry) (n : ℕ) → lists (answered_names entries) n ≡ has_commit (λ m. eqb m n) entries
 unfolding answered_names has_commit lists
 answered_as [] n = refl
-answered_as (entry ∷ older) n = answered_more (answered_names older) (committed_by entry.0 entry.1) n ∙ ap (λ b. passes (λ m. eqb m n) (committed_by entry.0 entry.1) || b) (answered_as older n)
+answered_as (entry ∷ older) n = answered_more (answered_names older) (committer entry.0 entry.1) n ∙ ap (λ b. passes (λ m. eqb m n) (committer entry.0 entry.1) || b) (answered_as older n)
 
 passing : (test : ℕ → Bool) (found : Option Txn) → passes test found ≡ true → (n : ℕ) × (test n ≡ true) × (passes (λ m. eqb m n) found ≡ true)
 unfolding passes
@@ -75,13 +75,13 @@ passing test None h = absurd (false≢true h)
 commit_found : (test : ℕ → Bool) (entries : List Entry) → has_commit test entries ≡ true → (n : ℕ) × (test n ≡ true) × (lists (answered_names entries) n ≡ true)
 unfolding has_commit answered_names
 commit_found test [] h = absurd (false≢true h)
-commit_found test (entry ∷ older) h = elim (or_cases (passes test (committed_by entry.0 entry.1)) (has_commit test older) h) [
+commit_found test (entry ∷ older) h = elim (or_cases (passes test (committer entry.0 entry.1)) (has_commit test older) h) [
   | inl here ↦
-      let who = passing test (committed_by entry.0 entry.1) here in
-      (who.0, who.1, answered_more (answered_names older) (committed_by entry.0 entry.1) who.0 ∙ or_left _ _ who.2)
+      let who = passing test (committer entry.0 entry.1) here in
+      (who.0, who.1, answered_more (answered_names older) (committer entry.0 entry.1) who.0 ∙ or_left _ _ who.2)
   | inr later ↦
       let who = commit_found test older later in
-      (who.0, who.1, answered_more (answered_names older) (committed_by entry.0 entry.1) who.0 ∙ or_right (passes (λ m. eqb m who.0) (committed_by entry.0 entry.1)) _ who.2)
+      (who.0, who.1, answered_more (answered_names older) (committer entry.0 entry.1) who.0 ∙ or_right (passes (λ m. eqb m who.0) (committer entry.0 entry.1)) _ who.2)
 ]
 
 -- ---- who has committed
@@ -186,19 +186,19 @@ met_more test met k none below =
       alone false = refl
 
 -- ---- the order of commits
-commit_is : (step : Step) (reply : Reply) (t : Txn) → committed_by step reply ≡ Some t → (step ≡ Commit t) × (reply ≡ Reply'.Committed)
-unfolding committed_by
+commit_is : (step : Step) (reply : Reply) (t : Txn) → committer step reply ≡ Some t → (step ≡ Commit t) × (reply ≡ Reply'.Committed)
+unfolding committer
 commit_is (Commit u) Reply'.Committed t is = (cc, refl)
 commit_is step reply t is = absurd (false≢true (ap is_some is))
 
 -- a step that is no answered commit names nobody
-names_nobody : (step : Step) (reply : Reply) (steps : List Step) → committed_by step reply ≡ None → (named_by step steps ≡ []) ⊎ (takes_effect step reply ≡ false)
-unfolding committed_by named_by takes_effect
+names_nobody : (step : Step) (reply : Reply) (steps : List Step) → committer step reply ≡ None → (named_by step steps ≡ []) ⊎ (takes_effect step reply ≡ false)
+unfolding committer named_by takes_effect
 names_nobody (Commit u) Reply'.Committed steps is = absurd (false≢true (sym (ap is_some is)))
 names_nobody (Commit u) reply steps is = inr refl
 names_nobody step reply steps is = inl refl
 
-nobody_more : (entry : Entry) (older : List Entry) → committed_by entry.0 entry.1 ≡ None → committed_names (applied (entry ∷ older)) ≡ committed_names (applied older)
+nobody_more : (entry : Entry) (older : List Entry) → committer entry.0 entry.1 ≡ None → committed_names (applied (entry ∷ older)) ≡ committed_names (applied older)
 unfolding applied committed_names
 nobody_more entry older none = elim (names_nobody entry.0 entry.1 (applied older) none) [
   | inl nobody ↦ go (takes_effect entry.0 entry.1) nobody
@@ -238,14 +238,14 @@ answered_apart opening entries legal share = apart_weaker (committed entries) (l
 pub answered_are : (opening : Opening) (entries : List Entry) → IsLegal opening entries → CommittedShareNothing entries → answered_names entries ≡ reverse (committed_names (applied entries))
 unfolding answered_names with_answered IsLegal applied takes_effect committed_names
 answered_are opening [] legal share = refl
-answered_are opening (entry ∷ older) legal share = go (committed_by entry.0 entry.1) refl (answered_are opening older legal.1 (share_rest entry older share)) where
+answered_are opening (entry ∷ older) legal share = go (committer entry.0 entry.1) refl (answered_are opening older legal.1 (share_rest entry older share)) where
   known : (n : ℕ) → committed older n ≡ true → lists (answered_names older) n ≡ true
   known = committed_answered older (answered_apart opening older legal.1 (share_rest entry older share))
 
   took : (t : Txn) → entry.0 ≡ Commit t → entry.1 ≡ Reply'.Committed → applied (entry ∷ older) ≡ Commit t ∷ applied older
   took t step reply = rw (step, reply) refl
 
-  go : (found : Option Txn) → committed_by entry.0 entry.1 ≡ found → answered_names older ≡ reverse (committed_names (applied older)) → with_answered (answered_names older) found ≡ reverse (committed_names (applied (entry ∷ older)))
+  go : (found : Option Txn) → committer entry.0 entry.1 ≡ found → answered_names older ≡ reverse (committed_names (applied older)) → with_answered (answered_names older) found ≡ reverse (committed_names (applied (entry ∷ older)))
   go None e same = same ∙ ap reverse (sym (nobody_more entry older e))
   go (Some t) e same =
       let is = commit_is entry.0 entry.1 t e in
@@ -263,7 +263,7 @@ answer_seen entries i t is = go (slice_get entries i) refl is where
 pub no_answer_seen : (entries : List Entry) (i : ℕ) → i < length entries → None ≡ commit_at (slice_get entries i) → answered_names (reverse (take (i + 1) entries)) ≡ answered_names (reverse (take i entries))
 unfolding answered_names with_answered
 no_answer_seen entries i below is = elim (slice_get_cases entries i).1 [
-  | inl here ↦ let none : None ≡ committed_by here.0.0 here.0.1 = rw here.2 at is in rw (next_entry entries i here.0 here.2, ← none) refl
+  | inl here ↦ let none : None ≡ committer here.0.0 here.0.1 = rw here.2 at is in rw (next_entry entries i here.0 here.2, ← none) refl
   | inr past ↦ absurd (omega (arith, past.0))
 ]
 
@@ -291,4 +291,4 @@ once_with names (Some t) once = go (lists names t.0) refl where
 pub answered_once : (entries : List Entry) → Once (answered_names entries)
 unfolding answered_names
 answered_once [] = λ j k before below same. omega arith
-answered_once (entry ∷ older) = once_with (answered_names older) (committed_by entry.0 entry.1) (answered_once older)
+answered_once (entry ∷ older) = once_with (answered_names older) (committer entry.0 entry.1) (answered_once older)

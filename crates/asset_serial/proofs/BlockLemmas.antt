@@ -24,7 +24,7 @@ use Rattle.asset_buckets.specs.Bucketed.{indices_below, indices_of, buckets_of}
 use Rattle.asset_buckets.proofs.BucketLemmas.{next_below}
 use Rattle.asset_entries.specs.Recorded.{Recorded, opened}
 use Rattle.asset_serial.specs.Answered.{answered_names, number_of, numbers_of, blocks_of}
-use Rattle.asset_serial.specs.Following.{alone, entry_at, entries_at, entries_in, followed_by, Follows}
+use Rattle.asset_serial.specs.Following.{alone, entry_listed_at, entries_at, entries_in, followed_by, CanFollow}
 use Rattle.asset_serial.proofs.AnsweredLemmas.{Once, answered_are, answered_once}
 
 -- ---- the index of a name
@@ -99,7 +99,7 @@ reverse_kept test (x ∷ xs) = go (test x) (reverse_kept test xs) ∙ sym (ap (f
 
 -- ---- the blocks in order
 block_is : (names : List ℕ) (entries : List Entry) → Once names → (k : ℕ) → k < length names → entries_at entries (indices_of k (numbers_of names entries)) ≡ entries_of (reverse entries) (get_or names k 0)
-unfolding entries_at entry_at indices_of numbers_of number_of entries_of
+unfolding entries_at entry_listed_at indices_of numbers_of number_of entries_of
 block_is names entries once k below =
     let all = reverse entries in
     let numbers = map (number_of names) all in
@@ -171,7 +171,7 @@ serial_copied opening entries legal share =
     ∙ sym (serial_reversed entries)
 
 -- the serial entries may follow an empty history, and are all that is in it then
-pub serial_follows : (history : Recorded) → IsLegal history.opening history.entries → length history.entries ≤ history.capacity → CommittedShareNothing history.entries → Follows (opened history.opening history.capacity) (reverse (serial history.entries))
+pub serial_follows : (history : Recorded) → IsLegal history.opening history.entries → length history.entries ≤ history.capacity → CommittedShareNothing history.entries → CanFollow (opened history.opening history.capacity) (reverse (serial history.entries))
 unfolding opened
 serial_follows history legal within share = record {
   legal = subst (IsLegal history.opening) (sym (append-nil (reverse (reverse (serial history.entries))) ∙ reverse-reverse (serial history.entries))) (serial_legal history.opening history.entries legal share);

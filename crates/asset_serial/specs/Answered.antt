@@ -4,7 +4,7 @@ use Rattle.std.specs.List.{position_or_len}
 use Rattle.asset_names.specs.declared.names.Txn.{Txn}
 use Rattle.asset_names.specs.Steps.{Entry}
 use Rattle.asset_names.specs.Groups.{actor}
-use Rattle.asset_entries.specs.Committing.{committed_by}
+use Rattle.asset_entries.specs.Committing.{committer}
 use Rattle.asset_history.specs.Named.{with_name}
 use Rattle.asset_buckets.specs.Bucketed.{buckets_of}
 
@@ -16,7 +16,7 @@ with_answered names None = names
 -- the transactions of which a commit was answered with `Committed`, in the order of their first such commits
 unfoldable pub answered_names : List Entry → List ℕ
 answered_names [] = []
-answered_names (entry ∷ older) = with_answered (answered_names older) (committed_by entry.0 entry.1)
+answered_names (entry ∷ older) = with_answered (answered_names older) (committer entry.0 entry.1)
 
 -- the index of the entry's transaction among the names, and the number of names if it is not listed
 unfoldable pub number_of : List ℕ → Entry → ℕ

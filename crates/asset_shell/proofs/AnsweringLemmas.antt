@@ -18,7 +18,7 @@ use Rattle.asset_reasons.specs.Mistakes.{Finds, Found}
 use Rattle.asset_reasons.specs.declared.reasons.Mistake.{Mistake}
 use Rattle.asset_check.specs.Sentences.{mistake_line}
 use Rattle.asset_shell.specs.Answering.{IsJoint, asks, bad_if, open_history, session_of}
-use Rattle.asset_shell.specs.Sessions.{Session, answer_if, answer_line, mistake_of, reason_for, reply_to, seen_in, session_after, session_by, with_object}
+use Rattle.asset_shell.specs.Sessions.{Session, answer_if, answer_line, mistake_of, reason_for, reply_to, session_seen, session_after, session_by, with_object}
 
 -- a facility that is open, and one that is not
 pub joint_open : (core : Option Facility) (seen : Seen) → is_some core ≡ true → seen ≡ None → IsJoint core seen
@@ -59,8 +59,8 @@ session_stepped (Some core) seen capacity h some is = ap (λ (history : Recorded
 session_stepped None seen capacity h some is = absurd (cc)
 
 -- what later lines depend on
-pub seen_shown : (core : Option Facility) (seen : Seen) (capacity : ℕ) → IsJoint core seen → seen_in (session_of core seen capacity) ≡ seen
-unfolding IsJoint session_of seen_in opened
+pub seen_shown : (core : Option Facility) (seen : Seen) (capacity : ℕ) → IsJoint core seen → session_seen (session_of core seen capacity) ≡ seen
+unfolding IsJoint session_of session_seen opened
 seen_shown (Some core) seen capacity joint = sym joint
 seen_shown None seen capacity (opening, some) = rw some refl
 

@@ -9,7 +9,7 @@ use Rattle.asset_check.specs.Checked.{Seen, mistake_at, mistake_in}
 use Rattle.asset_reasons.specs.declared.reasons.Reason.TheVariants.{TooLong}
 use Rattle.asset_reasons.specs.Mistakes.{reason_of}
 use Rattle.asset_check.specs.Checking.{or_this}
-use Rattle.asset_shell.specs.Sessions.{Session, mistake_of, reason_for, reply_to, seen_in, session_after}
+use Rattle.asset_shell.specs.Sessions.{Session, mistake_of, reason_for, reply_to, session_seen, session_after}
 use Rattle.asset_shell.specs.Talking.{Talk, ended, kept, said_now}
 
 -- what is said of a line is said of the bytes of it that are kept
@@ -61,7 +61,7 @@ whole_line say alike talk line none = rw none (alike talk.session talk.number li
 pub ended_whole : (talk : Talk) (line : List ℕ) → talk.begun ≡ []
     → ended (kept talk line) ≡ record { session = session_after talk.session line; number = talk.number + 1; begun = []; bad = or_this talk.bad (is_some (mistake_of talk.session line)) talk.number }
 unfolding kept ended
-ended_whole talk line none = rw (none, session_cut talk.session line, mistake_cut (seen_in talk.session) line) refl
+ended_whole talk line none = rw (none, session_cut talk.session line, mistake_cut (session_seen talk.session) line) refl
 
 pub no_items : (items : List ℕ) → length items ≡ 0 → items ≡ []
 no_items [] none = refl

@@ -20,7 +20,7 @@ use Rattle.asset_reasons.specs.declared.reasons.Reason.TheVariants.{GivenTwice}
 use Rattle.asset_reasons.specs.Mistakes.{Found, is_bad, reason_of, second_word}
 use Rattle.asset_reasons.proofs.ReasonLemmas.{has_reason_if_bad}
 use Rattle.asset_shell.specs.Laws.{PrintsAsRun}
-use Rattle.asset_shell.specs.Sessions.{Session, answer_if, answer_line, new_session, reply_to, said_of_each, seen_in, session_after, session_by, with_object}
+use Rattle.asset_shell.specs.Sessions.{Session, answer_if, answer_line, new_session, reply_to, said_of_each, session_seen, session_after, session_by, with_object}
 use Rattle.asset_shell.specs.Shelled.{shell_text}
 use Rattle.asset_scripts.specs.declared.prints.Prints.TheVariants.{Replies}
 
@@ -62,7 +62,7 @@ goes_on_bad : (told : Option Found) (s : Session) (n : ℕ) (said : Line) (h : R
 goes_on_bad told s n said h text some = rw (bad_answered told s n said some) (goes_on n h text)
 
 steps_run : (ls : List (List ℕ)) (n : ℕ) (h : Recorded) → Goes (said_of_each reply_to ls n (stepping h)) (steps_transcript Replies ls n h)
-unfolding said_of_each reply_to session_after session_by with_object seen_in answer_if answer_line mistake_in object_mistake steps_transcript finished step_line printed answered_text full_text outcome_text
+unfolding said_of_each reply_to session_after session_by with_object session_seen answer_if answer_line mistake_in object_mistake steps_transcript finished step_line printed answered_text full_text outcome_text
 steps_run [] n h = none where
   none : Goes [] (finished h)
   none = record { more = []; is = refl; same = λ e. refl }
@@ -81,7 +81,7 @@ unfolding steps_transcript step_line printed answered_text full_text outcome_tex
 first_step line more n h step e = rw e (goes_after (outcome_text h step (answer_to h step)) _ _ (steps_run more (n + 1) (joined_by h step (answer_to h step))))
 
 objects_run : (ls : List (List ℕ)) (n : ℕ) (opening : Opening) (capacity : ℕ) → Goes (said_of_each reply_to ls n (opening_by opening capacity)) (objects_transcript Replies ls n opening capacity)
-unfolding said_of_each reply_to session_after session_by with_object seen_in answer_if answer_line mistake_in object_mistake objects_transcript finished object_line opened
+unfolding said_of_each reply_to session_after session_by with_object session_seen answer_if answer_line mistake_in object_mistake objects_transcript finished object_line opened
 objects_run [] n opening capacity = none where
   none : Goes [] (finished (opened opening capacity))
   none = record { more = []; is = refl; same = λ e. refl }

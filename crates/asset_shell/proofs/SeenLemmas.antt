@@ -9,10 +9,10 @@ use Rattle.asset_grammar.specs.declared.grammar.Line.{Line}
 use Rattle.asset_grammar.specs.declared.grammar.Line.TheVariants.{Blank, Command, Bad}
 use Rattle.asset_grammar.specs.Grammar.{line_of}
 use Rattle.asset_check.specs.Checked.{check_lines, seen_by, seen_object}
-use Rattle.asset_shell.specs.Sessions.{Session, reason_for, said_of_each, seen_in, session_after, session_by, with_object}
+use Rattle.asset_shell.specs.Sessions.{Session, reason_for, said_of_each, session_seen, session_after, session_by, with_object}
 
-seen_with : (s : Session) (given : Ob × ℤ) → seen_object (seen_in s) given ≡ seen_in (with_object s given)
-unfolding seen_object seen_in with_object
+seen_with : (s : Session) (given : Ob × ℤ) → seen_object (session_seen s) given ≡ session_seen (with_object s given)
+unfolding seen_object session_seen with_object
 seen_with s given = elim (cases_Bool s.stepped) [
   | inl after ↦ simp after
   | inr before ↦ elim (cases_Bool (exists s.history.opening given.0.0)) [
@@ -21,14 +21,14 @@ seen_with s given = elim (cases_Bool s.stepped) [
   ]
 ]
 
-pub seen_step : (s : Session) (said : Line) → seen_by (seen_in s) said ≡ seen_in (session_by s said)
-unfolding seen_by session_by seen_in
+pub seen_step : (s : Session) (said : Line) → seen_by (session_seen s) said ≡ session_seen (session_by s said)
+unfolding seen_by session_by session_seen
 seen_step s Blank = refl
 seen_step s (Command (Ask step)) = refl
 seen_step s (Command (Object given)) = seen_with s given
 seen_step s Bad = refl
 
-pub reasons_each : (ls : List (List ℕ)) (n : ℕ) (s : Session) → check_lines ls n (seen_in s) ≡ said_of_each reason_for ls n s
+pub reasons_each : (ls : List (List ℕ)) (n : ℕ) (s : Session) → check_lines ls n (session_seen s) ≡ said_of_each reason_for ls n s
 unfolding check_lines said_of_each reason_for session_after
 reasons_each [] n s = refl
 reasons_each (line ∷ more) n s = rw (seen_step s (line_of line), reasons_each more (n + 1) (session_by s (line_of line))) refl

@@ -15,7 +15,7 @@ use Rattle.asset_scripts.specs.Renders.{end_at}
 use Rattle.asset_check.specs.Checked.{check_lines, checked}
 use Rattle.asset_check.specs.Checking.{or_first}
 use Rattle.asset_shell.specs.Laws.{StaysSaid}
-use Rattle.asset_shell.specs.Sessions.{new_session, reason_for, reply_to, said_of_each, seen_in}
+use Rattle.asset_shell.specs.Sessions.{new_session, reason_for, reply_to, said_of_each, session_seen}
 use Rattle.asset_shell.specs.Shelled.{complete, shell_reasons, shell_text}
 use Rattle.asset_shell.specs.Talking.{Talk, after, ended_last, new_talk, said, said_last}
 use Rattle.asset_shell.specs.Turns.{HasWrittenAll, HasWrittenPart, IsUpToDate, StopsFor, StopsWith, Streams, TookPart, streams}
@@ -30,7 +30,7 @@ unfolding new_talk shell_text
 answers_complete bytes capacity = said_complete reply_to reply_cut bytes [] (new_session capacity) 1 None lacks_none
 
 reasons_lines : (bytes : List ℕ) (capacity : ℕ) → shell_reasons bytes ≡ said_of_each reason_for (lines bytes) 1 (new_session capacity)
-unfolding shell_reasons checked new_session seen_in opened
+unfolding shell_reasons checked new_session session_seen opened
 reasons_lines bytes capacity = reasons_each (lines bytes) 1 (new_session capacity)
 
 reasons_complete : (bytes : List ℕ) (capacity : ℕ) → said reason_for (new_talk capacity) bytes ≡ shell_reasons (complete bytes)
@@ -131,7 +131,7 @@ whole_reasons : (bytes : List ℕ) (capacity : ℕ) → shell_reasons bytes ≡ 
 whole_reasons bytes capacity = sym (reasons_all bytes capacity) ∙ ap (λ (l : List ℕ). l ++ said_last reason_for (after (new_talk capacity) bytes)) (reasons_complete bytes capacity)
 
 whole_end : (bytes : List ℕ) (capacity : ℕ) → end_at (ended_last (after (new_talk capacity) bytes)).bad ≡ (checked bytes).end
-unfolding new_talk new_session seen_in opened checked or_first
+unfolding new_talk new_session session_seen opened checked or_first
 whole_end bytes capacity = ap end_at (bad_all bytes [] (new_session capacity) 1 None lacks_none)
 
 pub finished_all : (start : Streams) (left answers answers' reasons reasons' : Option (List ℕ)) (capacity : ℕ) (talk : Talk) (end : RunEnd) → IsUpToDate start (streams left answers reasons) capacity talk → IsAtEnd left

@@ -11,7 +11,7 @@ use Rattle.asset_grammar.proofs.LineLemmas.{lines_cut}
 use Rattle.asset_check.specs.Checked.{first_bad, seen_by}
 use Rattle.asset_check.specs.Checking.{or_first, or_this}
 use Rattle.asset_check.proofs.CheckerLemmas.{one_line}
-use Rattle.asset_shell.specs.Sessions.{Session, mistake_of, said_of_each, seen_in, session_after}
+use Rattle.asset_shell.specs.Sessions.{Session, mistake_of, said_of_each, session_seen, session_after}
 use Rattle.asset_shell.specs.Shelled.{complete}
 use Rattle.asset_shell.specs.Talking.{Talk, after, ended, ended_last, heard, kept, said, said_last}
 use Rattle.asset_shell.proofs.CutLemmas.{IsCutAlike, mistake_cut, session_cut}
@@ -57,7 +57,7 @@ talk_at s n p bad = record { session = s; number = n; begun = take 4097 p; bad =
 -- after the line has ended
 ended_at : (s : Session) (n : ℕ) (p : List ℕ) (bad : Option ℕ) → ended (talk_at s n p bad) ≡ talk_at (session_after s p) (n + 1) [] (or_this bad (is_some (mistake_of s p)) n)
 unfolding ended
-ended_at s n p bad = rw (session_cut s p, mistake_cut (seen_in s) p) refl
+ended_at s n p bad = rw (session_cut s p, mistake_cut (session_seen s) p) refl
 
 -- after another byte
 kept_at : (s : Session) (n : ℕ) (p : List ℕ) (bad : Option ℕ) (b : ℕ) → kept (talk_at s n p bad) (b ∷ []) ≡ talk_at s n (p ++ b ∷ []) bad
@@ -108,7 +108,7 @@ said_all say alike (b ∷ bytes) p s n bad lacks = go (b == 10) refl (λ s n p b
   go false e later = rw (heard_at s n p bad b e, e) (later s n (p ++ b ∷ []) bad (lacks_more p b lacks e) ∙ rw (append_assoc p (b ∷ []) bytes) refl)
 
 -- the first bad line of all lines
-seen_after_line : (s : Session) (line : List ℕ) → seen_in (session_after s line) ≡ seen_by (seen_in s) (line_of line)
+seen_after_line : (s : Session) (line : List ℕ) → session_seen (session_after s line) ≡ seen_by (session_seen s) (line_of line)
 unfolding session_after
 seen_after_line s line = sym (seen_step s (line_of line))
 
@@ -118,7 +118,7 @@ bad_twice None later true n = refl
 bad_twice None later false n = refl
 bad_twice (Some m) later b n = refl
 
-bad_line : (line : List ℕ) (more : List (List ℕ)) (s : Session) (n : ℕ) (bad : Option ℕ) → or_first (or_this bad (is_some (mistake_of s line)) n) (first_bad more (n + 1) (seen_in (session_after s line))) ≡ or_first bad (first_bad (line ∷ more) n (seen_in s))
+bad_line : (line : List ℕ) (more : List (List ℕ)) (s : Session) (n : ℕ) (bad : Option ℕ) → or_first (or_this bad (is_some (mistake_of s line)) n) (first_bad more (n + 1) (session_seen (session_after s line))) ≡ or_first bad (first_bad (line ∷ more) n (session_seen s))
 unfolding first_bad
 bad_line line more s n bad = bad_twice bad _ (is_some (mistake_of s line)) n ∙ rw (seen_after_line s line) refl
 
@@ -127,19 +127,19 @@ unfolding or_first
 none_first None = refl
 none_first (Some n) = refl
 
-last_bad : (p : List ℕ) (s : Session) (n : ℕ) (bad : Option ℕ) → Lacks 10 p → (ended_last (talk_at s n p bad)).bad ≡ or_first bad (first_bad (lines p) n (seen_in s))
+last_bad : (p : List ℕ) (s : Session) (n : ℕ) (bad : Option ℕ) → Lacks 10 p → (ended_last (talk_at s n p bad)).bad ≡ or_first bad (first_bad (lines p) n (session_seen s))
 unfolding ended_last lines first_bad
 last_bad [] s n bad lacks = sym (none_first bad)
 last_bad (x ∷ p) s n bad lacks =
     let some : (length (take 4097 (x ∷ p)) == 0) ≡ false = ne_eqb _ 0 (λ none. omega (arith, none, length-take 4097 (x ∷ p))) in
     rw (some, ended_at s n (x ∷ p) bad, one_line (x ∷ p) lacks (omega arith)) (sym (none_first _) ∙ bad_line (x ∷ p) [] s n bad)
 
-pub bad_all : (bytes p : List ℕ) (s : Session) (n : ℕ) (bad : Option ℕ) → Lacks 10 p → (ended_last (after (talk_at s n p bad) bytes)).bad ≡ or_first bad (first_bad (lines (p ++ bytes)) n (seen_in s))
+pub bad_all : (bytes p : List ℕ) (s : Session) (n : ℕ) (bad : Option ℕ) → Lacks 10 p → (ended_last (after (talk_at s n p bad) bytes)).bad ≡ or_first bad (first_bad (lines (p ++ bytes)) n (session_seen s))
 unfolding after
 bad_all [] p s n bad lacks = rw (append-nil p) (last_bad p s n bad lacks)
 bad_all (b ∷ bytes) p s n bad lacks = go (b == 10) refl (λ s n p bad lacks. bad_all bytes p s n bad lacks) where
-  go : (feed : Bool) → (b == 10) ≡ feed → ((s : Session) (n : ℕ) (p : List ℕ) (bad : Option ℕ) → Lacks 10 p → (ended_last (after (talk_at s n p bad) bytes)).bad ≡ or_first bad (first_bad (lines (p ++ bytes)) n (seen_in s)))
-      → (ended_last (after (talk_at s n p bad) (b ∷ bytes))).bad ≡ or_first bad (first_bad (lines (p ++ b ∷ bytes)) n (seen_in s))
+  go : (feed : Bool) → (b == 10) ≡ feed → ((s : Session) (n : ℕ) (p : List ℕ) (bad : Option ℕ) → Lacks 10 p → (ended_last (after (talk_at s n p bad) bytes)).bad ≡ or_first bad (first_bad (lines (p ++ bytes)) n (session_seen s)))
+      → (ended_last (after (talk_at s n p bad) (b ∷ bytes))).bad ≡ or_first bad (first_bad (lines (p ++ b ∷ bytes)) n (session_seen s))
   go true e later =
       let whole : lines (p ++ b ∷ bytes) ≡ p ∷ lines bytes = rw (eqb-true b 10 e) (lines_cut p bytes lacks) in
       rw (whole, fed_at s n p bad b e) (later (session_after s p) (n + 1) [] (or_this bad (is_some (mistake_of s p)) n) lacks_none ∙ bad_line p (lines bytes) s n bad)

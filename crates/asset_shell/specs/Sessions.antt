@@ -25,12 +25,12 @@ unfoldable pub new_session : ℕ → Session
 new_session capacity = record { history = opened [] capacity; stepped = false }
 
 -- what later lines depend on for being bad
-unfoldable pub seen_in : Session → Seen
-seen_in session = cond session.stepped None (Some session.history.opening)
+unfoldable pub session_seen : Session → Seen
+session_seen session = cond session.stepped None (Some session.history.opening)
 
 -- why a line is bad where it stands, if it is
 abbrev pub mistake_of : Session → List ℕ → Option Found
-mistake_of session line = mistake_at (seen_in session) line
+mistake_of session line = mistake_at (session_seen session) line
 
 -- the line of a step with this outcome, which says `full` if there is no room for it: then the step is not answered
 unfoldable pub outcome_text : Recorded → Step → Outcome → List ℕ

@@ -29,7 +29,7 @@ use Rattle.asset_steps.specs.Ready.{IsReady}
 use Rattle.asset_steps.proofs.AnswerLemmas.{read_unrefused}
 use Rattle.asset_steps.proofs.ReadyLemmas.{ready}
 use Rattle.asset_sources.specs.Sourced.{source_from, source_of, sources_of, source_at}
-use Rattle.asset_sources.specs.Walked.{first_entries, ShowsFirst}
+use Rattle.asset_sources.specs.Walked.{first_entries, ShowsFirstNumbered}
 
 -- ---- entries in order
 
@@ -108,15 +108,15 @@ few_older all i entry small at =
     omega (arith, small, within, length-reverse all, older_length all i entry at)
 
 -- the entry at i finds tables ready that show the older ones
-pub entry_ready : (history : Recorded) (i : ℕ) (tables : Standing) (entry : Entry) → length history.entries < 2 ^ 63 → slice_get (reverse history.entries) i ≡ Some entry → IsLegal history.opening history.entries → ShowsFirst history i tables
+pub entry_ready : (history : Recorded) (i : ℕ) (tables : Standing) (entry : Entry) → length history.entries < 2 ^ 63 → slice_get (reverse history.entries) i ≡ Some entry → IsLegal history.opening history.entries → ShowsFirstNumbered history i tables
     → takes_effect entry.0 entry.1 ≡ true → IsReady (writing i entry.0) tables
 entry_ready history i tables entry small at legal stand effect =
     numbered_ready history.opening (first_entries history i) tables entry.0 entry.1 i (older_length history.entries i entry at) (few_older history.entries i entry small at) stand (legal_here history.opening history.entries i entry at legal) effect
 
 -- and once it is applied, they show it too
-pub entry_passed : (history : Recorded) (i : ℕ) (before after : Standing) (entry : Entry) → length history.entries < 2 ^ 63 → slice_get (reverse history.entries) i ≡ Some entry → IsLegal history.opening history.entries → ShowsFirst history i before
+pub entry_passed : (history : Recorded) (i : ℕ) (before after : Standing) (entry : Entry) → length history.entries < 2 ^ 63 → slice_get (reverse history.entries) i ≡ Some entry → IsLegal history.opening history.entries → ShowsFirstNumbered history i before
     → ((opening : Opening) (older : List Entry) → Shows opening (applied older) (values_of before) → IsOrderly (applied older) → Shows opening (applied ((writing i entry.0, entry.1) ∷ older)) (values_of after))
-    → ShowsFirst history (i + 1) after
+    → ShowsFirstNumbered history (i + 1) after
 unfolding IsLegal
 entry_passed history i before after entry small at legal stand shows =
     let older = first_entries history i in

@@ -11,5 +11,5 @@ abbrev pub first_entries : Recorded → ℕ → List Entry
 first_entries history count = reverse (take count (reverse history.entries))
 
 -- the tables show the first entries of a history, with the numbers of entries in place of values
-abbrev pub ShowsFirst : Recorded → ℕ → Standing → Type 0
-ShowsFirst history count tables = Shows (zeroed history.opening) (applied (renumbered (first_entries history count))) (values_of tables)
+abbrev pub ShowsFirstNumbered : Recorded → ℕ → Standing → Type 0
+ShowsFirstNumbered history count tables = Shows (zeroed history.opening) (applied (renumbered (first_entries history count))) (values_of tables)

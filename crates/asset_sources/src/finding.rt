@@ -9,7 +9,7 @@ ghost use Rattle.asset_names.specs.Steps.{Entry};
 ghost use Rattle.asset_names.specs.Sources.{added, IsAlone, IsOwnOrCommitted, AreOwnOrCommitted};
 ghost use Rattle.asset_names.specs.Sources.{source as last_write};
 ghost use Rattle.asset_sources.specs.Sourced.{source_from, source_at, sources_of};
-ghost use Rattle.asset_sources.specs.Walked.{ShowsFirst};
+ghost use Rattle.asset_sources.specs.Walked.{ShowsFirstNumbered};
 
 use crate::sourced::Source;
 use crate::walking::{pass, tables_before};
@@ -43,7 +43,7 @@ fn source_after(
 ) -> Result<Option<Source>, NoMemory>
     requires there { index < length history.now.entries }
     requires small { length history.now.entries < 2 ^ 63 }
-    requires stand { ShowsFirst history.now 0 tables.old }
+    requires stand { ShowsFirstNumbered history.now 0 tables.old }
     ensures { IfOk result (λ found. found ≡ source_at history.now.entries index) }
 {
     let mut step = Step::Commit { t: Txn(0) };
@@ -61,8 +61,8 @@ fn pass_all(
 ) -> Result<(), NoMemory>
     requires there { count ≤ length history.now.entries }
     requires small { length history.now.entries < 2 ^ 63 }
-    requires stand { ShowsFirst history.now 0 tables.old }
-    ensures { OnOk result (ShowsFirst history.now count tables.new) }
+    requires stand { ShowsFirstNumbered history.now 0 tables.old }
+    ensures { OnOk result (ShowsFirstNumbered history.now count tables.new) }
 {
     'entries: for i in 0..count {
         pass(history, i, step, tables)?;
@@ -89,7 +89,7 @@ fn find_all(
     history: &History,
     tables: &mut Tables,
 ) -> Result<Vec<Option<Source>>, NoMemory>
-    requires stand { ShowsFirst history.now 0 tables.old }
+    requires stand { ShowsFirstNumbered history.now 0 tables.old }
     ensures { IfOk result (λ found. found.items ≡ sources_of history.now.entries) }
 {
     let Ok(mut found) = Vec::with_capacity(alloc, history.len()) else {

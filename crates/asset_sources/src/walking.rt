@@ -9,7 +9,7 @@ ghost use Rattle.asset_ends.specs.Standing.{values_of};
 ghost use Rattle.asset_ends.specs.Shown.{ShowsEntry};
 ghost use Rattle.asset_steps.specs.Ready.{IsReady};
 ghost use Rattle.asset_sources.specs.Sourced.{source_of};
-ghost use Rattle.asset_sources.specs.Walked.{first_entries, ShowsFirst};
+ghost use Rattle.asset_sources.specs.Walked.{first_entries, ShowsFirstNumbered};
 
 use crate::renumbering::{renumber, source_numbered, zeroed};
 use crate::sourced::Source;
@@ -22,7 +22,7 @@ use std::alloc::Global;
 /// Returns tables with the history's objects, each with the value 0, before the first entry. It answers `NoMemory` if
 /// memory runs out.
 pub(crate) fn tables_before(alloc: Global, history: &History) -> Result<Tables, NoMemory>
-    ensures { IfOk result (λ tables. ShowsFirst history.now 0 tables) }
+    ensures { IfOk result (λ tables. ShowsFirstNumbered history.now 0 tables) }
 {
     let opening = zeroed(alloc, history.opening())?;
     Tables::open_distinct(alloc, &opening)
@@ -74,8 +74,8 @@ pub(crate) fn pass(
 ) -> Result<Option<Source>, NoMemory>
     requires there { index < length history.now.entries }
     requires small { length history.now.entries < 2 ^ 63 }
-    requires stand { ShowsFirst history.now index tables.old }
-    ensures stand { OnOk result (ShowsFirst history.now (index + 1) tables.new) }
+    requires stand { ShowsFirstNumbered history.now index tables.old }
+    ensures stand { OnOk result (ShowsFirstNumbered history.now (index + 1) tables.new) }
     ensures source { (entry : Entry) → slice_get (reverse history.now.entries) index ≡ Some entry → IfOk result (λ found. found ≡ source_of (first_entries history.now index) entry.0 entry.1) }
 {
     match history.entry_into(index, step) {

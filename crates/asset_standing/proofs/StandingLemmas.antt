@@ -19,10 +19,10 @@ use Rattle.asset_scripts.specs.Renders.{Renders}
 use Rattle.asset_scripts.specs.Transcript.{Transcript, finished, stopped, with_prefix, joined_by, step_line, steps_transcript, steps_from, transcript}
 use Rattle.asset_scripts.specs.Preamble.{Beginning, no_step, first_step, bad_line, beginning, transcript_begun}
 use Rattle.asset_scripts.proofs.PreambleLemmas.{begun_transcript}
-use Rattle.asset_standing.specs.Standing.{Standing, stepped_as, stepped, line_left, steps_left, left_begun, left}
+use Rattle.asset_standing.specs.Standing.{ScriptLeft, stepped_as, stepped, line_left, steps_left, left_begun, left}
 use Rattle.asset_standing.specs.declared.standing.Stood.TheVariants.{Finished, BadLine}
 use Rattle.asset_standing.specs.Stood.{stood_at, stood_of}
-use Rattle.asset_standing.specs.Waited.{waited_at, waited, EndsAsRun}
+use Rattle.asset_standing.specs.Waited.{waited_at, waited, ReportEndsAsRun}
 use Rattle.asset_waits.specs.Texts.{report_text}
 
 -- the history after a step
@@ -35,11 +35,11 @@ stepped_history facility step = go (has_room facility.history step (answer_to fa
   go false = refl
 
 -- a script that leaves this runs so
-AgreesWith : Standing → Transcript → Type 0
+AgreesWith : ScriptLeft → Transcript → Type 0
 AgreesWith standing run = ((waited_at standing.bad standing.facility).end ≡ run.end) × (standing.facility.history ≡ run.history)
 
 -- one line among the steps
-line_agrees : (prints : Prints) (parsed : Line) (n : ℕ) (facility : Facility) (leaves : Facility → Standing) (runs : Recorded → Transcript) → ((later : Facility) → AgreesWith (leaves later) (runs later.history))
+line_agrees : (prints : Prints) (parsed : Line) (n : ℕ) (facility : Facility) (leaves : Facility → ScriptLeft) (runs : Recorded → Transcript) → ((later : Facility) → AgreesWith (leaves later) (runs later.history))
     → AgreesWith (line_left parsed n facility leaves) (step_line prints parsed n facility.history runs)
 unfolding AgreesWith line_left step_line with_prefix stopped waited_at
 line_agrees prints Blank n facility leaves runs rest = rest facility
@@ -69,7 +69,7 @@ unfolding waited_at stopped
 waited_history None facility = refl
 waited_history (Some n) facility = refl
 
-pub ends_as_run : (prints : Prints) (bytes : List ℕ) (capacity : ℕ) → EndsAsRun prints bytes capacity
+pub ends_as_run : (prints : Prints) (bytes : List ℕ) (capacity : ℕ) → ReportEndsAsRun prints bytes capacity
 unfolding waited left transcript AgreesWith
 ends_as_run prints bytes capacity =
     let begun = beginning (lines bytes) 1 [] in

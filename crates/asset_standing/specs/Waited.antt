@@ -18,6 +18,6 @@ unfoldable pub waited : List ℕ → ℕ → Transcript
 waited bytes capacity = waited_at (left bytes capacity).bad (left bytes capacity).facility
 
 -- a report ends as a run of the same script does, and leaves the same history
-pub record EndsAsRun (prints : Prints) (bytes : List ℕ) (capacity : ℕ) : Type 0 where
+pub record ReportEndsAsRun (prints : Prints) (bytes : List ℕ) (capacity : ℕ) : Type 0 where
   pub end : (waited bytes capacity).end ≡ (transcript prints bytes capacity).end
   pub history : (waited bytes capacity).history ≡ (transcript prints bytes capacity).history

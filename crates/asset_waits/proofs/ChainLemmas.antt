@@ -17,7 +17,7 @@ use Rattle.asset_names.proofs.ListLemmas.{any_map, listed_any, listed_at}
 use Rattle.asset_core.specs.Pending.{Pending, pending_of}
 use Rattle.asset_ends.specs.Waits.{is_blocker, is_unfinished, is_outside_source}
 use Rattle.asset_ends.proofs.EnrolledLemmas.{lists_filter}
-use Rattle.asset_waits.specs.Waiting.{live_names, live_who, blockers_of, unfinished_of, sources_of, waits_as, waits_for}
+use Rattle.asset_waits.specs.Waiting.{live_names, live_who, blockers_of, unfinished_of, outside_sources_of, waits_as, waits_for}
 use Rattle.asset_waits.specs.Deadlocks.{place_of, arrow_to, arrows_from, arrows_before}
 use Rattle.asset_waits.specs.Chains.{WaitChain, waits, through}
 use Rattle.asset_names.proofs.MoreLemmas.{numbers_more}
@@ -34,9 +34,9 @@ unfolding blockers_of lists
 blockers_live steps t None u h = absurd (false≢true h)
 blockers_live steps t (Some request) u h = who_lives steps (is_blocker steps t request.0.0 request.1) u h
 
-commit_live : (steps : List Step) (t u : ℕ) → lists (unfinished_of steps t ++ sources_of steps t) u ≡ true → live steps u ≡ true
-unfolding unfinished_of sources_of lists
-commit_live steps t u h = elim (or_cases _ _ (sym (list_any-append (λ m. eqb m u) (unfinished_of steps t) (sources_of steps t)) ∙ h)) [
+commit_live : (steps : List Step) (t u : ℕ) → lists (unfinished_of steps t ++ outside_sources_of steps t) u ≡ true → live steps u ≡ true
+unfolding unfinished_of outside_sources_of lists
+commit_live steps t u h = elim (or_cases _ _ (sym (list_any-append (λ m. eqb m u) (unfinished_of steps t) (outside_sources_of steps t)) ∙ h)) [
   | inl here ↦ who_lives steps (is_unfinished steps t) u here
   | inr here ↦ who_lives steps (is_outside_source steps t) u here
 ]

@@ -20,7 +20,7 @@ use Rattle.asset_names.proofs.HolderLemmas.{free_allowed, allowed_free}
 use Rattle.asset_deps.specs.Dependencies.{is_outside_of}
 use Rattle.asset_deps.proofs.OutsideLemmas.{arrow_of_any, any_of_arrow}
 use Rattle.asset_ends.specs.Waits.{holds_against, is_blocker, is_unfinished, is_outside_source}
-use Rattle.asset_waits.specs.Waiting.{live_who, blockers_of, unfinished_of, sources_of}
+use Rattle.asset_waits.specs.Waiting.{live_who, blockers_of, unfinished_of, outside_sources_of}
 use Rattle.asset_waits.proofs.WhoLemmas.{who_listed, blocker_lives, unfinished_lives, source_lives}
 
 -- ---- whether anybody is listed
@@ -155,8 +155,8 @@ none_within steps t alive none = go (has_outside_source steps t) refl where
       let leads = any_of_arrow (λ a b. eqb a arrow.0 && linked classes t b) orders arrow.0 arrow.1 arrow.2 (and_from _ _ (eq-eqb arrow.0 arrow.0 refl) both.0) in
       absurd (false≢true (sym (none arrow.0) ∙ and_from _ _ alive (and_from _ _ both.1 leads)))
 
-pub may_commit_is : (steps : List Step) (t : ℕ) → live steps t ≡ true → may_commit steps t ≡ eqb (length (unfinished_of steps t ++ sources_of steps t)) 0
-unfolding may_commit unfinished_of sources_of lists
+pub may_commit_is : (steps : List Step) (t : ℕ) → live steps t ≡ true → may_commit steps t ≡ eqb (length (unfinished_of steps t ++ outside_sources_of steps t)) 0
+unfolding may_commit unfinished_of outside_sources_of lists
 may_commit_is steps t alive =
     both_follow _ _
     (λ may. none_listed (unfinished ++ sources) (λ u. neither (and_parts (class_completed steps t) (not (has_outside_source steps t)) may).0 (not-true _ (and_parts (class_completed steps t) _ may).1) u))

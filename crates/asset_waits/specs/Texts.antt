@@ -9,7 +9,7 @@ use Rattle.asset_names.specs.declared.steps.Step.{Step}
 use Rattle.asset_names.specs.Endings.{status}
 use Rattle.asset_core.specs.Pending.{Pending, pending_of}
 use Rattle.asset_cycles.specs.Members.{own_labels, members_of}
-use Rattle.asset_waits.specs.Waiting.{live_names, blockers_of, unfinished_of, sources_of}
+use Rattle.asset_waits.specs.Waiting.{live_names, blockers_of, unfinished_of, outside_sources_of}
 use Rattle.asset_waits.specs.Deadlocks.{deadlock_labels}
 use Rattle.asset_waits.specs.Words.{pieces, status_word, op_word, held_words, name_word}
 
@@ -53,7 +53,7 @@ source_line t u = pieces (codes "commit " ∷ decimal t ∷ codes " waits: " ∷
 
 -- the lines of all who keep it from a commit
 unfoldable pub commit_text : List Step → ℕ → List ℕ
-commit_text steps t = flat_map (unfinished_line t) (unfinished_of steps t) ++ flat_map (source_line t) (sources_of steps t)
+commit_text steps t = flat_map (unfinished_line t) (unfinished_of steps t) ++ flat_map (source_line t) (outside_sources_of steps t)
 
 -- ---- live transactions
 

@@ -35,14 +35,14 @@ unfoldable pub unfinished_of : List Step → ℕ → List ℕ
 unfinished_of steps t = live_who steps (is_unfinished steps t)
 
 -- who keeps t from a commit as a live source outside its class
-unfoldable pub sources_of : List Step → ℕ → List ℕ
-sources_of steps t = live_who steps (is_outside_source steps t)
+unfoldable pub outside_sources_of : List Step → ℕ → List ℕ
+outside_sources_of steps t = live_who steps (is_outside_source steps t)
 
 -- whom one of this status waits for: one that runs waits for those who block its pending request, and one that has completed
 -- waits for those who keep it from a commit
 unfoldable pub waits_as : Status → List Step → List Pending → ℕ → List ℕ
 waits_as Running steps pending t = blockers_of steps t (pending_of t pending)
-waits_as Completed steps pending t = unfinished_of steps t ++ sources_of steps t
+waits_as Completed steps pending t = unfinished_of steps t ++ outside_sources_of steps t
 waits_as other steps pending t = []
 
 -- whom t waits for

@@ -5,7 +5,7 @@ ghost use Rattle.asset_names.specs.Steps.{applied};
 ghost use Rattle.asset_waits.specs.Texts.{commit_text};
 ghost use Rattle.asset_waits.specs.Keepers.{keeper_line};
 
-use crate::waiting::{sources_of, unfinished_of};
+use crate::waiting::{outside_sources_of, unfinished_of};
 use asset_core::Core;
 use asset_names::{NoMemory, Txn};
 use std::alloc::{AllocError, Global};
@@ -55,6 +55,6 @@ pub(crate) fn push_commit(
 {
     let unfinished = unfinished_of(alloc, core, t)?;
     push_keepers(text, t, &unfinished, Keeper::Unfinished)?;
-    let sources = sources_of(alloc, core, t)?;
+    let sources = outside_sources_of(alloc, core, t)?;
     push_keepers(text, t, &sources, Keeper::Source)
 }

@@ -9,7 +9,7 @@ ghost use Rattle.asset_names.specs.Endings.{live};
 ghost use Rattle.asset_names.specs.Operations.{free};
 ghost use Rattle.asset_core.specs.Pending.{Pending};
 ghost use Rattle.asset_waits.specs.Chains.{WaitChain, OneLineNames};
-ghost use Rattle.asset_waits.specs.Waiting.{blockers_of, unfinished_of, sources_of};
+ghost use Rattle.asset_waits.specs.Waiting.{blockers_of, unfinished_of, outside_sources_of};
 
 /// One line of a cycle names two transactions exactly if a chain of waits leads from each to the other. So a transaction has
 /// a place in such a line exactly if a chain of waits leads from it back to it.
@@ -23,5 +23,5 @@ pub fn deadlocks_are_cycles_of_waits()
 /// has completed and has to wait with its commit.
 pub fn waits_are_explained()
     ensures requests { (steps : List Step) (t : ℕ) (x : Ob) (op : Op) → free steps t x.0 op ≡ (length (blockers_of steps t (Some (x, op))) == 0) }
-    ensures commits { (steps : List Step) (t : ℕ) → live steps t ≡ true → may_commit steps t ≡ (length (unfinished_of steps t ++ sources_of steps t) == 0) }
+    ensures commits { (steps : List Step) (t : ℕ) → live steps t ≡ true → may_commit steps t ≡ (length (unfinished_of steps t ++ outside_sources_of steps t) == 0) }
 {}

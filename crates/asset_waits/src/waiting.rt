@@ -3,7 +3,7 @@
 ghost use Rattle.std.specs.Prelude.{◌≡◌, ◌++◌, Some, IfOk};
 ghost use Rattle.asset_names.specs.Steps.{applied};
 ghost use Rattle.asset_core.specs.Pending.{pending_of};
-ghost use Rattle.asset_waits.specs.Waiting.{blockers_of, unfinished_of, sources_of, waits_as, waits_for};
+ghost use Rattle.asset_waits.specs.Waiting.{blockers_of, unfinished_of, outside_sources_of, waits_as, waits_for};
 
 use crate::listing::names_in;
 use asset_core::Core;
@@ -35,8 +35,8 @@ pub(crate) fn unfinished_of(alloc: Global, core: &mut Core, t: Txn) -> Result<Ve
 }
 
 /// Returns the live sources of the class of `t` outside it, rising, or `NoMemory` if memory runs out.
-pub(crate) fn sources_of(alloc: Global, core: &mut Core, t: Txn) -> Result<Vec<u64>, NoMemory>
-    ensures named { IfOk result (λ names. names.items ≡ sources_of (applied core.old.history.entries) t.0) }
+pub(crate) fn outside_sources_of(alloc: Global, core: &mut Core, t: Txn) -> Result<Vec<u64>, NoMemory>
+    ensures named { IfOk result (λ names. names.items ≡ outside_sources_of (applied core.old.history.entries) t.0) }
     ensures same { core.new ≡ core.old }
 {
     let found = core.outside_sources(t)?;
@@ -59,11 +59,11 @@ fn pending_blockers(alloc: Global, core: &mut Core, t: Txn) -> Result<Vec<u64>, 
 /// Returns those who keep `t` from a commit, or `NoMemory` if memory runs out: first the members of its class, and then the
 /// sources outside it, rising in both parts.
 fn commit_blockers(alloc: Global, core: &mut Core, t: Txn) -> Result<Vec<u64>, NoMemory>
-    ensures named { IfOk result (λ names. names.items ≡ unfinished_of (applied core.old.history.entries) t.0 ++ sources_of (applied core.old.history.entries) t.0) }
+    ensures named { IfOk result (λ names. names.items ≡ unfinished_of (applied core.old.history.entries) t.0 ++ outside_sources_of (applied core.old.history.entries) t.0) }
     ensures same { core.new ≡ core.old }
 {
     let mut names = unfinished_of(alloc, core, t)?;
-    let sources = sources_of(alloc, core, t)?;
+    let sources = outside_sources_of(alloc, core, t)?;
     match names.extend_from_slice(&sources) {
         Ok(()) => Ok(names),
         Err(_) => Err(NoMemory),

@@ -4,7 +4,7 @@ use Rattle.indexmap.specs.IndexMap.{get}
 use Rattle.asset_names.specs.Steps.{applied}
 use Rattle.asset_history.specs.Together.{name_at}
 use Rattle.asset_history.specs.Uses.{opens, operates}
-use Rattle.asset_history.specs.Users.{AreSaid, AreWithin, users_or_nobody}
+use Rattle.asset_history.specs.Users.{AreSaid, AreUsersWithin, users_or_nobody}
 use Rattle.asset_history.proofs.LabelLemmas.{joined_grown}
 use Rattle.asset_history.proofs.SaidLemmas.{noted, within_more}
 use Rattle.asset_history.proofs.noting.note_use.Goals as goal
@@ -19,8 +19,8 @@ returns-clause-within c = λ y within.
     let old = get nat_eq c.args.users.now.found in
     let result = c.with_user-now.result in
     let others = within_more nodes more links later (users_or_nobody (old y)) (omega (arith, ap length c.with_user-now.ensures.names)) c.with_user-now.ensures.more within in
-    let go : (b : Bool) → AreWithin more later (users_or_nobody (cond b (Some result) (old y))) = λ b. elim b as (λ b. AreWithin more later (users_or_nobody (cond b (Some result) (old y)))) [ true ↦ c.with_user-now.ensures.within | false ↦ others ] in
-    subst (λ at. AreWithin more later (users_or_nobody at)) (sym (c.put_users.ensures y)) (go (eqb c.args.used.x.0 y))
+    let go : (b : Bool) → AreUsersWithin more later (users_or_nobody (cond b (Some result) (old y))) = λ b. elim b as (λ b. AreUsersWithin more later (users_or_nobody (cond b (Some result) (old y)))) [ true ↦ c.with_user-now.ensures.within | false ↦ others ] in
+    subst (λ at. AreUsersWithin more later (users_or_nobody at)) (sym (c.put_users.ensures y)) (go (eqb c.args.used.x.0 y))
 
 pub returns-clause-said : goal.returns-clause-said
 returns-clause-said c = λ all openers operators user among_openers among_operators say.

@@ -1,7 +1,7 @@
 use Rattle.std.proofs.Common.{length, refl, ◌∙◌, ap, arith}
 use Rattle.asset_names.specs.Sets.{twice, HasNoDouble}
 use Rattle.asset_grammar.specs.Grammar.{ReadsLine}
-use Rattle.asset_scripts.specs.Preamble.{Takes, begun_at, beginning}
+use Rattle.asset_scripts.specs.Preamble.{TakesLine, begun_at, beginning}
 use Rattle.asset_scripts.proofs.preamble.take_objects.Goals as goal
 
 pub lines-init : goal.lines-init
@@ -13,7 +13,7 @@ lines-init c = record {
 }
 
 pub returns-in-First-clause-begun : goal.returns-in-First-clause-begun
-unfolding Takes begun_at ReadsLine
+unfolding TakesLine begun_at ReadsLine
 returns-in-First-clause-begun c =
     let read = c.in-Some.ensures in
     let takes = rw c.in-First.is at (c.in_ok-take_line.ensures.takes read.0 _ read.2) in
@@ -24,7 +24,7 @@ unfolding ReadsLine
 returns-in-First-clause-few c = omega (arith, c.lines.invariant.count, ap length c.in-Some.ensures.1)
 
 pub returns-in-Bad-clause-begun : goal.returns-in-Bad-clause-begun
-unfolding Takes begun_at ReadsLine
+unfolding TakesLine begun_at ReadsLine
 returns-in-Bad-clause-begun c =
     let read = c.in-Some.ensures in
     let takes = rw c.in-Bad.is at (c.in_ok-take_line.ensures.takes read.0 _ read.2) in
@@ -35,7 +35,7 @@ unfolding ReadsLine
 returns-in-Bad-clause-few c = omega (arith, c.lines.invariant.count, ap length c.in-Some.ensures.1)
 
 pub lines-preserved : goal.lines-preserved
-unfolding Takes ReadsLine
+unfolding TakesLine ReadsLine
 lines-preserved c =
     let read = c.in-Some.ensures in
     let takes = rw c.in-More.is at (c.in_ok-take_line.ensures.takes read.0 _ read.2) in

@@ -3,7 +3,7 @@ use Rattle.asset_names.specs.declared.names.Txn.{Txn}
 use Rattle.asset_names.proofs.Common.{always_err}
 use Rattle.asset_chains.specs.Chained.{Chained, home_of, pushed}
 use Rattle.asset_chains.proofs.Laws.{key_more-home, key_more-keys, key_more-chains}
-use Rattle.asset_seats.specs.Bucketed.{AreSeated}
+use Rattle.asset_seats.specs.Bucketed.{AreBucketed}
 use Rattle.asset_seats.proofs.GrowLemmas.{home_past, seats_same, rest_same, names_valid, added_keys, added_valid, added_taken, added_last}
 use Rattle.asset_seats.proofs.SeatLemmas.{vacant_of, room_of, many_at, many_are}
 use Rattle.asset_seats.proofs.seats.Seats.add_seat.Goals as goal
@@ -52,7 +52,7 @@ push-requires-clause-free c =
 
 pub invariant_of-self-2 : goal.invariant_of-self-2
 invariant_of-self-2 c =
-    let valid : AreSeated c.self.inside.names.items c.widen.new.chains c.widen.new.buckets = subst (λ (l : List Txn). AreSeated l c.widen.new.chains c.widen.new.buckets) c.deref.ensures.value c.widen.ensures.seated in
+    let valid : AreBucketed c.self.inside.names.items c.widen.new.chains c.widen.new.buckets = subst (λ (l : List Txn). AreBucketed l c.widen.new.chains c.widen.new.buckets) c.deref.ensures.value c.widen.ensures.seated in
     let named = names_valid c.self.inside.names.items c.add_name.new.names.items c.widen.new.chains c.widen.new.buckets valid c.add_name.ensures.names c.add_name.ensures.more in
     let place : length c.widen.new.chains.homes < length c.add_name.new.names.items = omega (arith, c.in_ok-add_name.ensures.there, c.keys-key.ensures) in
     let push : c.push.new.self ≡ pushed 0 (length c.widen.new.chains.homes) c.add_key.new.self = c.push.ensures ∙ ap (λ (k : ℕ). pushed 0 k c.add_key.new.self) c.keys-key.ensures in
@@ -60,7 +60,7 @@ invariant_of-self-2 c =
 
 pub returns-clause-added : goal.returns-clause-added
 returns-clause-added c =
-    let valid : AreSeated c.self.inside.names.items c.widen.new.chains c.widen.new.buckets = subst (λ (l : List Txn). AreSeated l c.widen.new.chains c.widen.new.buckets) c.deref.ensures.value c.widen.ensures.seated in
+    let valid : AreBucketed c.self.inside.names.items c.widen.new.chains c.widen.new.buckets = subst (λ (l : List Txn). AreBucketed l c.widen.new.chains c.widen.new.buckets) c.deref.ensures.value c.widen.ensures.seated in
     let named = names_valid c.self.inside.names.items c.add_name.new.names.items c.widen.new.chains c.widen.new.buckets valid c.add_name.ensures.names c.add_name.ensures.more in
     let place : length c.widen.new.chains.homes < length c.add_name.new.names.items = omega (arith, c.in_ok-add_name.ensures.there, c.keys-key.ensures) in
     let push : c.push.new.self ≡ pushed 0 (length c.widen.new.chains.homes) c.add_key.new.self = c.push.ensures ∙ ap (λ (k : ℕ). pushed 0 k c.add_key.new.self) c.keys-key.ensures in
@@ -74,7 +74,7 @@ returns-clause-added c =
 
 pub returns-clause-seats : goal.returns-clause-seats
 returns-clause-seats c =
-    let valid : AreSeated c.self.inside.names.items c.widen.new.chains c.widen.new.buckets = subst (λ (l : List Txn). AreSeated l c.widen.new.chains c.widen.new.buckets) c.deref.ensures.value c.widen.ensures.seated in
+    let valid : AreBucketed c.self.inside.names.items c.widen.new.chains c.widen.new.buckets = subst (λ (l : List Txn). AreBucketed l c.widen.new.chains c.widen.new.buckets) c.deref.ensures.value c.widen.ensures.seated in
     let named = names_valid c.self.inside.names.items c.add_name.new.names.items c.widen.new.chains c.widen.new.buckets valid c.add_name.ensures.names c.add_name.ensures.more in
     let place : length c.widen.new.chains.homes < length c.add_name.new.names.items = omega (arith, c.in_ok-add_name.ensures.there, c.keys-key.ensures) in
     let push : c.push.new.self ≡ pushed 0 (length c.widen.new.chains.homes) c.add_key.new.self = c.push.ensures ∙ ap (λ (k : ℕ). pushed 0 k c.add_key.new.self) c.keys-key.ensures in
